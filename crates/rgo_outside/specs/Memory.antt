@@ -2,7 +2,7 @@
 use Rattle.std.specs.Prelude.{ℕ, ◌+◌, ◌<◌, min, List, ◌++◌, length, drop, Contains, ◌⊎◌}
 use Rattle.rgo_outside.specs.Causes.{one_more}
 
--- a source in memory: the bytes not yet read, the most that a call gives, the number of calls so far,
+-- a source in memory: the bytes not yet read, the most that a call gives, how many calls were made,
 -- the numbers of the calls that fail, and how many have failed
 pub record MemSourceState : Type 0 where
   pub left : List ℕ
@@ -27,8 +27,8 @@ after_read s n = record s { left = drop n s.left; calls = one_more s.calls }
 abbrev pub after_failed_read : MemSourceState → MemSourceState
 after_failed_read s = record s { calls = one_more s.calls; faults = one_more s.faults }
 
--- a sink in memory: the bytes written, the most that it holds, the number of calls with a piece so far,
--- the numbers of those that fail, and how many have failed
+-- a sink in memory: the bytes written, the most that it holds, how many calls were made with a
+-- piece that is not empty, the numbers of those that fail, and how many have failed
 pub record MemSinkState : Type 0 where
   pub contents : List ℕ
   pub room : ℕ
@@ -36,10 +36,11 @@ pub record MemSinkState : Type 0 where
   pub failing : List ℕ
   pub faults : ℕ
 
--- the sink refuses this piece: it is not empty, and its call is one of those that fail, or it is too long
+-- the sink refuses this piece: it is not empty, and its call is one that fails, or it is too long
 abbrev pub Refuses : MemSinkState → List ℕ → Type 0
 Refuses s piece =
-    (0 < length piece) × (Contains s.failing (one_more s.calls) ⊎ (s.room < length s.contents + length piece))
+    (0 < length piece)
+    × (Contains s.failing (one_more s.calls) ⊎ (s.room < length s.contents + length piece))
 
 -- the sink after it took this piece, which is not empty
 abbrev pub after_write : MemSinkState → List ℕ → MemSinkState

@@ -1,5 +1,5 @@
-//! Bytes that come in, bytes that go out, and the moments at which workers begin: the traits through
-//! which the compiler meets the world, with a count of the faults at each, and what stands behind them.
+//! Bytes that come in, bytes that go out, and the moments at which workers begin: the traits by
+//! which the compiler meets the world, and what stands behind them.
 #![tactic(auto)]
 
 mod faults;
@@ -9,6 +9,8 @@ mod memory_sources;
 mod sinks;
 mod sources;
 mod std_edge;
+#[cfg(test)]
+mod tests;
 mod whole;
 
 pub use faults::Failed;

@@ -1,5 +1,5 @@
-//! Sinks in memory: one that keeps the bytes and whose calls are planned to fail, and one without faults
-//! that drops them.
+//! Sinks in memory: one that keeps the bytes and whose calls fail as planned, and one that never
+//! fails and drops them.
 
 ghost use Rattle.std.specs.Prelude.{◌≡◌, ◌<◌, ◌↔◌, [], length, None, Some, Ok, IsErr, IfOk, OnOk, OnErr};
 ghost use Rattle.std.specs.Io.KnownBytes.{WriteAppends};
@@ -12,8 +12,8 @@ use crate::sinks::Sink;
 use std::alloc::{AllocError, Global};
 use std::marker::Model;
 
-/// Room in memory that bytes are written to. Calls with a piece that is not empty are counted from 1, and
-/// those in a list fail.
+/// Room in memory that bytes are written to. Calls with a piece that is not empty are counted from
+/// 1, and those in a list fail.
 #[derive(Drop)]
 pub struct MemSink {
     bytes: Vec<u8>,
@@ -29,14 +29,20 @@ impl Model for MemSink {
 
     ghost Value = { MemSinkState };
 
-    ghost view = { λ s. record { contents = s.bytes.items; room = s.room; calls = s.calls; failing = s.failing.items; faults = s.faults } };
+    ghost view = { λ s. record {
+      contents = s.bytes.items;
+      room = s.room;
+      calls = s.calls;
+      failing = s.failing.items;
+      faults = s.faults;
+    } };
 
     ghost invariant = { λ s. (vec_len s.bytes ≤ s.room) × (s.room ≤ vec_capacity s.bytes) };
 }
 
 impl MemSink {
-    /// An empty sink that holds at most `room` bytes, which are reserved here. `failing` has the numbers
-    /// of the calls that fail, in any order.
+    /// An empty sink that holds at most `room` bytes, which are reserved here. `failing` has the
+    /// numbers of the calls that fail, in any order.
     pub fn new(alloc: Global, room: usize, failing: Vec<u64>) -> Result<MemSink, AllocError>
         ensures contents { IfOk result (λ sink. sink.contents ≡ []) }
         ensures plan { IfOk result (λ sink. (sink.room ≡ room) × (sink.failing ≡ failing.items)) }
@@ -67,13 +73,15 @@ impl Sink for MemSink {
     fn write(&mut self, bytes: &[u8]) -> Result<usize, Failed>
         ensures some { TakesSome result bytes.now }
         ensures empty { bytes.now ≡ [] → (result ≡ Ok 0) × (self.new ≡ self.old) }
-        ensures bytes { WriteAppends (Some self.old.contents) (Some self.new.contents) result bytes.now }
+        ensures bytes { WriteAppends (Some self.old.contents) (Some self.new.contents)
+            result bytes.now }
         ensures cause { HasCause self.old.faults self.new.faults result }
 
         // A piece is taken whole or refused, when it is refused, and what the call leaves.
         ensures whole { IfOk result (λ count. count ≡ length bytes.now) }
         ensures fails { IsErr result ↔ Refuses self.old bytes.now }
-        ensures grown { OnOk result (0 < length bytes.now → self.new ≡ after_write self.old bytes.now) }
+        ensures grown { OnOk result
+            (0 < length bytes.now → self.new ≡ after_write self.old bytes.now) }
         ensures counted { OnErr result (self.new ≡ after_refusal self.old) }
     {
         if bytes.is_empty() {

@@ -15,8 +15,8 @@ pub trait Sink {
     /// How often a write has failed.
     ghost faults: { Self → ℕ };
 
-    /// Takes some bytes from the front of the piece, and answers how many: none only of an empty piece,
-    /// which never fails. After `Failed` the sink holds what it held.
+    /// Takes some bytes from the front of the piece, and answers how many: none only of an empty
+    /// piece, which never fails. After `Failed` the sink holds what it held.
     fn write(&mut self, bytes: &[u8]) -> Result<usize, Failed>
         ensures some { TakesSome result bytes.now }
         ensures empty { bytes.now ≡ [] → result ≡ Ok 0 }

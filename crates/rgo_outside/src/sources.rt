@@ -15,8 +15,8 @@ pub trait Source {
     /// How often a read has failed.
     ghost faults: { Self → ℕ };
 
-    /// Reads some bytes to the front of `into`, and answers how many: none only at the end, or where
-    /// `into` is empty. After `Failed` no byte is lost, and a later call may go on.
+    /// Reads some bytes to the front of `into`, and answers how many: none only at the end, or
+    /// where `into` is empty. After `Failed` no byte is lost, and a later call may go on.
     fn read(&mut self, into: &mut [u8]) -> Result<usize, Failed>
         ensures bound { ReadsAtMost result into.new }
         ensures bytes { ReadConsumes (left self.old) (left self.new) result into.new }

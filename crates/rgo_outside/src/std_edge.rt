@@ -1,10 +1,11 @@
-//! std's readers and writers as sources and sinks, which tell nothing of the bytes and count the faults.
+//! std's readers and writers as sources and sinks, which tell no bytes and count the faults.
 
-ghost use Rattle.std.specs.Prelude.{◌≡◌, ◌≤◌, [], length, None, Ok, IfSome, OnOk, OnErr};
+ghost use Rattle.std.specs.Prelude.{◌≡◌, [], None, Ok, OnOk, OnErr};
 ghost use Rattle.std.specs.Io.{ReadsAtMost};
 ghost use Rattle.std.specs.Io.KnownBytes.{ReadConsumes, WriteAppends};
 ghost use Rattle.rgo_outside.specs.Causes.{HasCause, one_more};
 ghost use Rattle.rgo_outside.specs.Moves.{TakesSome};
+ghost use Rattle.rgo_outside.specs.StdEdge.{WritesFront, FlushesFront};
 
 use crate::faults::Failed;
 use crate::sinks::Sink;
@@ -12,25 +13,26 @@ use crate::sources::Source;
 use std::io::{Read, Write};
 use std::marker::Model;
 
-/// A reader of std as a source. A contract sees how many of its reads have failed.
+/// A reader of std as a source. As a source it tells nothing of its bytes.
 #[derive(Drop)]
-pub struct StdSource<R> {
+pub struct StdSource<R: Read> {
     inner: R,
     faults: u64,
 }
 
-impl<R> Model for StdSource<R> {
-    ghost use Rattle.std.specs.Prelude.{ℕ};
+impl<R: Read> Model for StdSource<R> {
+    ghost use Rattle.rgo_outside.specs.StdEdge.{StdSourceState};
 
-    ghost Value = { ℕ };
+    ghost Value = { StdSourceState };
 
-    ghost view = { λ s. s.faults };
+    ghost view = { λ s. record { remaining = R.remaining s.inner; faults = s.faults } };
 }
 
 impl<R: Read> StdSource<R> {
     /// A source that reads from `inner`, and has not failed yet.
     pub fn new(inner: R) -> StdSource<R>
-        ensures { result ≡ 0 }
+        ensures inner { result.remaining ≡ R.remaining inner }
+        ensures fresh { result.faults ≡ 0 }
     {
         StdSource { inner, faults: 0 }
     }
@@ -39,16 +41,17 @@ impl<R: Read> StdSource<R> {
 impl<R: Read> Source for StdSource<R> {
     ghost left = { λ _. None };
 
-    ghost faults = { λ s. s };
+    ghost faults = { λ s. s.faults };
 
     fn read(&mut self, into: &mut [u8]) -> Result<usize, Failed>
         ensures bound { ReadsAtMost result into.new }
         ensures bytes { ReadConsumes None None result into.new }
-        ensures cause { HasCause self.old self.new result }
+        ensures cause { HasCause self.old.faults self.new.faults result }
 
-        // The count rises at an `Err` of the reader, and only there.
-        ensures kept { OnOk result (self.new ≡ self.old) }
-        ensures counted { OnErr result (self.new ≡ one_more self.old) }
+        // The bytes are the reader's, and the count rises at its `Err` and only there.
+        ensures inner { ReadConsumes self.old.remaining self.new.remaining result into.new }
+        ensures kept { OnOk result (self.new.faults ≡ self.old.faults) }
+        ensures counted { OnErr result (self.new.faults ≡ one_more self.old.faults) }
     {
         match self.inner.read(into) {
             Ok(count) => Ok(count),
@@ -60,25 +63,25 @@ impl<R: Read> Source for StdSource<R> {
     }
 }
 
-/// A writer of std as a sink. Each write is flushed, and a write that takes no byte of a piece is a fault.
-/// A contract sees how many of its writes have failed.
+/// A writer of std as a sink. Each write is flushed, and a write that takes no byte of a piece is a
+/// fault. As a sink it tells nothing of its bytes: where a flush failed, some may be there.
 #[derive(Drop)]
-pub struct StdSink<W> {
+pub struct StdSink<W: Write> {
     inner: W,
     faults: u64,
 }
 
-impl<W> Model for StdSink<W> {
-    ghost use Rattle.std.specs.Prelude.{ℕ};
+impl<W: Write> Model for StdSink<W> {
+    ghost use Rattle.rgo_outside.specs.StdEdge.{StdSinkState};
 
-    ghost Value = { ℕ };
+    ghost Value = { StdSinkState };
 
-    ghost view = { λ s. s.faults };
+    ghost view = { λ s. record { contents = W.contents s.inner; faults = s.faults } };
 }
 
 // Writes some bytes and flushes them: how many, or none where either failed.
 fn write_and_flush<W: Write>(writer: &mut W, bytes: &[u8]) -> Option<usize>
-    ensures { IfSome result (λ count. count ≤ length bytes.now) }
+    ensures { FlushesFront result (W.contents writer.old) (W.contents writer.new) bytes.now }
 {
     let count = writer.write(bytes).ok()?;
     writer.flush().ok()?;
@@ -88,7 +91,8 @@ fn write_and_flush<W: Write>(writer: &mut W, bytes: &[u8]) -> Option<usize>
 impl<W: Write> StdSink<W> {
     /// A sink that writes to `inner`, and has not failed yet.
     pub fn new(inner: W) -> StdSink<W>
-        ensures { result ≡ 0 }
+        ensures inner { result.contents ≡ W.contents inner }
+        ensures fresh { result.faults ≡ 0 }
     {
         StdSink { inner, faults: 0 }
     }
@@ -97,17 +101,19 @@ impl<W: Write> StdSink<W> {
 impl<W: Write> Sink for StdSink<W> {
     ghost contents = { λ _. None };
 
-    ghost faults = { λ s. s };
+    ghost faults = { λ s. s.faults };
 
     fn write(&mut self, bytes: &[u8]) -> Result<usize, Failed>
         ensures some { TakesSome result bytes.now }
-        ensures empty { bytes.now ≡ [] → result ≡ Ok 0 }
+        ensures empty { bytes.now ≡ [] → (result ≡ Ok 0) × (self.new ≡ self.old) }
         ensures bytes { WriteAppends None None result bytes.now }
-        ensures cause { HasCause self.old self.new result }
+        ensures cause { HasCause self.old.faults self.new.faults result }
 
-        // The count rises at an `Err` of the writer or a write of no byte, and only there.
-        ensures kept { OnOk result (self.new ≡ self.old) }
-        ensures counted { OnErr result (self.new ≡ one_more self.old) }
+        // The bytes are handed to the writer, and the count rises at its `Err` or where it takes no
+        // byte of a piece, and only there.
+        ensures inner { WritesFront result self.old.contents self.new.contents bytes.now }
+        ensures kept { OnOk result (self.new.faults ≡ self.old.faults) }
+        ensures counted { OnErr result (self.new.faults ≡ one_more self.old.faults) }
     {
         if bytes.is_empty() {
             return Ok(0);

@@ -45,18 +45,20 @@ fn read_behind<S: Source>(source: &mut S, room: &mut [u8], filled: usize) -> Res
     source.read(&mut room[filled..])
 }
 
-/// Reads a source to its end, and answers all that was left, at most `limit` bytes. The room for them,
-/// and for the byte that is one too many, is taken before the first read.
+/// Reads a source to its end, and answers all that was left, at most `limit` bytes. The room for
+/// them, and for the byte that is one too many, is taken before the first read.
 pub fn read_all<S: Source>(alloc: Global, source: &mut S, limit: usize) -> Result<Vec<u8>, ReadEnd>
     requires { limit + 1 < 2 ^ 63 }
-    ensures ok { IfOk result (λ bytes. ReadsAll limit (S.left source.old) (S.left source.new) bytes.items) }
+    ensures ok { IfOk result (λ bytes.
+        ReadsAll limit (S.left source.old) (S.left source.new) bytes.items) }
 
     // One byte more than the limit was given where the end is `TooLong`, and not at any other end.
     ensures too_long { IsErrOf result ReadEnd.TooLong →
         GivesTooMany limit (S.left source.old) (S.left source.new) }
     ensures within { IsErrOf result ReadEnd.Fault →
         GivesWithin limit (S.left source.old) (S.left source.new) }
-    ensures fault { IsErrOf result ReadEnd.Fault → Rose (S.faults source.old) (S.faults source.new) }
+    ensures fault { IsErrOf result ReadEnd.Fault →
+        Rose (S.faults source.old) (S.faults source.new) }
     ensures no_memory { IsErrOf result ReadEnd.NoMemory → source.new ≡ source.old }
     ensures later { S.faults source.old ≤ S.faults source.new }
 {
