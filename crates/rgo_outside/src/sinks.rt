@@ -12,7 +12,7 @@ pub trait Sink {
     /// What it holds, where the sink tells.
     ghost contents: { Self → Option (List ℕ) };
 
-    /// How often a write has failed.
+    /// How often a write has failed, which never falls, and may stop at the end of a `u64`.
     ghost faults: { Self → ℕ };
 
     /// Takes some bytes from the front of the piece, and answers how many: none only of an empty

@@ -66,7 +66,7 @@ impl Read for Stuck {
 fn sources_are_read_to_the_end(rt: HostRuntime) -> Result<(), Fail> {
     let alloc = rt.alloc();
     for (text, per_call, failing, limit, wanted) in [
-        ("", 1, 9, 0, Ok("")),
+        ("", 1_usize, 9_u64, 0_usize, Ok("")),
         ("abc", 1, 9, 3, Ok("abc")),
         ("abcd", 1, 9, 3, Err(ReadEnd::TooLong)),
         ("abcd", 4, 9, 3, Err(ReadEnd::TooLong)),
@@ -74,15 +74,13 @@ fn sources_are_read_to_the_end(rt: HostRuntime) -> Result<(), Fail> {
         ("abc", 2, 3, 8, Err(ReadEnd::Fault)),
         ("abc", 2, 4, 8, Ok("abc")),
     ] {
-        let bytes = text.as_bytes().to_vec(alloc)?;
-        let per_call: usize = per_call;
-        let limit: usize = limit;
         assert!(rt; 0 < per_call && limit < 9);
+        let bytes = text.as_bytes().to_vec(alloc)?;
         let mut source = MemSource::new(bytes, per_call, vec![in alloc; failing; 1]?);
-        match (read_all(alloc, &mut source, limit), wanted) {
-            (Ok(read), Ok(wanted)) => assert_eq!(rt; read.as_slice(), wanted.as_bytes()),
-            (Err(end), Err(wanted)) => assert_eq!(rt; end, wanted, "at {text}"),
-            _ => assert!(rt; false, "at {text}"),
+        let answer = read_all(alloc, &mut source, limit);
+        match wanted {
+            Ok(read) => assert_eq!(rt; answer?.as_slice(), read.as_bytes()),
+            Err(end) => assert_eq!(rt; answer.err(), Some(end), "at {text}"),
         }
     }
     let mut source = NoFaultSource::new("abc".as_bytes().to_vec(alloc)?);
