@@ -4,5 +4,7 @@ pub mod Numbers
 pub mod Strings
 pub mod Operators
 pub mod Front
+pub mod Semicolons
 pub mod Tokens
 pub mod Refusals
+pub mod Laws
