@@ -1,7 +1,6 @@
 -- What stands at the front of a text: it fits, and a token by itself is the same token.
-use Rattle.std.proofs.Common.{◌≡◌, ℕ, zero, suc, ◌+◌, ◌<◌, ◌≤◌, Bool, true, false, cond, List, [], ◌∷◌, length, take, refl, sym, ap, subst, ◌∙◌, Option, None, Some, arith}
+use Rattle.std.proofs.Common.{◌≡◌, ℕ, zero, suc, ◌≤◌, Bool, true, false, cond, List, [], ◌∷◌, take, refl, sym, subst, arith}
 use Rattle.std.specs.Prelude.{◌==◌}
-use Rattle.std.proofs.lemmas.Bool.{cond_both}
 use Rattle.rgo_lexer.specs.Bytes.{is_blank, is_letter, is_digit}
 use Rattle.rgo_lexer.specs.Words.{word_at}
 use Rattle.rgo_lexer.specs.Numbers.{number_at}
@@ -9,7 +8,7 @@ use Rattle.rgo_lexer.specs.Strings.{string_at}
 use Rattle.rgo_lexer.specs.Operators.{operator_at}
 use Rattle.rgo_lexer.specs.Front.{front_of, FitsIn, IsWidthIn}
 use Rattle.rgo_lexer.specs.declared.front.Front.{Front}
-use Rattle.rgo_lexer.specs.declared.front.Front.TheVariants.{End, Blank, Newline, Piece, Refused}
+use Rattle.rgo_lexer.specs.declared.front.Front.TheVariants.{Blank, Newline, Piece}
 use Rattle.rgo_lexer.specs.declared.tokens.TokenKind.{TokenKind}
 use Rattle.rgo_lexer.specs.declared.tokens.TokenKind.TheVariants.{Text}
 use Rattle.rgo_lexer.proofs.WordForms.{word_fits, word_stable, word_no_text}

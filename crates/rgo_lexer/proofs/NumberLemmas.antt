@@ -4,7 +4,7 @@ use Rattle.std.proofs.lemmas.Bool.Decides.{nat_tests}
 use Rattle.std.specs.List.{list_all}
 use Rattle.std.specs.Prelude.{option_and_then, ◌==◌}
 use Rattle.rgo_lexer.specs.Bytes.{is_digit}
-use Rattle.rgo_lexer.specs.Numbers.{value_from, number_of, number_from, behind}
+use Rattle.rgo_lexer.specs.Numbers.{value_from, number_of, number_from}
 
 pub value_from-le : (n : ℕ) (ds : List ℕ) → n ≤ value_from n ds
 value_from-le n [] = omega arith

@@ -1,5 +1,5 @@
 -- The operator at the front of a text: it fits, and by itself it is the same operator.
-use Rattle.std.proofs.Common.{◌≡◌, ℕ, ◌+◌, ◌<◌, ◌≤◌, Bool, true, false, cond, List, [], ◌∷◌, length, take, refl, sym, ap, ◌∙◌, arith}
+use Rattle.std.proofs.Common.{◌≡◌, ℕ, ◌<◌, Bool, true, false, cond, List, [], ◌∷◌, length, take, ap, ◌∙◌, arith}
 use Rattle.std.proofs.lemmas.Bool.{cond_both}
 use Rattle.rgo_lexer.specs.Bytes.{bad_byte}
 use Rattle.rgo_lexer.specs.Operators.{operator_at, is_operator}

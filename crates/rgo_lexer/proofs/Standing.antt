@@ -1,21 +1,20 @@
 -- Each token of a text stands in it, and a refused byte does.
-use Rattle.std.proofs.Common.{◌≡◌, ℕ, ◌+◌, ◌-◌, ◌<◌, ◌≤◌, Bool, true, false, cond, List, [], ◌∷◌, ◌++◌, length, take, drop, Option, None, Some, refl, sym, ap, ◌∙◌, subst, All, IfSome, arith}
-use Rattle.std.specs.Prelude.{◌==◌, slice_range}
+use Rattle.std.proofs.Common.{◌≡◌, ℕ, ◌+◌, ◌-◌, ◌<◌, ◌≤◌, Bool, true, false, cond, List, [], length, take, drop, Option, None, Some, refl, sym, ap, ◌∙◌, All, IfSome, arith}
+use Rattle.std.specs.Prelude.{◌==◌}
 use Rattle.std.proofs.lemmas.Bool.Decides.{nat_tests}
 use Rattle.std.proofs.lemmas.List.{drop-drop, length-drop, length-take-le}
 use Rattle.std.proofs.lemmas.List.Elements.{All-nil, All-cons, All-append}
 use Rattle.rgo_lexer.specs.Front.{front_of, FitsIn, IsWidthIn}
 use Rattle.rgo_lexer.specs.Semicolons.{token, open_behind, inserted, may_end}
-use Rattle.rgo_lexer.specs.Tokens.{TokensFrom, Tokens, IsTokenOf, IsTextIn, kind_of, kind_at_width, bytes_of, bytes_in}
+use Rattle.rgo_lexer.specs.Tokens.{TokensFrom, Tokens, IsTokenOf, IsTextIn, kind_of, kind_at_width}
 use Rattle.rgo_lexer.specs.Tokens.TokensFrom.{finish, blank, newline, piece}
-use Rattle.rgo_lexer.specs.Refusals.{RefusesFrom, Refuses, Fails, IsPlacedIn, width}
+use Rattle.rgo_lexer.specs.Refusals.{RefusesFrom, Fails, IsPlacedIn, width}
 use Rattle.rgo_lexer.specs.Refusals.RefusesFrom.{here, later}
 use Rattle.rgo_lexer.specs.declared.front.Front.{Front}
 use Rattle.rgo_lexer.specs.declared.front.Front.TheVariants.{End, Blank, Newline, Piece, Refused}
 use Rattle.rgo_lexer.specs.declared.tokens.TokenKind.{TokenKind}
 use Rattle.rgo_lexer.specs.declared.tokens.TokenKind.TheVariants.{Text, Operator}
 use Rattle.rgo_lexer.specs.declared.tokens.Token.{Token}
-use Rattle.rgo_lexer.specs.declared.tokens.Span.{Span}
 use Rattle.rgo_lexer.specs.declared.tokens.LexRefusal.{LexRefusal}
 use Rattle.rgo_lexer.specs.declared.tokens.LexError.{LexError}
 use Rattle.rgo_lexer.specs.declared.tokens.LexError.TheVariants as error
@@ -121,3 +120,14 @@ front_of_word word kind e = kind_at (front_of word) (length word) kind e
 -- a string has two quotes
 pub text_quoted : (word : List ℕ) → kind_of word ≡ Some Text → 2 ≤ length word
 text_quoted word e = text_width word (length word) (front_of_word word Text e)
+
+-- a token of a text that is a string is a part of it, with its quotes
+pub text_stands : (text : List ℕ) (t : Token) → IsTokenOf text t → t.kind ≡ Text → IsTextIn text t.span
+text_stands text t stands e = record {
+  ordered = stands.ordered;
+  within = stands.within;
+  spelled = stands.spelled (some t stands.ordered (λ same. let f = stands.inserted same in cc)) ∙ ap Some e;
+}
+  where
+    some : (t : Token) → t.span.start ≤ t.span.end → (t.span.start ≡ t.span.end → ⊥) → t.span.start < t.span.end
+    some t le ne = omega (arith, le, ne)

@@ -1,12 +1,12 @@
 -- The string at the front of a text: it fits, and by itself it is the same string.
-use Rattle.std.proofs.Common.{◌≡◌, ℕ, suc, ◌+◌, ◌<◌, ◌≤◌, Bool, true, false, cond, List, [], ◌∷◌, length, take, drop, get_or, refl, sym, ap, ◌∙◌, arith}
+use Rattle.std.proofs.Common.{◌≡◌, ℕ, ◌+◌, ◌<◌, Bool, true, false, cond, List, ◌∷◌, length, take, drop, refl, ap, ◌∙◌, arith}
 use Rattle.std.specs.Prelude.{◌==◌, slice_index}
-use Rattle.std.proofs.lemmas.Bool.{cond_both, cases_lt}
+use Rattle.std.proofs.lemmas.Bool.{cond_both}
 use Rattle.std.proofs.lemmas.Bool.Decides.{nat_tests}
 use Rattle.std.proofs.lemmas.List.{get_or_past, get_or-take, drop-take}
 use Rattle.rgo_lexer.specs.Bytes.{bad_byte}
 use Rattle.rgo_lexer.specs.Strings.{string_at, inside_of, is_string_byte}
-use Rattle.rgo_lexer.specs.Front.{FitsIn, IsWidthIn}
+use Rattle.rgo_lexer.specs.Front.{FitsIn}
 use Rattle.rgo_lexer.specs.declared.front.Front.TheVariants.{Piece}
 use Rattle.rgo_lexer.specs.declared.tokens.TokenKind.{TokenKind}
 use Rattle.rgo_lexer.specs.declared.tokens.TokenKind.TheVariants.{Text}

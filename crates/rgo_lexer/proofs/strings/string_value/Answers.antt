@@ -1,4 +1,3 @@
-use Rattle.std.proofs.Common.{arith}
 use Rattle.rgo_lexer.proofs.Standing.{text_quoted}
 use Rattle.rgo_lexer.proofs.strings.string_value.Goals as goal
 
