@@ -17,14 +17,13 @@ use Rattle.rgo_lexer.proofs.StringForms.{string_fits, string_stable, string_widt
 use Rattle.rgo_lexer.proofs.OperatorForms.{operator_fits, operator_stable, operator_no_text}
 
 -- the choice among the forms
-choice : (blank line letter digit quote : Bool) (word number string operator : Front) → Front
+abbrev pub choice : (blank line letter digit quote : Bool) (word number string operator : Front) → Front
 choice blank line letter digit quote word number string operator =
     cond blank (Blank 1) (cond line (Newline 1) (cond letter word (cond digit number (cond quote string operator))))
 
 -- what holds of each form holds of the choice
-by_form : (P : Front → Type 0) (blank line letter digit quote : Bool) (word number string operator : Front) → P (Blank 1) → P (Newline 1) → (letter ≡ true → P word) → (digit ≡ true → P number) → P string → P operator
+pub by_form : (P : Front → Type 0) (blank line letter digit quote : Bool) (word number string operator : Front) → P (Blank 1) → P (Newline 1) → (letter ≡ true → P word) → (digit ≡ true → P number) → P string → P operator
     → P (choice blank line letter digit quote word number string operator)
-unfolding choice
 by_form P true line letter digit quote word number string operator b l w n s o = b
 by_form P false true letter digit quote word number string operator b l w n s o = l
 by_form P false false true digit quote word number string operator b l w n s o = w refl
@@ -36,7 +35,7 @@ one : (b : ℕ) (rest : List ℕ) → IsWidthIn (b ∷ rest) 1
 one b rest = record { some = omega arith; within = omega arith }
 
 pub front_fits : (text : List ℕ) → FitsIn text (front_of text)
-unfolding front_of choice
+unfolding front_of
 front_fits [] = refl
 front_fits (b ∷ rest) =
     by_form (FitsIn (b ∷ rest)) (is_blank b) (b == 10) (is_letter b) (is_digit b) (b == 34) (word_at (b ∷ rest)) (number_at (b ∷ rest)) (string_at (b ∷ rest)) (operator_at (b ∷ rest))
@@ -54,7 +53,6 @@ piece_fits text kind n e = fits text (Piece kind n) (sym e)
 both : (kind : TokenKind) (n : ℕ) (blank line letter digit quote : Bool) (word number string operator word' number' string' operator' : Front)
     → (word ≡ Piece kind n → word' ≡ Piece kind n) → (number ≡ Piece kind n → number' ≡ Piece kind n) → (string ≡ Piece kind n → string' ≡ Piece kind n) → (operator ≡ Piece kind n → operator' ≡ Piece kind n)
     → choice blank line letter digit quote word number string operator ≡ Piece kind n → choice blank line letter digit quote word' number' string' operator' ≡ Piece kind n
-unfolding choice
 both kind n true line letter digit quote word number string operator word' number' string' operator' w m s o e = cc
 both kind n false true letter digit quote word number string operator word' number' string' operator' w m s o e = cc
 both kind n false false true digit quote word number string operator word' number' string' operator' w m s o e = w e
@@ -64,7 +62,7 @@ both kind n false false false false false word number string operator word' numb
 
 -- a token's bytes by themselves are the same token
 pub front_stable : (text : List ℕ) (kind : TokenKind) (n : ℕ) → front_of text ≡ Piece kind n → front_of (take n text) ≡ Piece kind n
-unfolding front_of choice
+unfolding front_of
 front_stable [] kind n e = cc
 front_stable (b ∷ rest) kind zero e = absurd (omega (arith, (piece_fits (b ∷ rest) kind zero e).some))
 front_stable (b ∷ rest) kind (suc n) e =
@@ -74,7 +72,7 @@ front_stable (b ∷ rest) kind (suc n) e =
 
 -- a string has two quotes
 pub text_width : (text : List ℕ) (n : ℕ) → front_of text ≡ Piece Text n → 2 ≤ n
-unfolding front_of choice
+unfolding front_of
 text_width [] n e = cc
 text_width (b ∷ rest) n e =
     by_form (λ f. f ≡ Piece Text n → 2 ≤ n) (is_blank b) (b == 10) (is_letter b) (is_digit b) (b == 34) (word_at (b ∷ rest)) (number_at (b ∷ rest)) (string_at (b ∷ rest)) (operator_at (b ∷ rest))

@@ -49,7 +49,8 @@ fn tokens_from(alloc: Global, text: &[u8], start: usize) -> Result<Vec<Token>, L
     }
 }
 
-/// The tokens of the text, in their order, the inserted `;` among them.
+/// The tokens of the text, in their order, the inserted `;` among them (The Go Programming Language
+/// Specification, "Lexical elements").
 ///
 /// An error says that memory ran out, or what is wrong first with a text that has no tokens.
 #[tactic(auto, using(crate::proofs::Standing::placed))]

@@ -1,7 +1,7 @@
 //! Integer literals: at the front of a text, and their values.
 
 ghost use Rattle.std.specs.Prelude.{◌≡◌, ◌^◌, ◌<◌};
-ghost use Rattle.rgo_lexer.specs.Numbers.{number_of, number_at, behind, number_from};
+ghost use Rattle.rgo_lexer.specs.Numbers.{number_of, number_at, behind, digits_of};
 
 use crate::bytes::{is_digit, run_len};
 use crate::front::Front;
@@ -40,7 +40,7 @@ fn behind(n: u64, digit: u8) -> Option<u64>
 
 /// The number that the digits write, 0 where there are none, unless it passes the greatest.
 fn digits_value(digits: &[u8]) -> Option<u64>
-    ensures { result ≡ number_from 0 digits.now }
+    ensures { result ≡ digits_of digits.now }
 {
     let mut value = 0;
     for digit in digits {
@@ -49,9 +49,11 @@ fn digits_value(digits: &[u8]) -> Option<u64>
     Some(value)
 }
 
-/// The number that an integer literal writes (The Go Programming Language Specification, "Integer literals").
+/// The number that an integer literal writes, in decimal digits of which the first is not 0 unless it
+/// is alone (The Go Programming Language Specification, "Integer literals").
 ///
-/// None where the word is no such literal, or its number is above 9223372036854775807, the greatest `int`.
+/// None where the word is no such literal, or its number is above 9223372036854775807, the greatest
+/// `int`.
 #[tactic(auto, unfolding(crate::specs::Numbers::number_of))]
 pub fn number_value(word: &[u8]) -> Option<u64>
     ensures { result ≡ number_of word.now }
