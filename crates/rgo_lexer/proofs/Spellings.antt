@@ -1,5 +1,5 @@
 -- What the kind of a token says of its bytes.
-use Rattle.std.proofs.Common.{◌≡◌, ℕ, ◌+◌, ◌<◌, ◌≤◌, Bool, true, false, cond, List, [], ◌∷◌, length, take, drop, Option, None, Some, refl, sym, ap, ◌∙◌, arith}
+use Rattle.std.proofs.Common.{◌≡◌, ℕ, ◌+◌, Bool, true, false, cond, List, [], ◌∷◌, length, take, drop, Some, refl, arith}
 use Rattle.std.specs.Prelude.{◌==◌, is_some, slice_index}
 use Rattle.std.proofs.lemmas.List.{take_all}
 use Rattle.rgo_lexer.specs.Bytes.{is_blank, is_letter, is_digit, bad_byte}
@@ -9,11 +9,10 @@ use Rattle.rgo_lexer.specs.Strings.{string_at, inside_of}
 use Rattle.rgo_lexer.specs.Operators.{operator_at, is_operator}
 use Rattle.rgo_lexer.specs.Front.{front_of}
 use Rattle.rgo_lexer.specs.Tokens.{kind_of}
-use Rattle.rgo_lexer.specs.declared.front.Front.{Front}
-use Rattle.rgo_lexer.specs.declared.front.Front.TheVariants.{Blank, Newline, Piece, Refused}
+use Rattle.rgo_lexer.specs.declared.front.Front.TheVariants.{Piece}
 use Rattle.rgo_lexer.specs.declared.tokens.TokenKind.{TokenKind}
 use Rattle.rgo_lexer.specs.declared.tokens.TokenKind.TheVariants.{Word, Keyword, Number, Text, Operator}
-use Rattle.rgo_lexer.proofs.Fronts.{by_form, choice}
+use Rattle.rgo_lexer.proofs.Fronts.{by_form}
 use Rattle.rgo_lexer.proofs.Standing.{front_of_word}
 
 -- a name is no keyword, a keyword is one, and a number has its value

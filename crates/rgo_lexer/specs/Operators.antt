@@ -7,7 +7,8 @@ use Rattle.rgo_lexer.specs.declared.tokens.TokenKind.TheVariants.{Operator}
 
 -- one of ( ) { } , ; . *
 abbrev pub is_operator : ℕ → Bool
-is_operator b = b == 40 || b == 41 || b == 123 || b == 125 || b == 44 || b == 59 || b == 46 || b == 42
+is_operator b =
+    b == 40 || b == 41 || b == 123 || b == 125 || b == 44 || b == 59 || b == 46 || b == 42
 
 -- the operator at the front of a text that is not empty
 unfoldable pub operator_at : List ℕ → Front

@@ -49,7 +49,7 @@ fn digits_value(digits: &[u8]) -> Option<u64>
     Some(value)
 }
 
-/// The number that an integer literal writes, in decimal digits of which the first is not 0 unless it
+/// The number that an integer literal writes: decimal digits, of which the first is not 0 unless it
 /// is alone (The Go Programming Language Specification, "Integer literals").
 ///
 /// None where the word is no such literal, or its number is above 9223372036854775807, the greatest

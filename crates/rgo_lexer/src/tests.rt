@@ -64,7 +64,7 @@ const TEXTS: [(&str, &str); 40] = [
     ("\"{}~ !\"#", "2@7"),
 ];
 
-/// A token as the table writes it.
+/// How the table writes the kind of a token.
 fn letter(kind: TokenKind) -> &'static str {
     match kind {
         TokenKind::Word => "w:",
