@@ -1,0 +1,11 @@
+pub mod Runs
+pub mod WordForms
+pub mod NumberForms
+pub mod StringForms
+pub mod OperatorForms
+pub mod Fronts
+pub mod NumberLemmas
+pub mod Going
+pub mod Standing
+pub mod OneReading
+pub mod Spellings

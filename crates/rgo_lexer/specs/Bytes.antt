@@ -1,0 +1,22 @@
+-- The kinds of byte that the forms of separators and tokens are made of.
+use Rattle.std.specs.Prelude.{ℕ, Bool, ◌||◌, ◌&&◌, nat_le, ◌==◌}
+use Rattle.rgo_lexer.specs.declared.front.Front.{Front}
+use Rattle.rgo_lexer.specs.declared.front.Front.TheVariants.{Refused}
+
+-- space, tab and carriage return
+abbrev pub is_blank : ℕ → Bool
+is_blank b = b == 32 || b == 9 || b == 13
+
+abbrev pub is_digit : ℕ → Bool
+is_digit b = nat_le 48 b && nat_le b 57
+
+-- a letter or `_`
+abbrev pub is_letter : ℕ → Bool
+is_letter b = (nat_le 65 b && nat_le b 90) || (nat_le 97 b && nat_le b 122) || b == 95
+
+abbrev pub is_word_byte : ℕ → Bool
+is_word_byte b = is_letter b || is_digit b
+
+-- the first byte of what stands there has no place
+abbrev pub bad_byte : Front
+bad_byte = Refused 2 0

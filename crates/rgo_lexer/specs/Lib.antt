@@ -1,0 +1,10 @@
+pub mod Bytes
+pub mod Words
+pub mod Numbers
+pub mod Strings
+pub mod Operators
+pub mod Front
+pub mod Semicolons
+pub mod Tokens
+pub mod Refusals
+pub mod Laws

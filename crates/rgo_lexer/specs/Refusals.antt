@@ -1,0 +1,44 @@
+-- What is wrong first with a text that has no tokens.
+use Rattle.std.specs.Prelude.{◌≡◌, ℕ, ◌+◌, ◌≤◌, List, length, drop, Option, None, Some}
+use Rattle.rgo_lexer.specs.Front.{front_of}
+use Rattle.rgo_lexer.specs.declared.front.Front.{Front}
+use Rattle.rgo_lexer.specs.declared.front.Front.TheVariants.{Blank, Newline, Piece, Refused}
+use Rattle.rgo_lexer.specs.declared.tokens.LexRefusal.{LexRefusal}
+use Rattle.rgo_lexer.specs.declared.tokens.LexError.{LexError}
+use Rattle.rgo_lexer.specs.declared.tokens.LexError.TheVariants as error
+
+-- how wide a separator or a token at the front is
+abbrev pub width : Front → Option ℕ
+width (Blank n) = Some n
+width (Newline n) = Some n
+width (Piece kind n) = Some n
+width _ = None
+
+abbrev pub refusal : ℕ → ℕ → LexRefusal
+refusal kind at = record { kind = kind; at = at }
+
+-- The first refusal from byte `at` of a text on, of which `rest` is left: before it stand separators
+-- and tokens alone.
+pub data RefusesFrom : ℕ → List ℕ → LexRefusal → Type 0 where
+  here : {at : ℕ} {rest : List ℕ} (kind offset : ℕ) → front_of rest ≡ Refused kind offset
+      → RefusesFrom at rest (refusal kind (at + offset))
+  later : {at : ℕ} {rest : List ℕ} {r : LexRefusal} (n : ℕ) → width (front_of rest) ≡ Some n
+      → RefusesFrom (at + n) (drop n rest) r → RefusesFrom at rest r
+
+-- the refusal of a text
+abbrev pub Refuses : List ℕ → LexRefusal → Type 0
+Refuses text r = RefusesFrom 0 text r
+
+-- what an error says of the text from a byte on: it is the refusal there, unless memory ran out
+abbrev pub FailsFrom : ℕ → List ℕ → LexError → Type 0
+FailsFrom at rest error.NoMemory = Unit {0}
+FailsFrom at rest (error.Refused r) = RefusesFrom at rest r
+
+-- what an error says of a whole text
+abbrev pub Fails : List ℕ → LexError → Type 0
+Fails text e = FailsFrom 0 text e
+
+-- a refused byte is in the text, or at its end
+abbrev pub IsPlacedIn : List ℕ → LexError → Type 0
+IsPlacedIn text error.NoMemory = Unit {0}
+IsPlacedIn text (error.Refused r) = r.at ≤ length text

@@ -1,0 +1,21 @@
+//! The tokens of a text.
+#![tactic(auto)]
+
+mod bytes;
+mod front;
+mod laws;
+mod lexer;
+mod numbers;
+mod operators;
+mod semicolons;
+mod strings;
+#[cfg(test)]
+mod tests;
+mod tokens;
+mod words;
+
+pub use laws::one_reading;
+pub use lexer::lex;
+pub use numbers::number_value;
+pub use strings::string_value;
+pub use tokens::{LexError, LexRefusal, Span, Token, TokenKind};
