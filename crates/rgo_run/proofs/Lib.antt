@@ -1,0 +1,9 @@
+pub mod OperandLemmas
+pub mod Ways
+pub mod Sound
+pub mod Complete
+pub mod FirstBad
+pub mod VerdictLemmas
+pub mod PrintLemmas
+pub mod TokenLemmas
+pub mod HeadlineLemmas

@@ -1,0 +1,29 @@
+//! How a call of `rgo` ends.
+
+/// A line and a column of a text, both from 1. Columns are bytes.
+#[derive(Clone, Copy, Debug, PartialEq, Eq)]
+pub struct Position {
+    pub line: usize,
+    pub column: usize,
+}
+
+/// How a call ended, by which its status and its line on `err` are determined.
+#[derive(Clone, Copy, Debug, PartialEq, Eq)]
+pub enum Ending {
+    /// `main` returned.
+    Exit,
+    /// The words name no command.
+    Usage,
+    /// A read of the source failed.
+    ReadFault,
+    /// The source gave more bytes than a text may have.
+    TooLong,
+    /// The text has no tokens: the number of what is wrong, and where.
+    Lexical { kind: u8, at: Position },
+    /// The tokens are no program's: where the first stands with which no program goes on.
+    Syntax { at: Position },
+    /// A write to `out` failed.
+    WriteFault,
+    /// Memory ran out.
+    NoMemory,
+}

@@ -1,0 +1,8 @@
+//! What holds of the definitions by themselves.
+
+ghost use Rattle.rgo_run.specs.Verdicts.{OneVerdict};
+
+/// Each text is one program, or has one refusal, and never both.
+pub fn one_verdict()
+    ensures { OneVerdict }
+{}

@@ -1,0 +1,43 @@
+//! Places of a text as its readers count them: by lines and columns.
+
+ghost use Rattle.std.specs.Prelude.{◌≡◌, ◌≤◌, ◌<◌, ◌^◌, ◌==◌, length, count_by};
+ghost use Rattle.std.specs.List.{suffix_len};
+ghost use Rattle.rgo_run.specs.Positions.{position_of, is_in_line};
+
+use crate::endings::Position;
+
+fn newlines(bytes: &[u8]) -> usize
+    ensures value { result ≡ count_by (λ b. b == 10) bytes.now }
+    ensures within { result ≤ length bytes.now }
+{
+    bytes.iter().filter(|b| **b == b'\n').count()
+}
+
+// How many bytes stand behind the last newline.
+fn since_newline(bytes: &[u8]) -> usize
+    ensures value { result ≡ suffix_len is_in_line bytes.now }
+    ensures within { result ≤ length bytes.now }
+{
+    let mut count = 0;
+    for b in bytes {
+        if *b == b'\n' {
+            count = 0;
+        } else {
+            count += 1;
+        }
+    }
+    count
+}
+
+/// The line and the column of a place, which is a number of bytes from the text's beginning.
+pub(crate) fn position_of(text: &[u8], place: usize) -> Position
+    requires within { place ≤ length text.now }
+    requires small { length text.now < 2 ^ 63 }
+    ensures { result ≡ position_of text.now place }
+{
+    let before = &text[..place];
+    Position {
+        line: 1 + newlines(before),
+        column: 1 + since_newline(before),
+    }
+}
