@@ -1,0 +1,60 @@
+//! Comments.
+
+ghost use Rattle.std.specs.Prelude.{◌≡◌, ◌≤◌, ◌+◌, ◌<◌, length, IfSome};
+ghost use Rattle.rgo_lexer.specs.Comments.{first_close, begins_line_comment, begins_comment, acts_as, closed_at, comment_front};
+
+use crate::bytes::is_newline;
+use crate::tokens::Front;
+
+const OPEN_COMMENT: u8 = 6;
+
+/// Where the first `*/` begins.
+fn first_close(text: &[u8]) -> Option<usize>
+    ensures place { result ≡ first_close text.now }
+    ensures within { IfSome result (λ at. at + 2 ≤ length text.now) }
+{
+    for at in 0..text.len() {
+        if text[at..].starts_with(b"*/") {
+            return Some(at);
+        }
+    }
+    None
+}
+
+fn begins_line_comment(text: &[u8]) -> bool
+    ensures { result ≡ begins_line_comment text.now }
+{
+    text.starts_with(b"//")
+}
+
+pub(crate) fn begins_comment(text: &[u8]) -> bool
+    ensures { result ≡ begins_comment text.now }
+{
+    begins_line_comment(text) || text.starts_with(b"/*")
+}
+
+/// A general comment acts as a newline where it has one in it, else as a space.
+fn acts_as(text: &[u8], len: usize) -> Front
+    requires { len ≤ length text.now }
+    ensures { result ≡ acts_as text.now len }
+{
+    if text[..len].contains(&b'\n') {
+        Front::Newline(len)
+    } else {
+        Front::Blank(len)
+    }
+}
+
+/// A comment, where the text begins with one ("Comments").
+pub(crate) fn comment_front(text: &[u8]) -> Front
+    requires { 2 ≤ length text.now }
+    ensures { result ≡ comment_front text.now }
+{
+    if begins_line_comment(text) {
+        return Front::Blank(text.iter().take_while(|b| !is_newline(**b)).count());
+    }
+    match first_close(&text[2..]) {
+        Some(at) => acts_as(text, at + 4),
+        None => Front::Refused(OPEN_COMMENT, 0),
+    }
+}
