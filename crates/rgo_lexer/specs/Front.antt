@@ -1,30 +1,33 @@
--- What stands at the front of a text: a separator, a comment, or the longest token that its form allows.
-use Rattle.std.specs.Prelude.{◌≡◌, ℕ, ◌<◌, ◌≤◌, ◌==◌, if◌then◌else◌, List, [], ◌∷◌}
-use Rattle.std.specs.Char.{is_ascii_digit}
-use Rattle.rgo_lexer.specs.Bytes.{is_space, is_newline, is_letter}
-use Rattle.rgo_lexer.specs.Words.{word_front}
-use Rattle.rgo_lexer.specs.Numbers.{number_front}
-use Rattle.rgo_lexer.specs.Strings.{string_front}
-use Rattle.rgo_lexer.specs.Comments.{begins_comment, comment_front}
-use Rattle.rgo_lexer.specs.Operators.{operator_front}
-use Rattle.rgo_lexer.specs.declared.tokens.Front.{Front}
-use Rattle.rgo_lexer.specs.declared.tokens.Front.TheVariants.{End, Blank, Newline, Piece, Refused}
+-- What stands at the front of a text: a separator, a token, or what neither may be.
+use Rattle.std.specs.Prelude.{◌≡◌, ℕ, ◌<◌, ◌≤◌, ◌==◌, if◌then◌else◌, List, [], ◌∷◌, length}
+use Rattle.rgo_lexer.specs.Bytes.{is_blank, is_letter, is_digit}
+use Rattle.rgo_lexer.specs.Words.{word_at}
+use Rattle.rgo_lexer.specs.Numbers.{number_at}
+use Rattle.rgo_lexer.specs.Strings.{string_at}
+use Rattle.rgo_lexer.specs.Operators.{operator_at}
+use Rattle.rgo_lexer.specs.declared.front.Front.{Front}
+use Rattle.rgo_lexer.specs.declared.front.Front.TheVariants.{End, Blank, Newline, Piece, Refused}
 
-abbrev pub front_of : List ℕ → Front
+-- each the longest that its form allows
+unfoldable pub front_of : List ℕ → Front
 front_of [] = End
-front_of (b ∷ text) =
-    if is_space b then Blank 1
-    else (if is_newline b then Newline 1
-    else (if is_letter b then word_front (b ∷ text)
-    else (if is_ascii_digit b then number_front (b ∷ text)
-    else (if b == 34 then string_front (b ∷ text)
-    else (if begins_comment (b ∷ text) then comment_front (b ∷ text)
-    else operator_front (b ∷ text))))))
+front_of (b ∷ rest) =
+    if is_blank b then Blank 1
+    else (if b == 10 then Newline 1
+    else (if is_letter b then word_at (b ∷ rest)
+    else (if is_digit b then number_at (b ∷ rest)
+    else (if b == 34 then string_at (b ∷ rest)
+    else operator_at (b ∷ rest)))))
 
--- what stands at the front is at least a byte wide and lies within a text of this length
-abbrev pub Fits : Front → ℕ → Type 0
-Fits End len = len ≡ 0
-Fits (Blank n) len = (0 < n) × (n ≤ len)
-Fits (Newline n) len = (0 < n) × (n ≤ len)
-Fits (Piece kind n) len = (0 < n) × (n ≤ len)
-Fits (Refused kind offset) len = offset < len
+-- n bytes, one at least, are the front of a text
+pub record IsWidthIn (text : List ℕ) (n : ℕ) : Type 0 where
+  pub some : 0 < n
+  pub within : n ≤ length text
+
+-- what stands at the front is a part of the text, and a refused byte is in it or at its end
+abbrev pub FitsIn : List ℕ → Front → Type 0
+FitsIn text End = text ≡ []
+FitsIn text (Blank n) = IsWidthIn text n
+FitsIn text (Newline n) = IsWidthIn text n
+FitsIn text (Piece kind n) = IsWidthIn text n
+FitsIn text (Refused kind offset) = offset ≤ length text

@@ -1,26 +1,37 @@
--- The kinds of refusal, by number.
-use Rattle.std.specs.Prelude.{ℕ}
+-- What is wrong first with a text that has no tokens.
+use Rattle.std.specs.Prelude.{◌≡◌, ℕ, ◌+◌, ◌≤◌, List, length, drop, Option, None, Some}
+use Rattle.rgo_lexer.specs.Front.{front_of}
+use Rattle.rgo_lexer.specs.declared.front.Front.{Front}
+use Rattle.rgo_lexer.specs.declared.front.Front.TheVariants.{Blank, Newline, Piece, Refused}
+use Rattle.rgo_lexer.specs.declared.tokens.LexRefusal.{LexRefusal}
+use Rattle.rgo_lexer.specs.declared.tokens.LexError.{LexError}
+use Rattle.rgo_lexer.specs.declared.tokens.LexError.TheVariants as error
 
--- the text is not UTF-8
-abbrev pub bad_utf8 : ℕ
-bad_utf8 = 1
+-- how wide a separator or a token at the front is
+abbrev pub width : Front → Option ℕ
+width (Blank n) = Some n
+width (Newline n) = Some n
+width (Piece kind n) = Some n
+width _ = None
 
--- no token begins with this byte
-abbrev pub bad_byte : ℕ
-bad_byte = 2
+abbrev pub refusal : ℕ → ℕ → LexRefusal
+refusal kind at = record { kind = kind; at = at }
 
--- a number out of form, or too large
-abbrev pub bad_number : ℕ
-bad_number = 3
+-- The first refusal from byte `at` of a text on, of which `rest` is left: before it stand separators and tokens alone.
+pub data RefusesFrom : ℕ → List ℕ → LexRefusal → Type 0 where
+  here : {at : ℕ} {rest : List ℕ} (kind offset : ℕ) → front_of rest ≡ Refused kind offset → RefusesFrom at rest (refusal kind (at + offset))
+  later : {at : ℕ} {rest : List ℕ} {r : LexRefusal} (n : ℕ) → width (front_of rest) ≡ Some n → RefusesFrom (at + n) (drop n rest) r → RefusesFrom at rest r
 
--- a backslash with no escape's letter behind it
-abbrev pub bad_escape : ℕ
-bad_escape = 4
+-- the refusal of a text
+abbrev pub Refuses : List ℕ → LexRefusal → Type 0
+Refuses text r = RefusesFrom 0 text r
 
--- a string without its closing quote
-abbrev pub open_string : ℕ
-open_string = 5
+-- what an error says of a text: it is the text's refusal, unless memory ran out
+abbrev pub Fails : List ℕ → LexError → Type 0
+Fails text error.NoMemory = Unit {0}
+Fails text (error.Refused r) = Refuses text r
 
--- a comment without its `*/`
-abbrev pub open_comment : ℕ
-open_comment = 6
+-- a refused byte is in the text, or at its end
+abbrev pub IsPlacedIn : List ℕ → LexError → Type 0
+IsPlacedIn text error.NoMemory = Unit {0}
+IsPlacedIn text (error.Refused r) = r.at ≤ length text

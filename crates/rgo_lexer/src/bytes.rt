@@ -1,37 +1,40 @@
-//! The kinds of byte that the forms of tokens are told by.
+//! The kinds of byte that the forms of separators and tokens are made of.
 
 ghost use Rattle.std.specs.Prelude.{◌≡◌, ◌≤◌, length};
-ghost use Rattle.rgo_lexer.specs.Bytes.{is_space, is_newline, is_letter, is_word_byte, run_len};
+ghost use Rattle.std.specs.List.{prefix_len};
+ghost use Rattle.rgo_lexer.specs.Bytes as bytes;
 
-/// Space, tab and carriage return.
-pub(crate) fn is_space(b: u8) -> bool
-    ensures { result ≡ is_space b }
+/// Whether the byte separates tokens and ends no line.
+pub(crate) fn is_blank(b: u8) -> bool
+    ensures { result ≡ bytes.is_blank b }
 {
     matches!(b, b' ' | b'\t' | b'\r')
 }
 
-pub(crate) fn is_newline(b: u8) -> bool
-    ensures { result ≡ is_newline b }
+/// Whether the byte is a decimal digit.
+pub(crate) fn is_digit(b: u8) -> bool
+    ensures { result ≡ bytes.is_digit b }
 {
-    b == b'\n'
+    b.is_ascii_digit()
 }
 
-/// A letter of ASCII or `_`.
+/// Whether the byte is a letter or `_`.
 pub(crate) fn is_letter(b: u8) -> bool
-    ensures { result ≡ is_letter b }
+    ensures { result ≡ bytes.is_letter b }
 {
     b.is_ascii_alphabetic() || b == b'_'
 }
 
+/// Whether the byte may stand in a word.
 pub(crate) fn is_word_byte(b: u8) -> bool
-    ensures { result ≡ is_word_byte b }
+    ensures { result ≡ bytes.is_word_byte b }
 {
-    is_letter(b) || b.is_ascii_digit()
+    is_letter(b) || is_digit(b)
 }
 
-/// How long the run of letters, digits and `_` at the front is.
+/// How many bytes at the front may stand in a word.
 pub(crate) fn run_len(text: &[u8]) -> usize
-    ensures value { result ≡ run_len text.now }
+    ensures value { result ≡ prefix_len bytes.is_word_byte text.now }
     ensures within { result ≤ length text.now }
 {
     text.iter().take_while(|b| is_word_byte(**b)).count()

@@ -1,42 +1,50 @@
-//! What stands at the front of a text.
+//! What stands at the front of a text: a separator, a token, or what neither may be.
 
-ghost use Rattle.std.specs.Prelude.{◌≡◌, length};
-ghost use Rattle.rgo_lexer.specs.Front.{front_of, Fits};
+ghost use Rattle.std.specs.Prelude.{◌≡◌};
+ghost use Rattle.rgo_lexer.specs.Front.{front_of, FitsIn};
 
-use crate::bytes::{is_letter, is_newline, is_space};
-use crate::comments::{begins_comment, comment_front};
-use crate::numbers::number_front;
-use crate::operators::operator_front;
-use crate::strings::string_front;
-use crate::tokens::Front;
-use crate::words::word_front;
+use crate::bytes::{is_blank, is_digit, is_letter};
+use crate::numbers::number;
+use crate::operators::operator;
+use crate::strings::string;
+use crate::tokens::TokenKind;
+use crate::words::word;
 
-/// What stands at the front of a text, the longest that its form allows.
-pub fn front_at(text: &[u8]) -> Front
+/// What stands at the front of a text; widths and offsets are in bytes.
+#[derive(Clone, Copy, Debug, PartialEq, Eq)]
+pub enum Front {
+    /// Nothing: the text is over.
+    End,
+    /// A separator of that width that ends no line.
+    Blank(usize),
+    /// A separator of that width that ends a line.
+    Newline(usize),
+    /// A token of that kind and width.
+    Piece(TokenKind, usize),
+    /// What is refused: the kind of refusal, and how far from the front its byte stands.
+    Refused(u8, usize),
+}
+
+/// What stands at the front of the text, the longest that its form allows.
+pub(crate) fn read_front(text: &[u8]) -> Front
     ensures value { result ≡ front_of text.now }
-    ensures within { Fits result (length text.now) }
+    ensures within { FitsIn text.now result }
 {
     let Some(first) = text.first() else {
         return Front::End;
     };
     let first = *first;
-    if is_space(first) {
-        return Front::Blank(1);
+    if is_blank(first) {
+        Front::Blank(1)
+    } else if first == b'\n' {
+        Front::Newline(1)
+    } else if is_letter(first) {
+        word(text)
+    } else if is_digit(first) {
+        number(text)
+    } else if first == b'"' {
+        string(text)
+    } else {
+        operator(text)
     }
-    if is_newline(first) {
-        return Front::Newline(1);
-    }
-    if is_letter(first) {
-        return word_front(text);
-    }
-    if first.is_ascii_digit() {
-        return number_front(text);
-    }
-    if first == b'"' {
-        return string_front(text);
-    }
-    if begins_comment(text) {
-        return comment_front(text);
-    }
-    operator_front(text)
 }

@@ -2,7 +2,6 @@
 #![tactic(auto)]
 
 mod bytes;
-mod comments;
 mod front;
 mod numbers;
 mod operators;
@@ -10,7 +9,4 @@ mod strings;
 mod tokens;
 mod words;
 
-pub use front::front_at;
-pub use numbers::number_value;
-pub use strings::string_value;
-pub use tokens::{Front, TokenKind};
+pub use tokens::{LexError, LexRefusal, Span, Token, TokenKind};

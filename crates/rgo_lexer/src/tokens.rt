@@ -1,19 +1,72 @@
-//! What a text is made of.
+//! What a text is cut into, and what is said of a text that cannot be cut.
 
+ghost use Rattle.std.specs.Prelude.{◌≡◌};
+ghost use Rattle.rgo_lexer.specs.declared.tokens.LexError.TheVariants.{NoMemory};
+
+use std::alloc::{AllocError, AllocFailed};
+
+/// The kinds of token (The Go Programming Language Specification, "Tokens").
 #[derive(Clone, Copy, Debug, PartialEq, Eq)]
 pub enum TokenKind {
+    /// An identifier.
     Word,
     Keyword,
+    /// An integer literal.
     Number,
+    /// A string literal.
     Text,
+    /// An operator or punctuation, an inserted `;` among them.
     Operator,
 }
 
+/// A part of a text: from the byte `start` to before the byte `end`, counted from 0.
 #[derive(Clone, Copy, Debug, PartialEq, Eq)]
-pub enum Front {
-    End,
-    Blank(usize),
-    Newline(usize),
-    Piece(TokenKind, usize),
-    Refused(u8, usize),
+pub struct Span {
+    pub start: usize,
+    pub end: usize,
+}
+
+/// A token of a text. The span of an inserted `;` is empty, and stands where the token before it ends.
+#[derive(Clone, Copy, Debug, PartialEq, Eq)]
+pub struct Token {
+    pub kind: TokenKind,
+    pub span: Span,
+}
+
+/// The kind of refusal at a byte that neither a separator nor a token may have there.
+pub(crate) const BAD_BYTE: u8 = 2;
+
+/// Why a text has no tokens: what is wrong first, and the byte where it stands, counted from 0.
+///
+/// The kinds: 1 not UTF-8, 2 a byte out of place, 3 a malformed number, 4 an unknown escape, 5 a string
+/// that is not closed, 6 a comment that is not closed.
+#[derive(Clone, Copy, Debug, PartialEq, Eq)]
+pub struct LexRefusal {
+    pub kind: u8,
+    pub at: usize,
+}
+
+/// Why there is no list of tokens.
+#[derive(Clone, Copy, Debug, PartialEq, Eq)]
+pub enum LexError {
+    /// Memory ran out.
+    NoMemory,
+    /// The text has no tokens.
+    Refused(LexRefusal),
+}
+
+impl From<AllocError> for LexError {
+    ghost from_gives = { λ _ e. e ≡ NoMemory };
+
+    fn from(_e: AllocError) -> LexError {
+        LexError::NoMemory
+    }
+}
+
+impl<T: Drop> From<AllocFailed<T>> for LexError {
+    ghost from_gives = { λ _ e. e ≡ NoMemory };
+
+    fn from(_e: AllocFailed<T>) -> LexError {
+        LexError::NoMemory
+    }
 }

@@ -1,12 +1,13 @@
-//! Words and keywords.
+//! Words at the front of a text: identifiers and keywords.
 
 ghost use Rattle.std.specs.Prelude.{◌≡◌};
-ghost use Rattle.rgo_lexer.specs.Words.{is_keyword, word_front};
+ghost use Rattle.rgo_lexer.specs.Words as words;
 
 use crate::bytes::run_len;
-use crate::tokens::{Front, TokenKind};
+use crate::front::Front;
+use crate::tokens::TokenKind;
 
-/// The keywords of The Go Programming Language Specification, "Keywords".
+// The Go Programming Language Specification, "Keywords".
 const KEYWORDS: [&[u8]; 25] = [
     b"break",
     b"case",
@@ -35,22 +36,24 @@ const KEYWORDS: [&[u8]; 25] = [
     b"var",
 ];
 
+/// Whether the word is one of Go's keywords.
 #[tactic(auto, unfolding(crate::specs::Words::is_keyword))]
 fn is_keyword(word: &[u8]) -> bool
-    ensures { result ≡ is_keyword word.now }
+    ensures { result ≡ words.is_keyword word.now }
 {
     KEYWORDS.contains(&word)
 }
 
-/// A word or keyword, where the text begins with a letter ("Identifiers").
-pub(crate) fn word_front(text: &[u8]) -> Front
-    ensures { result ≡ word_front text.now }
+/// The word at the front of a text that begins with a letter.
+#[tactic(auto, unfolding(crate::specs::Words::word_at))]
+pub(crate) fn word(text: &[u8]) -> Front
+    ensures { result ≡ words.word_at text.now }
 {
-    let len = run_len(text);
-    let kind = if is_keyword(&text[..len]) {
+    let width = run_len(text);
+    let kind = if is_keyword(&text[..width]) {
         TokenKind::Keyword
     } else {
         TokenKind::Word
     };
-    Front::Piece(kind, len)
+    Front::Piece(kind, width)
 }

@@ -1,0 +1,73 @@
+-- The tokens of a text.
+use Rattle.std.specs.Prelude.{◌≡◌, ℕ, ◌+◌, ◌<◌, ◌≤◌, Bool, true, ◌==◌, List, [], ◌∷◌, ◌++◌, length, take, drop, Option, None, Some, if◌then◌else◌, slice_range, codes}
+use Rattle.std.specs.List.{list_any}
+use Rattle.std.specs.Str.{bytes_eq}
+use Rattle.rgo_lexer.specs.Front.{front_of}
+use Rattle.rgo_lexer.specs.declared.front.Front.{Front}
+use Rattle.rgo_lexer.specs.declared.front.Front.TheVariants.{End, Blank, Newline, Piece}
+use Rattle.rgo_lexer.specs.declared.tokens.TokenKind.{TokenKind}
+use Rattle.rgo_lexer.specs.declared.tokens.TokenKind.TheVariants.{Word, Keyword, Number, Text, Operator}
+use Rattle.rgo_lexer.specs.declared.tokens.Token.{Token}
+
+abbrev pub token : TokenKind → ℕ → ℕ → Token
+token kind start end = record { kind = kind; span = record { start = start; end = end } }
+
+-- the keywords behind which a statement may end
+abbrev pub ending_keywords : List (List ℕ)
+ending_keywords = codes "break" ∷ codes "continue" ∷ codes "fallthrough" ∷ codes "return" ∷ []
+
+-- the operators behind which a statement may end
+abbrev pub ending_operators : List (List ℕ)
+ending_operators = codes ")" ∷ codes "}" ∷ []
+
+-- a statement may end behind such a token
+unfoldable pub may_end : TokenKind → List ℕ → Bool
+may_end Word word = true
+may_end Number word = true
+may_end Text word = true
+may_end Keyword word = list_any (λ k. bytes_eq k word) ending_keywords
+may_end Operator word = list_any (λ k. bytes_eq k word) ending_operators
+
+-- where a token ends, if a statement may end behind it
+abbrev pub open_behind : TokenKind → List ℕ → ℕ → Option ℕ
+open_behind kind word end = if may_end kind word then Some end else None
+
+-- the `;` that the end of a line inserts behind its last token
+abbrev pub inserted : Option ℕ → List Token
+inserted None = []
+inserted (Some end) = token Operator end end ∷ []
+
+-- The tokens of a text from byte `at` on, of which `rest` is left: what stands at the front, and then those behind it.
+-- `open'` is where the last token ended, if the end of its line inserts a `;` there.
+pub data TokensFrom : ℕ → Option ℕ → List ℕ → List Token → Type 0 where
+  finish : {at : ℕ} {open' : Option ℕ} {rest : List ℕ} → front_of rest ≡ End → TokensFrom at open' rest (inserted open')
+  blank : {at : ℕ} {open' : Option ℕ} {rest : List ℕ} {tokens : List Token} (n : ℕ) → front_of rest ≡ Blank n
+      → TokensFrom (at + n) open' (drop n rest) tokens → TokensFrom at open' rest tokens
+  newline : {at : ℕ} {open' : Option ℕ} {rest : List ℕ} {tokens : List Token} (n : ℕ) → front_of rest ≡ Newline n
+      → TokensFrom (at + n) None (drop n rest) tokens → TokensFrom at open' rest (inserted open' ++ tokens)
+  piece : {at : ℕ} {open' : Option ℕ} {rest : List ℕ} {tokens : List Token} (kind : TokenKind) (n : ℕ) → front_of rest ≡ Piece kind n
+      → TokensFrom (at + n) (open_behind kind (take n rest) (at + n)) (drop n rest) tokens → TokensFrom at open' rest (token kind at (at + n) ∷ tokens)
+
+-- the tokens of a whole text
+abbrev pub Tokens : List ℕ → List Token → Type 0
+Tokens text tokens = TokensFrom 0 None text tokens
+
+-- the bytes of a token
+abbrev pub bytes_of : List ℕ → Token → List ℕ
+bytes_of text t = slice_range text t.span.start t.span.end
+
+-- the kind of what stands at the front, if it is n bytes wide
+abbrev pub kind_at_width : ℕ → Front → Option TokenKind
+kind_at_width n (Piece kind width) = if width == n then Some kind else None
+kind_at_width n _ = None
+
+-- the kind of a word that is a token by itself
+unfoldable pub kind_of : List ℕ → Option TokenKind
+kind_of word = kind_at_width (length word) (front_of word)
+
+-- a token of a text: an inserted `;`, or a part of the text that is a token by itself
+pub record IsTokenOf (text : List ℕ) (t : Token) : Type 0 where
+  pub ordered : t.span.start ≤ t.span.end
+  pub within : t.span.end ≤ length text
+  pub spelled : t.span.start < t.span.end → kind_of (bytes_of text t) ≡ Some t.kind
+  pub inserted : t.span.start ≡ t.span.end → t.kind ≡ Operator
