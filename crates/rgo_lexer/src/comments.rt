@@ -1,12 +1,10 @@
-//! Comments.
+//! Comments at the front of a text.
 
 ghost use Rattle.std.specs.Prelude.{◌≡◌, ◌≤◌, ◌+◌, ◌<◌, length, IfSome};
-ghost use Rattle.rgo_lexer.specs.Comments.{first_close, begins_line_comment, begins_comment, acts_as, closed_at, comment_front};
+ghost use Rattle.rgo_lexer.specs.Comments.{first_close, begins_line_comment, begins_comment, acts_as, closed_at, comment_at};
 
-use crate::bytes::is_newline;
-use crate::tokens::Front;
-
-const OPEN_COMMENT: u8 = 6;
+use crate::front::Front;
+use crate::tokens::{OPEN_COMMENT};
 
 /// Where the first `*/` begins.
 fn first_close(text: &[u8]) -> Option<usize>
@@ -45,13 +43,14 @@ fn acts_as(text: &[u8], len: usize) -> Front
     }
 }
 
-/// A comment, where the text begins with one ("Comments").
-pub(crate) fn comment_front(text: &[u8]) -> Front
+/// The comment at the front of a text that begins with one.
+#[tactic(auto, unfolding(crate::specs::Comments::comment_at))]
+pub(crate) fn comment(text: &[u8]) -> Front
     requires { 2 ≤ length text.now }
-    ensures { result ≡ comment_front text.now }
+    ensures { result ≡ comment_at text.now }
 {
     if begins_line_comment(text) {
-        return Front::Blank(text.iter().take_while(|b| !is_newline(**b)).count());
+        return Front::Blank(text.iter().take_while(|b| **b != b'\n').count());
     }
     match first_close(&text[2..]) {
         Some(at) => acts_as(text, at + 4),

@@ -2,6 +2,7 @@
 #![tactic(auto)]
 
 mod bytes;
+mod comments;
 mod front;
 mod numbers;
 mod operators;
@@ -9,4 +10,6 @@ mod strings;
 mod tokens;
 mod words;
 
+pub use numbers::number_value;
+pub use strings::string_value;
 pub use tokens::{LexError, LexRefusal, Span, Token, TokenKind};
