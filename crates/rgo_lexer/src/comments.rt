@@ -1,7 +1,8 @@
 //! Comments at the front of a text.
 
 ghost use Rattle.std.specs.Prelude.{◌≡◌, ◌≤◌, ◌+◌, ◌<◌, length, IfSome};
-ghost use Rattle.rgo_lexer.specs.Comments.{first_close, begins_line_comment, begins_comment, acts_as, closed_at, comment_at};
+ghost use Rattle.std.specs.List.{position_or_len};
+ghost use Rattle.rgo_lexer.specs.Comments.{is_newline, first_close, begins_line_comment, begins_comment, acts_as, closed_at, comment_at};
 
 use crate::front::Front;
 use crate::tokens::{OPEN_COMMENT};
@@ -17,6 +18,14 @@ fn first_close(text: &[u8]) -> Option<usize>
         }
     }
     None
+}
+
+/// How many bytes stand before the first newline.
+fn line_len(text: &[u8]) -> usize
+    ensures value { result ≡ position_or_len is_newline text.now }
+    ensures within { result ≤ length text.now }
+{
+    text.iter().take_while(|b| **b != b'\n').count()
 }
 
 fn begins_line_comment(text: &[u8]) -> bool
@@ -50,7 +59,7 @@ pub(crate) fn comment(text: &[u8]) -> Front
     ensures { result ≡ comment_at text.now }
 {
     if begins_line_comment(text) {
-        return Front::Blank(text.iter().take_while(|b| **b != b'\n').count());
+        return Front::Blank(line_len(text));
     }
     match first_close(&text[2..]) {
         Some(at) => acts_as(text, at + 4),

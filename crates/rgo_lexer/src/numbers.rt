@@ -1,7 +1,7 @@
 //! Integer literals: at the front of a text, and their values.
 
-ghost use Rattle.std.specs.Prelude.{◌≡◌, ◌≤◌, ◌+◌, ◌*◌, ◌<◌};
-ghost use Rattle.rgo_lexer.specs.Numbers.{begins_with_digit, may_stand, are_digits, is_decimal, is_hexadecimal, value_of, if_fits, number_of, number_at};
+ghost use Rattle.std.specs.Prelude.{◌≡◌, ◌≤◌, ◌+◌, ◌*◌, ◌^◌, ◌<◌, [], ◌∷◌};
+ghost use Rattle.rgo_lexer.specs.Numbers.{begins_with_digit, may_stand, are_digits, is_decimal, is_hexadecimal, value_behind, value_of, if_fits, number_of, number_at};
 
 use crate::bytes::run_len;
 use crate::front::Front;
@@ -59,11 +59,24 @@ fn is_hexadecimal(word: &[u8]) -> bool
 }
 
 /// The number with one digit more behind it, where that is not too large.
-fn with_digit(number: u64, base: u32, digit: u32) -> Option<u64>
+fn with_digit(number: u64, digit: u32, base: u32) -> Option<u64>
     ensures { result ≡ if_fits (number * base + digit) }
 {
     let larger = number.checked_mul(u64::from(base))?.checked_add(u64::from(digit))?;
     if larger <= GREATEST { Some(larger) } else { None }
+}
+
+/// The number with one byte more behind it; a `_` changes nothing.
+fn with_byte(number: u64, b: u8, base: u32) -> Option<u64>
+    requires low { 2 ≤ base }
+    requires high { base ≤ 36 }
+    requires fits { number < 2 ^ 63 }
+    ensures { result ≡ if_fits (value_behind base number (b ∷ [])) }
+{
+    match char::from(b).to_digit(base) {
+        Some(digit) => with_digit(number, digit, base),
+        None => Some(number),
+    }
 }
 
 /// What the digits write, where that is not too large.
@@ -74,9 +87,7 @@ fn value_of(digits: &[u8], base: u32) -> Option<u64>
 {
     let mut number = 0;
     for b in digits {
-        if let Some(digit) = char::from(*b).to_digit(base) {
-            number = with_digit(number, base, digit)?;
-        }
+        number = with_byte(number, *b, base)?;
     }
     Some(number)
 }

@@ -1,0 +1,4 @@
+pub mod CommentLemmas
+pub mod NumberLemmas
+pub mod StringLemmas
+pub mod OperatorLemmas
