@@ -5,5 +5,7 @@ pub mod Strings
 pub mod Comments
 pub mod Operators
 pub mod Front
+pub mod Semicolons
 pub mod Tokens
 pub mod Refusals
+pub mod Laws

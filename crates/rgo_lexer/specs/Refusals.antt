@@ -26,10 +26,14 @@ pub data RefusesFrom : ℕ → List ℕ → LexRefusal → Type 0 where
 abbrev pub Refuses : List ℕ → LexRefusal → Type 0
 Refuses text r = RefusesFrom 0 text r
 
--- what an error says of a text: it is the text's refusal, unless memory ran out
+-- what an error says of the text from a byte on: it is the refusal there, unless memory ran out
+abbrev pub FailsFrom : ℕ → List ℕ → LexError → Type 0
+FailsFrom at rest error.NoMemory = Unit {0}
+FailsFrom at rest (error.Refused r) = RefusesFrom at rest r
+
+-- what an error says of a whole text
 abbrev pub Fails : List ℕ → LexError → Type 0
-Fails text error.NoMemory = Unit {0}
-Fails text (error.Refused r) = Refuses text r
+Fails text e = FailsFrom 0 text e
 
 -- a refused byte is in the text, or at its end
 abbrev pub IsPlacedIn : List ℕ → LexError → Type 0

@@ -1,41 +1,13 @@
 -- The tokens of a text.
-use Rattle.std.specs.Prelude.{◌≡◌, ℕ, ◌+◌, ◌<◌, ◌≤◌, Bool, true, ◌==◌, List, [], ◌∷◌, ◌++◌, length, take, drop, Option, None, Some, if◌then◌else◌, slice_range, codes}
-use Rattle.std.specs.List.{list_any}
-use Rattle.std.specs.Str.{bytes_eq}
+use Rattle.std.specs.Prelude.{◌≡◌, ℕ, ◌+◌, ◌<◌, ◌≤◌, ◌==◌, List, ◌∷◌, ◌++◌, length, take, drop, Option, None, Some, if◌then◌else◌, slice_range}
 use Rattle.rgo_lexer.specs.Front.{front_of}
+use Rattle.rgo_lexer.specs.Semicolons.{token, open_behind, inserted}
 use Rattle.rgo_lexer.specs.declared.front.Front.{Front}
 use Rattle.rgo_lexer.specs.declared.front.Front.TheVariants.{End, Blank, Newline, Piece}
 use Rattle.rgo_lexer.specs.declared.tokens.TokenKind.{TokenKind}
-use Rattle.rgo_lexer.specs.declared.tokens.TokenKind.TheVariants.{Word, Keyword, Number, Text, Operator}
+use Rattle.rgo_lexer.specs.declared.tokens.TokenKind.TheVariants.{Text, Operator}
 use Rattle.rgo_lexer.specs.declared.tokens.Token.{Token}
-
-abbrev pub token : TokenKind → ℕ → ℕ → Token
-token kind start end = record { kind = kind; span = record { start = start; end = end } }
-
--- the keywords behind which a statement may end
-abbrev pub ending_keywords : List (List ℕ)
-ending_keywords = codes "break" ∷ codes "continue" ∷ codes "fallthrough" ∷ codes "return" ∷ []
-
--- the operators behind which a statement may end
-abbrev pub ending_operators : List (List ℕ)
-ending_operators = codes ")" ∷ codes "}" ∷ []
-
--- a statement may end behind such a token
-unfoldable pub may_end : TokenKind → List ℕ → Bool
-may_end Word word = true
-may_end Number word = true
-may_end Text word = true
-may_end Keyword word = list_any (λ k. bytes_eq k word) ending_keywords
-may_end Operator word = list_any (λ k. bytes_eq k word) ending_operators
-
--- where a token ends, if a statement may end behind it
-abbrev pub open_behind : TokenKind → List ℕ → ℕ → Option ℕ
-open_behind kind word end = if may_end kind word then Some end else None
-
--- the `;` that the end of a line inserts behind its last token
-abbrev pub inserted : Option ℕ → List Token
-inserted None = []
-inserted (Some end) = token Operator end end ∷ []
+use Rattle.rgo_lexer.specs.declared.tokens.Span.{Span}
 
 -- The tokens of a text from byte `at` on, of which `rest` is left: what stands at the front, and then those behind it.
 -- `open'` is where the last token ended, if the end of its line inserts a `;` there.
@@ -52,9 +24,13 @@ pub data TokensFrom : ℕ → Option ℕ → List ℕ → List Token → Type 0 
 abbrev pub Tokens : List ℕ → List Token → Type 0
 Tokens text tokens = TokensFrom 0 None text tokens
 
+-- the bytes of a part of a text
+abbrev pub bytes_in : List ℕ → Span → List ℕ
+bytes_in text span = slice_range text span.start span.end
+
 -- the bytes of a token
 abbrev pub bytes_of : List ℕ → Token → List ℕ
-bytes_of text t = slice_range text t.span.start t.span.end
+bytes_of text t = bytes_in text t.span
 
 -- the kind of what stands at the front, if it is n bytes wide
 abbrev pub kind_at_width : ℕ → Front → Option TokenKind
@@ -71,3 +47,9 @@ pub record IsTokenOf (text : List ℕ) (t : Token) : Type 0 where
   pub within : t.span.end ≤ length text
   pub spelled : t.span.start < t.span.end → kind_of (bytes_of text t) ≡ Some t.kind
   pub inserted : t.span.start ≡ t.span.end → t.kind ≡ Operator
+
+-- a part of a text that is a string by itself
+pub record IsTextIn (text : List ℕ) (span : Span) : Type 0 where
+  pub ordered : span.start ≤ span.end
+  pub within : span.end ≤ length text
+  pub spelled : kind_of (bytes_in text span) ≡ Some Text

@@ -27,6 +27,7 @@ pub enum Front {
 }
 
 /// What stands at the front of the text, the longest that its form allows.
+#[tactic(auto, using(crate::proofs::Fronts::fits), unfolding(crate::specs::Front::front_of))]
 pub(crate) fn read_front(text: &[u8]) -> Front
     ensures value { result ≡ front_of text.now }
     ensures within { FitsIn text.now result }

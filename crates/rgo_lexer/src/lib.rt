@@ -4,8 +4,11 @@
 mod bytes;
 mod comments;
 mod front;
+mod laws;
+mod lexer;
 mod numbers;
 mod operators;
+mod semicolons;
 mod strings;
 mod tokens;
 mod words;

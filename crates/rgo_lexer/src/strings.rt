@@ -110,3 +110,20 @@ pub fn string_value(alloc: Global, literal: &[u8]) -> Result<Vec<u8>, AllocError
         None => Ok(Vec::new(alloc)),
     }
 }
+
+/// The bytes that the string literal at the span stands for.
+pub fn string_value(alloc: Global, text: &[u8], span: Span) -> Result<Vec<u8>, AllocError>
+    requires { IsTextIn text.now span }
+    ensures { IfOk result (λ value. value.items ≡ string_of (bytes_in text.now span)) }
+{
+    unquoted(alloc, &text[span.start..span.end])
+}
+
+/// The bytes between the quotes of a string literal.
+#[tactic(auto, unfolding(crate::specs::Strings::string_of))]
+fn unquoted(alloc: Global, word: &[u8]) -> Result<Vec<u8>, AllocError>
+    requires { 2 ≤ length word.now }
+    ensures { IfOk result (λ value. value.items ≡ string_of word.now) }
+{
+    Vec::from_slice(alloc, &word[1..word.len() - 1])
+}

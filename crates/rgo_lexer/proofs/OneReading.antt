@@ -1,0 +1,138 @@
+-- A text has one list of tokens, or else one refusal.
+use Rattle.std.proofs.Common.{◌≡◌, ℕ, zero, suc, ◌+◌, ◌-◌, ◌<◌, ◌≤◌, ◌⊎◌, inl, inr, Bool, true, false, cond, List, [], ◌∷◌, ◌++◌, length, take, drop, Option, Some, None, IfSome, refl, sym, ap, subst, ◌∙◌, arith}
+use Rattle.std.proofs.lemmas.List.{length-drop}
+use Rattle.rgo_lexer.specs.Front.{front_of, FitsIn, IsWidthIn}
+use Rattle.rgo_lexer.specs.Semicolons.{token, open_behind, inserted, may_end}
+use Rattle.rgo_lexer.specs.Tokens.{TokensFrom, Tokens}
+use Rattle.rgo_lexer.specs.Tokens.TokensFrom.{finish, blank, newline, piece}
+use Rattle.rgo_lexer.specs.Refusals.{RefusesFrom, Refuses, width, refusal}
+use Rattle.rgo_lexer.specs.Refusals.RefusesFrom.{here, later}
+use Rattle.rgo_lexer.specs.Laws.{NeverBoth, OneOfBoth, OneList, OneRefusal, Standing, InOrder, IsInOrder}
+use Rattle.rgo_lexer.specs.declared.front.Front.{Front}
+use Rattle.rgo_lexer.specs.declared.front.Front.TheVariants.{End, Blank, Newline, Piece, Refused}
+use Rattle.rgo_lexer.specs.declared.tokens.TokenKind.{TokenKind}
+use Rattle.rgo_lexer.specs.declared.tokens.TokenKind.TheVariants.{Operator}
+use Rattle.rgo_lexer.specs.declared.tokens.Token.{Token}
+use Rattle.rgo_lexer.specs.declared.tokens.LexRefusal.{LexRefusal}
+use Rattle.rgo_lexer.proofs.Standing.{of_tokens, passed_fits}
+
+same_width : (rest : List ℕ) (front : Front) (n m : ℕ) → front_of rest ≡ front → width front ≡ Some m → width (front_of rest) ≡ Some n → n ≡ m
+same_width rest front n m e w v = let v' = rw e at v in cc
+
+moved : (at n m : ℕ) (rest : List ℕ) (r : LexRefusal) → n ≡ m → RefusesFrom (at + n) (drop n rest) r → RefusesFrom (at + m) (drop m rest) r
+moved at n m rest r e t = let P : ℕ → Type 0 = λ k. RefusesFrom (at + k) (drop k rest) r in subst P e t
+
+never_both_from : {at : ℕ} {ending : Option ℕ} {rest : List ℕ} {tokens : List Token} (r : LexRefusal) → TokensFrom at ending rest tokens → RefusesFrom at rest r → ⊥
+never_both_from r (finish e) (here kind offset d) = cc
+never_both_from r (finish e) (later n w t) = let w' = rw e at w in cc
+never_both_from r (blank m e u) (here kind offset d) = cc
+never_both_from {at} {ending} {rest} r (blank m e u) (later n w t) = never_both_from r u (moved at n m rest r (same_width rest (Blank m) n m e refl w) t)
+never_both_from r (newline m e u) (here kind offset d) = cc
+never_both_from {at} {ending} {rest} r (newline m e u) (later n w t) = never_both_from r u (moved at n m rest r (same_width rest (Newline m) n m e refl w) t)
+never_both_from r (piece k m e u) (here kind offset d) = cc
+never_both_from {at} {ending} {rest} r (piece k m e u) (later n w t) = never_both_from r u (moved at n m rest r (same_width rest (Piece k m) n m e refl w) t)
+
+pub never_both : NeverBoth
+never_both text tokens r t u = never_both_from r t u
+
+-- two lists behind widths that are the same
+same_behind : (at : ℕ) (ending : Option ℕ) (rest : List ℕ) (tokens others : List Token) (n m : ℕ) → n ≡ m → (TokensFrom (at + n) ending (drop n rest) others → tokens ≡ others)
+    → TokensFrom (at + m) ending (drop m rest) others → tokens ≡ others
+same_behind at ending rest tokens others n m e ih u = let P : ℕ → Type 0 = λ k. TokensFrom (at + k) ending (drop k rest) others in ih (subst P (sym e) u)
+
+same_piece : (at : ℕ) (rest : List ℕ) (tokens others : List Token) (k j : TokenKind) (n m : ℕ) → k ≡ j → n ≡ m
+    → (TokensFrom (at + n) (open_behind k (take n rest) (at + n)) (drop n rest) others → tokens ≡ others) → TokensFrom (at + m) (open_behind j (take m rest) (at + m)) (drop m rest) others
+    → ◌≡◌ {A = List Token} (token k at (at + n) ∷ tokens) (token j at (at + m) ∷ others)
+same_piece at rest tokens others k j n m e d ih u =
+    let P : TokenKind → ℕ → Type 0 = λ x y. TokensFrom (at + y) (open_behind x (take y rest) (at + y)) (drop y rest) others in
+    let f : tokens ≡ others = ih (subst (λ x. P x n) (sym e) (subst (P j) (sym d) u)) in
+    rw (e, d, f) refl
+
+one_list_from : {at : ℕ} {ending : Option ℕ} {rest : List ℕ} {tokens : List Token} (others : List Token) → TokensFrom at ending rest tokens → TokensFrom at ending rest others → tokens ≡ others
+one_list_from others (finish e) (finish d) = refl
+one_list_from others (finish e) (blank m d u) = cc
+one_list_from others (finish e) (newline m d u) = cc
+one_list_from others (finish e) (piece j m d u) = cc
+one_list_from others (blank n e t) (finish d) = cc
+one_list_from others (blank {at} {open' = ending} {rest} {tokens} n e t) (blank m d u) = same_behind at ending rest tokens others n m (cc) (λ v. one_list_from others t v) u
+one_list_from others (blank n e t) (newline m d u) = cc
+one_list_from others (blank n e t) (piece j m d u) = cc
+one_list_from others (newline n e t) (finish d) = cc
+one_list_from others (newline n e t) (blank m d u) = cc
+one_list_from others (newline {at} {open' = ending} {rest} {tokens} n e t) (newline {tokens = more} m d u) =
+    ap (λ x. inserted ending ++ x) (same_behind at None rest tokens more n m (cc) (λ v. one_list_from more t v) u)
+one_list_from others (newline n e t) (piece j m d u) = cc
+one_list_from others (piece k n e t) (finish d) = cc
+one_list_from others (piece k n e t) (blank m d u) = cc
+one_list_from others (piece k n e t) (newline m d u) = cc
+one_list_from others (piece {at} {rest = rest} {tokens = tokens} k n e t) (piece {tokens = more} j m d u) = same_piece at rest tokens more k j n m (cc) (cc) (λ v. one_list_from more t v) u
+
+pub one_list : OneList
+one_list text tokens others t u = one_list_from others t u
+
+one_refusal_from : {at : ℕ} {rest : List ℕ} {r : LexRefusal} (other : LexRefusal) → RefusesFrom at rest r → RefusesFrom at rest other → r ≡ other
+one_refusal_from other (here {at} kind offset e) (here kind' offset' d) =
+    let k : kind ≡ kind' = cc in let o : offset ≡ offset' = cc in rw (k, o) refl
+one_refusal_from other (here kind offset e) (later n w t) = let w' = rw e at w in cc
+one_refusal_from other (later n w t) (here kind offset e) = let w' = rw e at w in cc
+one_refusal_from other (later {at} {rest} n w t) (later m v u) = one_refusal_from other t (moved at m n rest other (cc) u)
+
+pub one_refusal : OneRefusal
+one_refusal text r other t u = one_refusal_from other t u
+
+Either : ℕ → Option ℕ → List ℕ → Type 0
+Either at ending rest = ((tokens : List Token) × TokensFrom at ending rest tokens) ⊎ ((r : LexRefusal) × RefusesFrom at rest r)
+
+-- one step, with what the text goes on with
+either_at : (at : ℕ) (ending : Option ℕ) (rest : List ℕ) (front : Front) → front_of rest ≡ front
+    → ((n : ℕ) → width front ≡ Some n → (o : Option ℕ) → Either (at + n) o (drop n rest)) → Either at ending rest
+unfolding Either
+either_at at ending rest End e more = inl (inserted ending, finish e)
+either_at at ending rest (Blank n) e more = elim (more n refl ending) [ inl p ↦ inl (p.0, blank n e p.1) | inr p ↦ inr (p.0, later n (ap width e) p.1) ]
+either_at at ending rest (Newline n) e more = elim (more n refl None) [ inl p ↦ inl (inserted ending ++ p.0, newline n e p.1) | inr p ↦ inr (p.0, later n (ap width e) p.1) ]
+either_at at ending rest (Piece kind n) e more =
+    elim (more n refl (open_behind kind (take n rest) (at + n))) [ inl p ↦ inl (token kind at (at + n) ∷ p.0, piece kind n e p.1) | inr p ↦ inr (p.0, later n (ap width e) p.1) ]
+either_at at ending rest (Refused kind offset) e more = inr (refusal kind (at + offset), here kind offset e)
+
+-- by the length of what is left
+either : (bound at : ℕ) (ending : Option ℕ) (rest : List ℕ) → length rest ≤ bound → Either at ending rest
+either zero at ending rest le =
+    either_at at ending rest (front_of rest) refl (λ n e o. absurd (let w = passed_fits rest n e in omega (arith, w.some, w.within)))
+either (suc bound) at ending rest le =
+    either_at at ending rest (front_of rest) refl
+    (λ n e o. either bound (at + n) o (drop n rest) (let w = passed_fits rest n e in omega (arith, w.some, w.within, length-drop n rest)))
+
+pub one_of_both : OneOfBoth
+unfolding Either
+one_of_both text = either (length text) 0 None text (omega arith)
+
+pub standing : Standing
+standing text tokens t = of_tokens text tokens t
+
+-- the last token ended at `from` or behind it, and by `at`
+abbrev IsEndingIn : ℕ → ℕ → Option ℕ → Type 0
+IsEndingIn from at ending = IfSome ending (λ end. (from ≤ end) × (end ≤ at))
+
+inserted_in_order : (from at : ℕ) (ending : Option ℕ) → from ≤ at → IsEndingIn from at ending → IsInOrder from (inserted ending)
+inserted_in_order from at None le h = tt
+inserted_in_order from at (Some end) le h = (h.0, omega arith, tt)
+
+behind_inserted : (from at : ℕ) (ending : Option ℕ) (tokens : List Token) → from ≤ at → IsEndingIn from at ending → ((end : ℕ) → end ≤ at → IsInOrder end tokens) → IsInOrder from (inserted ending ++ tokens)
+behind_inserted from at None tokens le h more = more from le
+behind_inserted from at (Some end) tokens le h more = (h.0, omega arith, more end h.1)
+
+ending_later : (from at n : ℕ) (ending : Option ℕ) → IsEndingIn from at ending → IsEndingIn from (at + n) ending
+ending_later from at n None h = tt
+ending_later from at n (Some end) h = (h.0, omega (arith, h.1))
+
+open_ends_in : (kind : TokenKind) (word : List ℕ) (end : ℕ) → IsEndingIn end end (open_behind kind word end)
+open_ends_in kind word end = elim (may_end kind word) as (λ b. IsEndingIn end end (cond b (Some end) None)) [ true ↦ (omega arith, omega arith) | false ↦ tt ]
+
+in_order_from : {at : ℕ} {ending : Option ℕ} {rest : List ℕ} {tokens : List Token} (from : ℕ) → TokensFrom at ending rest tokens → from ≤ at → IsEndingIn from at ending → IsInOrder from tokens
+in_order_from {at} {ending} from (finish e) le h = inserted_in_order from at ending le h
+in_order_from {at} {ending} from (blank n e t) le h = in_order_from from t (omega arith) (ending_later from at n ending h)
+in_order_from {at} {ending} from (newline {tokens = tokens} n e t) le h = behind_inserted from at ending tokens le h (λ end f. in_order_from end t (omega arith) tt)
+in_order_from {at} {ending} {rest} from (piece kind n e t) le h = (le, omega arith, in_order_from (at + n) t (omega arith) (open_ends_in kind (take n rest) (at + n)))
+
+pub in_order : InOrder
+in_order text tokens t = in_order_from 0 t (omega arith) tt

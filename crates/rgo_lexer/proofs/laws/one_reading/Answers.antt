@@ -1,0 +1,5 @@
+use Rattle.rgo_lexer.proofs.OneReading.{never_both, one_of_both, one_list, one_refusal, standing, in_order}
+use Rattle.rgo_lexer.proofs.laws.one_reading.Goals as goal
+
+pub returns : goal.returns
+returns c = record { never_both = never_both; one_of_both = one_of_both; one_list = one_list; one_refusal = one_refusal; standing = standing; in_order = in_order }

@@ -1,0 +1,26 @@
+use Rattle.std.proofs.Common.{◌≡◌, ◌+◌, ◌-◌, ℕ, ap, arith, drop, take}
+use Rattle.rgo_lexer.specs.Semicolons.{open_behind}
+use Rattle.rgo_lexer.proofs.Going.{blank_goes, newline_goes, piece_goes, end_goes, refused_goes, seen, seen_width}
+use Rattle.rgo_lexer.proofs.lexer.tokens_from.Goals as goal
+
+pub pieces-preserved-in-Blank : goal.pieces-preserved-in-Blank
+pieces-preserved-in-Blank c =
+    blank_goes _ _ _ _ _ _ c.pieces.invariant (seen_width c.args.text.now c.pieces.at _ c.in-Blank.ensures.within) (seen c.args.text.now c.pieces.at _ c.in-Blank.ensures.value)
+
+pub pieces-preserved-in-Newline : goal.pieces-preserved-in-Newline
+pieces-preserved-in-Newline c =
+    newline_goes _ _ _ _ _ _ _ c.pieces.invariant (seen_width c.args.text.now c.pieces.at _ c.in-Newline.ensures.within) (seen c.args.text.now c.pieces.at _ c.in-Newline.ensures.value)
+    c.in_ok-insert_semicolon-in-Newline.ensures.ok
+
+pub pieces-preserved : goal.pieces-preserved
+pieces-preserved c =
+    let i : c.pieces.at + c.in-Piece.width - c.pieces.at ≡ c.in-Piece.width = omega arith in
+    rw (c.open_behind-ending.ensures, i)
+    (piece_goes c.args.text.now _ c.pieces.at c.in-Piece.width c.in-Piece.kind _ _ _ c.pieces.invariant (seen_width c.args.text.now c.pieces.at _ c.in-Piece.ensures.within)
+    (seen c.args.text.now c.pieces.at _ c.in-Piece.ensures.value) c.in_ok-push-in-Piece.ensures.items)
+
+pub returns-in-Refused-clause-refused : goal.returns-in-Refused-clause-refused
+returns-in-Refused-clause-refused c = refused_goes _ _ _ _ _ _ _ c.pieces.invariant (seen c.args.text.now c.pieces.at _ c.in-Refused.ensures.value)
+
+pub returns-in-End-clause-ok : goal.returns-in-End-clause-ok
+returns-in-End-clause-ok c = end_goes _ _ _ _ _ _ c.pieces.invariant (seen c.args.text.now c.pieces.at _ c.in-End.ensures.value) c.in_ok-insert_semicolon-in-End.ensures.ok
