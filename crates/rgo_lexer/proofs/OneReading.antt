@@ -1,11 +1,12 @@
 -- A text has one list of tokens, or else one refusal.
 use Rattle.std.proofs.Common.{◌≡◌, ℕ, zero, suc, ◌+◌, ◌-◌, ◌<◌, ◌≤◌, ◌⊎◌, inl, inr, Bool, true, false, cond, List, [], ◌∷◌, ◌++◌, length, take, drop, Option, Some, None, IfSome, refl, sym, ap, subst, ◌∙◌, arith}
+use Rattle.std.specs.Str.{IsUtf8}
 use Rattle.std.proofs.lemmas.List.{length-drop}
 use Rattle.rgo_lexer.specs.Front.{front_of, FitsIn, IsWidthIn}
 use Rattle.rgo_lexer.specs.Semicolons.{token, open_behind, inserted, may_end}
-use Rattle.rgo_lexer.specs.Tokens.{TokensFrom, Tokens}
+use Rattle.rgo_lexer.specs.Tokens.{TokensFrom, Tokens, start_of}
 use Rattle.rgo_lexer.specs.Tokens.TokensFrom.{finish, blank, newline, piece}
-use Rattle.rgo_lexer.specs.Refusals.{RefusesFrom, Refuses, width, refusal}
+use Rattle.rgo_lexer.specs.Refusals.{RefusesFrom, Refuses, width, refusal, bad_utf8}
 use Rattle.rgo_lexer.specs.Refusals.RefusesFrom.{here, later}
 use Rattle.rgo_lexer.specs.Laws.{NeverBoth, OneOfBoth, OneList, OneRefusal, Standing, InOrder, IsInOrder}
 use Rattle.rgo_lexer.specs.declared.front.Front.{Front}
@@ -14,6 +15,7 @@ use Rattle.rgo_lexer.specs.declared.tokens.TokenKind.{TokenKind}
 use Rattle.rgo_lexer.specs.declared.tokens.TokenKind.TheVariants.{Operator}
 use Rattle.rgo_lexer.specs.declared.tokens.Token.{Token}
 use Rattle.rgo_lexer.specs.declared.tokens.LexRefusal.{LexRefusal}
+use Rattle.rgo_lexer.proofs.Utf8.{cases_utf8}
 use Rattle.rgo_lexer.proofs.Standing.{of_tokens, passed_fits}
 
 same_width : (rest : List ℕ) (front : Front) (n m : ℕ) → front_of rest ≡ front → width front ≡ Some m → width (front_of rest) ≡ Some n → n ≡ m
@@ -33,7 +35,8 @@ never_both_from r (piece k m e u) (here kind offset d) = cc
 never_both_from {at} {ending} {rest} r (piece k m e u) (later n w t) = never_both_from r u (moved at n m rest r (same_width rest (Piece k m) n m e refl w) t)
 
 pub never_both : NeverBoth
-never_both text tokens r t u = never_both_from r t u
+never_both text tokens r t (inl u) = never_both_from r t.1 u.1
+never_both text tokens r t (inr u) = u.0 t.0
 
 -- two lists behind widths that are the same
 same_behind : (at : ℕ) (ending : Option ℕ) (rest : List ℕ) (tokens others : List Token) (n m : ℕ) → n ≡ m → (TokensFrom (at + n) ending (drop n rest) others → tokens ≡ others)
@@ -68,7 +71,7 @@ one_list_from others (piece k n e t) (newline m d u) = cc
 one_list_from others (piece {at} {rest = rest} {tokens = tokens} k n e t) (piece {tokens = more} j m d u) = same_piece at rest tokens more k j n m (cc) (cc) (λ v. one_list_from more t v) u
 
 pub one_list : OneList
-one_list text tokens others t u = one_list_from others t u
+one_list text tokens others t u = one_list_from others t.1 u.1
 
 one_refusal_from : {at : ℕ} {rest : List ℕ} {r : LexRefusal} (other : LexRefusal) → RefusesFrom at rest r → RefusesFrom at rest other → r ≡ other
 one_refusal_from other (here {at} kind offset e) (here kind' offset' d) =
@@ -78,7 +81,10 @@ one_refusal_from other (later n w t) (here kind offset e) = let w' = rw e at w i
 one_refusal_from other (later {at} {rest} n w t) (later m v u) = one_refusal_from other t (moved at m n rest other (cc) u)
 
 pub one_refusal : OneRefusal
-one_refusal text r other t u = one_refusal_from other t u
+one_refusal text r other (inl t) (inl u) = one_refusal_from other t.1 u.1
+one_refusal text r other (inl t) (inr u) = absurd (u.0 t.0)
+one_refusal text r other (inr t) (inl u) = absurd (t.0 u.0)
+one_refusal text r other (inr t) (inr u) = t.1 ∙ sym u.1
 
 Either : ℕ → Option ℕ → List ℕ → Type 0
 Either at ending rest = ((tokens : List Token) × TokensFrom at ending rest tokens) ⊎ ((r : LexRefusal) × RefusesFrom at rest r)
@@ -104,7 +110,14 @@ either (suc bound) at ending rest le =
 
 pub one_of_both : OneOfBoth
 unfolding Either
-one_of_both text = either (length text) 0 None text (omega arith)
+one_of_both text = by_case (cases_utf8 text)
+  where
+    read : IsUtf8 text → Either (start_of text) None (drop (start_of text) text) → ((tokens : List Token) × Tokens text tokens) ⊎ ((r : LexRefusal) × Refuses text r)
+    read u (inl t) = inl (t.0, (u, t.1))
+    read u (inr t) = inr (t.0, inl (u, t.1))
+    by_case : IsUtf8 text ⊎ (¬ (IsUtf8 text)) → ((tokens : List Token) × Tokens text tokens) ⊎ ((r : LexRefusal) × Refuses text r)
+    by_case (inl u) = read u (either (length text) (start_of text) None (drop (start_of text) text) (omega (arith, length-drop (start_of text) text)))
+    by_case (inr u) = inr (bad_utf8 text, inr (u, refl))
 
 pub standing : Standing
 standing text tokens t = of_tokens text tokens t
@@ -135,4 +148,4 @@ in_order_from {at} {ending} from (newline {tokens = tokens} n e t) le h = behind
 in_order_from {at} {ending} {rest} from (piece kind n e t) le h = (le, omega arith, in_order_from (at + n) t (omega arith) (open_ends_in kind (take n rest) (at + n)))
 
 pub in_order : InOrder
-in_order text tokens t = in_order_from 0 t (omega arith) tt
+in_order text tokens t = in_order_from 0 t.1 (omega arith) tt

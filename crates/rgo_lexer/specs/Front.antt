@@ -26,10 +26,10 @@ pub record IsWidthIn (text : List ℕ) (n : ℕ) : Type 0 where
   pub some : 0 < n
   pub within : n ≤ length text
 
--- what stands at the front is a part of the text, and a refused byte is in it or at its end
+-- what stands at the front is a part of the text, and a refused byte is in it
 abbrev pub FitsIn : List ℕ → Front → Type 0
 FitsIn text End = text ≡ []
 FitsIn text (Blank n) = IsWidthIn text n
 FitsIn text (Newline n) = IsWidthIn text n
 FitsIn text (Piece kind n) = IsWidthIn text n
-FitsIn text (Refused kind offset) = offset ≤ length text
+FitsIn text (Refused kind offset) = offset < length text

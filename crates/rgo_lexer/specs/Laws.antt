@@ -1,7 +1,11 @@
 -- What holds of the tokens and the refusals of every text.
-use Rattle.std.specs.Prelude.{◌≡◌, ℕ, ◌≤◌, ◌⊎◌, List, [], ◌∷◌, All}
+use Rattle.std.specs.Prelude.{◌≡◌, ℕ, ◌≤◌, ◌⊎◌, List, [], ◌∷◌, ◌++◌, length, take, All, Contains}
+use Rattle.rgo_lexer.specs.Front.{front_of}
+use Rattle.rgo_lexer.specs.Operators.{operators}
 use Rattle.rgo_lexer.specs.Tokens.{Tokens, IsTokenOf}
 use Rattle.rgo_lexer.specs.Refusals.{Refuses}
+use Rattle.rgo_lexer.specs.declared.front.Front.TheVariants.{Piece}
+use Rattle.rgo_lexer.specs.declared.tokens.TokenKind.TheVariants.{Operator}
 use Rattle.rgo_lexer.specs.declared.tokens.Token.{Token}
 use Rattle.rgo_lexer.specs.declared.tokens.LexRefusal.{LexRefusal}
 
@@ -27,6 +31,12 @@ Standing = (text : List ℕ) (tokens : List Token) → Tokens text tokens → Al
 abbrev pub IsInOrder : ℕ → List Token → Type 0
 IsInOrder from [] = Unit {0}
 IsInOrder from (t ∷ tokens) = (from ≤ t.span.start) × (t.span.start ≤ t.span.end) × IsInOrder t.span.end tokens
+
+-- an operator at the front of a text is the longest that the text begins with
+abbrev pub LongestMatch : Type 0
+LongestMatch = (text : List ℕ) (n : ℕ) → front_of text ≡ Piece Operator n
+    → Contains operators (take n text)
+    × ((operator rest : List ℕ) → Contains operators operator → text ≡ operator ++ rest → length operator ≤ n)
 
 abbrev pub InOrder : Type 0
 InOrder = (text : List ℕ) (tokens : List Token) → Tokens text tokens → IsInOrder 0 tokens

@@ -13,6 +13,8 @@ mod strings;
 mod tokens;
 mod words;
 
+pub use laws::{longest_match, one_reading};
+pub use lexer::lex;
 pub use numbers::number_value;
 pub use strings::string_value;
 pub use tokens::{LexError, LexRefusal, Span, Token, TokenKind};

@@ -2,9 +2,10 @@
 
 ghost use Rattle.std.specs.Prelude.{◌≡◌, ◌≤◌, ◌+◌, ◌<◌, ◌^◌, length, map, IfOk, IfSome};
 ghost use Rattle.rgo_lexer.specs.Strings.{escaped, is_plain, string_of, string_at, string_before, items, items_len, item_value, BeginsWithItem};
+ghost use Rattle.rgo_lexer.specs.Tokens.{bytes_in, IsTextIn};
 
 use crate::front::Front;
-use crate::tokens::{BAD_ESCAPE, OPEN_STRING, TokenKind};
+use crate::tokens::{BAD_ESCAPE, OPEN_STRING, Span, TokenKind};
 use std::alloc::{AllocError, Global};
 
 /// The byte that an escape's letter stands for ("Rune literals").
@@ -102,7 +103,7 @@ fn item_values(alloc: Global, text: &[u8]) -> Result<Vec<u8>, AllocError>
 
 /// The bytes that a string literal stands for.
 #[tactic(auto, unfolding(crate::specs::Strings::string_of))]
-pub fn string_value(alloc: Global, literal: &[u8]) -> Result<Vec<u8>, AllocError>
+fn unquoted(alloc: Global, literal: &[u8]) -> Result<Vec<u8>, AllocError>
     ensures { IfOk result (λ value. value.items ≡ string_of literal.now) }
 {
     match literal.split_first() {
@@ -111,19 +112,11 @@ pub fn string_value(alloc: Global, literal: &[u8]) -> Result<Vec<u8>, AllocError
     }
 }
 
-/// The bytes that the string literal at the span stands for.
+/// The bytes that the string literal at the span stands for (The Go Programming Language Specification,
+/// "String literals").
 pub fn string_value(alloc: Global, text: &[u8], span: Span) -> Result<Vec<u8>, AllocError>
     requires { IsTextIn text.now span }
     ensures { IfOk result (λ value. value.items ≡ string_of (bytes_in text.now span)) }
 {
     unquoted(alloc, &text[span.start..span.end])
-}
-
-/// The bytes between the quotes of a string literal.
-#[tactic(auto, unfolding(crate::specs::Strings::string_of))]
-fn unquoted(alloc: Global, word: &[u8]) -> Result<Vec<u8>, AllocError>
-    requires { 2 ≤ length word.now }
-    ensures { IfOk result (λ value. value.items ≡ string_of word.now) }
-{
-    Vec::from_slice(alloc, &word[1..word.len() - 1])
 }
