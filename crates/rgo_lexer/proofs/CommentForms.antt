@@ -18,6 +18,7 @@ first_close-within (b ∷ text) = by_test (begins_with (b ∷ text) (codes "*/")
     later : (o : Option ℕ) → IfSome o (λ k. k + 2 ≤ length text) → IfSome (option_map suc o) (λ k. k + 2 ≤ length (b ∷ text))
     later None h = tt
     later (Some k) h = omega (arith, h)
+
     by_test : (v : Bool) → begins_with (b ∷ text) (codes "*/") ≡ v → IfSome (first_close text) (λ k. k + 2 ≤ length text) → IfSome (cond v (Some 0) (option_map suc (first_close text))) (λ k. k + 2 ≤ length (b ∷ text))
     by_test true e h = begins_with-length (codes "*/") (b ∷ text) e
     by_test false e h = later (first_close text) h

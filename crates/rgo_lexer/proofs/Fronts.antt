@@ -11,7 +11,7 @@ use Rattle.rgo_lexer.specs.Operators.{operator_at}
 use Rattle.rgo_lexer.specs.Laws.{LongestMatch}
 use Rattle.rgo_lexer.specs.Front.{front_of, FitsIn, IsWidthIn}
 use Rattle.rgo_lexer.specs.declared.front.Front.{Front}
-use Rattle.rgo_lexer.specs.declared.front.Front.TheVariants.{End, Blank, Newline, Piece, Refused}
+use Rattle.rgo_lexer.specs.declared.front.Front.TheVariants.{Blank, Newline, Piece}
 use Rattle.rgo_lexer.specs.declared.tokens.TokenKind.{TokenKind}
 use Rattle.rgo_lexer.specs.declared.tokens.TokenKind.TheVariants.{Operator}
 use Rattle.rgo_lexer.proofs.WordForms.{word_fits, word_stable, word_no_operator}

@@ -1,7 +1,7 @@
 -- How far a text has been cut.
-use Rattle.std.proofs.Common.{◌≡◌, ℕ, ◌+◌, ◌-◌, ◌<◌, ◌≤◌, List, [], ◌∷◌, ◌++◌, length, take, drop, Option, None, Some, refl, sym, ap, ◌∙◌, subst, append_assoc, append-nil, arith}
+use Rattle.std.proofs.Common.{◌≡◌, ℕ, ◌+◌, ◌-◌, ◌≤◌, List, [], ◌∷◌, ◌++◌, length, take, drop, Option, None, Some, sym, ap, append_assoc, arith}
 use Rattle.std.proofs.lemmas.List.{drop-drop, take_all, length-drop}
-use Rattle.rgo_lexer.specs.Front.{front_of, FitsIn, IsWidthIn}
+use Rattle.rgo_lexer.specs.Front.{front_of, IsWidthIn}
 use Rattle.rgo_lexer.specs.Semicolons.{token, open_behind, inserted}
 use Rattle.rgo_lexer.specs.Tokens.{TokensFrom}
 use Rattle.rgo_lexer.specs.Tokens.TokensFrom.{finish, blank, newline, piece}

@@ -2,7 +2,7 @@
 use Rattle.std.proofs.Common.{◌≡◌, ℕ, zero, suc, ◌+◌, ◌-◌, ◌<◌, ◌≤◌, ◌⊎◌, inl, inr, Bool, true, false, cond, List, [], ◌∷◌, ◌++◌, length, take, drop, Option, Some, None, IfSome, refl, sym, ap, subst, ◌∙◌, arith}
 use Rattle.std.specs.Str.{IsUtf8}
 use Rattle.std.proofs.lemmas.List.{length-drop}
-use Rattle.rgo_lexer.specs.Front.{front_of, FitsIn, IsWidthIn}
+use Rattle.rgo_lexer.specs.Front.{front_of}
 use Rattle.rgo_lexer.specs.Semicolons.{token, open_behind, inserted, may_end}
 use Rattle.rgo_lexer.specs.Tokens.{TokensFrom, Tokens, start_of}
 use Rattle.rgo_lexer.specs.Tokens.TokensFrom.{finish, blank, newline, piece}
@@ -12,7 +12,6 @@ use Rattle.rgo_lexer.specs.Laws.{NeverBoth, OneOfBoth, OneList, OneRefusal, Stan
 use Rattle.rgo_lexer.specs.declared.front.Front.{Front}
 use Rattle.rgo_lexer.specs.declared.front.Front.TheVariants.{End, Blank, Newline, Piece, Refused}
 use Rattle.rgo_lexer.specs.declared.tokens.TokenKind.{TokenKind}
-use Rattle.rgo_lexer.specs.declared.tokens.TokenKind.TheVariants.{Operator}
 use Rattle.rgo_lexer.specs.declared.tokens.Token.{Token}
 use Rattle.rgo_lexer.specs.declared.tokens.LexRefusal.{LexRefusal}
 use Rattle.rgo_lexer.proofs.Utf8.{cases_utf8}
@@ -115,6 +114,7 @@ one_of_both text = by_case (cases_utf8 text)
     read : IsUtf8 text → Either (start_of text) None (drop (start_of text) text) → ((tokens : List Token) × Tokens text tokens) ⊎ ((r : LexRefusal) × Refuses text r)
     read u (inl t) = inl (t.0, (u, t.1))
     read u (inr t) = inr (t.0, inl (u, t.1))
+
     by_case : IsUtf8 text ⊎ (¬ (IsUtf8 text)) → ((tokens : List Token) × Tokens text tokens) ⊎ ((r : LexRefusal) × Refuses text r)
     by_case (inl u) = read u (either (length text) (start_of text) None (drop (start_of text) text) (omega (arith, length-drop (start_of text) text)))
     by_case (inr u) = inr (bad_utf8 text, inr (u, refl))

@@ -47,9 +47,9 @@ operator_len-take : (text : List ℕ) (n : ℕ) → operator_len text ≡ n → 
 unfolding operator_len
 operator_len-take text n e =
     let more : longest_front operators (take n text) ≤ longest_front operators text =
-        longest-more (begins_with (take n text)) (begins_with text) operators n (longest-at_most (begins_with (take n text)) operators n (λ t b. omega (arith, begins_with-length t (take n text) b, length-take n text))) (λ t b le. begins_with-whole t text n b) in
+    longest-more (begins_with (take n text)) (begins_with text) operators n (longest-at_most (begins_with (take n text)) operators n (λ t b. omega (arith, begins_with-length t (take n text) b, length-take n text))) (λ t b le. begins_with-whole t text n b) in
     let less : longest_front operators text ≤ longest_front operators (take n text) =
-        longest-more (begins_with text) (begins_with (take n text)) operators n (omega arith) (λ t b le. begins_with-front t text n le b) in
+    longest-more (begins_with text) (begins_with (take n text)) operators n (omega arith) (λ t b le. begins_with-front t text n le b) in
     omega arith
 
 pub operator_piece : (text : List ℕ) (kind : TokenKind) (n : ℕ) → operator_at text ≡ Piece kind n → (operator_len text ≡ n) × (0 < n) × (Operator ≡ kind)

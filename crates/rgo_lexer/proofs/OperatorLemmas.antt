@@ -55,6 +55,7 @@ longest-among text (t ∷ ts) n e some = by_test (begins_with text t) refl e (λ
   where
     this : length t ≡ n → begins_with text t ≡ true → Contains (t ∷ ts) (take n text)
     this d b = (0, omega arith, sym (begins_with-is t text b) ∙ ap (λ k. take k text) d)
+
     by_test : (v : Bool) → begins_with text t ≡ v → longest_by (begins_with text) t ts v ≡ n → (longest_front ts text ≡ n → Contains (t ∷ ts) (take n text)) → Contains (t ∷ ts) (take n text)
     by_test true b d ih = ⊎_elim (λ lt. ih (omega arith)) (λ le. this (omega arith) b) (cases_lt (length t) (longest_front ts text))
     by_test false b d ih = ih d

@@ -1,5 +1,5 @@
 -- How many bytes at a front pass a test, and that a front of the text shows it.
-use Rattle.std.proofs.Common.{◌≡◌, ℕ, zero, suc, ◌+◌, ◌<◌, ◌≤◌, Bool, true, false, cond, List, [], ◌∷◌, length, take, get_or, refl, sym, ap, ◌∙◌, arith}
+use Rattle.std.proofs.Common.{◌≡◌, ℕ, zero, suc, ◌+◌, ◌<◌, ◌≤◌, Bool, true, false, cond, List, [], ◌∷◌, take, refl, ap, arith}
 use Rattle.std.specs.List.{prefix_len}
 
 step : (passes : Bool) (a b n : ℕ) → (b ≤ n → a ≡ b) → cond passes (1 + b) 0 ≤ suc n → cond passes (1 + a) 0 ≡ cond passes (1 + b) 0

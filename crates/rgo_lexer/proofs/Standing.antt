@@ -8,16 +8,15 @@ use Rattle.std.proofs.lemmas.List.Elements.{All-nil, All-cons, All-append}
 use Rattle.rgo_lexer.specs.Front.{front_of, FitsIn, IsWidthIn}
 use Rattle.rgo_lexer.specs.Semicolons.{token, open_behind, inserted, may_end}
 use Rattle.rgo_lexer.specs.Bytes.{begins_with}
-use Rattle.rgo_lexer.specs.Tokens.{TokensFrom, Tokens, byte_order_mark, start_of, IsTokenOf, kind_of, kind_at_width, bytes_of}
+use Rattle.rgo_lexer.specs.Tokens.{TokensFrom, Tokens, byte_order_mark, start_of, IsTokenOf, IsTextIn, kind_of, kind_at_width, bytes_of}
 use Rattle.rgo_lexer.specs.Tokens.TokensFrom.{finish, blank, newline, piece}
-use Rattle.rgo_lexer.specs.Refusals.{RefusesFrom, Refuses, Fails, IsPlacedIn, width}
+use Rattle.rgo_lexer.specs.Refusals.{RefusesFrom, Fails, IsPlacedIn, width}
 use Rattle.rgo_lexer.specs.Refusals.RefusesFrom.{here, later}
 use Rattle.rgo_lexer.specs.declared.front.Front.{Front}
 use Rattle.rgo_lexer.specs.declared.front.Front.TheVariants.{End, Blank, Newline, Piece, Refused}
 use Rattle.rgo_lexer.specs.declared.tokens.TokenKind.{TokenKind}
 use Rattle.rgo_lexer.specs.declared.tokens.TokenKind.TheVariants.{Text, Operator}
 use Rattle.rgo_lexer.specs.declared.tokens.Token.{Token}
-use Rattle.rgo_lexer.specs.declared.tokens.Span.{Span}
 use Rattle.rgo_lexer.specs.declared.tokens.LexRefusal.{LexRefusal}
 use Rattle.rgo_lexer.specs.declared.tokens.LexError.{LexError}
 use Rattle.rgo_lexer.specs.declared.tokens.LexError.TheVariants as error
@@ -111,3 +110,14 @@ pub placed : (text : List ℕ) (e : LexError) → Fails text e → IsPlacedIn te
 placed text error.NoMemory h = tt
 placed text (error.Refused r) (inl h) = refusal_placed text h.1 refl (start_within text)
 placed text (error.Refused r) (inr h) = rw h.1 (utf8_stops text h.0)
+
+-- a token of a text that is a string is a part of it by itself
+pub text_stands : (text : List ℕ) (t : Token) → IsTokenOf text t → t.kind ≡ Text → IsTextIn text t.span
+text_stands text t stands e = record {
+  ordered = stands.ordered;
+  within = stands.within;
+  spelled = stands.spelled (some t stands.ordered (λ same. let f = stands.inserted same in cc)) ∙ ap Some e;
+}
+  where
+    some : (t : Token) → t.span.start ≤ t.span.end → (t.span.start ≡ t.span.end → ⊥) → t.span.start < t.span.end
+    some t le ne = omega (arith, le, ne)

@@ -5,7 +5,7 @@ ghost use Rattle.std.specs.List.{position_or_len};
 ghost use Rattle.rgo_lexer.specs.Comments.{is_newline, first_close, begins_line_comment, begins_comment, acts_as, closed_at, comment_at};
 
 use crate::front::Front;
-use crate::tokens::{OPEN_COMMENT};
+use crate::tokens::OPEN_COMMENT;
 
 /// Where the first `*/` begins.
 fn first_close(text: &[u8]) -> Option<usize>

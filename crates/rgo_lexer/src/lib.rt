@@ -10,6 +10,8 @@ mod numbers;
 mod operators;
 mod semicolons;
 mod strings;
+#[cfg(test)]
+mod tests;
 mod tokens;
 mod words;
 

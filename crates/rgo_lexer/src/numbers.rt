@@ -47,7 +47,8 @@ fn is_decimal(word: &[u8]) -> bool
     ensures { result ≡ is_decimal word.now }
 {
     match word.split_first() {
-        Some((first, rest)) => *first == b'0' && rest.is_empty() || matches!(*first, b'1'..=b'9') && are_digits(rest, 10),
+        Some((first, rest)) => *first == b'0' && rest.is_empty()
+            || matches!(*first, b'1'..=b'9') && are_digits(rest, 10),
         None => false,
     }
 }
@@ -55,15 +56,23 @@ fn is_decimal(word: &[u8]) -> bool
 fn is_hexadecimal(word: &[u8]) -> bool
     ensures { result ≡ is_hexadecimal word.now }
 {
-    (word.starts_with(b"0x") || word.starts_with(b"0X")) && word.len() > 2 && are_digits(&word[2..], 16)
+    (word.starts_with(b"0x") || word.starts_with(b"0X"))
+        && word.len() > 2
+        && are_digits(&word[2..], 16)
 }
 
 /// The number with one digit more behind it, where that is not too large.
 fn with_digit(number: u64, digit: u32, base: u32) -> Option<u64>
     ensures { result ≡ if_fits (number * base + digit) }
 {
-    let larger = number.checked_mul(u64::from(base))?.checked_add(u64::from(digit))?;
-    if larger <= GREATEST { Some(larger) } else { None }
+    let larger = number
+        .checked_mul(u64::from(base))?
+        .checked_add(u64::from(digit))?;
+    if larger <= GREATEST {
+        Some(larger)
+    } else {
+        None
+    }
 }
 
 /// The number with one byte more behind it; a `_` changes nothing.

@@ -1,5 +1,4 @@
-use Rattle.std.proofs.Common.{◌≡◌, ◌+◌, ◌-◌, ℕ, ap, arith, drop, take}
-use Rattle.rgo_lexer.specs.Semicolons.{open_behind}
+use Rattle.std.proofs.Common.{◌≡◌, ◌+◌, ◌-◌, arith}
 use Rattle.rgo_lexer.proofs.Going.{blank_goes, newline_goes, piece_goes, end_goes, refused_goes, seen, seen_width}
 use Rattle.rgo_lexer.proofs.lexer.tokens_from.Goals as goal
 
