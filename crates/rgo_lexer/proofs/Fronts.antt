@@ -39,7 +39,7 @@ by_form P false false false false false true word number string note operator b 
 by_form P false false false false false false word number string note operator b l w n s c o = o refl
 
 -- what holds of each form at the front of a text holds of what stands there
-at_front : (P : Front → Type 0) (b : ℕ) (rest : List ℕ) → let text = b ∷ rest in P (Blank 1) → P (Newline 1) → (is_letter b ≡ true → P (word_at text)) → (is_digit b ≡ true → P (number_at text)) → P (string_at text)
+pub at_front : (P : Front → Type 0) (b : ℕ) (rest : List ℕ) → let text = b ∷ rest in P (Blank 1) → P (Newline 1) → (is_letter b ≡ true → P (word_at text)) → (is_digit b ≡ true → P (number_at text)) → P (string_at text)
     → (begins_comment text ≡ true → P (comment_at text)) → (begins_comment text ≡ false → P (operator_at text)) → P (front_of text)
 unfolding front_of choice
 at_front P b rest =

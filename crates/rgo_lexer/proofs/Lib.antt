@@ -14,3 +14,4 @@ pub mod NumberLemmas
 pub mod Going
 pub mod Standing
 pub mod OneReading
+pub mod Spellings

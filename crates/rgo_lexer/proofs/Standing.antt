@@ -111,6 +111,22 @@ placed text error.NoMemory h = tt
 placed text (error.Refused r) (inl h) = refusal_placed text h.1 refl (start_within text)
 placed text (error.Refused r) (inr h) = rw h.1 (utf8_stops text h.0)
 
+kind_at : (front : Front) (n : ℕ) (kind : TokenKind) → kind_at_width n front ≡ Some kind → front ≡ Piece kind n
+kind_at End n kind e = cc
+kind_at (Blank m) n kind e = cc
+kind_at (Newline m) n kind e = cc
+kind_at (Piece k m) n kind e = by_test (m == n) refl e
+  where
+    by_test : (b : Bool) → (m == n) ≡ b → cond b (Some k) None ≡ Some kind → Piece k m ≡ Piece kind n
+    by_test true t same = let w : m ≡ n = grind (arith, nat_tests) in let s : k ≡ kind = cc in rw (w, s) refl
+    by_test false t same = cc
+kind_at (Refused k m) n kind e = cc
+
+-- a word that has a kind is one token
+pub front_of_word : (word : List ℕ) (kind : TokenKind) → kind_of word ≡ Some kind → front_of word ≡ Piece kind (length word)
+unfolding kind_of
+front_of_word word kind e = kind_at (front_of word) (length word) kind e
+
 -- a token of a text that is a string is a part of it by itself
 pub text_stands : (text : List ℕ) (t : Token) → IsTokenOf text t → t.kind ≡ Text → IsTextIn text t.span
 text_stands text t stands e = record {

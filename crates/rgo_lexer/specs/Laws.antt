@@ -11,26 +11,31 @@ use Rattle.rgo_lexer.specs.declared.tokens.LexRefusal.{LexRefusal}
 
 -- no text has tokens and a refusal
 abbrev pub NeverBoth : Type 0
-NeverBoth = (text : List ℕ) (tokens : List Token) (r : LexRefusal) → Tokens text tokens → Refuses text r → ⊥
+NeverBoth = (text : List ℕ) (tokens : List Token) (r : LexRefusal)
+    → Tokens text tokens → Refuses text r → ⊥
 
 -- each text has the one or the other
 abbrev pub OneOfBoth : Type 0
-OneOfBoth = (text : List ℕ) → ((tokens : List Token) × Tokens text tokens) ⊎ ((r : LexRefusal) × Refuses text r)
+OneOfBoth = (text : List ℕ)
+    → ((tokens : List Token) × Tokens text tokens) ⊎ ((r : LexRefusal) × Refuses text r)
 
 abbrev pub OneList : Type 0
-OneList = (text : List ℕ) (tokens others : List Token) → Tokens text tokens → Tokens text others → tokens ≡ others
+OneList = (text : List ℕ) (tokens others : List Token)
+    → Tokens text tokens → Tokens text others → tokens ≡ others
 
 abbrev pub OneRefusal : Type 0
-OneRefusal = (text : List ℕ) (r other : LexRefusal) → Refuses text r → Refuses text other → r ≡ other
+OneRefusal = (text : List ℕ) (r other : LexRefusal)
+    → Refuses text r → Refuses text other → r ≡ other
 
 -- each token of a text is an inserted `;`, or a part of the text that is a token by itself
 abbrev pub Standing : Type 0
 Standing = (text : List ℕ) (tokens : List Token) → Tokens text tokens → All (IsTokenOf text) tokens
 
--- each token starts where the one before it ends, or behind it, and the first at `from` or behind it
+-- each token starts at or behind the end of the one before it, and the first at or behind `from`
 abbrev pub IsInOrder : ℕ → List Token → Type 0
 IsInOrder from [] = Unit {0}
-IsInOrder from (t ∷ tokens) = (from ≤ t.span.start) × (t.span.start ≤ t.span.end) × IsInOrder t.span.end tokens
+IsInOrder from (t ∷ tokens) =
+    (from ≤ t.span.start) × (t.span.start ≤ t.span.end) × IsInOrder t.span.end tokens
 
 -- an operator at the front of a text is the longest that the text begins with
 abbrev pub LongestMatch : Type 0

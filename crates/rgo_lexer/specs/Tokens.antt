@@ -11,16 +11,23 @@ use Rattle.rgo_lexer.specs.declared.tokens.TokenKind.TheVariants.{Text, Operator
 use Rattle.rgo_lexer.specs.declared.tokens.Token.{Token}
 use Rattle.rgo_lexer.specs.declared.tokens.Span.{Span}
 
--- The tokens of a text from byte `at` on, of which `rest` is left: what stands at the front, and then those behind it.
+-- The tokens of a text from byte `at` on, of which `rest` is left: what stands at the front, and then
+-- those behind it.
 -- `open'` is where the last token ended, if the end of its line inserts a `;` there.
 pub data TokensFrom : ℕ → Option ℕ → List ℕ → List Token → Type 0 where
-  finish : {at : ℕ} {open' : Option ℕ} {rest : List ℕ} → front_of rest ≡ End → TokensFrom at open' rest (inserted open')
-  blank : {at : ℕ} {open' : Option ℕ} {rest : List ℕ} {tokens : List Token} (n : ℕ) → front_of rest ≡ Blank n
+  finish : {at : ℕ} {open' : Option ℕ} {rest : List ℕ} → front_of rest ≡ End
+      → TokensFrom at open' rest (inserted open')
+  blank : {at : ℕ} {open' : Option ℕ} {rest : List ℕ} {tokens : List Token} (n : ℕ)
+      → front_of rest ≡ Blank n
       → TokensFrom (at + n) open' (drop n rest) tokens → TokensFrom at open' rest tokens
-  newline : {at : ℕ} {open' : Option ℕ} {rest : List ℕ} {tokens : List Token} (n : ℕ) → front_of rest ≡ Newline n
-      → TokensFrom (at + n) None (drop n rest) tokens → TokensFrom at open' rest (inserted open' ++ tokens)
-  piece : {at : ℕ} {open' : Option ℕ} {rest : List ℕ} {tokens : List Token} (kind : TokenKind) (n : ℕ) → front_of rest ≡ Piece kind n
-      → TokensFrom (at + n) (open_behind kind (take n rest) (at + n)) (drop n rest) tokens → TokensFrom at open' rest (token kind at (at + n) ∷ tokens)
+  newline : {at : ℕ} {open' : Option ℕ} {rest : List ℕ} {tokens : List Token} (n : ℕ)
+      → front_of rest ≡ Newline n
+      → TokensFrom (at + n) None (drop n rest) tokens
+      → TokensFrom at open' rest (inserted open' ++ tokens)
+  piece : {at : ℕ} {open' : Option ℕ} {rest : List ℕ} {tokens : List Token}
+      (kind : TokenKind) (n : ℕ) → front_of rest ≡ Piece kind n
+      → TokensFrom (at + n) (open_behind kind (take n rest) (at + n)) (drop n rest) tokens
+      → TokensFrom at open' rest (token kind at (at + n) ∷ tokens)
 
 -- the byte order mark in UTF-8
 abbrev pub byte_order_mark : List ℕ

@@ -9,7 +9,12 @@ use Rattle.rgo_lexer.specs.declared.tokens.TokenKind.TheVariants.{Word, Keyword}
 
 -- Go's keywords
 abbrev pub keywords : List (List ℕ)
-keywords = codes "break" ∷ codes "case" ∷ codes "chan" ∷ codes "const" ∷ codes "continue" ∷ codes "default" ∷ codes "defer" ∷ codes "else" ∷ codes "fallthrough" ∷ codes "for" ∷ codes "func" ∷ codes "go" ∷ codes "goto" ∷ codes "if" ∷ codes "import" ∷ codes "interface" ∷ codes "map" ∷ codes "package" ∷ codes "range" ∷ codes "return" ∷ codes "select" ∷ codes "struct" ∷ codes "switch" ∷ codes "type" ∷ codes "var" ∷ []
+keywords =
+    codes "break" ∷ codes "case" ∷ codes "chan" ∷ codes "const" ∷ codes "continue" ∷
+    codes "default" ∷ codes "defer" ∷ codes "else" ∷ codes "fallthrough" ∷ codes "for" ∷
+    codes "func" ∷ codes "go" ∷ codes "goto" ∷ codes "if" ∷ codes "import" ∷ codes "interface" ∷
+    codes "map" ∷ codes "package" ∷ codes "range" ∷ codes "return" ∷ codes "select" ∷
+    codes "struct" ∷ codes "switch" ∷ codes "type" ∷ codes "var" ∷ []
 
 unfoldable pub is_keyword : List ℕ → Bool
 is_keyword word = list_any (λ k. bytes_eq k word) keywords

@@ -1,4 +1,4 @@
-//! The `;` that the end of a line inserts (The Go Programming Language Specification, "Semicolons").
+//! The `;` that a line's end inserts (The Go Programming Language Specification, "Semicolons").
 
 ghost use Rattle.std.specs.Prelude.{◌≡◌, ◌++◌, IfErr, OnOk};
 ghost use Rattle.rgo_lexer.specs.Semicolons as semicolons;

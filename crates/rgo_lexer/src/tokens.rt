@@ -4,6 +4,7 @@ ghost use Rattle.std.specs.Prelude.{◌≡◌};
 ghost use Rattle.rgo_lexer.specs.declared.tokens.LexError.TheVariants.{NoMemory};
 
 use std::alloc::{AllocError, AllocFailed};
+use thiserror::Error;
 
 /// The kinds of token (The Go Programming Language Specification, "Tokens").
 #[derive(Clone, Copy, Debug, PartialEq, Eq)]
@@ -26,7 +27,7 @@ pub struct Span {
     pub end: usize,
 }
 
-/// A token of a text. The span of an inserted `;` is empty, and stands where the token before it ends.
+/// A token of a text. An inserted `;` has an empty span, where the token before it ends.
 #[derive(Clone, Copy, Debug, PartialEq, Eq)]
 pub struct Token {
     pub kind: TokenKind,
@@ -53,8 +54,8 @@ pub(crate) const OPEN_COMMENT: u8 = 6;
 
 /// Why a text has no tokens: what is wrong first, and the byte where it stands, counted from 0.
 ///
-/// The kinds: 1 not UTF-8, 2 a byte out of place, 3 a malformed number, 4 an unknown escape, 5 a string
-/// that is not closed, 6 a comment that is not closed.
+/// The kinds: 1 not UTF-8, 2 a byte out of place, 3 a malformed number, 4 an unknown escape,
+/// 5 a string that is not closed, 6 a comment that is not closed.
 #[derive(Clone, Copy, Debug, PartialEq, Eq)]
 pub struct LexRefusal {
     pub kind: u8,
@@ -62,11 +63,13 @@ pub struct LexRefusal {
 }
 
 /// Why there is no list of tokens.
-#[derive(Clone, Copy, Debug, PartialEq, Eq)]
+#[derive(Clone, Copy, Debug, PartialEq, Eq, Error)]
 pub enum LexError {
     /// Memory ran out.
+    #[error("out of memory")]
     NoMemory,
     /// The text has no tokens.
+    #[error("refused at byte {}, kind {}", .0.at, .0.kind)]
     Refused(LexRefusal),
 }
 
