@@ -8,7 +8,8 @@ use Rattle.rgo_lexer.specs.declared.front.Front.TheVariants.{Blank, Newline, Ref
 -- where the first `*/` of a text begins, if it has one
 abbrev pub first_close : List ℕ → Option ℕ
 first_close [] = None
-first_close (b ∷ text) = if begins_with (b ∷ text) (codes "*/") then Some 0 else option_map suc (first_close text)
+first_close (b ∷ text) =
+    if begins_with (b ∷ text) (codes "*/") then Some 0 else option_map suc (first_close text)
 
 abbrev pub begins_line_comment : List ℕ → Bool
 begins_line_comment text = begins_with text (codes "//")

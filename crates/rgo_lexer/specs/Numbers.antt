@@ -27,13 +27,17 @@ abbrev pub is_decimal : List ℕ → Bool
 is_decimal [] = false
 is_decimal (b ∷ l) = (b == 48 && length l == 0) || (is_in_range 49 57 b && are_digits 10 l)
 
--- `0x` or `0X` and one or more digits in base 16 behind it
+-- `0x` or `0X`, and one or more digits in base 16 behind it
 abbrev pub is_hexadecimal : List ℕ → Bool
-is_hexadecimal word = (begins_with word (codes "0x") || begins_with word (codes "0X")) && nat_lt 2 (length word) && are_digits 16 (drop 2 word)
+is_hexadecimal word =
+    (begins_with word (codes "0x") || begins_with word (codes "0X"))
+    && nat_lt 2 (length word)
+    && are_digits 16 (drop 2 word)
 
 -- what the digits of a text write in a base behind a number
 abbrev pub value_behind : ℕ → ℕ → List ℕ → ℕ
-value_behind base number text = fold (λ n b. n * base + digit_value b) number (filter (λ b. is_digit b base) text)
+value_behind base number text =
+    fold (λ n b. n * base + digit_value b) number (filter (λ b. is_digit b base) text)
 
 -- what the digits of a text write in a base; a `_` counts for nothing
 abbrev pub value_of : ℕ → List ℕ → ℕ
@@ -53,6 +57,7 @@ number_of word =
 abbrev pub bad_number : Front
 bad_number = Refused 3 0
 
--- the number at the front of a text that begins with a digit: all the bytes that may stand in a word
+-- the number at the front of a text that begins with a digit: as many bytes as may stand in a word
 unfoldable pub number_at : List ℕ → Front
-number_at text = if is_some (number_of (take (run_of text) text)) then Piece Number (run_of text) else bad_number
+number_at text =
+    if is_some (number_of (take (run_of text) text)) then Piece Number (run_of text) else bad_number

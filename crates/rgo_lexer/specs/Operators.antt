@@ -29,7 +29,8 @@ longest_front fronts text = longest (filter (begins_with text) fronts)
 -- no text stands behind a shorter one
 abbrev pub longer_first : List (List ℕ) → Bool
 longer_first [] = true
-longer_first (text ∷ texts) = list_all (λ t. nat_le (length t) (length text)) texts && longer_first texts
+longer_first (text ∷ texts) =
+    list_all (λ t. nat_le (length t) (length text)) texts && longer_first texts
 
 unfoldable pub operator_len : List ℕ → ℕ
 operator_len text = longest_front operators text

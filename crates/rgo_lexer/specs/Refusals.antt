@@ -20,15 +20,15 @@ width _ = None
 abbrev pub refusal : ℕ → ℕ → LexRefusal
 refusal kind at = record { kind = kind; at = at }
 
--- The first refusal from byte `at` of a text on, of which `rest` is left: before it stand separators
--- and tokens alone.
+-- The first refusal from byte `at` of a text on, of which `rest` is left: before it stand
+-- separators and tokens alone.
 pub data RefusesFrom : ℕ → List ℕ → LexRefusal → Type 0 where
   here : {at : ℕ} {rest : List ℕ} (kind offset : ℕ) → front_of rest ≡ Refused kind offset
       → RefusesFrom at rest (refusal kind (at + offset))
   later : {at : ℕ} {rest : List ℕ} {r : LexRefusal} (n : ℕ) → width (front_of rest) ≡ Some n
       → RefusesFrom (at + n) (drop n rest) r → RefusesFrom at rest r
 
--- the refusal of the byte behind the longest front that is UTF-8: the first that no character covers
+-- the refusal of the first byte that no character covers: behind the longest front that is UTF-8
 abbrev pub bad_utf8 : List ℕ → LexRefusal
 bad_utf8 text = refusal 1 (utf8_valid_len text)
 

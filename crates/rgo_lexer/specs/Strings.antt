@@ -23,26 +23,31 @@ escaped letter =
 abbrev pub is_plain : ℕ → Bool
 is_plain b = not (b == 34 || b == 92 || b == 10)
 
--- The items at the front of a text, as far as they go: a plain byte, or a backslash and an escape's letter.
+-- The items at the front of a text, as far as they go: each a plain byte, or a backslash and an
+-- escape's letter.
 abbrev mutual
   pub items : List ℕ → List (List ℕ)
   items [] = []
-  items (b ∷ text) = if is_plain b then (b ∷ []) ∷ items text else (if b == 92 then escape_items text else [])
+  items (b ∷ text) =
+      if is_plain b then (b ∷ []) ∷ items text else (if b == 92 then escape_items text else [])
 
   -- the same behind a backslash
   pub escape_items : List ℕ → List (List ℕ)
   escape_items [] = []
-  escape_items (letter ∷ text) = if is_some (escaped letter) then (92 ∷ letter ∷ []) ∷ items text else []
+  escape_items (letter ∷ text) =
+      if is_some (escaped letter) then (92 ∷ letter ∷ []) ∷ items text else []
 
 -- the byte that an item stands for
 abbrev pub item_value : List ℕ → ℕ
-item_value item = if length item == 2 then unwrap_or (escaped (slice_index item 1)) 0 else slice_index item 0
+item_value item =
+    if length item == 2 then unwrap_or (escaped (slice_index item 1)) 0 else slice_index item 0
 
 -- What the items of a text begin with: an item's width and the byte that it stands for, or none.
 abbrev pub BeginsWithItem : List ℕ → Option (ℕ × ℕ) → Type 0
 BeginsWithItem text None = items text ≡ []
 BeginsWithItem text (Some item) =
-    (items text ≡ take item.0 text ∷ items (drop item.0 text)) × (item_value (take item.0 text) ≡ item.1)
+    (items text ≡ take item.0 text ∷ items (drop item.0 text))
+    × (item_value (take item.0 text) ≡ item.1)
 
 -- the bytes that a string literal stands for
 unfoldable pub string_of : List ℕ → List ℕ

@@ -11,8 +11,8 @@ use Rattle.rgo_lexer.specs.declared.tokens.TokenKind.TheVariants.{Text, Operator
 use Rattle.rgo_lexer.specs.declared.tokens.Token.{Token}
 use Rattle.rgo_lexer.specs.declared.tokens.Span.{Span}
 
--- The tokens of a text from byte `at` on, of which `rest` is left: what stands at the front, and then
--- those behind it.
+-- The tokens of a text from byte `at` on, of which `rest` is left: what stands at the front, and
+-- then those behind it.
 -- `open'` is where the last token ended, if the end of its line inserts a `;` there.
 pub data TokensFrom : ℕ → Option ℕ → List ℕ → List Token → Type 0 where
   finish : {at : ℕ} {open' : Option ℕ} {rest : List ℕ} → front_of rest ≡ End
@@ -39,7 +39,8 @@ start_of text = if begins_with text byte_order_mark then 3 else 0
 
 -- the tokens of a whole text
 abbrev pub Tokens : List ℕ → List Token → Type 0
-Tokens text tokens = IsUtf8 text × TokensFrom (start_of text) None (drop (start_of text) text) tokens
+Tokens text tokens =
+    IsUtf8 text × TokensFrom (start_of text) None (drop (start_of text) text) tokens
 
 -- the bytes of a part of a text
 abbrev pub bytes_in : List ℕ → Span → List ℕ

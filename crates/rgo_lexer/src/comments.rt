@@ -2,7 +2,8 @@
 
 ghost use Rattle.std.specs.Prelude.{◌≡◌, ◌≤◌, ◌+◌, ◌<◌, length, IfSome};
 ghost use Rattle.std.specs.List.{position_or_len};
-ghost use Rattle.rgo_lexer.specs.Comments.{is_newline, first_close, begins_line_comment, begins_comment, acts_as, closed_at, comment_at};
+ghost use Rattle.rgo_lexer.specs.Comments.{is_newline, first_close, acts_as, comment_at};
+ghost use Rattle.rgo_lexer.specs.Comments.{begins_line_comment, begins_comment};
 
 use crate::front::Front;
 use crate::tokens::OPEN_COMMENT;

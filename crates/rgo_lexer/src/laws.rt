@@ -1,6 +1,7 @@
 //! What holds of the tokens and the refusals of every text, whatever reads it.
 
-ghost use Rattle.rgo_lexer.specs.Laws.{NeverBoth, OneOfBoth, OneList, OneRefusal, Standing, InOrder, LongestMatch};
+ghost use Rattle.rgo_lexer.specs.Laws.{NeverBoth, OneOfBoth, OneList, OneRefusal};
+ghost use Rattle.rgo_lexer.specs.Laws.{Standing, InOrder, LongestMatch};
 
 /// A text has either one list of tokens or one refusal, and its tokens are parts of it, in order.
 pub fn one_reading()

@@ -1,7 +1,9 @@
 //! Integer literals: at the front of a text, and their values.
 
 ghost use Rattle.std.specs.Prelude.{◌≡◌, ◌≤◌, ◌+◌, ◌*◌, ◌^◌, ◌<◌, [], ◌∷◌};
-ghost use Rattle.rgo_lexer.specs.Numbers.{begins_with_digit, may_stand, are_digits, is_decimal, is_hexadecimal, value_behind, value_of, if_fits, number_of, number_at};
+ghost use Rattle.rgo_lexer.specs.Numbers.{begins_with_digit, may_stand, are_digits};
+ghost use Rattle.rgo_lexer.specs.Numbers.{is_decimal, is_hexadecimal};
+ghost use Rattle.rgo_lexer.specs.Numbers.{value_behind, value_of, if_fits, number_of, number_at};
 
 use crate::bytes::run_len;
 use crate::front::Front;
@@ -101,8 +103,12 @@ fn value_of(digits: &[u8], base: u32) -> Option<u64>
     Some(number)
 }
 
-/// The number that a word writes ("Integer literals"), or `None` where it is out of form or above
-/// the greatest `int`.
+/// The number that an integer literal writes (The Go Programming Language Specification, "Integer
+/// literals"): of the decimal literals and those in base 16 with `0x` or `0X`, each digit perhaps
+/// with a `_` before it.
+///
+/// None where the word is no such literal, or its number is above 9223372036854775807, the greatest
+/// `int`.
 #[tactic(auto, unfolding(crate::specs::Numbers::number_of))]
 pub fn number_value(word: &[u8]) -> Option<u64>
     ensures { result ≡ number_of word.now }

@@ -1,7 +1,8 @@
 //! String literals: at the front of a text, and their values.
 
 ghost use Rattle.std.specs.Prelude.{◌≡◌, ◌≤◌, ◌+◌, ◌<◌, ◌^◌, length, map, IfOk, IfSome};
-ghost use Rattle.rgo_lexer.specs.Strings.{escaped, is_plain, string_of, string_at, string_before, items, items_len, item_value, BeginsWithItem};
+ghost use Rattle.rgo_lexer.specs.Strings.{escaped, is_plain, BeginsWithItem, items, items_len};
+ghost use Rattle.rgo_lexer.specs.Strings.{item_value, string_of, string_at, string_before};
 ghost use Rattle.rgo_lexer.specs.Tokens.{bytes_in, IsTextIn};
 
 use crate::front::Front;
@@ -112,8 +113,8 @@ fn unquoted(alloc: Global, literal: &[u8]) -> Result<Vec<u8>, AllocError>
     }
 }
 
-/// The bytes that the string literal at the span stands for (The Go Programming Language Specification,
-/// "String literals").
+/// The bytes that the string literal at the span stands for (The Go Programming Language
+/// Specification, "String literals").
 pub fn string_value(alloc: Global, text: &[u8], span: Span) -> Result<Vec<u8>, AllocError>
     requires { IsTextIn text.now span }
     ensures { IfOk result (λ value. value.items ≡ string_of (bytes_in text.now span)) }
