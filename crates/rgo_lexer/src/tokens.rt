@@ -62,13 +62,11 @@ pub struct LexRefusal {
     pub at: usize,
 }
 
-/// Why there is no list of tokens.
+/// Why there is no list of tokens: memory ran out, or the text has none.
 #[derive(Clone, Copy, Debug, PartialEq, Eq, Error)]
 pub enum LexError {
-    /// Memory ran out.
     #[error("out of memory")]
     NoMemory,
-    /// The text has no tokens.
     #[error("refused at byte {}, kind {}", .0.at, .0.kind)]
     Refused(LexRefusal),
 }
