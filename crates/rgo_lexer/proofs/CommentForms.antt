@@ -1,8 +1,8 @@
 -- The comment at the front of a text: it fits, and is no token.
-use Rattle.std.proofs.Common.{◌≡◌, ℕ, suc, ◌+◌, ◌-◌, ◌<◌, ◌≤◌, Bool, true, false, ◌&&◌, ◌||◌, not, cond, List, [], ◌∷◌, length, take, drop, Option, None, Some, IfSome, refl, sym, ap, subst, ◌∙◌, arith, length-drop, eqb, ⊎_elim}
+use Rattle.std.proofs.Common.{◌≡◌, ℕ, suc, ◌+◌, ◌<◌, ◌≤◌, Bool, true, false, ◌||◌, not, cond, List, [], ◌∷◌, length, take, drop, Option, None, Some, IfSome, refl, sym, arith, length-drop, ⊎_elim}
 use Rattle.std.specs.Prelude.{option_map, codes, nat_eq}
-use Rattle.std.specs.List.{list_any, position_or_len, prefix_len}
-use Rattle.std.proofs.lemmas.Bool.{and_parts, and_from, eqb-true, cond_both, false≢true, or_cases, or_left, or_right}
+use Rattle.std.specs.List.{list_any, position_or_len}
+use Rattle.std.proofs.lemmas.Bool.{and_parts, eqb-true, cond_both, false≢true, or_cases, or_left, or_right}
 use Rattle.std.proofs.lemmas.List.Sums.{prefix_len-le-length}
 use Rattle.rgo_lexer.specs.Bytes.{begins_with}
 use Rattle.rgo_lexer.specs.Comments.{first_close, is_newline, begins_line_comment, begins_comment, acts_as, closed_at, comment_at}

@@ -1,11 +1,11 @@
 -- Digits behind a number make it no smaller, and are read one by one.
-use Rattle.std.proofs.Common.{◌≡◌, ℕ, ◌+◌, ◌*◌, ◌^◌, ◌<◌, ◌≤◌, Bool, true, false, cond, List, [], ◌∷◌, get_or, drop, length, Option, None, Some, refl, sym, ap, ◌∙◌, arith}
-use Rattle.std.specs.Prelude.{fold, filter, nat_le}
+use Rattle.std.proofs.Common.{◌≡◌, ℕ, ◌+◌, ◌*◌, ◌<◌, ◌≤◌, Bool, true, false, cond, List, [], ◌∷◌, get_or, drop, length, None, refl, ◌∙◌, arith}
+use Rattle.std.specs.Prelude.{fold, filter}
 use Rattle.std.specs.Char.{is_digit, digit_value}
 use Rattle.std.proofs.Math.Nat.{mul-le-mul_left}
 use Rattle.std.proofs.lemmas.Bool.Decides.{nat_tests}
 use Rattle.std.proofs.lemmas.List.{at_drop_more}
-use Rattle.rgo_lexer.specs.Numbers.{value_behind, value_of, if_fits}
+use Rattle.rgo_lexer.specs.Numbers.{value_behind, if_fits}
 
 -- the value behind a number, by whether the first byte is a digit
 abbrev value_by : ℕ → ℕ → ℕ → List ℕ → Bool → ℕ

@@ -42,7 +42,7 @@ abbrev pub LongestMatch : Type 0
 LongestMatch = (text : List ℕ) (n : ℕ) → front_of text ≡ Piece Operator n
     → Contains operators (take n text)
     × ((operator rest : List ℕ) → Contains operators operator → text ≡ operator ++ rest
-      → length operator ≤ n)
+    → length operator ≤ n)
 
 abbrev pub InOrder : Type 0
 InOrder = (text : List ℕ) (tokens : List Token) → Tokens text tokens → IsInOrder 0 tokens

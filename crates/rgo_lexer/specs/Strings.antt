@@ -1,5 +1,5 @@
 -- String literals: the items between their quotes, at the front of a text, and their values.
-use Rattle.std.specs.Prelude.{◌≡◌, ℕ, ◌+◌, Bool, false, not, ◌||◌, ◌==◌, if◌then◌else◌, List, [], ◌∷◌, length, take, drop, map, slice_index, Option, Some, None, is_some, unwrap_or}
+use Rattle.std.specs.Prelude.{◌≡◌, ℕ, ◌+◌, Bool, not, ◌||◌, ◌==◌, if◌then◌else◌, List, [], ◌∷◌, length, take, drop, map, slice_index, Option, Some, None, is_some, unwrap_or}
 use Rattle.std.specs.List.{concat}
 use Rattle.rgo_lexer.specs.declared.tokens.TokenKind.TheVariants.{Text}
 use Rattle.rgo_lexer.specs.declared.front.Front.{Front}

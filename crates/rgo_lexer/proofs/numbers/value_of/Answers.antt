@@ -1,5 +1,4 @@
-use Rattle.std.proofs.Common.{◌∙◌, ◌≡◌, None, ap, sym, arith}
-use Rattle.rgo_lexer.specs.Numbers.{if_fits}
+use Rattle.std.proofs.Common.{◌∙◌, sym, arith}
 use Rattle.rgo_lexer.proofs.NumberLemmas.{value_behind-too_large}
 use Rattle.rgo_lexer.proofs.numbers.value_of.Goals as goal
 

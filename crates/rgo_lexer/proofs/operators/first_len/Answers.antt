@@ -1,4 +1,4 @@
-use Rattle.std.proofs.Common.{◌∙◌, ap, sym, map}
+use Rattle.std.proofs.Common.{◌∙◌, sym}
 use Rattle.rgo_lexer.proofs.OperatorLemmas.{longest_front-found}
 use Rattle.rgo_lexer.proofs.operators.first_len.Goals as goal
 

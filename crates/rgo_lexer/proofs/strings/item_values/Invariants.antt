@@ -1,4 +1,4 @@
-use Rattle.std.proofs.Common.{◌≡◌, ◌≤◌, ◌+◌, ◌-◌, ◌++◌, length, drop, map}
+use Rattle.std.proofs.Common.{◌≡◌, ◌≤◌, ◌-◌, ◌++◌, length, drop, map}
 use Rattle.rgo_lexer.specs.Strings.{items, item_value}
 use Rattle.rgo_lexer.proofs.strings.item_values.Given as goal
 

@@ -1,4 +1,4 @@
-use Rattle.std.proofs.Common.{◌∙◌, ◌≡◌, ◌≤◌, ◌+◌, ◌-◌, ◌∷◌, [], ap, subst, arith, length, length-drop, take, drop}
+use Rattle.std.proofs.Common.{◌≡◌, ◌≤◌, ◌+◌, ◌-◌, ◌∷◌, [], ap, subst, arith, length, length-drop, take, drop}
 use Rattle.std.proofs.lemmas.List.{take_rest}
 use Rattle.rgo_lexer.specs.Strings.{items, items_len}
 use Rattle.rgo_lexer.proofs.StringLemmas.{items_len-none, items_len-more}
