@@ -102,4 +102,7 @@ operator_stands (b ∷ rest) n e =
 pub longest_match : LongestMatch
 longest_match text n e =
     let piece = operator_piece text Operator n (operator_stands text n e) in
-    (operator_among text n piece.0 piece.1, λ operator rest c d. (let le = operator_longest text operator rest c d in omega (arith, piece.0, le)))
+    record {
+      among = operator_among text n piece.0 piece.1;
+      longest = λ operator rest c d. (let le = operator_longest text operator rest c d in omega (arith, piece.0, le));
+    }

@@ -14,4 +14,5 @@ pub mod NumberLemmas
 pub mod Going
 pub mod Standing
 pub mod OneReading
+pub mod Order
 pub mod Spellings

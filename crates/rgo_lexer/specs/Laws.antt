@@ -37,12 +37,15 @@ IsInOrder from [] = Unit {0}
 IsInOrder from (t ∷ tokens) =
     (from ≤ t.span.start) × (t.span.start ≤ t.span.end) × IsInOrder t.span.end tokens
 
--- an operator at the front of a text is the longest that the text begins with
-abbrev pub LongestMatch : Type 0
-LongestMatch = (text : List ℕ) (n : ℕ) → front_of text ≡ Piece Operator n
-    → Contains operators (take n text)
-    × ((operator rest : List ℕ) → Contains operators operator → text ≡ operator ++ rest
-    → length operator ≤ n)
-
 abbrev pub InOrder : Type 0
 InOrder = (text : List ℕ) (tokens : List Token) → Tokens text tokens → IsInOrder 0 tokens
+
+-- the first n bytes of a text are an operator, and no longer one begins the text
+pub record IsLongestOperator (text : List ℕ) (n : ℕ) : Type 0 where
+  pub among : Contains operators (take n text)
+  pub longest : (operator rest : List ℕ) → Contains operators operator → text ≡ operator ++ rest
+      → length operator ≤ n
+
+abbrev pub LongestMatch : Type 0
+LongestMatch = (text : List ℕ) (n : ℕ)
+    → front_of text ≡ Piece Operator n → IsLongestOperator text n

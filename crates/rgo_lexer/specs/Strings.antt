@@ -65,7 +65,8 @@ open_string = Refused 5 0
 abbrev pub bad_escape : ℕ → Front
 bad_escape offset = Refused 4 offset
 
--- what a string is whose items have n bytes, by what stands behind them
+-- What a string is whose items have n bytes, by what stands behind them: nothing, a quote, a
+-- newline, or a backslash that begins no item.
 abbrev pub string_before : ℕ → List ℕ → Front
 string_before n [] = open_string
 string_before n (b ∷ rest) =

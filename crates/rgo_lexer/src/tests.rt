@@ -103,7 +103,6 @@ fn numbers_have_their_values(rt: HostRuntime) -> Result<(), Fail> {
 }
 
 #[test]
-#[tactic(auto, unfolding(crate::specs::Tokens::kind_of, crate::specs::Front::front_of, crate::specs::Strings::string_at, crate::specs::Strings::items_len))]
 fn strings_have_their_values(rt: HostRuntime) -> Result<(), Fail> {
     let span = Span { start: 2, end: 26 };
     let value = string_value(
