@@ -1,34 +1,38 @@
--- The number of digits, as they are read one by one.
-use Rattle.std.proofs.Common.{◌≡◌, ℕ, ◌+◌, ◌-◌, ◌*◌, ◌^◌, ◌<◌, ◌≤◌, Bool, true, false, ◌&&◌, cond, nat_le, List, [], ◌∷◌, None, Some, refl, sym, ap, Option, arith, ◌∙◌, length, get_or, drop}
-use Rattle.std.specs.Prelude.{option_and_then}
-use Rattle.std.specs.List.{list_all}
+-- Digits behind a number make it no smaller, and are read one by one.
+use Rattle.std.proofs.Common.{◌≡◌, ℕ, ◌+◌, ◌*◌, ◌<◌, ◌≤◌, Bool, true, false, cond, List, [], ◌∷◌, get_or, drop, length, None, refl, ◌∙◌, arith}
+use Rattle.std.specs.Prelude.{fold, filter}
+use Rattle.std.specs.Char.{is_digit, digit_value}
+use Rattle.std.proofs.Math.Nat.{mul-le-mul_left}
 use Rattle.std.proofs.lemmas.Bool.Decides.{nat_tests}
 use Rattle.std.proofs.lemmas.List.{at_drop_more}
-use Rattle.rgo_lexer.specs.Bytes.{is_digit}
-use Rattle.rgo_lexer.specs.Numbers.{value_from, behind}
+use Rattle.rgo_lexer.specs.Numbers.{value_behind, if_fits}
 
--- the number that digits make of n by standing behind it, if it is at most 2 ^ 63 - 1
-abbrev pub digits_behind : ℕ → List ℕ → Option ℕ
-digits_behind n ds = cond (list_all is_digit ds && nat_le (value_from n ds) (2 ^ 63 - 1)) (Some (value_from n ds)) None
+-- the value behind a number, by whether the first byte is a digit
+abbrev value_by : ℕ → ℕ → ℕ → List ℕ → Bool → ℕ
+value_by base n b l v = fold (λ m c. m * base + digit_value c) n (cond v (b ∷ filter (λ c. is_digit c base) l) (filter (λ c. is_digit c base) l))
 
-pub value_from-le : (n : ℕ) (ds : List ℕ) → n ≤ value_from n ds
-value_from-le n [] = omega arith
-value_from-le n (c ∷ cs) = omega (arith, value_from-le (10 * n + (c - 48)) cs)
+grown : (base n d : ℕ) → 1 ≤ base → n ≤ n * base + d
+grown base n d h = omega (arith, mul-le-mul_left n h)
 
-too_large : (b : Bool) (total : ℕ) → 2 ^ 63 - 1 < total → None ≡ cond (b && nat_le total (2 ^ 63 - 1)) (Some total) None
-too_large b total h = grind (arith, nat_tests)
+pub value_behind-le : (base : ℕ) → 1 ≤ base → (n : ℕ) (l : List ℕ) → n ≤ value_behind base n l
+value_behind-le base h n [] = omega arith
+value_behind-le base h n (b ∷ l) =
+    let ih : n ≤ value_behind base n l = value_behind-le base h n l in
+    let ih' : n * base + digit_value b ≤ value_behind base (n * base + digit_value b) l = value_behind-le base h (n * base + digit_value b) l in
+    let g : n ≤ n * base + digit_value b = grown base n (digit_value b) h in
+    elim (is_digit b base) as (λ v. n ≤ value_by base n b l v) [ true ↦ omega arith | false ↦ ih ]
 
--- one digit more, by whether it is one, and whether the number is still small
-step : (digit all : Bool) (next total : ℕ) (f : ℕ → Option ℕ) → next ≤ total → (next ≤ 2 ^ 63 - 1 → f next ≡ cond (all && nat_le total (2 ^ 63 - 1)) (Some total) None)
-    → option_and_then f (cond (digit && nat_le next (2 ^ 63 - 1)) (Some next) None) ≡ cond ((digit && all) && nat_le total (2 ^ 63 - 1)) (Some total) None
-step false all next total f le rest = refl
-step true all next total f le rest = grind (arith, nat_tests, too_large)
+pub value_behind-cons : (base n b : ℕ) (l : List ℕ) → value_behind base n (b ∷ l) ≡ value_behind base (value_behind base n (b ∷ [])) l
+value_behind-cons base n b l = elim (is_digit b base) as (λ v. value_by base n b l v ≡ value_behind base (value_by base n b [] v) l) [ true ↦ refl | false ↦ refl ]
 
--- the digits behind n are the first of them, and then the others
-first : (n c : ℕ) (cs : List ℕ) → option_and_then (λ m. digits_behind m cs) (behind n c) ≡ digits_behind n (c ∷ cs)
-first n c cs =
-    step (is_digit c) (list_all is_digit cs) (10 * n + (c - 48)) (value_from (10 * n + (c - 48)) cs) (λ m. digits_behind m cs) (value_from-le (10 * n + (c - 48)) cs) (λ le. refl)
+pub too_large : (m n : ℕ) → None ≡ if_fits m → m ≤ n → None ≡ if_fits n
+too_large m n e h = grind (arith, nat_tests)
 
--- where one of them makes the number too large, or is no digit, they write none
-pub digits_fail : (ds : List ℕ) (i n : ℕ) → i < length ds → None ≡ behind n (get_or ds i 0) → None ≡ digits_behind n (drop i ds)
-digits_fail ds i n lt e = ap (option_and_then (λ m. digits_behind m (drop (i + 1) ds))) e ∙ first n (get_or ds i 0) (drop (i + 1) ds) ∙ sym (at_drop_more (digits_behind n) ds i 0 lt)
+-- where one byte more makes the number too large, so do all
+pub value_behind-too_large : (base n : ℕ) (digits : List ℕ) (i total : ℕ) → 1 ≤ base → i < length digits → None ≡ if_fits (value_behind base n (get_or digits i 0 ∷ []))
+    → value_behind base n (drop i digits) ≡ total → None ≡ if_fits total
+value_behind-too_large base n digits i total h lt none e =
+    let m = value_behind base n (get_or digits i 0 ∷ []) in
+    let rest : value_behind base n (drop i digits) ≡ value_behind base m (drop (i + 1) digits) = at_drop_more (value_behind base n) digits i 0 lt ∙ value_behind-cons base n (get_or digits i 0) (drop (i + 1) digits) in
+    let le : m ≤ value_behind base m (drop (i + 1) digits) = value_behind-le base h m (drop (i + 1) digits) in
+    too_large m total none (omega arith)

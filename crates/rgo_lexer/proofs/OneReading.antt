@@ -1,18 +1,20 @@
 -- A text has one list of tokens, or else one refusal.
-use Rattle.std.proofs.Common.{◌≡◌, ℕ, zero, suc, ◌+◌, ◌≤◌, ◌⊎◌, inl, inr, true, false, cond, List, ◌∷◌, ◌++◌, length, take, drop, Option, Some, None, IfSome, refl, sym, ap, subst, arith}
+use Rattle.std.proofs.Common.{◌≡◌, ℕ, zero, suc, ◌+◌, ◌≤◌, ◌⊎◌, inl, inr, List, ◌∷◌, ◌++◌, length, take, drop, Option, Some, None, refl, sym, ap, subst, ◌∙◌, arith}
+use Rattle.std.specs.Str.{IsUtf8}
 use Rattle.std.proofs.lemmas.List.{length-drop}
 use Rattle.rgo_lexer.specs.Front.{front_of}
-use Rattle.rgo_lexer.specs.Semicolons.{token, open_behind, inserted, may_end}
-use Rattle.rgo_lexer.specs.Tokens.{TokensFrom}
+use Rattle.rgo_lexer.specs.Semicolons.{token, open_behind, inserted}
+use Rattle.rgo_lexer.specs.Tokens.{TokensFrom, Tokens, start_of}
 use Rattle.rgo_lexer.specs.Tokens.TokensFrom.{finish, blank, newline, piece}
-use Rattle.rgo_lexer.specs.Refusals.{RefusesFrom, width, refusal}
+use Rattle.rgo_lexer.specs.Refusals.{RefusesFrom, Refuses, width, refusal, bad_utf8}
 use Rattle.rgo_lexer.specs.Refusals.RefusesFrom.{here, later}
-use Rattle.rgo_lexer.specs.Laws.{NeverBoth, OneOfBoth, OneList, OneRefusal, Standing, InOrder, IsInOrder}
+use Rattle.rgo_lexer.specs.Laws.{NeverBoth, OneOfBoth, OneList, OneRefusal, Standing}
 use Rattle.rgo_lexer.specs.declared.front.Front.{Front}
 use Rattle.rgo_lexer.specs.declared.front.Front.TheVariants.{End, Blank, Newline, Piece, Refused}
 use Rattle.rgo_lexer.specs.declared.tokens.TokenKind.{TokenKind}
 use Rattle.rgo_lexer.specs.declared.tokens.Token.{Token}
 use Rattle.rgo_lexer.specs.declared.tokens.LexRefusal.{LexRefusal}
+use Rattle.rgo_lexer.proofs.Utf8.{cases_utf8}
 use Rattle.rgo_lexer.proofs.Standing.{of_tokens, passed_fits}
 
 same_width : (rest : List ℕ) (front : Front) (n m : ℕ) → front_of rest ≡ front → width front ≡ Some m → width (front_of rest) ≡ Some n → n ≡ m
@@ -32,7 +34,8 @@ never_both_from r (piece k m e u) (here kind offset d) = cc
 never_both_from {at} {ending} {rest} r (piece k m e u) (later n w t) = never_both_from r u (moved at n m rest r (same_width rest (Piece k m) n m e refl w) t)
 
 pub never_both : NeverBoth
-never_both text tokens r t u = never_both_from r t u
+never_both text tokens r t (inl u) = never_both_from r t.1 u.1
+never_both text tokens r t (inr u) = u.0 t.0
 
 -- two lists behind widths that are the same
 same_behind : (at : ℕ) (ending : Option ℕ) (rest : List ℕ) (tokens others : List Token) (n m : ℕ) → n ≡ m → (TokensFrom (at + n) ending (drop n rest) others → tokens ≡ others)
@@ -67,7 +70,7 @@ one_list_from others (piece k n e t) (newline m d u) = cc
 one_list_from others (piece {at} {rest = rest} {tokens = tokens} k n e t) (piece {tokens = more} j m d u) = same_piece at rest tokens more k j n m (cc) (cc) (λ v. one_list_from more t v) u
 
 pub one_list : OneList
-one_list text tokens others t u = one_list_from others t u
+one_list text tokens others t u = one_list_from others t.1 u.1
 
 one_refusal_from : {at : ℕ} {rest : List ℕ} {r : LexRefusal} (other : LexRefusal) → RefusesFrom at rest r → RefusesFrom at rest other → r ≡ other
 one_refusal_from other (here {at} kind offset e) (here kind' offset' d) =
@@ -77,7 +80,10 @@ one_refusal_from other (later n w t) (here kind offset e) = let w' = rw e at w i
 one_refusal_from other (later {at} {rest} n w t) (later m v u) = one_refusal_from other t (moved at m n rest other (cc) u)
 
 pub one_refusal : OneRefusal
-one_refusal text r other t u = one_refusal_from other t u
+one_refusal text r other (inl t) (inl u) = one_refusal_from other t.1 u.1
+one_refusal text r other (inl t) (inr u) = absurd (u.0 t.0)
+one_refusal text r other (inr t) (inl u) = absurd (t.0 u.0)
+one_refusal text r other (inr t) (inr u) = t.1 ∙ sym u.1
 
 Either : ℕ → Option ℕ → List ℕ → Type 0
 Either at ending rest = ((tokens : List Token) × TokensFrom at ending rest tokens) ⊎ ((r : LexRefusal) × RefusesFrom at rest r)
@@ -103,35 +109,15 @@ either (suc bound) at ending rest le =
 
 pub one_of_both : OneOfBoth
 unfolding Either
-one_of_both text = either (length text) 0 None text (omega arith)
+one_of_both text = by_case (cases_utf8 text)
+  where
+    read : IsUtf8 text → Either (start_of text) None (drop (start_of text) text) → ((tokens : List Token) × Tokens text tokens) ⊎ ((r : LexRefusal) × Refuses text r)
+    read u (inl t) = inl (t.0, (u, t.1))
+    read u (inr t) = inr (t.0, inl (u, t.1))
+
+    by_case : IsUtf8 text ⊎ (¬ (IsUtf8 text)) → ((tokens : List Token) × Tokens text tokens) ⊎ ((r : LexRefusal) × Refuses text r)
+    by_case (inl u) = read u (either (length text) (start_of text) None (drop (start_of text) text) (omega (arith, length-drop (start_of text) text)))
+    by_case (inr u) = inr (bad_utf8 text, inr (u, refl))
 
 pub standing : Standing
 standing text tokens t = of_tokens text tokens t
-
--- the last token ended at `from` or behind it, and by `at`
-abbrev IsEndingIn : ℕ → ℕ → Option ℕ → Type 0
-IsEndingIn from at ending = IfSome ending (λ end. (from ≤ end) × (end ≤ at))
-
-inserted_in_order : (from at : ℕ) (ending : Option ℕ) → from ≤ at → IsEndingIn from at ending → IsInOrder from (inserted ending)
-inserted_in_order from at None le h = tt
-inserted_in_order from at (Some end) le h = (h.0, omega arith, tt)
-
-behind_inserted : (from at : ℕ) (ending : Option ℕ) (tokens : List Token) → from ≤ at → IsEndingIn from at ending → ((end : ℕ) → end ≤ at → IsInOrder end tokens) → IsInOrder from (inserted ending ++ tokens)
-behind_inserted from at None tokens le h more = more from le
-behind_inserted from at (Some end) tokens le h more = (h.0, omega arith, more end h.1)
-
-ending_later : (from at n : ℕ) (ending : Option ℕ) → IsEndingIn from at ending → IsEndingIn from (at + n) ending
-ending_later from at n None h = tt
-ending_later from at n (Some end) h = (h.0, omega (arith, h.1))
-
-open_ends_in : (kind : TokenKind) (word : List ℕ) (end : ℕ) → IsEndingIn end end (open_behind kind word end)
-open_ends_in kind word end = elim (may_end kind word) as (λ b. IsEndingIn end end (cond b (Some end) None)) [ true ↦ (omega arith, omega arith) | false ↦ tt ]
-
-in_order_from : {at : ℕ} {ending : Option ℕ} {rest : List ℕ} {tokens : List Token} (from : ℕ) → TokensFrom at ending rest tokens → from ≤ at → IsEndingIn from at ending → IsInOrder from tokens
-in_order_from {at} {ending} from (finish e) le h = inserted_in_order from at ending le h
-in_order_from {at} {ending} from (blank n e t) le h = in_order_from from t (omega arith) (ending_later from at n ending h)
-in_order_from {at} {ending} from (newline {tokens = tokens} n e t) le h = behind_inserted from at ending tokens le h (λ end f. in_order_from end t (omega arith) tt)
-in_order_from {at} {ending} {rest} from (piece kind n e t) le h = (le, omega arith, in_order_from (at + n) t (omega arith) (open_ends_in kind (take n rest) (at + n)))
-
-pub in_order : InOrder
-in_order text tokens t = in_order_from 0 t (omega arith) tt

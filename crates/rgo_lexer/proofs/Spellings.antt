@@ -1,27 +1,28 @@
 -- What the kind of a token says of its bytes.
-use Rattle.std.proofs.Common.{◌≡◌, ℕ, ◌+◌, Bool, true, false, cond, List, [], ◌∷◌, length, take, drop, Some, refl, arith}
-use Rattle.std.specs.Prelude.{◌==◌, is_some, slice_index}
+use Rattle.std.proofs.Common.{◌≡◌, ℕ, ◌+◌, Bool, true, false, cond, List, [], ◌∷◌, length, take, drop, Some, refl, subst, arith, Contains}
+use Rattle.std.specs.Prelude.{◌==◌, ◌||◌, is_some}
 use Rattle.std.proofs.lemmas.List.{take_all}
-use Rattle.rgo_lexer.specs.Bytes.{is_blank, is_letter, is_digit, bad_byte}
 use Rattle.rgo_lexer.specs.Words.{word_at, is_keyword, run_of}
-use Rattle.rgo_lexer.specs.Numbers.{number_at, number_of}
-use Rattle.rgo_lexer.specs.Strings.{string_at, inside_of}
-use Rattle.rgo_lexer.specs.Operators.{operator_at, is_operator}
+use Rattle.rgo_lexer.specs.Numbers.{number_at, number_of, bad_number}
+use Rattle.rgo_lexer.specs.Strings.{string_at, string_before, items_len, open_string, bad_escape}
+use Rattle.rgo_lexer.specs.Operators.{operator_at, operators}
 use Rattle.rgo_lexer.specs.Front.{front_of}
 use Rattle.rgo_lexer.specs.Tokens.{kind_of}
 use Rattle.rgo_lexer.specs.declared.front.Front.TheVariants.{Piece}
 use Rattle.rgo_lexer.specs.declared.tokens.TokenKind.{TokenKind}
 use Rattle.rgo_lexer.specs.declared.tokens.TokenKind.TheVariants.{Word, Keyword, Number, Text, Operator}
-use Rattle.rgo_lexer.proofs.Fronts.{by_form}
+use Rattle.rgo_lexer.proofs.CommentForms.{comment_no_piece}
+use Rattle.rgo_lexer.proofs.OperatorForms.{operator_piece, operator_among}
+use Rattle.rgo_lexer.proofs.Fronts.{at_front}
 use Rattle.rgo_lexer.proofs.Standing.{front_of_word}
 
--- a name is no keyword, a keyword is one, and a number has its value
+-- a name is no keyword, a keyword is one, a number has its value, and an operator is one of them
 abbrev pub IsSpelledAs : TokenKind → List ℕ → Type 0
 IsSpelledAs Word word = is_keyword word ≡ false
 IsSpelledAs Keyword word = is_keyword word ≡ true
 IsSpelledAs Number word = is_some (number_of word) ≡ true
 IsSpelledAs Text word = Unit {0}
-IsSpelledAs Operator word = Unit {0}
+IsSpelledAs Operator word = Contains operators word
 
 by_keyword : (text : List ℕ) (kind : TokenKind) (n run : ℕ) (b : Bool) → is_keyword (take run text) ≡ b → Piece (cond b Keyword Word) run ≡ Piece kind n → IsSpelledAs kind (take n text)
 by_keyword text kind n run true k e = let width : n ≡ run = cc in let same : kind ≡ Keyword = cc in rw (same, width) k
@@ -31,7 +32,7 @@ word_spelled : (text : List ℕ) (kind : TokenKind) (n : ℕ) → word_at text �
 unfolding word_at
 word_spelled text kind n e = by_keyword text kind n (run_of text) (is_keyword (take (run_of text) text)) refl e
 
-by_value : (text : List ℕ) (kind : TokenKind) (n run : ℕ) (b : Bool) → is_some (number_of (take run text)) ≡ b → cond b (Piece Number run) bad_byte ≡ Piece kind n → IsSpelledAs kind (take n text)
+by_value : (text : List ℕ) (kind : TokenKind) (n run : ℕ) (b : Bool) → is_some (number_of (take run text)) ≡ b → cond b (Piece Number run) bad_number ≡ Piece kind n → IsSpelledAs kind (take n text)
 by_value text kind n run true k e = let width : n ≡ run = cc in let same : kind ≡ Number = cc in rw (same, width) k
 by_value text kind n run false k e = cc
 
@@ -39,25 +40,31 @@ number_spelled : (text : List ℕ) (kind : TokenKind) (n : ℕ) → number_at te
 unfolding number_at
 number_spelled text kind n e = by_value text kind n (run_of text) (is_some (number_of (take (run_of text) text))) refl e
 
--- a string or an operator, of which the kind says no more
-punctuation : (b : Bool) (kind : TokenKind) (n : ℕ) (word : List ℕ) (k : TokenKind) (width : ℕ) → IsSpelledAs k word → cond b (Piece k width) bad_byte ≡ Piece kind n → IsSpelledAs kind word
-punctuation true kind n word k width h e = let same : kind ≡ k = cc in rw same h
-punctuation false kind n word k width h e = cc
+-- a string, of which the kind says no more
+text_spelled : (n : ℕ) (behind : List ℕ) (kind : TokenKind) (m : ℕ) (word : List ℕ) → string_before n behind ≡ Piece kind m → IsSpelledAs kind word
+text_spelled n [] kind m word e = cc
+text_spelled n (b ∷ rest) kind m word e = by_test (b == 34) (b == 10 || length rest == 0) e
+  where
+    by_test : (quote open' : Bool) → cond quote (Piece Text (n + 2)) (cond open' open_string (bad_escape (n + 1))) ≡ Piece kind m → IsSpelledAs kind word
+    by_test true open' e = let same : kind ≡ Text = cc in rw same tt
+    by_test false true e = cc
+    by_test false false e = cc
 
 string_spelled : (text : List ℕ) (kind : TokenKind) (n : ℕ) → string_at text ≡ Piece kind n → IsSpelledAs kind (take n text)
 unfolding string_at
-string_spelled text kind n e = punctuation (slice_index (drop 1 text) (inside_of (drop 1 text)) == 34) kind n (take n text) Text (inside_of (drop 1 text) + 2) tt e
+string_spelled text kind n e = text_spelled (items_len (drop 1 text)) (drop (items_len (drop 1 text) + 1) text) kind n (take n text) e
 
-operator_spelled : (b : ℕ) (rest : List ℕ) (kind : TokenKind) (n : ℕ) → operator_at (b ∷ rest) ≡ Piece kind n → IsSpelledAs kind (take n (b ∷ rest))
-unfolding operator_at
-operator_spelled b rest kind n e = punctuation (is_operator b) kind n (take n (b ∷ rest)) Operator 1 tt e
+operator_spelled : (text : List ℕ) (kind : TokenKind) (n : ℕ) → operator_at text ≡ Piece kind n → IsSpelledAs kind (take n text)
+operator_spelled text kind n e =
+    let piece = operator_piece text kind n e in subst (λ k. IsSpelledAs k (take n text)) piece.2 (operator_among text n piece.0 piece.1)
 
 front_spelled : (text : List ℕ) (kind : TokenKind) (n : ℕ) → front_of text ≡ Piece kind n → IsSpelledAs kind (take n text)
 unfolding front_of
 front_spelled [] kind n e = cc
 front_spelled (b ∷ rest) kind n e =
-    by_form (λ f. f ≡ Piece kind n → IsSpelledAs kind (take n (b ∷ rest))) (is_blank b) (b == 10) (is_letter b) (is_digit b) (b == 34) (word_at (b ∷ rest)) (number_at (b ∷ rest)) (string_at (b ∷ rest)) (operator_at (b ∷ rest))
-    (λ w. cc) (λ w. cc) (λ t w. word_spelled (b ∷ rest) kind n w) (λ t w. number_spelled (b ∷ rest) kind n w) (λ w. string_spelled (b ∷ rest) kind n w) (λ w. operator_spelled b rest kind n w) e
+    at_front (λ f. f ≡ Piece kind n → IsSpelledAs kind (take n (b ∷ rest))) b rest (λ w. cc) (λ w. cc)
+    (λ t w. word_spelled (b ∷ rest) kind n w) (λ t w. number_spelled (b ∷ rest) kind n w) (λ w. string_spelled (b ∷ rest) kind n w)
+    (λ t w. absurd (comment_no_piece (b ∷ rest) kind n w)) (λ t w. operator_spelled (b ∷ rest) kind n w) e
 
 -- what the kind of a token by itself says of it
 pub spelled : (word : List ℕ) (kind : TokenKind) → kind_of word ≡ Some kind → IsSpelledAs kind word

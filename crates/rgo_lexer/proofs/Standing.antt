@@ -1,12 +1,14 @@
 -- Each token of a text stands in it, and a refused byte does.
-use Rattle.std.proofs.Common.{◌≡◌, ℕ, ◌+◌, ◌-◌, ◌<◌, ◌≤◌, Bool, true, false, cond, List, [], length, take, drop, Option, None, Some, refl, sym, ap, ◌∙◌, All, IfSome, arith}
+use Rattle.std.proofs.Common.{◌≡◌, ℕ, ◌+◌, ◌-◌, ◌<◌, ◌≤◌, Bool, true, false, cond, List, [], length, take, drop, Option, None, Some, refl, sym, ap, ◌∙◌, All, IfSome, arith, inl, inr}
 use Rattle.std.specs.Prelude.{◌==◌}
+use Rattle.std.proofs.lemmas.Bool.{cond_both}
 use Rattle.std.proofs.lemmas.Bool.Decides.{nat_tests}
 use Rattle.std.proofs.lemmas.List.{drop-drop, length-drop, length-take-le}
 use Rattle.std.proofs.lemmas.List.Elements.{All-nil, All-cons, All-append}
 use Rattle.rgo_lexer.specs.Front.{front_of, FitsIn, IsWidthIn}
 use Rattle.rgo_lexer.specs.Semicolons.{token, open_behind, inserted, may_end}
-use Rattle.rgo_lexer.specs.Tokens.{TokensFrom, Tokens, IsTokenOf, IsTextIn, kind_of, kind_at_width}
+use Rattle.rgo_lexer.specs.Bytes.{begins_with}
+use Rattle.rgo_lexer.specs.Tokens.{TokensFrom, Tokens, byte_order_mark, start_of, IsTokenOf, IsTextIn, kind_of, kind_at_width}
 use Rattle.rgo_lexer.specs.Tokens.TokensFrom.{finish, blank, newline, piece}
 use Rattle.rgo_lexer.specs.Refusals.{RefusesFrom, Fails, IsPlacedIn, width}
 use Rattle.rgo_lexer.specs.Refusals.RefusesFrom.{here, later}
@@ -18,7 +20,9 @@ use Rattle.rgo_lexer.specs.declared.tokens.Token.{Token}
 use Rattle.rgo_lexer.specs.declared.tokens.LexRefusal.{LexRefusal}
 use Rattle.rgo_lexer.specs.declared.tokens.LexError.{LexError}
 use Rattle.rgo_lexer.specs.declared.tokens.LexError.TheVariants as error
-use Rattle.rgo_lexer.proofs.Fronts.{front_fits, fits, piece_fits, front_stable, text_width}
+use Rattle.rgo_lexer.proofs.Begins.{begins_with-length}
+use Rattle.rgo_lexer.proofs.Utf8.{utf8_stops}
+use Rattle.rgo_lexer.proofs.Fronts.{front_fits, fits, piece_fits, front_stable}
 
 -- where the last token ended is behind no place that the text has been cut to
 abbrev pub IsEndingBy : ℕ → Option ℕ → Type 0
@@ -77,9 +81,14 @@ of_tokens_from text {at} {ending} {rest} (piece {tokens = tokens} kind n e t) d 
     All-cons (IsTokenOf text) (token kind at (at + n)) tokens (piece_stands text rest at kind n d le e)
     (of_tokens_from text t (farther text rest at n d) (behind text rest at n d le (piece_fits rest kind n e)) (open_ends kind (take n rest) (at + n)))
 
+-- a text begins in itself
+pub start_within : (text : List ℕ) → start_of text ≤ length text
+start_within text =
+    cond_both (begins_with text byte_order_mark) 3 0 (λ n. n ≤ length text) (λ e. begins_with-length byte_order_mark text e) (λ e. omega arith)
+
 -- each token of a text is an inserted `;`, or a part of the text that is a token by itself
 pub of_tokens : (text : List ℕ) (tokens : List Token) → Tokens text tokens → All (IsTokenOf text) tokens
-of_tokens text tokens t = of_tokens_from text t refl (omega arith) tt
+of_tokens text tokens t = of_tokens_from text t.1 refl (start_within text) tt
 
 width_is : (front : Front) (text : List ℕ) (n : ℕ) → FitsIn text front → width front ≡ Some n → IsWidthIn text n
 width_is End text n f e = cc
@@ -92,14 +101,15 @@ width_is (Refused kind offset) text n f e = cc
 pub passed_fits : (rest : List ℕ) (n : ℕ) → width (front_of rest) ≡ Some n → IsWidthIn rest n
 passed_fits rest n e = width_is (front_of rest) rest n (front_fits rest) e
 
--- a refused byte is in the text, or at its end
-pub refusal_placed : (text : List ℕ) {at : ℕ} {rest : List ℕ} {r : LexRefusal} → RefusesFrom at rest r → drop at text ≡ rest → at ≤ length text → r.at ≤ length text
-refusal_placed text {at} {rest} (here kind offset e) d le = let f : offset ≤ length rest = fits rest (Refused kind offset) (sym e) in omega (arith, f, length-drop at text, ap length d)
+-- a refused byte is in the text
+pub refusal_placed : (text : List ℕ) {at : ℕ} {rest : List ℕ} {r : LexRefusal} → RefusesFrom at rest r → drop at text ≡ rest → at ≤ length text → r.at < length text
+refusal_placed text {at} {rest} (here kind offset e) d le = let f : offset < length rest = fits rest (Refused kind offset) (sym e) in omega (arith, f, length-drop at text, ap length d)
 refusal_placed text {at} {rest} (later n e t) d le = refusal_placed text t (farther text rest at n d) (behind text rest at n d le (passed_fits rest n e))
 
 pub placed : (text : List ℕ) (e : LexError) → Fails text e → IsPlacedIn text e
 placed text error.NoMemory h = tt
-placed text (error.Refused r) h = refusal_placed text h refl (omega arith)
+placed text (error.Refused r) (inl h) = refusal_placed text h.1 refl (start_within text)
+placed text (error.Refused r) (inr h) = rw h.1 (utf8_stops text h.0)
 
 kind_at : (front : Front) (n : ℕ) (kind : TokenKind) → kind_at_width n front ≡ Some kind → front ≡ Piece kind n
 kind_at End n kind e = cc
@@ -117,11 +127,7 @@ pub front_of_word : (word : List ℕ) (kind : TokenKind) → kind_of word ≡ So
 unfolding kind_of
 front_of_word word kind e = kind_at (front_of word) (length word) kind e
 
--- a string has two quotes
-pub text_quoted : (word : List ℕ) → kind_of word ≡ Some Text → 2 ≤ length word
-text_quoted word e = text_width word (length word) (front_of_word word Text e)
-
--- a token of a text that is a string is a part of it, with its quotes
+-- a token of a text that is a string is a part of it by itself
 pub text_stands : (text : List ℕ) (t : Token) → IsTokenOf text t → t.kind ≡ Text → IsTextIn text t.span
 text_stands text t stands e = record {
   ordered = stands.ordered;

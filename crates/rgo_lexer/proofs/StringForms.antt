@@ -1,41 +1,61 @@
 -- The string at the front of a text: it fits, and by itself it is the same string.
-use Rattle.std.proofs.Common.{◌≡◌, ℕ, ◌+◌, ◌<◌, Bool, true, false, cond, List, ◌∷◌, length, take, drop, refl, ap, ◌∙◌, arith}
-use Rattle.std.specs.Prelude.{◌==◌, slice_index}
-use Rattle.std.proofs.lemmas.Bool.{cond_both}
-use Rattle.std.proofs.lemmas.Bool.Decides.{nat_tests}
-use Rattle.std.proofs.lemmas.List.{get_or_past, get_or-take, drop-take}
-use Rattle.rgo_lexer.specs.Bytes.{bad_byte}
-use Rattle.rgo_lexer.specs.Strings.{string_at, inside_of, is_string_byte}
+use Rattle.std.proofs.Common.{◌≡◌, ℕ, suc, ◌+◌, ◌≤◌, Bool, true, false, ◌||◌, cond, List, [], ◌∷◌, length, take, drop, ap, ◌∙◌, arith, length-drop}
+use Rattle.std.specs.Prelude.{◌==◌}
+use Rattle.std.proofs.lemmas.List.{drop-take}
+use Rattle.rgo_lexer.specs.Strings.{string_at, string_before, items_len, open_string, bad_escape}
 use Rattle.rgo_lexer.specs.Front.{FitsIn}
 use Rattle.rgo_lexer.specs.declared.front.Front.TheVariants.{Piece}
 use Rattle.rgo_lexer.specs.declared.tokens.TokenKind.{TokenKind}
-use Rattle.rgo_lexer.specs.declared.tokens.TokenKind.TheVariants.{Text}
-use Rattle.rgo_lexer.proofs.Runs.{prefix_len-take}
+use Rattle.rgo_lexer.specs.declared.tokens.TokenKind.TheVariants.{Text, Operator}
+use Rattle.rgo_lexer.proofs.StringLemmas.{items_len-le, items_len-take}
 
-within : (xs : List ℕ) (i : ℕ) → (slice_index xs i == 34) ≡ true → i < length xs
-within xs i e = grind (arith, nat_tests, get_or_past xs i 0)
+-- a string whose items have n bytes, in a text of a length
+before_fits : (text : List ℕ) (n : ℕ) (behind : List ℕ) → n + 1 + length behind ≤ length text → FitsIn text (string_before n behind)
+before_fits text n [] h = omega (arith, h)
+before_fits text n (b ∷ rest) h = by_test (b == 34) (b == 10 || length rest == 0)
+  where
+    by_test : (quote open' : Bool) → FitsIn text (cond quote (Piece Text (n + 2)) (cond open' open_string (bad_escape (n + 1))))
+    by_test true open' = record { some = omega arith; within = omega (arith, h) }
+    by_test false true = omega (arith, h)
+    by_test false false = omega (arith, h)
 
 pub string_fits : (b : ℕ) (rest : List ℕ) → FitsIn (b ∷ rest) (string_at (b ∷ rest))
 unfolding string_at
 string_fits b rest =
-    cond_both (slice_index rest (inside_of rest) == 34) (Piece Text (inside_of rest + 2)) bad_byte (FitsIn (b ∷ rest))
-    (λ e. record { some = omega arith; within = omega (arith, within rest (inside_of rest) e) }) (λ e. omega arith)
+    let n = items_len rest in
+    let e : n + 1 ≡ suc n = omega arith in
+    before_fits (b ∷ rest) n (drop (n + 1) (b ∷ rest)) (omega (arith, length-drop (n + 1) (b ∷ rest), items_len-le rest))
 
-again : (text : List ℕ) → string_at (take (inside_of (drop 1 text) + 2) text) ≡ string_at text
+-- where it is a string, a quote stands behind the items, and its width is theirs and two
+before_piece : (n : ℕ) (behind : List ℕ) (kind : TokenKind) (m : ℕ) → string_before n behind ≡ Piece kind m → (m ≡ n + 2) × (string_before n (take 1 behind) ≡ Piece kind m)
+before_piece n [] kind m e = cc
+before_piece n (b ∷ rest) kind m e = by_test (b == 34) (b == 10 || length rest == 0) (b == 10 || length (take 0 rest) == 0) e
+  where
+    by_test : (quote open' open'' : Bool) → cond quote (Piece Text (n + 2)) (cond open' open_string (bad_escape (n + 1))) ≡ Piece kind m
+        → (m ≡ n + 2) × (cond quote (Piece Text (n + 2)) (cond open'' open_string (bad_escape (n + 1))) ≡ Piece kind m)
+    by_test true open' open'' e = (cc, e)
+    by_test false true open'' e = cc
+    by_test false false open'' e = cc
+
+pub string_stable : (text : List ℕ) (kind : TokenKind) (m : ℕ) → string_at text ≡ Piece kind m → string_at (take m text) ≡ Piece kind m
 unfolding string_at
-again text =
-    let n : ℕ = inside_of (drop 1 text) in
-    let inside : drop 1 (take (n + 2) text) ≡ take (n + 1) (drop 1 text) = (let e : n + 2 ≡ 1 + (n + 1) = omega arith in rw e (drop-take 1 (n + 1) text)) in
-    let same : inside_of (take (n + 1) (drop 1 text)) ≡ n = prefix_len-take is_string_byte (drop 1 text) (n + 1) (omega arith) in
-    rw (inside, same, get_or-take (n + 1) (drop 1 text) n 0 (omega arith)) refl
+string_stable text kind m e =
+    let n : ℕ = items_len (drop 1 text) in
+    let piece = before_piece n (drop (n + 1) text) kind m e in
+    let inside : drop 1 (take m text) ≡ take (n + 1) (drop 1 text) = (let w : m ≡ 1 + (n + 1) = omega (arith, piece.0) in ap (λ k. drop 1 (take k text)) w ∙ drop-take 1 (n + 1) text) in
+    let behind : drop (n + 1) (take m text) ≡ take 1 (drop (n + 1) text) = (let w : m ≡ n + 1 + 1 = omega (arith, piece.0) in ap (λ k. drop (n + 1) (take k text)) w ∙ drop-take (n + 1) 1 text) in
+    let same : items_len (drop 1 (take m text)) ≡ n = ap items_len inside ∙ items_len-take (drop 1 text) (n + 1) (omega arith) in
+    ap (λ k. string_before k (drop (k + 1) (take m text))) same ∙ ap (string_before n) behind ∙ piece.1
 
-width_is : (b : Bool) (k kind : TokenKind) (m n : ℕ) → cond b (Piece k m) bad_byte ≡ Piece kind n → n ≡ m
-width_is true k kind m n e = cc
-width_is false k kind m n e = cc
+no_operator_before : (n : ℕ) (behind : List ℕ) (m : ℕ) → string_before n behind ≡ Piece Operator m → ⊥
+no_operator_before n [] m e = cc
+no_operator_before n (b ∷ rest) m e = by_test (b == 34) (b == 10 || length rest == 0) e
+  where
+    by_test : (quote open' : Bool) → cond quote (Piece Text (n + 2)) (cond open' open_string (bad_escape (n + 1))) ≡ Piece Operator m → ⊥
+    by_test true open' e = cc
+    by_test false true e = cc
+    by_test false false e = cc
 
-pub string_width : (text : List ℕ) (kind : TokenKind) (n : ℕ) → string_at text ≡ Piece kind n → n ≡ inside_of (drop 1 text) + 2
+pub string_no_operator : (text : List ℕ) (m : ℕ) → string_at text ≡ Piece Operator m → ⊥
 unfolding string_at
-string_width text kind n e = width_is (slice_index (drop 1 text) (inside_of (drop 1 text)) == 34) Text kind (inside_of (drop 1 text) + 2) n e
-
-pub string_stable : (text : List ℕ) (kind : TokenKind) (n : ℕ) → string_at text ≡ Piece kind n → string_at (take n text) ≡ Piece kind n
-string_stable text kind n e = let width = string_width text kind n e in rw width (again text ∙ e ∙ ap (Piece kind) width)
+string_no_operator text m e = no_operator_before (items_len (drop 1 text)) (drop (items_len (drop 1 text) + 1) text) m e

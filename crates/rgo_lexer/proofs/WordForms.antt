@@ -8,7 +8,7 @@ use Rattle.rgo_lexer.specs.Words.{run_of, word_at, is_keyword}
 use Rattle.rgo_lexer.specs.Front.{FitsIn, IsWidthIn}
 use Rattle.rgo_lexer.specs.declared.front.Front.TheVariants.{Piece}
 use Rattle.rgo_lexer.specs.declared.tokens.TokenKind.{TokenKind}
-use Rattle.rgo_lexer.specs.declared.tokens.TokenKind.TheVariants.{Word, Keyword, Text}
+use Rattle.rgo_lexer.specs.declared.tokens.TokenKind.TheVariants.{Word, Keyword, Operator}
 use Rattle.rgo_lexer.proofs.Runs.{prefix_len-take, prefix_len_some}
 
 pub run_fits : (b : ℕ) (rest : List ℕ) → is_word_byte b ≡ true → IsWidthIn (b ∷ rest) (run_of (b ∷ rest))
@@ -33,10 +33,10 @@ pub word_stable : (text : List ℕ) (kind : TokenKind) (n : ℕ) → word_at tex
 unfolding word_at
 word_stable text kind n e = let width : n ≡ run_of text = cc in rw width (again text ∙ e ∙ ap (Piece kind) width)
 
-no_text : (b : Bool) (m n : ℕ) → Piece (cond b Keyword Word) m ≡ Piece Text n → ⊥
-no_text true m n e = cc
-no_text false m n e = cc
+no_operator : (b : Bool) (m n : ℕ) → Piece (cond b Keyword Word) m ≡ Piece Operator n → ⊥
+no_operator true m n e = cc
+no_operator false m n e = cc
 
-pub word_no_text : (text : List ℕ) (n : ℕ) → word_at text ≡ Piece Text n → ⊥
+pub word_no_operator : (text : List ℕ) (n : ℕ) → word_at text ≡ Piece Operator n → ⊥
 unfolding word_at
-word_no_text text n e = no_text (is_keyword (take (run_of text) text)) (run_of text) n e
+word_no_operator text n e = no_operator (is_keyword (take (run_of text) text)) (run_of text) n e

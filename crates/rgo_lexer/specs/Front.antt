@@ -1,9 +1,10 @@
--- What stands at the front of a text: a separator, a token, or what neither may be.
+-- What stands at the front of a text: a separator, a comment, a token, or what none may be.
 use Rattle.std.specs.Prelude.{◌≡◌, ℕ, ◌<◌, ◌≤◌, ◌==◌, if◌then◌else◌, List, [], ◌∷◌, length}
 use Rattle.rgo_lexer.specs.Bytes.{is_blank, is_letter, is_digit}
 use Rattle.rgo_lexer.specs.Words.{word_at}
 use Rattle.rgo_lexer.specs.Numbers.{number_at}
 use Rattle.rgo_lexer.specs.Strings.{string_at}
+use Rattle.rgo_lexer.specs.Comments.{begins_comment, comment_at}
 use Rattle.rgo_lexer.specs.Operators.{operator_at}
 use Rattle.rgo_lexer.specs.declared.front.Front.{Front}
 use Rattle.rgo_lexer.specs.declared.front.Front.TheVariants.{End, Blank, Newline, Piece, Refused}
@@ -17,17 +18,18 @@ front_of (b ∷ rest) =
     else (if is_letter b then word_at (b ∷ rest)
     else (if is_digit b then number_at (b ∷ rest)
     else (if b == 34 then string_at (b ∷ rest)
-    else operator_at (b ∷ rest)))))
+    else (if begins_comment (b ∷ rest) then comment_at (b ∷ rest)
+    else operator_at (b ∷ rest))))))
 
 -- n bytes, one at least, are the front of a text
 pub record IsWidthIn (text : List ℕ) (n : ℕ) : Type 0 where
   pub some : 0 < n
   pub within : n ≤ length text
 
--- what stands at the front is a part of the text, and a refused byte is in it or at its end
+-- what stands at the front is a part of the text, and a refused byte is in it
 abbrev pub FitsIn : List ℕ → Front → Type 0
 FitsIn text End = text ≡ []
 FitsIn text (Blank n) = IsWidthIn text n
 FitsIn text (Newline n) = IsWidthIn text n
 FitsIn text (Piece kind n) = IsWidthIn text n
-FitsIn text (Refused kind offset) = offset ≤ length text
+FitsIn text (Refused kind offset) = offset < length text

@@ -1,7 +1,11 @@
 -- What holds of the tokens and the refusals of every text.
-use Rattle.std.specs.Prelude.{◌≡◌, ℕ, ◌≤◌, ◌⊎◌, List, [], ◌∷◌, All}
+use Rattle.std.specs.Prelude.{◌≡◌, ℕ, ◌≤◌, ◌⊎◌, List, [], ◌∷◌, ◌++◌, length, take, All, Contains}
+use Rattle.rgo_lexer.specs.Front.{front_of}
+use Rattle.rgo_lexer.specs.Operators.{operators}
 use Rattle.rgo_lexer.specs.Tokens.{Tokens, IsTokenOf}
 use Rattle.rgo_lexer.specs.Refusals.{Refuses}
+use Rattle.rgo_lexer.specs.declared.front.Front.TheVariants.{Piece}
+use Rattle.rgo_lexer.specs.declared.tokens.TokenKind.TheVariants.{Operator}
 use Rattle.rgo_lexer.specs.declared.tokens.Token.{Token}
 use Rattle.rgo_lexer.specs.declared.tokens.LexRefusal.{LexRefusal}
 
@@ -35,3 +39,13 @@ IsInOrder from (t ∷ tokens) =
 
 abbrev pub InOrder : Type 0
 InOrder = (text : List ℕ) (tokens : List Token) → Tokens text tokens → IsInOrder 0 tokens
+
+-- the first n bytes of a text are an operator, and no longer one begins the text
+pub record IsLongestOperator (text : List ℕ) (n : ℕ) : Type 0 where
+  pub among : Contains operators (take n text)
+  pub longest : (operator rest : List ℕ) → Contains operators operator → text ≡ operator ++ rest
+      → length operator ≤ n
+
+abbrev pub LongestMatch : Type 0
+LongestMatch = (text : List ℕ) (n : ℕ)
+    → front_of text ≡ Piece Operator n → IsLongestOperator text n

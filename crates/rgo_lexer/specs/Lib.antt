@@ -2,6 +2,7 @@ pub mod Bytes
 pub mod Words
 pub mod Numbers
 pub mod Strings
+pub mod Comments
 pub mod Operators
 pub mod Front
 pub mod Semicolons

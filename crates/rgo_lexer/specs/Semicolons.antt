@@ -15,7 +15,7 @@ ending_keywords = codes "break" ∷ codes "continue" ∷ codes "fallthrough" ∷
 
 -- the operators behind which a statement may end
 abbrev pub ending_operators : List (List ℕ)
-ending_operators = codes ")" ∷ codes "}" ∷ []
+ending_operators = codes "++" ∷ codes "--" ∷ codes ")" ∷ codes "]" ∷ codes "}" ∷ []
 
 -- a statement may end behind such a token
 unfoldable pub may_end : TokenKind → List ℕ → Bool

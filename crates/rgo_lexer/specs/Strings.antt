@@ -1,27 +1,78 @@
--- String literals: at the front of a text, and their values.
-use Rattle.std.specs.Prelude.{ℕ, ◌+◌, ◌-◌, Bool, ◌&&◌, not, nat_le, ◌==◌, List, length, drop, if◌then◌else◌, slice_index, slice_range}
-use Rattle.std.specs.List.{prefix_len}
-use Rattle.rgo_lexer.specs.Bytes.{bad_byte}
-use Rattle.rgo_lexer.specs.declared.front.Front.{Front}
-use Rattle.rgo_lexer.specs.declared.front.Front.TheVariants.{Piece}
+-- String literals: the items between their quotes, at the front of a text, and their values.
+use Rattle.std.specs.Prelude.{◌≡◌, ℕ, ◌+◌, Bool, not, ◌||◌, ◌==◌, if◌then◌else◌, List, [], ◌∷◌, length, take, drop, map, slice_index, Option, Some, None, is_some, unwrap_or}
+use Rattle.std.specs.List.{concat}
 use Rattle.rgo_lexer.specs.declared.tokens.TokenKind.TheVariants.{Text}
+use Rattle.rgo_lexer.specs.declared.front.Front.{Front}
+use Rattle.rgo_lexer.specs.declared.front.Front.TheVariants.{Piece, Refused}
 
--- what may stand between the quotes of a string: bytes 32 to 126, but no quote and no backslash
-abbrev pub is_string_byte : ℕ → Bool
-is_string_byte b = nat_le 32 b && nat_le b 126 && not (b == 34) && not (b == 92)
+-- the byte that an escape's letter stands for: one of a b f n r t v \ "
+abbrev pub escaped : ℕ → Option ℕ
+escaped letter =
+    if letter == 97 then Some 7
+    else (if letter == 98 then Some 8
+    else (if letter == 102 then Some 12
+    else (if letter == 110 then Some 10
+    else (if letter == 114 then Some 13
+    else (if letter == 116 then Some 9
+    else (if letter == 118 then Some 11
+    else (if letter == 92 then Some 92
+    else (if letter == 34 then Some 34
+    else None))))))))
 
--- how many bytes at the front may stand between the quotes of a string
-abbrev pub inside_of : List ℕ → ℕ
-inside_of text = prefix_len is_string_byte text
+-- a byte that stands for itself: none of " \ and newline
+abbrev pub is_plain : ℕ → Bool
+is_plain b = not (b == 34 || b == 92 || b == 10)
 
--- the string at the front of a text that begins with a quote: up to the next quote, if only such
--- bytes are between
-unfoldable pub string_at : List ℕ → Front
-string_at text =
-    if slice_index (drop 1 text) (inside_of (drop 1 text)) == 34
-    then Piece Text (inside_of (drop 1 text) + 2)
-    else bad_byte
+-- The items at the front of a text, as far as they go: each a plain byte, or a backslash and an
+-- escape's letter.
+abbrev mutual
+  pub items : List ℕ → List (List ℕ)
+  items [] = []
+  items (b ∷ text) =
+      if is_plain b then (b ∷ []) ∷ items text else (if b == 92 then escape_items text else [])
 
--- the bytes that a string literal stands for: those between its quotes
+  -- the same behind a backslash
+  pub escape_items : List ℕ → List (List ℕ)
+  escape_items [] = []
+  escape_items (letter ∷ text) =
+      if is_some (escaped letter) then (92 ∷ letter ∷ []) ∷ items text else []
+
+-- the byte that an item stands for
+abbrev pub item_value : List ℕ → ℕ
+item_value item =
+    if length item == 2 then unwrap_or (escaped (slice_index item 1)) 0 else slice_index item 0
+
+-- What the items of a text begin with: an item's width and the byte that it stands for, or none.
+abbrev pub BeginsWithItem : List ℕ → Option (ℕ × ℕ) → Type 0
+BeginsWithItem text None = items text ≡ []
+BeginsWithItem text (Some item) =
+    (items text ≡ take item.0 text ∷ items (drop item.0 text))
+    × (item_value (take item.0 text) ≡ item.1)
+
+-- the bytes that a string literal stands for
 unfoldable pub string_of : List ℕ → List ℕ
-string_of word = slice_range word 1 (length word - 1)
+string_of literal = map item_value (items (drop 1 literal))
+
+-- how many bytes the items have
+unfoldable pub items_len : List ℕ → ℕ
+items_len text = length (concat (items text))
+
+-- a string without its closing quote, refused at its first byte
+abbrev pub open_string : Front
+open_string = Refused 5 0
+
+-- a backslash with no escape's letter behind it, refused at the backslash
+abbrev pub bad_escape : ℕ → Front
+bad_escape offset = Refused 4 offset
+
+-- What a string is whose items have n bytes, by what stands behind them: nothing, a quote, a
+-- newline, or a backslash that begins no item.
+abbrev pub string_before : ℕ → List ℕ → Front
+string_before n [] = open_string
+string_before n (b ∷ rest) =
+    if b == 34 then Piece Text (n + 2)
+    else (if b == 10 || length rest == 0 then open_string else bad_escape (n + 1))
+
+-- the string at the front of a text that begins with a quote
+unfoldable pub string_at : List ℕ → Front
+string_at text = let n = items_len (drop 1 text) in string_before n (drop (n + 1) text)

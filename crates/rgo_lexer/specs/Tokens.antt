@@ -1,5 +1,7 @@
 -- The tokens of a text.
-use Rattle.std.specs.Prelude.{◌≡◌, ℕ, ◌+◌, ◌<◌, ◌≤◌, ◌==◌, List, ◌∷◌, ◌++◌, length, take, drop, Option, None, Some, if◌then◌else◌, slice_range}
+use Rattle.std.specs.Prelude.{◌≡◌, ℕ, ◌+◌, ◌<◌, ◌≤◌, ◌==◌, List, [], ◌∷◌, ◌++◌, length, take, drop, Option, None, Some, if◌then◌else◌, slice_range}
+use Rattle.std.specs.Str.{IsUtf8}
+use Rattle.rgo_lexer.specs.Bytes.{begins_with}
 use Rattle.rgo_lexer.specs.Front.{front_of}
 use Rattle.rgo_lexer.specs.Semicolons.{token, open_behind, inserted}
 use Rattle.rgo_lexer.specs.declared.front.Front.{Front}
@@ -9,8 +11,8 @@ use Rattle.rgo_lexer.specs.declared.tokens.TokenKind.TheVariants.{Text, Operator
 use Rattle.rgo_lexer.specs.declared.tokens.Token.{Token}
 use Rattle.rgo_lexer.specs.declared.tokens.Span.{Span}
 
--- The tokens of a text from byte `at` on, of which `rest` is left: what stands at the front, and then
--- those behind it.
+-- The tokens of a text from byte `at` on, of which `rest` is left: what stands at the front, and
+-- then those behind it.
 -- `open'` is where the last token ended, if the end of its line inserts a `;` there.
 pub data TokensFrom : ℕ → Option ℕ → List ℕ → List Token → Type 0 where
   finish : {at : ℕ} {open' : Option ℕ} {rest : List ℕ} → front_of rest ≡ End
@@ -27,9 +29,18 @@ pub data TokensFrom : ℕ → Option ℕ → List ℕ → List Token → Type 0 
       → TokensFrom (at + n) (open_behind kind (take n rest) (at + n)) (drop n rest) tokens
       → TokensFrom at open' rest (token kind at (at + n) ∷ tokens)
 
+-- the byte order mark in UTF-8
+abbrev pub byte_order_mark : List ℕ
+byte_order_mark = 0xEF ∷ 0xBB ∷ 0xBF ∷ []
+
+-- where a text begins: behind a byte order mark at its very front
+abbrev pub start_of : List ℕ → ℕ
+start_of text = if begins_with text byte_order_mark then 3 else 0
+
 -- the tokens of a whole text
 abbrev pub Tokens : List ℕ → List Token → Type 0
-Tokens text tokens = TokensFrom 0 None text tokens
+Tokens text tokens =
+    IsUtf8 text × TokensFrom (start_of text) None (drop (start_of text) text) tokens
 
 -- the bytes of a part of a text
 abbrev pub bytes_in : List ℕ → Span → List ℕ

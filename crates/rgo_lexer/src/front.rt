@@ -1,9 +1,10 @@
-//! What stands at the front of a text: a separator, a token, or what neither may be.
+//! What stands at the front of a text: a separator, a comment, a token, or what none may be.
 
 ghost use Rattle.std.specs.Prelude.{◌≡◌};
 ghost use Rattle.rgo_lexer.specs.Front.{front_of, FitsIn};
 
 use crate::bytes::{is_blank, is_digit, is_letter};
+use crate::comments::{begins_comment, comment};
 use crate::numbers::number;
 use crate::operators::operator;
 use crate::strings::string;
@@ -45,6 +46,8 @@ pub(crate) fn read_front(text: &[u8]) -> Front
         number(text)
     } else if first == b'"' {
         string(text)
+    } else if begins_comment(text) {
+        comment(text)
     } else {
         operator(text)
     }

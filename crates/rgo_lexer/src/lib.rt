@@ -2,6 +2,7 @@
 #![tactic(auto)]
 
 mod bytes;
+mod comments;
 mod front;
 mod laws;
 mod lexer;
@@ -14,7 +15,7 @@ mod tests;
 mod tokens;
 mod words;
 
-pub use laws::one_reading;
+pub use laws::{longest_match, one_reading};
 pub use lexer::lex;
 pub use numbers::number_value;
 pub use strings::string_value;

@@ -1,56 +1,111 @@
 //! Integer literals: at the front of a text, and their values.
 
-ghost use Rattle.std.specs.Prelude.{◌≡◌, ◌^◌, ◌<◌};
-ghost use Rattle.rgo_lexer.specs.Numbers.{number_of, number_at, behind, digits_of};
+ghost use Rattle.std.specs.Prelude.{◌≡◌, ◌≤◌, ◌+◌, ◌*◌, ◌^◌, ◌<◌, [], ◌∷◌};
+ghost use Rattle.rgo_lexer.specs.Numbers.{begins_with_digit, may_stand, are_digits};
+ghost use Rattle.rgo_lexer.specs.Numbers.{is_decimal, is_hexadecimal};
+ghost use Rattle.rgo_lexer.specs.Numbers.{value_behind, value_of, if_fits, number_of, number_at};
 
-use crate::bytes::{is_digit, run_len};
+use crate::bytes::run_len;
 use crate::front::Front;
-use crate::tokens::{BAD_BYTE, TokenKind};
+use crate::tokens::{BAD_NUMBER, TokenKind};
 
 const GREATEST: u64 = i64::MAX as u64;
 
-/// The number at the front of a text that begins with a digit.
-#[tactic(auto, unfolding(crate::specs::Numbers::number_at))]
-pub(crate) fn number(text: &[u8]) -> Front
-    ensures { result ≡ number_at text.now }
+fn begins_with_digit(text: &[u8], base: u32) -> bool
+    requires low { 2 ≤ base }
+    requires high { base ≤ 36 }
+    ensures { result ≡ begins_with_digit base text.now }
 {
-    let width = run_len(text);
-    if number_value(&text[..width]).is_some() {
-        Front::Piece(TokenKind::Number, width)
-    } else {
-        Front::Refused(BAD_BYTE, 0)
+    match text.first() {
+        Some(b) => char::from(*b).is_digit(base),
+        None => false,
     }
 }
 
-/// The number that the digit makes of `n` by standing behind it, unless it passes the greatest.
-fn behind(n: u64, digit: u8) -> Option<u64>
-    requires { n < 2 ^ 63 }
-    ensures { result ≡ behind n digit }
+/// A digit, or a `_` before one.
+fn may_stand(b: u8, behind: &[u8], base: u32) -> bool
+    requires low { 2 ≤ base }
+    requires high { base ≤ 36 }
+    ensures { result ≡ may_stand base b behind.now }
 {
-    if !is_digit(digit) {
-        return None;
+    char::from(b).is_digit(base) || b == b'_' && begins_with_digit(behind, base)
+}
+
+/// Whether these are digits, each perhaps with one `_` before it.
+fn are_digits(bytes: &[u8], base: u32) -> bool
+    requires low { 2 ≤ base }
+    requires high { base ≤ 36 }
+    ensures { result ≡ are_digits base bytes.now }
+{
+    for (i, b) in bytes.iter().enumerate() {
+        if !may_stand(*b, &bytes[i + 1..], base) {
+            return false;
+        }
     }
-    let digit = u64::from(digit - b'0');
-    if n > (GREATEST - digit) / 10 {
+    true
+}
+
+fn is_decimal(word: &[u8]) -> bool
+    ensures { result ≡ is_decimal word.now }
+{
+    match word.split_first() {
+        Some((first, rest)) => *first == b'0' && rest.is_empty()
+            || matches!(*first, b'1'..=b'9') && are_digits(rest, 10),
+        None => false,
+    }
+}
+
+fn is_hexadecimal(word: &[u8]) -> bool
+    ensures { result ≡ is_hexadecimal word.now }
+{
+    (word.starts_with(b"0x") || word.starts_with(b"0X"))
+        && word.len() > 2
+        && are_digits(&word[2..], 16)
+}
+
+/// The number with one digit more behind it, where that is not too large.
+fn with_digit(number: u64, digit: u32, base: u32) -> Option<u64>
+    ensures { result ≡ if_fits (number * base + digit) }
+{
+    let larger = number
+        .checked_mul(u64::from(base))?
+        .checked_add(u64::from(digit))?;
+    if larger <= GREATEST {
+        Some(larger)
+    } else {
         None
-    } else {
-        Some(10 * n + digit)
     }
 }
 
-/// The number that the digits write, 0 where there are none, unless it passes the greatest.
-fn digits_value(digits: &[u8]) -> Option<u64>
-    ensures { result ≡ digits_of digits.now }
+/// The number with one byte more behind it; a `_` changes nothing.
+fn with_byte(number: u64, b: u8, base: u32) -> Option<u64>
+    requires low { 2 ≤ base }
+    requires high { base ≤ 36 }
+    requires fits { number < 2 ^ 63 }
+    ensures { result ≡ if_fits (value_behind base number (b ∷ [])) }
 {
-    let mut value = 0;
-    for digit in digits {
-        value = behind(value, *digit)?;
+    match char::from(b).to_digit(base) {
+        Some(digit) => with_digit(number, digit, base),
+        None => Some(number),
     }
-    Some(value)
 }
 
-/// The number that an integer literal writes: decimal digits, of which the first is not 0 unless it
-/// is alone (The Go Programming Language Specification, "Integer literals").
+/// What the digits write, where that is not too large.
+fn value_of(digits: &[u8], base: u32) -> Option<u64>
+    requires low { 2 ≤ base }
+    requires high { base ≤ 36 }
+    ensures { result ≡ if_fits (value_of base digits.now) }
+{
+    let mut number = 0;
+    for b in digits {
+        number = with_byte(number, *b, base)?;
+    }
+    Some(number)
+}
+
+/// The number that an integer literal writes (The Go Programming Language Specification, "Integer
+/// literals"): of the decimal literals and those in base 16 with `0x` or `0X`, each digit perhaps
+/// with a `_` before it.
 ///
 /// None where the word is no such literal, or its number is above 9223372036854775807, the greatest
 /// `int`.
@@ -58,11 +113,23 @@ fn digits_value(digits: &[u8]) -> Option<u64>
 pub fn number_value(word: &[u8]) -> Option<u64>
     ensures { result ≡ number_of word.now }
 {
-    if word.is_empty() {
-        return None;
+    if is_decimal(word) {
+        value_of(word, 10)
+    } else if is_hexadecimal(word) {
+        value_of(&word[2..], 16)
+    } else {
+        None
     }
-    if word.len() > 1 && word[0] == b'0' {
-        return None;
+}
+
+/// The number at the front of a text that begins with a digit.
+#[tactic(auto, unfolding(crate::specs::Numbers::number_at))]
+pub(crate) fn number(text: &[u8]) -> Front
+    ensures { result ≡ number_at text.now }
+{
+    let len = run_len(text);
+    match number_value(&text[..len]) {
+        Some(_) => Front::Piece(TokenKind::Number, len),
+        None => Front::Refused(BAD_NUMBER, 0),
     }
-    digits_value(word)
 }

@@ -1,27 +1,47 @@
 //! Operators and punctuation at the front of a text.
 
-ghost use Rattle.std.specs.Prelude.{◌≡◌, ◌<◌, length};
-ghost use Rattle.rgo_lexer.specs.Operators as operators;
+ghost use Rattle.std.specs.Prelude.{◌≡◌, ◌≤◌, length, map, IsTrue};
+ghost use Rattle.rgo_lexer.specs.Operators.{longer_first, longest_front, operator_len, operator_at};
 
 use crate::front::Front;
 use crate::tokens::{BAD_BYTE, TokenKind};
 
-/// Whether the byte is an operator or punctuation by itself.
-fn is_operator(b: u8) -> bool
-    ensures { result ≡ operators.is_operator b }
+/// The operators of The Go Programming Language Specification, "Operators and punctuation", the
+/// longer ones first.
+const OPERATORS: [&[u8]; 48] = [
+    b"<<=", b">>=", b"&^=", b"...", b"<<", b">>", b"&^", b"+=", b"-=", b"*=", b"/=", b"%=", b"&=",
+    b"|=", b"^=", b"&&", b"||", b"<-", b"++", b"--", b"==", b"!=", b"<=", b">=", b":=", b"+", b"-",
+    b"*", b"/", b"%", b"&", b"|", b"^", b"<", b">", b"=", b"!", b"~", b"(", b")", b"[", b"]", b"{",
+    b"}", b",", b";", b".", b":",
+];
+
+/// The length of the first text in the table that the text begins with: of the longest one.
+fn first_len(table: &[&[u8]], text: &[u8]) -> usize
+    requires { IsTrue (longer_first (map (λ t. t.now) table.now)) }
+    ensures { result ≡ longest_front (map (λ t. t.now) table.now) text.now }
 {
-    matches!(b, b'(' | b')' | b'{' | b'}' | b',' | b';' | b'.' | b'*')
+    for operator in table {
+        if text.starts_with(operator) {
+            return operator.len();
+        }
+    }
+    0
 }
 
-/// The operator at the front of a text that is not empty.
+#[tactic(auto, unfolding(crate::specs::Operators::operator_len))]
+fn operator_len(text: &[u8]) -> usize
+    ensures { result ≡ operator_len text.now }
+{
+    first_len(&OPERATORS, text)
+}
+
+/// The operator at the front of a text that begins with no other form.
 #[tactic(auto, unfolding(crate::specs::Operators::operator_at))]
 pub(crate) fn operator(text: &[u8]) -> Front
-    requires { 0 < length text.now }
-    ensures { result ≡ operators.operator_at text.now }
+    ensures { result ≡ operator_at text.now }
 {
-    if is_operator(text[0]) {
-        Front::Piece(TokenKind::Operator, 1)
-    } else {
-        Front::Refused(BAD_BYTE, 0)
+    match operator_len(text) {
+        0 => Front::Refused(BAD_BYTE, 0),
+        len => Front::Piece(TokenKind::Operator, len),
     }
 }

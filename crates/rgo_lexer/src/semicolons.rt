@@ -15,7 +15,7 @@ fn may_end(kind: TokenKind, word: &[u8]) -> bool
     match kind {
         TokenKind::Word | TokenKind::Number | TokenKind::Text => true,
         TokenKind::Keyword => matches!(word, b"break" | b"continue" | b"fallthrough" | b"return"),
-        TokenKind::Operator => matches!(word, b")" | b"}"),
+        TokenKind::Operator => matches!(word, b"++" | b"--" | b")" | b"]" | b"}"),
     }
 }
 

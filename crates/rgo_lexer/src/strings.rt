@@ -1,58 +1,123 @@
 //! String literals: at the front of a text, and their values.
 
-ghost use Rattle.std.specs.Prelude.{◌≡◌, ◌≤◌, ◌<◌, length, IfOk};
-ghost use Rattle.std.specs.List.{prefix_len};
-ghost use Rattle.rgo_lexer.specs.Strings as strings;
-ghost use Rattle.rgo_lexer.specs.Strings.{string_of};
+ghost use Rattle.std.specs.Prelude.{◌≡◌, ◌≤◌, ◌+◌, ◌<◌, ◌^◌, length, map, IfOk, IfSome};
+ghost use Rattle.rgo_lexer.specs.Strings.{escaped, is_plain, BeginsWithItem, items, items_len};
+ghost use Rattle.rgo_lexer.specs.Strings.{item_value, string_of, string_at, string_before};
 ghost use Rattle.rgo_lexer.specs.Tokens.{bytes_in, IsTextIn};
 
 use crate::front::Front;
-use crate::tokens::{BAD_BYTE, Span, TokenKind};
+use crate::tokens::{BAD_ESCAPE, OPEN_STRING, Span, TokenKind};
 use std::alloc::{AllocError, Global};
 
-/// Whether the byte may stand between the quotes of a string.
-fn is_string_byte(b: u8) -> bool
-    ensures { result ≡ strings.is_string_byte b }
+/// The byte that an escape's letter stands for ("Rune literals").
+fn escaped(letter: u8) -> Option<u8>
+    ensures { result ≡ escaped letter }
 {
-    matches!(b, 32..=126) && b != b'"' && b != b'\\'
+    match letter {
+        b'a' => Some(7),
+        b'b' => Some(8),
+        b'f' => Some(12),
+        b'n' => Some(b'\n'),
+        b'r' => Some(b'\r'),
+        b't' => Some(b'\t'),
+        b'v' => Some(11),
+        b'\\' => Some(b'\\'),
+        b'"' => Some(b'"'),
+        _ => None,
+    }
 }
 
-/// How many bytes at the front may stand between the quotes of a string.
-fn inside_len(text: &[u8]) -> usize
-    ensures value { result ≡ prefix_len strings.is_string_byte text.now }
+/// A byte that stands for itself in a string.
+fn is_plain(b: u8) -> bool
+    ensures { result ≡ is_plain b }
+{
+    !matches!(b, b'"' | b'\\' | b'\n')
+}
+
+/// The item at the front of a string's inside: its width, and the byte that it stands for.
+fn item(text: &[u8]) -> Option<(usize, u8)>
+    ensures value { BeginsWithItem text.now result }
+    ensures within { IfSome result (λ item. (0 < item.0) × (item.0 ≤ length text.now)) }
+{
+    let (first, rest) = text.split_first()?;
+    if is_plain(*first) {
+        return Some((1, *first));
+    }
+    if *first != b'\\' {
+        return None;
+    }
+    let letter = rest.first()?;
+    let byte = escaped(*letter)?;
+    Some((2, byte))
+}
+
+/// How many bytes the items at the front have.
+fn items_len(text: &[u8]) -> usize
+    ensures value { result ≡ items_len text.now }
     ensures within { result ≤ length text.now }
 {
-    text.iter().take_while(|b| is_string_byte(**b)).count()
+    let mut at = 0;
+    while let Some((width, _)) = item(&text[at..]) {
+        at += width;
+    }
+    at
+}
+
+/// A string whose items have `len` bytes, by what stands behind them.
+fn string_before(len: usize, behind: &[u8]) -> Front
+    requires { len < 2 ^ 63 }
+    ensures { result ≡ string_before len behind.now }
+{
+    match behind.split_first() {
+        None => Front::Refused(OPEN_STRING, 0),
+        Some((b'"', _)) => Front::Piece(TokenKind::Text, len + 2),
+        Some((first, rest)) => if *first == b'\n' || rest.is_empty() {
+            Front::Refused(OPEN_STRING, 0)
+        } else {
+            Front::Refused(BAD_ESCAPE, len + 1)
+        },
+    }
 }
 
 /// The string at the front of a text that begins with a quote.
 #[tactic(auto, unfolding(crate::specs::Strings::string_at))]
 pub(crate) fn string(text: &[u8]) -> Front
     requires { 0 < length text.now }
-    ensures { result ≡ strings.string_at text.now }
+    ensures { result ≡ string_at text.now }
 {
-    let inside = &text[1..];
-    let width = inside_len(inside);
-    if inside.get(width) == Some(&b'"') {
-        Front::Piece(TokenKind::Text, width + 2)
-    } else {
-        Front::Refused(BAD_BYTE, 0)
+    let len = items_len(&text[1..]);
+    string_before(len, &text[len + 1..])
+}
+
+/// The bytes that the items at the front stand for.
+fn item_values(alloc: Global, text: &[u8]) -> Result<Vec<u8>, AllocError>
+    ensures { IfOk result (λ values. values.items ≡ map item_value (items text.now)) }
+{
+    let mut values = Vec::new(alloc);
+    let mut at = 0;
+    while let Some((width, byte)) = item(&text[at..]) {
+        values.push(byte)?;
+        at += width;
+    }
+    Ok(values)
+}
+
+/// The bytes that a string literal stands for.
+#[tactic(auto, unfolding(crate::specs::Strings::string_of))]
+fn unquoted(alloc: Global, literal: &[u8]) -> Result<Vec<u8>, AllocError>
+    ensures { IfOk result (λ value. value.items ≡ string_of literal.now) }
+{
+    match literal.split_first() {
+        Some((_, inside)) => item_values(alloc, inside),
+        None => Ok(Vec::new(alloc)),
     }
 }
 
-/// The bytes that the string literal at the span stands for.
+/// The bytes that the string literal at the span stands for (The Go Programming Language
+/// Specification, "String literals").
 pub fn string_value(alloc: Global, text: &[u8], span: Span) -> Result<Vec<u8>, AllocError>
     requires { IsTextIn text.now span }
     ensures { IfOk result (λ value. value.items ≡ string_of (bytes_in text.now span)) }
 {
     unquoted(alloc, &text[span.start..span.end])
-}
-
-/// The bytes between the quotes of a string literal.
-#[tactic(auto, unfolding(crate::specs::Strings::string_of))]
-fn unquoted(alloc: Global, word: &[u8]) -> Result<Vec<u8>, AllocError>
-    requires { 2 ≤ length word.now }
-    ensures { IfOk result (λ value. value.items ≡ string_of word.now) }
-{
-    Vec::from_slice(alloc, &word[1..word.len() - 1])
 }

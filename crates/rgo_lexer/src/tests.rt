@@ -1,70 +1,14 @@
 //! Texts with their tokens or their refusals, worked out by hand from Go's lexical rules.
 
+mod refusals;
+mod tokens;
+
 use crate::{LexError, Span, Token, TokenKind, lex, number_value, string_value};
 use std::alloc::Global;
+use std::process::Abort;
 use std::test::Fail;
 
-/// Each text, and its tokens by a letter for the kind and the bytes, an inserted `;` as `~`; or its
-/// refusal by its kind and its byte.
-const TEXTS: [(&str, &str); 40] = [
-    ("", ""),
-    (" \t\r\n\n", ""),
-    ("package main\n", "k:package w:main ~"),
-    ("func main() {}", "k:func w:main o:( o:) o:{ o:} ~"),
-    ("func main() {\r\n}\r\n", "k:func w:main o:( o:) o:{ o:} ~"),
-    ("import \"fmt\"\n\n", "k:import t:\"fmt\" ~"),
-    (
-        "fmt.Println(1, \"a b\"); x",
-        "w:fmt o:. w:Println o:( n:1 o:, t:\"a b\" o:) o:; w:x ~",
-    ),
-    ("x\ny", "w:x ~ w:y ~"),
-    ("1\n", "n:1 ~"),
-    ("\"\"\n", "t:\"\" ~"),
-    ("break\n", "k:break ~"),
-    ("continue\n", "k:continue ~"),
-    ("fallthrough\n", "k:fallthrough ~"),
-    ("return\n", "k:return ~"),
-    (")\n", "o:) ~"),
-    ("}\n", "o:} ~"),
-    ("(\n{\n,\n;\n.\n*\n", "o:( o:{ o:, o:; o:. o:*"),
-    ("func\nif\nvar\ngoto\n", "k:func k:if k:var k:goto"),
-    ("x;\n", "w:x o:;"),
-    ("x \n \n", "w:x ~"),
-    (
-        "case chan const default defer",
-        "k:case k:chan k:const k:default k:defer",
-    ),
-    (
-        "else for go import interface map",
-        "k:else k:for k:go k:import k:interface k:map",
-    ),
-    (
-        "range select struct switch type",
-        "k:range k:select k:struct k:switch k:type",
-    ),
-    (
-        "funcs Func func_ _ nil true",
-        "w:funcs w:Func w:func_ w:_ w:nil w:true ~",
-    ),
-    ("a1_B2 _9", "w:a1_B2 w:_9 ~"),
-    ("0 7 10 900", "n:0 n:7 n:10 n:900 ~"),
-    ("9223372036854775807", "n:9223372036854775807 ~"),
-    ("x 9223372036854775808", "2@2"),
-    ("99999999999999999999999999", "2@0"),
-    ("00", "2@0"),
-    ("x 01", "2@2"),
-    ("12a", "2@0"),
-    ("1_0", "2@0"),
-    ("0x1F", "2@0"),
-    ("x \"abc", "2@2"),
-    ("\"a\nb\"", "2@0"),
-    ("\"a\\n\"", "2@0"),
-    ("x + y", "2@2"),
-    ("x // y", "2@2"),
-    ("\"{}~ !\"#", "2@7"),
-];
-
-/// How the table writes the kind of a token.
+/// A kind as the table writes it.
 fn letter(kind: TokenKind) -> &'static str {
     match kind {
         TokenKind::Word => "w:",
@@ -75,13 +19,13 @@ fn letter(kind: TokenKind) -> &'static str {
     }
 }
 
-fn word_of<'a>(text: &'a str, token: &Token) -> &'a str {
-    let bytes = text.as_bytes().get(token.span.start..token.span.end);
+fn word_of<'a>(text: &'a [u8], token: &Token) -> &'a str {
+    let bytes = text.get(token.span.start..token.span.end);
     std::str::from_utf8(bytes.unwrap_or(b"?")).unwrap_or("?")
 }
 
-fn shown(alloc: Global, text: &str) -> Result<String, Fail> {
-    match lex(alloc, text.as_bytes()) {
+fn shown(alloc: Global, text: &[u8]) -> Result<String, Fail> {
+    match lex(alloc, text) {
         Ok(tokens) => shown_tokens(alloc, text, &tokens),
         Err(LexError::Refused(refusal)) => Ok(format!(in alloc;
             "{}@{}",
@@ -91,7 +35,7 @@ fn shown(alloc: Global, text: &str) -> Result<String, Fail> {
     }
 }
 
-fn shown_tokens(alloc: Global, text: &str, tokens: &[Token]) -> Result<String, Fail> {
+fn shown_tokens(alloc: Global, text: &[u8], tokens: &[Token]) -> Result<String, Fail> {
     let mut line = String::new(alloc);
     for token in tokens {
         let space = if line.is_empty() { "" } else { " " };
@@ -106,32 +50,69 @@ fn shown_tokens(alloc: Global, text: &str, tokens: &[Token]) -> Result<String, F
     Ok(line)
 }
 
-#[test]
-fn texts_have_their_tokens_or_refusals(rt: HostRuntime) -> Result<(), Fail> {
-    for (text, wanted) in TEXTS {
+fn all_are_read<R: Abort + AllocGlobal>(rt: &R, texts: &[(&[u8], &str)]) -> Result<(), Fail> {
+    for (text, wanted) in texts {
         let line = shown(rt.alloc(), text)?;
-        assert_eq!(rt; line.as_str(), wanted, "at {text}");
+        assert_eq!(rt; line.as_str(), *wanted);
     }
     Ok(())
 }
 
 #[test]
-#[tactic(auto, unfolding(crate::specs::Tokens::kind_of, crate::specs::Front::front_of, crate::specs::Strings::string_at))]
-fn literals_have_their_values(rt: HostRuntime) -> Result<(), Fail> {
-    let alloc = rt.alloc();
+fn texts_have_their_tokens(rt: HostRuntime) -> Result<(), Fail> {
+    all_are_read(&rt, &tokens::SEPARATORS)?;
+    all_are_read(&rt, &tokens::WORDS)?;
+    all_are_read(&rt, &tokens::OPERATORS)?;
+    all_are_read(&rt, &tokens::SEMICOLONS)?;
+    all_are_read(&rt, &tokens::COMMENTS)?;
+    all_are_read(&rt, &tokens::NUMBERS)?;
+    all_are_read(&rt, &tokens::STRINGS)
+}
+
+#[test]
+fn texts_have_their_refusals(rt: HostRuntime) -> Result<(), Fail> {
+    all_are_read(&rt, &refusals::BAD_UTF8)?;
+    all_are_read(&rt, &refusals::BAD_BYTES)?;
+    all_are_read(&rt, &refusals::BAD_NUMBERS)?;
+    all_are_read(&rt, &refusals::BAD_STRINGS)?;
+    all_are_read(&rt, &refusals::OPEN_COMMENTS)?;
+    all_are_read(&rt, &refusals::FIRST)
+}
+
+#[test]
+fn numbers_have_their_values(rt: HostRuntime) -> Result<(), Fail> {
     for (word, wanted) in [
         ("0", Some(0)),
         ("42", Some(42)),
+        ("1_000", Some(1000)),
+        ("0x1F", Some(31)),
+        ("0X_a_B", Some(171)),
         ("9223372036854775807", Some(9_223_372_036_854_775_807)),
+        ("0x7fffffffffffffff", Some(9_223_372_036_854_775_807)),
         ("9223372036854775808", None),
+        ("0x8000000000000000", None),
         ("", None),
         ("01", None),
+        ("0x", None),
+        ("1_", None),
         ("a", None),
     ] {
         assert_eq!(rt; number_value(word.as_bytes()), wanted, "at {word}");
     }
-    let span = Span { start: 2, end: 7 };
-    let value = string_value(alloc, b"x \"hi!\"", span)?;
-    assert_eq!(rt; value.as_slice(), b"hi!".as_slice());
+    Ok(())
+}
+
+#[test]
+fn strings_have_their_values(rt: HostRuntime) -> Result<(), Fail> {
+    let span = Span { start: 2, end: 26 };
+    let value = string_value(
+        rt.alloc(),
+        b"x \"hi\xC3\xA9\\a\\b\\f\\n\\r\\t\\v\\\\\\\"\" y",
+        span,
+    )?;
+    assert_eq!(rt;
+        value.as_slice(),
+        b"hi\xC3\xA9\x07\x08\x0C\n\r\t\x0B\\\"".as_slice()
+    );
     Ok(())
 }

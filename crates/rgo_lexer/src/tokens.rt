@@ -34,8 +34,23 @@ pub struct Token {
     pub span: Span,
 }
 
+/// The kind of refusal at a byte that no character of UTF-8 covers.
+pub(crate) const BAD_UTF8: u8 = 1;
+
 /// The kind of refusal at a byte that neither a separator nor a token may have there.
 pub(crate) const BAD_BYTE: u8 = 2;
+
+/// The kind of refusal at a number out of form or above the greatest `int`.
+pub(crate) const BAD_NUMBER: u8 = 3;
+
+/// The kind of refusal at a backslash that begins no escape.
+pub(crate) const BAD_ESCAPE: u8 = 4;
+
+/// The kind of refusal at a string that is not closed on its line.
+pub(crate) const OPEN_STRING: u8 = 5;
+
+/// The kind of refusal at a comment that is not closed.
+pub(crate) const OPEN_COMMENT: u8 = 6;
 
 /// Why a text has no tokens: what is wrong first, and the byte where it stands, counted from 0.
 ///

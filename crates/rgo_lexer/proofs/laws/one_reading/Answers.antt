@@ -1,4 +1,5 @@
-use Rattle.rgo_lexer.proofs.OneReading.{never_both, one_of_both, one_list, one_refusal, standing, in_order}
+use Rattle.rgo_lexer.proofs.OneReading.{never_both, one_of_both, one_list, one_refusal, standing}
+use Rattle.rgo_lexer.proofs.Order.{in_order}
 use Rattle.rgo_lexer.proofs.laws.one_reading.Goals as goal
 
 pub returns : goal.returns

@@ -1,0 +1,40 @@
+-- Comments at the front of a text: to the end of the line, or to the first `*/`.
+use Rattle.std.specs.Prelude.{ℕ, suc, ◌+◌, Bool, if◌then◌else◌, ◌||◌, ◌==◌, List, [], ◌∷◌, take, drop, codes, Option, Some, None, option_map}
+use Rattle.std.specs.List.{list_any, position_or_len}
+use Rattle.rgo_lexer.specs.Bytes.{begins_with}
+use Rattle.rgo_lexer.specs.declared.front.Front.{Front}
+use Rattle.rgo_lexer.specs.declared.front.Front.TheVariants.{Blank, Newline, Refused}
+
+-- where the first `*/` of a text begins, if it has one
+abbrev pub first_close : List ℕ → Option ℕ
+first_close [] = None
+first_close (b ∷ text) =
+    if begins_with (b ∷ text) (codes "*/") then Some 0 else option_map suc (first_close text)
+
+abbrev pub begins_line_comment : List ℕ → Bool
+begins_line_comment text = begins_with text (codes "//")
+
+abbrev pub begins_comment : List ℕ → Bool
+begins_comment text = begins_line_comment text || begins_with text (codes "/*")
+
+abbrev pub is_newline : ℕ → Bool
+is_newline b = b == 10
+
+-- a comment acts as a newline where it has one in it, else as a space
+abbrev pub acts_as : List ℕ → ℕ → Front
+acts_as text n = if list_any is_newline (take n text) then Newline n else Blank n
+
+-- a comment without its `*/`, refused at its first byte
+abbrev pub open_comment : Front
+open_comment = Refused 6 0
+
+-- a general comment, by where the first `*/` behind its `/*` begins
+abbrev pub closed_at : List ℕ → Option ℕ → Front
+closed_at text None = open_comment
+closed_at text (Some k) = acts_as text (k + 4)
+
+-- the comment at the front of a text that begins with one
+unfoldable pub comment_at : List ℕ → Front
+comment_at text =
+    if begins_line_comment text then Blank (position_or_len is_newline text)
+    else closed_at text (first_close (drop 2 text))
