@@ -7,3 +7,4 @@ pub mod VerdictLemmas
 pub mod PrintLemmas
 pub mod TokenLemmas
 pub mod HeadlineLemmas
+pub mod SourceLemmas

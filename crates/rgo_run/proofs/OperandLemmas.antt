@@ -8,8 +8,8 @@ use Rattle.rgo_lexer.specs.declared.tokens.TokenKind.TheVariants as kind
 use Rattle.rgo_lexer.specs.declared.tokens.Token.{Token}
 use Rattle.rgo_lexer.specs.Front.{front_of}
 use Rattle.rgo_lexer.specs.Words.{word_at, is_keyword}
-use Rattle.rgo_lexer.specs.Strings.{string_at, string_of}
-use Rattle.rgo_lexer.specs.Operators.{operator_at}
+use Rattle.rgo_lexer.specs.Strings.{string_at, string_of, items_len}
+use Rattle.rgo_lexer.specs.Operators.{operator_at, operator_len}
 use Rattle.rgo_lexer.specs.Tokens.{IsTokenOf, bytes_of, kind_of}
 use Rattle.rgo_run.specs.declared.tree.Operand.TheVariants.{Text}
 use Rattle.rgo_run.specs.Operands.{operand_of, operand_as, operand_if, word_of, or_semicolon}
@@ -23,31 +23,31 @@ unfolding kind_of front_of word_at is_keyword
 no_println = refl
 
 pub no_dot : operand_of (codes ".") ≡ None
-unfolding kind_of front_of operator_at
+unfolding kind_of front_of operator_at operator_len
 no_dot = refl
 
 pub no_open : operand_of (codes "(") ≡ None
-unfolding kind_of front_of operator_at
+unfolding kind_of front_of operator_at operator_len
 no_open = refl
 
 pub no_close : operand_of (codes ")") ≡ None
-unfolding kind_of front_of operator_at
+unfolding kind_of front_of operator_at operator_len
 no_close = refl
 
 pub no_comma : operand_of (codes ",") ≡ None
-unfolding kind_of front_of operator_at
+unfolding kind_of front_of operator_at operator_len
 no_comma = refl
 
 pub no_semicolon : operand_of (codes ";") ≡ None
-unfolding kind_of front_of operator_at
+unfolding kind_of front_of operator_at operator_len
 no_semicolon = refl
 
 pub no_brace : operand_of (codes "}") ≡ None
-unfolding kind_of front_of operator_at
+unfolding kind_of front_of operator_at operator_len
 no_brace = refl
 
 pub empty_text : operand_of (codes "\"\"") ≡ Some (Text [])
-unfolding kind_of front_of string_at string_of
+unfolding kind_of front_of string_at string_of items_len
 empty_text = refl
 
 of_spelled : (bytes : List ℕ) (k : TokenKind) → 0 < length bytes → kind_of bytes ≡ Some k → operand_of (or_semicolon bytes) ≡ operand_as k (or_semicolon bytes)
