@@ -29,19 +29,21 @@ fn line_len(text: &[u8]) -> usize
     text.iter().take_while(|b| **b != b'\n').count()
 }
 
+/// Whether a comment to the end of the line stands at the front.
 fn begins_line_comment(text: &[u8]) -> bool
     ensures { result ≡ begins_line_comment text.now }
 {
     text.starts_with(b"//")
 }
 
+/// Whether a comment stands at the front (The Go Programming Language Specification, "Comments").
 pub(crate) fn begins_comment(text: &[u8]) -> bool
     ensures { result ≡ begins_comment text.now }
 {
     begins_line_comment(text) || text.starts_with(b"/*")
 }
 
-/// A general comment acts as a newline where it has one in it, else as a space.
+/// A general comment of that length: it acts as a newline where it has one in it, else as a space.
 fn acts_as(text: &[u8], len: usize) -> Front
     requires { len ≤ length text.now }
     ensures { result ≡ acts_as text.now len }

@@ -64,7 +64,8 @@ fn start_of(text: &[u8]) -> usize
     }
 }
 
-/// The tokens of the text, in their order, the inserted `;` among them.
+/// The tokens of the text, in their order, the inserted `;` among them (The Go Programming Language
+/// Specification, "Lexical elements").
 ///
 /// An error says that memory ran out, or what is wrong first with a text that has no tokens.
 #[tactic(auto, using(crate::proofs::Standing::placed))]

@@ -9,8 +9,10 @@ use crate::bytes::run_len;
 use crate::front::Front;
 use crate::tokens::{BAD_NUMBER, TokenKind};
 
+/// The greatest `int`.
 const GREATEST: u64 = i64::MAX as u64;
 
+/// Whether the text begins with a digit in the base.
 fn begins_with_digit(text: &[u8], base: u32) -> bool
     requires low { 2 ≤ base }
     requires high { base ≤ 36 }
@@ -22,7 +24,7 @@ fn begins_with_digit(text: &[u8], base: u32) -> bool
     }
 }
 
-/// A digit, or a `_` before one.
+/// Whether the byte is a digit, or a `_` before one.
 fn may_stand(b: u8, behind: &[u8], base: u32) -> bool
     requires low { 2 ≤ base }
     requires high { base ≤ 36 }
@@ -45,6 +47,7 @@ fn are_digits(bytes: &[u8], base: u32) -> bool
     true
 }
 
+/// Whether the word is a decimal literal.
 fn is_decimal(word: &[u8]) -> bool
     ensures { result ≡ is_decimal word.now }
 {
@@ -55,6 +58,7 @@ fn is_decimal(word: &[u8]) -> bool
     }
 }
 
+/// Whether the word is a literal in base 16.
 fn is_hexadecimal(word: &[u8]) -> bool
     ensures { result ≡ is_hexadecimal word.now }
 {

@@ -6,8 +6,7 @@ ghost use Rattle.rgo_lexer.specs.Operators.{longer_first, longest_front, operato
 use crate::front::Front;
 use crate::tokens::{BAD_BYTE, TokenKind};
 
-/// The operators of The Go Programming Language Specification, "Operators and punctuation", the
-/// longer ones first.
+// The Go Programming Language Specification, "Operators and punctuation"; the longer ones first.
 const OPERATORS: [&[u8]; 48] = [
     b"<<=", b">>=", b"&^=", b"...", b"<<", b">>", b"&^", b"+=", b"-=", b"*=", b"/=", b"%=", b"&=",
     b"|=", b"^=", b"&&", b"||", b"<-", b"++", b"--", b"==", b"!=", b"<=", b">=", b":=", b"+", b"-",
@@ -28,6 +27,7 @@ fn first_len(table: &[&[u8]], text: &[u8]) -> usize
     0
 }
 
+/// The length of the longest operator that the text begins with, 0 where there is none.
 #[tactic(auto, unfolding(crate::specs::Operators::operator_len))]
 fn operator_len(text: &[u8]) -> usize
     ensures { result ≡ operator_len text.now }

@@ -9,7 +9,8 @@ use crate::front::Front;
 use crate::tokens::{BAD_ESCAPE, OPEN_STRING, Span, TokenKind};
 use std::alloc::{AllocError, Global};
 
-/// The byte that an escape's letter stands for ("Rune literals").
+/// The byte that an escape's letter stands for (The Go Programming Language Specification, "Rune
+/// literals").
 fn escaped(letter: u8) -> Option<u8>
     ensures { result ≡ escaped letter }
 {
@@ -27,7 +28,7 @@ fn escaped(letter: u8) -> Option<u8>
     }
 }
 
-/// A byte that stands for itself in a string.
+/// Whether the byte stands for itself in a string.
 fn is_plain(b: u8) -> bool
     ensures { result ≡ is_plain b }
 {
