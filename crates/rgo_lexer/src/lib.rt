@@ -18,5 +18,5 @@ mod words;
 pub use laws::{longest_match, one_reading};
 pub use lexer::lex;
 pub use numbers::number_value;
-pub use strings::string_value;
+pub use strings::{string_value, unquoted};
 pub use tokens::{LexError, LexRefusal, Span, Token, TokenKind};

@@ -105,7 +105,7 @@ fn item_values(alloc: Global, text: &[u8]) -> Result<Vec<u8>, AllocError>
 
 /// The bytes that a string literal stands for.
 #[tactic(auto, unfolding(crate::specs::Strings::string_of))]
-fn unquoted(alloc: Global, literal: &[u8]) -> Result<Vec<u8>, AllocError>
+pub fn unquoted(alloc: Global, literal: &[u8]) -> Result<Vec<u8>, AllocError>
     ensures { IfOk result (λ value. value.items ≡ string_of literal.now) }
 {
     match literal.split_first() {

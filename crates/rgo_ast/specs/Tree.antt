@@ -1,0 +1,135 @@
+-- The surface trees as plain data: what contracts say of them, without the pointers of the code's own.
+use Rattle.std.specs.Prelude.{ℕ, List, [], ◌∷◌, Option, Some, None}
+use Rattle.rgo_ast.specs.declared.ops.UnaryOp.{UnaryOp}
+use Rattle.rgo_ast.specs.declared.ops.BinaryOp.{BinaryOp}
+use Rattle.rgo_ast.specs.declared.ops.AssignOp.{AssignOp}
+use Rattle.rgo_ast.specs.declared.ops.StepOp.{StepOp}
+use Rattle.rgo_ast.specs.declared.names.Ident.{Ident}
+use Rattle.rgo_ast.specs.declared.names.ImportPath.{ImportPath}
+
+-- each with its place: that of its name, of `*`, of `[`, of `chan`
+pub data Ty : Type 0 where
+  Named : Ident → Ty
+  Pointer : Ident → ℕ → Ty
+  Slice : Ty → ℕ → Ty
+  Chan : Ty → ℕ → Ty
+
+-- names declared with one type: fields, parameters, variables
+pub record Binding : Type 0 where
+  pub names : List Ident
+  pub ty : Ty
+
+mutual
+  -- A place that is no name's is that of the operator of a binary operation, of the `(` of a call,
+  -- of the `[` of an index, and else that of the first token.
+  pub data Expr : Type 0 where
+    Number : ℕ → ℕ → Expr
+    Text : List ℕ → ℕ → Expr
+    Name : Ident → Expr
+    Paren : Expr → ℕ → Expr
+    New : Ident → ℕ → Expr
+    MakeSlice : Ty → Expr → ℕ → Expr
+    MakeChan : Ty → Capacity → ℕ → Expr
+    Select : Expr → Ident → Expr
+    Index : Expr → Expr → ℕ → Expr
+    Called : Expr → Exprs → ℕ → Expr
+    Unary : UnaryOp → Expr → ℕ → Expr
+    Binary : BinaryOp → Expr → Expr → ℕ → Expr
+    Literal : Ident → Exprs → ℕ → Expr
+    Keyed : Ident → Elements → ℕ → Expr
+
+  pub data Exprs : Type 0 where
+    no_exprs : Exprs
+    an_expr : Expr → Exprs → Exprs
+
+  -- the elements of a literal, each with its field
+  pub data Elements : Type 0 where
+    no_elements : Elements
+    an_element : Ident → Expr → Elements → Elements
+
+  -- of a channel
+  pub data Capacity : Type 0 where
+    no_capacity : Capacity
+    a_capacity : Expr → Capacity
+
+abbrev pub exprs_of : List Expr → Exprs
+exprs_of [] = no_exprs
+exprs_of (e ∷ l) = an_expr e (exprs_of l)
+
+abbrev pub elements_of : List (Ident × Expr) → Elements
+elements_of [] = no_elements
+elements_of (e ∷ l) = an_element e.0 e.1 (elements_of l)
+
+abbrev pub capacity_of : Option Expr → Capacity
+capacity_of None = no_capacity
+capacity_of (Some e) = a_capacity e
+
+-- a declaration of local variables: their zero values, or one value with a type or without, at its `=`
+pub data LocalVar : Type 0 where
+  Zero : Binding → LocalVar
+  Typed : Ident → Ty → Expr → ℕ → LocalVar
+  Inferred : Ident → Expr → ℕ → LocalVar
+
+mutual
+  -- A place is that of the operator, and else that of the first token.
+  pub data Stmt : Type 0 where
+    Block : Stmts → ℕ → Stmt
+    Plain : Expr → Stmt
+    Send : Expr → Expr → ℕ → Stmt
+    Step : StepOp → Expr → ℕ → Stmt
+    Assign : AssignOp → Expr → Expr → ℕ → Stmt
+    Define : Ident → Expr → ℕ → Stmt
+    If : Clause → Expr → Stmts → Clause → ℕ → Stmt
+    For : Clause → Option Expr → Clause → Stmts → ℕ → Stmt
+    Go : Ident → Exprs → ℕ → Stmt
+    Var : List LocalVar → ℕ → Stmt
+    Return : Option Expr → ℕ → Stmt
+    Break : ℕ → Stmt
+    Continue : ℕ → Stmt
+
+  pub data Stmts : Type 0 where
+    no_stmts : Stmts
+    a_stmt : Stmt → Stmts → Stmts
+
+  -- a statement that may be left out: before the condition, behind it, or behind `else`
+  pub data Clause : Type 0 where
+    no_clause : Clause
+    a_clause : Stmt → Clause
+
+abbrev pub stmts_of : List Stmt → Stmts
+stmts_of [] = no_stmts
+stmts_of (s ∷ l) = a_stmt s (stmts_of l)
+
+abbrev pub clause_of : Option Stmt → Clause
+clause_of None = no_clause
+clause_of (Some s) = a_clause s
+
+-- a struct
+pub record TypeSpec : Type 0 where
+  pub name : Ident
+  pub fields : List Binding
+
+-- `at` is the place of `func`, `end` that of the closing brace
+pub record Function : Type 0 where
+  pub name : Ident
+  pub params : List Binding
+  pub result_type : Option Ty
+  pub body : List Stmt
+  pub at : ℕ
+  pub end : ℕ
+
+-- at the keyword
+pub data Decl : Type 0 where
+  Types : List TypeSpec → ℕ → Decl
+  Vars : List Binding → ℕ → Decl
+  Func : Function → Decl
+
+pub record Import : Type 0 where
+  pub paths : List ImportPath
+  pub at : ℕ
+
+-- `end` is the length of the text
+pub record Program : Type 0 where
+  pub imports : List Import
+  pub decls : List Decl
+  pub end : ℕ

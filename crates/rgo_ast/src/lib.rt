@@ -1,0 +1,19 @@
+//! The surface trees: what a text says, before any name in it is resolved.
+#![tactic(auto)]
+
+mod declarations;
+mod expressions;
+mod names;
+mod ops;
+mod places;
+mod statements;
+#[cfg(test)]
+mod tests;
+mod types;
+
+pub use declarations::{Decl, Function, Import, Program, TypeSpec};
+pub use expressions::{Element, Expr};
+pub use names::{Ident, ImportPath, Name, Place};
+pub use ops::{AssignOp, BinaryOp, StepOp, UnaryOp};
+pub use statements::{LocalVar, Stmt};
+pub use types::{Binding, Ty};

@@ -1,0 +1,52 @@
+//! Words of a text, with their bytes and their places.
+
+ghost use Rattle.std.specs.Prelude.{◌≡◌};
+
+use std::marker::Model;
+
+/// Where something stands in a text: the number of bytes before it.
+pub type Place = usize;
+
+/// Bytes that contracts see as their list.
+#[derive(Drop)]
+pub struct Name {
+    bytes: Vec<u8>,
+}
+
+impl Model for Name {
+    ghost use Rattle.std.specs.Prelude.{List, ℕ};
+
+    ghost Value = { List ℕ };
+
+    ghost view = { λ n. n.bytes.items };
+}
+
+impl Name {
+    /// The name with these bytes.
+    pub fn new(bytes: Vec<u8>) -> Name
+        ensures { result ≡ bytes.items }
+    {
+        Name { bytes }
+    }
+
+    /// Its bytes.
+    pub fn bytes(&self) -> &[u8]
+        ensures { result.now ≡ self.now }
+    {
+        &self.bytes
+    }
+}
+
+/// A name where it stands.
+#[derive(Drop)]
+pub struct Ident {
+    pub name: Name,
+    pub at: Place,
+}
+
+/// The path of an import, without its quotes, where its string stands.
+#[derive(Drop)]
+pub struct ImportPath {
+    pub path: Name,
+    pub at: Place,
+}

@@ -1,0 +1,16 @@
+-- The first token with which no program goes on.
+use Rattle.std.specs.Prelude.{◌≡◌, ℕ, ◌+◌, ◌<◌, ◌≤◌, List, ◌++◌, length, take}
+use Rattle.rgo_ast.specs.Tree.{Import, Decl}
+use Rattle.rgo_grammar.specs.Terms.{Term}
+use Rattle.rgo_grammar.specs.Grammar.{IsProgram}
+
+-- some program begins so
+abbrev pub Begins : List Term → Type 0
+Begins l = (w : List Term) × (imports : List Import) × (decls : List Decl) × IsProgram (l ++ w) imports decls
+
+-- The first k tokens begin a program and the first k + 1 do not; or they are all, and no program.
+pub record IsFirstBad (l : List Term) (k : ℕ) : Type 0 where
+  pub within : k ≤ length l
+  pub before : Begins (take k l)
+  pub next : k < length l → Begins (take (k + 1) l) → ⊥
+  pub all : k ≡ length l → (imports : List Import) (decls : List Decl) → IsProgram l imports decls → ⊥

@@ -1,0 +1,11 @@
+pub mod Terms
+pub mod Grammar
+pub mod Reading
+pub mod ReadTypes
+pub mod ReadExprs
+pub mod ReadStmts
+pub mod ReadDecls
+pub mod FirstBad
+pub mod Nesting
+pub mod Seen
+pub mod Laws

@@ -1,0 +1,163 @@
+//! How deep tokens nest.
+
+ghost use Rattle.std.specs.Prelude.{◌≡◌, ◌<◌, ◌^◌, ◌∷◌, [], IfOk};
+ghost use Rattle.rgo_grammar.specs.Nesting.{nesting, weight, outermost, inner, at_innermost, outside, joined, branched, separated, ended, behind_semicolon, levels_after, deep_among};
+ghost use Rattle.rgo_grammar.specs.Seen.{terminals};
+
+use crate::terminals::Terminal;
+use crate::terms::Term;
+use std::alloc::{AllocError, AllocFailed, Global};
+use std::collections::VecDeque;
+
+/// A level that is open: the text itself, or what stands in a bracket.
+#[derive(Clone, Copy)]
+pub struct Level {
+    /// 1 where a bracket began it.
+    pub brackets: usize,
+    /// Operators and the like since its last `;` or `,`.
+    pub joints: usize,
+    /// How many `else` since its last `;` behind a `}`.
+    pub elses: usize,
+}
+
+impl Level {
+    fn weight(&self) -> usize
+        requires { weight self.now < 2 ^ 63 }
+        ensures { result ≡ weight self.now }
+    {
+        self.brackets + self.joints + self.elses
+    }
+}
+
+// The levels that are open, the innermost first, with the sum of their weights.
+#[derive(Drop)]
+struct Nesting {
+    levels: VecDeque<Level>,
+    total: usize,
+
+    ghost sum: { total ≡ nesting levels.items },
+}
+
+impl Nesting {
+    fn new(alloc: Global) -> Result<Nesting, AllocError>
+        ensures { IfOk result (λ n. n.levels.items ≡ outermost ∷ []) }
+    {
+        let mut levels = VecDeque::new(alloc);
+        levels.push_front(Level {
+            brackets: 0,
+            joints: 0,
+            elses: 0,
+        })?;
+        Ok(Nesting { levels, total: 0 })
+    }
+
+    fn open(&mut self) -> Result<(), AllocError>
+        requires { self.old.total < 2 ^ 63 }
+        ensures { IfOk result (λ _. self.new.levels.items ≡ inner ∷ self.old.levels.items) }
+    {
+        self.levels.push_front(Level {
+            brackets: 1,
+            joints: 0,
+            elses: 0,
+        })?;
+        self.total += 1;
+        Ok(())
+    }
+
+    fn close(&mut self)
+        requires { self.old.total < 2 ^ 63 }
+        ensures { self.new.levels.items ≡ outside self.old.levels.items }
+    {
+        if let Some(level) = self.levels.pop_front() {
+            self.total -= level.weight();
+        }
+    }
+
+    fn join(&mut self)
+        requires { self.old.total < 2 ^ 63 }
+        ensures { self.new.levels.items ≡ at_innermost joined self.old.levels.items }
+    {
+        if let Some(level) = self.levels.front_mut() {
+            level.joints += 1;
+            self.total += 1;
+        }
+    }
+
+    fn branch(&mut self)
+        requires { self.old.total < 2 ^ 63 }
+        ensures { self.new.levels.items ≡ at_innermost branched self.old.levels.items }
+    {
+        if let Some(level) = self.levels.front_mut() {
+            level.elses += 1;
+            self.total += 1;
+        }
+    }
+
+    fn separate(&mut self)
+        requires { self.old.total < 2 ^ 63 }
+        ensures { self.new.levels.items ≡ at_innermost separated self.old.levels.items }
+    {
+        if let Some(level) = self.levels.front_mut() {
+            self.total -= level.joints;
+            level.joints = 0;
+        }
+    }
+
+    fn end(&mut self)
+        requires { self.old.total < 2 ^ 63 }
+        ensures { self.new.levels.items ≡ at_innermost ended self.old.levels.items }
+    {
+        if let Some(level) = self.levels.front_mut() {
+            self.total -= level.joints + level.elses;
+            level.joints = 0;
+            level.elses = 0;
+        }
+    }
+
+    // Goes on by a terminal, behind another.
+    fn pass(&mut self, before: Terminal, terminal: Terminal) -> Result<(), AllocError>
+        requires { self.old.total < 2 ^ 63 }
+        ensures { IfOk result (λ _. self.new.levels.items ≡ levels_after before terminal self.old.levels.items) }
+    {
+        match terminal {
+            Terminal::OpenParen | Terminal::OpenBracket | Terminal::OpenBrace => self.open()?,
+            Terminal::CloseParen | Terminal::CloseBracket => {
+                self.close();
+                self.join();
+            }
+            Terminal::CloseBrace => self.close(),
+            Terminal::Binary(_)
+            | Terminal::Bang
+            | Terminal::Ampersand
+            | Terminal::Arrow
+            | Terminal::Dot
+            | Terminal::Chan => self.join(),
+            Terminal::Else => self.branch(),
+            Terminal::Comma => self.separate(),
+            Terminal::Semicolon => match before {
+                Terminal::CloseBrace => self.end(),
+                _ => self.separate(),
+            },
+            _ => {}
+        }
+        Ok(())
+    }
+}
+
+/// The first token, counted from 0, behind which the tokens nest deeper than the limit, if there is one. The error is want of
+/// memory.
+pub fn deep_at(alloc: Global, limit: usize, terms: &[Term]) -> Result<Option<usize>, AllocError>
+    requires { limit < 2 ^ 32 }
+    ensures { IfOk result (λ at. at ≡ deep_among limit (terminals terms.now)) }
+{
+    let mut nesting = Nesting::new(alloc)?;
+    let mut before = Terminal::Other;
+    for (at, term) in terms.iter().enumerate() {
+        nesting.pass(before, term.terminal)?;
+        if nesting.total > limit {
+            return Ok(Some(at));
+        }
+        before = term.terminal;
+    }
+    Ok(None)
+}
