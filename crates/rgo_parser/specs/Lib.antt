@@ -1,0 +1,5 @@
+pub mod Gives
+pub mod Lists
+pub mod Statements
+pub mod Parsing
+pub mod Laws
