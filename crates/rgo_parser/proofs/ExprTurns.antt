@@ -1,5 +1,5 @@
 -- One turn of each reader of expressions, at a number of turns that is not 0.
-use Rattle.std.proofs.Common.{◌≡◌, ℕ, suc, ◌+◌, ◌-◌, ◌<◌, Bool, true, false, List, [], ◌∷◌, ◌++◌, Option, refl, ap}
+use Rattle.std.proofs.Common.{◌≡◌, ℕ, ◌-◌, ◌<◌, Bool, false, List, refl, ap}
 use Rattle.rgo_ast.specs.Tree as tree
 use Rattle.rgo_grammar.specs.Terms.{Term}
 use Rattle.rgo_grammar.specs.Reading.{Failed, Starving, ◌>>=◌, first_of}

@@ -7,9 +7,12 @@ mod nested;
 use crate::{ParseError, ParseRefusal, parse};
 use rgo_ast::Program;
 use rgo_lexer::lex;
-use std::alloc::{AllocError, Global};
+use std::alloc::{AllocError, AllocFailed, Global};
 use std::process::Abort;
 use std::test::Fail;
+
+// What stands before the body of `main`.
+const BEFORE: &str = "package main; func main() { ";
 
 // The program of a text, or the token that refuses it.
 fn parsed(alloc: Global, text: &[u8]) -> Result<Result<Program, ParseRefusal>, Fail> {
@@ -19,15 +22,6 @@ fn parsed(alloc: Global, text: &[u8]) -> Result<Result<Program, ParseRefusal>, F
         Err(ParseError::Refused(refusal)) => Ok(Err(refusal)),
         Err(ParseError::NoMemory) => Err(Fail::from("out of memory")),
     }
-}
-
-// Several pieces as one text.
-fn joined(alloc: Global, pieces: &[&str]) -> Result<Vec<u8>, AllocError> {
-    let mut text = Vec::new(alloc);
-    for piece in pieces {
-        text.extend_from_slice(piece.as_bytes())?;
-    }
-    Ok(text)
 }
 
 // The first token that begins at a place or behind it; the number of tokens where none does.
@@ -41,52 +35,62 @@ fn token_at(alloc: Global, text: &[u8], place: usize) -> Result<usize, Fail> {
     )
 }
 
-// What a marked text is refused at, and the text without its mark.
-fn unmarked(alloc: Global, marked: &str) -> Result<(Vec<u8>, Option<usize>), Fail> {
-    for (place, byte) in marked.bytes().enumerate() {
-        if byte == b'@' || byte == b'$' {
-            let text = joined(alloc, &[&marked[..place], &marked[place + 1..]])?;
-            let at = if byte == b'@' {
-                token_at(alloc, &text, place)?
-            } else {
-                lex(alloc, &text)?.len()
-            };
-            return Ok((text, Some(at)));
+// Adds a marked text without its mark, and tells where that was: no place of the text where the end is refused.
+fn unmarked(text: &mut Vec<u8>, marked: &str) -> Result<Option<usize>, AllocFailed<u8>> {
+    let mut mark = None;
+    for byte in marked.bytes() {
+        match byte {
+            b'@' => mark = Some(text.len()),
+            b'$' => mark = Some(usize::MAX),
+            b'~' => text.push(b'\n')?,
+            _ => text.push(byte)?,
         }
     }
-    Ok((joined(alloc, &[marked])?, None))
+    Ok(mark)
 }
 
-fn is_refused_at_its_mark(alloc: Global, marked: &str) -> Result<bool, Fail> {
-    let (text, mark) = unmarked(alloc, marked)?;
-    Ok(match (parsed(alloc, &text)?, mark) {
-        (Ok(_), None) => true,
-        (Err(ParseRefusal::Syntax { at }), Some(mark)) => at == mark,
-        _ => false,
-    })
+// Whether a marked text between two others is refused at its mark, or is a program where it has none.
+fn is_refused_at_its_mark(
+    alloc: Global,
+    before: &str,
+    marked: &str,
+    behind: &str,
+) -> Result<bool, Fail> {
+    let mut text = Vec::new(alloc);
+    text.extend_from_slice(before.as_bytes())?;
+    let mark = unmarked(&mut text, marked)?;
+    text.extend_from_slice(behind.as_bytes())?;
+    match (parsed(alloc, &text)?, mark) {
+        (Ok(_), None) => Ok(true),
+        (Err(ParseRefusal::Syntax { at }), Some(place)) => Ok(at == token_at(alloc, &text, place)?),
+        _ => Ok(false),
+    }
 }
 
 #[test]
 fn bodies_are_refused_at_their_marks(rt: HostRuntime) -> Result<(), Fail> {
-    for body in marked::BODIES {
-        let text = joined(rt.alloc(), &["package main; func main() { ", body, " }"])?;
-        let text = String::from_utf8(text).map_err(|_| Fail::from("utf-8"))?;
-        assert!(rt; is_refused_at_its_mark(rt.alloc(), &text)?, "{body}");
+    for body in marked::BODIES.lines() {
+        assert!(rt;
+            is_refused_at_its_mark(rt.alloc(), BEFORE, body, " }")?,
+            "{body}"
+        );
     }
     Ok(())
 }
 
 #[test]
 fn texts_are_refused_at_their_marks(rt: HostRuntime) -> Result<(), Fail> {
-    for text in marked::TEXTS {
-        assert!(rt; is_refused_at_its_mark(rt.alloc(), text)?, "{text}");
+    for text in marked::TEXTS.lines() {
+        assert!(rt; is_refused_at_its_mark(rt.alloc(), "", text, "")?, "{text}");
     }
     Ok(())
 }
 
 fn nested_text(alloc: Global, row: &nested::Row, count: usize) -> Result<Vec<u8>, AllocError> {
     let (before, open, within, close, _, _) = *row;
-    let mut text = joined(alloc, &["package main; func main() { ", before])?;
+    let mut text = Vec::new(alloc);
+    text.extend_from_slice(BEFORE.as_bytes())?;
+    text.extend_from_slice(before.as_bytes())?;
     for _ in 0..count {
         text.extend_from_slice(open.as_bytes())?;
     }
@@ -102,9 +106,9 @@ fn nested_text(alloc: Global, row: &nested::Row, count: usize) -> Result<Vec<u8>
 fn nesting_is_refused_from_its_limit_on(rt: HostRuntime) -> Result<(), Fail> {
     for row in &nested::ROWS {
         let (_, open, _, _, most, refused) = *row;
-        let text = nested_text(rt.alloc(), row, most)?;
+        let text = nested_text(rt.alloc(), row, usize::from(most))?;
         assert!(rt; parsed(rt.alloc(), &text)?.is_ok(), "{open}");
-        let text = nested_text(rt.alloc(), row, most + 1)?;
+        let text = nested_text(rt.alloc(), row, usize::from(most) + 1)?;
         let Err(ParseRefusal::TooDeep { at }) = parsed(rt.alloc(), &text)? else {
             return Err(Fail::from("not too deep"));
         };

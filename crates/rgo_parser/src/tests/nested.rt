@@ -6,7 +6,7 @@ pub(crate) type Row = (
     &'static str,
     &'static str,
     &'static str,
-    usize,
+    u8,
     usize,
 );
 

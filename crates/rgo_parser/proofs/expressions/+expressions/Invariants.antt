@@ -1,4 +1,4 @@
-use Rattle.std.proofs.Common.{◌≡◌, ◌+◌, ◌*◌, ◌-◌, false, map, []}
+use Rattle.std.proofs.Common.{◌≡◌, ◌+◌, ◌*◌, ◌-◌, false, map}
 use Rattle.rgo_ast.specs.Views.{expr_of, element_of}
 use Rattle.rgo_grammar.specs.declared.terminals.Terminal.TheVariants.{Comma, CloseBrace}
 use Rattle.rgo_grammar.specs.Reading.{several}
