@@ -1,10 +1,10 @@
 -- The claims of the whole, from what its parts leave: the source that was run, and the report of its ending.
 use Rattle.std.proofs.Common.{◌≡◌, ℕ, ◌⊎◌, inl, inr, ◌↔◌, List, [], Option, None, Some, IfSome, refl, subst}
-use Rattle.rgo_run.specs.declared.tree.Operand.{Operand}
+use Rattle.rgo_run.specs.declared.operands.Operand.{Operand}
 use Rattle.rgo_run.specs.declared.commands.Command.{Command}
 use Rattle.rgo_run.specs.declared.commands.Command.TheVariants.{Run}
 use Rattle.rgo_run.specs.declared.endings.Ending.{Ending}
-use Rattle.rgo_run.specs.declared.endings.Ending.TheVariants.{Exit, Usage, ReadFault, TooLong, Lexical, Syntax, WriteFault, NoMemory}
+use Rattle.rgo_run.specs.declared.endings.Ending.TheVariants.{Exit, Usage, ReadFault, TooLong, Lexical, Syntax, Nesting, Typing, WriteFault, NoMemory}
 use Rattle.rgo_run.specs.Calls.{Call, IsRun, SourceFailed, Failed, Grew}
 use Rattle.rgo_run.specs.Commands.{command_of}
 use Rattle.rgo_run.specs.Endings.{status_of, line_of}
@@ -44,6 +44,8 @@ refused call TooLong r s = of_told call.source.left (λ text. Ends text TooLong 
 refused call (Lexical kind at) r s =
     of_told call.source.left (λ text. Ends text (Lexical kind at) call.out.old call.out.new) (λ text. Refused text (Lexical kind at)) (λ text h. h.0) r.ends
 refused call (Syntax at) r s = of_told call.source.left (λ text. Ends text (Syntax at) call.out.old call.out.new) (λ text. Refused text (Syntax at)) (λ text h. h.0) r.ends
+refused call (Nesting at) r s = of_told call.source.left (λ text. Ends text (Nesting at) call.out.old call.out.new) (λ text. Refused text (Nesting at)) (λ text h. h.0) r.ends
+refused call (Typing rule at) r s = of_told call.source.left (λ text. Ends text (Typing rule at) call.out.old call.out.new) (λ text. Refused text (Typing rule at)) (λ text h. h.0) r.ends
 refused call Exit r s = cc
 refused call Usage r s = cc
 refused call ReadFault r s = cc
@@ -73,6 +75,8 @@ first call ReadFault r n = absurd (n (r.read_failed refl))
 first call TooLong r n = is_first call TooLong (refused call TooLong r refl)
 first call (Lexical kind at) r n = is_first call (Lexical kind at) (refused call (Lexical kind at) r refl)
 first call (Syntax at) r n = is_first call (Syntax at) (refused call (Syntax at) r refl)
+first call (Nesting at) r n = is_first call (Nesting at) (refused call (Nesting at) r refl)
+first call (Typing rule at) r n = is_first call (Typing rule at) (refused call (Typing rule at) r refl)
 first call Exit r n = not_program call Exit (of_told call.source.left (λ text. Ends text Exit call.out.old call.out.new) IsProgram (λ text h. (h.0, h.1)) r.ends)
 first call WriteFault r n = not_program call WriteFault (of_told call.source.left (λ text. Ends text WriteFault call.out.old call.out.new) IsProgram (λ text h. (h.0, h.1)) r.ends)
 first call NoMemory r n = every call.source.left (λ text. (why : Ending) → Refused text why → (NoMemory ≡ why) ⊎ (NoMemory ≡ NoMemory)) (λ text why w. inr refl)
@@ -113,6 +117,8 @@ complete call WriteFault r t c s o n = absurd (o (r.write_failed refl))
 complete call TooLong r t c s o n = not_refused call TooLong (refused call TooLong r refl)
 complete call (Lexical kind at) r t c s o n = not_refused call (Lexical kind at) (refused call (Lexical kind at) r refl)
 complete call (Syntax at) r t c s o n = not_refused call (Syntax at) (refused call (Syntax at) r refl)
+complete call (Nesting at) r t c s o n = not_refused call (Nesting at) (refused call (Nesting at) r refl)
+complete call (Typing rule at) r t c s o n = not_refused call (Typing rule at) (refused call (Typing rule at) r refl)
 complete call Exit r t c s o n = of_told call.source.left (λ text. Ends text Exit call.out.old call.out.new) (Runs call) (λ text h. told_whole call text t n h) r.ends
 complete call NoMemory r t c s o n = every call.source.left (Runs call) (λ text program p. inr (told_memory call t n))
 
@@ -138,6 +144,20 @@ no_line call (Lexical kind at) h r = record {
 no_line call (Syntax at) h r = record {
   is_run = r.is_run;
   ends = of_told call.source.left (λ text. Ends text (Syntax at) call.out.old call.out.new) (λ text. Ends text NoMemory call.out.old call.out.new) (λ text g. inr g.1) r.ends;
+  still = λ m. absurd (m tt);
+  read_failed = λ x. cc;
+  write_failed = λ x. cc;
+}
+no_line call (Nesting at) h r = record {
+  is_run = r.is_run;
+  ends = of_told call.source.left (λ text. Ends text (Nesting at) call.out.old call.out.new) (λ text. Ends text NoMemory call.out.old call.out.new) (λ text g. inr g.1) r.ends;
+  still = λ m. absurd (m tt);
+  read_failed = λ x. cc;
+  write_failed = λ x. cc;
+}
+no_line call (Typing rule at) h r = record {
+  is_run = r.is_run;
+  ends = of_told call.source.left (λ text. Ends text (Typing rule at) call.out.old call.out.new) (λ text. Ends text NoMemory call.out.old call.out.new) (λ text g. inr g.1) r.ends;
   still = λ m. absurd (m tt);
   read_failed = λ x. cc;
   write_failed = λ x. cc;
@@ -170,6 +190,8 @@ is_still : (e : Ending) (P : Type 0) → (status_of e ≡ 1 → P) → (e ≡ Re
 is_still TooLong P one read usage m = one refl
 is_still (Lexical kind at) P one read usage m = one refl
 is_still (Syntax at) P one read usage m = one refl
+is_still (Nesting at) P one read usage m = one refl
+is_still (Typing rule at) P one read usage m = one refl
 is_still ReadFault P one read usage m = read refl
 is_still Usage P one read usage m = usage refl
 is_still Exit P one read usage m = absurd (m tt)

@@ -1,10 +1,6 @@
-pub mod OperandLemmas
-pub mod Ways
-pub mod Sound
-pub mod Complete
-pub mod FirstBad
+pub mod RunningLemmas
+pub mod LeastLemmas
 pub mod VerdictLemmas
 pub mod PrintLemmas
-pub mod TokenLemmas
 pub mod HeadlineLemmas
 pub mod SourceLemmas

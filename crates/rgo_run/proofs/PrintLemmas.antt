@@ -4,7 +4,7 @@ use Rattle.std.proofs.lemmas.List.{at_drop_more, take-append-le}
 use Rattle.std.proofs.Math.Seq.{take-append-add}
 use Rattle.std.proofs.KnownBytes.{Appends-trans}
 use Rattle.std.specs.Io.KnownBytes.{Appends}
-use Rattle.rgo_run.specs.declared.tree.Operand.{Operand}
+use Rattle.rgo_run.specs.declared.operands.Operand.{Operand}
 use Rattle.rgo_run.specs.Printing.{line, print_of}
 
 print_of-append : (xs ys : List (List Operand)) → print_of (xs ++ ys) ≡ print_of xs ++ print_of ys

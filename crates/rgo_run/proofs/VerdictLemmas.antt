@@ -1,39 +1,58 @@
 -- Each text is one program, or has one refusal, and never both.
-use Rattle.std.proofs.Common.{◌≡◌, ℕ, ◌<◌, ◌≤◌, ◌⊎◌, inl, inr, List, length, refl, sym, ap, ◌∙◌, subst, arith}
+use Rattle.std.proofs.Common.{◌≡◌, ℕ, ◌<◌, ◌≤◌, ◌⊎◌, inl, inr, List, [], length, refl, sym, ap, ◌∙◌, subst, arith}
 use Rattle.std.proofs.lemmas.Bool.{cases_lt}
 use Rattle.rgo_lexer.specs.declared.tokens.Token.{Token}
 use Rattle.rgo_lexer.specs.declared.tokens.LexRefusal.{LexRefusal}
 use Rattle.rgo_lexer.specs.Tokens.{Tokens}
-use Rattle.rgo_lexer.specs.Refusals.{Refuses, refusal}
+use Rattle.rgo_lexer.specs.Refusals.{Refuses as LexRefuses, refusal}
 use Rattle.rgo_lexer.proofs.OneReading as lexer
-use Rattle.rgo_run.specs.declared.tree.Operand.{Operand}
+use Rattle.rgo_ast.specs.Tree.{Program}
+use Rattle.rgo_parser.specs.Parsing.{IsParsed, Refuses}
+use Rattle.rgo_parser.specs.declared.parser.ParseRefusal.{ParseRefusal}
+use Rattle.rgo_parser.specs.declared.parser.ParseRefusal.TheVariants as parse
+use Rattle.rgo_run.specs.declared.operands.Operand.{Operand}
 use Rattle.rgo_run.specs.declared.endings.Position.{Position}
 use Rattle.rgo_run.specs.declared.endings.Ending.{Ending}
-use Rattle.rgo_run.specs.declared.endings.Ending.TheVariants.{TooLong, Lexical, Syntax}
-use Rattle.rgo_run.specs.Operands.{words_of}
-use Rattle.rgo_run.specs.Grammar.{Parses, IsSyntax}
+use Rattle.rgo_run.specs.declared.endings.Ending.TheVariants.{TooLong, Lexical, Syntax, Nesting, Typing}
 use Rattle.rgo_run.specs.Positions.{position_of, place_of}
-use Rattle.rgo_run.specs.Verdicts.{text_limit, IsText, Refused, OneVerdict}
-use Rattle.rgo_run.proofs.Complete.{one_tree}
-use Rattle.rgo_run.proofs.FirstBad as words
+use Rattle.rgo_run.specs.Running.{not_yet, prints_of, IsLeast}
+use Rattle.rgo_run.specs.Verdicts.{text_limit, IsTree, IsText, IsRefused, IsNotYet, Refused, OneVerdict}
+use Rattle.rgo_run.proofs.LeastLemmas.{one_least, none_least, least_or_none}
+use Rattle.rgo_parser.proofs.Answered as parser
 
 -- what was said of one list of tokens is said of the other
 moved : (text : List ℕ) (a b : List Token) (P : List Token → Type 0) → Tokens text a → Tokens text b → P a → P b
 moved text a b P s t h = subst P (lexer.one_list text a b s t) h
 
+one_tree : (text : List ℕ) (p q : Program) → IsTree text p → IsTree text q → p ≡ q
+one_tree text p q a b =
+    parser.one_tree text b.tokens p q (moved text a.tokens b.tokens (λ t. IsParsed text t p) a.are_tokens b.are_tokens a.parsed) b.parsed
+
 pub one_program : (text : List ℕ) (p q : List (List Operand)) → IsText text p → IsText text q → p ≡ q
-one_program text p q a b =
-    one_tree _ (moved text a.tokens b.tokens (λ t. Parses (words_of text t) p) a.are_tokens b.are_tokens a.parses) b.parses
+one_program text p q a b = a.prints ∙ ap prints_of (one_tree text a.tree b.tree a.is_tree b.is_tree) ∙ sym b.prints
+
+-- a tree has no lexical refusal, and no refusal of its tokens
+not_lexical : (text : List ℕ) (tree : Program) (r : LexRefusal) → IsTree text tree → LexRefuses text r → ⊥
+not_lexical text tree r a w = lexer.never_both text a.tokens r a.are_tokens w
+
+not_refused : (text : List ℕ) (tree : Program) (r : ParseRefusal) (k : ℕ) (at : Position) → IsTree text tree → IsRefused text r k at → ⊥
+not_refused text tree r k at a w =
+    parser.never_both text w.tokens tree r (moved text a.tokens w.tokens (λ t. IsParsed text t tree) a.are_tokens w.are_tokens a.parsed) w.refused
+
+all_runs : (text : List ℕ) (p : List (List Operand)) (at : Position) → IsText text p → IsNotYet text at → ⊥
+all_runs text p at a w =
+    none_least w.place (not_yet a.tree) a.runs (subst (λ t. IsLeast w.place (not_yet t)) (one_tree text w.tree a.tree w.is_tree a.is_tree) w.least)
 
 pub never_both : (text : List ℕ) (p : List (List Operand)) (why : Ending) → IsText text p → Refused text why → ⊥
-never_both text p TooLong a r = omega (arith, a.within)
-never_both text p (Lexical kind at) a r = lexer.never_both text a.tokens (refusal kind r.1) a.are_tokens r.2
-never_both text p (Syntax at) a r =
-    words.never_both _ r.2 p (moved text a.tokens r.1 (λ t. Parses (words_of text t) p) a.are_tokens r.3 a.parses) r.4
+never_both text p TooLong a r = omega (arith, a.is_tree.within)
+never_both text p (Lexical kind at) a r = not_lexical text a.tree (refusal kind r.1) a.is_tree r.2
+never_both text p (Syntax at) a r = not_refused text a.tree (parse.Syntax r.0) r.0 at a.is_tree r.1
+never_both text p (Nesting at) a r = not_refused text a.tree (parse.TooDeep r.0) r.0 at a.is_tree r.1
+never_both text p (Typing rule at) a r = all_runs text p at a r.1
 never_both text p _ a r = r
 
 -- one lexical refusal
-same_lexical : (text : List ℕ) (j k : ℕ) (a b : Position) (p q : ℕ) → Refuses text (refusal j p) → Refuses text (refusal k q) → a ≡ position_of text p → b ≡ position_of text q → Lexical j a ≡ Lexical k b
+same_lexical : (text : List ℕ) (j k : ℕ) (a b : Position) (p q : ℕ) → LexRefuses text (refusal j p) → LexRefuses text (refusal k q) → a ≡ position_of text p → b ≡ position_of text q → Lexical j a ≡ Lexical k b
 same_lexical text j k a b p q r s e f =
     let same = lexer.one_refusal text (refusal j p) (refusal k q) r s in
     let kinds : j ≡ k = ap (λ (x : LexRefusal). x.kind) same in
@@ -41,39 +60,96 @@ same_lexical text j k a b p q r s e f =
     let at : a ≡ b = e ∙ ap (position_of text) places ∙ sym f in
     cc
 
-same_syntax : (text : List ℕ) (a b : Position) (s t : List Token) (j k : ℕ) → Tokens text s → Tokens text t → IsSyntax (words_of text s) j → IsSyntax (words_of text t) k
-    → a ≡ position_of text (place_of text s j) → b ≡ position_of text (place_of text t k) → Syntax a ≡ Syntax b
-same_syntax text a b s t j k u v f g e h =
-    let one : s ≡ t = lexer.one_list text s t u v in
-    let numbers : j ≡ k = words.one_place (words_of text t) j k (subst (λ l. IsSyntax (words_of text l) j) one f) g in
-    let at : a ≡ b = e ∙ ap (λ l. position_of text (place_of text l j)) one ∙ ap (λ n. position_of text (place_of text t n)) numbers ∙ sym h in
-    ap Syntax at
+-- one refusal of the tokens
+same_refusal : (text : List ℕ) (r s : ParseRefusal) (j k : ℕ) (a b : Position) → IsRefused text r j a → IsRefused text s k b → r ≡ s
+same_refusal text r s j k a b v w =
+    parser.one_refusal text w.tokens r s (moved text v.tokens w.tokens (λ t. Refuses text t r) v.are_tokens w.are_tokens v.refused) w.refused
+
+same_position : (text : List ℕ) (r s : ParseRefusal) (j k : ℕ) (a b : Position) → IsRefused text r j a → IsRefused text s k b → j ≡ k → a ≡ b
+same_position text r s j k a b v w e =
+    v.position ∙ ap (λ l. position_of text (place_of text l j)) (lexer.one_list text v.tokens w.tokens v.are_tokens w.are_tokens)
+    ∙ ap (λ n. position_of text (place_of text w.tokens n)) e ∙ sym w.position
+
+same_syntax : (text : List ℕ) (j k : ℕ) (a b : Position) → IsRefused text (parse.Syntax j) j a → IsRefused text (parse.Syntax k) k b → Syntax a ≡ Syntax b
+same_syntax text j k a b v w =
+    let same = same_refusal text (parse.Syntax j) (parse.Syntax k) j k a b v w in
+    let numbers : j ≡ k = cc in
+    ap Syntax (same_position text (parse.Syntax j) (parse.Syntax k) j k a b v w numbers)
+
+same_nesting : (text : List ℕ) (j k : ℕ) (a b : Position) → IsRefused text (parse.TooDeep j) j a → IsRefused text (parse.TooDeep k) k b → Nesting a ≡ Nesting b
+same_nesting text j k a b v w =
+    let same = same_refusal text (parse.TooDeep j) (parse.TooDeep k) j k a b v w in
+    let numbers : j ≡ k = cc in
+    ap Nesting (same_position text (parse.TooDeep j) (parse.TooDeep k) j k a b v w numbers)
+
+not_both_ways : (text : List ℕ) (j k : ℕ) (a b : Position) → IsRefused text (parse.Syntax j) j a → IsRefused text (parse.TooDeep k) k b → ⊥
+not_both_ways text j k a b v w = let same = same_refusal text (parse.Syntax j) (parse.TooDeep k) j k a b v w in cc
+
+not_both_orders : (text : List ℕ) (r : LexRefusal) (s : ParseRefusal) (k : ℕ) (at : Position) → LexRefuses text r → IsRefused text s k at → ⊥
+not_both_orders text r s k at v w = lexer.never_both text w.tokens r w.are_tokens v
+
+same_not_yet : (text : List ℕ) (i j : ℕ) (a b : Position) → i ≡ 35 → j ≡ 35 → IsNotYet text a → IsNotYet text b → Typing i a ≡ Typing j b
+same_not_yet text i j a b e f v w =
+    let moved_least = subst (λ t. IsLeast v.place (not_yet t)) (one_tree text v.tree w.tree v.is_tree w.is_tree) v.least in
+    let places : v.place ≡ w.place = one_least v.place w.place (not_yet w.tree) moved_least w.least in
+    let at : a ≡ b = v.position ∙ ap (position_of text) places ∙ sym w.position in
+    let rules : i ≡ j = e ∙ sym f in
+    cc
 
 pub one_refusal : (text : List ℕ) (a b : Ending) → Refused text a → Refused text b → a ≡ b
 one_refusal text TooLong TooLong r s = refl
 one_refusal text TooLong (Lexical k b) r s = absurd (omega (arith, s.0))
-one_refusal text TooLong (Syntax b) r s = absurd (omega (arith, s.0))
+one_refusal text TooLong (Syntax b) r s = absurd (omega (arith, s.1.within))
+one_refusal text TooLong (Nesting b) r s = absurd (omega (arith, s.1.within))
+one_refusal text TooLong (Typing j b) r s = absurd (omega (arith, s.1.is_tree.within))
 one_refusal text (Lexical j a) TooLong r s = absurd (omega (arith, r.0))
 one_refusal text (Lexical j a) (Lexical k b) r s = same_lexical text j k a b r.1 s.1 r.2 s.2 r.3 s.3
-one_refusal text (Lexical j a) (Syntax b) r s = absurd (lexer.never_both text s.1 (refusal j r.1) s.3 r.2)
-one_refusal text (Syntax a) TooLong r s = absurd (omega (arith, r.0))
-one_refusal text (Syntax a) (Lexical k b) r s = absurd (lexer.never_both text r.1 (refusal k s.1) r.3 s.2)
-one_refusal text (Syntax a) (Syntax b) r s = same_syntax text a b r.1 s.1 r.2 s.2 r.3 s.3 r.4 s.4 r.5 s.5
+one_refusal text (Lexical j a) (Syntax b) r s = absurd (not_both_orders text (refusal j r.1) (parse.Syntax s.0) s.0 b r.2 s.1)
+one_refusal text (Lexical j a) (Nesting b) r s = absurd (not_both_orders text (refusal j r.1) (parse.TooDeep s.0) s.0 b r.2 s.1)
+one_refusal text (Lexical j a) (Typing k b) r s = absurd (not_lexical text s.1.tree (refusal j r.1) s.1.is_tree r.2)
+one_refusal text (Syntax a) TooLong r s = absurd (omega (arith, r.1.within))
+one_refusal text (Syntax a) (Lexical k b) r s = absurd (not_both_orders text (refusal k s.1) (parse.Syntax r.0) r.0 a s.2 r.1)
+one_refusal text (Syntax a) (Syntax b) r s = same_syntax text r.0 s.0 a b r.1 s.1
+one_refusal text (Syntax a) (Nesting b) r s = absurd (not_both_ways text r.0 s.0 a b r.1 s.1)
+one_refusal text (Syntax a) (Typing k b) r s = absurd (not_refused text s.1.tree (parse.Syntax r.0) r.0 a s.1.is_tree r.1)
+one_refusal text (Nesting a) TooLong r s = absurd (omega (arith, r.1.within))
+one_refusal text (Nesting a) (Lexical k b) r s = absurd (not_both_orders text (refusal k s.1) (parse.TooDeep r.0) r.0 a s.2 r.1)
+one_refusal text (Nesting a) (Syntax b) r s = absurd (not_both_ways text s.0 r.0 b a s.1 r.1)
+one_refusal text (Nesting a) (Nesting b) r s = same_nesting text r.0 s.0 a b r.1 s.1
+one_refusal text (Nesting a) (Typing k b) r s = absurd (not_refused text s.1.tree (parse.TooDeep r.0) r.0 a s.1.is_tree r.1)
+one_refusal text (Typing j a) TooLong r s = absurd (omega (arith, r.1.is_tree.within))
+one_refusal text (Typing j a) (Lexical k b) r s = absurd (not_lexical text r.1.tree (refusal k s.1) r.1.is_tree s.2)
+one_refusal text (Typing j a) (Syntax b) r s = absurd (not_refused text r.1.tree (parse.Syntax s.0) s.0 b r.1.is_tree s.1)
+one_refusal text (Typing j a) (Nesting b) r s = absurd (not_refused text r.1.tree (parse.TooDeep s.0) s.0 b r.1.is_tree s.1)
+one_refusal text (Typing j a) (Typing k b) r s = same_not_yet text j k a b r.0 s.0 r.1 s.1
 one_refusal text TooLong _ r s = absurd s
 one_refusal text (Lexical j a) _ r s = absurd s
 one_refusal text (Syntax a) _ r s = absurd s
+one_refusal text (Nesting a) _ r s = absurd s
+one_refusal text (Typing j a) _ r s = absurd s
 one_refusal text _ b r s = absurd r
 
 abbrev Judged : List ℕ → Type 0
 Judged text = ((p : List (List Operand)) × IsText text p) ⊎ ((why : Ending) × Refused text why)
 
-of_words : (text : List ℕ) (tokens : List Token) → length text ≤ text_limit → Tokens text tokens
-    → ((p : List (List Operand)) × Parses (words_of text tokens) p) ⊎ ((k : ℕ) × IsSyntax (words_of text tokens) k) → Judged text
-of_words text tokens h t (inl p) = inl (p.0, record { within = h; tokens = tokens; are_tokens = t; parses = p.1 })
-of_words text tokens h t (inr k) = inr (Syntax (position_of text (place_of text tokens k.0)), (h, tokens, k.0, t, k.1, refl))
+of_tree : (text : List ℕ) (tree : Program) → IsTree text tree → (not_yet tree ≡ []) ⊎ ((n : ℕ) × IsLeast n (not_yet tree)) → Judged text
+of_tree text tree t (inl e) = inl (prints_of tree, record { tree = tree; is_tree = t; runs = e; prints = refl })
+of_tree text tree t (inr s) = inr (Typing 35 (position_of text s.0), (refl, record { tree = tree; is_tree = t; place = s.0; least = s.1; position = refl }))
 
-of_tokens : (text : List ℕ) → length text ≤ text_limit → ((tokens : List Token) × Tokens text tokens) ⊎ ((r : LexRefusal) × Refuses text r) → Judged text
-of_tokens text h (inl t) = of_words text t.0 h t.1 (words.judged (words_of text t.0))
+refused_at : (text : List ℕ) (tokens : List Token) (r : ParseRefusal) (k : ℕ) → length text ≤ text_limit → Tokens text tokens → Refuses text tokens r → IsRefused text r k (position_of text (place_of text tokens k))
+refused_at text tokens r k h t w = record { within = h; tokens = tokens; are_tokens = t; refused = w; position = refl }
+
+of_refusal : (text : List ℕ) (tokens : List Token) (r : ParseRefusal) → length text ≤ text_limit → Tokens text tokens → Refuses text tokens r → Judged text
+of_refusal text tokens (parse.Syntax k) h t w = inr (Syntax (position_of text (place_of text tokens k)), (k, refused_at text tokens (parse.Syntax k) k h t w))
+of_refusal text tokens (parse.TooDeep k) h t w = inr (Nesting (position_of text (place_of text tokens k)), (k, refused_at text tokens (parse.TooDeep k) k h t w))
+
+of_answer : (text : List ℕ) (tokens : List Token) → length text ≤ text_limit → Tokens text tokens
+    → ((tree : Program) × IsParsed text tokens tree) ⊎ ((r : ParseRefusal) × Refuses text tokens r) → Judged text
+of_answer text tokens h t (inl p) = of_tree text p.0 (record { within = h; tokens = tokens; are_tokens = t; parsed = p.1 }) (least_or_none (not_yet p.0))
+of_answer text tokens h t (inr r) = of_refusal text tokens r.0 h t r.1
+
+of_tokens : (text : List ℕ) → length text ≤ text_limit → ((tokens : List Token) × Tokens text tokens) ⊎ ((r : LexRefusal) × LexRefuses text r) → Judged text
+of_tokens text h (inl t) = of_answer text t.0 h t.1 (parser.one_of_both text t.0)
 of_tokens text h (inr r) = inr (Lexical r.0.kind (position_of text r.0.at), (h, r.0.at, r.1, refl))
 
 of_length : (text : List ℕ) → (text_limit < length text) ⊎ (length text ≤ text_limit) → Judged text

@@ -1,6 +1,6 @@
 -- What the program as a whole does: the claims that a call of `rgo` carries.
 use Rattle.std.specs.Prelude.{◌≡◌, ℕ, ◌↔◌, ◌⊎◌, List, [], take, None, IfSome}
-use Rattle.rgo_run.specs.declared.tree.Operand.{Operand}
+use Rattle.rgo_run.specs.declared.operands.Operand.{Operand}
 use Rattle.rgo_run.specs.declared.endings.Ending.{Ending}
 use Rattle.rgo_run.specs.declared.endings.Ending.TheVariants.{Exit, Usage, ReadFault, WriteFault, NoMemory}
 use Rattle.rgo_run.specs.Commands.{command_of}

@@ -1,13 +1,11 @@
 pub mod Calls
 pub mod Commands
 pub mod Endings
-pub mod Grammar
 pub mod Headline
-pub mod Operands
 pub mod Positions
 pub mod Printing
-pub mod Reading
 pub mod Reports
+pub mod Running
 pub mod Runs
 pub mod Sources
 pub mod Verdicts

@@ -1,8 +1,8 @@
 -- What a program prints.
 use Rattle.std.specs.Prelude.{ℕ, true, false, List, [], ◌∷◌, ◌++◌, codes, decimal}
 use Rattle.std.specs.List.{flat_map}
-use Rattle.rgo_run.specs.declared.tree.Operand.{Operand}
-use Rattle.rgo_run.specs.declared.tree.Operand.TheVariants.{Text, Number, Truth}
+use Rattle.rgo_run.specs.declared.operands.Operand.{Operand}
+use Rattle.rgo_run.specs.declared.operands.Operand.TheVariants.{Text, Number, Truth}
 
 -- a string as its bytes, an integer in decimal, a boolean by its name
 abbrev pub shown : Operand → List ℕ

@@ -1,7 +1,7 @@
 -- What a run of a program gives out, by how it ends.
 use Rattle.std.specs.Prelude.{ℕ, List, take, Option}
 use Rattle.std.specs.Io.KnownBytes.{Appends}
-use Rattle.rgo_run.specs.declared.tree.Operand.{Operand}
+use Rattle.rgo_run.specs.declared.operands.Operand.{Operand}
 use Rattle.rgo_run.specs.declared.print.RunEnd.{RunEnd}
 use Rattle.rgo_run.specs.declared.print.RunEnd.TheVariants.{Exit, WriteFault, NoMemory}
 use Rattle.rgo_run.specs.Printing.{print_of}

@@ -1,7 +1,7 @@
 -- What reading and running a source leaves, by its ending, before anything is told of it.
 use Rattle.std.specs.Prelude.{ℕ, ◌⊎◌, List, [], Option, IfSome}
 use Rattle.std.specs.Io.KnownBytes.{Appends}
-use Rattle.rgo_run.specs.declared.tree.Operand.{Operand}
+use Rattle.rgo_run.specs.declared.operands.Operand.{Operand}
 use Rattle.rgo_run.specs.declared.endings.Ending.{Ending}
 use Rattle.rgo_run.specs.declared.endings.Ending.TheVariants.{Exit, Usage, ReadFault, TooLong, WriteFault, NoMemory}
 use Rattle.rgo_run.specs.declared.print.RunEnd.TheVariants as run_end

@@ -22,6 +22,10 @@ pub enum Ending {
     Lexical { kind: u8, at: Position },
     /// The tokens are no program's: where the first stands with which no program goes on.
     Syntax { at: Position },
+    /// The program nests too deep: where the first token stands from which on it does.
+    Nesting { at: Position },
+    /// The program breaks a rule of those on its meaning: the rule's number, and where.
+    Typing { rule: u8, at: Position },
     /// A write to `out` failed.
     WriteFault,
     /// Memory ran out.

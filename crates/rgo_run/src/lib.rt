@@ -3,22 +3,18 @@
 
 mod commands;
 mod endings;
-mod expected;
 mod laws;
-mod names;
+mod operands;
 mod positions;
 mod print;
-mod reader;
 mod report;
+mod running;
 #[cfg(test)]
 mod tests;
 mod top;
-mod tree;
-mod words;
 
 pub use commands::Command;
 pub use endings::{Ending, Position};
 pub use laws::one_verdict;
-pub use names::Name;
+pub use operands::Operand;
 pub use top::rgo;
-pub use tree::{Operand, Program, Statement};

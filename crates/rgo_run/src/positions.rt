@@ -29,13 +29,13 @@ fn since_newline(bytes: &[u8]) -> usize
     count
 }
 
-/// The line and the column of a place, which is a number of bytes from the text's beginning.
+/// The line and the column of a place, which is a number of bytes from the text's beginning; of one behind its end, those of
+/// the end.
 pub(crate) fn position_of(text: &[u8], place: usize) -> Position
-    requires within { place ≤ length text.now }
-    requires small { length text.now < 2 ^ 63 }
+    requires { length text.now < 2 ^ 63 }
     ensures { result ≡ position_of text.now place }
 {
-    let before = &text[..place];
+    let before = &text[..place.min(text.len())];
     Position {
         line: 1 + newlines(before),
         column: 1 + since_newline(before),

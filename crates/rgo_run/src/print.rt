@@ -5,7 +5,7 @@ ghost use Rattle.rgo_run.specs.Printing.{shown, line};
 ghost use Rattle.rgo_run.specs.Runs.{Prints};
 ghost use Rattle.rgo_outside.specs.Causes.{Rose};
 
-use crate::tree::{Operand, Program};
+use crate::operands::{Operand, Print};
 use rgo_outside::{Sink, write_all};
 use std::alloc::{AllocError, Global};
 
@@ -44,14 +44,14 @@ fn line_of(alloc: Global, operands: &[Operand]) -> Result<Vec<u8>, AllocError>
     Ok(bytes)
 }
 
-/// Runs a program: gives out the line of each statement, in one piece, before it goes to the next.
-pub(crate) fn run<K: Sink>(alloc: Global, program: &Program, out: &mut K) -> RunEnd
-    ensures prints { Prints program.now result (K.contents out.old) (K.contents out.new) }
+/// Runs prints: gives out the line of each, in one piece, before it goes to the next.
+pub(crate) fn run<K: Sink>(alloc: Global, prints: &[Print], out: &mut K) -> RunEnd
+    ensures prints { Prints prints.now result (K.contents out.old) (K.contents out.new) }
     ensures fault { result ≡ RunEnd.WriteFault → Rose (K.faults out.old) (K.faults out.new) }
     ensures later { K.faults out.old ≤ K.faults out.new }
 {
-    for statement in program.statements() {
-        let Ok(line) = line_of(alloc, statement.operands()) else {
+    for print in prints {
+        let Ok(line) = line_of(alloc, print.operands()) else {
             return RunEnd::NoMemory;
         };
         match write_all(out, &line) {

@@ -1,7 +1,7 @@
 //! The report of an ending: its line on `err`, and its status.
 
 ghost use Rattle.std.specs.Prelude.{◌≡◌, IfOk, string_bytes};
-ghost use Rattle.rgo_run.specs.Endings.{lexical_name, line_of};
+ghost use Rattle.rgo_run.specs.Endings.{lexical_name, rule_name, line_of};
 ghost use Rattle.rgo_run.specs.Reports.{Tells, Reports};
 
 use crate::endings::{Ending, Position};
@@ -41,6 +41,32 @@ fn syntax_line(alloc: Global, at: Position) -> Result<String, AllocError>
     format!(in alloc; "rgo: {line}:{column}: syntax\n")
 }
 
+fn nesting_line(alloc: Global, at: Position) -> Result<String, AllocError>
+    ensures { IfOk result (λ line. string_bytes line ≡ line_of (Ending.Nesting at)) }
+{
+    let line = at.line;
+    let column = at.column;
+    format!(in alloc; "rgo: {line}:{column}: nesting\n")
+}
+
+fn rule_name(rule: u8) -> &'static str
+    ensures { result.now ≡ rule_name rule }
+{
+    match rule {
+        35 => "NotYet",
+        _ => "",
+    }
+}
+
+fn typing_line(alloc: Global, rule: u8, at: Position) -> Result<String, AllocError>
+    ensures { IfOk result (λ line. string_bytes line ≡ line_of (Ending.Typing rule at)) }
+{
+    let line = at.line;
+    let column = at.column;
+    let name = rule_name(rule);
+    format!(in alloc; "rgo: {line}:{column}: type {rule} {name}\n")
+}
+
 // Tries the line once. Where it fails, the status is 10.
 fn tell<E: Sink>(err: &mut E, line: &[u8], status: u8) -> u8
     ensures { Tells line.now status result
@@ -77,6 +103,14 @@ pub(crate) fn report<E: Sink>(alloc: Global, ending: Ending, err: &mut E) -> u8
             Err(_) => tell_no_memory(err),
         },
         Ending::Syntax { at } => match syntax_line(alloc, at) {
+            Ok(line) => tell(err, line.as_bytes(), 1),
+            Err(_) => tell_no_memory(err),
+        },
+        Ending::Nesting { at } => match nesting_line(alloc, at) {
+            Ok(line) => tell(err, line.as_bytes(), 1),
+            Err(_) => tell_no_memory(err),
+        },
+        Ending::Typing { rule, at } => match typing_line(alloc, rule, at) {
             Ok(line) => tell(err, line.as_bytes(), 1),
             Err(_) => tell_no_memory(err),
         },

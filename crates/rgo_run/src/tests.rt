@@ -90,7 +90,9 @@ fn texts_run_or_are_refused_at_the_first_place(rt: HostRuntime) -> Result<(), Fa
             "",
             0,
         ),
+        ("", "", "", 0),
         ("func main() {}", "", "", 0),
+        ("func main() { ; }", "", "", 0),
         (
             "func main() {\n\tfmt.Println()\n\tfmt.Println(\"a  b\", \"\")\n}",
             "\na  b \n",
@@ -104,8 +106,14 @@ fn texts_run_or_are_refused_at_the_first_place(rt: HostRuntime) -> Result<(), Fa
             0,
         ),
         (
-            "func main() { // a comment\n\tfmt.Println(\"a\\tb\", 0x1F, /* two */ 1_000) }",
+            "func main() { // a comment\n\tfmt.Println(\"a\tb\", 0x1F, /* two */ 1_000) }",
             "a\tb 31 1000\n",
+            "",
+            0,
+        ),
+        (
+            "func main() { fmt.Println(\"a\",); fmt.Println(2) }\ntype M struct { }",
+            "a\n2\n",
             "",
             0,
         ),
@@ -122,36 +130,69 @@ fn texts_run_or_are_refused_at_the_first_place(rt: HostRuntime) -> Result<(), Fa
             1,
         ),
         (
-            "func main() { fmt.Println(1 + 2) }",
-            "",
-            "rgo: 4:29: syntax\n",
-            1,
-        ),
-        ("func main() { fmt.Print(1) }", "", "rgo: 4:19: syntax\n", 1),
-        (
             "func main() { fmt.Println(1 2) }",
             "",
             "rgo: 4:29: syntax\n",
             1,
         ),
-        (
-            "func main() { fmt.Println(1,) }",
-            "",
-            "rgo: 4:29: syntax\n",
-            1,
-        ),
-        ("func main() { ; }", "", "rgo: 4:15: syntax\n", 1),
         ("func main() { fmt.Println(1)", "", "rgo: 5:1: syntax\n", 1),
-        ("func main() {}\nfunc", "", "rgo: 5:1: syntax\n", 1),
-        ("", "", "rgo: 5:1: syntax\n", 1),
+        ("func main() {}\nfunc", "", "rgo: 6:1: syntax\n", 1),
     ] {
         expect_run(&rt, with_head(alloc, line)?, SOUND, (print, told, status))?;
     }
+    let grouped = b"package main\nimport (\n\t\"fmt\"\n)\nfunc main() { fmt.Println(7) }\n";
+    expect_run(&rt, grouped.to_vec(alloc)?, SOUND, ("7\n", "", 0))?;
     expect_run(&rt, Vec::new(alloc), SOUND, ("", "rgo: 1:1: syntax\n", 1))?;
     let most = vec![in alloc; b' '; 1_048_576]?;
     expect_run(&rt, most, SOUND, ("", "rgo: 1:1048577: syntax\n", 1))?;
     let long = ("", "rgo: text longer than 1048576 bytes\n", 1);
     expect_run(&rt, vec![in alloc; b' '; 1_048_577]?, SOUND, long)
+}
+
+#[test]
+fn what_does_not_run_yet_is_told_at_its_first_place(rt: HostRuntime) -> Result<(), Fail> {
+    let alloc = rt.alloc();
+    for (line, at) in [
+        ("func main() { fmt.Println(1 + 2) }", "4:15"),
+        ("func main() { fmt.Print(\"a\") }", "4:15"),
+        ("func main() { fmt.Println((\"a\")) }", "4:15"),
+        ("func main() { (fmt.Println)(1) }", "4:15"),
+        ("func main() { fmt.Println(x) }", "4:15"),
+        ("func main() { fmt.Println(1); if true { } }", "4:31"),
+        ("func main() {\n\tfmt.Println(1)\n\treturn\n}", "6:2"),
+        ("var x int", "4:1"),
+        ("var ()", "4:1"),
+        ("type M struct { }\nvar x int", "5:1"),
+        ("func f() {}\nfunc main() { x := 1 }", "4:1"),
+        ("func main() { x := 1 }\nvar y int", "4:15"),
+        ("func main() {}\nfunc main() {}", "5:1"),
+    ] {
+        let told = format!(in alloc; "rgo: {at}: type 35 NotYet\n")?;
+        let text = with_head(alloc, line)?;
+        expect_run(&rt, text, SOUND, ("", told.as_str(), 1))?;
+    }
+    Ok(())
+}
+
+// A text whose `main` has a number in so many parentheses.
+fn nested(alloc: Global, depth: usize) -> Result<Vec<u8>, AllocError> {
+    let mut text = format!(in alloc; "{HEAD}func main() {{ x := ")?
+        .as_bytes()
+        .to_vec(alloc)?;
+    text.extend_from_slice(&vec![in alloc; b'('; depth]?)?;
+    text.push(b'1')?;
+    text.extend_from_slice(&vec![in alloc; b')'; depth]?)?;
+    text.extend_from_slice(b" }\n")?;
+    Ok(text)
+}
+
+#[test]
+fn nesting_has_a_limit(rt: HostRuntime) -> Result<(), Fail> {
+    let alloc = rt.alloc();
+    let most = ("", "rgo: 4:15: type 35 NotYet\n", 1);
+    expect_run(&rt, nested(alloc, 198)?, SOUND, most)?;
+    let deeper = ("", "rgo: 4:218: nesting\n", 1);
+    expect_run(&rt, nested(alloc, 199)?, SOUND, deeper)
 }
 
 #[test]

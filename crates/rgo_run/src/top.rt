@@ -2,36 +2,39 @@
 
 ghost use Rattle.std.specs.Prelude.{◌≡◌, ◌≤◌, ◌⊎◌, ◌<◌, ◌^◌, map, string_bytes, length, IfErr, IfOk, All, None};
 ghost use Rattle.rgo_outside.specs.Causes.{Rose};
-ghost use Rattle.rgo_lexer.specs.Tokens.{Tokens, IsTokenOf};
-ghost use Rattle.rgo_lexer.specs.Refusals.{Fails, IsPlacedIn};
+ghost use Rattle.rgo_lexer.specs.Tokens.{Tokens};
+ghost use Rattle.rgo_lexer.specs.Refusals.{Fails};
+ghost use Rattle.rgo_ast.specs.Views.{program_of};
+ghost use Rattle.rgo_parser.specs.Parsing.{Fails as ParseFails};
 ghost use Rattle.rgo_run.specs.Commands.{command_of};
-ghost use Rattle.rgo_run.specs.Operands.{words_of};
 ghost use Rattle.rgo_run.specs.Positions.{place_of};
-ghost use Rattle.rgo_run.specs.Reading.{ParseFails};
-ghost use Rattle.rgo_run.specs.Verdicts.{IsText, text_limit};
+ghost use Rattle.rgo_run.specs.Verdicts.{IsTree, IsText, text_limit};
 ghost use Rattle.rgo_run.specs.Sources.{Fails as TextFails, Ends, SourceEnds, IsTextEnding};
 ghost use Rattle.rgo_run.specs.Endings.{status_of};
 ghost use Rattle.rgo_run.specs.Headline.{Headline};
 
 use crate::commands::{Command, command_of};
 use crate::endings::Ending;
+use crate::operands::Print;
 use crate::positions::position_of;
 use crate::print::{RunEnd, run};
-use crate::reader::{ParseError, parse};
 use crate::report::report;
-use crate::tree::Program;
+use crate::running::{not_yet, prints_of};
+use rgo_ast::Program;
 use rgo_lexer::{LexError, Token, lex};
 use rgo_outside::{Gate, ReadEnd, Sink, Source, read_all};
+use rgo_parser::{ParseError, ParseRefusal, parse};
 use std::alloc::Global;
 
 /// The most bytes of a text.
 const TEXT_LIMIT: usize = 1_048_576;
 
+/// The rule that what does not run yet breaks.
+const NOT_YET: u8 = 35;
+
 // Where a token begins; for the number of tokens, the text's end.
 fn place_of(text: &[u8], tokens: &[Token], k: usize) -> usize
-    requires { All (IsTokenOf text.now) tokens.now }
-    ensures value { result ≡ place_of text.now tokens.now k }
-    ensures within { result ≤ length text.now }
+    ensures { result ≡ place_of text.now tokens.now k }
 {
     if k < tokens.len() {
         tokens[k].span.start
@@ -42,7 +45,6 @@ fn place_of(text: &[u8], tokens: &[Token], k: usize) -> usize
 
 fn lex_ending(text: &[u8], error: LexError) -> Ending
     requires fails { Fails text.now error }
-    requires placed { IsPlacedIn text.now error }
     requires within { length text.now ≤ text_limit }
     ensures { TextFails text.now result }
 {
@@ -57,31 +59,64 @@ fn lex_ending(text: &[u8], error: LexError) -> Ending
 
 fn parse_ending(text: &[u8], tokens: &[Token], error: ParseError) -> Ending
     requires tokens { Tokens text.now tokens.now }
-    requires fails { ParseFails (words_of text.now tokens.now) error }
-    requires standing { All (IsTokenOf text.now) tokens.now }
+    requires fails { ParseFails text.now tokens.now error }
     requires within { length text.now ≤ text_limit }
     ensures { TextFails text.now result }
 {
     match error {
         ParseError::NoMemory => Ending::NoMemory,
-        ParseError::Syntax { at } => Ending::Syntax {
+        ParseError::Refused(ParseRefusal::Syntax { at }) => Ending::Syntax {
+            at: position_of(text, place_of(text, tokens, at)),
+        },
+        ParseError::Refused(ParseRefusal::TooDeep { at }) => Ending::Nesting {
             at: position_of(text, place_of(text, tokens, at)),
         },
     }
 }
 
-// The program of a text, or why there is none.
-fn compile(alloc: Global, text: &[u8]) -> Result<Program, Ending>
+// The tree of a text, or why there is none.
+fn tree_of(alloc: Global, text: &[u8]) -> Result<Program, Ending>
     requires { length text.now ≤ text_limit }
-    ensures ok { IfOk result (λ program. IsText text.now program) }
+    ensures ok { IfOk result (λ tree. IsTree text.now (program_of tree)) }
     ensures err { IfErr result (TextFails text.now) }
 {
     match lex(alloc, text) {
         Ok(tokens) => match parse(alloc, text, &tokens) {
-            Ok(program) => Ok(program),
+            Ok(tree) => Ok(tree),
             Err(error) => Err(parse_ending(text, &tokens, error)),
         },
         Err(error) => Err(lex_ending(text, error)),
+    }
+}
+
+// The prints of a text's tree, or why it does not run.
+fn runnable(alloc: Global, text: &[u8], tree: &Program) -> Result<Vec<Print>, Ending>
+    requires tree { IsTree text.now (program_of tree.now) }
+    requires within { length text.now ≤ text_limit }
+    ensures ok { IfOk result (λ prints. IsText text.now prints.items) }
+    ensures err { IfErr result (TextFails text.now) }
+{
+    match not_yet(tree) {
+        Some(place) => Err(Ending::Typing {
+            rule: NOT_YET,
+            at: position_of(text, place),
+        }),
+        None => match prints_of(alloc, tree) {
+            Ok(prints) => Ok(prints),
+            Err(_) => Err(Ending::NoMemory),
+        },
+    }
+}
+
+// The program of a text, or why there is none.
+fn compile(alloc: Global, text: &[u8]) -> Result<Vec<Print>, Ending>
+    requires { length text.now ≤ text_limit }
+    ensures ok { IfOk result (λ prints. IsText text.now prints.items) }
+    ensures err { IfErr result (TextFails text.now) }
+{
+    match tree_of(alloc, text) {
+        Ok(tree) => runnable(alloc, text, &tree),
+        Err(ending) => Err(ending),
     }
 }
 
@@ -95,7 +130,7 @@ fn run_text<K: Sink>(alloc: Global, text: &[u8], out: &mut K) -> Ending
     ensures later { K.faults out.old ≤ K.faults out.new }
 {
     match compile(alloc, text) {
-        Ok(program) => match run(alloc, &program, out) {
+        Ok(prints) => match run(alloc, &prints, out) {
             RunEnd::Exit => Ending::Exit,
             RunEnd::WriteFault => Ending::WriteFault,
             RunEnd::NoMemory => Ending::NoMemory,
