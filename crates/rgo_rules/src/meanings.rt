@@ -1,0 +1,37 @@
+//! What names mean, and what functions take and give.
+
+use crate::kinds::Kind;
+use rgo_typed::Base;
+
+/// What a name in scope means. A number is that of a local variable in its function, and else that
+/// of its kind in the package.
+#[derive(Clone, Copy)]
+pub enum Meaning {
+    /// A local variable.
+    Local(usize),
+    /// A package variable.
+    Global(usize),
+    /// A function.
+    Function(usize),
+    /// A struct.
+    Struct(usize),
+    /// `int` or `bool`.
+    Basic(Base),
+    /// `true` or `false`.
+    Truth(bool),
+    /// `nil`.
+    Nil,
+    /// `len`.
+    Len,
+    /// `close`.
+    Close,
+    /// `fmt`, and whether it is imported.
+    Package(bool),
+}
+
+/// What a function takes and gives.
+#[derive(Drop)]
+pub struct Signature<'a> {
+    pub params: Vec<Kind<'a>>,
+    pub result_type: Option<Kind<'a>>,
+}

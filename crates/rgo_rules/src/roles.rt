@@ -1,0 +1,14 @@
+//! In which place an expression stands.
+
+/// The place of an expression: what it is judged as.
+#[derive(Clone, Copy, Debug, PartialEq, Eq)]
+pub enum Role {
+    /// A value that is wanted.
+    Value,
+    /// An argument of `fmt.Println`.
+    Printed,
+    /// An expression statement.
+    Alone,
+    /// The left side of `=`.
+    Target,
+}

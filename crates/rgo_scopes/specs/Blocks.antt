@@ -1,0 +1,49 @@
+-- Names with what they mean, block by block: a name means its newest declaration in the innermost
+-- block that declares it.
+use Rattle.std.specs.Prelude.{ℕ, List, [], ◌∷◌, Option, None, Some, bytes_eq, if◌then◌else◌}
+use Rattle.std.specs.Option.{option_or}
+
+-- the declarations of a block, the newest first: each a name with its value
+abbrev pub Block : Type 0 → Type 0
+Block T = List (List ℕ × T)
+
+-- the innermost block, and those round it, from the inside to the outside
+pub record Blocks (T : Type 0) : Type 0 where
+  pub here : Block T
+  pub outer : List (Block T)
+
+module _ {T : Type 0} where
+  -- one block with no names
+  abbrev pub no_names : Blocks T
+  no_names = record { here = []; outer = [] }
+
+  -- what a name means in a block: its newest declaration there
+  abbrev pub found_in : List ℕ → Block T → Option T
+  found_in name [] = None
+  found_in name (d ∷ ds) = if bytes_eq d.0 name then Some d.1 else found_in name ds
+
+  -- what it means in the innermost of these blocks that declares it
+  abbrev pub found_outside : List ℕ → List (Block T) → Option T
+  found_outside name [] = None
+  found_outside name (b ∷ bs) = option_or (found_in name b) (found_outside name bs)
+
+  -- what it means
+  abbrev pub found : List ℕ → Blocks T → Option T
+  found name s = option_or (found_in name s.here) (found_outside name s.outer)
+
+  -- with a new declaration in the innermost block
+  abbrev pub declared : List ℕ → T → Blocks T → Blocks T
+  declared name value s = record { here = (name, value) ∷ s.here; outer = s.outer }
+
+  -- with a new block inside the innermost
+  abbrev pub entered : Blocks T → Blocks T
+  entered s = record { here = []; outer = s.here ∷ s.outer }
+
+  -- the first of these blocks as the innermost, and no names where there is none
+  abbrev pub left_to : List (Block T) → Blocks T
+  left_to [] = no_names
+  left_to (b ∷ bs) = record { here = b; outer = bs }
+
+  -- without the innermost block
+  abbrev pub left : Blocks T → Blocks T
+  left s = left_to s.outer

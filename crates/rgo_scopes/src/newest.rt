@@ -1,0 +1,53 @@
+//! What each name means at this moment, by a hash of the name.
+
+ghost use Rattle.std.specs.Prelude.{◌≡◌, List, ℕ, Some, IsSome, OnOk, OnErr, bytes_eq, if◌then◌else◌};
+ghost use Rattle.rgo_scopes.specs.Newest.{noted, Notes};
+
+use indexmap::IndexMap;
+use std::alloc::AllocError;
+
+/// A declaration that a name means: its value, and how many blocks stand outside its own.
+#[derive(Clone, Copy)]
+pub(crate) struct Seen<T> {
+    pub(crate) value: T,
+    pub(crate) block: usize,
+}
+
+/// What each name means. A name that is no more declared keeps its place.
+pub(crate) type Newest<'a, T> = IndexMap<&'a [u8], Option<Seen<T>>>;
+
+/// What a name means.
+pub(crate) fn look_up<'a, T: Copy>(newest: &Newest<'a, T>, name: &[u8]) -> Option<Seen<T>>
+    ensures { result ≡ noted newest.now name.now }
+{
+    match newest.get(name) {
+        Some(seen) => *seen,
+        None => None,
+    }
+}
+
+/// Lets a name mean a declaration, new or newer.
+pub(crate) fn note<'a, T: Copy>(
+    newest: &mut Newest<'a, T>,
+    name: &'a [u8],
+    seen: Seen<T>,
+) -> Result<(), AllocError>
+    ensures noted { OnOk result (Notes newest.old name.now (Some seen) newest.new) }
+    ensures err { OnErr result (newest.new.entries ≡ newest.old.entries) }
+{
+    newest.insert(name, Some(seen))?;
+    Ok(())
+}
+
+/// Lets a name that means something mean what it did before. Its entry is there, so that this takes
+/// no memory.
+pub(crate) fn restore<'a, T: Copy>(
+    newest: &mut Newest<'a, T>,
+    name: &'a [u8],
+    seen: Option<Seen<T>>,
+)
+    requires { IsSome (noted newest.old name.now) }
+    ensures noted { Notes newest.old name.now seen newest.new }
+{
+    newest.insert(name, seen).unwrap();
+}

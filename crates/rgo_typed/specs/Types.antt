@@ -1,0 +1,19 @@
+-- What is said of types: which of them may be nil.
+use Rattle.std.specs.Prelude.{Bool, true, false, List, [], ◌∷◌}
+use Rattle.rgo_typed.specs.declared.types.Ty.{Ty}
+use Rattle.rgo_typed.specs.declared.types.Base.{Base}
+use Rattle.rgo_typed.specs.declared.types.Base.TheVariants as base
+use Rattle.rgo_typed.specs.declared.types.Layer.{Layer}
+
+abbrev pub is_pointer_base : Base → Bool
+is_pointer_base (base.Pointer struct) = true
+is_pointer_base _ = false
+
+-- inside these layers
+abbrev pub is_pointer_like_in : List Layer → Base → Bool
+is_pointer_like_in [] b = is_pointer_base b
+is_pointer_like_in (layer ∷ layers) b = true
+
+-- a pointer, a slice or a channel
+abbrev pub is_pointer_like : Ty → Bool
+is_pointer_like ty = is_pointer_like_in ty.layers ty.base

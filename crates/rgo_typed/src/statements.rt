@@ -1,0 +1,66 @@
+//! Statements of typed trees. Their terms are boxed, which keeps statements small.
+
+use crate::actions::Action;
+use crate::lists::Row;
+use crate::terms::Term;
+use crate::types::Ty;
+use rgo_ast::{BinaryOp, Name, Place};
+
+/// What a print writes: bytes as they are, or the next value.
+#[derive(Drop)]
+pub enum Piece {
+    Text(Name),
+    Value,
+}
+
+/// A statement. Where a trap can come of it, it has the place of that trap.
+#[derive(Drop)]
+pub enum Stmt {
+    /// A block, at whose end its local variables go out of scope. A statement with a header
+    /// stands in one.
+    Block(Vec<Stmt>),
+    /// The local variable of this number begins with a value, at the `=` or `:=`.
+    Declare(usize, Ty, Box<Term>, Place),
+    /// The local variable of this number begins with the zero of its type, at its name.
+    Zero(usize, Ty, Place),
+    /// The local variable of this number is given a value.
+    Assign(usize, Box<Term>, Place),
+    /// A store, a send, a close, a package variable set: its operands, and then the action.
+    Perform(Action, Vec<Term>, Place),
+    /// An assignment that computes first, to a field, an element or a package variable: the
+    /// operands of the variable, its read, the value, the operator, the write.
+    Update {
+        operands: Vec<Term>,
+        read: Action,
+        /// The type of the variable.
+        ty: Ty,
+        read_at: Place,
+        op: BinaryOp,
+        value: Box<Term>,
+        write: Action,
+        /// The place of the operator and of the write.
+        at: Place,
+    },
+    /// A value that is not used.
+    Discard(Box<Term>),
+    /// A call of the function of this number, which has no result.
+    Invoke(usize, Vec<Term>, Place),
+    /// `go f(a, b)`, by the function's number.
+    Go(usize, Vec<Term>, Place),
+    /// `fmt.Println`, by its pieces and the values among them.
+    Print(Row<Piece>, Vec<Term>, Place),
+    /// `if` without `else`.
+    If(Box<Term>, Vec<Stmt>, Place),
+    /// `if` with `else`.
+    IfElse(Box<Term>, Vec<Stmt>, Vec<Stmt>, Place),
+    /// `for`, behind its first statement.
+    Loop {
+        test: Option<Box<Term>>,
+        body: Vec<Stmt>,
+        post: Vec<Stmt>,
+        at: Place,
+    },
+    Break(Place),
+    Continue(Place),
+    Return(Option<Box<Term>>, Place),
+}

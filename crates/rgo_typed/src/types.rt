@@ -1,0 +1,39 @@
+//! Types. A type is a row of `[]` and `chan` round a base, so that no type holds a type.
+
+ghost use Rattle.std.specs.Prelude.{◌≡◌};
+ghost use Rattle.rgo_typed.specs.Types.{is_pointer_like};
+
+use crate::lists::Row;
+
+/// `[]` or `chan`.
+#[derive(Clone, Copy, Debug, PartialEq, Eq)]
+pub enum Layer {
+    Slice,
+    Chan,
+}
+
+/// What stands inside all layers of a type.
+#[derive(Clone, Copy, Debug, PartialEq, Eq)]
+pub enum Base {
+    Int,
+    Bool,
+    /// A pointer to the struct of this number.
+    Pointer(usize),
+}
+
+/// A type (The Go Programming Language Specification, "Types"): its layers, the outermost first,
+/// and what stands inside them.
+#[derive(Drop)]
+pub struct Ty {
+    pub layers: Row<Layer>,
+    pub base: Base,
+}
+
+impl Ty {
+    /// Whether its values may be nil: whether it is a pointer, a slice or a channel.
+    pub fn is_pointer_like(&self) -> bool
+        ensures { result ≡ is_pointer_like self.now }
+    {
+        !self.layers.items().is_empty() || matches!(self.base, Base::Pointer(_))
+    }
+}

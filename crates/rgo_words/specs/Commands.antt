@@ -1,0 +1,38 @@
+-- What the words of a command line ask for, and what a reader of them answers.
+use Rattle.std.specs.Prelude.{◌≡◌, Bool, true, false, List, [], ◌∷◌, Option, Some, None, Result, MatchResult, codes, if◌then◌else◌, option_and_then}
+use Rattle.std.specs.Str.{bytes_eq}
+use Rattle.clap.specs.Words.{Kinds, Row, Text, fault_of, subcommand_of}
+use Rattle.rgo_words.specs.Parser.{parser}
+use Rattle.rgo_words.specs.declared.commands.Command.{Command}
+use Rattle.rgo_words.specs.declared.commands.Command.TheVariants.{Run, Check}
+use Rattle.rgo_words.specs.declared.commands.WordsError.{WordsError}
+use Rattle.rgo_words.specs.declared.commands.WordsError.TheVariants.{Usage}
+
+-- the command of a name
+abbrev pub command_named : Text → Option Command
+command_named name =
+    if bytes_eq name (codes "run") then Some Run
+    else (if bytes_eq name (codes "check") then Some Check else None)
+
+-- the command of the subcommand that was met, if any
+abbrev pub command_met : Option (Text × List Row) → Option Command
+command_met = option_and_then (λ met. command_named met.0)
+
+-- there is something to refuse the words for
+abbrev pub has_fault : Kinds → Bool
+has_fault [] = false
+has_fault (kind ∷ rest) = true
+
+-- `clap` refuses the words, whatever memory there is
+abbrev pub is_refused : List Text → Bool
+is_refused words = has_fault (fault_of parser words)
+
+-- what the words ask for, if anything; the first is the program's name
+abbrev pub command_of : List Text → Option Command
+command_of words = if is_refused words then None else command_met (subcommand_of parser words)
+
+-- the answer is what the words ask for, and `Usage` only where they ask for nothing
+abbrev pub Reads : List Text → Result Command WordsError → Type 0
+Reads words answer = MatchResult answer
+    (λ command. command_of words ≡ Some command)
+    (λ error. error ≡ Usage → command_of words ≡ None)
