@@ -1,0 +1,9 @@
+pub mod Callees
+pub mod Judges
+pub mod Judging
+pub mod Scopes
+pub mod Sites
+pub mod Tells
+pub mod Terms
+pub mod Types
+pub mod Views
