@@ -60,7 +60,7 @@ abbrev pub struct_fields : Package → Option Meaning → Fields
 struct_fields p m = fields_at p (struct_number m)
 
 abbrev pub element_types : Package → Option Meaning → Elements → Option (List (Option Ty))
-element_types p m elements = known_if m (field_types (struct_fields p m) elements)
+element_types p m members = known_if m (field_types (struct_fields p m) members)
 
 -- one of the elements has the field of an earlier one, or of these
 abbrev pub has_twice : Blocks ℕ → Elements → Bool
@@ -96,7 +96,7 @@ own p g r (tree.Name x) = (x.at, node.Name r (meaning_of p g x.name)) ∷ []
 own p g r (tree.Paren e at) = own p g r e
 own p g r (tree.New x at) = (at, node.Pointed (meaning_of p g x.name)) ∷ []
 own p g r (tree.MakeSlice ty e at) = (at, node.Size (type_of p g e)) ∷ []
-own p g r (tree.MakeChan ty capacity at) = capacity_own p g capacity at
+own p g r (tree.MakeChan ty room at) = capacity_own p g room at
 own p g r (tree.Select e field) = (field.at, node.Selector (is_some (field_of p (type_of p g e) field.name))) ∷ []
 own p g r (tree.Index a i at) = (at, node.Index (type_of p g a) (type_of p g i)) ∷ []
 own p g r (tree.Called f args at) =
@@ -105,10 +105,10 @@ own p g r (tree.Unary op e at) = (at, node.Unary op (type_of p g e)) ∷ []
 own p g r (tree.Binary op a b at) = (at, node.Binary op (type_of p g a) (type_of p g b)) ∷ []
 own p g r (tree.Literal x values at) =
     (at, node.Literal (struct_types p (meaning_of p g x.name)) (types_of p g values)) ∷ []
-own p g r (tree.Keyed x elements at) = (
+own p g r (tree.Keyed x members at) = (
   at,
-  node.Keyed (element_types p (meaning_of p g x.name) elements) (has_twice no_names elements)
-      (types_of p g (values_of elements)),
+  node.Keyed (element_types p (meaning_of p g x.name) members) (has_twice no_names members)
+      (types_of p g (values_of members)),
 ) ∷ []
 
 abbrev mutual
@@ -120,7 +120,7 @@ abbrev mutual
   parts p g (tree.Paren e at) = parts p g e
   parts p g (tree.New x at) = base_site p g x ∷ []
   parts p g (tree.MakeSlice ty e at) = ty_sites p g ty ++ (parts p g e ++ own p g role.Value e)
-  parts p g (tree.MakeChan ty capacity at) = ty_sites p g ty ++ capacity_nodes p g capacity
+  parts p g (tree.MakeChan ty room at) = ty_sites p g ty ++ capacity_nodes p g room
   parts p g (tree.Select e field) = (parts p g e ++ own p g role.Value e)
   parts p g (tree.Index a i at) = (parts p g a ++ own p g role.Value a) ++ (parts p g i ++ own p g role.Value i)
   parts p g (tree.Called f args at) =
@@ -128,7 +128,7 @@ abbrev mutual
   parts p g (tree.Unary op e at) = (parts p g e ++ own p g role.Value e)
   parts p g (tree.Binary op a b at) = (parts p g a ++ own p g role.Value a) ++ (parts p g b ++ own p g role.Value b)
   parts p g (tree.Literal x values at) = base_site p g x ∷ all_nodes p g role.Value values
-  parts p g (tree.Keyed x elements at) = base_site p g x ∷ element_nodes p g elements
+  parts p g (tree.Keyed x members at) = base_site p g x ∷ element_nodes p g members
 
   pub all_nodes : Package → Scope → Role → Exprs → List Site
   all_nodes p g r tree.no_exprs = []

@@ -30,5 +30,5 @@ found_field (Some f) = Some (f.number, kind_of f.kind)
 
 -- the fields that elements name
 abbrev pub FieldsOf : Named → Fields → Elements → Type 0
-FieldsOf n fields elements =
-    (map optional_kind_of n.kinds.items ≡ field_types fields elements) × (n.numbers.items ≡ element_numbers fields elements)
+FieldsOf n fields members =
+    (map optional_kind_of n.kinds.items ≡ field_types fields members) × (n.numbers.items ≡ element_numbers fields members)

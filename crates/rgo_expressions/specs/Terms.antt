@@ -149,8 +149,8 @@ abbrev mutual
   term_of p g (tree.New x at) =
       atom (action.New (struct_number (meaning_of p g x.name))) (plain (pointer_base (meaning_of p g x.name))) at
   term_of p g (tree.MakeSlice ty e at) = Apply action.Slice (one (term_of p g e)) (slice_of (resolved p g ty)) at
-  term_of p g (tree.MakeChan ty capacity at) =
-      Apply action.Chan (one (capacity_term p g capacity at)) (chan_of (resolved p g ty)) at
+  term_of p g (tree.MakeChan ty room at) =
+      Apply action.Chan (one (capacity_term p g room at)) (chan_of (resolved p g ty)) at
   term_of p g (tree.Select e field) = field_term (field_of p (type_of p g e) field.name) (term_of p g e) field.at
   term_of p g (tree.Index a i at) = Apply action.At (two (term_of p g a) (term_of p g i)) (element_type (type_of p g a)) at
   term_of p g (tree.Called f args at) =
@@ -161,10 +161,10 @@ abbrev mutual
   term_of p g (tree.Literal x values at) =
       build (struct_number (meaning_of p g x.name))
       (all_terms p g (struct_fields p (meaning_of p g x.name)).types values) at
-  term_of p g (tree.Keyed x elements at) =
+  term_of p g (tree.Keyed x members at) =
       Build (struct_number (meaning_of p g x.name))
-      (element_terms p g (field_types (struct_fields p (meaning_of p g x.name)) elements) elements)
-      (element_numbers (struct_fields p (meaning_of p g x.name)) elements) at
+      (element_terms p g (field_types (struct_fields p (meaning_of p g x.name)) members) members)
+      (element_numbers (struct_fields p (meaning_of p g x.name)) members) at
 
   -- the room of a channel; none is 0
   pub capacity_term : Package → Scope → Capacity → ℕ → Term

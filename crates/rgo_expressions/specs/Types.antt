@@ -109,7 +109,7 @@ type_of p g (tree.Name x) = shape_of_meaning p g (meaning_of p g x.name)
 type_of p g (tree.Paren e at) = type_of p g e
 type_of p g (tree.New x at) = pointer_shape (meaning_of p g x.name)
 type_of p g (tree.MakeSlice ty e at) = shape.Value (slice_of (resolved p g ty))
-type_of p g (tree.MakeChan ty capacity at) = shape.Value (chan_of (resolved p g ty))
+type_of p g (tree.MakeChan ty room at) = shape.Value (chan_of (resolved p g ty))
 type_of p g (tree.Select e field) = field_shape (field_of p (type_of p g e) field.name)
 type_of p g (tree.Index a i at) = element_shape (type_of p g a)
 type_of p g (tree.Called f args at) = call_shape p (callee_of p g f)
@@ -117,7 +117,7 @@ type_of p g (tree.Unary op e at) = constant_or (folded_shape op (type_of p g e))
 type_of p g (tree.Binary op a b at) =
     constant_or (folded_shapes op (type_of p g a) (type_of p g b)) (shape.Value (binary_type op))
 type_of p g (tree.Literal x values at) = pointer_shape (meaning_of p g x.name)
-type_of p g (tree.Keyed x elements at) = pointer_shape (meaning_of p g x.name)
+type_of p g (tree.Keyed x members at) = pointer_shape (meaning_of p g x.name)
 
 abbrev pub types_of : Package → Scope → Exprs → List Shape
 types_of p g tree.no_exprs = []
