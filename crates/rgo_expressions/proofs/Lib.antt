@@ -3,3 +3,4 @@ pub mod FieldLists
 pub mod Keys
 pub mod Lists
 pub mod Numbers
+pub mod Typed

@@ -1,6 +1,7 @@
 pub mod Callees
 pub mod Judges
 pub mod Judging
+pub mod Laws
 pub mod Scopes
 pub mod Sites
 pub mod Tells

@@ -1,0 +1,14 @@
+use Rattle.std.proofs.Common.{◌≡◌, map, drop}
+use Rattle.rgo_expressions.specs.Views.{package_of, scope_of}
+use Rattle.rgo_expressions.specs.Sites.{first_fault}
+use Rattle.rgo_ast.specs.Views.{binding_of}
+use Rattle.rgo_expressions.specs.Scopes.{no_locals}
+use Rattle.rgo_types.specs.Programs.{bindings_sites, bound}
+use Rattle.rgo_types.proofs.signatures.judge_bindings.Given as goal
+
+abbrev pub invariant-loop-binding : goal.invariant-loop-binding
+invariant-loop-binding l =
+    (first_fault (bindings_sites (package_of l.globals) (scope_of l.scope) (map binding_of (drop l.binding-index l.bindings)))
+    ≡ first_fault (bindings_sites (package_of l.globals) no_locals (map binding_of l.bindings)))
+    × (bound (package_of l.globals) (scope_of l.scope) (map binding_of (drop l.binding-index l.bindings))
+    ≡ bound (package_of l.globals) no_locals (map binding_of l.bindings))

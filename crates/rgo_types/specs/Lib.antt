@@ -1,0 +1,4 @@
+pub mod Bodies
+pub mod Programs
+pub mod Statements
+pub mod Views

@@ -1,0 +1,112 @@
+//! Assignments, of their judged sides.
+#![tactic(auto, using(rgo_typed::proofs::Rows::rows))]
+
+ghost use Rattle.std.specs.Prelude.{◌≡◌, IfOk, map};
+ghost use Rattle.rgo_typed.specs.Tree.{terms_of};
+ghost use Rattle.rgo_typed.specs.Views.{term_of, stmt_of};
+ghost use Rattle.rgo_types.specs.Bodies as spec;
+ghost use Rattle.rgo_types.specs.Statements as statements;
+
+use rgo_ast::{AssignOp, BinaryOp, Place, StepOp};
+use rgo_expressions::{apply_two, plain};
+use rgo_typed::{Action, Base, Stmt, Term, Ty};
+use std::alloc::{AllocError, Global};
+
+/// The operator of an assignment that computes first.
+pub(crate) fn assign_op(op: AssignOp) -> Option<BinaryOp>
+    ensures { result ≡ statements.assign_op op }
+{
+    match op {
+        AssignOp::Plain => None,
+        AssignOp::Add => Some(BinaryOp::Add),
+        AssignOp::Sub => Some(BinaryOp::Sub),
+        AssignOp::Mul => Some(BinaryOp::Mul),
+        AssignOp::Div => Some(BinaryOp::Div),
+        AssignOp::Rem => Some(BinaryOp::Rem),
+    }
+}
+
+/// The operator of `++` and `--`.
+pub(crate) fn step_op(op: StepOp) -> BinaryOp
+    ensures { result ≡ statements.step_op op }
+{
+    match op {
+        StepOp::Increment => BinaryOp::Add,
+        StepOp::Decrement => BinaryOp::Sub,
+    }
+}
+
+/// The write of what is read so.
+fn write_of(read: Action) -> Option<Action>
+    ensures { result ≡ spec.write_of read }
+{
+    match read {
+        Action::Get(number) => Some(Action::Set(number)),
+        Action::Load(number) => Some(Action::Store(number)),
+        Action::At => Some(Action::Put),
+        _ => None,
+    }
+}
+
+/// The operands with one more at their end.
+fn ended(operands: Vec<Term>, value: Term) -> Result<Vec<Term>, AllocError>
+    ensures { IfOk result (λ all. terms_of (map term_of all.items) ≡ spec.ended (terms_of (map term_of operands.items)) (term_of value)) }
+{
+    let mut all = operands;
+    all.push(value)?;
+    Ok(all)
+}
+
+/// The left side of an assignment is given a value.
+pub(crate) fn stored(alloc: Global, left: Term, value: Term, at: Place) -> Result<Stmt, AllocError>
+    ensures { IfOk result (λ s. stmt_of s ≡ spec.stored (term_of left) (term_of value) at) }
+{
+    match left {
+        Term::Local(number) => Ok(Stmt::Assign(number, Box::new(alloc, value)?, at)),
+        Term::Apply(read, parts, _, _) => match write_of(read) {
+            Some(write) => Ok(Stmt::Perform(write, ended(parts, value)?, at)),
+            None => Ok(Stmt::Discard(Box::new(alloc, value)?)),
+        },
+        _ => Ok(Stmt::Discard(Box::new(alloc, value)?)),
+    }
+}
+
+/// The left side of an assignment is read, computed with and written.
+pub(crate) fn changed(
+    alloc: Global,
+    op: BinaryOp,
+    left: Term,
+    value: Term,
+    at: Place,
+) -> Result<Stmt, AllocError>
+    ensures { IfOk result (λ s. stmt_of s ≡ spec.changed op (term_of left) (term_of value) at) }
+{
+    match left {
+        Term::Local(number) => {
+            let ty = plain(alloc, Base::Int);
+            let value = apply_two(
+                alloc,
+                Action::Binary(op),
+                Term::Local(number),
+                value,
+                ty,
+                at,
+            )?;
+            Ok(Stmt::Assign(number, Box::new(alloc, value)?, at))
+        }
+        Term::Apply(read, operands, ty, read_at) => match write_of(read) {
+            Some(write) => Ok(Stmt::Update {
+                operands,
+                read,
+                ty,
+                read_at,
+                op,
+                value: Box::new(alloc, value)?,
+                write,
+                at,
+            }),
+            None => Ok(Stmt::Discard(Box::new(alloc, value)?)),
+        },
+        _ => Ok(Stmt::Discard(Box::new(alloc, value)?)),
+    }
+}

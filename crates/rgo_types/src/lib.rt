@@ -1,0 +1,18 @@
+//! The typing: whether a program keeps the rules on meaning, and its typed tree where it does.
+#![tactic(auto)]
+
+mod assignments;
+mod bodies;
+mod calls;
+mod checking;
+mod flow;
+mod locals;
+mod numbering;
+mod prints;
+mod signatures;
+mod statements;
+#[cfg(test)]
+mod tests;
+
+pub use checking::check;
+pub use rgo_expressions::{TypeError, TypeRefusal};
