@@ -1,0 +1,30 @@
+-- Fields of structs, read and written.
+use Rattle.std.specs.Prelude.{ℕ, Option, Some, None, Result, Ok, Err, slice_get, slice_set}
+use Rattle.rgo_values.specs.declared.values.Value.{Value}
+use Rattle.rgo_values.specs.declared.values.Value.TheVariants as value
+use Rattle.rgo_values.specs.declared.traps.Trap.{Trap}
+use Rattle.rgo_values.specs.declared.traps.Trap.TheVariants.{NilPointer}
+use Rattle.rgo_memory.specs.Memory.{Object, StructObject, Memory}
+use Rattle.rgo_memory.specs.Effects.{Outcome, Does, Traps, Effect, nothing, at_object}
+
+abbrev pub or_nil : Option Value → Value
+or_nil (Some v) = v
+or_nil None = value.Nil
+
+abbrev pub field_of : Option Object → ℕ → Value
+field_of (Some (StructObject cells)) k = or_nil (slice_get cells k)
+field_of _ k = value.Nil
+
+abbrev pub load : Memory → Value → ℕ → Result Value Trap
+load m value.Nil k = Err NilPointer
+load m (value.Object n) k = Ok (field_of (slice_get m.heap n) k)
+load m _ k = Ok value.Nil
+
+abbrev pub stored : ℕ → Value → Object → Outcome Object
+stored k v (StructObject cells) = Does (StructObject (slice_set cells k v)) value.Nil
+stored k v object = nothing object
+
+abbrev pub store : Memory → Value → ℕ → Value → Effect
+store m value.Nil k v = Traps NilPointer
+store m (value.Object n) k v = at_object m n (stored k v)
+store m _ k v = nothing m

@@ -1,0 +1,9 @@
+pub mod Channels
+pub mod Effects
+pub mod Elements
+pub mod Fields
+pub mod Making
+pub mod Memory
+pub mod Opening
+pub mod Perform
+pub mod Views

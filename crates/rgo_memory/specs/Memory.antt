@@ -1,0 +1,18 @@
+-- Objects and the memory that holds them, as plain data.
+use Rattle.std.specs.Prelude.{ℕ, Bool, List, slice_set}
+use Rattle.rgo_values.specs.declared.values.Value.{Value}
+
+-- the cells of a struct or of a slice; or a channel, with what was sent and not yet received, the oldest first
+pub data Object : Type 0 where
+  StructObject : (cells : List Value) → Object
+  SliceObject : (cells : List Value) → Object
+  Channel : (capacity : ℕ) (queue : List Value) (closed : Bool) → Object
+
+-- the objects and the package variables, each numbered by its position
+pub record Memory : Type 0 where
+  pub heap : List Object
+  pub variables : List Value
+
+-- the memory with another object of that number
+abbrev pub with_object : Memory → ℕ → Object → Memory
+with_object m n object = record m { heap = slice_set m.heap n object }

@@ -1,0 +1,37 @@
+-- The views: of the code's objects and memory, the plain data that contracts say of them, and what an answer
+-- of the code says of a definition's.
+use Rattle.std.specs.Prelude.{◌≡◌, ⊤, map, Result, Ok, Err}
+use Rattle.std.specs.declared.alloc.AllocError.{AllocError}
+use Rattle.rgo_values.specs.declared.values.Value.{Value}
+use Rattle.rgo_values.specs.declared.traps.Trap.{Trap}
+use Rattle.rgo_memory.specs.declared.objects.Object.{Object as CodeObject}
+use Rattle.rgo_memory.specs.declared.objects.Object.TheVariants as code
+use Rattle.rgo_memory.specs.declared.memory.Memory.{Memory as CodeMemory}
+use Rattle.rgo_memory.specs.declared.effects.Effect.{Effect as CodeEffect}
+use Rattle.rgo_memory.specs.declared.effects.Effect.TheVariants as effect
+use Rattle.rgo_memory.specs.Memory.{Object, StructObject, SliceObject, Channel, Memory}
+use Rattle.rgo_memory.specs.Effects.{Outcome, Does, Traps, Waits}
+
+abbrev pub object_of : CodeObject → Object
+object_of (code.Struct cells) = StructObject cells.items
+object_of (code.Slice cells) = SliceObject cells.items
+object_of (code.Channel c) = Channel c.capacity c.queue.items c.closed
+
+abbrev pub memory_of : CodeMemory → Memory
+memory_of m = record { heap = map object_of m.objects.items; variables = m.variables.items }
+
+-- the answer of what only reads
+abbrev pub effect_of : Result Value Trap → CodeEffect
+effect_of (Ok v) = effect.Gives v
+effect_of (Err trap) = effect.Traps trap
+
+-- the answer, and what it leaves of what was before, are that outcome
+abbrev pub Leaves : {S : Type 0} → CodeEffect → S → S → Outcome S → Type 0
+Leaves (effect.Gives v) before after outcome = outcome ≡ Does after v
+Leaves (effect.Traps trap) before after outcome = (outcome ≡ Traps trap) × (after ≡ before)
+Leaves effect.Waits before after outcome = (outcome ≡ Waits) × (after ≡ before)
+
+-- the same; want of memory says nothing
+abbrev pub Performs : {S : Type 0} → Result CodeEffect AllocError → S → S → Outcome S → Type 0
+Performs (Ok answer) before after outcome = Leaves answer before after outcome
+Performs (Err e) before after outcome = ⊤

@@ -1,0 +1,126 @@
+//! Channels (The Go Programming Language Specification, "Channel types", "Receive operator", "Send
+//! statements", "Close"): first in, first out. A channel that is nil is never ready.
+
+ghost use Rattle.std.specs.Prelude.{◌≡◌};
+ghost use Rattle.rgo_memory.specs.Channels.{received, receive, sent, send, shut, close};
+ghost use Rattle.rgo_memory.specs.Channels.{is_meeting_place, meets_at};
+ghost use Rattle.rgo_memory.specs.Views.{Leaves, Performs, object_of, memory_of};
+
+use crate::effects::Effect;
+use crate::memory::Memory;
+use crate::objects::Object;
+use rgo_values::{Trap, Value};
+use std::alloc::AllocError;
+
+fn receive_from(object: &mut Object, blank: Value) -> Effect
+    ensures { Leaves result (object_of object.old) (object_of object.new)
+        (received blank (object_of object.old)) }
+{
+    let Object::Channel(channel) = object else {
+        return Effect::Gives(Value::Nil);
+    };
+    match channel.queue.pop_front() {
+        Some(value) => Effect::Gives(value),
+        None if channel.closed => Effect::Gives(blank),
+        None => Effect::Waits,
+    }
+}
+
+/// A receive. A closed channel gives what it still has, and then `blank`.
+pub(crate) fn receive(memory: &mut Memory, channel: Value, blank: Value) -> Effect
+    ensures { Leaves result (memory_of memory.old) (memory_of memory.new)
+        (receive (memory_of memory.old) channel blank) }
+{
+    match channel {
+        Value::Nil => Effect::Waits,
+        Value::Object(n) => match memory.objects.get_mut(n) {
+            Some(object) => receive_from(object, blank),
+            None => Effect::Gives(Value::Nil),
+        },
+        _ => Effect::Gives(Value::Nil),
+    }
+}
+
+fn send_to(object: &mut Object, value: Value) -> Result<Effect, AllocError>
+    ensures { Performs result (object_of object.old) (object_of object.new)
+        (sent value (object_of object.old)) }
+{
+    let Object::Channel(channel) = object else {
+        return Ok(Effect::Gives(Value::Nil));
+    };
+    if channel.closed {
+        return Ok(Effect::Traps(Trap::SendClosed));
+    }
+    if channel.queue.len() >= channel.capacity {
+        return Ok(Effect::Waits);
+    }
+    channel.queue.push_back(value)?;
+    Ok(Effect::Gives(Value::Nil))
+}
+
+/// A send to the buffer.
+pub(crate) fn send(memory: &mut Memory, channel: Value, value: Value) -> Result<Effect, AllocError>
+    ensures { Performs result (memory_of memory.old) (memory_of memory.new)
+        (send (memory_of memory.old) channel value) }
+{
+    match channel {
+        Value::Nil => Ok(Effect::Waits),
+        Value::Object(n) => match memory.objects.get_mut(n) {
+            Some(object) => send_to(object, value),
+            None => Ok(Effect::Gives(Value::Nil)),
+        },
+        _ => Ok(Effect::Gives(Value::Nil)),
+    }
+}
+
+fn shut(object: &mut Object) -> Effect
+    ensures { Leaves result (object_of object.old) (object_of object.new)
+        (shut (object_of object.old)) }
+{
+    let Object::Channel(channel) = object else {
+        return Effect::Gives(Value::Nil);
+    };
+    if channel.closed {
+        return Effect::Traps(Trap::CloseClosed);
+    }
+    channel.closed = true;
+    Effect::Gives(Value::Nil)
+}
+
+/// A close.
+pub(crate) fn close(memory: &mut Memory, channel: Value) -> Effect
+    ensures { Leaves result (memory_of memory.old) (memory_of memory.new)
+        (close (memory_of memory.old) channel) }
+{
+    match channel {
+        Value::Nil => Effect::Traps(Trap::CloseNil),
+        Value::Object(n) => match memory.objects.get_mut(n) {
+            Some(object) => shut(object),
+            None => Effect::Gives(Value::Nil),
+        },
+        _ => Effect::Gives(Value::Nil),
+    }
+}
+
+fn is_meeting_place(object: &Object) -> bool
+    ensures { result ≡ is_meeting_place (object_of object.now) }
+{
+    match object {
+        Object::Channel(channel) => !channel.closed && channel.capacity == 0,
+        _ => false,
+    }
+}
+
+/// Whether a receiver at the first channel and a sender at the second meet: whether both are one
+/// open channel without a buffer.
+pub fn meets_at(memory: &Memory, receiver: Value, sender: Value) -> bool
+    ensures { result ≡ meets_at (memory_of memory.now) receiver sender }
+{
+    match (receiver, sender) {
+        (Value::Object(m), Value::Object(n)) if m == n => match memory.objects.get(m) {
+            Some(object) => is_meeting_place(object),
+            None => false,
+        },
+        _ => false,
+    }
+}

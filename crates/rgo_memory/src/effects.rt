@@ -1,0 +1,27 @@
+//! What actions do.
+
+ghost use Rattle.std.specs.Prelude.{◌≡◌};
+ghost use Rattle.rgo_memory.specs.Views.{effect_of};
+
+use rgo_values::{Trap, Value};
+
+/// What an action does.
+#[derive(Clone, Copy, Debug, PartialEq, Eq)]
+pub enum Effect {
+    /// It is done, with this value: nil where it is to give none.
+    Gives(Value),
+    /// It traps, and changes nothing.
+    Traps(Trap),
+    /// It is on a channel that is not ready, and changes nothing.
+    Waits,
+}
+
+/// The effect of what reads only.
+pub(crate) fn answered(answer: Result<Value, Trap>) -> Effect
+    ensures { result ≡ effect_of answer }
+{
+    match answer {
+        Ok(value) => Effect::Gives(value),
+        Err(trap) => Effect::Traps(trap),
+    }
+}

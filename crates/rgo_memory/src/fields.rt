@@ -1,0 +1,51 @@
+//! Fields of structs (The Go Programming Language Specification, "Selectors"): a field of nil traps.
+
+ghost use Rattle.std.specs.Prelude.{◌≡◌};
+ghost use Rattle.rgo_memory.specs.Fields.{load, stored, store};
+ghost use Rattle.rgo_memory.specs.Views.{Leaves, object_of, memory_of};
+
+use crate::effects::Effect;
+use crate::memory::Memory;
+use crate::objects::Object;
+use rgo_values::{Trap, Value};
+
+/// A field's value.
+pub(crate) fn load(memory: &Memory, pointer: Value, field: usize) -> Result<Value, Trap>
+    ensures { result ≡ load (memory_of memory.now) pointer field }
+{
+    match pointer {
+        Value::Nil => Err(Trap::NilPointer),
+        Value::Object(n) => match memory.objects.get(n) {
+            Some(Object::Struct(cells)) => Ok(cells.get(field).copied().unwrap_or(Value::Nil)),
+            _ => Ok(Value::Nil),
+        },
+        _ => Ok(Value::Nil),
+    }
+}
+
+fn store_in(object: &mut Object, field: usize, value: Value) -> Effect
+    ensures { Leaves result (object_of object.old) (object_of object.new)
+        (stored field value (object_of object.old)) }
+{
+    if let Object::Struct(cells) = object {
+        if let Some(cell) = cells.get_mut(field) {
+            *cell = value;
+        }
+    }
+    Effect::Gives(Value::Nil)
+}
+
+/// A field becomes the value.
+pub(crate) fn store(memory: &mut Memory, pointer: Value, field: usize, value: Value) -> Effect
+    ensures { Leaves result (memory_of memory.old) (memory_of memory.new)
+        (store (memory_of memory.old) pointer field value) }
+{
+    match pointer {
+        Value::Nil => Effect::Traps(Trap::NilPointer),
+        Value::Object(n) => match memory.objects.get_mut(n) {
+            Some(object) => store_in(object, field, value),
+            None => Effect::Gives(Value::Nil),
+        },
+        _ => Effect::Gives(Value::Nil),
+    }
+}

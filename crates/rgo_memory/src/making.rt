@@ -1,0 +1,90 @@
+//! New objects (The Go Programming Language Specification, "Composite literals", "Making slices,
+//! maps and channels").
+
+ghost use Rattle.std.specs.Prelude.{◌≡◌, map, IfOk};
+ghost use Rattle.rgo_values.specs.Values.{zero_of};
+ghost use Rattle.rgo_memory.specs.Making.{made, new_struct, new_slice, new_channel};
+ghost use Rattle.rgo_memory.specs.Views.{Performs, object_of, memory_of};
+
+use crate::effects::Effect;
+use crate::memory::Memory;
+use crate::objects::{Channel, Object};
+use rgo_typed::{Struct, Ty};
+use rgo_values::{Trap, Value, element_zero, zero};
+use std::alloc::{AllocError, Global};
+use std::collections::VecDeque;
+
+fn make(memory: &mut Memory, object: Object) -> Result<Effect, AllocError>
+    ensures { Performs result (memory_of memory.old) (memory_of memory.new)
+        (made (memory_of memory.old) (object_of object)) }
+{
+    let number = memory.objects.len();
+    memory.objects.push(object)?;
+    Ok(Effect::Gives(Value::Object(number)))
+}
+
+fn zeros(alloc: Global, types: &[Ty]) -> Result<Vec<Value>, AllocError>
+    ensures { IfOk result (λ values. values.items ≡ map zero_of types.now) }
+{
+    types.iter().map(|ty| zero(ty)).collect(alloc)
+}
+
+/// A struct of this number, each field at the zero of its type.
+pub(crate) fn new_struct(
+    alloc: Global,
+    memory: &mut Memory,
+    structs: &[Struct],
+    number: usize,
+) -> Result<Effect, AllocError>
+    ensures { Performs result (memory_of memory.old) (memory_of memory.new)
+        (new_struct structs.now number (memory_of memory.old)) }
+{
+    let Some(of) = structs.get(number) else {
+        return Ok(Effect::Gives(Value::Nil));
+    };
+    let cells = zeros(alloc, of.fields.items())?;
+    make(memory, Object::Struct(cells))
+}
+
+/// A slice of this length, each element at its zero.
+pub(crate) fn new_slice(
+    alloc: Global,
+    memory: &mut Memory,
+    ty: &Ty,
+    len: Value,
+) -> Result<Effect, AllocError>
+    ensures { Performs result (memory_of memory.old) (memory_of memory.new)
+        (new_slice ty.now len (memory_of memory.old)) }
+{
+    let Value::Int(len) = len else {
+        return Ok(Effect::Gives(Value::Nil));
+    };
+    if len < 0 {
+        return Ok(Effect::Traps(Trap::BadSize));
+    }
+    let cells = vec![in alloc; element_zero(ty); len as usize]?;
+    make(memory, Object::Slice(cells))
+}
+
+/// A channel of this capacity. Memory for what is sent is taken as it is sent.
+pub(crate) fn new_channel(
+    alloc: Global,
+    memory: &mut Memory,
+    capacity: Value,
+) -> Result<Effect, AllocError>
+    ensures { Performs result (memory_of memory.old) (memory_of memory.new)
+        (new_channel capacity (memory_of memory.old)) }
+{
+    let Value::Int(capacity) = capacity else {
+        return Ok(Effect::Gives(Value::Nil));
+    };
+    if capacity < 0 {
+        return Ok(Effect::Traps(Trap::BadSize));
+    }
+    let channel = Channel {
+        capacity: capacity as usize,
+        queue: VecDeque::new(alloc),
+        closed: false,
+    };
+    make(memory, Object::Channel(channel))
+}

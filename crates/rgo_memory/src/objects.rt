@@ -1,0 +1,22 @@
+//! Objects: what pointers, slices and channels stand for.
+
+use rgo_values::Value;
+use std::collections::VecDeque;
+
+/// A channel. What was sent and not yet received stands in the queue, the oldest first.
+#[derive(Drop)]
+pub struct Channel {
+    pub capacity: usize,
+    pub queue: VecDeque<Value>,
+    pub closed: bool,
+}
+
+/// An object.
+#[derive(Drop)]
+pub enum Object {
+    /// A struct, by its fields.
+    Struct(Vec<Value>),
+    /// The elements of a slice.
+    Slice(Vec<Value>),
+    Channel(Channel),
+}

@@ -1,0 +1,4 @@
+pub mod Operators
+pub mod Shown
+pub mod Traps
+pub mod Values
