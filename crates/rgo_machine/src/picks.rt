@@ -1,0 +1,34 @@
+//! Picks, ends, and what a step answers.
+
+use rgo_ast::Place;
+use rgo_values::Trap;
+
+/// Which step of a machine is taken next. Goroutines are numbered from 0, in the order of their
+/// start; `main` is 0.
+#[derive(Clone, Copy, Debug, PartialEq, Eq)]
+pub enum Pick {
+    /// A goroutine steps alone.
+    One(usize),
+    /// A receiver and a sender go on together, on a channel without a buffer.
+    Meet(usize, usize),
+}
+
+/// How a run ended.
+#[derive(Clone, Copy, Debug, PartialEq, Eq)]
+pub enum End {
+    /// `main` returned.
+    Exit,
+    /// A goroutine trapped, at this place of the text.
+    Trap(Trap, Place),
+}
+
+/// What a step did.
+#[derive(Clone, Copy, Debug, PartialEq, Eq)]
+pub enum Stepped {
+    /// The run goes on.
+    Advanced,
+    /// The run ended by this step.
+    Ended(End),
+    /// There is no such step; nothing changed.
+    NotEnabled,
+}

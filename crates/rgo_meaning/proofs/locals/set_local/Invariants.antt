@@ -1,0 +1,11 @@
+use Rattle.std.proofs.Common.{◌≡◌, ◌≤◌, ◌-◌, length}
+use Rattle.rgo_meaning.specs.Frames.{with_local}
+use Rattle.rgo_meaning.proofs.locals.set_local.Given as goal
+
+abbrev pub invariant-loop-locals : goal.invariant-loop-locals
+invariant-loop-locals l =
+    (with_local l.locals.items l.n l.value ≡ with_local l.fn.locals.items l.n l.value)
+    × (length l.locals.items ≤ l.n)
+
+abbrev pub decreases-loop-locals : goal.decreases-loop-locals
+decreases-loop-locals l = l.n - length l.locals.items

@@ -1,0 +1,94 @@
+-- Frames: a function that was called, with what it has still to do.
+use Rattle.std.specs.Prelude.{ℕ, zero, suc, Bool, is_some, List, [], ◌∷◌, ◌++◌, get_or, length, drop, map, reverse, take, Option}
+use Rattle.rgo_typed.specs.declared.actions.Action.{Action}
+use Rattle.rgo_typed.specs.declared.actions.Logical.{Logical}
+use Rattle.rgo_typed.specs.declared.statements.Piece.{Piece}
+use Rattle.rgo_typed.specs.declared.types.Ty.{Ty}
+use Rattle.rgo_typed.specs.Tree.{Term, Terms, Stmt, Stmts, Function, stmts_of}
+use Rattle.rgo_values.specs.declared.values.Value.{Value}
+use Rattle.rgo_values.specs.declared.values.Value.TheVariants.{Nil}
+use Rattle.rgo_values.specs.Values.{zero_of}
+
+-- One thing to do. What gives a value puts it on the frame's values; what takes values takes the newest.
+pub data Todo : Type 0 where
+  -- give a term's value, or those of several
+  Evaluate : Term → Todo
+  Each : Terms → Todo
+  -- an action on the last values, so many, which gives one of a type, or gives none
+  Perform : Action → (count : ℕ) → Ty → (place : ℕ) → Todo
+  Affect : Action → (count : ℕ) → (place : ℕ) → Todo
+  -- the value of a right side is that of the whole: nothing is done
+  Settle : Todo
+  -- the right side of `&&` or `||`, where the left side leaves it to decide
+  Decide : Logical → Term → Todo
+  -- a new object of a struct
+  Create : (struct : ℕ) → Todo
+  -- below it lie so many values: they are stored in its fields, one by one
+  Fill : (count : ℕ) → (fields : List ℕ) → (place : ℕ) → Todo
+  -- the last values once more, so many
+  Repeat : (count : ℕ) → Todo
+  -- a value goes into a local variable, or is let go; a local variable starts at the zero of its type
+  Give : (local : ℕ) → Todo
+  Forget : Todo
+  Clear : (local : ℕ) → Ty → Todo
+  -- a function is called, or started as a goroutine, with the last values
+  Enter : (function count : ℕ) → Todo
+  Start : (function count : ℕ) → Todo
+  -- a line with the last values
+  Write : List Piece → (count : ℕ) → Todo
+  -- a statement, or several
+  Execute : Stmt → Todo
+  Sequence : Stmts → Todo
+  -- these statements if the value is true; or one of two lists
+  When : Stmts → Todo
+  Choose : Stmts → Stmts → Todo
+  -- the end of a block; the end of the first of two branches, or of a loop's turn: nothing is done
+  Close : Todo
+  Onward : Todo
+  -- a loop from its condition on; what the condition's value decides; and, below its body, the post statement and the
+  -- loop again
+  Turn : (test : Option Term) → (body post : Stmts) → Todo
+  Test : (test : Option Term) → (body post : Stmts) → Todo
+  Again : (test : Option Term) → (body post : Stmts) → Todo
+  -- the function returns, with a value
+  Leave : Todo
+  -- the end of the function's body: without a result it returns there, with one it never comes there
+  AtEnd : (has_result : Bool) → Todo
+
+-- the local variables by number; the values that wait to be used, the newest first; and what is to do, in order
+pub record Frame : Type 0 where
+  pub locals : List Value
+  pub values : List Value
+  pub todo : List Todo
+
+-- ---- local variables
+
+abbrev pub local_at : List Value → ℕ → Value
+local_at locals n = get_or locals n Nil
+
+-- the list is longer where it has to be
+abbrev pub with_local : List Value → ℕ → Value → List Value
+with_local [] zero v = v ∷ []
+with_local [] (suc n) v = Nil ∷ with_local [] n v
+with_local (u ∷ locals) zero v = v ∷ locals
+with_local (u ∷ locals) (suc n) v = u ∷ with_local locals n v
+
+-- ---- values
+
+-- the last values, so many, in the order in which they came
+abbrev pub last_values : ℕ → List Value → List Value
+last_values n values = reverse (take n values)
+
+-- the frame with other things to do, after so many values were taken and some were put
+abbrev pub going : Frame → ℕ → List Value → List Todo → Frame
+going f taken put todo = record { locals = f.locals; values = put ++ drop taken f.values; todo = todo }
+
+-- ---- calls
+
+-- the parameters have the arguments, all other local variables the zero of their type
+abbrev pub called : Function → List Value → Frame
+called f arguments = record {
+  locals = arguments ++ map zero_of (drop (length arguments) f.locals);
+  values = [];
+  todo = Sequence (stmts_of f.body) ∷ AtEnd (is_some f.result_type) ∷ [];
+}

@@ -1,0 +1,57 @@
+//! The frame of a function that is called.
+#![tactic(auto, using(rgo_typed::proofs::Rows::rows))]
+
+ghost use Rattle.std.specs.Prelude.{◌≡◌, ◌++◌, IfOk, OnOk, drop, map};
+ghost use Rattle.rgo_typed.specs.Views.{function_of};
+ghost use Rattle.rgo_values.specs.Values.{zero_of};
+ghost use Rattle.rgo_meaning.specs.Frames as spec;
+ghost use Rattle.rgo_meaning.specs.Views.{frame_of};
+
+use crate::frames::{Frame, Todo};
+use crate::stack::Stack;
+use rgo_typed::{Function, Ty};
+use rgo_values::{Value, zero};
+use std::alloc::{AllocError, Global};
+
+/// The types behind the first so many.
+fn behind(types: &[Ty], count: usize) -> &[Ty]
+    ensures { result.now ≡ drop count types.now }
+{
+    if count < types.len() {
+        &types[count..]
+    } else {
+        &types[types.len()..]
+    }
+}
+
+fn push_zeros(locals: &mut Vec<Value>, types: &[Ty]) -> Result<(), AllocError>
+    ensures { OnOk result (locals.new.items ≡ locals.old.items ++ map zero_of types.now) }
+{
+    for ty in types {
+        locals.push(zero(ty))?;
+    }
+    Ok(())
+}
+
+/// The frame of a function that is called with these arguments.
+pub fn called<'a>(
+    alloc: Global,
+    function: &'a Function,
+    arguments: &[Value],
+) -> Result<Frame<'a>, AllocError>
+    ensures { IfOk result (λ f. frame_of f ≡ spec.called (function_of function.now) arguments.now) }
+{
+    let mut locals = Vec::from_slice(alloc, arguments)?;
+    push_zeros(
+        &mut locals,
+        behind(function.locals.items(), arguments.len()),
+    )?;
+    let mut todo = Stack::new(alloc);
+    todo.push(Todo::AtEnd(function.result_type.is_some()))?;
+    todo.push(Todo::Sequence(&function.body))?;
+    Ok(Frame {
+        locals,
+        values: Stack::new(alloc),
+        todo,
+    })
+}
