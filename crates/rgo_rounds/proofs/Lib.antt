@@ -1,0 +1,6 @@
+pub mod Blocked
+pub mod Given
+pub mod Grown
+pub mod Limited
+pub mod Marked
+pub mod Taken

@@ -1,0 +1,5 @@
+pub mod Drivers
+pub mod Going
+pub mod Growing
+pub mod Probing
+pub mod Runs
