@@ -1,5 +1,5 @@
--- Each text is one program, or has one refusal, and never both.
-use Rattle.std.proofs.Common.{◌≡◌, ℕ, ◌<◌, ◌≤◌, ◌⊎◌, inl, inr, List, [], length, refl, sym, ap, ◌∙◌, subst, arith}
+-- Each text is one program at most, and is within the rules or has one refusal, and never both.
+use Rattle.std.proofs.Common.{◌≡◌, ℕ, ◌<◌, ◌≤◌, ◌⊎◌, inl, inr, List, length, Option, Some, None, refl, sym, ap, ◌∙◌, subst, arith}
 use Rattle.std.proofs.lemmas.Bool.{cases_lt}
 use Rattle.rgo_lexer.specs.declared.tokens.Token.{Token}
 use Rattle.rgo_lexer.specs.declared.tokens.LexRefusal.{LexRefusal}
@@ -10,14 +10,14 @@ use Rattle.rgo_ast.specs.Tree.{Program}
 use Rattle.rgo_parser.specs.Parsing.{IsParsed, Refuses}
 use Rattle.rgo_parser.specs.declared.parser.ParseRefusal.{ParseRefusal}
 use Rattle.rgo_parser.specs.declared.parser.ParseRefusal.TheVariants as parse
-use Rattle.rgo_run.specs.declared.operands.Operand.{Operand}
+use Rattle.rgo_expressions.specs.Sites.{Fault, first_fault}
+use Rattle.rgo_typed.specs.Tree.{Typed}
+use Rattle.rgo_types.specs.Programs.{sites_of, typed_program}
 use Rattle.rgo_run.specs.declared.endings.Position.{Position}
 use Rattle.rgo_run.specs.declared.endings.Ending.{Ending}
 use Rattle.rgo_run.specs.declared.endings.Ending.TheVariants.{TooLong, Lexical, Syntax, Nesting, Typing}
 use Rattle.rgo_run.specs.Positions.{position_of, place_of}
-use Rattle.rgo_run.specs.Running.{not_yet, prints_of, IsLeast}
-use Rattle.rgo_run.specs.Verdicts.{text_limit, IsTree, IsText, IsRefused, IsNotYet, Refused, OneVerdict}
-use Rattle.rgo_run.proofs.LeastLemmas.{one_least, none_least, least_or_none}
+use Rattle.rgo_run.specs.Verdicts.{text_limit, IsTree, IsWellTyped, Passes, IsProgram, IsRefused, IsMistyped, Refused, OneVerdict}
 use Rattle.rgo_parser.proofs.Answered as parser
 
 -- what was said of one list of tokens is said of the other
@@ -28,8 +28,8 @@ one_tree : (text : List ℕ) (p q : Program) → IsTree text p → IsTree text q
 one_tree text p q a b =
     parser.one_tree text b.tokens p q (moved text a.tokens b.tokens (λ t. IsParsed text t p) a.are_tokens b.are_tokens a.parsed) b.parsed
 
-pub one_program : (text : List ℕ) (p q : List (List Operand)) → IsText text p → IsText text q → p ≡ q
-one_program text p q a b = a.prints ∙ ap prints_of (one_tree text a.tree b.tree a.is_tree b.is_tree) ∙ sym b.prints
+pub one_program : (text : List ℕ) (p q : Typed) → IsProgram text p → IsProgram text q → p ≡ q
+one_program text p q a b = a.typed ∙ ap typed_program (one_tree text a.tree b.tree a.is_well_typed.is_tree b.is_well_typed.is_tree) ∙ sym b.typed
 
 -- a tree has no lexical refusal, and no refusal of its tokens
 not_lexical : (text : List ℕ) (tree : Program) (r : LexRefusal) → IsTree text tree → LexRefuses text r → ⊥
@@ -39,17 +39,24 @@ not_refused : (text : List ℕ) (tree : Program) (r : ParseRefusal) (k : ℕ) (a
 not_refused text tree r k at a w =
     parser.never_both text w.tokens tree r (moved text a.tokens w.tokens (λ t. IsParsed text t tree) a.are_tokens w.are_tokens a.parsed) w.refused
 
-all_runs : (text : List ℕ) (p : List (List Operand)) (at : Position) → IsText text p → IsNotYet text at → ⊥
-all_runs text p at a w =
-    none_least w.place (not_yet a.tree) a.runs (subst (λ t. IsLeast w.place (not_yet t)) (one_tree text w.tree a.tree w.is_tree a.is_tree) w.least)
+-- a fault of the tree is one of each tree of the text
+moved_fault : (text : List ℕ) (tree : Program) (rule : ℕ) (at : Position) → IsTree text tree → (w : IsMistyped text rule at) → first_fault (sites_of tree) ≡ Some (rule, w.place)
+moved_fault text tree rule at a w = subst (λ t. first_fault (sites_of t) ≡ Some (rule, w.place)) (one_tree text w.tree tree w.is_tree a) w.fault
 
-pub never_both : (text : List ℕ) (p : List (List Operand)) (why : Ending) → IsText text p → Refused text why → ⊥
-never_both text p TooLong a r = omega (arith, a.is_tree.within)
-never_both text p (Lexical kind at) a r = not_lexical text a.tree (refusal kind r.1) a.is_tree r.2
-never_both text p (Syntax at) a r = not_refused text a.tree (parse.Syntax r.0) r.0 at a.is_tree r.1
-never_both text p (Nesting at) a r = not_refused text a.tree (parse.TooDeep r.0) r.0 at a.is_tree r.1
-never_both text p (Typing rule at) a r = all_runs text p at a r.1
-never_both text p _ a r = r
+not_mistyped : (text : List ℕ) (tree : Program) (rule : ℕ) (at : Position) → IsWellTyped text tree → IsMistyped text rule at → ⊥
+not_mistyped text tree rule at a w = let fault = moved_fault text tree rule at a.is_tree w in let none = a.no_fault in cc
+
+-- what is within the rules breaks none
+keeps : (text : List ℕ) (tree : Program) (why : Ending) → IsWellTyped text tree → Refused text why → ⊥
+keeps text tree TooLong a r = omega (arith, a.is_tree.within)
+keeps text tree (Lexical kind at) a r = not_lexical text tree (refusal kind r.1) a.is_tree r.2
+keeps text tree (Syntax at) a r = not_refused text tree (parse.Syntax r.0) r.0 at a.is_tree r.1
+keeps text tree (Nesting at) a r = not_refused text tree (parse.TooDeep r.0) r.0 at a.is_tree r.1
+keeps text tree (Typing rule at) a r = not_mistyped text tree rule at a r
+keeps text tree _ a r = r
+
+pub never_both : (text : List ℕ) (why : Ending) → Passes text → Refused text why → ⊥
+never_both text why t r = keeps text t.0 why t.1 r
 
 -- one lexical refusal
 same_lexical : (text : List ℕ) (j k : ℕ) (a b : Position) (p q : ℕ) → LexRefuses text (refusal j p) → LexRefuses text (refusal k q) → a ≡ position_of text p → b ≡ position_of text q → Lexical j a ≡ Lexical k b
@@ -88,12 +95,16 @@ not_both_ways text j k a b v w = let same = same_refusal text (parse.Syntax j) (
 not_both_orders : (text : List ℕ) (r : LexRefusal) (s : ParseRefusal) (k : ℕ) (at : Position) → LexRefuses text r → IsRefused text s k at → ⊥
 not_both_orders text r s k at v w = lexer.never_both text w.tokens r w.are_tokens v
 
-same_not_yet : (text : List ℕ) (i j : ℕ) (a b : Position) → i ≡ 35 → j ≡ 35 → IsNotYet text a → IsNotYet text b → Typing i a ≡ Typing j b
-same_not_yet text i j a b e f v w =
-    let moved_least = subst (λ t. IsLeast v.place (not_yet t)) (one_tree text v.tree w.tree v.is_tree w.is_tree) v.least in
-    let places : v.place ≡ w.place = one_least v.place w.place (not_yet w.tree) moved_least w.least in
+abbrev fault_or : Fault → Option Fault → Fault
+fault_or fault None = fault
+fault_or fault (Some f) = f
+
+same_fault : (text : List ℕ) (i j : ℕ) (a b : Position) → IsMistyped text i a → IsMistyped text j b → Typing i a ≡ Typing j b
+same_fault text i j a b v w =
+    let same = ap (fault_or (i, v.place)) (sym (moved_fault text w.tree i a w.is_tree v) ∙ w.fault) in
+    let rules : i ≡ j = ap (λ (f : Fault). f.0) same in
+    let places : v.place ≡ w.place = ap (λ (f : Fault). f.1) same in
     let at : a ≡ b = v.position ∙ ap (position_of text) places ∙ sym w.position in
-    let rules : i ≡ j = e ∙ sym f in
     cc
 
 pub one_refusal : (text : List ℕ) (a b : Ending) → Refused text a → Refused text b → a ≡ b
@@ -101,27 +112,27 @@ one_refusal text TooLong TooLong r s = refl
 one_refusal text TooLong (Lexical k b) r s = absurd (omega (arith, s.0))
 one_refusal text TooLong (Syntax b) r s = absurd (omega (arith, s.1.within))
 one_refusal text TooLong (Nesting b) r s = absurd (omega (arith, s.1.within))
-one_refusal text TooLong (Typing j b) r s = absurd (omega (arith, s.1.is_tree.within))
+one_refusal text TooLong (Typing j b) r s = absurd (omega (arith, s.is_tree.within))
 one_refusal text (Lexical j a) TooLong r s = absurd (omega (arith, r.0))
 one_refusal text (Lexical j a) (Lexical k b) r s = same_lexical text j k a b r.1 s.1 r.2 s.2 r.3 s.3
 one_refusal text (Lexical j a) (Syntax b) r s = absurd (not_both_orders text (refusal j r.1) (parse.Syntax s.0) s.0 b r.2 s.1)
 one_refusal text (Lexical j a) (Nesting b) r s = absurd (not_both_orders text (refusal j r.1) (parse.TooDeep s.0) s.0 b r.2 s.1)
-one_refusal text (Lexical j a) (Typing k b) r s = absurd (not_lexical text s.1.tree (refusal j r.1) s.1.is_tree r.2)
+one_refusal text (Lexical j a) (Typing k b) r s = absurd (not_lexical text s.tree (refusal j r.1) s.is_tree r.2)
 one_refusal text (Syntax a) TooLong r s = absurd (omega (arith, r.1.within))
 one_refusal text (Syntax a) (Lexical k b) r s = absurd (not_both_orders text (refusal k s.1) (parse.Syntax r.0) r.0 a s.2 r.1)
 one_refusal text (Syntax a) (Syntax b) r s = same_syntax text r.0 s.0 a b r.1 s.1
 one_refusal text (Syntax a) (Nesting b) r s = absurd (not_both_ways text r.0 s.0 a b r.1 s.1)
-one_refusal text (Syntax a) (Typing k b) r s = absurd (not_refused text s.1.tree (parse.Syntax r.0) r.0 a s.1.is_tree r.1)
+one_refusal text (Syntax a) (Typing k b) r s = absurd (not_refused text s.tree (parse.Syntax r.0) r.0 a s.is_tree r.1)
 one_refusal text (Nesting a) TooLong r s = absurd (omega (arith, r.1.within))
 one_refusal text (Nesting a) (Lexical k b) r s = absurd (not_both_orders text (refusal k s.1) (parse.TooDeep r.0) r.0 a s.2 r.1)
 one_refusal text (Nesting a) (Syntax b) r s = absurd (not_both_ways text s.0 r.0 b a s.1 r.1)
 one_refusal text (Nesting a) (Nesting b) r s = same_nesting text r.0 s.0 a b r.1 s.1
-one_refusal text (Nesting a) (Typing k b) r s = absurd (not_refused text s.1.tree (parse.TooDeep r.0) r.0 a s.1.is_tree r.1)
-one_refusal text (Typing j a) TooLong r s = absurd (omega (arith, r.1.is_tree.within))
-one_refusal text (Typing j a) (Lexical k b) r s = absurd (not_lexical text r.1.tree (refusal k s.1) r.1.is_tree s.2)
-one_refusal text (Typing j a) (Syntax b) r s = absurd (not_refused text r.1.tree (parse.Syntax s.0) s.0 b r.1.is_tree s.1)
-one_refusal text (Typing j a) (Nesting b) r s = absurd (not_refused text r.1.tree (parse.TooDeep s.0) s.0 b r.1.is_tree s.1)
-one_refusal text (Typing j a) (Typing k b) r s = same_not_yet text j k a b r.0 s.0 r.1 s.1
+one_refusal text (Nesting a) (Typing k b) r s = absurd (not_refused text s.tree (parse.TooDeep r.0) r.0 a s.is_tree r.1)
+one_refusal text (Typing j a) TooLong r s = absurd (omega (arith, r.is_tree.within))
+one_refusal text (Typing j a) (Lexical k b) r s = absurd (not_lexical text r.tree (refusal k s.1) r.is_tree s.2)
+one_refusal text (Typing j a) (Syntax b) r s = absurd (not_refused text r.tree (parse.Syntax s.0) s.0 b r.is_tree s.1)
+one_refusal text (Typing j a) (Nesting b) r s = absurd (not_refused text r.tree (parse.TooDeep s.0) s.0 b r.is_tree s.1)
+one_refusal text (Typing j a) (Typing k b) r s = same_fault text j k a b r s
 one_refusal text TooLong _ r s = absurd s
 one_refusal text (Lexical j a) _ r s = absurd s
 one_refusal text (Syntax a) _ r s = absurd s
@@ -129,12 +140,12 @@ one_refusal text (Nesting a) _ r s = absurd s
 one_refusal text (Typing j a) _ r s = absurd s
 one_refusal text _ b r s = absurd r
 
-abbrev Judged : List ℕ → Type 0
-Judged text = ((p : List (List Operand)) × IsText text p) ⊎ ((why : Ending) × Refused text why)
+abbrev pub Judged : List ℕ → Type 0
+Judged text = Passes text ⊎ ((why : Ending) × Refused text why)
 
-of_tree : (text : List ℕ) (tree : Program) → IsTree text tree → (not_yet tree ≡ []) ⊎ ((n : ℕ) × IsLeast n (not_yet tree)) → Judged text
-of_tree text tree t (inl e) = inl (prints_of tree, record { tree = tree; is_tree = t; runs = e; prints = refl })
-of_tree text tree t (inr s) = inr (Typing 35 (position_of text s.0), (refl, record { tree = tree; is_tree = t; place = s.0; least = s.1; position = refl }))
+of_fault : (text : List ℕ) (tree : Program) (fault : Option Fault) → IsTree text tree → first_fault (sites_of tree) ≡ fault → Judged text
+of_fault text tree None t e = inl (tree, record { is_tree = t; no_fault = e })
+of_fault text tree (Some f) t e = inr (Typing f.0 (position_of text f.1), record { tree = tree; is_tree = t; place = f.1; fault = e; position = refl })
 
 refused_at : (text : List ℕ) (tokens : List Token) (r : ParseRefusal) (k : ℕ) → length text ≤ text_limit → Tokens text tokens → Refuses text tokens r → IsRefused text r k (position_of text (place_of text tokens k))
 refused_at text tokens r k h t w = record { within = h; tokens = tokens; are_tokens = t; refused = w; position = refl }
@@ -145,7 +156,7 @@ of_refusal text tokens (parse.TooDeep k) h t w = inr (Nesting (position_of text 
 
 of_answer : (text : List ℕ) (tokens : List Token) → length text ≤ text_limit → Tokens text tokens
     → ((tree : Program) × IsParsed text tokens tree) ⊎ ((r : ParseRefusal) × Refuses text tokens r) → Judged text
-of_answer text tokens h t (inl p) = of_tree text p.0 (record { within = h; tokens = tokens; are_tokens = t; parsed = p.1 }) (least_or_none (not_yet p.0))
+of_answer text tokens h t (inl p) = of_fault text p.0 (first_fault (sites_of p.0)) (record { within = h; tokens = tokens; are_tokens = t; parsed = p.1 }) refl
 of_answer text tokens h t (inr r) = of_refusal text tokens r.0 h t r.1
 
 of_tokens : (text : List ℕ) → length text ≤ text_limit → ((tokens : List Token) × Tokens text tokens) ⊎ ((r : LexRefusal) × LexRefuses text r) → Judged text

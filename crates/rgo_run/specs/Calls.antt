@@ -2,8 +2,10 @@
 use Rattle.std.specs.Prelude.{◌≡◌, ℕ, List, Option, Some}
 use Rattle.std.specs.Io.KnownBytes.{Appends}
 use Rattle.rgo_outside.specs.Causes.{Rose}
-use Rattle.rgo_run.specs.declared.commands.Command.TheVariants.{Run}
-use Rattle.rgo_run.specs.Commands.{command_of}
+use Rattle.rgo_words.specs.declared.commands.Command.{Command}
+use Rattle.rgo_words.specs.declared.commands.Command.TheVariants.{Run, Check}
+use Rattle.rgo_words.specs.declared.limits.Limits.{Limits}
+use Rattle.rgo_words.specs.Commands.{command_of}
 
 -- what the source had left, where it tells, and its count of faults before and after
 pub record SourceUse : Type 0 where
@@ -18,6 +20,10 @@ pub record SinkUse : Type 0 where
   pub faults_old : ℕ
   pub faults_new : ℕ
 
+-- the words ask for a run, within some limits
+abbrev pub AsksRun : List (List ℕ) → Type 0
+AsksRun words = (limits : Limits) × (command_of words ≡ Some (Run limits))
+
 pub record Call : Type 0 where
   pub words : List (List ℕ)
   pub source : SourceUse
@@ -25,8 +31,15 @@ pub record Call : Type 0 where
   pub err : SinkUse
   pub status : ℕ
 
-abbrev pub IsRun : Call → Type 0
-IsRun call = command_of call.words ≡ Some Run
+-- the words ask for this
+abbrev pub Asks : Call → Command → Type 0
+Asks call command = command_of call.words ≡ Some command
+
+abbrev pub IsRun : Call → Limits → Type 0
+IsRun call limits = Asks call (Run limits)
+
+abbrev pub IsCheck : Call → Type 0
+IsCheck call = Asks call Check
 
 abbrev pub SourceFailed : Call → Type 0
 SourceFailed call = Rose call.source.faults_old call.source.faults_new

@@ -1,11 +1,8 @@
 pub mod Calls
-pub mod Commands
 pub mod Endings
 pub mod Headline
 pub mod Positions
-pub mod Printing
 pub mod Reports
-pub mod Running
 pub mod Runs
 pub mod Sources
 pub mod Verdicts

@@ -3,10 +3,11 @@ use Rattle.std.specs.Prelude.{◌≡◌, ℕ, ◌⊎◌, List, take, Option}
 use Rattle.std.specs.Io.KnownBytes.{Appends}
 use Rattle.rgo_outside.specs.Causes.{Rose}
 use Rattle.rgo_run.specs.declared.endings.Ending.{Ending}
-use Rattle.rgo_run.specs.declared.endings.Ending.TheVariants.{Lexical, Syntax, Nesting, Typing, NoMemory}
+use Rattle.rgo_run.specs.declared.endings.Ending.TheVariants.{Lexical, Syntax, Nesting, Typing, Trap, NoMemory}
 use Rattle.rgo_run.specs.Endings.{status_of, line_of}
 
--- `err` took the whole line, and the answer is the status; or it failed, took the first bytes of the line, and the answer is 10
+-- `err` took the whole line, and the answer is the status; or it failed, took the first bytes of the line, and the
+-- answer is 10
 abbrev pub Tells : List ℕ → ℕ → ℕ → Option (List ℕ) → Option (List ℕ) → ℕ → ℕ → Type 0
 Tells line status answer old new faults_old faults_new =
     ((answer ≡ status) × Appends old new line)
@@ -18,6 +19,7 @@ HasPlace (Lexical kind at) = Unit {0}
 HasPlace (Syntax at) = Unit {0}
 HasPlace (Nesting at) = Unit {0}
 HasPlace (Typing rule at) = Unit {0}
+HasPlace (Trap trap at) = Unit {0}
 HasPlace _ = ⊥
 
 -- the line of the ending was told, or that memory ran out for it

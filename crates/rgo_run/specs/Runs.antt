@@ -1,13 +1,35 @@
--- What a run of a program gives out, by how it ends.
-use Rattle.std.specs.Prelude.{ℕ, List, take, Option}
-use Rattle.std.specs.Io.KnownBytes.{Appends}
-use Rattle.rgo_run.specs.declared.operands.Operand.{Operand}
-use Rattle.rgo_run.specs.declared.print.RunEnd.{RunEnd}
-use Rattle.rgo_run.specs.declared.print.RunEnd.TheVariants.{Exit, WriteFault, NoMemory}
-use Rattle.rgo_run.specs.Printing.{print_of}
+-- The run of a text: its limits, the ending that tells of its end, and what it leaves.
+use Rattle.std.specs.Prelude.{◌≡◌, ℕ, List, Option}
+use Rattle.rgo_typed.specs.Tree.{Typed}
+use Rattle.rgo_words.specs.declared.limits.Limits.{Limits as Asked}
+use Rattle.rgo_rounds.specs.declared.ends.Limits.{Limits}
+use Rattle.rgo_rounds.specs.declared.ends.RunEnd.{RunEnd}
+use Rattle.rgo_rounds.specs.declared.ends.RunEnd.TheVariants as run_end
+use Rattle.rgo_rounds.specs.Runs.{Runs}
+use Rattle.rgo_run.specs.declared.endings.Ending.{Ending}
+use Rattle.rgo_run.specs.declared.endings.Ending.TheVariants as ending
+use Rattle.rgo_run.specs.Positions.{position_of}
+use Rattle.rgo_run.specs.Verdicts.{IsProgram}
 
--- the whole print; the first bytes of it; the print of the first statements
-abbrev pub Prints : List (List Operand) → RunEnd → Option (List ℕ) → Option (List ℕ) → Type 0
-Prints program Exit old new = Appends old new (print_of program)
-Prints program WriteFault old new = (n : ℕ) × Appends old new (take n (print_of program))
-Prints program NoMemory old new = (n : ℕ) × Appends old new (print_of (take n program))
+-- the limits of a run, as its words ask for them
+abbrev pub limits_of : Asked → Limits
+limits_of asked = record { steps = asked.steps; goroutines = asked.goroutines }
+
+-- the ending that tells of the end of a run, a trap's place by its position in the text
+abbrev pub ending_of : List ℕ → RunEnd → Ending
+ending_of text run_end.Exit = ending.Exit
+ending_of text (run_end.Trap trap place) = ending.Trap trap (position_of text place)
+ending_of text run_end.Deadlock = ending.Deadlock
+ending_of text run_end.CallsTooDeep = ending.CallsTooDeep
+ending_of text run_end.StepsSpent = ending.StepsSpent
+ending_of text run_end.GoroutinesSpent = ending.GoroutinesSpent
+ending_of text run_end.WriteFault = ending.WriteFault
+ending_of text run_end.NoMemory = ending.NoMemory
+
+-- some run of the text's program, of which the ending tells, gave out these bytes
+pub record RunsTo (asked : Asked) (text : List ℕ) (ending : Ending) (old new : Option (List ℕ)) : Type 0 where
+  pub program : Typed
+  pub is_program : IsProgram text program
+  pub run_end : RunEnd
+  pub runs : Runs program (limits_of asked) run_end old new
+  pub told : ending ≡ ending_of text run_end

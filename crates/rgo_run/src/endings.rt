@@ -1,5 +1,7 @@
 //! How a call of `rgo` ends.
 
+use rgo_values::Trap;
+
 /// A line and a column of a text, both from 1. Columns are bytes.
 #[derive(Clone, Copy, Debug, PartialEq, Eq)]
 pub struct Position {
@@ -10,8 +12,18 @@ pub struct Position {
 /// How a call ended, by which its status and its line on `err` are determined.
 #[derive(Clone, Copy, Debug, PartialEq, Eq)]
 pub enum Ending {
-    /// `main` returned.
+    /// `main` returned; or the text was only to be judged, and is within the rules.
     Exit,
+    /// A goroutine trapped: why, and where.
+    Trap { trap: Trap, at: Position },
+    /// No goroutine can step, alone or with another, and `main` has not returned.
+    Deadlock,
+    /// A goroutine that has 100,000 calls open makes another.
+    CallsTooDeep,
+    /// As many steps were taken as the run may take.
+    StepsSpent,
+    /// There are as many goroutines as there may be, and one starts another.
+    GoroutinesSpent,
     /// The words name no command.
     Usage,
     /// A read of the source failed.

@@ -2,7 +2,7 @@
 
 ghost use Rattle.rgo_run.specs.Verdicts.{OneVerdict};
 
-/// Each text is one program, or has one refusal, and never both.
+/// Each text is one program at most, and is within the rules or has one refusal, and never both.
 pub fn one_verdict()
     ensures { OneVerdict }
 {}

@@ -1,20 +1,18 @@
-//! The compiler and its runtime as one call: `rgo` reads a text, runs it, and answers with a status.
+//! The compiler and its runtime as one call: `rgo` reads a text, judges or runs it, and answers with
+//! a status.
 #![tactic(auto)]
 
-mod commands;
 mod endings;
 mod laws;
-mod operands;
 mod positions;
-mod print;
 mod report;
-mod running;
 #[cfg(test)]
 mod tests;
 mod top;
 
-pub use commands::Command;
 pub use endings::{Ending, Position};
 pub use laws::one_verdict;
-pub use operands::Operand;
+pub use rgo_rounds::{Limits as RunLimits, RunEnd};
+pub use rgo_values::Trap;
+pub use rgo_words::{Command, Limits};
 pub use top::rgo;

@@ -29,8 +29,8 @@ fn since_newline(bytes: &[u8]) -> usize
     count
 }
 
-/// The line and the column of a place, which is a number of bytes from the text's beginning; of one behind its end, those of
-/// the end.
+/// The line and the column of a place, which is a number of bytes from the text's beginning; of one
+/// behind its end, those of the end.
 pub(crate) fn position_of(text: &[u8], place: usize) -> Position
     requires { length text.now < 2 ^ 63 }
     ensures { result ≡ position_of text.now place }

@@ -6,10 +6,10 @@ ghost use Rattle.rgo_run.specs.Reports.{Tells, Reports};
 
 use crate::endings::{Ending, Position};
 use rgo_outside::{Sink, write_all};
+use rgo_values::Trap;
 use std::alloc::{AllocError, Global};
 
-const USAGE: &[u8] =
-    b"usage: rgo run [--steps N] [--pages N] [--page-words N] [--regions N] [--goroutines N] [--workers N] [--stats] | check | emit | code | big N\n";
+const USAGE: &[u8] = b"usage: rgo run [--steps N] [--goroutines N] | check\n";
 
 fn lexical_name(kind: u8) -> &'static str
     ensures { result.now ≡ lexical_name kind }
@@ -53,7 +53,40 @@ fn rule_name(rule: u8) -> &'static str
     ensures { result.now ≡ rule_name rule }
 {
     match rule {
-        35 => "NotYet",
+        1 => "BadImport",
+        2 => "Redeclared",
+        3 => "ReservedName",
+        4 => "NoSuchName",
+        5 => "NotType",
+        6 => "StructByValue",
+        7 => "PointerBase",
+        8 => "NotValue",
+        9 => "StringPlace",
+        10 => "Mismatch",
+        11 => "SliceCompare",
+        12 => "BareNil",
+        13 => "NotAssignable",
+        14 => "NotPlace",
+        15 => "NoSuchField",
+        16 => "NotIndexable",
+        17 => "NotCall",
+        18 => "ArgCount",
+        19 => "NoResult",
+        20 => "NotStatement",
+        21 => "GoTarget",
+        22 => "NotChannel",
+        23 => "NotBool",
+        24 => "NotInt",
+        25 => "ConstRange",
+        26 => "ConstZeroDivisor",
+        27 => "ConstIndex",
+        28 => "ConstSize",
+        29 => "LiteralFields",
+        30 => "PrintType",
+        31 => "ReturnCount",
+        32 => "MissingReturn",
+        33 => "LoopOutside",
+        34 => "NoMain",
         _ => "",
     }
 }
@@ -65,6 +98,16 @@ fn typing_line(alloc: Global, rule: u8, at: Position) -> Result<String, AllocErr
     let column = at.column;
     let name = rule_name(rule);
     format!(in alloc; "rgo: {line}:{column}: type {rule} {name}\n")
+}
+
+fn trap_line(alloc: Global, trap: Trap, at: Position) -> Result<String, AllocError>
+    ensures { IfOk result (λ line. string_bytes line ≡ line_of (Ending.Trap trap at)) }
+{
+    let line = at.line;
+    let column = at.column;
+    let number = trap.number();
+    let name = trap.name();
+    format!(in alloc; "rgo: {line}:{column}: trap {number} {name}\n")
 }
 
 // Tries the line once. Where it fails, the status is 10.
@@ -87,14 +130,22 @@ fn tell_no_memory<E: Sink>(err: &mut E) -> u8
     tell(err, b"rgo: out of memory\n", 11)
 }
 
-/// Writes the line of an ending, and answers with its status. Where there is no memory for the line,
-/// that is the ending.
+/// Writes the line of an ending, and answers with its status. Where there is no memory for the
+/// line, that is the ending.
 pub(crate) fn report<E: Sink>(alloc: Global, ending: Ending, err: &mut E) -> u8
     ensures { Reports ending result
         (E.contents err.old) (E.contents err.new) (E.faults err.old) (E.faults err.new) }
 {
     match ending {
         Ending::Exit => 0,
+        Ending::Trap { trap, at } => match trap_line(alloc, trap, at) {
+            Ok(line) => tell(err, line.as_bytes(), 2),
+            Err(_) => tell_no_memory(err),
+        },
+        Ending::Deadlock => tell(err, b"rgo: deadlock\n", 3),
+        Ending::CallsTooDeep => tell(err, b"rgo: calls too deep\n", 7),
+        Ending::StepsSpent => tell(err, b"rgo: steps spent\n", 8),
+        Ending::GoroutinesSpent => tell(err, b"rgo: goroutines spent\n", 12),
         Ending::Usage => tell(err, USAGE, 64),
         Ending::ReadFault => tell(err, b"rgo: read failed\n", 9),
         Ending::TooLong => tell(err, b"rgo: text longer than 1048576 bytes\n", 1),

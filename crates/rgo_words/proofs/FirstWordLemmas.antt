@@ -32,7 +32,7 @@ other_word program w rest run check = by_dashes rest (bytes_eq w (codes "--")) r
     refused : (r : List Text)
         → bytes_eq w (codes "--") ≡ false
         → has_fault (fault_of parser (program ∷ w ∷ r)) ≡ true
-    refused r e = with_first _ _ (with_first _ _ (stray (built parser).top false names w none e))
+    refused r e = with_first _ _ (with_first _ _ (stray (built parser).top [] None false false names w none e tt))
 
     by_dashes : (r : List Text) (b : Bool) → bytes_eq w (codes "--") ≡ b → command_of (program ∷ w ∷ r) ≡ None
     by_dashes r false e =

@@ -1,6 +1,11 @@
+pub mod RowLemmas
+pub mod NumberLemmas
 pub mod ParserLemmas
 pub mod CommandLemmas
 pub mod StrayLemmas
 pub mod FirstWordLemmas
 pub mod RestLemmas
+pub mod WordLemmas
+pub mod RunLemmas
+pub mod OptionLemmas
 pub mod LawLemmas

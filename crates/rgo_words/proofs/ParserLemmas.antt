@@ -1,10 +1,29 @@
 -- The command line that the builders of `clap` make.
-use Rattle.std.proofs.Common.{◌≡◌, ◌∙◌, true, false, ap, ap₂, codes}
-use Rattle.clap.specs.Words.{AddsSubcommand, App, Shape, app_of, new_app, shape_of, with_subcommand}
+use Rattle.std.proofs.Common.{◌≡◌, ◌∙◌, ◌||◌, Bool, true, false, ap, ap₂, codes}
+use Rattle.clap.specs.Words.{AddsArg, AddsSubcommand, App, Rule, Shape, app_of, new_app, rule_of, shape_of}
+use Rattle.clap.specs.Words.{with_rule, with_subcommand}
 use Rattle.clap.specs.Simple.{app_of_fields, on_top}
+use Rattle.clap.specs.declared.builder.arg.Arg.{Arg}
 use Rattle.clap.specs.declared.builder.command.Command.{Command}
 use Rattle.clap.specs.declared.builder.command.Command.TheViews.{out-Command}
 use Rattle.rgo_words.specs.Parser.{bare_parser}
+
+-- an option of the builder is one of the data
+pub with_arg : (old new : Command) (arg : Arg) (app : App) (rule : Rule)
+    → AddsArg old arg new
+    → arg.global ≡ false
+    → app_of old ≡ app
+    → rule_of arg ≡ rule
+    → app_of new ≡ with_rule app rule
+with_arg old new arg app rule adds local is_app is_rule = adds.shape local ∙ ap₂ with_rule is_app is_rule
+
+-- an option that is the command's own leaves it without options for all
+pub still_local : (old new : Command) (arg : Arg)
+    → AddsArg old arg new
+    → arg.global ≡ false
+    → (out-Command old).has_globals ≡ false
+    → (out-Command new).has_globals ≡ false
+still_local old new arg adds local before = adds.globals ∙ ap₂ (λ (x y : Bool). x || y) before local
 
 -- a subcommand of the builder is one of the data
 pub with_command : (old new sub : Command) (app : App) (shape : Shape)

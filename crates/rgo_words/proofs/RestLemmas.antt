@@ -1,18 +1,20 @@
 -- The words behind a command's name are judged at that command's own level alone.
-use Rattle.std.proofs.Common.{◌≡◌, ◌∙◌, refl, sym, ap, ap₂, codes, cond, true, false, List, [], ◌∷◌, ◌++◌, Option, Some, None}
-use Rattle.std.proofs.Common.{append-nil, append_assoc}
+use Rattle.std.proofs.Common.{◌≡◌, ◌∙◌, refl, sym, ap, ap₂, codes, cond, true}
+use Rattle.std.proofs.Common.{false, List, [], ◌∷◌, ◌++◌, Option, Some, None}
+use Rattle.std.proofs.Common.{append-nil, append_assoc, option_map}
 use Rattle.std.specs.List.{fold}
 use Rattle.std.specs.Prelude.{is_some}
 use Rattle.std.specs.Str.{bytes_eq}
-use Rattle.clap.specs.Words.{App, Kinds, Shape, Text, built}
+use Rattle.clap.specs.Words.{App, Kinds, Row, Shape, Text, built}
 use Rattle.clap.specs.Kinds.{or_else}
 use Rattle.clap.specs.Simple.{built_leaf, entered, inherited, names_of, new_shape}
-use Rattle.clap.specs.Walk.{Names, Walk, finished, nothing_held, settled, walk_from, walked}
-use Rattle.clap.specs.Faults.{check_fault, defaults_fault, entered_fault, level_fault, settle_fault, walk_fault}
+use Rattle.clap.specs.Walk.{Names, Walk, finished, nothing_held, rows_after, settled, walk_from, walked}
+use Rattle.clap.specs.Faults.{check_fault, defaults_fault, entered_fault, level_fault}
+use Rattle.clap.specs.Faults.{settle_fault, walk_fault}
 use Rattle.clap.proofs.OnLiterals.{clap_on_literals}
 use Rattle.rgo_words.specs.Commands.{command_met, command_of, has_fault}
-use Rattle.rgo_words.specs.Laws.{name_of}
-use Rattle.rgo_words.specs.Parser.{bare_parser, parser}
+use Rattle.rgo_words.specs.Limits.{limits_of}
+use Rattle.rgo_words.specs.Parser.{bare_parser, parser, run_parser}
 use Rattle.rgo_words.specs.declared.commands.Command.{Command}
 use Rattle.rgo_words.specs.declared.commands.Command.TheVariants.{Run, Check}
 use Rattle.rgo_words.proofs.StrayLemmas.{stray, with_first}
@@ -26,9 +28,12 @@ top = app.top
 abbrev names : Names
 names = names_of app
 
--- a command, as it is built
-abbrev leaf : Command → Shape
-leaf command = built_leaf (inherited bare_parser.top (new_shape (name_of command)))
+-- the commands, as they are built
+abbrev pub run_leaf : Shape
+run_leaf = built_leaf (inherited bare_parser.top run_parser.top)
+
+abbrev check_leaf : Shape
+check_leaf = built_leaf (inherited bare_parser.top (new_shape (codes "check")))
 
 -- the walk over the words stands still once it has met a command
 abbrev stopped_at : Text → List Text → Walk
@@ -62,38 +67,45 @@ just_one : (k : Kinds) → has_fault (or_else k []) ≡ has_fault k
 just_one [] = refl
 just_one (x ∷ xs) = refl
 
--- what is wrong with the words behind the command
-abbrev rest_fault : Command → List Text → Kinds
-rest_fault command rest = level_fault (leaf command) [] nothing_held rest false []
+-- what is wrong with the words behind a command
+abbrev pub rest_fault : Shape → List Text → Kinds
+rest_fault leaf rest = level_fault leaf [] nothing_held rest false []
 
-behind : (command : Command) (program : Text) (rest : List Text)
-    → command_of (program ∷ name_of command ∷ rest) ≡ cond (has_fault (rest_fault command rest)) None (Some command)
+-- what the words behind `run` ask for, where nothing is wrong with them
+abbrev pub run_met : List Row → Option Command
+run_met rows = option_map Run (limits_of rows)
+
+pub behind_run : (program : Text) (rest : List Text)
+    → command_of (program ∷ codes "run" ∷ rest)
+    ≡ cond (has_fault (rest_fault run_leaf rest)) None (run_met (rows_after run_leaf.rules [] rest))
 unfolding clap_on_literals
-behind Run program rest =
+behind_run program rest =
     ap₂ whole (stands (codes "run") [] rest) (no_fault (codes "run") [] rest)
-    ∙ ap (λ b. cond b None (Some Run)) (just_one (rest_fault Run rest))
-behind Check program rest =
-    ap₂ whole (stands (codes "check") [] rest) (no_fault (codes "check") [] rest)
-    ∙ ap (λ b. cond b None (Some Check)) (just_one (rest_fault Check rest))
+    ∙ ap (λ b. cond b None (run_met (rows_after run_leaf.rules [] rest))) (just_one (rest_fault run_leaf rest))
 
-refused : (command : Command) (program : Text) (rest : List Text)
-    → has_fault (rest_fault command rest) ≡ true
-    → command_of (program ∷ name_of command ∷ rest) ≡ None
-refused command program rest e =
-    behind command program rest
-    ∙ ap (λ b. cond b None (Some command)) e
-
--- a word behind a command that is no `--`
-pub other_rest : (command : Command) (program x : Text) (xs : List Text)
-    → bytes_eq x (codes "--") ≡ false
-    → command_of (program ∷ name_of command ∷ x ∷ xs) ≡ None
+behind_check : (program : Text) (rest : List Text)
+    → command_of (program ∷ codes "check" ∷ rest) ≡ cond (has_fault (rest_fault check_leaf rest)) None (Some Check)
 unfolding clap_on_literals
-other_rest command program x xs e =
-    refused command program (x ∷ xs)
-    (with_first _ _ (with_first _ _ (stray (leaf command) true [] x refl e)))
+behind_check program rest =
+    ap₂ whole (stands (codes "check") [] rest) (no_fault (codes "check") [] rest)
+    ∙ ap (λ b. cond b None (Some Check)) (just_one (rest_fault check_leaf rest))
+
+refused : (program : Text) (rest : List Text)
+    → has_fault (rest_fault check_leaf rest) ≡ true
+    → command_of (program ∷ codes "check" ∷ rest) ≡ None
+refused program rest e = behind_check program rest ∙ ap (λ b. cond b None (Some Check)) e
+
+-- a word behind `check` that is no `--`
+pub other_rest : (program x : Text) (xs : List Text)
+    → bytes_eq x (codes "--") ≡ false
+    → command_of (program ∷ codes "check" ∷ x ∷ xs) ≡ None
+unfolding clap_on_literals
+other_rest program x xs e =
+    refused program (x ∷ xs)
+    (with_first _ _ (with_first _ _ (stray check_leaf [] None false true [] x refl e tt)))
 
 -- a word behind the `--`
-pub more_rest : (command : Command) (program x : Text) (xs : List Text)
-    → command_of (program ∷ name_of command ∷ codes "--" ∷ x ∷ xs) ≡ None
+pub more_rest : (program x : Text) (xs : List Text)
+    → command_of (program ∷ codes "check" ∷ codes "--" ∷ x ∷ xs) ≡ None
 unfolding clap_on_literals
-more_rest command program x xs = refused command program (codes "--" ∷ x ∷ xs) refl
+more_rest program x xs = refused program (codes "--" ∷ x ∷ xs) refl

@@ -1,3 +1,5 @@
 pub mod Commands
 pub mod Laws
+pub mod Limits
+pub mod Numbers
 pub mod Parser

@@ -1,6 +1,16 @@
 -- The command line as data of `clap`: which words it takes, and as what.
-use Rattle.std.specs.Prelude.{true, codes}
-use Rattle.clap.specs.Words.{App, new_app, with_subcommand}
+use Rattle.std.specs.Prelude.{Some, true, codes}
+use Rattle.clap.specs.Words.{App, Rule, Text, new_app, new_rule, with_rule, with_subcommand}
+use Rattle.clap.specs.declared.builder.action.ArgAction.TheVariants.{Set}
+
+-- an option `--name N`, of which the words may have one
+abbrev pub number_option : Text → Rule
+number_option name = record (new_rule name) { long = Some name; action = Some Set }
+
+-- `run`, with its two options
+abbrev pub run_parser : App
+run_parser = with_rule (with_rule (new_app (codes "run")) (number_option (codes "steps")))
+    (number_option (codes "goroutines"))
 
 -- the program, with no help and no version of its own
 abbrev pub bare_parser : App
@@ -12,8 +22,6 @@ bare_parser = record (new_app (codes "rgo")) {
   };
 }
 
--- one level of subcommands, of which none has options
+-- one level of subcommands, of which `run` has options
 abbrev pub parser : App
-parser =
-    with_subcommand (with_subcommand bare_parser (new_app (codes "run")).top)
-    (new_app (codes "check")).top
+parser = with_subcommand (with_subcommand bare_parser run_parser.top) (new_app (codes "check")).top

@@ -3,9 +3,12 @@
 
 mod commands;
 mod laws;
+mod limits;
+mod numbers;
 mod parser;
 #[cfg(test)]
 mod tests;
 
 pub use commands::{Command, WordsError, read_words};
 pub use laws::words_asked;
+pub use limits::Limits;

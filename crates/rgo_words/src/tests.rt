@@ -1,6 +1,6 @@
 //! Rows of words, and what they ask for.
 
-use crate::{Command, WordsError, read_words};
+use crate::{Command, Limits, WordsError, read_words};
 use std::alloc::{AllocError, Global};
 use std::process::Abort;
 use std::test::Fail;
@@ -25,18 +25,60 @@ fn expect<R: Abort + AllocGlobal>(
     Ok(())
 }
 
-static TAKEN: [(&str, Command); 8] = [
-    ("rgo|run", Command::Run),
-    ("rgo|run|--", Command::Run),
-    ("|run", Command::Run),
-    ("--help|run", Command::Run),
-    ("check|run", Command::Run),
-    ("rgo|check", Command::Check),
-    ("rgo|check|--", Command::Check),
-    ("-|check", Command::Check),
+const MOST_STEPS: u64 = 4_398_046_511_104;
+
+// Words that ask for `run`, with its steps and its goroutines.
+static RUNS: [(&str, u64, usize); 37] = [
+    ("rgo|run", MOST_STEPS, 100_000),
+    ("rgo|run|--", MOST_STEPS, 100_000),
+    ("|run", MOST_STEPS, 100_000),
+    ("--help|run", MOST_STEPS, 100_000),
+    ("--steps=5|run", MOST_STEPS, 100_000),
+    ("check|run", MOST_STEPS, 100_000),
+    // An option and its number, apart and joined.
+    ("rgo|run|--steps|5", 5, 100_000),
+    ("rgo|run|--steps=5", 5, 100_000),
+    ("rgo|run|--goroutines|5", MOST_STEPS, 5),
+    ("rgo|run|--goroutines=5", MOST_STEPS, 5),
+    ("rgo|run|--steps|5|--", 5, 100_000),
+    ("rgo|run|--steps=5|--", 5, 100_000),
+    ("rgo|run|--goroutines|5|--", MOST_STEPS, 5),
+    ("rgo|run|--goroutines=5|--", MOST_STEPS, 5),
+    // Both, in any order and form.
+    ("rgo|run|--steps|5|--goroutines|6", 5, 6),
+    ("rgo|run|--steps|5|--goroutines=6", 5, 6),
+    ("rgo|run|--steps=5|--goroutines|6", 5, 6),
+    ("rgo|run|--steps=5|--goroutines=6", 5, 6),
+    ("rgo|run|--goroutines|6|--steps|5", 5, 6),
+    ("rgo|run|--goroutines|6|--steps=5", 5, 6),
+    ("rgo|run|--goroutines=6|--steps|5", 5, 6),
+    ("rgo|run|--goroutines=6|--steps=5", 5, 6),
+    ("rgo|run|--goroutines=6|--steps|5|--", 5, 6),
+    ("rgo|run|--steps|5|--goroutines=6|--", 5, 6),
+    // The ends of each range.
+    ("rgo|run|--steps|1|--goroutines|1", 1, 1),
+    ("rgo|run|--steps|4398046511104", MOST_STEPS, 100_000),
+    ("rgo|run|--steps|4398046511103", 4_398_046_511_103, 100_000),
+    ("rgo|run|--goroutines|1000000", MOST_STEPS, 1_000_000),
+    ("rgo|run|--goroutines|999999", MOST_STEPS, 999_999),
+    ("rgo|run|--goroutines|100001", MOST_STEPS, 100_001),
+    // Leading zeros.
+    ("rgo|run|--steps|007", 7, 100_000),
+    ("rgo|run|--steps=007", 7, 100_000),
+    ("rgo|run|--goroutines|01000000", MOST_STEPS, 1_000_000),
+    ("rgo|run|--goroutines=010", MOST_STEPS, 10),
+    (
+        "rgo|run|--steps|00000000000000000000000000000000000000009",
+        9,
+        100_000,
+    ),
+    ("rgo|run|--steps=0004398046511104", MOST_STEPS, 100_000),
+    ("rgo|run|--steps|10", 10, 100_000),
 ];
 
-static REFUSED: [&str; 52] = [
+static CHECKS: [&str; 3] = ["rgo|check", "rgo|check|--", "-|check"];
+
+static REFUSED: [&str; 158] = [
     "rgo",
     "",
     "run",
@@ -83,18 +125,137 @@ static REFUSED: [&str; 52] = [
     "rgo|RUN",
     "rgo|ruñ",
     "rgo|--run",
-    "rgo|run|--steps|5",
     "rgo|run|--stats",
     "rgo|--stats|run",
     "rgo|emit",
     "rgo|code",
     "rgo|big|5",
+    // The number of an option is missing, or no number.
+    "rgo|run|--steps",
+    "rgo|run|--goroutines",
+    "rgo|run|--steps|",
+    "rgo|run|--steps=",
+    "rgo|run|--goroutines|",
+    "rgo|run|--goroutines=",
+    "rgo|run|--steps|--",
+    "rgo|run|--steps|--|5",
+    "rgo|run|--steps|-",
+    "rgo|run|--steps|+5",
+    "rgo|run|--steps|-5",
+    "rgo|run|--steps=+5",
+    "rgo|run|--steps=-5",
+    "rgo|run|--steps| 5",
+    "rgo|run|--steps|5 ",
+    "rgo|run|--steps=5 ",
+    "rgo|run|--steps|5x",
+    "rgo|run|--steps|x",
+    "rgo|run|--steps|0x5",
+    "rgo|run|--steps|5_000",
+    "rgo|run|--steps|5,000",
+    "rgo|run|--steps|5.0",
+    "rgo|run|--steps|1e3",
+    "rgo|run|--steps|٥",
+    "rgo|run|--steps|５",
+    "rgo|run|--steps==5",
+    "rgo|run|--goroutines|+1",
+    "rgo|run|--goroutines=many",
+    "rgo|run|--steps|--goroutines|5",
+    "rgo|run|--steps|--goroutines=5",
+    "rgo|run|--steps|--steps",
+    "rgo|run|--steps|run",
+    // A number that its option does not take.
+    "rgo|run|--steps|0",
+    "rgo|run|--steps=0",
+    "rgo|run|--steps|000",
+    "rgo|run|--steps|4398046511105",
+    "rgo|run|--steps=4398046511105",
+    "rgo|run|--steps|18446744073709551615",
+    "rgo|run|--steps|18446744073709551616",
+    "rgo|run|--steps|18446744073709551617",
+    "rgo|run|--steps=18446744073709551621",
+    "rgo|run|--steps|340282366920938463463374607431768211457",
+    "rgo|run|--steps|99999999999999999999999999999999999999999999999999999999999999",
+    "rgo|run|--goroutines|0",
+    "rgo|run|--goroutines=0",
+    "rgo|run|--goroutines|1000001",
+    "rgo|run|--goroutines=1000001",
+    "rgo|run|--goroutines|4294967297",
+    "rgo|run|--goroutines|18446744073709551617",
+    "rgo|run|--steps|5|--goroutines|0",
+    "rgo|run|--steps|0|--goroutines|5",
+    // An option that stands twice.
+    "rgo|run|--steps|5|--steps|6",
+    "rgo|run|--steps|5|--steps|5",
+    "rgo|run|--steps=5|--steps=5",
+    "rgo|run|--steps|5|--steps=5",
+    "rgo|run|--steps=5|--steps|5",
+    "rgo|run|--goroutines|5|--goroutines|5",
+    "rgo|run|--goroutines=5|--goroutines=6",
+    "rgo|run|--steps|5|--goroutines|6|--steps|5",
+    "rgo|run|--goroutines=6|--steps=5|--goroutines=6",
+    // Further words.
+    "rgo|run|--steps|5|6",
+    "rgo|run|--steps=5|6",
+    "rgo|run|--steps|5|",
+    "rgo|run|--steps=5|",
+    "rgo|run|--steps|5|-",
+    "rgo|run|--steps|5|--|6",
+    "rgo|run|--steps|5|--|--",
+    "rgo|run|--|--steps|5",
+    "rgo|run|--|--steps=5",
+    "rgo|run|6|--steps|5",
+    "rgo|run|--steps|5|--goroutines|6|7",
+    "rgo|run|--steps=5|run",
+    // Words that name no option of `run`.
+    "rgo|run|--step|5",
+    "rgo|run|--s=5",
+    "rgo|run|--stepsx=5",
+    "rgo|run|--STEPS|5",
+    "rgo|run|--Steps=5",
+    "rgo|run|--stéps|5",
+    "rgo|run|-steps|5",
+    "rgo|run|-s|5",
+    "rgo|run|-s5",
+    "rgo|run|-g|5",
+    "rgo|run|--goroutine|5",
+    "rgo|run|--g|5",
+    "rgo|run|steps|5",
+    "rgo|run|steps=5",
+    "rgo|run|---steps|5",
+    "rgo|run|--=5",
+    "rgo|run|--steps |5",
+    "rgo|run|--stats|--steps|5",
+    "rgo|run|--pages|5",
+    "rgo|run|--page-words|16",
+    "rgo|run|--regions|5",
+    "rgo|run|--workers|4",
+    "rgo|run|--steps|5|--help",
+    "rgo|run|--steps=5|-h",
+    "rgo|run|--steps=5|--version",
+    // Options in another place.
+    "rgo|--steps|5",
+    "rgo|--steps=5",
+    "rgo|--steps|5|run",
+    "rgo|--steps=5|run",
+    "rgo|--goroutines|5|run",
+    "rgo|check|--steps|5",
+    "rgo|check|--steps=5",
+    "rgo|check|--goroutines|5",
+    "rgo|check|--goroutines=5",
+    "rgo|check|--|--steps=5",
 ];
 
 #[test]
 fn reads_rows_of_words(rt: HostRuntime) -> Result<(), Fail> {
-    for (line, command) in TAKEN.as_slice() {
-        expect(&rt, line, Ok(*command))?;
+    for (line, steps, goroutines) in RUNS.as_slice() {
+        let limits = Limits {
+            steps: *steps,
+            goroutines: *goroutines,
+        };
+        expect(&rt, line, Ok(Command::Run(limits)))?;
+    }
+    for line in CHECKS.as_slice() {
+        expect(&rt, line, Ok(Command::Check))?;
     }
     for line in REFUSED.as_slice() {
         expect(&rt, line, Err(WordsError::Usage))?;

@@ -3,8 +3,8 @@ use Rattle.clap.specs.Words.{App, HasKind, fault_of, is_simple_and_free}
 use Rattle.rgo_words.proofs.CommandLemmas.{is_exact, refused}
 use Rattle.rgo_words.proofs.commands.read_words.Goals as goal
 
-pub returns : goal.returns
-returns c = λ _.
+pub returns-clause-asked : goal.returns-clause-asked
+returns-clause-asked c = λ _.
     let words = map string_bytes c.args.words.now in
     let error = c.in-Err.error in
     let kinds = c.in-Err.ensures.kinds (ap is_simple_and_free c.in_ok-parser.ensures ∙ is_exact) in

@@ -1,0 +1,432 @@
+//! Texts with what a run of them prints and how it ends. They are worked out from the words of the
+//! language, and stand behind the head of the other texts.
+
+// A list of the numbers below n, and the sum of one.
+pub const LISTS: &str = "\
+func list(n int) *N { var l *N; for i := 0; i < n; i++ { l = &N{i, l} }; return l }
+func sum(l *N) int { s := 0; for l != nil { s += l.v; l = l.p }; return s }
+";
+
+// Texts behind `LISTS` of which `main` returns, and their print.
+pub const OVER_LISTS: [(&str, &str); 2] = [
+    (
+        "func main() { s := 0; for i := 0; i < 1000; i++ { s += sum(list(10)) }; fmt.Println(s) }",
+        "45000\n",
+    ),
+    (
+        "func child(l *N, d chan int) { fmt.Println(sum(l)); d <- 1 }
+func main() { d := make(chan int); l := list(4); go child(l, d); <-d }",
+        "6\n",
+    ),
+];
+
+// Texts of which `main` returns, and their print: values and operators.
+pub const VALUES: [(&str, &str); 17] = [
+    (
+        "func main() { fmt.Println(\"hi\", 1, true) }",
+        "hi 1 true\n",
+    ),
+    ("func main() { fmt.Println(); fmt.Println(\"\") }", "\n\n"),
+    (
+        "func main() { fmt.Println(\"a\\tb\\\\c\\\"d\\ne\", \"é\") }",
+        "a\tb\\c\"d\ne é\n",
+    ),
+    ("func main() { fmt.Println(1 + 2*3, (1+2)*3) }", "7 9\n"),
+    ("func main() { (fmt.Println)((\"a\")) }", "a\n"),
+    (
+        "func main() { fmt.Println(1 < 2, 2 <= 1, 3 > 2, 2 >= 3, 1 == 1, 1 != 1, !true) }",
+        "true false true false true false false\n",
+    ),
+    (
+        "func main() { x := 9223372036854775807; x++; fmt.Println(x); x--; fmt.Println(x) }",
+        "-9223372036854775808\n9223372036854775807\n",
+    ),
+    (
+        "func main() { x := 4294967296; y := x * x; fmt.Println(y, x*x/x, x*2-x) }",
+        "0 0 4294967296\n",
+    ),
+    (
+        "func main() { a := -7; b := 2; fmt.Println(a/b, a%b, -a/b, -a%-b, a-b-b) }",
+        "-3 -1 3 1 -11\n",
+    ),
+    (
+        "func main() { a := 7; a += 2; a *= 3; a -= 1; a /= 4; a %= 4; fmt.Println(a) }",
+        "2\n",
+    ),
+    (
+        "type E struct {}
+func main() { x := &E{}; y := new(E); z := x; fmt.Println(x == y, x == z, x != nil) }",
+        "false true true\n",
+    ),
+    (
+        "func main() { a := make(chan int); b := make(chan int); var c chan int; d := a
+fmt.Println(a == b, a == d, c == nil) }",
+        "false true true\n",
+    ),
+    (
+        "func main() { x := &N{1, nil}; y := &N{2, nil}; fmt.Println(x.v + y.v) }",
+        "3\n",
+    ),
+    (
+        "func main() { x := new(N); x.v = 3; x.p = x; x.p.p.v++; fmt.Println(x.v, x.p == x) }",
+        "4 true\n",
+    ),
+    (
+        "func main() { s := make([][]int, 2); s[0] = make([]int, 3); s[0][2] = 7
+t := s[0]; t[1] = 5
+fmt.Println(s[0][0], s[0][1], s[0][2], len(s), len(s[0]), len(s[1]), s[1] == nil) }",
+        "0 5 7 2 3 0 true\n",
+    ),
+    (
+        "func main() { s := make([]*N, 2); s[1] = &N{3, nil}; s[1].v++
+fmt.Println(s[0] == nil, s[1].v) }",
+        "true 4\n",
+    ),
+    (
+        "var a, b int; var ( c bool; d *N )
+func main() { var s []int; fmt.Println(a, b, c, d == nil, len(s), s == nil)
+a = 4; fmt.Println(a, b) }",
+        "0 0 false true 0 true\n4 0\n",
+    ),
+];
+
+// The same: the order of evaluation, and what is not evaluated.
+pub const ORDER: [(&str, &str); 7] = [
+    (
+        "func p(n int, b bool) bool { fmt.Println(n); return b }
+func main() { fmt.Println(p(1, false) && p(2, true)); fmt.Println(p(3, true) || p(4, false))
+fmt.Println(p(5, true) && p(6, false)); fmt.Println(p(7, false) || p(8, true)) }",
+        "1\nfalse\n3\ntrue\n5\n6\nfalse\n7\n8\ntrue\n",
+    ),
+    (
+        "func main() { var x *N; fmt.Println(x != nil && x.v == 0, x == nil || x.v == 0) }",
+        "false true\n",
+    ),
+    (
+        "func p(n int) int { fmt.Println(n); return n }
+func main() { fmt.Println(p(1) + p(2)*p(3), p(4)-p(5)) }",
+        "1\n2\n3\n4\n5\n7 -1\n",
+    ),
+    (
+        "func p(n int) int { fmt.Println(n); return n }
+func main() { s := make([]int, 3); s[p(1)] = p(7); s[p(2)] += p(9)
+fmt.Println(s[0], s[1], s[2]) }",
+        "1\n7\n2\n9\n0 7 9\n",
+    ),
+    (
+        "func n(i int) int { fmt.Println(i); return i }
+func m(i int) *N { fmt.Println(i); return nil }
+func main() { x := &N{p: m(1), v: n(2)}; fmt.Println(x.v, x.p == nil) }",
+        "1\n2\n2 true\n",
+    ),
+    (
+        "var g int
+func f() int { g = 5; return 1 }
+func main() { fmt.Println(g + f(), g) }",
+        "1 5\n",
+    ),
+    (
+        "var x *N
+func f() int { x.v = 10; return 1 }
+func main() { x = &N{5, nil}; x.v += f(); fmt.Println(x.v) }",
+        "6\n",
+    ),
+];
+
+// The same: statements, calls and names.
+pub const STATEMENTS: [(&str, &str); 14] = [
+    ("func main() { return; fmt.Println(1) }", ""),
+    (
+        "func f(a, b *N) int { s := a.v; return s + b.v }
+func main() { x := &N{21, nil}; fmt.Println(f(x, x)) }",
+        "42\n",
+    ),
+    (
+        "func f(a *N) *N { return &N{a.v + 1, nil} }
+func main() { x := &N{1, nil}; x = f(x); fmt.Println(x.v) }",
+        "2\n",
+    ),
+    (
+        "func f(n int) { n = 7 }
+func main() { n := 1; f(n); fmt.Println(n) }",
+        "1\n",
+    ),
+    (
+        "var head *N
+func main() { for i := 0; i < 20; i++ { fmt.Println(i); head = &N{i, head} } }",
+        "0\n1\n2\n3\n4\n5\n6\n7\n8\n9\n10\n11\n12\n13\n14\n15\n16\n17\n18\n19\n",
+    ),
+    (
+        "func main() { for i := 0; i < 4; i++ { for j := 0; ; j++ {
+if j == i { break }; if j == 1 { continue }; fmt.Println(i, j) } } }",
+        "1 0\n2 0\n3 0\n3 2\n",
+    ),
+    (
+        "func main() { n := 0; for { n++; if n > 3 { break } }; fmt.Println(n) }",
+        "4\n",
+    ),
+    (
+        "func main() { n := 10; for n > 1 { n /= 2; fmt.Println(n) } }",
+        "5\n2\n1\n",
+    ),
+    (
+        "func kind(n int) int {
+if n < 0 { return -1 } else if n == 0 { return 0 } else { return 1 } }
+func main() { fmt.Println(kind(-5), kind(0), kind(7))
+if x := 3; x > 3 { fmt.Println(x) } else { fmt.Println(-x) } }",
+        "-1 0 1\n-3\n",
+    ),
+    (
+        "func fib(n int) int { if n < 2 { return n }; return fib(n-1) + fib(n-2) }
+func main() { fmt.Println(fib(15)) }",
+        "610\n",
+    ),
+    (
+        "func even(n int) bool { if n == 0 { return true }; return odd(n - 1) }
+func odd(n int) bool { if n == 0 { return false }; return even(n - 1) }
+func main() { fmt.Println(even(10), odd(10)) }",
+        "true false\n",
+    ),
+    (
+        "func main() { x := 1; { x := 2; x++; fmt.Println(x) }; if x := true; x { fmt.Println(x) }
+for x := 8; x < 9; x++ { x := x * 2; fmt.Println(x) }; fmt.Println(x) }",
+        "3\ntrue\n16\n1\n",
+    ),
+    (
+        "func main() { for i := 0; i < 2; i++ { var n int; n++; fmt.Println(n) } }",
+        "1\n1\n",
+    ),
+    (
+        "func find(s []int, n int) int { for i := 0; i < len(s); i++ {
+for { if s[i] == n { return i }; break } }; return -1 }
+func main() { s := make([]int, 3); s[2] = 5; fmt.Println(find(s, 5), find(s, 0), find(s, 9)) }",
+        "2 0 -1\n",
+    ),
+];
+
+// The same: goroutines and channels.
+pub const GOROUTINES: [(&str, &str); 8] = [
+    (
+        "func echo(a, b chan int) { for i := 0; i < 5; i++ { b <- <-a + 1 } }
+func main() { a := make(chan int); b := make(chan int); go echo(a, b)
+for i := 0; i < 5; i++ { a <- i * 10; fmt.Println(<-b) } }",
+        "1\n11\n21\n31\n41\n",
+    ),
+    (
+        "func prod(c chan int) { for i := 0; i < 100; i++ { c <- i }; close(c) }
+func main() { c := make(chan int, 2); go prod(c)
+s := 0; for i := 0; i < 100; i++ { s += <-c }; fmt.Println(s) }",
+        "4950\n",
+    ),
+    (
+        "func f(a, b *N, d chan int) { s := a.v; d <- s + b.v }
+func main() { x := &N{21, nil}; d := make(chan int); go f(x, x, d); fmt.Println(<-d) }",
+        "42\n",
+    ),
+    (
+        "func g(c chan int) { fmt.Println(1); c <- 0 }
+func main() { c := make(chan int); go g(c); <-c; fmt.Println(2) }",
+        "1\n2\n",
+    ),
+    (
+        "func g(c chan int) { <-c; fmt.Println(2) }
+func main() { c := make(chan int); go g(c); fmt.Println(1) }",
+        "1\n",
+    ),
+    (
+        "func main() { c := make(chan int, 3); c <- 4; c <- 5; close(c)
+fmt.Println(<-c, <-c, <-c, <-c) }",
+        "4 5 0 0\n",
+    ),
+    (
+        "func main() { c := make(chan *N); close(c); d := make(chan bool, 1); d <- true; close(d)
+fmt.Println(<-c == nil, <-d, <-d) }",
+        "true true false\n",
+    ),
+    (
+        "func w(c chan int, n int) { c <- n }
+func main() { c := make(chan int); for i := 1; i < 11; i++ { go w(c, i) }
+s := 0; for i := 1; i < 11; i++ { s += <-c }; fmt.Println(s) }",
+        "55\n",
+    ),
+];
+
+// Texts that end by a trap: their print, and what is told of it.
+pub const TRAPS: [(&str, &str, &str); 17] = [
+    (
+        "func main() { var x *N; fmt.Println(x.v) }",
+        "",
+        "4:39: trap 1 NilPointer",
+    ),
+    (
+        "func main() { x := &N{1, nil}; fmt.Println(x.v, x.p.v) }",
+        "",
+        "4:53: trap 1 NilPointer",
+    ),
+    (
+        "func f() int { fmt.Println(1); return 2 }\nfunc main() { var x *N; x.v = f() }",
+        "1\n",
+        "5:29: trap 1 NilPointer",
+    ),
+    (
+        "func f() int { fmt.Println(1); return 2 }\nfunc main() { var x *N; x.v += f() }",
+        "",
+        "5:27: trap 1 NilPointer",
+    ),
+    (
+        "func g() { var x *N; x.v = 1 }\nfunc main() { go g(); for {} }",
+        "",
+        "4:26: trap 1 NilPointer",
+    ),
+    (
+        "func main() {\n\ts := make([]int, 3)\n\tfmt.Println(s[3])\n}",
+        "",
+        "6:15: trap 2 IndexRange",
+    ),
+    (
+        "func main() { s := make([]int, 3); i := -1; s[i] = 4 }",
+        "",
+        "4:50: trap 2 IndexRange",
+    ),
+    (
+        "func main() { s := make([]int, 3); i := -1; s[i] += 4 }",
+        "",
+        "4:46: trap 2 IndexRange",
+    ),
+    (
+        "func main() { var s []int; fmt.Println(7); s[0]++ }",
+        "7\n",
+        "4:45: trap 2 IndexRange",
+    ),
+    (
+        "func main() {\n\ta := -9223372036854775807 - 1\n\tb := -1\n\
+\tfmt.Println(a/b, a%b)\n\tb++\n\tfmt.Println(a / b)\n}",
+        "-9223372036854775808 0\n",
+        "9:16: trap 3 DivideZero",
+    ),
+    (
+        "func main() { x := 0; x %= x }",
+        "",
+        "4:25: trap 3 DivideZero",
+    ),
+    (
+        "func main() { n := -1; s := make([]int, n); fmt.Println(len(s)) }",
+        "",
+        "4:29: trap 4 BadSize",
+    ),
+    (
+        "func main() { n := 0; c := make(chan int, n - 1); c <- 1 }",
+        "",
+        "4:28: trap 4 BadSize",
+    ),
+    (
+        "func main() {\n\tc := make(chan int, 2)\n\tc <- 7\n\
+\tclose(c)\n\tfmt.Println(<-c, <-c)\n\tc <- 1\n}",
+        "7 0\n",
+        "9:4: trap 5 SendClosed",
+    ),
+    (
+        "func g(c chan int) { c <- 1 }
+func main() { c := make(chan int); go g(c); close(c); for {} }",
+        "",
+        "4:24: trap 5 SendClosed",
+    ),
+    (
+        "func main() { c := make(chan int); close(c); close(c) }",
+        "",
+        "4:51: trap 6 CloseClosed",
+    ),
+    (
+        "func main() { var c chan int; close(c) }",
+        "",
+        "4:36: trap 7 CloseNil",
+    ),
+];
+
+const ECHO: &str = "func echo(a, b chan int) { for i := 0; i < 5; i++ { b <- <-a + 1 } }
+func main() { a := make(chan int); b := make(chan int); go echo(a, b)
+for i := 0; i < 5; i++ { a <- i * 10; fmt.Println(<-b) } }";
+
+// Words and texts that end otherwise: what is printed, what is told, and the status.
+pub const ENDS: [(&str, &str, &str, &str, u8); 14] = [
+    (
+        "rgo run",
+        "func main() { c := make(chan int); <-c }",
+        "",
+        "rgo: deadlock\n",
+        3,
+    ),
+    (
+        "rgo run",
+        "func g(c chan int) { c <- 1 }\nfunc main() { var c chan int; go g(c); <-c }",
+        "",
+        "rgo: deadlock\n",
+        3,
+    ),
+    (
+        "rgo run",
+        "func main() { fmt.Println(1); c := make(chan int); c <- 1 }",
+        "1\n",
+        "rgo: deadlock\n",
+        3,
+    ),
+    (
+        "rgo run",
+        "func main() { c := make(chan int, 1); c <- 1; fmt.Println(2); c <- 3 }",
+        "2\n",
+        "rgo: deadlock\n",
+        3,
+    ),
+    (
+        "rgo run",
+        "func f() { f() }\nfunc main() { fmt.Println(1); f() }",
+        "1\n",
+        "rgo: calls too deep\n",
+        7,
+    ),
+    (
+        "rgo run --steps 10",
+        "func main() { for {} }",
+        "",
+        "rgo: steps spent\n",
+        8,
+    ),
+    (
+        "rgo run --steps=1000",
+        "func main() { fmt.Println(1); for {} }",
+        "1\n",
+        "rgo: steps spent\n",
+        8,
+    ),
+    (
+        "rgo run --goroutines 1",
+        ECHO,
+        "",
+        "rgo: goroutines spent\n",
+        12,
+    ),
+    ("rgo run --goroutines=2", ECHO, "1\n11\n21\n31\n41\n", "", 0),
+    (
+        "rgo run --goroutines 5 --steps 100000 --",
+        "func g() {}\nfunc main() { for i := 0; i < 5; i++ { fmt.Println(i); go g() } }",
+        "0\n1\n2\n3\n4\n",
+        "rgo: goroutines spent\n",
+        12,
+    ),
+    (
+        "rgo run --goroutines 6",
+        "func g() {}\nfunc main() { for i := 0; i < 5; i++ { fmt.Println(i); go g() } }",
+        "0\n1\n2\n3\n4\n",
+        "",
+        0,
+    ),
+    (
+        "rgo run",
+        "func g(p *N) { fmt.Println(p.v) }\nfunc main() { go g(nil); go g(nil); for {} }",
+        "",
+        "rgo: 4:30: trap 1 NilPointer\n",
+        2,
+    ),
+    ("rgo check", ECHO, "", "", 0),
+    ("rgo check", "func main() { for {} }", "", "", 0),
+];

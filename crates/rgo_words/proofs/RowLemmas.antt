@@ -1,0 +1,8 @@
+-- What `get_str` of `clap` gives, by the rows of the matches.
+use Rattle.std.proofs.Common.{◌≡◌}
+use Rattle.clap.specs.Words.{Text, first_of, first_value, rows_of}
+use Rattle.clap.specs.declared.parser.matches.Found.{Found}
+use Rattle.clap.proofs.WalkLemmas.{first_value-rows}
+
+pub first_value_rows : (found : Found) (id : Text) → first_value found id ≡ first_of id (rows_of found)
+first_value_rows found id = first_value-rows found id
