@@ -9,7 +9,8 @@ use rgo_outside::{Sink, write_all};
 use rgo_values::Trap;
 use std::alloc::{AllocError, Global};
 
-const USAGE: &[u8] = b"usage: rgo run [--steps N] [--goroutines N] | check\n";
+const USAGE: &[u8] =
+    b"usage: rgo run [--steps N] [--pages N] [--page-words N] [--regions N] [--goroutines N] [--workers N] [--stats] | check | emit | code | big N\n";
 
 fn lexical_name(kind: u8) -> &'static str
     ensures { result.now ≡ lexical_name kind }

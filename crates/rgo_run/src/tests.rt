@@ -17,7 +17,8 @@ use std::test::Fail;
 
 const HEAD: &str = "package main\nimport \"fmt\"\ntype N struct { v int; p *N }\n";
 
-const USAGE: &str = "usage: rgo run [--steps N] [--goroutines N] | check\n";
+const USAGE: &str =
+    "usage: rgo run [--steps N] [--pages N] [--page-words N] [--regions N] [--goroutines N] [--workers N] [--stats] | check | emit | code | big N\n";
 
 const WRITE_FAILED: &str = "rgo: write failed\n";
 
