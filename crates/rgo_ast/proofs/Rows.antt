@@ -5,7 +5,7 @@
 use Rattle.std.proofs.Common.{◌≡◌, map, Option, Some, None, refl, ap}
 use Rattle.std.specs.declared.boxed.Box.{Box}
 use Rattle.std.specs.declared.alloc.Global.{Global}
-use Rattle.rgo_ast.specs.declared.types.Ty as code_ty
+use Rattle.rgo_ast.specs.declared.types.TypeExpr as code_type_expr
 use Rattle.rgo_ast.specs.declared.expressions.Expr as code
 use Rattle.rgo_ast.specs.declared.statements.Stmt as code_stmt
 use Rattle.rgo_ast.specs.Tree.{an_expr, exprs_of, an_element, elements_of, capacity_of, a_stmt, stmts_of, clause_of}
@@ -37,6 +37,6 @@ pub clause_is : (s : Option (Box code_stmt.Stmt Global)) →
 clause_is None = refl
 clause_is (Some s) = refl
 
-pub ruleset nodes = (code_ty.the_lemmas, code.the_lemmas, code_stmt.the_lemmas)
+pub ruleset nodes = (code_type_expr.the_lemmas, code.the_lemmas, code_stmt.the_lemmas)
 
 pub ruleset rows = (exprs_are, elements_are, stmts_are, capacity_is, clause_is, nodes)

@@ -1,12 +1,12 @@
 -- Where trees stand in a text: the place by which each is named, and that of its first byte.
 use Rattle.std.specs.Prelude.{ℕ}
-use Rattle.rgo_ast.specs.Tree.{Ty, Named, Pointer, Slice, Chan, Expr, Select, Index, Called, Binary}
+use Rattle.rgo_ast.specs.Tree.{TypeExpr, Named, Pointer, Slice, Chan, Expr, Select, Index, Called, Binary}
 use Rattle.rgo_ast.specs.Tree.{Number, Text, Name, Paren, New, MakeSlice, MakeChan, Unary, Literal, Keyed}
 use Rattle.rgo_ast.specs.Tree.{Stmt, Block, Plain, Send, Step, Assign, Define}
 use Rattle.rgo_ast.specs.Tree.{If, For, Go, Var, Return, Break, Continue}
 
 -- a type's first token
-abbrev pub ty_place_of : Ty → ℕ
+abbrev pub ty_place_of : TypeExpr → ℕ
 ty_place_of (Named name) = name.at
 ty_place_of (Pointer name at) = at
 ty_place_of (Slice ty at) = at

@@ -8,16 +8,16 @@ use Rattle.rgo_ast.specs.declared.names.Ident.{Ident}
 use Rattle.rgo_ast.specs.declared.names.ImportPath.{ImportPath}
 
 -- each with its place: that of its name, of `*`, of `[`, of `chan`
-pub data Ty : Type 0 where
-  Named : Ident → Ty
-  Pointer : Ident → ℕ → Ty
-  Slice : Ty → ℕ → Ty
-  Chan : Ty → ℕ → Ty
+pub data TypeExpr : Type 0 where
+  Named : Ident → TypeExpr
+  Pointer : Ident → ℕ → TypeExpr
+  Slice : TypeExpr → ℕ → TypeExpr
+  Chan : TypeExpr → ℕ → TypeExpr
 
 -- names declared with one type: fields, parameters, variables
 pub record Binding : Type 0 where
   pub names : List Ident
-  pub ty : Ty
+  pub ty : TypeExpr
 
 mutual
   -- A place that is no name's is that of the operator of a binary operation, of the `(` of a call,
@@ -28,8 +28,8 @@ mutual
     Name : Ident → Expr
     Paren : Expr → ℕ → Expr
     New : Ident → ℕ → Expr
-    MakeSlice : Ty → Expr → ℕ → Expr
-    MakeChan : Ty → Capacity → ℕ → Expr
+    MakeSlice : TypeExpr → Expr → ℕ → Expr
+    MakeChan : TypeExpr → Capacity → ℕ → Expr
     Select : Expr → Ident → Expr
     Index : Expr → Expr → ℕ → Expr
     Called : Expr → Exprs → ℕ → Expr
@@ -67,7 +67,7 @@ capacity_of (Some e) = a_capacity e
 -- a declaration of local variables: their zero values, or one value with a type or without, at its `=`
 pub data LocalVar : Type 0 where
   Zero : Binding → LocalVar
-  Typed : Ident → Ty → Expr → ℕ → LocalVar
+  Typed : Ident → TypeExpr → Expr → ℕ → LocalVar
   Inferred : Ident → Expr → ℕ → LocalVar
 
 mutual
@@ -113,7 +113,7 @@ pub record TypeSpec : Type 0 where
 pub record Function : Type 0 where
   pub name : Ident
   pub params : List Binding
-  pub result_type : Option Ty
+  pub result_type : Option TypeExpr
   pub body : List Stmt
   pub at : ℕ
   pub end : ℕ

@@ -2,7 +2,7 @@
 use Rattle.std.specs.Prelude.{Option, Some, None, option_map, map}
 use Rattle.std.specs.declared.boxed.Box.{Box}
 use Rattle.std.specs.declared.alloc.Global.{Global}
-use Rattle.rgo_ast.specs.declared.types.Ty as code_ty
+use Rattle.rgo_ast.specs.declared.types.TypeExpr as code_type_expr
 use Rattle.rgo_ast.specs.declared.types.Binding.{Binding as CodeBinding}
 use Rattle.rgo_ast.specs.declared.expressions.Expr as code
 use Rattle.rgo_ast.specs.declared.expressions.Element.{Element as CodeElement}
@@ -16,18 +16,18 @@ use Rattle.rgo_ast.specs.declared.declarations.Decl.TheVariants as top
 use Rattle.rgo_ast.specs.declared.declarations.Import.{Import as CodeImport}
 use Rattle.rgo_ast.specs.declared.declarations.Program.{Program as CodeProgram}
 use Rattle.rgo_ast.specs.declared.names.Ident.{Ident}
-use Rattle.rgo_ast.specs.Tree.{Ty, Binding, Expr, Exprs, Elements, Capacity, LocalVar, Stmt, Stmts, Clause}
+use Rattle.rgo_ast.specs.Tree.{TypeExpr, Binding, Expr, Exprs, Elements, Capacity, LocalVar, Stmt, Stmts, Clause}
 use Rattle.rgo_ast.specs.Tree.{TypeSpec, Function, Decl, Import, Program}
 use Rattle.rgo_ast.specs.Tree as tree
 
-abbrev pub ty_of : code_ty.Ty → Ty
-ty_of (code_ty.Named name) = tree.Named name
-ty_of (code_ty.Pointer name at) = tree.Pointer name at
-ty_of (code_ty.Slice' p ty at) = tree.Slice (ty_of ty) at
-ty_of (code_ty.Chan' p ty at) = tree.Chan (ty_of ty) at
+abbrev pub type_expr_of : code_type_expr.TypeExpr → TypeExpr
+type_expr_of (code_type_expr.Named name) = tree.Named name
+type_expr_of (code_type_expr.Pointer name at) = tree.Pointer name at
+type_expr_of (code_type_expr.Slice' p ty at) = tree.Slice (type_expr_of ty) at
+type_expr_of (code_type_expr.Chan' p ty at) = tree.Chan (type_expr_of ty) at
 
 abbrev pub binding_of : CodeBinding → Binding
-binding_of b = record { names = b.names.items; ty = ty_of b.ty }
+binding_of b = record { names = b.names.items; ty = type_expr_of b.ty }
 
 abbrev mutual
   pub expr_of : code.Expr → Expr
@@ -36,8 +36,8 @@ abbrev mutual
   expr_of (code.Name name) = tree.Name name
   expr_of (code.Paren' p e at) = tree.Paren (expr_of e) at
   expr_of (code.New name at) = tree.New name at
-  expr_of (code.MakeSlice' ty p e at) = tree.MakeSlice (ty_of ty) (expr_of e) at
-  expr_of (code.MakeChan' ty capacity at) = tree.MakeChan (ty_of ty) (capacity_in capacity) at
+  expr_of (code.MakeSlice' ty p e at) = tree.MakeSlice (type_expr_of ty) (expr_of e) at
+  expr_of (code.MakeChan' ty capacity at) = tree.MakeChan (type_expr_of ty) (capacity_in capacity) at
   expr_of (code.Select' p e field) = tree.Select (expr_of e) field
   expr_of (code.Index' p a q b at) = tree.Index (expr_of a) (expr_of b) at
   expr_of (code.Call' p f shape args at) = tree.Called (expr_of f) (exprs_in args) at
@@ -69,7 +69,7 @@ element_of e = (e.field, expr_of e.value)
 
 abbrev pub local_var_of : code_var.LocalVar → LocalVar
 local_var_of (local.Zero b) = tree.Zero (binding_of b)
-local_var_of (local.Typed name ty e at) = tree.Typed name (ty_of ty) (expr_of e.value) at
+local_var_of (local.Typed name ty e at) = tree.Typed name (type_expr_of ty) (expr_of e.value) at
 local_var_of (local.Inferred name e at) = tree.Inferred name (expr_of e.value) at
 
 abbrev mutual
@@ -110,7 +110,7 @@ abbrev pub function_of : CodeFunction → Function
 function_of f = record {
   name = f.name;
   params = map binding_of f.params.items;
-  result_type = option_map ty_of f.result_type;
+  result_type = option_map type_expr_of f.result_type;
   body = map stmt_of f.body.items;
   at = f.at;
   end = f.end;

@@ -2,7 +2,7 @@
 
 use crate::names::{Ident, ImportPath, Place};
 use crate::statements::Stmt;
-use crate::types::{Binding, Ty};
+use crate::types::{Binding, TypeExpr};
 
 /// A struct type with its name (The Go Programming Language Specification, "Type declarations").
 #[derive(Drop)]
@@ -16,7 +16,7 @@ pub struct TypeSpec {
 pub struct Function {
     pub name: Ident,
     pub params: Vec<Binding>,
-    pub result_type: Option<Ty>,
+    pub result_type: Option<TypeExpr>,
     pub body: Vec<Stmt>,
     /// The place of `func`.
     pub at: Place,

@@ -2,7 +2,7 @@
 
 use crate::names::{Ident, Place};
 use crate::ops::{BinaryOp, UnaryOp};
-use crate::types::Ty;
+use crate::types::TypeExpr;
 
 /// An expression (The Go Programming Language Specification, "Expressions").
 #[cycle(expressions)]
@@ -19,9 +19,9 @@ pub enum Expr {
     /// `new(T)`, at `new`.
     New(Ident, Place),
     /// `make([]T, n)`, at `make`; the type is that of an element.
-    MakeSlice(Ty, Box<Expr>, Place),
+    MakeSlice(TypeExpr, Box<Expr>, Place),
     /// `make(chan T)` or `make(chan T, n)`, at `make`; the type is that of an element.
-    MakeChan(Ty, Option<Box<Expr>>, Place),
+    MakeChan(TypeExpr, Option<Box<Expr>>, Place),
     /// `x.f`, a selector.
     Select(Box<Expr>, Ident),
     /// `a[x]`, at the `[`.

@@ -16,4 +16,4 @@ pub use expressions::{Element, Expr};
 pub use names::{Ident, ImportPath, Name, Place};
 pub use ops::{AssignOp, BinaryOp, StepOp, UnaryOp};
 pub use statements::{LocalVar, Stmt};
-pub use types::{Binding, Ty};
+pub use types::{Binding, TypeExpr};

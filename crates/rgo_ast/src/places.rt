@@ -3,21 +3,21 @@
 
 ghost use Rattle.std.specs.Prelude.{◌≡◌};
 ghost use Rattle.rgo_ast.specs.Places.{ty_place_of, place_of, start_of, stmt_place_of, stmt_start_of};
-ghost use Rattle.rgo_ast.specs.Views.{ty_of, expr_of, stmt_of};
+ghost use Rattle.rgo_ast.specs.Views.{type_expr_of, expr_of, stmt_of};
 
 use crate::expressions::Expr;
 use crate::names::Place;
 use crate::statements::Stmt;
-use crate::types::Ty;
+use crate::types::TypeExpr;
 
-impl Ty {
+impl TypeExpr {
     /// The place of its first token.
     pub fn place(&self) -> Place
-        ensures { result ≡ ty_place_of (ty_of self.now) }
+        ensures { result ≡ ty_place_of (type_expr_of self.now) }
     {
         match self {
-            Ty::Named(name) => name.at,
-            Ty::Pointer(_, at) | Ty::Slice(_, at) | Ty::Chan(_, at) => *at,
+            TypeExpr::Named(name) => name.at,
+            TypeExpr::Pointer(_, at) | TypeExpr::Slice(_, at) | TypeExpr::Chan(_, at) => *at,
         }
     }
 }

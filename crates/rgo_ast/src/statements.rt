@@ -3,7 +3,7 @@
 use crate::expressions::Expr;
 use crate::names::{Ident, Place};
 use crate::ops::{AssignOp, StepOp};
-use crate::types::{Binding, Ty};
+use crate::types::{Binding, TypeExpr};
 
 /// Local variables that are declared together (The Go Programming Language Specification,
 /// "Variable declarations").
@@ -12,7 +12,7 @@ pub enum LocalVar {
     /// `a, b T`, with zero values.
     Zero(Binding),
     /// `a T = x`, at the `=`.
-    Typed(Ident, Ty, Box<Expr>, Place),
+    Typed(Ident, TypeExpr, Box<Expr>, Place),
     /// `a = x`, at the `=`.
     Inferred(Ident, Box<Expr>, Place),
 }

@@ -1,7 +1,7 @@
 //! Trees of small texts, with places counted by hand.
 
 use crate::{
-    AssignOp, BinaryOp, Binding, Element, Expr, Ident, LocalVar, Name, Place, StepOp, Stmt, Ty,
+    AssignOp, BinaryOp, Binding, Element, Expr, Ident, LocalVar, Name, Place, StepOp, Stmt, TypeExpr,
     UnaryOp,
 };
 use std::alloc::Global;
@@ -57,13 +57,13 @@ fn names_have_their_bytes(rt: HostRuntime) -> Result<(), Fail> {
 #[test]
 fn types_have_their_places(rt: HostRuntime) -> Result<(), Fail> {
     let alloc = rt.alloc();
-    let pointer = Ty::Pointer(ident(alloc, "N", 8)?, 7);
+    let pointer = TypeExpr::Pointer(ident(alloc, "N", 8)?, 7);
     assert_eq!(rt; pointer.place(), 7);
-    let slice = Ty::Slice(Box::new(alloc, pointer)?, 5);
+    let slice = TypeExpr::Slice(Box::new(alloc, pointer)?, 5);
     assert_eq!(rt; slice.place(), 5);
-    let channel = Ty::Chan(Box::new(alloc, slice)?, 0);
+    let channel = TypeExpr::Chan(Box::new(alloc, slice)?, 0);
     assert_eq!(rt; channel.place(), 0);
-    assert_eq!(rt; Ty::Named(ident(alloc, "int", 4)?).place(), 4);
+    assert_eq!(rt; TypeExpr::Named(ident(alloc, "int", 4)?).place(), 4);
     Ok(())
 }
 
@@ -116,13 +116,13 @@ fn keyed(alloc: Global) -> Result<Expr, Fail> {
 
 // make([]N, 3) behind two blanks
 fn made_slice(alloc: Global) -> Result<Expr, Fail> {
-    let element = Ty::Named(ident(alloc, "N", 9)?);
+    let element = TypeExpr::Named(ident(alloc, "N", 9)?);
     Ok(Expr::MakeSlice(element, number(alloc, 3, 12)?, 2))
 }
 
 // make(chan N, 3) behind two blanks
 fn made_channel(alloc: Global) -> Result<Expr, Fail> {
-    let element = Ty::Named(ident(alloc, "N", 12)?);
+    let element = TypeExpr::Named(ident(alloc, "N", 12)?);
     let room = Some(number(alloc, 3, 15)?);
     Ok(Expr::MakeChan(element, room, 2))
 }
@@ -185,7 +185,7 @@ fn other_statements_have_their_places(rt: HostRuntime) -> Result<(), Fail> {
     let mut names = Vec::new(alloc);
     names.push(ident(alloc, "a", 6)?)?;
     names.push(ident(alloc, "b", 9)?)?;
-    let ty = Ty::Named(ident(alloc, "int", 11)?);
+    let ty = TypeExpr::Named(ident(alloc, "int", 11)?);
     let mut variables = Vec::new(alloc);
     variables.push(LocalVar::Zero(Binding { names, ty }))?;
     stmt_stands(&rt, &Stmt::Var(variables, 2), 2, 2);

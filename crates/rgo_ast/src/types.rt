@@ -4,20 +4,20 @@ use crate::names::{Ident, Place};
 
 /// A type (The Go Programming Language Specification, "Types").
 #[derive(Drop)]
-pub enum Ty {
+pub enum TypeExpr {
     /// `T`.
     Named(Ident),
     /// `*T`, at the `*`.
     Pointer(Ident, Place),
     /// `[]T`, at the `[`.
-    Slice(Box<Ty>, Place),
+    Slice(Box<TypeExpr>, Place),
     /// `chan T`, at `chan`.
-    Chan(Box<Ty>, Place),
+    Chan(Box<TypeExpr>, Place),
 }
 
 /// Names declared with one type: fields, parameters, variables.
 #[derive(Drop)]
 pub struct Binding {
     pub names: Vec<Ident>,
-    pub ty: Ty,
+    pub ty: TypeExpr,
 }

@@ -112,14 +112,14 @@ var_opens k e x b h = binding_opens k e.0 x b h
 var_reads : (n : ℕ) (x : List Term) (b : Binding) → IsBinding x b → (l : List Term) → Meets (binding n (x ++ l)) (Done b l)
 var_reads n x b h l = binding_complete x b h n l
 
-result_type : (n : ℕ) (x : List Term) (t : tree.Ty) (l : List Term) → IsType x t
+result_type : (n : ℕ) (x : List Term) (t : tree.TypeExpr) (l : List Term) → IsType x t
     → result_on n (x ++ l) (first_of (x ++ l)) ≡ (a_type n (x ++ l) >>= given (λ t. Some t))
 result_type n _ _ l (g.named i) = refl
 result_type n _ _ l (g.pointer i j) = refl
 result_type n _ _ l (g.slice i j h) = refl
 result_type n _ _ l (g.chan i h) = refl
 
-result_complete : {x : List Term} {r : Option tree.Ty} → IsResult x r → (n : ℕ) (m : Leaf) (l : List Term)
+result_complete : {x : List Term} {r : Option tree.TypeExpr} → IsResult x r → (n : ℕ) (m : Leaf) (l : List Term)
     → Meets (result_on n (x ++ tok OpenBrace m ∷ l) (first_of (x ++ tok OpenBrace m ∷ l))) (Done r (tok OpenBrace m ∷ l))
 result_complete g.none n m l = inr refl
 result_complete (g.some {x} {t} h) n m l =
@@ -128,7 +128,7 @@ result_complete (g.some {x} {t} h) n m l =
     (type_complete x t h n (tok OpenBrace m ∷ l)))
 
 module _ (n : ℕ) where
-  func_complete : (i j k m end : Leaf) (x y z : List Term) (ps : List Binding) (r : Option tree.Ty) (b : List tree.Stmt) (l : List Term)
+  func_complete : (i j k m end : Leaf) (x y z : List Term) (ps : List Binding) (r : Option tree.TypeExpr) (b : List tree.Stmt) (l : List Term)
       → Listed IsBinding Comma CloseParen x ps → IsResult y r → IsStmts z b end
       → Meets (func n i (tok Name j ∷ tok OpenParen k ∷ (x ++ (y ++ tok OpenBrace m ∷ (z ++ l))))) (Done (function i j ps r b end) l)
   func_complete i j k m end x y z ps r b l p q s =

@@ -200,7 +200,7 @@ result_correct n [] h = λ s. refl
 result_correct n (t ∷ l) h = result_by_correct n t.terminal t.leaf l (omega arith)
 
 module _ (n : ℕ) where
-  body_correct : (i j k : Leaf) (x y : List Term) (ps : List Binding) (r : Option tree.Ty) (l : List Term) → 4 * length l + 4 ≤ n
+  body_correct : (i j k : Leaf) (x y : List Term) (ps : List Binding) (r : Option tree.TypeExpr) (l : List Term) → 4 * length l + 4 ≤ n
       → Listed IsBinding Comma CloseParen x ps → IsResult y r
       → Correct (Block ∷ []) (λ _. []) (λ z d w. IsDecl (tok Func i ∷ tok Name j ∷ tok OpenParen k ∷ (x ++ (y ++ z))) d) l
       (block n l >>= given (λ b. function i j ps r b.0 b.1))

@@ -39,7 +39,7 @@ new_complete i j k m n l = inr refl
 
 -- ---- make ( [ ] Type , Expr [,] )
 
-pub slice_complete : (i j k m c : Leaf) {x z : List Term} (y : List Term) {t : tree.Ty} (v : tree.Expr) → IsType x t → ReadsAs y v
+pub slice_complete : (i j k m c : Leaf) {x z : List Term} (y : List Term) {t : tree.TypeExpr} (v : tree.Expr) → IsType x t → ReadsAs y v
     → IsMakeEnd z → (n : ℕ) (l : List Term)
     → Meets (primary (suc n) (tok Make i ∷ tok OpenParen j ∷ tok OpenBracket k ∷ tok CloseBracket m ∷ (x ++ tok Comma c ∷ (y ++ (z ++ l)))))
     (post n (tree.MakeSlice t v i.at) l)
@@ -53,12 +53,12 @@ slice_complete i j k m c {x} {z} y {t} v h f e n l =
 
 -- ---- make ( chan Type [ , Expr ] [,] )
 
-sized_end : (inner : List Term → Read tree.Expr) (t : tree.Ty) (i : Leaf) {z : List Term} → IsMakeEnd z → (l : List Term)
+sized_end : (inner : List Term → Read tree.Expr) (t : tree.TypeExpr) (i : Leaf) {z : List Term} → IsMakeEnd z → (l : List Term)
     → sized inner t i (z ++ l) ≡ Done (tree.MakeChan t tree.no_capacity i.at) l
 sized_end inner t i (plain j) l = refl
 sized_end inner t i (comma c j) l = refl
 
-pub chan_complete : (i j k : Leaf) {x z : List Term} {t : tree.Ty} → IsType x t → IsMakeEnd z → (n : ℕ) (l : List Term)
+pub chan_complete : (i j k : Leaf) {x z : List Term} {t : tree.TypeExpr} → IsType x t → IsMakeEnd z → (n : ℕ) (l : List Term)
     → Meets (primary (suc n) (tok Make i ∷ tok OpenParen j ∷ tok Chan k ∷ (x ++ (z ++ l))))
     (post n (tree.MakeChan t tree.no_capacity i.at) l)
 unfolding expr
@@ -67,16 +67,16 @@ chan_complete i j k {x} {z} {t} h e n l =
     (meets_then (a_type n (x ++ (z ++ l))) t (z ++ l) (λ u. sized (expr false n 1) u i) (Done (tree.MakeChan t tree.no_capacity i.at) l)
     (type_complete x t h n (z ++ l)) (inr (sized_end (expr false n 1) t i e l)))
 
-capacity_else : (inner : List Term → Read tree.Expr) (t : tree.Ty) (i : Leaf) (k : Terminal) (l m : List Term) → starts k ≡ true
+capacity_else : (inner : List Term → Read tree.Expr) (t : tree.TypeExpr) (i : Leaf) (k : Terminal) (l m : List Term) → starts k ≡ true
     → capacity_by inner t i k l m ≡ (inner l >>= λ v w. make_end w >>= given (λ _. tree.MakeChan t (tree.a_capacity v) i.at))
 capacity_else inner t i CloseParen l m h = cc
 capacity_else inner t i _ l m h = refl
 
-capacity_at : (inner : List Term → Read tree.Expr) (t : tree.Ty) (i : Leaf) (l : List Term) → Starts l
+capacity_at : (inner : List Term → Read tree.Expr) (t : tree.TypeExpr) (i : Leaf) (l : List Term) → Starts l
     → capacity inner t i l ≡ (inner l >>= λ v w. make_end w >>= given (λ _. tree.MakeChan t (tree.a_capacity v) i.at))
 capacity_at inner t i l (u, y, e, h) = rw e (capacity_else inner t i u.terminal (u ∷ y) y h)
 
-pub sized_complete : (i j k c : Leaf) {x z : List Term} (y : List Term) {t : tree.Ty} (v : tree.Expr) → IsType x t → Starts y → ReadsAs y v
+pub sized_complete : (i j k c : Leaf) {x z : List Term} (y : List Term) {t : tree.TypeExpr} (v : tree.Expr) → IsType x t → Starts y → ReadsAs y v
     → IsMakeEnd z → (n : ℕ) (l : List Term)
     → Meets (primary (suc n) (tok Make i ∷ tok OpenParen j ∷ tok Chan k ∷ (x ++ tok Comma c ∷ (y ++ (z ++ l)))))
     (post n (tree.MakeChan t (tree.a_capacity v) i.at) l)

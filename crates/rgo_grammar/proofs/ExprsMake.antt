@@ -48,7 +48,7 @@ module _ (bound : ℕ) (inner : List Term → Read tree.Expr) (inner_c : (m : Li
   abbrev IsSized : Leaf → Leaf → Leaf → Leaf → List Term → List Term → tree.Expr → List Term → Type 0
   IsSized i j k c x z v w = IsPrimary (tok Make i ∷ tok OpenParen j ∷ tok Chan k ∷ (x ++ tok Comma c ∷ z)) v
 
-  sized_else : (i j k c : Leaf) (x : List Term) (t : tree.Ty) (d : Term) (l : List Term) → IsType x t → length l < bound
+  sized_else : (i j k c : Leaf) (x : List Term) (t : tree.TypeExpr) (d : Term) (l : List Term) → IsType x t → length l < bound
       → same CloseParen d.terminal ≡ false
       → Correct (MakeMore ∷ []) (λ _. []) (IsSized i j k c x) (d ∷ l)
       (inner (d ∷ l) >>= λ v w. make_end w >>= given (λ _. tree.MakeChan t (tree.a_capacity v) i.at))
@@ -62,14 +62,14 @@ module _ (bound : ℕ) (inner : List Term → Read tree.Expr) (inner_c : (m : Li
       (λ y v w _ hy. correct_given (MakeEnd ∷ []) [] (λ z _ w. IsMakeEnd z) (λ z v w. IsSized i j k c x (y ++ z) v w) w (make_end w)
       (λ _. tree.MakeChan t (tree.a_capacity v) i.at) (make_end_correct w) (λ z _ u hz. make_sized i j k c h hy hz)))
 
-  capacity_by_correct : (i j k c : Leaf) (x : List Term) (t : tree.Ty) (q : Terminal) (d : Leaf) (l : List Term) → IsType x t
+  capacity_by_correct : (i j k c : Leaf) (x : List Term) (t : tree.TypeExpr) (q : Terminal) (d : Leaf) (l : List Term) → IsType x t
       → length l < bound
       → Correct (MakeMore ∷ []) (λ _. []) (IsSized i j k c x) (tok q d ∷ l) (capacity_by inner t i q (tok q d ∷ l) l)
   unfolding run step
   capacity_by_correct i j k c x t CloseParen d l h b = (tok CloseParen d ∷ [], refl, make_chan i j k h (comma c d), λ s. refl)
   capacity_by_correct i j k c x t q d l h b = sized_else i j k c x t (tok q d) l h b refl
 
-  capacity_correct : (i j k c : Leaf) (x : List Term) (t : tree.Ty) (l : List Term) → IsType x t → length l ≤ bound
+  capacity_correct : (i j k c : Leaf) (x : List Term) (t : tree.TypeExpr) (l : List Term) → IsType x t → length l ≤ bound
       → Correct (MakeMore ∷ []) (λ _. []) (IsSized i j k c x) l (capacity inner t i l)
   unfolding run closes
   capacity_correct i j k c x t [] h b = λ s. refl
@@ -79,7 +79,7 @@ module _ (bound : ℕ) (inner : List Term → Read tree.Expr) (inner_c : (m : Li
   abbrev IsChan : Leaf → Leaf → Leaf → List Term → List Term → tree.Expr → List Term → Type 0
   IsChan i j k x z v w = IsPrimary (tok Make i ∷ tok OpenParen j ∷ tok Chan k ∷ (x ++ z)) v
 
-  sized_by_correct : (i j k : Leaf) (x : List Term) (t : tree.Ty) (q : Terminal) (d : Leaf) (l : List Term) → IsType x t → length l < bound
+  sized_by_correct : (i j k : Leaf) (x : List Term) (t : tree.TypeExpr) (q : Terminal) (d : Leaf) (l : List Term) → IsType x t → length l < bound
       → Correct (MakeSize ∷ []) (λ _. []) (IsChan i j k x) (tok q d ∷ l) (sized_by inner t i q (tok q d ∷ l) l)
   unfolding run step
   sized_by_correct i j k x t CloseParen d l h b = (tok CloseParen d ∷ [], refl, make_chan i j k h (plain d), λ s. refl)
@@ -89,7 +89,7 @@ module _ (bound : ℕ) (inner : List Term → Read tree.Expr) (inner_c : (m : Li
       (capacity_correct i j k d x t l h (omega arith))
   sized_by_correct i j k x t q d l h b = λ s. refl
 
-  sized_correct : (i j k : Leaf) (x : List Term) (t : tree.Ty) (l : List Term) → IsType x t → length l ≤ bound
+  sized_correct : (i j k : Leaf) (x : List Term) (t : tree.TypeExpr) (l : List Term) → IsType x t → length l ≤ bound
       → Correct (MakeSize ∷ []) (λ _. []) (IsChan i j k x) l (sized inner t i l)
   unfolding run closes
   sized_correct i j k x t [] h b = λ s. refl
@@ -99,7 +99,7 @@ module _ (bound : ℕ) (inner : List Term → Read tree.Expr) (inner_c : (m : Li
   abbrev IsSlice : Leaf → Leaf → Leaf → Leaf → List Term → List Term → tree.Expr → List Term → Type 0
   IsSlice i j k m x z v w = IsPrimary (tok Make i ∷ tok OpenParen j ∷ tok OpenBracket k ∷ tok CloseBracket m ∷ (x ++ z)) v
 
-  slice_correct : (i j k m : Leaf) (x : List Term) (t : tree.Ty) (l : List Term) → IsType x t → length l ≤ bound
+  slice_correct : (i j k m : Leaf) (x : List Term) (t : tree.TypeExpr) (l : List Term) → IsType x t → length l ≤ bound
       → Correct (T Comma ∷ Unary false ∷ Bin false ∷ MakeEnd ∷ []) (λ _. []) (IsSlice i j k m x) l (make_slice inner i t l)
   slice_correct i j k m x t l h b =
       correct_token_then Comma (Unary false ∷ Bin false ∷ MakeEnd ∷ []) (λ _. []) (IsSlice i j k m x) l

@@ -70,7 +70,7 @@ module _ (n m : ℕ) (value : List Term → Read tree.Expr) (value_c : Values fa
   local_value x l f b g =
       correct_given (Unary false ∷ Bin false ∷ []) [] (λ z v w. IsExpr false 1 z v) (LocalAt x) l (value l) f (value_c l b) g
 
-  initial_by_correct : (i : Leaf) (x : List Term) (t : tree.Ty) (k : Terminal) (j : Leaf) (l : List Term) → length l ≤ m → IsType x t
+  initial_by_correct : (i : Leaf) (x : List Term) (t : tree.TypeExpr) (k : Terminal) (j : Leaf) (l : List Term) → length l ≤ m → IsType x t
       → Correct (Initial ∷ []) (λ _. []) (LocalAt (tok Name i ∷ x)) (tok k j ∷ l) (initial_by value i t k j (tok k j ∷ l) l)
   unfolding run step
   initial_by_correct i x t (Assign assign_op.Plain) j l b h =
@@ -81,7 +81,7 @@ module _ (n m : ℕ) (value : List Term → Read tree.Expr) (value_c : Values fa
       l (value l) (λ v. tree.Typed (ident i) t v j.at) (value_c l b) (λ z v w g. typed i j h g))
   initial_by_correct i x t _ j l b h = ([], refl, rw append-nil (zeroed (of_names (one i) h)), λ s. refl)
 
-  initial_correct : (i : Leaf) (x : List Term) (t : tree.Ty) (l : List Term) → length l ≤ m → IsType x t
+  initial_correct : (i : Leaf) (x : List Term) (t : tree.TypeExpr) (l : List Term) → length l ≤ m → IsType x t
       → Correct (Initial ∷ []) (λ _. []) (LocalAt (tok Name i ∷ x)) l (initial value i t l (first_of l))
   unfolding run closes
   initial_correct i x t [] b h = ([], refl, rw append-nil (zeroed (of_names (one i) h)), λ s. refl)

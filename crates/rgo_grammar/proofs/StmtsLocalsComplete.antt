@@ -47,17 +47,17 @@ local_first (typed i j {x} {y} h e) = (i, x ++ tok (Assign assign_op.Plain) j �
 local_first (inferred i j {y} e) = (i, tok (Assign assign_op.Plain) j ∷ y, refl)
 
 module _ (n : ℕ) (value : List Term → Read tree.Expr) (value_done : ReadsExprs false value) where
-  initial_end_by : (i : Leaf) (t : tree.Ty) (k : Terminal) (j : Leaf) (l m : List Term) → ends_local k ≡ true
+  initial_end_by : (i : Leaf) (t : tree.TypeExpr) (k : Terminal) (j : Leaf) (l m : List Term) → ends_local k ≡ true
       → initial_by value i t k j l m ≡ Done (tree.Zero (bound (ident i ∷ []) t)) l
   initial_end_by i t (Assign assign_op.Plain) j l m h = cc
   initial_end_by i t _ j l m h = refl
 
-  initial_end : (i : Leaf) (t : tree.Ty) (l : List Term) → EndsLocal l
+  initial_end : (i : Leaf) (t : tree.TypeExpr) (l : List Term) → EndsLocal l
       → initial value i t l (first_of l) ≡ Done (tree.Zero (bound (ident i ∷ []) t)) l
   initial_end i t [] h = absurd h
   initial_end i t (u ∷ l) h = initial_end_by i t u.terminal u.leaf (u ∷ l) l h
 
-  type_at : (i : Leaf) {x : List Term} {t : tree.Ty} → IsType x t → (l : List Term)
+  type_at : (i : Leaf) {x : List Term} {t : tree.TypeExpr} → IsType x t → (l : List Term)
       → local_on n value i (x ++ l) (first_of (x ++ l)) ≡ (a_type n (x ++ l) >>= λ t w. initial value i t w (first_of w))
   type_at i (named j) l = refl
   type_at i (pointer j k) l = refl
@@ -68,7 +68,7 @@ module _ (n : ℕ) (value : List Term → Read tree.Expr) (value_done : ReadsExp
       → Meets (value (x ++ l) >>= given f) (Done (f v) l)
   value_given {x} {v} e f l h = meets_bind (value (x ++ l)) (Done v l) (given f) (value_done x v e l (local_ends l h))
 
-  type_then : (i : Leaf) {x : List Term} {t : tree.Ty} → IsType x t → (l : List Term) (r : Read tree.LocalVar)
+  type_then : (i : Leaf) {x : List Term} {t : tree.TypeExpr} → IsType x t → (l : List Term) (r : Read tree.LocalVar)
       → Meets (initial value i t l (first_of l)) r
       → Meets (local n value (tok Name i ∷ (x ++ l))) r
   type_then i {x} {t} h l r g =

@@ -15,7 +15,7 @@ use Rattle.rgo_grammar.specs.ReadTypes.{a_type, names_by, names, bound, binding,
 use Rattle.rgo_grammar.proofs.TypesCorrect.{is_comma, NoComma}
 use Rattle.rgo_grammar.proofs.Complete.{Meets, meets_bind, meets_then, bind_assoc, Opens, listed_complete}
 
-pub type_complete : (x : List Term) (t : tree.Ty) → IsType x t → (n : ℕ) (l : List Term) → Meets (a_type n (x ++ l)) (Done t l)
+pub type_complete : (x : List Term) (t : tree.TypeExpr) → IsType x t → (n : ℕ) (l : List Term) → Meets (a_type n (x ++ l)) (Done t l)
 unfolding a_type
 type_complete x t h zero l = inl refl
 type_complete _ _ (named i) (suc n) l = inr refl
@@ -42,7 +42,7 @@ names_complete (more i j {x} {ns} g) zero found l h = inl refl
 names_complete (more i j {x} {ns} g) (suc n) found l h =
     let d = names_complete g n (found ++ ident i ∷ []) l h in rw (append_assoc found (ident i ∷ []) ns) at d
 
-type_starts : (x : List Term) (t : tree.Ty) (l : List Term) → IsType x t → NoComma (x ++ l)
+type_starts : (x : List Term) (t : tree.TypeExpr) (l : List Term) → IsType x t → NoComma (x ++ l)
 type_starts _ _ l (named i) = refl
 type_starts _ _ l (pointer i j) = refl
 type_starts _ _ l (slice i j h) = refl

@@ -20,10 +20,10 @@ use Rattle.rgo_grammar.proofs.Correct.{Correct, correct_from, correct_bind, corr
 
 -- ---- types
 
-abbrev pub ATypeAt : List Term → tree.Ty → List Term → Type 0
+abbrev pub ATypeAt : List Term → tree.TypeExpr → List Term → Type 0
 ATypeAt z t w = IsType z t
 
-type_by_correct : (inner : List Term → Read tree.Ty) (k : Terminal) (i : Leaf) (m : List Term)
+type_by_correct : (inner : List Term → Read tree.TypeExpr) (k : Terminal) (i : Leaf) (m : List Term)
     → ((w : List Term) → length w ≤ length m → Correct (AType ∷ []) (λ _. []) ATypeAt w (inner w))
     → Correct (AType ∷ []) (λ _. []) ATypeAt (tok k i ∷ m) (type_by inner k i (tok k i ∷ m) m)
 unfolding run step

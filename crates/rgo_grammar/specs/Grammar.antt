@@ -37,16 +37,16 @@ pub data IsNames : List Term → List Ident → Type 0 where
       → IsNames (tok Name i ∷ tok Comma j ∷ x) (ident i ∷ ns)
 
 -- Type = name | "*" name | "[" "]" Type | "chan" Type .
-pub data IsType : List Term → tree.Ty → Type 0 where
+pub data IsType : List Term → tree.TypeExpr → Type 0 where
   named : (i : Leaf) → IsType (tok Name i ∷ []) (tree.Named (ident i))
   pointer : (i j : Leaf) → IsType (tok (Binary op.Mul) i ∷ tok Name j ∷ []) (tree.Pointer (ident j) i.at)
-  slice : (i j : Leaf) {x : List Term} {t : tree.Ty} → IsType x t
+  slice : (i j : Leaf) {x : List Term} {t : tree.TypeExpr} → IsType x t
       → IsType (tok OpenBracket i ∷ tok CloseBracket j ∷ x) (tree.Slice t i.at)
-  chan : (i : Leaf) {x : List Term} {t : tree.Ty} → IsType x t → IsType (tok Chan i ∷ x) (tree.Chan t i.at)
+  chan : (i : Leaf) {x : List Term} {t : tree.TypeExpr} → IsType x t → IsType (tok Chan i ∷ x) (tree.Chan t i.at)
 
 -- Names Type
 pub data IsBinding : List Term → Binding → Type 0 where
-  binding : {x y : List Term} {ns : List Ident} {t : tree.Ty} → IsNames x ns → IsType y t
+  binding : {x y : List Term} {ns : List Ident} {t : tree.TypeExpr} → IsNames x ns → IsType y t
       → IsBinding (x ++ y) (record { names = ns; ty = t })
 
 -- how tightly an operator binds
@@ -110,14 +110,14 @@ mutual
         → IsPrimary (tok OpenParen i ∷ (x ++ tok CloseParen j ∷ [])) (tree.Paren v i.at)
     new : (i j k m : Leaf)
         → IsPrimary (tok New i ∷ tok OpenParen j ∷ tok Name k ∷ tok CloseParen m ∷ []) (tree.New (ident k) i.at)
-    make_slice : (i j k m c : Leaf) {x y z : List Term} {t : tree.Ty} {v : tree.Expr} → IsType x t → IsExpr false 1 y v
+    make_slice : (i j k m c : Leaf) {x y z : List Term} {t : tree.TypeExpr} {v : tree.Expr} → IsType x t → IsExpr false 1 y v
         → IsMakeEnd z
         → IsPrimary (tok Make i ∷ tok OpenParen j ∷ tok OpenBracket k ∷ tok CloseBracket m
         ∷ (x ++ tok Comma c ∷ (y ++ z)))
         (tree.MakeSlice t v i.at)
-    make_chan : (i j k : Leaf) {x z : List Term} {t : tree.Ty} → IsType x t → IsMakeEnd z
+    make_chan : (i j k : Leaf) {x z : List Term} {t : tree.TypeExpr} → IsType x t → IsMakeEnd z
         → IsPrimary (tok Make i ∷ tok OpenParen j ∷ tok Chan k ∷ (x ++ z)) (tree.MakeChan t tree.no_capacity i.at)
-    make_sized : (i j k c : Leaf) {x y z : List Term} {t : tree.Ty} {v : tree.Expr} → IsType x t → IsExpr false 1 y v
+    make_sized : (i j k c : Leaf) {x y z : List Term} {t : tree.TypeExpr} {v : tree.Expr} → IsType x t → IsExpr false 1 y v
         → IsMakeEnd z
         → IsPrimary (tok Make i ∷ tok OpenParen j ∷ tok Chan k ∷ (x ++ tok Comma c ∷ (y ++ z)))
         (tree.MakeChan t (tree.a_capacity v) i.at)
@@ -175,7 +175,7 @@ pub data IsCondition : List Term → Option tree.Expr → Type 0 where
 -- LVar = Names Type | name Type "=" Expr | name "=" Expr .
 pub data IsLocal : List Term → tree.LocalVar → Type 0 where
   zero : {x : List Term} {b : Binding} → IsBinding x b → IsLocal x (tree.Zero b)
-  typed : (i j : Leaf) {x y : List Term} {t : tree.Ty} {v : tree.Expr} → IsType x t → IsExpr false 1 y v
+  typed : (i j : Leaf) {x y : List Term} {t : tree.TypeExpr} {v : tree.Expr} → IsType x t → IsExpr false 1 y v
       → IsLocal (tok Name i ∷ (x ++ tok (Assign assign_op.Plain) j ∷ y)) (tree.Typed (ident i) t v j.at)
   inferred : (i j : Leaf) {y : List Term} {v : tree.Expr} → IsExpr false 1 y v
       → IsLocal (tok Name i ∷ tok (Assign assign_op.Plain) j ∷ y) (tree.Inferred (ident i) v j.at)
@@ -244,9 +244,9 @@ pub data IsTypeSpec : List Term → TypeSpec → Type 0 where
       → IsTypeSpec (tok Name i ∷ tok Struct j ∷ tok OpenBrace k ∷ y) (record { name = ident i; fields = fs })
 
 -- [ Type ] of a function
-pub data IsResult : List Term → Option tree.Ty → Type 0 where
+pub data IsResult : List Term → Option tree.TypeExpr → Type 0 where
   none : IsResult [] None
-  some : {x : List Term} {t : tree.Ty} → IsType x t → IsResult x (Some t)
+  some : {x : List Term} {t : tree.TypeExpr} → IsType x t → IsResult x (Some t)
 
 -- Decl = "type" ( TSpec | "(" { TSpec ";" } ")" ) | "var" ( Names Type | "(" { Names Type ";" } ")" )
 --     | "func" name "(" [ Param { "," Param } [ "," ] ] ")" [ Type ] Block .
@@ -258,7 +258,7 @@ pub data IsDecl : List Term → tree.Decl → Type 0 where
   var : (i : Leaf) {x : List Term} {b : Binding} → IsBinding x b → IsDecl (tok Var i ∷ x) (tree.Vars (b ∷ []) i.at)
   vars : (i j : Leaf) {y : List Term} {bs : List Binding} → Listed IsBinding Semicolon CloseParen y bs
       → IsDecl (tok Var i ∷ tok OpenParen j ∷ y) (tree.Vars bs i.at)
-  func : (i j k m end : Leaf) {x y z : List Term} {ps : List Binding} {r : Option tree.Ty} {b : List tree.Stmt}
+  func : (i j k m end : Leaf) {x y z : List Term} {ps : List Binding} {r : Option tree.TypeExpr} {b : List tree.Stmt}
       → Listed IsBinding Comma CloseParen x ps → IsResult y r → IsStmts z b end
       → IsDecl (tok Func i ∷ tok Name j ∷ tok OpenParen k ∷ (x ++ (y ++ tok OpenBrace m ∷ z)))
       (tree.Func (record { name = ident j; params = ps; result_type = r; body = b; at = i.at; end = end.at }))

@@ -39,15 +39,15 @@ type_spec n l =
     >>= given (λ x. struct i x.0)
 
 -- the type of a function's result, up to the block
-abbrev pub result_by : ℕ → Terminal → List Term → Read (Option tree.Ty)
+abbrev pub result_by : ℕ → Terminal → List Term → Read (Option tree.TypeExpr)
 result_by n OpenBrace l = Done None l
 result_by n _ l = a_type n l >>= given (λ t. Some t)
 
-abbrev pub result_on : ℕ → List Term → Option (Term × List Term) → Read (Option tree.Ty)
+abbrev pub result_on : ℕ → List Term → Option (Term × List Term) → Read (Option tree.TypeExpr)
 result_on n l None = Failed (At l)
 result_on n l (Some x) = result_by n x.0.terminal l
 
-abbrev pub function : Leaf → Leaf → List Binding → Option tree.Ty → List tree.Stmt → Leaf → tree.Decl
+abbrev pub function : Leaf → Leaf → List Binding → Option tree.TypeExpr → List tree.Stmt → Leaf → tree.Decl
 function i j ps r b end =
     tree.Func (record { name = ident j; params = ps; result_type = r; body = b; at = i.at; end = end.at })
 

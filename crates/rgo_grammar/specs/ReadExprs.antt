@@ -35,35 +35,35 @@ make_end l = make_end_on l (first_of l)
 -- In what follows `inner` reads an expression in brackets.
 
 -- behind the `,` behind a channel's type: a capacity, or the end
-abbrev pub capacity_by : (List Term → Read tree.Expr) → tree.Ty → Leaf → Terminal → List Term → List Term
+abbrev pub capacity_by : (List Term → Read tree.Expr) → tree.TypeExpr → Leaf → Terminal → List Term → List Term
     → Read tree.Expr
 capacity_by inner t i CloseParen l m = Done (tree.MakeChan t tree.no_capacity i.at) m
 capacity_by inner t i _ l m = inner l >>= λ v w. make_end w >>= given (λ _. tree.MakeChan t (tree.a_capacity v) i.at)
 
-abbrev pub capacity_on : (List Term → Read tree.Expr) → tree.Ty → Leaf → List Term → Option (Term × List Term)
+abbrev pub capacity_on : (List Term → Read tree.Expr) → tree.TypeExpr → Leaf → List Term → Option (Term × List Term)
     → Read tree.Expr
 capacity_on inner t i l None = Failed (At l)
 capacity_on inner t i l (Some x) = capacity_by inner t i x.0.terminal l x.1
 
-abbrev pub capacity : (List Term → Read tree.Expr) → tree.Ty → Leaf → List Term → Read tree.Expr
+abbrev pub capacity : (List Term → Read tree.Expr) → tree.TypeExpr → Leaf → List Term → Read tree.Expr
 capacity inner t i l = capacity_on inner t i l (first_of l)
 
 -- behind a channel's type
-abbrev pub sized_by : (List Term → Read tree.Expr) → tree.Ty → Leaf → Terminal → List Term → List Term → Read tree.Expr
+abbrev pub sized_by : (List Term → Read tree.Expr) → tree.TypeExpr → Leaf → Terminal → List Term → List Term → Read tree.Expr
 sized_by inner t i CloseParen l m = Done (tree.MakeChan t tree.no_capacity i.at) m
 sized_by inner t i Comma l m = capacity inner t i m
 sized_by inner t i _ l m = Failed (At l)
 
-abbrev pub sized_on : (List Term → Read tree.Expr) → tree.Ty → Leaf → List Term → Option (Term × List Term)
+abbrev pub sized_on : (List Term → Read tree.Expr) → tree.TypeExpr → Leaf → List Term → Option (Term × List Term)
     → Read tree.Expr
 sized_on inner t i l None = Failed (At l)
 sized_on inner t i l (Some x) = sized_by inner t i x.0.terminal l x.1
 
-abbrev pub sized : (List Term → Read tree.Expr) → tree.Ty → Leaf → List Term → Read tree.Expr
+abbrev pub sized : (List Term → Read tree.Expr) → tree.TypeExpr → Leaf → List Term → Read tree.Expr
 sized inner t i l = sized_on inner t i l (first_of l)
 
 -- behind `make (`
-abbrev pub make_slice : (List Term → Read tree.Expr) → Leaf → tree.Ty → List Term → Read tree.Expr
+abbrev pub make_slice : (List Term → Read tree.Expr) → Leaf → tree.TypeExpr → List Term → Read tree.Expr
 make_slice inner i t l = token Comma l >>= λ _ w. inner w >>= λ v u. make_end u >>= given (λ _. tree.MakeSlice t v i.at)
 
 abbrev pub made_by : ℕ → (List Term → Read tree.Expr) → Leaf → Terminal → List Term → List Term → Read tree.Expr

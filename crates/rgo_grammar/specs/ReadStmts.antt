@@ -54,12 +54,12 @@ abbrev pub defining : (List Term → Read tree.Expr) → List Term → Read tree
 defining value l = defining_on value l (first_of l)
 
 -- behind the name of a local variable that is alone, and its type
-abbrev pub initial_by : (List Term → Read tree.Expr) → Leaf → tree.Ty → Terminal → Leaf → List Term → List Term
+abbrev pub initial_by : (List Term → Read tree.Expr) → Leaf → tree.TypeExpr → Terminal → Leaf → List Term → List Term
     → Read tree.LocalVar
 initial_by value i t (Assign assign_op.Plain) j l m = value m >>= given (λ v. tree.Typed (ident i) t v j.at)
 initial_by value i t _ j l m = Done (tree.Zero (bound (ident i ∷ []) t)) l
 
-abbrev pub initial : (List Term → Read tree.Expr) → Leaf → tree.Ty → List Term → Option (Term × List Term)
+abbrev pub initial : (List Term → Read tree.Expr) → Leaf → tree.TypeExpr → List Term → Option (Term × List Term)
     → Read tree.LocalVar
 initial value i t l None = Done (tree.Zero (bound (ident i ∷ []) t)) l
 initial value i t l (Some x) = initial_by value i t x.0.terminal x.0.leaf l x.1

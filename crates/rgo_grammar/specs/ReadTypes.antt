@@ -10,18 +10,18 @@ use Rattle.rgo_grammar.specs.declared.terminals.Terminal.TheVariants.{Chan}
 use Rattle.rgo_grammar.specs.Terms.{Leaf, Term, ident}
 use Rattle.rgo_grammar.specs.Reading.{Read, Done, Failed, At, Starving, ◌>>=◌, given, first_of, token, listed, single, several}
 
-abbrev pub type_by : (List Term → Read tree.Ty) → Terminal → Leaf → List Term → List Term → Read tree.Ty
+abbrev pub type_by : (List Term → Read tree.TypeExpr) → Terminal → Leaf → List Term → List Term → Read tree.TypeExpr
 type_by inner Name i l m = Done (tree.Named (ident i)) m
 type_by inner (Binary op.Mul) i l m = token Name m >>= given (λ j. tree.Pointer (ident j) i.at)
 type_by inner OpenBracket i l m = token CloseBracket m >>= λ _ w. inner w >>= given (λ t. tree.Slice t i.at)
 type_by inner Chan i l m = inner m >>= given (λ t. tree.Chan t i.at)
 type_by inner _ i l m = Failed (At l)
 
-abbrev pub type_on : (List Term → Read tree.Ty) → List Term → Option (Term × List Term) → Read tree.Ty
+abbrev pub type_on : (List Term → Read tree.TypeExpr) → List Term → Option (Term × List Term) → Read tree.TypeExpr
 type_on inner l None = Failed (At l)
 type_on inner l (Some x) = type_by inner x.0.terminal x.0.leaf l x.1
 
-unfoldable pub a_type : ℕ → List Term → Read tree.Ty
+unfoldable pub a_type : ℕ → List Term → Read tree.TypeExpr
 a_type zero l = Failed Starving
 a_type (suc n) l = type_on (a_type n) l (first_of l)
 
@@ -40,7 +40,7 @@ unfoldable pub names : ℕ → List Ident → List Term → Read (List Ident)
 names zero found l = Failed Starving
 names (suc n) found l = names_on (names n) found l (first_of l)
 
-abbrev pub bound : List Ident → tree.Ty → Binding
+abbrev pub bound : List Ident → tree.TypeExpr → Binding
 bound ns t = record { names = ns; ty = t }
 
 -- names and their type, behind those that were found

@@ -3,7 +3,7 @@ use Rattle.std.proofs.Common.{◌≡◌, ℕ, List, [], ◌∷◌, map, drop, Re
 use Rattle.std.specs.declared.alloc.AllocError.{AllocError}
 use Rattle.rgo_typed.specs.declared.actions.Action.{Action}
 use Rattle.rgo_typed.specs.declared.programs.Struct.{Struct}
-use Rattle.rgo_typed.specs.declared.types.Ty.{Ty}
+use Rattle.rgo_typed.specs.declared.types.Type.{«Type»}
 use Rattle.rgo_typed.specs.Tree.{Typed}
 use Rattle.rgo_memory.specs.Memory.{Memory}
 use Rattle.rgo_memory.specs.Perform.{perform}
@@ -20,7 +20,7 @@ first_is (y ∷ l) x e = ap (map todo_of) e
 
 module _ (p : Typed) (m n : Memory) (f g : Frame) (structs : List Struct) (r : Result Did AllocError) (action : Action)
     (count at : ℕ) (same : structs ≡ p.structs) where
-  pub performs : (ty : Ty) → f.todo ≡ Perform action count ty at ∷ drop 1 f.todo
+  pub performs : (ty : «Type») → f.todo ≡ Perform action count ty at ∷ drop 1 f.todo
       → Acts r m n f g
       (effected (giving f count (drop 1 f.todo)) at (perform structs action ty (last_values count f.values) m))
       → Acts r m n f g (act p m f)

@@ -4,7 +4,7 @@ use Rattle.std.specs.Prelude.{nat_le, slice_get, option_and_then}
 use Rattle.rgo_ast.specs.declared.ops.BinaryOp.TheVariants.{Add, Div}
 use Rattle.rgo_typed.specs.declared.actions.Action.TheVariants as action
 use Rattle.rgo_typed.specs.declared.statements.Piece.TheVariants.{Value as NextValue}
-use Rattle.rgo_typed.specs.declared.types.Ty.{Ty}
+use Rattle.rgo_typed.specs.declared.types.Type.{«Type»}
 use Rattle.rgo_typed.specs.declared.types.Base.TheVariants as base
 use Rattle.rgo_typed.specs.declared.types.Layer.TheVariants.{Chan}
 use Rattle.rgo_typed.specs.Tree.{Term, Terms, Local, Apply, Call, no_terms, a_term, Stmt, Stmts, Function, Typed}
@@ -18,10 +18,10 @@ use Rattle.rgo_meaning.specs.Source.{SourceState, source_step, source_start}
 
 -- ---- programs
 
-abbrev pub int : Ty
+abbrev pub int : «Type»
 int = record { layers = []; base = base.Int }
 
-abbrev pub channel : Ty
+abbrev pub channel : «Type»
 channel = record { layers = Chan ∷ []; base = base.Int }
 
 abbrev pub one : Term → Terms
@@ -34,7 +34,7 @@ abbrev pub number : ℕ → Term
 number n = Apply (action.Int (pos n)) no_terms int 0
 
 -- a function with these parameters, local variables and statements
-abbrev pub function : List ℕ → ℕ → List Ty → Option Ty → List Stmt → Function
+abbrev pub function : List ℕ → ℕ → List «Type» → Option «Type» → List Stmt → Function
 function name params locals result_type body =
     record { name = name; params = params; locals = locals; result_type = result_type; body = body; end = 0 }
 

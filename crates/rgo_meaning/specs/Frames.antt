@@ -3,7 +3,7 @@ use Rattle.std.specs.Prelude.{ℕ, zero, suc, Bool, is_some, List, [], ◌∷◌
 use Rattle.rgo_typed.specs.declared.actions.Action.{Action}
 use Rattle.rgo_typed.specs.declared.actions.Logical.{Logical}
 use Rattle.rgo_typed.specs.declared.statements.Piece.{Piece}
-use Rattle.rgo_typed.specs.declared.types.Ty.{Ty}
+use Rattle.rgo_typed.specs.declared.types.Type.{«Type»}
 use Rattle.rgo_typed.specs.Tree.{Term, Terms, Stmt, Stmts, Function, stmts_of}
 use Rattle.rgo_values.specs.declared.values.Value.{Value}
 use Rattle.rgo_values.specs.declared.values.Value.TheVariants.{Nil}
@@ -15,7 +15,7 @@ pub data Todo : Type 0 where
   Evaluate : Term → Todo
   Each : Terms → Todo
   -- an action on the last values, so many, which gives one of a type, or gives none
-  Perform : Action → (count : ℕ) → Ty → (place : ℕ) → Todo
+  Perform : Action → (count : ℕ) → «Type» → (place : ℕ) → Todo
   Affect : Action → (count : ℕ) → (place : ℕ) → Todo
   -- the value of a right side is that of the whole: nothing is done
   Settle : Todo
@@ -30,7 +30,7 @@ pub data Todo : Type 0 where
   -- a value goes into a local variable, or is let go; a local variable starts at the zero of its type
   Give : (local : ℕ) → Todo
   Forget : Todo
-  Clear : (local : ℕ) → Ty → Todo
+  Clear : (local : ℕ) → «Type» → Todo
   -- a function is called, or started as a goroutine, with the last values
   Enter : (function count : ℕ) → Todo
   Start : (function count : ℕ) → Todo

@@ -4,7 +4,7 @@ use Rattle.rgo_typed.specs.declared.actions.Action.TheVariants.{Store, New}
 use Rattle.rgo_typed.specs.declared.actions.Logical.{Logical}
 use Rattle.rgo_typed.specs.declared.actions.Logical.TheVariants.{And, Or}
 use Rattle.rgo_typed.specs.declared.programs.Struct.{Struct}
-use Rattle.rgo_typed.specs.declared.types.Ty.{Ty}
+use Rattle.rgo_typed.specs.declared.types.Type.{«Type»}
 use Rattle.rgo_typed.specs.Tree as tree
 use Rattle.rgo_typed.specs.Tree.{Term, Terms, Stmts, Function, Typed}
 use Rattle.rgo_values.specs.declared.values.Value.{Value}
@@ -31,7 +31,7 @@ moved m (Some f) = Moves m f
 -- ---- actions
 
 -- the type of what gives no value
-abbrev pub no_type : Ty
+abbrev pub no_type : «Type»
 no_type = record { layers = []; base = Int }
 
 -- a frame goes on with the value that an action gives, traps there, or waits
@@ -100,7 +100,7 @@ abbrev pub given : ℕ → List Todo → Frame → List Value → Option Frame
 given n todo f [] = None
 given n todo f (v ∷ values) = Some (record { locals = with_local f.locals n v; values = values; todo = todo })
 
-abbrev pub cleared : ℕ → Ty → List Todo → Frame → Frame
+abbrev pub cleared : ℕ → «Type» → List Todo → Frame → Frame
 cleared n ty todo f = record { locals = with_local f.locals n (zero_of ty); values = f.values; todo = todo }
 
 abbrev pub sequence : Stmts → List Todo → List Todo

@@ -20,7 +20,7 @@ use crate::stack::Stack;
 use crate::todos::{each, evaluate, execute, sequence, turn};
 use rgo_ast::Place;
 use rgo_memory::{Effect, Memory, perform};
-use rgo_typed::{Action, Base, Logical, Piece, Row, Stmt, Struct, Term, Ty, Typed};
+use rgo_typed::{Action, Base, Logical, Piece, Row, Stmt, Struct, Term, Type, Typed};
 use rgo_values::{Trap, Value, zero};
 use std::alloc::{AllocError, Global};
 
@@ -44,10 +44,10 @@ pub enum Did<'a> {
 }
 
 /// The type of what gives no value. Takes no memory.
-fn no_type(alloc: Global) -> Ty
+fn no_type(alloc: Global) -> Type
     ensures { result ≡ spec.no_type }
 {
-    Ty {
+    Type {
         layers: Row::new(Vec::new(alloc)),
         base: Base::Int,
     }
@@ -74,7 +74,7 @@ fn give_value<'a>(
     frame: &mut Frame<'a>,
     action: Action,
     count: usize,
-    ty: &Ty,
+    ty: &Type,
     at: Place,
 ) -> Result<Did<'a>, AllocError>
     ensures { Acts result (memory_of memory.old) (memory_of memory.new) (frame_of frame.old) (frame_of frame.new)
@@ -258,7 +258,7 @@ fn give(frame: &mut Frame<'_>, n: usize) -> Result<bool, AllocError>
 }
 
 /// A local variable starts at the zero of its type.
-fn clear(frame: &mut Frame<'_>, n: usize, ty: &Ty) -> Result<(), AllocError>
+fn clear(frame: &mut Frame<'_>, n: usize, ty: &Type) -> Result<(), AllocError>
     ensures { OnOk result (frame_of frame.new
         ≡ spec.cleared n ty.now (drop 1 (frame_of frame.old).todo) (frame_of frame.old)) }
 {

@@ -9,12 +9,12 @@ ghost use Rattle.rgo_meaning.specs.Views.{frame_of};
 
 use crate::frames::{Frame, Todo};
 use crate::stack::Stack;
-use rgo_typed::{Function, Ty};
+use rgo_typed::{Function, Type};
 use rgo_values::{Value, zero};
 use std::alloc::{AllocError, Global};
 
 /// The types behind the first so many.
-fn behind(types: &[Ty], count: usize) -> &[Ty]
+fn behind(types: &[Type], count: usize) -> &[Type]
     ensures { result.now ≡ drop count types.now }
 {
     if count < types.len() {
@@ -24,7 +24,7 @@ fn behind(types: &[Ty], count: usize) -> &[Ty]
     }
 }
 
-fn push_zeros(locals: &mut Vec<Value>, types: &[Ty]) -> Result<(), AllocError>
+fn push_zeros(locals: &mut Vec<Value>, types: &[Type]) -> Result<(), AllocError>
     ensures { OnOk result (locals.new.items ≡ locals.old.items ++ map zero_of types.now) }
 {
     for ty in types {

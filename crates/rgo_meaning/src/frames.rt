@@ -2,7 +2,7 @@
 
 use crate::stack::Stack;
 use rgo_ast::Place;
-use rgo_typed::{Action, Logical, Piece, Stmt, Term, Ty};
+use rgo_typed::{Action, Logical, Piece, Stmt, Term, Type};
 use rgo_values::Value;
 
 /// One thing to do. What gives a value puts it on the frame's values; what takes values takes the
@@ -14,7 +14,7 @@ pub enum Todo<'a> {
     /// Gives the values of several terms.
     Each(&'a [Term]),
     /// An action on so many values, which gives one of this type.
-    Perform(Action, usize, &'a Ty, Place),
+    Perform(Action, usize, &'a Type, Place),
     /// An action on so many values, which gives none.
     Affect(Action, usize, Place),
     /// The value of a right side is that of the whole: nothing is done.
@@ -32,7 +32,7 @@ pub enum Todo<'a> {
     /// A value is let go.
     Forget,
     /// The local variable of this number starts at the zero of its type.
-    Clear(usize, &'a Ty),
+    Clear(usize, &'a Type),
     /// The function of this number is called with so many values.
     Enter(usize, usize),
     /// The function of this number is started as a goroutine with so many values.

@@ -3,14 +3,14 @@
 use crate::{Next, SourceState, next_act, printed, start, step};
 use rgo_ast::Name;
 use rgo_machine::{End, Pick, Stepped};
-use rgo_typed::{Action, Base, Function, Layer, Piece, Row, Stmt, Term, Ty, Typed};
+use rgo_typed::{Action, Base, Function, Layer, Piece, Row, Stmt, Term, Type, Typed};
 use rgo_values::{Trap, Value};
 use std::alloc::Global;
 use std::test::Fail;
 
-fn ty(alloc: Global, layers: &[Layer]) -> Result<Ty, Fail> {
+fn ty(alloc: Global, layers: &[Layer]) -> Result<Type, Fail> {
     let layers = Row::new(Vec::from_slice(alloc, layers)?);
-    Ok(Ty {
+    Ok(Type {
         layers,
         base: Base::Int,
     })
@@ -53,7 +53,7 @@ fn function(
     alloc: Global,
     name: &[u8],
     params: usize,
-    locals: Vec<Ty>,
+    locals: Vec<Type>,
     body: Vec<Stmt>,
 ) -> Result<Function, Fail> {
     Ok(Function {
@@ -74,7 +74,7 @@ fn program(alloc: Global, functions: Vec<Function>) -> Typed {
     }
 }
 
-fn channels(alloc: Global) -> Result<Vec<Ty>, Fail> {
+fn channels(alloc: Global) -> Result<Vec<Type>, Fail> {
     let mut locals = Vec::new(alloc);
     locals.push(ty(alloc, &[Layer::Chan])?)?;
     Ok(locals)

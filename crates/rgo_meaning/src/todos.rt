@@ -12,7 +12,7 @@ ghost use Rattle.rgo_meaning.specs.Views.{frame_of, change_of};
 use crate::frames::{Frame, Todo};
 use crate::locals::local;
 use rgo_ast::{BinaryOp, Place};
-use rgo_typed::{Action, Stmt, Term, Ty};
+use rgo_typed::{Action, Stmt, Term, Type};
 use std::alloc::AllocError;
 
 /// A term is evaluated: a local variable gives its value, any other term its parts first.
@@ -129,7 +129,7 @@ fn next_turn(frame: &mut Frame<'_>)
 pub struct Change<'a> {
     pub operands: &'a [Term],
     pub read: Action,
-    pub ty: &'a Ty,
+    pub ty: &'a Type,
     pub read_at: Place,
     pub op: BinaryOp,
     pub value: &'a Term,

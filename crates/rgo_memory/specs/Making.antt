@@ -1,7 +1,7 @@
 -- New objects.
 use Rattle.std.specs.Prelude.{ℕ, false, List, [], ◌∷◌, ◌++◌, map, length, replicate, pos, negsuc, Option, Some, None}
 use Rattle.std.specs.Prelude.{slice_get}
-use Rattle.rgo_typed.specs.declared.types.Ty.{Ty}
+use Rattle.rgo_typed.specs.declared.types.Type.{«Type»}
 use Rattle.rgo_typed.specs.declared.programs.Struct.{Struct}
 use Rattle.rgo_values.specs.declared.values.Value.{Value}
 use Rattle.rgo_values.specs.declared.values.Value.TheVariants as value
@@ -28,7 +28,7 @@ sized object (value.Int (pos n)) m = made m (object n)
 sized object (value.Int (negsuc n)) m = Traps BadSize
 sized object _ m = nothing m
 
-abbrev pub new_slice : Ty → Value → Memory → Effect
+abbrev pub new_slice : «Type» → Value → Memory → Effect
 new_slice ty = sized (λ n. SliceObject (replicate n (element_zero ty)))
 
 abbrev pub new_channel : Value → Memory → Effect

@@ -1,6 +1,6 @@
 -- What each action does, by how many operands it has.
 use Rattle.std.specs.Prelude.{ℕ, List, [], ◌∷◌, slice_get, slice_set}
-use Rattle.rgo_typed.specs.declared.types.Ty.{Ty}
+use Rattle.rgo_typed.specs.declared.types.Type.{«Type»}
 use Rattle.rgo_typed.specs.declared.programs.Struct.{Struct}
 use Rattle.rgo_typed.specs.declared.actions.Action.{Action}
 use Rattle.rgo_typed.specs.declared.actions.Action.TheVariants as action
@@ -28,7 +28,7 @@ on_none structs (action.Get n) m = Does m (or_nil (slice_get m.variables n))
 on_none structs _ m = nothing m
 
 -- with one operand
-abbrev pub on_one : Action → Ty → Value → Memory → Effect
+abbrev pub on_one : Action → «Type» → Value → Memory → Effect
 on_one action.Copy ty v m = Does m v
 on_one action.Neg ty v m = Does m (negated v)
 on_one action.Not ty v m = Does m (inverted v)
@@ -56,7 +56,7 @@ on_three action.Put u v w m = put m u v w
 on_three _ u v w m = nothing m
 
 -- what an action does with these operands; ty is the type of its value
-abbrev pub perform : List Struct → Action → Ty → List Value → Memory → Effect
+abbrev pub perform : List Struct → Action → «Type» → List Value → Memory → Effect
 perform structs a ty [] m = on_none structs a m
 perform structs a ty (v ∷ []) m = on_one a ty v m
 perform structs a ty (v ∷ w ∷ []) m = on_two a v w m

@@ -11,7 +11,7 @@ use crate::elements::{element_at, length_of, put};
 use crate::fields::{load, store};
 use crate::making::{new_channel, new_slice, new_struct};
 use crate::memory::Memory;
-use rgo_typed::{Action, Struct, Ty};
+use rgo_typed::{Action, Struct, Type};
 use rgo_values::{Value, binary, inverted, is_nil, negated, zero};
 use std::alloc::{AllocError, Global};
 
@@ -48,7 +48,7 @@ fn on_one(
     alloc: Global,
     memory: &mut Memory,
     action: Action,
-    ty: &Ty,
+    ty: &Type,
     x: Value,
 ) -> Result<Effect, AllocError>
     ensures { Performs result (memory_of memory.old) (memory_of memory.new)
@@ -104,7 +104,7 @@ pub fn perform(
     memory: &mut Memory,
     structs: &[Struct],
     action: Action,
-    ty: &Ty,
+    ty: &Type,
     operands: &[Value],
 ) -> Result<Effect, AllocError>
     ensures { Performs result (memory_of memory.old) (memory_of memory.new)

@@ -9,7 +9,7 @@ ghost use Rattle.rgo_memory.specs.Views.{Performs, object_of, memory_of};
 use crate::effects::Effect;
 use crate::memory::Memory;
 use crate::objects::{Channel, Object};
-use rgo_typed::{Struct, Ty};
+use rgo_typed::{Struct, Type};
 use rgo_values::{Trap, Value, element_zero, zero};
 use std::alloc::{AllocError, Global};
 use std::collections::VecDeque;
@@ -23,7 +23,7 @@ fn make(memory: &mut Memory, object: Object) -> Result<Effect, AllocError>
     Ok(Effect::Gives(Value::Object(number)))
 }
 
-fn zeros(alloc: Global, types: &[Ty]) -> Result<Vec<Value>, AllocError>
+fn zeros(alloc: Global, types: &[Type]) -> Result<Vec<Value>, AllocError>
     ensures { IfOk result (λ values. values.items ≡ map zero_of types.now) }
 {
     types.iter().map(|ty| zero(ty)).collect(alloc)
@@ -50,7 +50,7 @@ pub(crate) fn new_struct(
 pub(crate) fn new_slice(
     alloc: Global,
     memory: &mut Memory,
-    ty: &Ty,
+    ty: &Type,
     len: Value,
 ) -> Result<Effect, AllocError>
     ensures { Performs result (memory_of memory.old) (memory_of memory.new)

@@ -2,7 +2,7 @@
 
 use crate::{Effect, Memory, meets_at, perform};
 use rgo_ast::{BinaryOp, Name};
-use rgo_typed::{Action, Base, Layer, Row, Struct, Ty, Variable};
+use rgo_typed::{Action, Base, Layer, Row, Struct, Type, Variable};
 use rgo_values::{Trap, Value};
 use std::alloc::Global;
 use std::process::Abort;
@@ -18,16 +18,16 @@ const NIL: Value = Value::Nil;
 /// The object that is made first.
 const FIRST: Value = Value::Object(0);
 
-fn ty(alloc: Global, layers: &[Layer], base: Base) -> Result<Ty, Fail> {
+fn ty(alloc: Global, layers: &[Layer], base: Base) -> Result<Type, Fail> {
     let layers = Row::new(Vec::from_slice(alloc, layers)?);
-    Ok(Ty { layers, base })
+    Ok(Type { layers, base })
 }
 
 fn steps_hold<R: Abort>(
     rt: &R,
     alloc: Global,
     memory: &mut Memory,
-    ty: &Ty,
+    ty: &Type,
     steps: &[Step<'_>],
 ) -> Result<(), Fail> {
     for (action, operands, expected) in steps {

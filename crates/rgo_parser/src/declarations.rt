@@ -2,7 +2,7 @@
 #![tactic(auto, using(rgo_ast::proofs::Rows::rows, crate::proofs::ListTurns::list_turns))]
 
 ghost use Rattle.std.specs.Prelude.{◌≡◌, [], map, option_map};
-ghost use Rattle.rgo_ast.specs.Views.{ty_of, binding_of, type_spec_of, function_of, decl_of, import_of};
+ghost use Rattle.rgo_ast.specs.Views.{type_expr_of, binding_of, type_spec_of, function_of, decl_of, import_of};
 ghost use Rattle.rgo_ast.specs.Tree as tree;
 ghost use Rattle.rgo_grammar.specs.Reading.{first_of, several};
 ghost use Rattle.rgo_grammar.specs.ReadTypes as type_reading;
@@ -15,7 +15,7 @@ use crate::lists::{Listed, separated};
 use crate::reads::{Fault, Reads, name, token};
 use crate::statements::block;
 use crate::types::{binding, bindings, ty};
-use rgo_ast::{Binding, Decl, Function, Import, ImportPath, Name, Ty, TypeSpec};
+use rgo_ast::{Binding, Decl, Function, Import, ImportPath, Name, TypeExpr, TypeSpec};
 use rgo_grammar::{Term, Terminal, first};
 use rgo_lexer::unquoted;
 use std::alloc::Global;
@@ -213,8 +213,8 @@ fn result_type<'a>(
     text: &'a [u8],
     turns: usize,
     tokens: &'a [Term],
-) -> Reads<'a, Option<Ty>>
-    ensures { Gives text.now (λ x. (option_map ty_of x.0, seen_all text.now x.1.now)) result
+) -> Reads<'a, Option<TypeExpr>>
+    ensures { Gives text.now (λ x. (option_map type_expr_of x.0, seen_all text.now x.1.now)) result
         (reading.result_on turns (seen_all text.now tokens.now) (first_of (seen_all text.now tokens.now))) }
 {
     let Some((item, _)) = first(text, tokens) else {

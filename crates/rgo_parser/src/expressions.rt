@@ -2,7 +2,7 @@
 #![tactic(auto, using(rgo_ast::proofs::Rows::rows, crate::proofs::ListTurns::list_turns, crate::proofs::ExprTurns::expr_turns,))]
 
 ghost use Rattle.std.specs.Prelude.{◌≡◌, ◌∷◌, [], map, false, IfOk};
-ghost use Rattle.rgo_ast.specs.Views.{expr_of, element_of, ty_of};
+ghost use Rattle.rgo_ast.specs.Views.{expr_of, element_of, type_expr_of};
 ghost use Rattle.rgo_ast.specs.Tree as tree;
 ghost use Rattle.rgo_grammar.specs.Grammar.{level};
 ghost use Rattle.rgo_grammar.specs.Reading as lists;
@@ -14,7 +14,7 @@ ghost use Rattle.rgo_parser.specs.Gives.{Gives, leaf_of, leaf_at};
 use crate::lists::{Listed, separated};
 use crate::reads::{Fault, Reads, ident_of, name, token};
 use crate::types::ty;
-use rgo_ast::{BinaryOp, Element, Expr, Ident, Ty, UnaryOp};
+use rgo_ast::{BinaryOp, Element, Expr, Ident, TypeExpr, UnaryOp};
 use rgo_grammar::{Item, Term, Terminal, first};
 use rgo_lexer::unquoted;
 use std::alloc::{AllocError, Global};
@@ -296,12 +296,12 @@ fn sized<'a>(
     alloc: Global,
     text: &'a [u8],
     turns: usize,
-    element: Ty,
+    element: TypeExpr,
     at: usize,
     tokens: &'a [Term],
 ) -> Reads<'a, Expr>
     ensures { Gives text.now (λ x. (expr_of x.0, seen_all text.now x.1.now)) result
-        (reading.sized (reading.expr false turns 1) (ty_of element) (leaf_at at) (seen_all text.now tokens.now)) }
+        (reading.sized (reading.expr false turns 1) (type_expr_of element) (leaf_at at) (seen_all text.now tokens.now)) }
 {
     let Some((item, behind)) = first(text, tokens) else {
         return Err(Fault::Syntax(tokens));
@@ -319,12 +319,12 @@ fn capacity<'a>(
     alloc: Global,
     text: &'a [u8],
     turns: usize,
-    element: Ty,
+    element: TypeExpr,
     at: usize,
     tokens: &'a [Term],
 ) -> Reads<'a, Expr>
     ensures { Gives text.now (λ x. (expr_of x.0, seen_all text.now x.1.now)) result
-        (reading.capacity (reading.expr false turns 1) (ty_of element) (leaf_at at) (seen_all text.now tokens.now)) }
+        (reading.capacity (reading.expr false turns 1) (type_expr_of element) (leaf_at at) (seen_all text.now tokens.now)) }
 {
     let Some((item, behind)) = first(text, tokens) else {
         return Err(Fault::Syntax(tokens));

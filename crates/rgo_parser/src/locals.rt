@@ -2,7 +2,7 @@
 #![tactic(auto, using(rgo_ast::proofs::Rows::rows, crate::proofs::TypeTurns::type_turns, crate::proofs::ListTurns::list_turns))]
 
 ghost use Rattle.std.specs.Prelude.{◌≡◌, [], map, false};
-ghost use Rattle.rgo_ast.specs.Views.{ty_of, local_var_of, stmt_of};
+ghost use Rattle.rgo_ast.specs.Views.{type_expr_of, local_var_of, stmt_of};
 ghost use Rattle.rgo_grammar.specs.ReadExprs as reading_exprs;
 ghost use Rattle.rgo_grammar.specs.ReadStmts as reading;
 ghost use Rattle.rgo_grammar.specs.Reading.{first_of, several};
@@ -15,7 +15,7 @@ use crate::lists::{Listed, separated};
 use crate::reads::{Fault, Reads, name};
 use crate::simple::boxed;
 use crate::types::{ty, typed_names};
-use rgo_ast::{AssignOp, Binding, Ident, LocalVar, Stmt, Ty};
+use rgo_ast::{AssignOp, Binding, Ident, LocalVar, Stmt, TypeExpr};
 use rgo_grammar::{Term, Terminal, first};
 use std::alloc::Global;
 
@@ -25,11 +25,11 @@ fn initial<'a>(
     text: &'a [u8],
     turns: usize,
     one: Ident,
-    ty: Ty,
+    ty: TypeExpr,
     tokens: &'a [Term],
 ) -> Reads<'a, LocalVar>
     ensures { Gives text.now (λ x. (local_var_of x.0, seen_all text.now x.1.now)) result
-        (reading.initial (reading_exprs.expr false turns 1) (leaf_of one) (ty_of ty) (seen_all text.now tokens.now)
+        (reading.initial (reading_exprs.expr false turns 1) (leaf_of one) (type_expr_of ty) (seen_all text.now tokens.now)
         (first_of (seen_all text.now tokens.now))) }
 {
     if let Some((item, rest)) = first(text, tokens) {

@@ -2,14 +2,14 @@
 #![tactic(auto, using(rgo_ast::proofs::Rows::rows, crate::proofs::TypeTurns::type_turns, crate::proofs::ListTurns::list_turns))]
 
 ghost use Rattle.std.specs.Prelude.{◌≡◌, ◌∷◌, [], map};
-ghost use Rattle.rgo_ast.specs.Views.{ty_of, binding_of};
+ghost use Rattle.rgo_ast.specs.Views.{type_expr_of, binding_of};
 ghost use Rattle.rgo_grammar.specs.ReadTypes as reading;
 ghost use Rattle.rgo_grammar.specs.Seen.{item_of, seen_all};
 ghost use Rattle.rgo_parser.specs.Gives.{Gives, leaf_of};
 
 use crate::lists::{Listed, separated};
 use crate::reads::{Fault, Reads, ident_of, name, token};
-use rgo_ast::{BinaryOp, Binding, Ident, Ty};
+use rgo_ast::{BinaryOp, Binding, Ident, TypeExpr};
 use rgo_grammar::{Term, Terminal, first};
 use std::alloc::Global;
 
@@ -19,8 +19,8 @@ pub(crate) fn ty<'a>(
     text: &'a [u8],
     turns: usize,
     tokens: &'a [Term],
-) -> Reads<'a, Ty>
-    ensures { Gives text.now (λ x. (ty_of x.0, seen_all text.now x.1.now)) result (reading.a_type turns (seen_all text.now tokens.now)) }
+) -> Reads<'a, TypeExpr>
+    ensures { Gives text.now (λ x. (type_expr_of x.0, seen_all text.now x.1.now)) result (reading.a_type turns (seen_all text.now tokens.now)) }
 {
     if turns == 0 {
         return Err(Fault::Starved);
@@ -29,19 +29,19 @@ pub(crate) fn ty<'a>(
         return Err(Fault::Syntax(tokens));
     };
     match item.terminal {
-        Terminal::Name => Ok((Ty::Named(ident_of(alloc, item.word, item.at)?), rest)),
+        Terminal::Name => Ok((TypeExpr::Named(ident_of(alloc, item.word, item.at)?), rest)),
         Terminal::Binary(BinaryOp::Mul) => {
             let (base, rest) = name(alloc, text, rest)?;
-            Ok((Ty::Pointer(base, item.at), rest))
+            Ok((TypeExpr::Pointer(base, item.at), rest))
         }
         Terminal::OpenBracket => {
             let (_, rest) = token(text, Terminal::CloseBracket, rest)?;
             let (element, rest) = ty(alloc, text, turns - 1, rest)?;
-            Ok((Ty::Slice(Box::new(alloc, element)?, item.at), rest))
+            Ok((TypeExpr::Slice(Box::new(alloc, element)?, item.at), rest))
         }
         Terminal::Chan => {
             let (element, rest) = ty(alloc, text, turns - 1, rest)?;
-            Ok((Ty::Chan(Box::new(alloc, element)?, item.at), rest))
+            Ok((TypeExpr::Chan(Box::new(alloc, element)?, item.at), rest))
         }
         _ => Err(Fault::Syntax(tokens)),
     }

@@ -3,7 +3,7 @@
 use crate::{Limits, RunEnd, run};
 use rgo_ast::{BinaryOp, Name};
 use rgo_outside::MemSink;
-use rgo_typed::{Action, Base, Function, Layer, Piece, Row, Stmt, Term, Ty, Typed};
+use rgo_typed::{Action, Base, Function, Layer, Piece, Row, Stmt, Term, Type, Typed};
 use rgo_values::Trap;
 use std::alloc::Global;
 use std::process::Abort;
@@ -20,9 +20,9 @@ fn name(alloc: Global, word: &str) -> Result<Name, Fail> {
     Ok(Name::new(bytes))
 }
 
-fn ty(alloc: Global, layers: &[Layer]) -> Result<Ty, Fail> {
+fn ty(alloc: Global, layers: &[Layer]) -> Result<Type, Fail> {
     let layers = Row::new(Vec::from_slice(alloc, layers)?);
-    Ok(Ty {
+    Ok(Type {
         layers,
         base: Base::Int,
     })

@@ -3,7 +3,7 @@ use Rattle.std.specs.Prelude.{ℕ, List, [], ◌∷◌, Option}
 use Rattle.rgo_ast.specs.declared.ops.BinaryOp.{BinaryOp}
 use Rattle.rgo_typed.specs.declared.actions.Action.{Action}
 use Rattle.rgo_typed.specs.declared.actions.Logical.{Logical}
-use Rattle.rgo_typed.specs.declared.types.Ty.{Ty}
+use Rattle.rgo_typed.specs.declared.types.Type.{«Type»}
 use Rattle.rgo_typed.specs.declared.statements.Piece.{Piece}
 use Rattle.rgo_typed.specs.declared.programs.Struct.{Struct}
 use Rattle.rgo_typed.specs.declared.programs.Variable.{Variable}
@@ -13,10 +13,10 @@ mutual
   -- of a struct with its elements and the field of each; a call with the type of its result
   pub data Term : Type 0 where
     Local : ℕ → Term
-    Apply : Action → Terms → Ty → ℕ → Term
+    Apply : Action → Terms → «Type» → ℕ → Term
     Logic : Logical → Term → Term → ℕ → Term
     Build : ℕ → Terms → List ℕ → ℕ → Term
-    Call : ℕ → Terms → Ty → ℕ → Term
+    Call : ℕ → Terms → «Type» → ℕ → Term
 
   pub data Terms : Type 0 where
     no_terms : Terms
@@ -31,7 +31,7 @@ terms_of (t ∷ l) = a_term t (terms_of l)
 pub record Change : Type 0 where
   pub operands : Terms
   pub read : Action
-  pub ty : Ty
+  pub ty : «Type»
   pub read_at : ℕ
   pub op : BinaryOp
   pub value : Term
@@ -41,8 +41,8 @@ pub record Change : Type 0 where
 mutual
   pub data Stmt : Type 0 where
     Block : Stmts → Stmt
-    Declare : ℕ → Ty → Term → ℕ → Stmt
-    Zero : ℕ → Ty → ℕ → Stmt
+    Declare : ℕ → «Type» → Term → ℕ → Stmt
+    Zero : ℕ → «Type» → ℕ → Stmt
     Assign : ℕ → Term → ℕ → Stmt
     Perform : Action → Terms → ℕ → Stmt
     Update : Change → Stmt
@@ -70,8 +70,8 @@ stmts_of (s ∷ l) = a_stmt s (stmts_of l)
 pub record Function : Type 0 where
   pub name : List ℕ
   pub params : ℕ
-  pub locals : List Ty
-  pub result_type : Option Ty
+  pub locals : List «Type»
+  pub result_type : Option «Type»
   pub body : List Stmt
   pub end : ℕ
 

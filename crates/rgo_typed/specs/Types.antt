@@ -1,6 +1,6 @@
 -- What is said of types: which of them may be nil.
 use Rattle.std.specs.Prelude.{Bool, true, false, List, [], ◌∷◌}
-use Rattle.rgo_typed.specs.declared.types.Ty.{Ty}
+use Rattle.rgo_typed.specs.declared.types.Type.{«Type»}
 use Rattle.rgo_typed.specs.declared.types.Base.{Base}
 use Rattle.rgo_typed.specs.declared.types.Base.TheVariants as base
 use Rattle.rgo_typed.specs.declared.types.Layer.{Layer}
@@ -15,5 +15,5 @@ is_pointer_like_in [] b = is_pointer_base b
 is_pointer_like_in (layer ∷ layers) b = true
 
 -- a pointer, a slice or a channel
-abbrev pub is_pointer_like : Ty → Bool
+abbrev pub is_pointer_like : «Type» → Bool
 is_pointer_like ty = is_pointer_like_in ty.layers ty.base

@@ -16,4 +16,4 @@ pub use lists::Row;
 pub use programs::{Function, Struct, Typed, Variable};
 pub use statements::{Piece, Stmt};
 pub use terms::Term;
-pub use types::{Base, Layer, Ty};
+pub use types::{Base, Layer, Type};

@@ -2,21 +2,21 @@
 
 use crate::lists::Row;
 use crate::statements::Stmt;
-use crate::types::Ty;
+use crate::types::Type;
 use rgo_ast::{Name, Place};
 
 /// A struct, by its name and the types of its fields.
 #[derive(Drop)]
 pub struct Struct {
     pub name: Name,
-    pub fields: Row<Ty>,
+    pub fields: Row<Type>,
 }
 
 /// A package variable.
 #[derive(Drop)]
 pub struct Variable {
     pub name: Name,
-    pub ty: Ty,
+    pub ty: Type,
 }
 
 /// A function.
@@ -26,8 +26,8 @@ pub struct Function {
     /// How many of its local variables are parameters.
     pub params: usize,
     /// The types of its local variables by number, the parameters first.
-    pub locals: Row<Ty>,
-    pub result_type: Option<Ty>,
+    pub locals: Row<Type>,
+    pub result_type: Option<Type>,
     pub body: Vec<Stmt>,
     /// The place of the closing brace.
     pub end: Place,

@@ -3,7 +3,7 @@
 use crate::actions::Action;
 use crate::lists::Row;
 use crate::terms::Term;
-use crate::types::Ty;
+use crate::types::Type;
 use rgo_ast::{BinaryOp, Name, Place};
 
 /// What a print writes: bytes as they are, or the next value.
@@ -20,9 +20,9 @@ pub enum Stmt {
     /// stands in one.
     Block(Vec<Stmt>),
     /// The local variable of this number begins with a value, at the `=` or `:=`.
-    Declare(usize, Ty, Box<Term>, Place),
+    Declare(usize, Type, Box<Term>, Place),
     /// The local variable of this number begins with the zero of its type, at its name.
-    Zero(usize, Ty, Place),
+    Zero(usize, Type, Place),
     /// The local variable of this number is given a value.
     Assign(usize, Box<Term>, Place),
     /// A store, a send, a close, a package variable set: its operands, and then the action.
@@ -33,7 +33,7 @@ pub enum Stmt {
         operands: Vec<Term>,
         read: Action,
         /// The type of the variable.
-        ty: Ty,
+        ty: Type,
         read_at: Place,
         op: BinaryOp,
         value: Box<Term>,

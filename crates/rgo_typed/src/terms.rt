@@ -2,7 +2,7 @@
 
 use crate::actions::{Action, Logical};
 use crate::lists::Row;
-use crate::types::Ty;
+use crate::types::Type;
 use rgo_ast::Place;
 
 /// What gives a value. Its parts are evaluated from left to right, and then the term is.
@@ -12,12 +12,12 @@ pub enum Term {
     /// declarations in the order of the text.
     Local(usize),
     /// An operation on the parts' values, with the type of its value. A constant has no parts.
-    Apply(Action, Vec<Term>, Ty, Place),
+    Apply(Action, Vec<Term>, Type, Place),
     /// `&&` or `||`: the right side is evaluated only where it decides.
     Logic(Logical, Box<Term>, Box<Term>, Place),
     /// A new object of the struct of this number, with these elements in the order of the text,
     /// and the number of each element's field.
     Build(usize, Vec<Term>, Row<usize>, Place),
     /// A call of the function of this number, with the type of its result.
-    Call(usize, Vec<Term>, Ty, Place),
+    Call(usize, Vec<Term>, Type, Place),
 }

@@ -1,7 +1,7 @@
 //! Types and lists of typed trees, and a program built by hand.
 
 use crate::{
-    Action, Base, Function, Layer, Logical, Piece, Row, Stmt, Struct, Term, Ty, Typed, Variable,
+    Action, Base, Function, Layer, Logical, Piece, Row, Stmt, Struct, Term, Type, Typed, Variable,
 };
 use rgo_ast::{BinaryOp, Name};
 use std::alloc::Global;
@@ -13,9 +13,9 @@ fn name(alloc: Global, word: &str) -> Result<Name, Fail> {
     Ok(Name::new(bytes))
 }
 
-fn ty(alloc: Global, layers: &[Layer], base: Base) -> Result<Ty, Fail> {
+fn ty(alloc: Global, layers: &[Layer], base: Base) -> Result<Type, Fail> {
     let layers = Row::new(Vec::from_slice(alloc, layers)?);
-    Ok(Ty { layers, base })
+    Ok(Type { layers, base })
 }
 
 /// A term without parts.

@@ -24,12 +24,12 @@ pub enum Base {
 /// A type (The Go Programming Language Specification, "Types"): its layers, the outermost first,
 /// and what stands inside them.
 #[derive(Drop)]
-pub struct Ty {
+pub struct Type {
     pub layers: Row<Layer>,
     pub base: Base,
 }
 
-impl Ty {
+impl Type {
     /// Whether its values may be nil: whether it is a pointer, a slice or a channel.
     pub fn is_pointer_like(&self) -> bool
         ensures { result ≡ is_pointer_like self.now }

@@ -1,10 +1,10 @@
 -- What is judged one behind the other: the first refusal stays, and what breaks no rule is passed over.
 use Rattle.std.proofs.Common.{◌≡◌, ◌++◌, List, [], ◌∷◌, Option, Some, None, refl, ap, ◌∙◌, sym, subst}
-use Rattle.rgo_expressions.specs.declared.errors.TypeError.{TypeError}
-use Rattle.rgo_expressions.specs.declared.errors.TypeError.TheVariants.{NoMemory, Refused}
-use Rattle.rgo_expressions.specs.Sites.{Site, Fault, earlier, first_fault}
-use Rattle.rgo_expressions.specs.Judges.{Fails}
-use Rattle.rgo_expressions.proofs.Faults.{first_of_both}
+use Rattle.rgo_typing_expressions.specs.declared.errors.TypeError.{TypeError}
+use Rattle.rgo_typing_expressions.specs.declared.errors.TypeError.TheVariants.{NoMemory, Refused}
+use Rattle.rgo_typing_expressions.specs.Sites.{Site, Fault, earlier, first_fault}
+use Rattle.rgo_typing_expressions.specs.Judges.{Fails}
+use Rattle.rgo_typing_expressions.proofs.Faults.{first_of_both}
 
 fails_earlier : (e : TypeError) (f g : Option Fault) → Fails e f → Fails e (earlier f g)
 fails_earlier NoMemory f g p = p

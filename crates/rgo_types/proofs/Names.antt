@@ -1,11 +1,11 @@
 -- Names that are declared one after the other.
 use Rattle.std.proofs.Common.{◌≡◌, ℕ, ◌+◌, ◌<◌, List, [], ◌∷◌, ◌++◌, length, drop, get_or, None, refl, ap, ◌∙◌, sym, subst, arith}
 use Rattle.rgo_ast.specs.declared.names.Ident.{Ident}
-use Rattle.rgo_typed.specs.declared.types.Ty.{Ty}
-use Rattle.rgo_expressions.specs.declared.errors.TypeError.{TypeError}
-use Rattle.rgo_expressions.specs.Sites.{first_fault}
-use Rattle.rgo_expressions.specs.Scopes.{Scope, with_local}
-use Rattle.rgo_expressions.specs.Judges.{Fails}
+use Rattle.rgo_typed.specs.declared.types.Type.{«Type»}
+use Rattle.rgo_typing_expressions.specs.declared.errors.TypeError.{TypeError}
+use Rattle.rgo_typing_expressions.specs.Sites.{first_fault}
+use Rattle.rgo_typing_expressions.specs.Scopes.{Scope, with_local}
+use Rattle.rgo_typing_expressions.specs.Judges.{Fails}
 use Rattle.rgo_types.specs.Statements.{declared_site, name_sites, with_locals}
 use Rattle.std.proofs.lemmas.List.{append_assoc, length-append}
 use Rattle.rgo_typed.specs.Tree.{Stmt, Zero}
@@ -13,10 +13,10 @@ use Rattle.rgo_types.specs.Bodies.{zeros}
 use Rattle.rgo_types.proofs.Failing.{fails_more, passes}
 use Rattle.rgo_types.proofs.Lists.{opened}
 
-pub zero_is : {m n at : ℕ} {t k : Ty} → t ≡ k → m ≡ n → Zero m t at ≡ Zero n k at
+pub zero_is : {m n at : ℕ} {t k : «Type»} → t ≡ k → m ≡ n → Zero m t at ≡ Zero n k at
 zero_is {m} {n} {at} {t} {k} p q = λ i. Zero (q i) (p i) at
 
-module _ (k : Ty) (g : Scope) (names : List Ident) (i : ℕ) (x : Ident) (p : x ≡ get_or names i x) (h : i < length names) where
+module _ (k : «Type») (g : Scope) (names : List Ident) (i : ℕ) (x : Ident) (p : x ≡ get_or names i x) (h : i < length names) where
   pub names_fail : (e : TypeError) → Fails e (first_fault (declared_site g x ∷ [])) → Fails e (first_fault (name_sites k g (drop i names)))
   names_fail e f =
       subst (λ l. Fails e (first_fault (name_sites k g l))) (sym (opened names i x p h))

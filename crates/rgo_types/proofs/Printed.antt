@@ -8,7 +8,7 @@ use Rattle.rgo_typed.specs.Tree.{Term, Terms, no_terms, a_term, terms_of}
 use Rattle.rgo_typed.specs.Views.{term_of}
 use Rattle.rgo_typed.specs.declared.terms.Term.{Term as CodeTerm}
 use Rattle.rgo_typed.specs.declared.statements.Piece.{Piece}
-use Rattle.rgo_expressions.specs.Callees.{bare}
+use Rattle.rgo_typing_expressions.specs.Callees.{bare}
 use Rattle.rgo_types.specs.Bodies.{pieces_of, piece_of, printed_terms, is_text, kept, unless_text}
 use Rattle.rgo_types.proofs.Lists.{opened}
 

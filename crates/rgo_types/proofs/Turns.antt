@@ -1,8 +1,8 @@
 -- One turn of a loop that judges the items of a list one after the other, each by its view.
 use Rattle.std.proofs.Common.{◌≡◌, ℕ, ◌+◌, ◌<◌, List, ◌∷◌, ◌++◌, length, drop, map, get_or, None, ap, ◌∙◌, sym, subst}
-use Rattle.rgo_expressions.specs.declared.errors.TypeError.{TypeError}
-use Rattle.rgo_expressions.specs.Sites.{Site, first_fault}
-use Rattle.rgo_expressions.specs.Judges.{Fails}
+use Rattle.rgo_typing_expressions.specs.declared.errors.TypeError.{TypeError}
+use Rattle.rgo_typing_expressions.specs.Sites.{Site, first_fault}
+use Rattle.rgo_typing_expressions.specs.Judges.{Fails}
 use Rattle.rgo_types.proofs.Failing.{fails_more, passes}
 use Rattle.rgo_types.proofs.Lists.{opened_map}
 

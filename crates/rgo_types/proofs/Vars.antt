@@ -4,10 +4,10 @@ use Rattle.std.proofs.lemmas.List.{append_assoc}
 use Rattle.rgo_ast.specs.declared.statements.LocalVar.{LocalVar}
 use Rattle.rgo_ast.specs.Views.{local_var_of}
 use Rattle.rgo_typed.specs.Tree.{Stmt}
-use Rattle.rgo_expressions.specs.declared.errors.TypeError.{TypeError}
-use Rattle.rgo_expressions.specs.Sites.{first_fault}
-use Rattle.rgo_expressions.specs.Scopes.{Package, Scope}
-use Rattle.rgo_expressions.specs.Judges.{Fails}
+use Rattle.rgo_typing_expressions.specs.declared.errors.TypeError.{TypeError}
+use Rattle.rgo_typing_expressions.specs.Sites.{first_fault}
+use Rattle.rgo_typing_expressions.specs.Scopes.{Package, Scope}
+use Rattle.rgo_typing_expressions.specs.Judges.{Fails}
 use Rattle.rgo_types.specs.Bodies.{var_stmts, vars_stmts}
 use Rattle.rgo_types.specs.Statements.{var_sites, vars_sites, after_var, after_vars}
 use Rattle.rgo_types.proofs.Failing.{fails_more, passes}

@@ -9,17 +9,17 @@ use Rattle.rgo_typed.specs.declared.actions.Action.{Action}
 use Rattle.rgo_typed.specs.declared.actions.Action.TheVariants as action
 use Rattle.rgo_typed.specs.declared.statements.Piece.{Piece}
 use Rattle.rgo_typed.specs.declared.statements.Piece.TheVariants as piece
-use Rattle.rgo_typed.specs.declared.types.Ty.{Ty}
+use Rattle.rgo_typed.specs.declared.types.Type.{«Type»}
 use Rattle.rgo_typed.specs.Tree as typed
 use Rattle.rgo_typed.specs.Tree.{Term, Terms, Stmt, stmts_of, no_terms, a_term}
-use Rattle.rgo_expressions.specs.declared.callees.Callee.{Callee}
-use Rattle.rgo_expressions.specs.declared.callees.Callee.TheVariants as callee
-use Rattle.rgo_expressions.specs.Scopes.{Package, Scope, with_local, inside, int, resolved, signature_at, meaning_of}
-use Rattle.rgo_expressions.specs.Callees.{callee_of, named_callee, bare}
-use Rattle.rgo_expressions.specs.Types.{type_of, call_shape}
-use Rattle.rgo_rules.specs.Shapes as shape
-use Rattle.rgo_rules.specs.Shapes.{Shape}
-use Rattle.rgo_expressions.specs.Terms.{term_of, all_terms, wanted_of, constant, with_type, type_in, element_type, two, call_term}
+use Rattle.rgo_typing_expressions.specs.declared.callees.Callee.{Callee}
+use Rattle.rgo_typing_expressions.specs.declared.callees.Callee.TheVariants as callee
+use Rattle.rgo_typing_expressions.specs.Scopes.{Package, Scope, with_local, inside, int, resolved, signature_at, meaning_of}
+use Rattle.rgo_typing_expressions.specs.Callees.{callee_of, named_callee, bare}
+use Rattle.rgo_typing_expressions.specs.Types.{type_of, call_shape}
+use Rattle.rgo_typing_rules.specs.Shapes as shape
+use Rattle.rgo_typing_rules.specs.Shapes.{Shape}
+use Rattle.rgo_typing_expressions.specs.Terms.{term_of, all_terms, wanted_of, constant, with_type, type_in, element_type, two, call_term}
 use Rattle.rgo_types.specs.Statements.{Inside, in_a_loop, declared_type, after_var, after, after_block, header, after_clause}
 use Rattle.rgo_types.specs.Statements.{assign_op, step_op}
 
@@ -93,7 +93,7 @@ stored (typed.Local n) value at = typed.Assign n value at
 stored (typed.Apply read parts ty read_at) value at = stored_by (write_of read) parts value at
 stored _ value at = typed.Discard value
 
-abbrev pub changed_by : Option Action → Action → Terms → Ty → ℕ → BinaryOp → Term → ℕ → Stmt
+abbrev pub changed_by : Option Action → Action → Terms → «Type» → ℕ → BinaryOp → Term → ℕ → Stmt
 changed_by None read parts ty read_at op value at = typed.Discard value
 changed_by (Some write) read parts ty read_at op value at = typed.Update (record {
   operands = parts;
@@ -118,11 +118,11 @@ assign_stmt p g None a b at = stored (term_of p g a) (with_type (type_in (type_o
 assign_stmt p g (Some op) a b at = changed op (term_of p g a) (term_of p g b) at
 
 -- a variable begins with a value
-abbrev pub declare : Package → Scope → Ty → Expr → ℕ → Stmt
+abbrev pub declare : Package → Scope → «Type» → Expr → ℕ → Stmt
 declare p g ty e at = typed.Declare (length g.types) ty (with_type ty (term_of p g e)) at
 
 -- variables begin with the zero of their type, at their names
-abbrev pub zeros : ℕ → Ty → List Ident → List Stmt
+abbrev pub zeros : ℕ → «Type» → List Ident → List Stmt
 zeros n ty [] = []
 zeros n ty (x ∷ l) = typed.Zero n ty x.at ∷ zeros (n + 1) ty l
 
@@ -142,7 +142,7 @@ go_stmt _ ts at = typed.Go 0 ts at
 abbrev pub judged_go : Package → Scope → Callee → Exprs → ℕ → Stmt
 judged_go p g c args at = go_stmt c (all_terms p g (wanted_of p c) args) at
 
-abbrev pub with_result : Option Ty → Term → Term
+abbrev pub with_result : Option «Type» → Term → Term
 with_result None t = t
 with_result (Some ty) t = with_type ty t
 

@@ -5,18 +5,18 @@ use Rattle.rgo_ast.specs.Tree as tree
 use Rattle.rgo_ast.specs.Tree.{Decl, TypeSpec, Binding, Import, Program, stmts_of}
 use Rattle.rgo_ast.specs.declared.names.Ident.{Ident}
 use Rattle.rgo_ast.specs.declared.names.ImportPath.{ImportPath}
-use Rattle.rgo_typed.specs.declared.types.Ty.{Ty}
+use Rattle.rgo_typed.specs.declared.types.Type.{«Type»}
 use Rattle.rgo_typed.specs.declared.programs.Struct.{Struct}
 use Rattle.rgo_typed.specs.declared.programs.Variable.{Variable}
 use Rattle.rgo_typed.specs.Tree.{Function, Typed}
-use Rattle.rgo_rules.specs.Nodes as node
-use Rattle.rgo_rules.specs.declared.meanings.Meaning.{Meaning}
-use Rattle.rgo_rules.specs.declared.meanings.Meaning.TheVariants as meaning
-use Rattle.rgo_rules.specs.Meanings.{Signature}
+use Rattle.rgo_typing_rules.specs.Nodes as node
+use Rattle.rgo_typing_rules.specs.declared.meanings.Meaning.{Meaning}
+use Rattle.rgo_typing_rules.specs.declared.meanings.Meaning.TheVariants as meaning
+use Rattle.rgo_typing_rules.specs.Meanings.{Signature}
 use Rattle.rgo_scopes.specs.Blocks.{Blocks, no_names, declared, found}
-use Rattle.rgo_expressions.specs.Sites.{Site}
-use Rattle.rgo_expressions.specs.Scopes.{Package, Scope, Fields, no_locals, int, resolved, signature_at, with_local}
-use Rattle.rgo_expressions.specs.Judging.{ty_sites}
+use Rattle.rgo_typing_expressions.specs.Sites.{Site}
+use Rattle.rgo_typing_expressions.specs.Scopes.{Package, Scope, Fields, no_locals, int, resolved, signature_at, with_local}
+use Rattle.rgo_typing_expressions.specs.Judging.{type_expr_sites}
 use Rattle.rgo_types.specs.Statements.{Inside, declared_site, name_sites, with_locals, binding_sites, with_binding}
 use Rattle.rgo_types.specs.Statements.{all_sites, after_all, ends}
 use Rattle.rgo_types.specs.Bodies.{typed_all}
@@ -143,15 +143,15 @@ seen_types g (t ∷ l) = seen_types (seen g t.name) l
 
 abbrev pub vars_sites : Package → Scope → List Binding → List Site
 vars_sites p g [] = []
-vars_sites p g (b ∷ l) = (name_sites int g b.names ++ ty_sites p no_locals b.ty) ++ vars_sites p (with_locals int g b.names) l
+vars_sites p g (b ∷ l) = (name_sites int g b.names ++ type_expr_sites p no_locals b.ty) ++ vars_sites p (with_locals int g b.names) l
 
 abbrev pub seen_vars : Scope → List Binding → Scope
 seen_vars g [] = g
 seen_vars g (b ∷ l) = seen_vars (with_locals int g b.names) l
 
-abbrev pub result_sites : Package → Option tree.Ty → List Site
+abbrev pub result_sites : Package → Option tree.TypeExpr → List Site
 result_sites p None = []
-result_sites p (Some ty) = ty_sites p no_locals ty
+result_sites p (Some ty) = type_expr_sites p no_locals ty
 
 abbrev pub decl_sites : Package → Scope → Decl → List Site
 decl_sites p g (tree.Types types at) = type_sites p g types
@@ -173,7 +173,7 @@ decls_sites p g (d ∷ l) = decl_sites p g d ++ decls_sites p (seen_decl g d) l
 -- stand in typed trees
 pub record Signatures : Type 0 where
   pub structs : List Fields
-  pub variables : List Ty
+  pub variables : List «Type»
   pub functions : List Signature
   pub typed_structs : List Struct
   pub typed_variables : List Variable
@@ -197,7 +197,7 @@ abbrev pub with_types : Package → Signatures → List TypeSpec → Signatures
 with_types p s [] = s
 with_types p s (t ∷ l) = with_types p (with_type_spec p s t) l
 
-abbrev pub with_name : Signatures → Ty → Ident → Signatures
+abbrev pub with_name : Signatures → «Type» → Ident → Signatures
 with_name s ty x = record {
   structs = s.structs;
   variables = s.variables ++ ty ∷ [];
@@ -206,7 +206,7 @@ with_name s ty x = record {
   typed_variables = s.typed_variables ++ record { name = x.name; ty = ty } ∷ [];
 }
 
-abbrev pub with_names : Signatures → Ty → List Ident → Signatures
+abbrev pub with_names : Signatures → «Type» → List Ident → Signatures
 with_names s ty [] = s
 with_names s ty (x ∷ l) = with_names (with_name s ty x) ty l
 
@@ -214,7 +214,7 @@ abbrev pub with_vars : Package → Signatures → List Binding → Signatures
 with_vars p s [] = s
 with_vars p s (b ∷ l) = with_vars p (with_names s (resolved p no_locals b.ty) b.names) l
 
-abbrev pub result_of : Package → Option tree.Ty → Option Ty
+abbrev pub result_of : Package → Option tree.TypeExpr → Option «Type»
 result_of p None = None
 result_of p (Some ty) = Some (resolved p no_locals ty)
 
@@ -255,7 +255,7 @@ whole_package p s = record {
 abbrev pub package_of : Program → Package
 package_of program = whole_package (named_package program) (signatures_in program)
 
-abbrev pub are_none : List Ty → Option Ty → Bool
+abbrev pub are_none : List «Type» → Option «Type» → Bool
 are_none [] None = true
 are_none _ _ = false
 

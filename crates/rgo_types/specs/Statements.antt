@@ -10,24 +10,24 @@ use Rattle.rgo_ast.specs.declared.ops.StepOp.{StepOp}
 use Rattle.rgo_ast.specs.declared.ops.StepOp.TheVariants as step
 use Rattle.rgo_ast.specs.declared.ops.BinaryOp.{BinaryOp}
 use Rattle.rgo_ast.specs.declared.ops.BinaryOp.TheVariants as binary
-use Rattle.rgo_typed.specs.declared.types.Ty.{Ty}
-use Rattle.rgo_rules.specs.declared.roles.Role.TheVariants as role
-use Rattle.rgo_rules.specs.Nodes as node
-use Rattle.rgo_rules.specs.Shapes as shape
-use Rattle.rgo_rules.specs.Shapes.{Shape}
+use Rattle.rgo_typed.specs.declared.types.Type.{«Type»}
+use Rattle.rgo_typing_rules.specs.declared.roles.Role.TheVariants as role
+use Rattle.rgo_typing_rules.specs.Nodes as node
+use Rattle.rgo_typing_rules.specs.Shapes as shape
+use Rattle.rgo_typing_rules.specs.Shapes.{Shape}
 use Rattle.rgo_scopes.specs.Blocks.{found_in}
-use Rattle.rgo_expressions.specs.Sites.{Site}
-use Rattle.rgo_expressions.specs.Scopes.{Package, Scope, with_local, inside, outside, int, resolved, signature_at, meaning_of}
-use Rattle.rgo_expressions.specs.declared.callees.Callee.{Callee}
-use Rattle.rgo_expressions.specs.declared.callees.Callee.TheVariants as callee
-use Rattle.rgo_expressions.specs.Callees.{named_callee, bare, may_stand, is_place}
-use Rattle.rgo_expressions.specs.Types.{type_of, types_of}
-use Rattle.rgo_expressions.specs.Terms.{type_in}
-use Rattle.rgo_expressions.specs.Judging.{ty_sites, nodes, all_nodes}
+use Rattle.rgo_typing_expressions.specs.Sites.{Site}
+use Rattle.rgo_typing_expressions.specs.Scopes.{Package, Scope, with_local, inside, outside, int, resolved, signature_at, meaning_of}
+use Rattle.rgo_typing_expressions.specs.declared.callees.Callee.{Callee}
+use Rattle.rgo_typing_expressions.specs.declared.callees.Callee.TheVariants as callee
+use Rattle.rgo_typing_expressions.specs.Callees.{named_callee, bare, may_stand, is_place}
+use Rattle.rgo_typing_expressions.specs.Types.{type_of, types_of}
+use Rattle.rgo_typing_expressions.specs.Terms.{type_in}
+use Rattle.rgo_typing_expressions.specs.Judging.{type_expr_sites, nodes, all_nodes}
 
 -- what a statement stands in: the result of its function, and whether a `for` is round it
 pub record Inside : Type 0 where
-  pub result_type : Option Ty
+  pub result_type : Option «Type»
   pub in_loop : Bool
 
 abbrev pub in_a_loop : Inside → Inside
@@ -38,21 +38,21 @@ abbrev pub declared_site : Scope → Ident → Site
 declared_site g x = (x.at, node.Declared (is_some (found_in x.name g.locals.here)) x.name)
 
 -- names that are declared one after the other with this type
-abbrev pub name_sites : Ty → Scope → List Ident → List Site
+abbrev pub name_sites : «Type» → Scope → List Ident → List Site
 name_sites ty g [] = []
 name_sites ty g (x ∷ l) = declared_site g x ∷ name_sites ty (with_local x.name ty g) l
 
-abbrev pub with_locals : Ty → Scope → List Ident → Scope
+abbrev pub with_locals : «Type» → Scope → List Ident → Scope
 with_locals ty g [] = g
 with_locals ty g (x ∷ l) = with_locals ty (with_local x.name ty g) l
 
 -- the type that a variable has of its value
-abbrev pub declared_type : Package → Scope → Expr → Ty
+abbrev pub declared_type : Package → Scope → Expr → «Type»
 declared_type p g e = type_in (type_of p g e)
 
 -- names with one type, which is written where h holds: first the names, then the type
 abbrev pub binding_sites : Package → Scope → Scope → Binding → List Site
-binding_sites p h g b = name_sites (resolved p h b.ty) g b.names ++ ty_sites p h b.ty
+binding_sites p h g b = name_sites (resolved p h b.ty) g b.names ++ type_expr_sites p h b.ty
 
 abbrev pub with_binding : Package → Scope → Scope → Binding → Scope
 with_binding p h g b = with_locals (resolved p h b.ty) g b.names
@@ -61,7 +61,7 @@ with_binding p h g b = with_locals (resolved p h b.ty) g b.names
 abbrev pub var_sites : Package → Scope → LocalVar → List Site
 var_sites p g (tree.Zero b) = binding_sites p g g b
 var_sites p g (tree.Typed x ty e at) =
-    ty_sites p g ty ++ (nodes p g role.Value e
+    type_expr_sites p g ty ++ (nodes p g role.Value e
     ++ declared_site g x ∷ (at, node.DefineAs (resolved p g ty) (type_of p g e)) ∷ [])
 var_sites p g (tree.Inferred x e at) =
     nodes p g role.Value e ++ declared_site g x ∷ (at, node.Define (type_of p g e)) ∷ []

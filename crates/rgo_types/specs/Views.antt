@@ -1,23 +1,23 @@
 -- The views: of what the code knows of a statement's surroundings and of a condition, the plain data of it.
 use Rattle.std.specs.Prelude.{map, ◌≡◌, ℕ, List, [], ◌∷◌, Option, Some, None}
 use Rattle.rgo_ast.specs.Tree.{Expr}
-use Rattle.rgo_rules.specs.Nodes as node
-use Rattle.rgo_rules.specs.Views.{shape_of, optional_kind_of}
+use Rattle.rgo_typing_rules.specs.Nodes as node
+use Rattle.rgo_typing_rules.specs.Views.{shape_of, optional_kind_of}
 use Rattle.rgo_typed.specs.Tree.{Term}
 use Rattle.rgo_typed.specs.Views.{term_of}
-use Rattle.rgo_expressions.specs.declared.judged.Judged.{Judged}
-use Rattle.rgo_expressions.specs.Scopes.{Package, Scope}
-use Rattle.rgo_expressions.specs.Sites.{Site}
-use Rattle.rgo_expressions.specs.Tells.{Tells}
-use Rattle.rgo_expressions.specs.Terms as terms
-use Rattle.rgo_expressions.specs.Types.{type_of}
+use Rattle.rgo_typing_expressions.specs.declared.judged.Judged.{Judged}
+use Rattle.rgo_typing_expressions.specs.Scopes.{Package, Scope}
+use Rattle.rgo_typing_expressions.specs.Sites.{Site}
+use Rattle.rgo_typing_expressions.specs.Tells.{Tells}
+use Rattle.rgo_typing_expressions.specs.Terms as terms
+use Rattle.rgo_typing_expressions.specs.Types.{type_of}
 use Rattle.rgo_types.specs.declared.statements.Inside.{Inside as CodeInside}
 use Rattle.rgo_types.specs.Statements.{Inside}
 use Rattle.rgo_ast.specs.Tree as tree
-use Rattle.rgo_ast.specs.Views.{ty_of}
-use Rattle.rgo_ast.specs.declared.types.Ty.{Ty as Spelling}
-use Rattle.rgo_rules.specs.Views.{kind_of, signature_of}
-use Rattle.rgo_expressions.specs.Views.{fields_of}
+use Rattle.rgo_ast.specs.Views.{type_expr_of}
+use Rattle.rgo_ast.specs.declared.types.TypeExpr.{TypeExpr}
+use Rattle.rgo_typing_rules.specs.Views.{kind_of, signature_of}
+use Rattle.rgo_typing_expressions.specs.Views.{fields_of}
 use Rattle.rgo_types.specs.declared.numbering.Numbering.{Numbering as CodeNumbering}
 use Rattle.rgo_types.specs.declared.signatures.Signatures.{Signatures as CodeSignatures}
 use Rattle.rgo_types.specs.Programs.{Numbering, Signatures}
@@ -57,6 +57,6 @@ signatures_of s = record {
 }
 
 -- a type that may be left out
-abbrev pub optional_ty_of : Option Spelling → Option tree.Ty
-optional_ty_of None = None
-optional_ty_of (Some ty) = Some (ty_of ty)
+abbrev pub optional_type_expr_of : Option TypeExpr → Option tree.TypeExpr
+optional_type_expr_of None = None
+optional_type_expr_of (Some ty) = Some (type_expr_of ty)

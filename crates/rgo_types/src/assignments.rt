@@ -8,8 +8,8 @@ ghost use Rattle.rgo_types.specs.Bodies as spec;
 ghost use Rattle.rgo_types.specs.Statements as statements;
 
 use rgo_ast::{AssignOp, BinaryOp, Place, StepOp};
-use rgo_expressions::{apply_two, plain};
-use rgo_typed::{Action, Base, Stmt, Term, Ty};
+use rgo_typing_expressions::{apply_two, plain};
+use rgo_typed::{Action, Base, Stmt, Term, Type};
 use std::alloc::{AllocError, Global};
 
 /// The operator of an assignment that computes first.

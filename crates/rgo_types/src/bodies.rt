@@ -1,12 +1,12 @@
 //! Bodies of functions.
-#![tactic(auto, using(rgo_ast::proofs::Rows::rows, rgo_typed::proofs::Rows::rows, rgo_expressions::proofs::Faults::faults))]
+#![tactic(auto, using(rgo_ast::proofs::Rows::rows, rgo_typed::proofs::Rows::rows, rgo_typing_expressions::proofs::Faults::faults))]
 
 ghost use Rattle.std.specs.Prelude.{◌≡◌, ◌++◌, IfOk, OnOk, map};
 ghost use Rattle.rgo_ast.specs.Views.{decl_of, function_of};
-ghost use Rattle.rgo_rules.specs.Views.{optional_kind_of};
+ghost use Rattle.rgo_typing_rules.specs.Views.{optional_kind_of};
 ghost use Rattle.rgo_typed.specs.Views as typed;
-ghost use Rattle.rgo_expressions.specs.Judges.{Judges};
-ghost use Rattle.rgo_expressions.specs.Views.{package_of};
+ghost use Rattle.rgo_typing_expressions.specs.Judges.{Judges};
+ghost use Rattle.rgo_typing_expressions.specs.Views.{package_of};
 ghost use Rattle.rgo_types.specs.Programs as spec;
 
 use crate::flow::ends;
@@ -14,17 +14,17 @@ use crate::locals::bound;
 use crate::signatures::{copied, result_kind, types};
 use crate::statements::{Inside, judge_stmts};
 use rgo_ast::{Decl, Function as Source};
-use rgo_expressions::{Package, Scope, TypeError, judge};
-use rgo_rules::{Kind, Node};
-use rgo_typed::{Function, Ty};
+use rgo_typing_expressions::{Package, Scope, TypeError, judge};
+use rgo_typing_rules::{Kind, Node};
+use rgo_typed::{Function, Type};
 use std::alloc::{AllocError, Global};
 
-fn optional_type(alloc: Global, kind: Option<Kind<'_>>) -> Result<Option<Ty>, AllocError>
+fn optional_type(alloc: Global, kind: Option<Kind<'_>>) -> Result<Option<Type>, AllocError>
     ensures { IfOk result (λ ty. ty ≡ optional_kind_of kind.entry) }
 {
     match kind {
         None => Ok(None),
-        Some(kind) => Ok(Some(kind.to_ty(alloc)?)),
+        Some(kind) => Ok(Some(kind.to_type(alloc)?)),
     }
 }
 

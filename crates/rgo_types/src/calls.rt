@@ -1,32 +1,32 @@
 //! Calls as statements.
-#![tactic(auto, using(rgo_ast::proofs::Rows::rows, rgo_typed::proofs::Rows::rows, rgo_expressions::proofs::Faults::faults))]
+#![tactic(auto, using(rgo_ast::proofs::Rows::rows, rgo_typed::proofs::Rows::rows, rgo_typing_expressions::proofs::Faults::faults))]
 
 ghost use Rattle.std.specs.Prelude.{◌≡◌, [], ◌∷◌, ◌++◌, IfOk, map};
 ghost use Rattle.rgo_ast.specs.Places.{place_of};
 ghost use Rattle.rgo_ast.specs.Tree as ast;
 ghost use Rattle.rgo_ast.specs.Views.{expr_of};
-ghost use Rattle.rgo_rules.specs.Nodes as node;
-ghost use Rattle.rgo_rules.specs.Views.{shape_of};
-ghost use Rattle.rgo_rules.specs.declared.roles.Role.TheVariants.{Alone, Value};
+ghost use Rattle.rgo_typing_rules.specs.Nodes as node;
+ghost use Rattle.rgo_typing_rules.specs.Views.{shape_of};
+ghost use Rattle.rgo_typing_rules.specs.declared.roles.Role.TheVariants.{Alone, Value};
 ghost use Rattle.rgo_typed.specs.Tree as tree;
 ghost use Rattle.rgo_typed.specs.Views.{stmt_of, term_of};
-ghost use Rattle.rgo_expressions.specs.Callees as callees;
-ghost use Rattle.rgo_expressions.specs.Judges.{Judges};
-ghost use Rattle.rgo_expressions.specs.Judging.{nodes, all_nodes, call_place, call_node};
-ghost use Rattle.rgo_expressions.specs.Scopes.{meaning_of, signature_at};
-ghost use Rattle.rgo_expressions.specs.Terms as terms;
-ghost use Rattle.rgo_expressions.specs.Types.{types_of};
-ghost use Rattle.rgo_expressions.specs.Views.{package_of, scope_of};
+ghost use Rattle.rgo_typing_expressions.specs.Callees as callees;
+ghost use Rattle.rgo_typing_expressions.specs.Judges.{Judges};
+ghost use Rattle.rgo_typing_expressions.specs.Judging.{nodes, all_nodes, call_place, call_node};
+ghost use Rattle.rgo_typing_expressions.specs.Scopes.{meaning_of, signature_at};
+ghost use Rattle.rgo_typing_expressions.specs.Terms as terms;
+ghost use Rattle.rgo_typing_expressions.specs.Types.{types_of};
+ghost use Rattle.rgo_typing_expressions.specs.Views.{package_of, scope_of};
 ghost use Rattle.rgo_types.specs.Bodies as spec;
 ghost use Rattle.rgo_types.specs.Statements.{go_site};
 
 use crate::prints::print;
 use rgo_ast::{Expr, Ident, Place};
-use rgo_expressions::{
+use rgo_typing_expressions::{
     Callee, Judged, Package, Scope, TypeError, Values, args_role, bare, call, judge, judge_all,
     judge_callee, judge_expr, may_stand, meaning, named_callee, params_of, resolve_callee,
 };
-use rgo_rules::{Node, Role, Shape, Signature};
+use rgo_typing_rules::{Node, Role, Shape, Signature};
 use rgo_typed::{Action, Stmt, Term};
 use std::alloc::{AllocError, Global};
 

@@ -1,19 +1,19 @@
 //! Whole programs.
-#![tactic(auto, using(rgo_ast::proofs::Rows::rows, rgo_typed::proofs::Rows::rows, rgo_expressions::proofs::Faults::faults))]
+#![tactic(auto, using(rgo_ast::proofs::Rows::rows, rgo_typed::proofs::Rows::rows, rgo_typing_expressions::proofs::Faults::faults))]
 
 ghost use Rattle.std.specs.Prelude.{◌≡◌, IfOk};
 ghost use Rattle.rgo_ast.specs.Views.{program_of};
 ghost use Rattle.rgo_typed.specs.Views.{typed_of};
-ghost use Rattle.rgo_expressions.specs.Judges.{Judges};
-ghost use Rattle.rgo_expressions.specs.Views.{package_of};
+ghost use Rattle.rgo_typing_expressions.specs.Judges.{Judges};
+ghost use Rattle.rgo_typing_expressions.specs.Views.{package_of};
 ghost use Rattle.rgo_types.specs.Programs.{has_main, sites_of, typed_program};
 
 use crate::bodies::judge_bodies;
 use crate::numbering::number_decls;
 use crate::signatures::{judge_decls, judge_imports};
 use rgo_ast::Program;
-use rgo_expressions::{Package, TypeError, judge};
-use rgo_rules::{Meaning, Node};
+use rgo_typing_expressions::{Package, TypeError, judge};
+use rgo_typing_rules::{Meaning, Node};
 use rgo_typed::{Row, Typed};
 use std::alloc::Global;
 

@@ -15,4 +15,4 @@ mod statements;
 mod tests;
 
 pub use checking::check;
-pub use rgo_expressions::{TypeError, TypeRefusal};
+pub use rgo_typing_expressions::{TypeError, TypeRefusal};

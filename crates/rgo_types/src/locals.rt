@@ -1,28 +1,28 @@
 //! Declarations of names: local variables, parameters, fields.
-#![tactic(auto, using(rgo_ast::proofs::Rows::rows, rgo_typed::proofs::Rows::rows, rgo_expressions::proofs::Faults::faults))]
+#![tactic(auto, using(rgo_ast::proofs::Rows::rows, rgo_typed::proofs::Rows::rows, rgo_typing_expressions::proofs::Faults::faults))]
 
 ghost use Rattle.std.specs.Prelude.{◌≡◌, [], ◌∷◌, ◌++◌, OnOk, IfOk, map, length};
-ghost use Rattle.rgo_ast.specs.Views.{binding_of, local_var_of, expr_of, ty_of};
-ghost use Rattle.rgo_rules.specs.Nodes as node;
-ghost use Rattle.rgo_rules.specs.Views.{kind_of, shape_of};
-ghost use Rattle.rgo_rules.specs.declared.roles.Role.TheVariants.{Value};
+ghost use Rattle.rgo_ast.specs.Views.{binding_of, local_var_of, expr_of, type_expr_of};
+ghost use Rattle.rgo_typing_rules.specs.Nodes as node;
+ghost use Rattle.rgo_typing_rules.specs.Views.{kind_of, shape_of};
+ghost use Rattle.rgo_typing_rules.specs.declared.roles.Role.TheVariants.{Value};
 ghost use Rattle.rgo_typed.specs.Tree as tree;
 ghost use Rattle.rgo_typed.specs.Views.{stmt_of, term_of};
-ghost use Rattle.rgo_expressions.specs.Judges.{Judges};
-ghost use Rattle.rgo_expressions.specs.Judging.{nodes};
-ghost use Rattle.rgo_expressions.specs.Scopes.{with_local, resolved, no_locals};
-ghost use Rattle.rgo_expressions.specs.Terms as terms;
-ghost use Rattle.rgo_expressions.specs.Types.{type_of};
-ghost use Rattle.rgo_expressions.specs.Views.{package_of, scope_of};
+ghost use Rattle.rgo_typing_expressions.specs.Judges.{Judges};
+ghost use Rattle.rgo_typing_expressions.specs.Judging.{nodes};
+ghost use Rattle.rgo_typing_expressions.specs.Scopes.{with_local, resolved, no_locals};
+ghost use Rattle.rgo_typing_expressions.specs.Terms as terms;
+ghost use Rattle.rgo_typing_expressions.specs.Types.{type_of};
+ghost use Rattle.rgo_typing_expressions.specs.Views.{package_of, scope_of};
 ghost use Rattle.rgo_types.specs.Bodies as bodies;
 ghost use Rattle.rgo_types.specs.Programs as programs;
 ghost use Rattle.rgo_types.specs.Statements as spec;
 
 use rgo_ast::{Binding, Expr, Ident, LocalVar, Place};
-use rgo_expressions::{
+use rgo_typing_expressions::{
     Judged, Package, Scope, TypeError, judge, judge_expr, judge_type, resolve, with_type,
 };
-use rgo_rules::{Kind, Node, Role, Shape};
+use rgo_typing_rules::{Kind, Node, Role, Shape};
 use rgo_typed::{Base, Stmt};
 use std::alloc::{AllocError, Global};
 
@@ -122,7 +122,7 @@ fn declare_zeros<'a>(
     for x in names {
         let number = scope.kinds.len();
         declare_name(scope, kind, x)?;
-        out.push(Stmt::Zero(number, kind.to_ty(alloc)?, x.at))?;
+        out.push(Stmt::Zero(number, kind.to_type(alloc)?, x.at))?;
     }
     Ok(())
 }
@@ -175,7 +175,7 @@ fn declare_value<'a>(
     let number = scope.kinds.len();
     declare_name(scope, kind, x)?;
     let value = with_type(alloc, kind, value.term)?;
-    let ty = kind.to_ty(alloc)?;
+    let ty = kind.to_type(alloc)?;
     Ok(Stmt::Declare(number, ty, Box::new(alloc, value)?, at))
 }
 

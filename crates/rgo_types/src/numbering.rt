@@ -8,7 +8,7 @@ ghost use Rattle.rgo_types.specs.Programs.{first_meaning};
 ghost use Rattle.rgo_types.specs.Views.{numbering_of};
 
 use rgo_ast::{Binding, Decl, Function, Ident, TypeSpec};
-use rgo_rules::Meaning;
+use rgo_typing_rules::Meaning;
 use rgo_scopes::Scopes;
 use std::alloc::{AllocError, Global};
 

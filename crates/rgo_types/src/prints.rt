@@ -9,7 +9,7 @@ ghost use Rattle.rgo_typed.specs.Views.{term_of, stmt_of};
 ghost use Rattle.rgo_types.specs.Bodies as spec;
 
 use rgo_ast::{Expr, Name, Place};
-use rgo_expressions::bare;
+use rgo_typing_expressions::bare;
 use rgo_typed::{Piece, Row, Stmt, Term};
 use std::alloc::{AllocError, Global};
 

@@ -1,22 +1,22 @@
 //! Imports, and what the package declares: structs, package variables and signatures, judged in
 //! the order of the text.
-#![tactic(auto, using(rgo_ast::proofs::Rows::rows, rgo_typed::proofs::Rows::rows, rgo_expressions::proofs::Faults::faults))]
+#![tactic(auto, using(rgo_ast::proofs::Rows::rows, rgo_typed::proofs::Rows::rows, rgo_typing_expressions::proofs::Faults::faults))]
 
 ghost use Rattle.std.specs.Prelude.{◌≡◌, ◌++◌, [], ◌∷◌, false, OnOk, IfOk, map, bytes_eq, codes};
 ghost use Rattle.rgo_ast.specs.Tree.{Func};
-ghost use Rattle.rgo_ast.specs.Views.{binding_of, decl_of, function_of, import_of, type_spec_of, ty_of};
-ghost use Rattle.rgo_rules.specs.Views.{kind_of, optional_kind_of};
-ghost use Rattle.rgo_expressions.specs.Judges.{Judges};
-ghost use Rattle.rgo_expressions.specs.Scopes.{no_locals, resolved};
-ghost use Rattle.rgo_expressions.specs.Views.{package_of, scope_of};
+ghost use Rattle.rgo_ast.specs.Views.{binding_of, decl_of, function_of, import_of, type_spec_of, type_expr_of};
+ghost use Rattle.rgo_typing_rules.specs.Views.{kind_of, optional_kind_of};
+ghost use Rattle.rgo_typing_expressions.specs.Judges.{Judges};
+ghost use Rattle.rgo_typing_expressions.specs.Scopes.{no_locals, resolved};
+ghost use Rattle.rgo_typing_expressions.specs.Views.{package_of, scope_of};
 ghost use Rattle.rgo_types.specs.Programs as spec;
-ghost use Rattle.rgo_types.specs.Views.{signatures_of, optional_ty_of};
+ghost use Rattle.rgo_types.specs.Views.{signatures_of, optional_type_expr_of};
 
 use crate::locals::{bind, declare_name, declare_names};
-use rgo_ast::{Binding, Decl, Function, Ident, Import, ImportPath, Name, Ty as Spelling, TypeSpec};
-use rgo_expressions::{Fields, Package, Scope, TypeError, judge, judge_type, resolve};
-use rgo_rules::{Kind, Node, Signature};
-use rgo_typed::{Base, Row, Struct, Ty, Variable};
+use rgo_ast::{Binding, Decl, Function, Ident, Import, ImportPath, Name, TypeExpr, TypeSpec};
+use rgo_typing_expressions::{Fields, Package, Scope, TypeError, judge, judge_type, resolve};
+use rgo_typing_rules::{Kind, Node, Signature};
+use rgo_typed::{Base, Row, Struct, Type, Variable};
 use std::alloc::{AllocError, Global};
 
 fn is_fmt(path: &[u8]) -> bool
@@ -86,12 +86,12 @@ pub(crate) fn copied(alloc: Global, name: &Name) -> Result<Name, AllocError>
 }
 
 /// The types of these kinds.
-pub(crate) fn types(alloc: Global, kinds: &[Kind<'_>]) -> Result<Row<Ty>, AllocError>
+pub(crate) fn types(alloc: Global, kinds: &[Kind<'_>]) -> Result<Row<Type>, AllocError>
     ensures { IfOk result (λ row. row ≡ map kind_of kinds.now) }
 {
     let mut types = Vec::new(alloc);
     for kind in kinds {
-        types.push(kind.to_ty(alloc)?)?;
+        types.push(kind.to_type(alloc)?)?;
     }
     Ok(Row::new(types))
 }
@@ -100,9 +100,9 @@ pub(crate) fn types(alloc: Global, kinds: &[Kind<'_>]) -> Result<Row<Ty>, AllocE
 pub(crate) fn result_kind<'a>(
     globals: &Package<'_>,
     none: &Scope<'_>,
-    result_type: &'a Option<Spelling>,
+    result_type: &'a Option<TypeExpr>,
 ) -> Option<Kind<'a>>
-    ensures { scope_of none.now ≡ no_locals → optional_kind_of result ≡ spec.result_of (package_of globals.now) (optional_ty_of result_type.now) }
+    ensures { scope_of none.now ≡ no_locals → optional_kind_of result ≡ spec.result_of (package_of globals.now) (optional_type_expr_of result_type.now) }
 {
     match result_type {
         None => None,
@@ -164,7 +164,7 @@ impl<'a> Signatures<'a> {
     {
         for x in names {
             let name = copied(alloc, &x.name)?;
-            let ty = kind.to_ty(alloc)?;
+            let ty = kind.to_type(alloc)?;
             self.variables.push(kind)?;
             self.typed_variables.push(Variable { name, ty })?;
         }

@@ -1,23 +1,23 @@
 //! Statements: judged in the order of the text, and made typed trees.
-#![tactic(auto, using(rgo_ast::proofs::Rows::rows, rgo_typed::proofs::Rows::rows, rgo_expressions::proofs::Faults::faults))]
+#![tactic(auto, using(rgo_ast::proofs::Rows::rows, rgo_typed::proofs::Rows::rows, rgo_typing_expressions::proofs::Faults::faults))]
 
 ghost use Rattle.std.specs.Prelude.{◌≡◌, [], ◌∷◌, ◌++◌, IfOk, OnOk, map, pos, None};
 ghost use Rattle.rgo_ast.specs.Tree as ast;
 ghost use Rattle.rgo_ast.specs.Views.{expr_of, boxed_expr_of, boxed_stmt_of};
 ghost use Rattle.rgo_ast.specs.Views.{stmt_of as source_of};
-ghost use Rattle.rgo_rules.specs.Nodes as node;
-ghost use Rattle.rgo_rules.specs.Shapes as shape;
-ghost use Rattle.rgo_rules.specs.Views.{shape_of, kind_of, optional_kind_of};
-ghost use Rattle.rgo_rules.specs.declared.roles.Role.TheVariants.{Value, Target};
+ghost use Rattle.rgo_typing_rules.specs.Nodes as node;
+ghost use Rattle.rgo_typing_rules.specs.Shapes as shape;
+ghost use Rattle.rgo_typing_rules.specs.Views.{shape_of, kind_of, optional_kind_of};
+ghost use Rattle.rgo_typing_rules.specs.declared.roles.Role.TheVariants.{Value, Target};
 ghost use Rattle.rgo_typed.specs.Tree as tree;
 ghost use Rattle.rgo_typed.specs.Views.{stmt_of, term_of, boxed_term_of};
-ghost use Rattle.rgo_expressions.specs.Callees.{is_place};
-ghost use Rattle.rgo_expressions.specs.Judges.{Judges};
-ghost use Rattle.rgo_expressions.specs.Judging.{nodes};
-ghost use Rattle.rgo_expressions.specs.Scopes as scopes;
-ghost use Rattle.rgo_expressions.specs.Terms as terms;
-ghost use Rattle.rgo_expressions.specs.Types.{type_of};
-ghost use Rattle.rgo_expressions.specs.Views.{package_of, scope_of};
+ghost use Rattle.rgo_typing_expressions.specs.Callees.{is_place};
+ghost use Rattle.rgo_typing_expressions.specs.Judges.{Judges};
+ghost use Rattle.rgo_typing_expressions.specs.Judging.{nodes};
+ghost use Rattle.rgo_typing_expressions.specs.Scopes as scopes;
+ghost use Rattle.rgo_typing_expressions.specs.Terms as terms;
+ghost use Rattle.rgo_typing_expressions.specs.Types.{type_of};
+ghost use Rattle.rgo_typing_expressions.specs.Views.{package_of, scope_of};
 ghost use Rattle.rgo_types.specs.Bodies as bodies;
 ghost use Rattle.rgo_types.specs.Views.{inside_of, TellsTest, condition_of, told_term};
 ghost use Rattle.rgo_types.specs.Statements as spec;
@@ -26,10 +26,10 @@ use crate::assignments::{assign_op, changed, step_op, stored};
 use crate::calls::{judge_go, judge_plain};
 use crate::locals::{declare_vars, define};
 use rgo_ast::{AssignOp, Expr, Place, StepOp, Stmt as Source};
-use rgo_expressions::{
+use rgo_typing_expressions::{
     Judged, Package, Scope, TypeError, constant, is_place, judge, judge_expr, with_type,
 };
-use rgo_rules::{Kind, Node, Role, Shape};
+use rgo_typing_rules::{Kind, Node, Role, Shape};
 use rgo_typed::{Action, Base, Stmt, Term};
 use std::alloc::{AllocError, Global};
 

@@ -1,6 +1,6 @@
 -- The values at which variables, fields and elements start, by their types.
 use Rattle.std.specs.Prelude.{pos, false, List, [], ◌∷◌}
-use Rattle.rgo_typed.specs.declared.types.Ty.{Ty}
+use Rattle.rgo_typed.specs.declared.types.Type.{«Type»}
 use Rattle.rgo_typed.specs.declared.types.Layer.{Layer}
 use Rattle.rgo_typed.specs.declared.types.Base.{Base}
 use Rattle.rgo_typed.specs.declared.types.Base.TheVariants as base
@@ -17,7 +17,7 @@ abbrev pub zero_in : List Layer → Base → Value
 zero_in [] b = base_zero b
 zero_in (layer ∷ layers) b = Nil
 
-abbrev pub zero_of : Ty → Value
+abbrev pub zero_of : «Type» → Value
 zero_of ty = zero_in ty.layers ty.base
 
 -- of what is inside the first of these layers
@@ -26,5 +26,5 @@ element_zero_in [] b = Nil
 element_zero_in (layer ∷ layers) b = zero_in layers b
 
 -- of what a slice or a channel of the type holds
-abbrev pub element_zero : Ty → Value
+abbrev pub element_zero : «Type» → Value
 element_zero ty = element_zero_in ty.layers ty.base

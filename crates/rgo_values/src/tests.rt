@@ -2,7 +2,7 @@
 
 use crate::{Trap, Value, binary, element_zero, inverted, is_nil, negated, write_value, zero};
 use rgo_ast::BinaryOp;
-use rgo_typed::{Base, Layer, Row, Ty};
+use rgo_typed::{Base, Layer, Row, Type};
 use std::test::Fail;
 
 const LEAST: i64 = i64::MIN;
@@ -78,7 +78,7 @@ fn zeros_are_those_of_the_types(rt: HostRuntime) -> Result<(), Fail> {
     ];
     for (layers, base, of_type, of_element) in rows {
         let layers = Row::new(Vec::from_slice(rt.alloc(), layers)?);
-        let ty = Ty { layers, base };
+        let ty = Type { layers, base };
         assert_eq!(rt; zero(&ty), of_type);
         assert_eq!(rt; element_zero(&ty), of_element);
     }

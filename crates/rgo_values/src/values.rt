@@ -3,7 +3,7 @@
 ghost use Rattle.std.specs.Prelude.{◌≡◌};
 ghost use Rattle.rgo_values.specs.Values.{base_zero, zero_of, element_zero};
 
-use rgo_typed::{Base, Ty};
+use rgo_typed::{Base, Type};
 
 /// A value.
 #[derive(Clone, Copy, Debug, PartialEq, Eq)]
@@ -27,7 +27,7 @@ fn base_zero(base: Base) -> Value
 
 /// The value at which a variable of this type starts (The Go Programming Language Specification,
 /// "The zero value").
-pub fn zero(ty: &Ty) -> Value
+pub fn zero(ty: &Type) -> Value
     ensures { result ≡ zero_of ty.now }
 {
     if ty.layers.items().is_empty() {
@@ -39,7 +39,7 @@ pub fn zero(ty: &Ty) -> Value
 
 /// The value at which an element of a slice of this type starts, and what a closed channel of this
 /// type gives. `nil` at a type that has no elements.
-pub fn element_zero(ty: &Ty) -> Value
+pub fn element_zero(ty: &Type) -> Value
     ensures { result ≡ element_zero ty.now }
 {
     if ty.layers.items().len() == 1 {

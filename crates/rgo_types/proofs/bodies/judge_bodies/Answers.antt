@@ -2,9 +2,9 @@
 use Rattle.std.proofs.Common.{◌≡◌, ◌+◌, ◌++◌, ◌∙◌, drop, map, refl, sym, subst, arith, rules}
 use Rattle.std.proofs.lemmas.List.{append_assoc}
 use Rattle.rgo_ast.specs.Views.{decl_of}
-use Rattle.rgo_expressions.specs.Judges.{Fails}
-use Rattle.rgo_expressions.specs.Sites.{first_fault}
-use Rattle.rgo_expressions.specs.Views.{package_of}
+use Rattle.rgo_typing_expressions.specs.Judges.{Fails}
+use Rattle.rgo_typing_expressions.specs.Sites.{first_fault}
+use Rattle.rgo_typing_expressions.specs.Views.{package_of}
 use Rattle.rgo_typed.specs.Views.{function_of}
 use Rattle.rgo_types.specs.Programs.{body_of_decl, bodies_sites, typed_decl, typed_functions}
 use Rattle.rgo_types.proofs.Turns.{turn, turn_fails, turn_passes}

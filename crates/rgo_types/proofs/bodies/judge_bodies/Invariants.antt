@@ -1,6 +1,6 @@
 use Rattle.std.proofs.Common.{◌≡◌, ◌++◌, ◌+◌, map, drop, length}
-use Rattle.rgo_expressions.specs.Views.{package_of, scope_of}
-use Rattle.rgo_expressions.specs.Sites.{first_fault}
+use Rattle.rgo_typing_expressions.specs.Views.{package_of, scope_of}
+use Rattle.rgo_typing_expressions.specs.Sites.{first_fault}
 use Rattle.rgo_ast.specs.Views.{decl_of}
 use Rattle.rgo_typed.specs.Views.{function_of}
 use Rattle.rgo_types.specs.Programs.{bodies_sites, typed_functions}

@@ -1,6 +1,6 @@
 use Rattle.std.proofs.Common.{◌≡◌, ◌++◌, ◌+◌, map, drop, length}
-use Rattle.rgo_rules.specs.Views.{kind_of}
-use Rattle.rgo_expressions.specs.Views.{scope_of}
+use Rattle.rgo_typing_rules.specs.Views.{kind_of}
+use Rattle.rgo_typing_expressions.specs.Views.{scope_of}
 use Rattle.rgo_types.specs.Statements.{with_locals}
 use Rattle.rgo_types.proofs.locals.bind_names.Given as goal
 

@@ -1,7 +1,7 @@
 use Rattle.std.proofs.Common.{◌≡◌, ◌++◌, ◌+◌, map, drop, length}
-use Rattle.rgo_expressions.specs.Views.{package_of, scope_of}
+use Rattle.rgo_typing_expressions.specs.Views.{package_of, scope_of}
 use Rattle.rgo_ast.specs.Views.{binding_of}
-use Rattle.rgo_expressions.specs.Scopes.{no_locals}
+use Rattle.rgo_typing_expressions.specs.Scopes.{no_locals}
 use Rattle.rgo_types.specs.Programs.{bound}
 use Rattle.rgo_types.proofs.locals.bound.Given as goal
 

@@ -1,8 +1,8 @@
 use Rattle.std.proofs.Common.{◌≡◌, ◌∙◌, subst, arith, rules}
-use Rattle.rgo_rules.specs.Views.{kind_of}
-use Rattle.rgo_expressions.specs.Judges.{Fails}
-use Rattle.rgo_expressions.specs.Sites.{first_fault}
-use Rattle.rgo_expressions.specs.Views.{scope_of}
+use Rattle.rgo_typing_rules.specs.Views.{kind_of}
+use Rattle.rgo_typing_expressions.specs.Judges.{Fails}
+use Rattle.rgo_typing_expressions.specs.Sites.{first_fault}
+use Rattle.rgo_typing_expressions.specs.Views.{scope_of}
 use Rattle.rgo_types.specs.Statements.{name_sites}
 use Rattle.rgo_types.proofs.Names.{names_fail, names_pass, names_go_on}
 use Rattle.rgo_types.proofs.locals.declare_names.Goals as goal

@@ -1,9 +1,9 @@
 use Rattle.std.proofs.Common.{◌≡◌, ◌∙◌, map, subst, arith, rules}
 use Rattle.rgo_ast.specs.Views.{local_var_of}
 use Rattle.rgo_typed.specs.Views.{stmt_of}
-use Rattle.rgo_expressions.specs.Judges.{Fails}
-use Rattle.rgo_expressions.specs.Sites.{first_fault}
-use Rattle.rgo_expressions.specs.Views.{package_of, scope_of}
+use Rattle.rgo_typing_expressions.specs.Judges.{Fails}
+use Rattle.rgo_typing_expressions.specs.Sites.{first_fault}
+use Rattle.rgo_typing_expressions.specs.Views.{package_of, scope_of}
 use Rattle.rgo_types.specs.Statements.{vars_sites}
 use Rattle.rgo_types.proofs.Vars.{vars_fail, vars_pass, vars_go_on, vars_typed}
 use Rattle.rgo_types.proofs.locals.declare_vars.Goals as goal

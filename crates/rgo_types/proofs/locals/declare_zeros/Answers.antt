@@ -3,11 +3,11 @@ use Rattle.std.proofs.lemmas.List.{map-append, length-map}
 use Rattle.rgo_typed.specs.Tree as tree
 use Rattle.rgo_typed.specs.declared.statements.Stmt.{Zero}
 use Rattle.rgo_types.specs.Bodies.{zeros}
-use Rattle.rgo_rules.specs.Views.{kind_of}
+use Rattle.rgo_typing_rules.specs.Views.{kind_of}
 use Rattle.rgo_typed.specs.Views.{stmt_of}
-use Rattle.rgo_expressions.specs.Judges.{Fails}
-use Rattle.rgo_expressions.specs.Sites.{first_fault}
-use Rattle.rgo_expressions.specs.Views.{scope_of}
+use Rattle.rgo_typing_expressions.specs.Judges.{Fails}
+use Rattle.rgo_typing_expressions.specs.Sites.{first_fault}
+use Rattle.rgo_typing_expressions.specs.Views.{scope_of}
 use Rattle.rgo_types.specs.Statements.{name_sites}
 use Rattle.rgo_types.proofs.Names.{names_fail, names_pass, names_go_on, names_typed, zero_is}
 use Rattle.rgo_types.proofs.locals.declare_zeros.Goals as goal
@@ -33,10 +33,10 @@ loop-x-preserved c =
       names_go_on k g c.args.names.now c.loop-x.x-index c.x-item.result c.x-item.is (omega arith) ∙ c.loop-x.invariant.1,
       rw c.in_ok-push.ensures.items
           (ap (λ l. l ++ zeros (length (scope_of c.declare_name.new.scope).types) k (drop (c.loop-x.x-index + 1) c.args.names.now))
-          (map-append stmt_of c.loop-x.out.items (Zero c.len-number.result c.in_ok-to_ty.field-0 c.x-item.result.at ∷ []))
+          (map-append stmt_of c.loop-x.out.items (Zero c.len-number.result c.in_ok-to_type.field-0 c.x-item.result.at ∷ []))
           ∙ names_typed k g c.args.names.now c.loop-x.x-index c.x-item.result c.x-item.is (omega arith) o
-          (tree.Zero c.len-number.result c.in_ok-to_ty.field-0 c.x-item.result.at) (length (scope_of c.declare_name.new.scope).types)
-          (zero_is c.in_ok-to_ty.ensures (n ∙ sym (length-map c.loop-x.scope.kinds.items kind_of)))
+          (tree.Zero c.len-number.result c.in_ok-to_type.field-0 c.x-item.result.at) (length (scope_of c.declare_name.new.scope).types)
+          (zero_is c.in_ok-to_type.ensures (n ∙ sym (length-map c.loop-x.scope.kinds.items kind_of)))
           (ap (λ s. length s.types) c.in_ok-declare_name.ensures.scope)
           ∙ c.loop-x.invariant.2),
     )

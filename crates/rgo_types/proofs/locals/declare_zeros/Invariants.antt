@@ -1,7 +1,7 @@
 use Rattle.std.proofs.Common.{◌≡◌, ◌++◌, ◌+◌, map, drop, length}
-use Rattle.rgo_rules.specs.Views.{kind_of}
-use Rattle.rgo_expressions.specs.Views.{scope_of}
-use Rattle.rgo_expressions.specs.Sites.{first_fault}
+use Rattle.rgo_typing_rules.specs.Views.{kind_of}
+use Rattle.rgo_typing_expressions.specs.Views.{scope_of}
+use Rattle.rgo_typing_expressions.specs.Sites.{first_fault}
 use Rattle.rgo_typed.specs.Views.{stmt_of}
 use Rattle.rgo_types.specs.Bodies.{zeros}
 use Rattle.rgo_types.specs.Statements.{name_sites, with_locals}

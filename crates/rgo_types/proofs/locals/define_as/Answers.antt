@@ -1,13 +1,13 @@
 use Rattle.std.proofs.Common.{◌≡◌, ◌∷◌, ◌++◌, [], List, rules}
 use Rattle.rgo_ast.specs.Views.{expr_of}
-use Rattle.rgo_rules.specs.Nodes as node
-use Rattle.rgo_rules.specs.Views.{kind_of}
-use Rattle.rgo_rules.specs.declared.roles.Role.TheVariants.{Value}
-use Rattle.rgo_expressions.specs.Judges.{Fails}
-use Rattle.rgo_expressions.specs.Judging.{nodes}
-use Rattle.rgo_expressions.specs.Sites.{Site, first_fault}
-use Rattle.rgo_expressions.specs.Types.{type_of}
-use Rattle.rgo_expressions.specs.Views.{package_of, scope_of}
+use Rattle.rgo_typing_rules.specs.Nodes as node
+use Rattle.rgo_typing_rules.specs.Views.{kind_of}
+use Rattle.rgo_typing_rules.specs.declared.roles.Role.TheVariants.{Value}
+use Rattle.rgo_typing_expressions.specs.Judges.{Fails}
+use Rattle.rgo_typing_expressions.specs.Judging.{nodes}
+use Rattle.rgo_typing_expressions.specs.Sites.{Site, first_fault}
+use Rattle.rgo_typing_expressions.specs.Types.{type_of}
+use Rattle.rgo_typing_expressions.specs.Views.{package_of, scope_of}
 use Rattle.rgo_types.specs.Statements.{declared_site}
 use Rattle.rgo_types.proofs.Failing.{fails_more, fails_behind}
 use Rattle.rgo_types.proofs.locals.define_as.Goals as goal

@@ -6,7 +6,7 @@ use Rattle.rgo_ast.specs.Views.{expr_of}
 use Rattle.rgo_typed.specs.Tree.{no_terms, terms_of}
 use Rattle.rgo_typed.specs.Views.{term_of}
 use Rattle.rgo_types.specs.Bodies.{printed_terms, is_text, kept}
-use Rattle.rgo_expressions.specs.Callees.{bare}
+use Rattle.rgo_typing_expressions.specs.Callees.{bare}
 use Rattle.rgo_types.proofs.Printed.{terms_before, one_operand, printed_none, no_more, no_items, one_less}
 use Rattle.rgo_types.proofs.prints.values.Goals as goal
 

@@ -1,10 +1,10 @@
 -- Declarations: an error in one of them is the first error, and a turn passes over one of them.
 use Rattle.std.proofs.Common.{◌+◌, ◌∙◌, drop, map, refl, subst, arith, rules}
 use Rattle.rgo_ast.specs.Views.{decl_of}
-use Rattle.rgo_expressions.specs.Judges.{Fails}
-use Rattle.rgo_expressions.specs.Scopes.{no_locals}
-use Rattle.rgo_expressions.specs.Sites.{first_fault}
-use Rattle.rgo_expressions.specs.Views.{package_of, scope_of}
+use Rattle.rgo_typing_expressions.specs.Judges.{Fails}
+use Rattle.rgo_typing_expressions.specs.Scopes.{no_locals}
+use Rattle.rgo_typing_expressions.specs.Sites.{first_fault}
+use Rattle.rgo_typing_expressions.specs.Views.{package_of, scope_of}
 use Rattle.rgo_types.specs.Programs.{decl_sites, decls_sites, seen_decl, all_signatures}
 use Rattle.rgo_types.specs.Views.{signatures_of}
 use Rattle.rgo_types.proofs.Turns.{turn, turn_fails, turn_passes}

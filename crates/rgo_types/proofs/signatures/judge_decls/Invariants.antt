@@ -1,8 +1,8 @@
 use Rattle.std.proofs.Common.{◌≡◌, map, drop}
-use Rattle.rgo_expressions.specs.Views.{package_of, scope_of}
-use Rattle.rgo_expressions.specs.Sites.{first_fault}
+use Rattle.rgo_typing_expressions.specs.Views.{package_of, scope_of}
+use Rattle.rgo_typing_expressions.specs.Sites.{first_fault}
 use Rattle.rgo_ast.specs.Views.{decl_of}
-use Rattle.rgo_expressions.specs.Scopes.{no_locals}
+use Rattle.rgo_typing_expressions.specs.Scopes.{no_locals}
 use Rattle.rgo_types.specs.Programs.{decls_sites, all_signatures, no_signatures}
 use Rattle.rgo_types.specs.Views.{signatures_of}
 use Rattle.rgo_types.proofs.signatures.judge_decls.Given as goal

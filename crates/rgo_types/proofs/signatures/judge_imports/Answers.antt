@@ -1,8 +1,8 @@
 -- The imports: an error in one of them is the first error, and a turn passes over one of them.
 use Rattle.std.proofs.Common.{◌≡◌, ◌+◌, ◌∙◌, drop, map, None, false, refl, ap, subst, arith, rules}
 use Rattle.rgo_ast.specs.Views.{import_of}
-use Rattle.rgo_expressions.specs.Judges.{Fails}
-use Rattle.rgo_expressions.specs.Sites.{first_fault}
+use Rattle.rgo_typing_expressions.specs.Judges.{Fails}
+use Rattle.rgo_typing_expressions.specs.Sites.{first_fault}
 use Rattle.rgo_types.specs.Programs.{path_sites, import_sites, imports_fmt, all_import_fmt}
 use Rattle.rgo_types.proofs.Turns.{turn, turn_fails, turn_passes}
 use Rattle.rgo_types.proofs.signatures.judge_imports.Goals as goal

@@ -1,5 +1,5 @@
 use Rattle.std.proofs.Common.{◌≡◌, false, map, drop}
-use Rattle.rgo_expressions.specs.Sites.{first_fault}
+use Rattle.rgo_typing_expressions.specs.Sites.{first_fault}
 use Rattle.rgo_ast.specs.Views.{import_of}
 use Rattle.rgo_types.specs.Programs.{import_sites, all_import_fmt}
 use Rattle.rgo_types.proofs.signatures.judge_imports.Given as goal

@@ -1,5 +1,5 @@
 use Rattle.std.proofs.Common.{◌≡◌, drop}
-use Rattle.rgo_expressions.specs.Sites.{first_fault}
+use Rattle.rgo_typing_expressions.specs.Sites.{first_fault}
 use Rattle.rgo_types.specs.Programs.{path_sites, imports_fmt}
 use Rattle.rgo_types.proofs.signatures.judge_paths.Given as goal
 

@@ -1,5 +1,5 @@
 use Rattle.std.proofs.Common.{◌≡◌, ◌++◌, map, drop}
-use Rattle.rgo_rules.specs.Views.{kind_of}
+use Rattle.rgo_typing_rules.specs.Views.{kind_of}
 use Rattle.rgo_types.proofs.signatures.types.Given as goal
 
 abbrev pub invariant-loop-kind : goal.invariant-loop-kind

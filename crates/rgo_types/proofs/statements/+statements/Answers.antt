@@ -4,9 +4,9 @@ use Rattle.std.proofs.lemmas.List.{append_assoc}
 use Rattle.rgo_ast.specs.Tree.{stmts_of}
 use Rattle.rgo_ast.specs.Views.{stmt_of as source_of}
 use Rattle.rgo_typed.specs.Views.{stmt_of}
-use Rattle.rgo_expressions.specs.Judges.{Fails}
-use Rattle.rgo_expressions.specs.Sites.{first_fault}
-use Rattle.rgo_expressions.specs.Views.{package_of, scope_of}
+use Rattle.rgo_typing_expressions.specs.Judges.{Fails}
+use Rattle.rgo_typing_expressions.specs.Sites.{first_fault}
+use Rattle.rgo_typing_expressions.specs.Views.{package_of, scope_of}
 use Rattle.rgo_types.specs.Bodies.{typed_stmt, typed_all}
 use Rattle.rgo_types.specs.Statements.{stmt_sites, all_sites, after, after_all}
 use Rattle.rgo_types.specs.Views.{inside_of}

@@ -2,12 +2,12 @@
 use Rattle.std.proofs.Common.{◌≡◌, ◌++◌, [], ◌∷◌, None, map, sym, subst, rules}
 use Rattle.std.specs.Option.{option_map}
 use Rattle.rgo_ast.specs.Tree.{Func}
-use Rattle.rgo_ast.specs.Views.{binding_of, function_of, ty_of}
-use Rattle.rgo_expressions.specs.Judges.{Fails}
-use Rattle.rgo_expressions.specs.Judging.{ty_sites}
-use Rattle.rgo_expressions.specs.Scopes.{no_locals}
-use Rattle.rgo_expressions.specs.Sites.{first_fault}
-use Rattle.rgo_expressions.specs.Views.{package_of, scope_of}
+use Rattle.rgo_ast.specs.Views.{binding_of, function_of, type_expr_of}
+use Rattle.rgo_typing_expressions.specs.Judges.{Fails}
+use Rattle.rgo_typing_expressions.specs.Judging.{type_expr_sites}
+use Rattle.rgo_typing_expressions.specs.Scopes.{no_locals}
+use Rattle.rgo_typing_expressions.specs.Sites.{first_fault}
+use Rattle.rgo_typing_expressions.specs.Views.{package_of, scope_of}
 use Rattle.rgo_types.specs.Statements.{declared_site}
 use Rattle.rgo_types.specs.Programs.{decl_sites, bindings_sites, result_sites}
 use Rattle.rgo_types.proofs.Failing.{fails_more, fails_behind}
@@ -46,10 +46,10 @@ returns-in_err-judge_type-clause-judged c =
     let f = function_of c.args.f.now in
     let params : first_fault (bindings_sites p no_locals f.params) ≡ None =
     subst (λ l. first_fault (bindings_sites p no_locals (map binding_of l)) ≡ None) c.deref.ensures.value c.in_ok-params.ensures.judged in
-    let ty : Fails e (first_fault (ty_sites p no_locals (ty_of c.in-Some.ty))) =
-    subst (λ h. Fails e (first_fault (ty_sites p h (ty_of c.in-Some.ty)))) c.new-none.ensures c.in_err-judge_type.ensures in
+    let ty : Fails e (first_fault (type_expr_sites p no_locals (type_expr_of c.in-Some.ty))) =
+    subst (λ h. Fails e (first_fault (type_expr_sites p h (type_expr_of c.in-Some.ty)))) c.new-none.ensures c.in_err-judge_type.ensures in
     let result : Fails e (first_fault (result_sites p f.result_type)) =
-    subst (λ r. Fails e (first_fault (result_sites p (option_map ty_of r)))) (sym c.in-Some.is) ty in
+    subst (λ r. Fails e (first_fault (result_sites p (option_map type_expr_of r)))) (sym c.in-Some.is) ty in
     let here : Fails e (first_fault (decl_sites p g (Func f))) =
     fails_behind e (declared_site g f.name ∷ []) (bindings_sites p no_locals f.params ++ result_sites p f.result_type)
     c.in_ok-declare_name.ensures.judged

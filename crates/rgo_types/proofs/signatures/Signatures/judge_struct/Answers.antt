@@ -1,10 +1,10 @@
 -- A struct: an error at its name comes first, then one in its fields.
 use Rattle.std.proofs.Common.{[], ◌∷◌, map, subst, rules}
 use Rattle.rgo_ast.specs.Views.{type_spec_of, binding_of}
-use Rattle.rgo_expressions.specs.Judges.{Fails}
-use Rattle.rgo_expressions.specs.Scopes.{no_locals}
-use Rattle.rgo_expressions.specs.Sites.{first_fault}
-use Rattle.rgo_expressions.specs.Views.{package_of, scope_of}
+use Rattle.rgo_typing_expressions.specs.Judges.{Fails}
+use Rattle.rgo_typing_expressions.specs.Scopes.{no_locals}
+use Rattle.rgo_typing_expressions.specs.Sites.{first_fault}
+use Rattle.rgo_typing_expressions.specs.Views.{package_of, scope_of}
 use Rattle.rgo_types.specs.Statements.{declared_site}
 use Rattle.rgo_types.specs.Programs.{struct_sites, bindings_sites}
 use Rattle.rgo_types.proofs.Failing.{fails_more, fails_behind}

@@ -1,6 +1,6 @@
 use Rattle.std.proofs.Common.{◌≡◌, map, drop}
-use Rattle.rgo_expressions.specs.Views.{package_of, scope_of}
-use Rattle.rgo_expressions.specs.Sites.{first_fault}
+use Rattle.rgo_typing_expressions.specs.Views.{package_of, scope_of}
+use Rattle.rgo_typing_expressions.specs.Sites.{first_fault}
 use Rattle.rgo_ast.specs.Views.{type_spec_of}
 use Rattle.rgo_types.specs.Programs.{type_sites, seen_types, with_types}
 use Rattle.rgo_types.specs.Views.{signatures_of}

@@ -1,6 +1,6 @@
 use Rattle.std.proofs.Common.{◌≡◌, map, drop}
-use Rattle.rgo_expressions.specs.Views.{package_of, scope_of}
-use Rattle.rgo_expressions.specs.Sites.{first_fault}
+use Rattle.rgo_typing_expressions.specs.Views.{package_of, scope_of}
+use Rattle.rgo_typing_expressions.specs.Sites.{first_fault}
 use Rattle.rgo_ast.specs.Views.{binding_of}
 use Rattle.rgo_types.specs.Programs.{vars_sites, seen_vars, with_vars}
 use Rattle.rgo_types.specs.Views.{signatures_of}

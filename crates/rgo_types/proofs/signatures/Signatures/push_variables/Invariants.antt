@@ -1,5 +1,5 @@
 use Rattle.std.proofs.Common.{◌≡◌, drop}
-use Rattle.rgo_rules.specs.Views.{kind_of}
+use Rattle.rgo_typing_rules.specs.Views.{kind_of}
 use Rattle.rgo_types.specs.Programs.{with_names}
 use Rattle.rgo_types.specs.Views.{signatures_of}
 use Rattle.rgo_types.proofs.signatures.Signatures.push_variables.Given as goal

@@ -1,7 +1,0 @@
-use Rattle.std.proofs.Common.{◌≡◌, map, drop}
-use Rattle.rgo_rules.specs.Shapes.{has_nil}
-use Rattle.rgo_rules.specs.Views.{shape_of}
-use Rattle.rgo_rules.proofs.values.has_nil.Given as goal
-
-abbrev pub invariant-loop-value : goal.invariant-loop-value
-invariant-loop-value l = has_nil (map shape_of (drop l.value-index l.values)) ≡ has_nil (map shape_of l.values)

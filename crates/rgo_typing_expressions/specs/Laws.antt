@@ -1,0 +1,62 @@
+-- The law of the typing: where no node breaks a rule, each expression has a type, so that a rule looks at typed parts.
+use Rattle.std.specs.Prelude.{◌≡◌, Bool, true, false, not, None}
+use Rattle.std.specs.List.{list_all}
+use Rattle.rgo_ast.specs.Tree as tree
+use Rattle.rgo_ast.specs.Tree.{Expr, Exprs, Capacity}
+use Rattle.rgo_typing_rules.specs.declared.roles.Role.{Role}
+use Rattle.rgo_typing_rules.specs.declared.roles.Role.TheVariants as role
+use Rattle.rgo_typing_rules.specs.Nodes.{wants_value, is_printed, is_target}
+use Rattle.rgo_typing_rules.specs.Shapes as shape
+use Rattle.rgo_typing_rules.specs.Shapes.{Shape}
+use Rattle.rgo_typing_expressions.specs.Callees.{args_role}
+use Rattle.rgo_typing_expressions.specs.Judging.{nodes, parts, values_of}
+use Rattle.rgo_typing_expressions.specs.Scopes.{Package, Scope}
+use Rattle.rgo_typing_expressions.specs.Sites.{first_fault}
+use Rattle.rgo_typing_expressions.specs.Types.{type_of, types_of}
+
+-- It has a type, or is `nil`. A string has a place where it is printed, and a call without result where no value is
+-- wanted.
+abbrev pub is_typed : Role → Shape → Bool
+is_typed r shape.Untyped = false
+is_typed r shape.Text = is_printed r
+is_typed r shape.NoResult = not (wants_value r)
+is_typed r _ = true
+
+-- the left side of `=` may name what is no value; the assignment is refused then
+abbrev pub TypedWhereUnbroken : Type 0
+TypedWhereUnbroken =
+    (p : Package) → (g : Scope) → (r : Role) → (e : Expr) → is_target r ≡ false
+    → first_fault (nodes p g r e) ≡ None → is_typed r (type_of p g e) ≡ true
+
+abbrev pub room_in : Capacity → Exprs
+room_in tree.no_capacity = tree.no_exprs
+room_in (tree.a_capacity e) = tree.an_expr e tree.no_exprs
+
+abbrev pub one : Expr → Exprs
+one e = tree.an_expr e tree.no_exprs
+
+-- the expressions whose types the rules ask for at a node
+abbrev pub operands : Expr → Exprs
+operands (tree.Paren e at) = operands e
+operands (tree.MakeSlice ty e at) = one e
+operands (tree.MakeChan ty room at) = room_in room
+operands (tree.Select e field) = one e
+operands (tree.Index a i at) = tree.an_expr a (one i)
+operands (tree.Called f args at) = args
+operands (tree.Unary op e at) = one e
+operands (tree.Binary op a b at) = tree.an_expr a (one b)
+operands (tree.Literal x values at) = values
+operands (tree.Keyed x members at) = values_of members
+operands _ = tree.no_exprs
+
+-- what they are judged as
+abbrev pub operands_role : Package → Scope → Expr → Role
+operands_role p g (tree.Paren e at) = operands_role p g e
+operands_role p g (tree.Called f args at) = args_role p g f
+operands_role p g _ = role.Value
+
+-- where no earlier node breaks a rule, the parts of a node are typed
+abbrev pub TypedParts : Type 0
+TypedParts =
+    (p : Package) → (g : Scope) → (e : Expr) → first_fault (parts p g e) ≡ None
+    → list_all (is_typed (operands_role p g e)) (types_of p g (operands e)) ≡ true

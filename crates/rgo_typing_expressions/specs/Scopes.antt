@@ -1,0 +1,115 @@
+-- Scopes: what a name means at a point of a program, and what a type means that is written there.
+use Rattle.std.specs.Prelude.{ℕ, Bool, true, false, List, [], ◌∷◌, length, get_or, ◌++◌, Option, Some, None, if◌then◌else◌}
+use Rattle.std.specs.Prelude.{bytes_eq, codes}
+use Rattle.rgo_ast.specs.Tree as tree
+use Rattle.rgo_typed.specs.declared.types.Type.{«Type»}
+use Rattle.rgo_typed.specs.declared.types.Base.{Base}
+use Rattle.rgo_typed.specs.declared.types.Base.TheVariants.{Int, Bool as Boolean, Pointer}
+use Rattle.rgo_typing_rules.specs.Types.{plain, spelled}
+use Rattle.rgo_typing_rules.specs.declared.meanings.Meaning.{Meaning}
+use Rattle.rgo_typing_rules.specs.declared.meanings.Meaning.TheVariants as meaning
+use Rattle.rgo_typing_rules.specs.Meanings.{Signature}
+use Rattle.rgo_scopes.specs.Blocks.{Blocks, found, declared, entered, left, no_names}
+
+-- the fields of a struct: the number of each name, and the types by number
+pub record Fields : Type 0 where
+  pub numbers : Blocks ℕ
+  pub types : List «Type»
+
+-- what the package declares: whether it imports `fmt`, what each of its names means, and by number the
+-- structs, the types of variables, and what functions take and give
+pub record Package : Type 0 where
+  pub imported : Bool
+  pub names : Blocks Meaning
+  pub structs : List Fields
+  pub variables : List «Type»
+  pub functions : List Signature
+
+-- the local variables of a function at a point: the number of each name in scope, and the types of all that
+-- were declared so far, also of those that are out of scope; a local variable is numbered by their count
+pub record Scope : Type 0 where
+  pub locals : Blocks ℕ
+  pub types : List «Type»
+
+abbrev pub no_locals : Scope
+no_locals = record { locals = no_names; types = [] }
+
+abbrev pub int : «Type»
+int = plain Int
+
+abbrev pub bool : «Type»
+bool = plain Boolean
+
+abbrev pub no_fields : Fields
+no_fields = record { numbers = no_names; types = [] }
+
+abbrev pub no_signature : Signature
+no_signature = record { params = []; result_type = None }
+
+-- Each number that a name has is one of its list, so that the last argument makes these total and no more.
+abbrev pub fields_at : Package → ℕ → Fields
+fields_at p n = get_or p.structs n no_fields
+
+abbrev pub variable_at : Package → ℕ → «Type»
+variable_at p n = get_or p.variables n int
+
+abbrev pub signature_at : Package → ℕ → Signature
+signature_at p n = get_or p.functions n no_signature
+
+abbrev pub local_at : Scope → ℕ → «Type»
+local_at g n = get_or g.types n int
+
+-- what the words mean that each text has: `int bool true false nil len close`, and `fmt`
+abbrev pub universe : Bool → List ℕ → Option Meaning
+universe imported name =
+    if bytes_eq name (codes "int") then Some (meaning.Basic Int) else
+    (if bytes_eq name (codes "bool") then Some (meaning.Basic Boolean) else
+    (if bytes_eq name (codes "true") then Some (meaning.Truth true) else
+    (if bytes_eq name (codes "false") then Some (meaning.Truth false) else
+    (if bytes_eq name (codes "nil") then Some meaning.Nil else
+    (if bytes_eq name (codes "len") then Some meaning.Len else
+    (if bytes_eq name (codes "close") then Some meaning.Close else
+    (if bytes_eq name (codes "fmt") then Some (meaning.Package imported) else None)))))))
+
+-- what a name means that is no local variable's
+abbrev pub outer_meaning : Package → Option Meaning → List ℕ → Option Meaning
+outer_meaning p (Some m) name = Some m
+outer_meaning p None name = universe p.imported name
+
+abbrev pub inner_meaning : Package → Option ℕ → List ℕ → Option Meaning
+inner_meaning p (Some n) name = Some (meaning.Local n)
+inner_meaning p None name = outer_meaning p (found name p.names) name
+
+-- what a name means: a local variable, else what the package declares, else what each text has
+abbrev pub meaning_of : Package → Scope → List ℕ → Option Meaning
+meaning_of p g name = inner_meaning p (found name g.locals) name
+
+-- a new local variable of this type
+abbrev pub with_local : List ℕ → «Type» → Scope → Scope
+with_local name ty g = record { locals = declared name (length g.types) g.locals; types = g.types ++ ty ∷ [] }
+
+-- into a block, and out of one: its names go, its numbers stay taken
+abbrev pub inside : Scope → Scope
+inside g = record { locals = entered g.locals; types = g.types }
+
+abbrev pub outside : Scope → Scope
+outside g = record { locals = left g.locals; types = g.types }
+
+-- the base of a type, of what its name means
+abbrev pub basic_base : Option Meaning → Base
+basic_base (Some (meaning.Basic b)) = b
+basic_base _ = Int
+
+abbrev pub pointer_base : Option Meaning → Base
+pointer_base (Some (meaning.Struct n)) = Pointer n
+pointer_base _ = Int
+
+abbrev pub base_of : Package → Scope → tree.TypeExpr → Base
+base_of p g (tree.Named x) = basic_base (meaning_of p g x.name)
+base_of p g (tree.Pointer x at) = pointer_base (meaning_of p g x.name)
+base_of p g (tree.Slice ty at) = base_of p g ty
+base_of p g (tree.Chan ty at) = base_of p g ty
+
+-- the type that is written so
+abbrev pub resolved : Package → Scope → tree.TypeExpr → «Type»
+resolved p g ty = spelled ty (base_of p g ty)

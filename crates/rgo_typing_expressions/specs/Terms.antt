@@ -1,0 +1,183 @@
+-- The typed tree of an expression.
+use Rattle.std.specs.Prelude.{ℕ, zero, suc, ◌++◌, Bool, true, false, ℤ, pos, List, [], ◌∷◌, drop, Option, Some, None}
+use Rattle.rgo_ast.specs.Tree as tree
+use Rattle.rgo_ast.specs.Tree.{Expr, Exprs, Elements, Capacity}
+use Rattle.rgo_ast.specs.declared.ops.UnaryOp.{UnaryOp}
+use Rattle.rgo_ast.specs.declared.ops.UnaryOp.TheVariants as unary
+use Rattle.rgo_ast.specs.declared.ops.BinaryOp.{BinaryOp}
+use Rattle.rgo_ast.specs.declared.ops.BinaryOp.TheVariants as binary
+use Rattle.rgo_typed.specs.declared.actions.Action.{Action}
+use Rattle.rgo_typed.specs.declared.actions.Action.TheVariants as action
+use Rattle.rgo_typed.specs.declared.actions.Logical.TheVariants as logical
+use Rattle.rgo_typed.specs.declared.types.Type.{«Type»}
+use Rattle.rgo_typed.specs.Tree.{Term, Terms, Local, Apply, Logic, Build, Call, no_terms, a_term}
+use Rattle.rgo_typing_rules.specs.Types.{plain, slice_of, chan_of}
+use Rattle.rgo_typing_rules.specs.Shapes as shape
+use Rattle.rgo_typing_rules.specs.Shapes.{Shape, is_nil_shape}
+use Rattle.rgo_typing_rules.specs.Constants.{folded_shapes, folded_shape}
+use Rattle.rgo_typing_rules.specs.declared.meanings.Meaning.{Meaning}
+use Rattle.rgo_typing_rules.specs.declared.meanings.Meaning.TheVariants as meaning
+use Rattle.rgo_typing_expressions.specs.Scopes.{Package, Scope, Fields, meaning_of, variable_at, signature_at}
+use Rattle.rgo_typing_expressions.specs.Scopes.{int, bool, resolved, pointer_base}
+use Rattle.rgo_typing_expressions.specs.declared.callees.Callee.{Callee}
+use Rattle.rgo_typing_expressions.specs.declared.callees.Callee.TheVariants as callee
+use Rattle.rgo_typing_expressions.specs.Callees.{callee_of}
+use Rattle.rgo_typing_expressions.specs.Types.{type_of, field_of, field_in, binary_type}
+use Rattle.rgo_typing_expressions.specs.Judging.{field_types, struct_number, struct_fields}
+
+-- an action without parts
+abbrev pub atom : Action → «Type» → ℕ → Term
+atom a ty at = Apply a no_terms ty at
+
+abbrev pub one : Term → Terms
+one t = a_term t no_terms
+
+abbrev pub two : Term → Term → Terms
+two a b = a_term a (a_term b no_terms)
+
+-- a constant is one `int`
+abbrev pub constant : ℤ → ℕ → Term
+constant n at = atom (action.Int n) int at
+
+-- the type of a value of this shape
+abbrev pub type_in : Shape → «Type»
+type_in (shape.Value t) = t
+type_in _ = int
+
+-- `nil` takes the type that is wanted of it
+abbrev pub with_type : «Type» → Term → Term
+with_type ty (Apply action.Nil parts t at) = Apply action.Nil parts ty at
+with_type ty t = t
+
+-- the first of these types
+abbrev pub with_first : List «Type» → Term → Term
+with_first [] t = t
+with_first (ty ∷ tys) t = with_type ty t
+
+abbrev pub name_term : Package → Scope → Option Meaning → ℕ → Term
+name_term p g (Some (meaning.Local n)) at = Local n
+name_term p g (Some (meaning.Global n)) at = atom (action.Get n) (variable_at p n) at
+name_term p g (Some (meaning.Truth b)) at = atom (action.Bool b) bool at
+name_term p g _ at = atom action.Nil int at
+
+abbrev pub field_term : Option (ℕ × «Type») → Term → ℕ → Term
+field_term None t at = t
+field_term (Some field) t at = Apply (action.Load field.0) (one t) field.1 at
+
+abbrev pub constant_or_term : Option ℤ → ℕ → Term → Term
+constant_or_term (Some n) at t = constant n at
+constant_or_term None at t = t
+
+abbrev pub element_type : Shape → «Type»
+element_type (shape.Value t) = record { layers = drop 1 t.layers; base = t.base }
+element_type _ = int
+
+abbrev pub unary_term : UnaryOp → Shape → Term → ℕ → Term
+unary_term unary.Plus s t at = t
+unary_term unary.Minus s t at = constant_or_term (folded_shape unary.Minus s) at (Apply action.Neg (one t) int at)
+unary_term unary.Not s t at = Apply action.Not (one t) bool at
+unary_term unary.Receive s t at = Apply action.Recv (one t) (element_type s) at
+
+abbrev pub negated : Bool → Term → ℕ → Term
+negated true t at = Apply action.Not (one t) bool at
+negated false t at = t
+
+-- a comparison; with `nil` on one side a test of the other side
+abbrev pub compared : BinaryOp → Bool → Bool → Bool → Term → Term → ℕ → Term
+compared op differs true b_is_nil a b at = negated differs (Apply action.IsNil (one b) bool at) at
+compared op differs false true a b at = negated differs (Apply action.IsNil (one a) bool at) at
+compared op differs false false a b at = Apply (action.Binary op) (two a b) bool at
+
+abbrev pub operation : BinaryOp → Shape → Shape → Term → Term → ℕ → Term
+operation binary.And s t a b at = Logic logical.And a b at
+operation binary.Or s t a b at = Logic logical.Or a b at
+operation binary.Eq s t a b at = compared binary.Eq false (is_nil_shape s) (is_nil_shape t) a b at
+operation binary.Ne s t a b at = compared binary.Ne true (is_nil_shape s) (is_nil_shape t) a b at
+operation op s t a b at = Apply (action.Binary op) (two a b) (binary_type op) at
+
+abbrev pub binary_term : BinaryOp → Shape → Shape → Term → Term → ℕ → Term
+binary_term op s t a b at = constant_or_term (folded_shapes op s t) at (operation op s t a b at)
+
+-- what arguments have to be
+abbrev pub wanted_of : Package → Callee → List «Type»
+wanted_of p (callee.Routine n) = (signature_at p n).params
+wanted_of p _ = []
+
+abbrev pub result_or_int : Option «Type» → «Type»
+result_or_int None = int
+result_or_int (Some t) = t
+
+abbrev pub call_term : Package → Callee → Terms → ℕ → Term
+call_term p (callee.Routine n) args at = Call n args (result_or_int (signature_at p n).result_type) at
+call_term p callee.Length args at = Apply action.Len args int at
+call_term p _ args at = atom action.Nil int at
+
+abbrev pub count : Terms → ℕ
+count no_terms = 0
+count (a_term t l) = suc (count l)
+
+-- 0 to n - 1
+abbrev pub first_numbers : ℕ → List ℕ
+first_numbers zero = []
+first_numbers (suc n) = first_numbers n ++ n ∷ []
+
+-- an object by all its fields in order, as far as there are values
+abbrev pub build : ℕ → Terms → ℕ → Term
+build n values at = Build n values (first_numbers (count values)) at
+
+abbrev pub number_in : Option (ℕ × «Type») → ℕ
+number_in None = 0
+number_in (Some field) = field.0
+
+-- the number of each element's field
+abbrev pub element_numbers : Fields → Elements → List ℕ
+element_numbers fields tree.no_elements = []
+element_numbers fields (tree.an_element x e l) = number_in (field_in fields x.name) ∷ element_numbers fields l
+
+-- the first of these types, where it is known
+abbrev pub with_known : List (Option «Type») → Term → Term
+with_known [] t = t
+with_known (None ∷ tys) t = t
+with_known (Some ty ∷ tys) t = with_type ty t
+
+abbrev mutual
+  pub term_of : Package → Scope → Expr → Term
+  term_of p g (tree.Number n at) = constant (pos n) at
+  term_of p g (tree.Text bytes at) = atom action.Nil int at
+  term_of p g (tree.Name x) = name_term p g (meaning_of p g x.name) x.at
+  term_of p g (tree.Paren e at) = term_of p g e
+  term_of p g (tree.New x at) =
+      atom (action.New (struct_number (meaning_of p g x.name))) (plain (pointer_base (meaning_of p g x.name))) at
+  term_of p g (tree.MakeSlice ty e at) = Apply action.Slice (one (term_of p g e)) (slice_of (resolved p g ty)) at
+  term_of p g (tree.MakeChan ty room at) =
+      Apply action.Chan (one (capacity_term p g room at)) (chan_of (resolved p g ty)) at
+  term_of p g (tree.Select e field) = field_term (field_of p (type_of p g e) field.name) (term_of p g e) field.at
+  term_of p g (tree.Index a i at) = Apply action.At (two (term_of p g a) (term_of p g i)) (element_type (type_of p g a)) at
+  term_of p g (tree.Called f args at) =
+      call_term p (callee_of p g f) (all_terms p g (wanted_of p (callee_of p g f)) args) at
+  term_of p g (tree.Unary op e at) = unary_term op (type_of p g e) (term_of p g e) at
+  term_of p g (tree.Binary op a b at) =
+      binary_term op (type_of p g a) (type_of p g b) (term_of p g a) (term_of p g b) at
+  term_of p g (tree.Literal x values at) =
+      build (struct_number (meaning_of p g x.name))
+      (all_terms p g (struct_fields p (meaning_of p g x.name)).types values) at
+  term_of p g (tree.Keyed x members at) =
+      Build (struct_number (meaning_of p g x.name))
+      (element_terms p g (field_types (struct_fields p (meaning_of p g x.name)) members) members)
+      (element_numbers (struct_fields p (meaning_of p g x.name)) members) at
+
+  -- the room of a channel; none is 0
+  pub capacity_term : Package → Scope → Capacity → ℕ → Term
+  capacity_term p g tree.no_capacity at = constant (pos 0) at
+  capacity_term p g (tree.a_capacity e) at = term_of p g e
+
+  -- values of these types, as far as there are types
+  pub all_terms : Package → Scope → List «Type» → Exprs → Terms
+  all_terms p g wanted tree.no_exprs = no_terms
+  all_terms p g wanted (tree.an_expr e l) = a_term (with_first wanted (term_of p g e)) (all_terms p g (drop 1 wanted) l)
+
+  -- values of the types of their fields
+  pub element_terms : Package → Scope → List (Option «Type») → Elements → Terms
+  element_terms p g known tree.no_elements = no_terms
+  element_terms p g known (tree.an_element x e l) =
+      a_term (with_known known (term_of p g e)) (element_terms p g (drop 1 known) l)

@@ -1,0 +1,124 @@
+-- The type of an expression, as far as it has one.
+use Rattle.std.specs.Prelude.{ℕ, ℤ, pos, List, [], ◌∷◌, get_or, Option, Some, None}
+use Rattle.rgo_ast.specs.Tree as tree
+use Rattle.rgo_ast.specs.Tree.{Expr, Exprs}
+use Rattle.rgo_ast.specs.declared.ops.UnaryOp.{UnaryOp}
+use Rattle.rgo_ast.specs.declared.ops.UnaryOp.TheVariants as unary
+use Rattle.rgo_ast.specs.declared.ops.BinaryOp.{BinaryOp}
+use Rattle.rgo_ast.specs.declared.ops.BinaryOp.TheVariants as binary
+use Rattle.rgo_typed.specs.declared.types.Type.{«Type»}
+use Rattle.rgo_typed.specs.declared.types.Layer.{Layer}
+use Rattle.rgo_typed.specs.declared.types.Base.{Base}
+use Rattle.rgo_typed.specs.declared.types.Base.TheVariants.{Pointer}
+use Rattle.rgo_typing_rules.specs.Types.{plain, slice_of, chan_of, element_of}
+use Rattle.rgo_typing_rules.specs.Shapes as shape
+use Rattle.rgo_typing_rules.specs.Shapes.{Shape}
+use Rattle.rgo_typing_rules.specs.Constants.{folded_shapes, folded_shape}
+use Rattle.rgo_typing_rules.specs.declared.meanings.Meaning.{Meaning}
+use Rattle.rgo_typing_rules.specs.declared.meanings.Meaning.TheVariants as meaning
+use Rattle.rgo_scopes.specs.Blocks.{found}
+use Rattle.rgo_typing_expressions.specs.Scopes.{Package, Scope, Fields, meaning_of, fields_at, variable_at, signature_at, local_at}
+use Rattle.rgo_typing_expressions.specs.Scopes.{int, bool, resolved, pointer_base}
+use Rattle.rgo_typing_expressions.specs.declared.callees.Callee.{Callee}
+use Rattle.rgo_typing_expressions.specs.declared.callees.Callee.TheVariants as callee
+use Rattle.rgo_typing_expressions.specs.Callees.{callee_of}
+
+abbrev pub shape_of_meaning : Package → Scope → Option Meaning → Shape
+shape_of_meaning p g (Some (meaning.Local n)) = shape.Value (local_at g n)
+shape_of_meaning p g (Some (meaning.Global n)) = shape.Value (variable_at p n)
+shape_of_meaning p g (Some (meaning.Truth b)) = shape.Value bool
+shape_of_meaning p g (Some meaning.Nil) = shape.Nil
+shape_of_meaning p g _ = shape.Untyped
+
+abbrev pub struct_base : Base → Option ℕ
+struct_base (Pointer n) = Some n
+struct_base _ = None
+
+abbrev pub struct_in : List Layer → Base → Option ℕ
+struct_in [] b = struct_base b
+struct_in (layer ∷ layers) b = None
+
+-- the struct that a value of this shape points to
+abbrev pub struct_of : Shape → Option ℕ
+struct_of (shape.Value t) = struct_in t.layers t.base
+struct_of _ = None
+
+-- a field's number and type
+abbrev pub numbered_field : Fields → Option ℕ → Option (ℕ × «Type»)
+numbered_field fields None = None
+numbered_field fields (Some k) = Some (k, get_or fields.types k int)
+
+abbrev pub field_in : Fields → List ℕ → Option (ℕ × «Type»)
+field_in fields name = numbered_field fields (found name fields.numbers)
+
+abbrev pub field_of_struct : Package → Option ℕ → List ℕ → Option (ℕ × «Type»)
+field_of_struct p None name = None
+field_of_struct p (Some n) name = field_in (fields_at p n) name
+
+-- the field of this name of what a value of this shape points to
+abbrev pub field_of : Package → Shape → List ℕ → Option (ℕ × «Type»)
+field_of p s name = field_of_struct p (struct_of s) name
+
+abbrev pub field_shape : Option (ℕ × «Type») → Shape
+field_shape None = shape.Untyped
+field_shape (Some field) = shape.Value field.1
+
+abbrev pub element_shape : Shape → Shape
+element_shape (shape.Value t) = shape.Value (element_of t)
+element_shape _ = shape.Untyped
+
+-- a constant where there is a value
+abbrev pub constant_or : Option ℤ → Shape → Shape
+constant_or (Some n) s = shape.Constant n
+constant_or None s = s
+
+abbrev pub unary_shape : UnaryOp → Shape → Shape
+unary_shape unary.Plus s = shape.Value int
+unary_shape unary.Minus s = shape.Value int
+unary_shape unary.Not s = shape.Value bool
+unary_shape unary.Receive s = element_shape s
+
+-- the type of what a binary operation gives
+abbrev pub binary_type : BinaryOp → «Type»
+binary_type binary.Mul = int
+binary_type binary.Div = int
+binary_type binary.Rem = int
+binary_type binary.Add = int
+binary_type binary.Sub = int
+binary_type _ = bool
+
+abbrev pub result_shape : Option «Type» → Shape
+result_shape None = shape.NoResult
+result_shape (Some t) = shape.Value t
+
+abbrev pub call_shape : Package → Callee → Shape
+call_shape p callee.Printer = shape.NoResult
+call_shape p callee.Closer = shape.NoResult
+call_shape p callee.Length = shape.Value int
+call_shape p (callee.Routine n) = result_shape (signature_at p n).result_type
+call_shape p _ = shape.Untyped
+
+-- a pointer to the struct that a name means
+abbrev pub pointer_shape : Option Meaning → Shape
+pointer_shape m = shape.Value (plain (pointer_base m))
+
+abbrev pub type_of : Package → Scope → Expr → Shape
+type_of p g (tree.Number n at) = shape.Constant (pos n)
+type_of p g (tree.Text bytes at) = shape.Text
+type_of p g (tree.Name x) = shape_of_meaning p g (meaning_of p g x.name)
+type_of p g (tree.Paren e at) = type_of p g e
+type_of p g (tree.New x at) = pointer_shape (meaning_of p g x.name)
+type_of p g (tree.MakeSlice ty e at) = shape.Value (slice_of (resolved p g ty))
+type_of p g (tree.MakeChan ty room at) = shape.Value (chan_of (resolved p g ty))
+type_of p g (tree.Select e field) = field_shape (field_of p (type_of p g e) field.name)
+type_of p g (tree.Index a i at) = element_shape (type_of p g a)
+type_of p g (tree.Called f args at) = call_shape p (callee_of p g f)
+type_of p g (tree.Unary op e at) = constant_or (folded_shape op (type_of p g e)) (unary_shape op (type_of p g e))
+type_of p g (tree.Binary op a b at) =
+    constant_or (folded_shapes op (type_of p g a) (type_of p g b)) (shape.Value (binary_type op))
+type_of p g (tree.Literal x values at) = pointer_shape (meaning_of p g x.name)
+type_of p g (tree.Keyed x members at) = pointer_shape (meaning_of p g x.name)
+
+abbrev pub types_of : Package → Scope → Exprs → List Shape
+types_of p g tree.no_exprs = []
+types_of p g (tree.an_expr e l) = type_of p g e ∷ types_of p g l

@@ -1,0 +1,164 @@
+//! Expressions without their parentheses, and what a callee is.
+#![tactic(auto, using(rgo_ast::proofs::Rows::rows))]
+
+ghost use Rattle.std.specs.Prelude.{◌≡◌, bytes_eq, codes};
+ghost use Rattle.rgo_ast.specs.Views.{expr_of};
+ghost use Rattle.rgo_typing_expressions.specs.Callees as spec;
+ghost use Rattle.rgo_typing_expressions.specs.Views.{package_of, scope_of};
+
+use crate::names::meaning;
+use crate::packages::Package;
+use crate::scopes::Scope;
+use rgo_ast::{Expr, Place, UnaryOp};
+use rgo_typing_rules::{Meaning, Role};
+
+/// What is called.
+#[derive(Clone, Copy)]
+pub enum Callee {
+    /// A name that nothing declares, at this place.
+    Missing(Place),
+    /// `fmt.Println`.
+    Printer,
+    /// `len`.
+    Length,
+    /// `close`.
+    Closer,
+    /// The function of this number.
+    Routine(usize),
+    /// What is no function.
+    Nothing,
+}
+
+/// An expression without the parentheses round it.
+pub fn bare(e: &Expr) -> &Expr
+    ensures { expr_of result.now ≡ spec.bare (expr_of e.now) }
+{
+    match e {
+        Expr::Paren(inner, _) => bare(inner),
+        _ => e,
+    }
+}
+
+fn is_println(name: &[u8]) -> bool
+    ensures { result ≡ bytes_eq name.now (codes "Println") }
+{
+    name == "Println".as_bytes()
+}
+
+/// What a name is as a callee.
+pub fn named_callee(at: Place, meaning: Option<Meaning>) -> Callee
+    ensures { result ≡ spec.named_callee at meaning }
+{
+    match meaning {
+        None | Some(Meaning::Package(false)) => Callee::Missing(at),
+        Some(Meaning::Function(number)) => Callee::Routine(number),
+        Some(Meaning::Len) => Callee::Length,
+        Some(Meaning::Close) => Callee::Closer,
+        Some(_) => Callee::Nothing,
+    }
+}
+
+fn package_callee(at: Place, meaning: Option<Meaning>, name: &[u8]) -> Callee
+    ensures { result ≡ spec.package_callee at meaning name.now }
+{
+    match meaning {
+        Some(Meaning::Package(true)) => {
+            if is_println(name) {
+                Callee::Printer
+            } else {
+                Callee::Nothing
+            }
+        }
+        Some(Meaning::Package(false)) => Callee::Missing(at),
+        _ => Callee::Nothing,
+    }
+}
+
+fn selected_callee(globals: &Package<'_>, scope: &Scope<'_>, e: &Expr, name: &[u8]) -> Callee
+    ensures { result ≡ spec.selected_callee (package_of globals.now) (scope_of scope.now) (expr_of e.now) name.now }
+{
+    match e {
+        Expr::Name(x) => package_callee(x.at, meaning(globals, scope, x.name.bytes()), name),
+        _ => Callee::Nothing,
+    }
+}
+
+/// What a callee is.
+pub fn resolve_callee(globals: &Package<'_>, scope: &Scope<'_>, f: &Expr) -> Callee
+    ensures { result ≡ spec.callee_of (package_of globals.now) (scope_of scope.now) (expr_of f.now) }
+{
+    match bare(f) {
+        Expr::Name(x) => named_callee(x.at, meaning(globals, scope, x.name.bytes())),
+        Expr::Select(e, field) => selected_callee(globals, scope, bare(e), field.name.bytes()),
+        _ => Callee::Nothing,
+    }
+}
+
+fn names_package(globals: &Package<'_>, scope: &Scope<'_>, e: &Expr) -> bool
+    ensures { result ≡ spec.names_package (package_of globals.now) (scope_of scope.now) (expr_of e.now) }
+{
+    match e {
+        Expr::Name(x) => matches!(
+            meaning(globals, scope, x.name.bytes()),
+            Some(Meaning::Package(_))
+        ),
+        _ => false,
+    }
+}
+
+/// Whether it is `fmt` with a name behind it.
+pub fn is_package_selector(globals: &Package<'_>, scope: &Scope<'_>, f: &Expr) -> bool
+    ensures { result ≡ spec.is_package_selector (package_of globals.now) (scope_of scope.now) (expr_of f.now) }
+{
+    match bare(f) {
+        Expr::Select(e, _) => names_package(globals, scope, bare(e)),
+        _ => false,
+    }
+}
+
+fn selects_println(e: &Expr) -> bool
+    ensures { result ≡ spec.selects_println (expr_of e.now) }
+{
+    match e {
+        Expr::Select(_, field) => is_println(field.name.bytes()),
+        _ => false,
+    }
+}
+
+/// What the arguments of a callee are judged as.
+pub fn args_role(globals: &Package<'_>, scope: &Scope<'_>, f: &Expr) -> Role
+    ensures { result ≡ spec.args_role (package_of globals.now) (scope_of scope.now) (expr_of f.now) }
+{
+    if is_package_selector(globals, scope, f) && selects_println(bare(f)) {
+        Role::Printed
+    } else {
+        Role::Value
+    }
+}
+
+/// Whether it is a call other than of `len`, or a receive, and so may stand as a statement (The Go
+/// Programming Language Specification, "Expression statements").
+pub fn may_stand(globals: &Package<'_>, scope: &Scope<'_>, e: &Expr) -> bool
+    ensures { result ≡ spec.may_stand (package_of globals.now) (scope_of scope.now) (expr_of e.now) }
+{
+    match bare(e) {
+        Expr::Call(f, _, _) => !matches!(resolve_callee(globals, scope, f), Callee::Length),
+        Expr::Unary(op, _, _) => matches!(op, UnaryOp::Receive),
+        _ => false,
+    }
+}
+
+/// Whether it is a variable, a field or an element, and so may be assigned to (The Go Programming
+/// Language Specification, "Assignment statements").
+pub fn is_place(globals: &Package<'_>, scope: &Scope<'_>, e: &Expr) -> bool
+    ensures { result ≡ spec.is_place (package_of globals.now) (scope_of scope.now) (expr_of e.now) }
+{
+    match bare(e) {
+        Expr::Name(x) => matches!(
+            meaning(globals, scope, x.name.bytes()),
+            Some(Meaning::Local(_)) | Some(Meaning::Global(_))
+        ),
+        Expr::Select(_, _) | Expr::Index(_, _, _) => true,
+        _ => false,
+    }
+}

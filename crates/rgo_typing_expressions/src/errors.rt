@@ -1,0 +1,46 @@
+//! Why a program gets no typed tree.
+
+use rgo_ast::Place;
+use std::alloc::{AllocError, AllocFailed};
+use thiserror::Error;
+
+/// The first node that breaks a rule, in the order of judgement.
+#[derive(Clone, Copy, Debug, PartialEq, Eq)]
+pub struct TypeRefusal {
+    /// The first rule that it breaks, 1 to 34.
+    pub rule: u8,
+    pub at: Place,
+}
+
+/// Why a program gets no typed tree.
+#[derive(Clone, Copy, Debug, PartialEq, Eq, Error)]
+pub enum TypeError {
+    /// There is no memory for it.
+    #[error("no memory for the typed tree")]
+    NoMemory,
+    /// It breaks a rule.
+    #[error("breaks a rule on meaning")]
+    Refused(TypeRefusal),
+}
+
+impl From<AllocError> for TypeError {
+    ghost use Rattle.std.specs.Prelude.{◌≡◌};
+    ghost use Rattle.rgo_typing_expressions.specs.declared.errors.TypeError.TheVariants.{NoMemory};
+
+    ghost from_gives = { λ _ e. e ≡ NoMemory };
+
+    fn from(_: AllocError) -> TypeError {
+        TypeError::NoMemory
+    }
+}
+
+impl<T: Drop> From<AllocFailed<T>> for TypeError {
+    ghost use Rattle.std.specs.Prelude.{◌≡◌};
+    ghost use Rattle.rgo_typing_expressions.specs.declared.errors.TypeError.TheVariants.{NoMemory};
+
+    ghost from_gives = { λ _ e. e ≡ NoMemory };
+
+    fn from(_: AllocFailed<T>) -> TypeError {
+        TypeError::NoMemory
+    }
+}

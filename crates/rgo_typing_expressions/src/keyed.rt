@@ -1,0 +1,143 @@
+//! Composite literals by fields, of judged values.
+#![tactic(auto, using(rgo_ast::proofs::Rows::rows, rgo_typed::proofs::Rows::rows))]
+
+ghost use Rattle.std.specs.Prelude.{◌≡◌, [], ◌∷◌, IfOk, map, Some};
+ghost use Rattle.rgo_ast.specs.Tree as ast;
+ghost use Rattle.rgo_ast.specs.Views.{element_of};
+ghost use Rattle.rgo_typing_rules.specs.Nodes as node;
+ghost use Rattle.rgo_typing_rules.specs.Views.{shape_of, optional_kind_of, known_of};
+ghost use Rattle.rgo_scopes.specs.Blocks.{no_names};
+ghost use Rattle.rgo_typed.specs.Tree as tree;
+ghost use Rattle.rgo_typed.specs.Views.{term_of};
+ghost use Rattle.rgo_typing_expressions.specs.Judges.{Judges};
+ghost use Rattle.rgo_typing_expressions.specs.Judging as judging;
+ghost use Rattle.rgo_typing_expressions.specs.Scopes as scopes;
+ghost use Rattle.rgo_typing_expressions.specs.Tells.{Tells, FieldsOf};
+ghost use Rattle.rgo_typing_expressions.specs.Terms as terms;
+ghost use Rattle.rgo_typing_expressions.specs.Types as types;
+ghost use Rattle.rgo_typing_expressions.specs.Views.{package_of, fields_of};
+
+use crate::errors::TypeError;
+use crate::fields::field_in;
+use crate::judged::{Judged, Values};
+use crate::judging::judge;
+use crate::literals::{pointer, struct_number};
+use crate::packages::{Fields, Package};
+use rgo_ast::{Element, Place};
+use rgo_typing_rules::{Kind, Meaning, Node, Shape};
+use rgo_scopes::Scopes;
+use rgo_typed::{Row, Term};
+use std::alloc::{AllocError, Global};
+
+/// The fields that the elements of a literal name: the type of each, where there is such a field,
+/// and its number.
+#[derive(Drop)]
+pub struct Named<'a> {
+    pub kinds: Vec<Option<Kind<'a>>>,
+    numbers: Vec<usize>,
+}
+
+fn fields_named<'a>(
+    alloc: Global,
+    fields: &Fields<'a>,
+    elements: &[Element],
+) -> Result<Named<'a>, AllocError>
+    ensures { IfOk result (λ named. FieldsOf named (fields_of fields.now) (ast.elements_of (map element_of elements.now))) }
+{
+    let mut kinds = Vec::new(alloc);
+    let mut numbers = Vec::new(alloc);
+    for element in elements {
+        match field_in(fields, element.field.name.bytes()) {
+            Some(field) => {
+                kinds.push(Some(field.kind))?;
+                numbers.push(field.number)?;
+            }
+            None => {
+                kinds.push(None)?;
+                numbers.push(0)?;
+            }
+        }
+    }
+    Ok(Named { kinds, numbers })
+}
+
+/// The fields that the elements of a literal name, in the struct that its name means.
+pub fn find_named<'a>(
+    alloc: Global,
+    globals: &Package<'a>,
+    meaning: Option<Meaning>,
+    elements: &[Element],
+) -> Result<Named<'a>, AllocError>
+    ensures { IfOk result (λ named. FieldsOf named
+        (judging.struct_fields (package_of globals.now) meaning) (ast.elements_of (map element_of elements.now))) }
+{
+    match globals.structs.get(struct_number(meaning)) {
+        Some(fields) => fields_named(alloc, fields, elements),
+        None => {
+            let fields = Fields {
+                numbers: Scopes::new(alloc),
+                kinds: Vec::new(alloc),
+            };
+            fields_named(alloc, &fields, elements)
+        }
+    }
+}
+
+/// Whether two elements name one field.
+fn has_twice(alloc: Global, elements: &[Element]) -> Result<bool, AllocError>
+    ensures { IfOk result (λ b. b ≡ judging.has_twice no_names (ast.elements_of (map element_of elements.now))) }
+{
+    let mut seen: Scopes<'_, usize> = Scopes::new(alloc);
+    for element in elements {
+        if seen.get(element.field.name.bytes()).is_some() {
+            return Ok(true);
+        }
+        seen.declare(element.field.name.bytes(), 0)?;
+    }
+    Ok(false)
+}
+
+/// Refuses a literal by fields for the first rule that it breaks.
+fn judge_keyed(
+    known: Option<&[Option<Kind<'_>>]>,
+    twice: bool,
+    values: &[Shape<'_>],
+    at: Place,
+) -> Result<(), TypeError>
+    ensures { Judges result ((at, node.Keyed (known_of known.entry) twice (map shape_of values.now)) ∷ []) }
+{
+    judge(at, &Node::Keyed(known, twice, values))
+}
+
+/// `&T{f: a, g: b}`, of its values (The Go Programming Language Specification, "Composite
+/// literals").
+pub fn keyed<'a>(
+    alloc: Global,
+    meaning: Option<Meaning>,
+    elements: &[Element],
+    named: Named<'a>,
+    values: Values<'a>,
+    at: Place,
+) -> Result<Judged<'a>, TypeError>
+    ensures judged { Judges result ((
+      at,
+      node.Keyed
+          (judging.known_if meaning (map optional_kind_of named.entry.kinds.items))
+          (judging.has_twice no_names (ast.elements_of (map element_of elements.now)))
+          (map shape_of values.entry.shapes.items),
+    ) ∷ []) }
+    ensures value { IfOk result (λ j. Tells j (types.pointer_shape meaning)
+        (tree.Build (judging.struct_number meaning) (tree.terms_of (map term_of values.entry.terms.items))
+        named.entry.numbers.items at)) }
+{
+    let twice = has_twice(alloc, elements)?;
+    let Some(Meaning::Struct(number)) = meaning else {
+        judge_keyed(None, twice, &values.shapes, at)?;
+        unreachable!();
+    };
+    judge_keyed(Some(&named.kinds), twice, &values.shapes, at)?;
+    Ok(Judged {
+        term: Term::Build(number, values.terms, Row::new(named.numbers), at),
+        shape: pointer(meaning),
+    })
+}

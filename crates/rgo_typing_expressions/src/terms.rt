@@ -1,0 +1,83 @@
+//! Typed trees from their parts.
+#![tactic(auto, using(rgo_typed::proofs::Rows::rows))]
+
+ghost use Rattle.std.specs.Prelude.{◌≡◌, IfOk};
+ghost use Rattle.rgo_typing_rules.specs.Types.{plain};
+ghost use Rattle.rgo_typing_rules.specs.Views.{kind_of};
+ghost use Rattle.rgo_typed.specs.Tree as tree;
+ghost use Rattle.rgo_typed.specs.Views.{term_of};
+ghost use Rattle.rgo_typing_expressions.specs.Scopes as scopes;
+ghost use Rattle.rgo_typing_expressions.specs.Terms as spec;
+
+use rgo_ast::Place;
+use rgo_typing_rules::Kind;
+use rgo_typed::{Action, Base, Row, Term, Type};
+use std::alloc::{AllocError, Global};
+
+/// A type without layers. Allocates nothing.
+pub fn plain(alloc: Global, base: Base) -> Type
+    ensures { result ≡ plain base }
+{
+    Type {
+        layers: Row::new(Vec::new(alloc)),
+        base,
+    }
+}
+
+/// An action without parts.
+pub fn atom(alloc: Global, action: Action, ty: Type, at: Place) -> Term
+    ensures { term_of result ≡ spec.atom action ty at }
+{
+    Term::Apply(action, Vec::new(alloc), ty, at)
+}
+
+/// A constant.
+pub fn constant(alloc: Global, value: i64, at: Place) -> Term
+    ensures { term_of result ≡ spec.constant value at }
+{
+    atom(alloc, Action::Int(value), plain(alloc, Base::Int), at)
+}
+
+/// An action on one part.
+pub fn apply_one(
+    alloc: Global,
+    action: Action,
+    part: Term,
+    ty: Type,
+    at: Place,
+) -> Result<Term, AllocError>
+    ensures { IfOk result (λ t. term_of t ≡ tree.Apply action (spec.one (term_of part)) ty at) }
+{
+    let mut parts = Vec::new(alloc);
+    parts.push(part)?;
+    Ok(Term::Apply(action, parts, ty, at))
+}
+
+/// An action on two parts.
+pub fn apply_two(
+    alloc: Global,
+    action: Action,
+    first: Term,
+    second: Term,
+    ty: Type,
+    at: Place,
+) -> Result<Term, AllocError>
+    ensures { IfOk result (λ t. term_of t ≡ tree.Apply action (spec.two (term_of first) (term_of second)) ty at) }
+{
+    let mut parts = Vec::new(alloc);
+    parts.push(first)?;
+    parts.push(second)?;
+    Ok(Term::Apply(action, parts, ty, at))
+}
+
+/// A value as one of this type: `nil` takes it.
+pub fn with_type(alloc: Global, kind: Kind<'_>, term: Term) -> Result<Term, AllocError>
+    ensures { IfOk result (λ t. term_of t ≡ spec.with_type (kind_of kind.entry) (term_of term)) }
+{
+    match term {
+        Term::Apply(Action::Nil, parts, _, at) => {
+            Ok(Term::Apply(Action::Nil, parts, kind.to_type(alloc)?, at))
+        }
+        other => Ok(other),
+    }
+}

@@ -1,0 +1,341 @@
+-- The 34 rules on meaning. Each is a test of one node: it says whether the node breaks the rule. A node is
+-- refused for the first rule that it breaks.
+use Rattle.std.specs.Prelude.{ℕ, suc, Bool, true, false, not, ◌&&◌, ◌||◌, ◌==◌, ◌^◌, nat_lt, List, [], ◌∷◌, length}
+use Rattle.std.specs.List.{list_any}
+use Rattle.std.specs.Prelude.{Option, Some, None, is_some, is_none, if◌then◌else◌, codes}
+use Rattle.std.specs.Str.{bytes_eq}
+use Rattle.rgo_ast.specs.declared.ops.UnaryOp.{UnaryOp}
+use Rattle.rgo_ast.specs.declared.ops.UnaryOp.TheVariants as unary
+use Rattle.rgo_ast.specs.declared.ops.BinaryOp.{BinaryOp}
+use Rattle.rgo_ast.specs.declared.ops.BinaryOp.TheVariants as binary
+use Rattle.rgo_typed.specs.declared.types.Type.{«Type»}
+use Rattle.rgo_typing_rules.specs.Types.{element_of}
+use Rattle.rgo_typing_rules.specs.Shapes as shape
+use Rattle.rgo_typing_rules.specs.Shapes.{Shape, is_int_shape, is_bool_shape, is_slice_shape, is_chan_shape, is_nil_shape}
+use Rattle.rgo_typing_rules.specs.Shapes.{fits, are_comparable, has_misfit, has_known_misfit, has_nil, has_pointer}
+use Rattle.rgo_typing_rules.specs.Constants.{is_zero, is_below_zero, is_out_of_range, folded_shapes, folded_shape}
+use Rattle.rgo_typing_rules.specs.declared.meanings.Meaning.{Meaning}
+use Rattle.rgo_typing_rules.specs.Meanings.{is_missing, is_value, is_struct, is_type}
+use Rattle.rgo_typing_rules.specs.Nodes as node
+use Rattle.rgo_typing_rules.specs.Nodes.{Node, wants_value, is_printed, is_target}
+
+-- 1 BadImport: a path other than `fmt`
+abbrev pub bad_import : Node → Bool
+bad_import (node.Import again path) = not (bytes_eq path (codes "fmt"))
+bad_import _ = false
+
+-- 2 Redeclared: a name declared again in its block, struct, parameter list or imports
+abbrev pub redeclared : Node → Bool
+redeclared (node.Import again path) = again
+redeclared (node.Declared again name) = again
+redeclared _ = false
+
+abbrev pub reserved : List (List ℕ)
+reserved =
+    codes "int" ∷ codes "bool" ∷ codes "true" ∷ codes "false" ∷ codes "nil"
+    ∷ codes "new" ∷ codes "make" ∷ codes "len" ∷ codes "close" ∷ codes "cap"
+    ∷ codes "append" ∷ codes "fmt" ∷ codes "sync" ∷ codes "init" ∷ codes "_" ∷ []
+
+-- 3 ReservedName: a declaration of a reserved name
+abbrev pub reserved_name : Node → Bool
+reserved_name (node.Declared again name) = list_any (λ k. bytes_eq k name) reserved
+reserved_name _ = false
+
+-- 4 NoSuchName: a name that nothing in scope declares; `fmt` without its import
+abbrev pub no_such_name : Node → Bool
+no_such_name (node.TypeName m) = is_missing m
+no_such_name (node.BaseName m) = is_missing m
+no_such_name (node.Name r m) = is_missing m
+no_such_name node.CallMissing = true
+no_such_name _ = false
+
+-- 5 NotType: a name in a type's place that names no type
+abbrev pub not_type : Node → Bool
+not_type (node.TypeName m) = not (is_type m)
+not_type (node.BaseName m) = not (is_type m)
+not_type _ = false
+
+-- 6 StructByValue: a struct as a type without `*`
+abbrev pub struct_by_value : Node → Bool
+struct_by_value (node.TypeName m) = is_struct m
+struct_by_value _ = false
+
+-- 7 PointerBase: `*X`, `new(X)` or `&X{` where X is no struct
+abbrev pub pointer_base : Node → Bool
+pointer_base (node.Pointed m) = not (is_struct m)
+pointer_base (node.Literal fields values) = is_none fields
+pointer_base (node.Keyed fields twice values) = is_none fields
+pointer_base _ = false
+
+abbrev pub is_no_value : Option Meaning → Bool
+is_no_value None = false
+is_no_value (Some m) = not (is_value m)
+
+-- 8 NotValue: a type, function, builtin or package as a value; the left side of `=` is none
+abbrev pub not_value : Node → Bool
+not_value (node.Name r m) = is_no_value m && not (is_target r)
+not_value _ = false
+
+-- 9 StringPlace: a string that is no argument of `fmt.Println`
+abbrev pub string_place : Node → Bool
+string_place (node.Text r) = not (is_printed r)
+string_place _ = false
+
+-- what an operator works on: ints, bools, or two values that can be compared
+pub data Operands : Type 0 where
+  ints : Operands
+  bools : Operands
+  alike : Operands
+
+abbrev pub operands_of : BinaryOp → Operands
+operands_of binary.Eq = alike
+operands_of binary.Ne = alike
+operands_of binary.And = bools
+operands_of binary.Or = bools
+operands_of _ = ints
+
+abbrev pub are_slices : Shape → Shape → Bool
+are_slices a b = is_slice_shape a && is_slice_shape b
+
+abbrev pub are_nil : Shape → Shape → Bool
+are_nil a b = is_nil_shape a && is_nil_shape b
+
+abbrev pub lacks : Operands → Shape → Shape → Bool
+lacks ints a b = not (is_int_shape a && is_int_shape b)
+lacks bools a b = not (is_bool_shape a && is_bool_shape b)
+lacks alike a b = not (are_slices a b || are_nil a b || are_comparable a b)
+
+abbrev pub lacks_one : UnaryOp → Shape → Bool
+lacks_one unary.Plus s = not (is_int_shape s)
+lacks_one unary.Minus s = not (is_int_shape s)
+lacks_one unary.Not s = not (is_bool_shape s)
+lacks_one unary.Receive s = false
+
+-- 10 Mismatch: an operator on operands that it does not have, where 11 and 12 do not say it
+abbrev pub mismatch : Node → Bool
+mismatch (node.Unary op s) = lacks_one op s
+mismatch (node.Binary op a b) = lacks (operands_of op) a b
+mismatch (node.Update op at_place a b) = lacks ints a b
+mismatch _ = false
+
+abbrev pub compares : (Shape → Shape → Bool) → Operands → Shape → Shape → Bool
+compares test alike a b = test a b
+compares test _ a b = false
+
+-- 11 SliceCompare: `==` or `!=` of two slices
+abbrev pub slice_compare : Node → Bool
+slice_compare (node.Binary op a b) = compares are_slices (operands_of op) a b
+slice_compare _ = false
+
+-- 12 BareNil: `nil` declared without a type, printed, or compared with `nil`
+abbrev pub bare_nil : Node → Bool
+bare_nil (node.Binary op a b) = compares are_nil (operands_of op) a b
+bare_nil (node.Define s) = is_nil_shape s
+bare_nil (node.Print r values) = has_nil values
+bare_nil _ = false
+
+abbrev pub misfits_returned : Option «Type» → Option Shape → Bool
+misfits_returned (Some t) (Some s) = not (fits t s)
+misfits_returned _ _ = false
+
+abbrev pub misfits_assigned : Shape → Shape → Bool
+misfits_assigned (shape.Value t) s = not (fits t s)
+misfits_assigned _ s = false
+
+abbrev pub misfits_sent : Shape → Shape → Bool
+misfits_sent (shape.Value t) s = not (fits (element_of t) s)
+misfits_sent _ s = false
+
+abbrev pub misfits_fields : Option (List «Type») → List Shape → Bool
+misfits_fields None values = false
+misfits_fields (Some fields) values = has_misfit fields values
+
+abbrev pub misfits_known : Option (List (Option «Type»)) → List Shape → Bool
+misfits_known None values = false
+misfits_known (Some fields) values = has_known_misfit fields values
+
+-- 13 NotAssignable: a value whose type is not the wanted one, where it is declared with a type,
+-- assigned, passed, returned, sent or put in a literal; with another number of values than wanted, of the pairs
+-- as far as both go
+abbrev pub not_assignable : Node → Bool
+not_assignable (node.Literal fields values) = misfits_fields fields values
+not_assignable (node.Keyed fields twice values) = misfits_known fields values
+not_assignable (node.Call r signature args) = has_misfit signature.params args
+not_assignable (node.Send c s) = is_chan_shape c && misfits_sent c s
+not_assignable (node.Assign at_place a b) = at_place && misfits_assigned a b
+not_assignable (node.DefineAs t s) = not (fits t s)
+not_assignable (node.Go signature args) = has_misfit signature.params args
+not_assignable (node.Return wanted given) = misfits_returned wanted given
+not_assignable _ = false
+
+-- 14 NotPlace: an assignment, `++` or `--` on what is no variable, field or element
+abbrev pub not_place : Node → Bool
+not_place (node.Assign at_place a b) = not at_place
+not_place (node.Update op at_place a b) = not at_place
+not_place _ = false
+
+-- 15 NoSuchField: a selector on what is no struct pointer, or on a field not there
+abbrev pub no_such_field : Node → Bool
+no_such_field (node.Selector there) = not there
+no_such_field _ = false
+
+-- there is a first argument, and it is something else
+abbrev pub first_is_no : (Shape → Bool) → List Shape → Bool
+first_is_no test [] = false
+first_is_no test (s ∷ args) = not (test s)
+
+-- 16 NotIndexable: an index or `len` on what is no slice, or an index that is no int
+abbrev pub not_indexable : Node → Bool
+not_indexable (node.Index a i) = not (is_slice_shape a && is_int_shape i)
+not_indexable (node.CallLen args) = first_is_no is_slice_shape args
+not_indexable _ = false
+
+-- 17 NotCall: a callee that is no function, `len`, `close` or `fmt.Println`
+abbrev pub not_call : Node → Bool
+not_call node.CallNothing = true
+not_call _ = false
+
+-- 18 ArgCount: a wrong number of arguments
+abbrev pub arg_count : Node → Bool
+arg_count (node.Call r signature args) = not (length args == length signature.params)
+arg_count (node.CallLen args) = not (length args == 1)
+arg_count (node.CallClose r args) = not (length args == 1)
+arg_count (node.Go signature args) = not (length args == length signature.params)
+arg_count _ = false
+
+-- 19 NoResult: a call without result as a value
+abbrev pub no_result : Node → Bool
+no_result (node.Call r signature args) = is_none signature.result_type && wants_value r
+no_result (node.CallClose r args) = wants_value r
+no_result (node.Print r args) = wants_value r
+no_result _ = false
+
+-- 20 NotStatement: an expression statement that is neither a call nor a receive, or is `len`, `new` or `make`
+abbrev pub not_statement : Node → Bool
+not_statement (node.Alone may_stand) = not may_stand
+not_statement _ = false
+
+-- 21 GoTarget: `go` of what is no function, or of one with a result
+abbrev pub go_target : Node → Bool
+go_target (node.Go signature args) = is_some signature.result_type
+go_target node.GoNothing = true
+go_target _ = false
+
+abbrev pub receives_no_channel : UnaryOp → Shape → Bool
+receives_no_channel unary.Receive s = not (is_chan_shape s)
+receives_no_channel _ s = false
+
+-- 22 NotChannel: a send, receive or close on what is no channel
+abbrev pub not_channel : Node → Bool
+not_channel (node.Unary op s) = receives_no_channel op s
+not_channel (node.CallClose r args) = first_is_no is_chan_shape args
+not_channel (node.Send c s) = not (is_chan_shape c)
+not_channel _ = false
+
+-- 23 NotBool: a condition that is no bool
+abbrev pub not_bool : Node → Bool
+not_bool (node.Condition s) = not (is_bool_shape s)
+not_bool _ = false
+
+-- 24 NotInt: a size that is no int
+abbrev pub not_int : Node → Bool
+not_int (node.Size s) = not (is_int_shape s)
+not_int _ = false
+
+-- 25 ConstRange: a constant outside -9223372036854775808 to 9223372036854775807
+abbrev pub const_range : Node → Bool
+const_range (node.Number n) = not (nat_lt n (2 ^ 63))
+const_range (node.Unary op s) = is_out_of_range (folded_shape op s)
+const_range (node.Binary op a b) = is_out_of_range (folded_shapes op a b)
+const_range _ = false
+
+abbrev pub is_zero_shape : Shape → Bool
+is_zero_shape (shape.Constant n) = is_zero n
+is_zero_shape _ = false
+
+abbrev pub divides : BinaryOp → Bool
+divides binary.Div = true
+divides binary.Rem = true
+divides _ = false
+
+-- 26 ConstZeroDivisor: `/`, `%`, `/=`, `%=` by a constant 0
+abbrev pub const_zero_divisor : Node → Bool
+const_zero_divisor (node.Binary op a b) = divides op && is_zero_shape b
+const_zero_divisor (node.Update op at_place a b) = divides op && is_zero_shape b
+const_zero_divisor _ = false
+
+abbrev pub is_below_zero_shape : Shape → Bool
+is_below_zero_shape (shape.Constant n) = is_below_zero n
+is_below_zero_shape _ = false
+
+-- 27 ConstIndex: a constant index below 0
+abbrev pub const_index : Node → Bool
+const_index (node.Index a i) = is_below_zero_shape i
+const_index _ = false
+
+-- 28 ConstSize: a constant size below 0
+abbrev pub const_size : Node → Bool
+const_size (node.Size s) = is_below_zero_shape s
+const_size _ = false
+
+-- values are there, in another number than the fields
+abbrev pub is_partial : Option (List «Type») → List Shape → Bool
+is_partial None values = false
+is_partial (Some fields) [] = false
+is_partial (Some fields) (s ∷ values) = not (length (s ∷ values) == length fields)
+
+abbrev pub has_unknown : Option (List (Option «Type»)) → Bool
+has_unknown None = false
+has_unknown (Some fields) = list_any is_none fields
+
+-- 29 LiteralFields: a literal with an unknown or repeated field name, or with values without names in another
+-- number than the fields, except none
+abbrev pub literal_fields : Node → Bool
+literal_fields (node.Literal fields values) = is_partial fields values
+literal_fields (node.Keyed fields twice values) = has_unknown fields || twice
+literal_fields _ = false
+
+-- 30 PrintType: `Println` of a pointer, slice or channel
+abbrev pub print_type : Node → Bool
+print_type (node.Print r values) = has_pointer values
+print_type _ = false
+
+-- 31 ReturnCount: a value returned where there is no result, or none where there is one
+abbrev pub return_count : Node → Bool
+return_count (node.Return None given) = is_some given
+return_count (node.Return (Some t) given) = is_none given
+return_count _ = false
+
+-- 32 MissingReturn: a function with a result whose body is not terminating
+abbrev pub missing_return : Node → Bool
+missing_return (node.End has_result is_terminating) = has_result && not is_terminating
+missing_return _ = false
+
+-- 33 LoopOutside: `break` or `continue` outside `for`
+abbrev pub loop_outside : Node → Bool
+loop_outside (node.Branch in_loop) = not in_loop
+loop_outside _ = false
+
+-- 34 NoMain: no function `main` without parameters and result
+abbrev pub no_main : Node → Bool
+no_main (node.TextEnd has_main) = not has_main
+no_main _ = false
+
+-- whether the node breaks each rule, from the first rule to the last
+abbrev pub breaks : Node → List Bool
+breaks n =
+    bad_import n ∷ redeclared n ∷ reserved_name n ∷ no_such_name n ∷ not_type n ∷ struct_by_value n
+    ∷ pointer_base n ∷ not_value n ∷ string_place n ∷ mismatch n ∷ slice_compare n ∷ bare_nil n
+    ∷ not_assignable n ∷ not_place n ∷ no_such_field n ∷ not_indexable n ∷ not_call n ∷ arg_count n
+    ∷ no_result n ∷ not_statement n ∷ go_target n ∷ not_channel n ∷ not_bool n ∷ not_int n
+    ∷ const_range n ∷ const_zero_divisor n ∷ const_index n ∷ const_size n ∷ literal_fields n ∷ print_type n
+    ∷ return_count n ∷ missing_return n ∷ loop_outside n ∷ no_main n ∷ []
+
+-- counted from this number
+abbrev pub first_true : ℕ → List Bool → Option ℕ
+first_true k [] = None
+first_true k (b ∷ l) = if b then Some k else first_true (suc k) l
+
+-- the number of the first rule that the node breaks
+abbrev pub broken : Node → Option ℕ
+broken n = first_true 1 (breaks n)

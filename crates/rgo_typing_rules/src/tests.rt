@@ -1,0 +1,224 @@
+//! Nodes with the first rule that they break, worked out from the words of the rules.
+
+mod letters;
+mod lists;
+mod plain;
+
+use crate::{Kind, Node, Role, Shape, Signature, broken, fold, fold_one};
+use plain::Row;
+use rgo_ast::{BinaryOp, Ident, Name, Type, UnaryOp};
+use rgo_typed::{Base, Layer};
+use std::alloc::Global;
+use std::process::Abort;
+use std::test::Fail;
+
+fn rows_hold<R: Abort>(rt: &R, rows: &[Row<'_>]) {
+    for (rule, bad, good) in rows {
+        assert_eq!(rt; broken(bad), Some(*rule));
+        assert_eq!(rt; broken(good), None, "beside {rule}");
+    }
+}
+
+fn are_first<R: Abort>(rt: &R, rows: &[(u8, Node<'_, '_, '_>)]) {
+    for (rule, node) in rows {
+        assert_eq!(rt; broken(node), Some(*rule));
+    }
+}
+
+fn ident(alloc: Global, word: &str) -> Result<Ident, Fail> {
+    let name = Name::new(Vec::from_slice(alloc, word.as_bytes())?);
+    Ok(Ident { name, at: 0 })
+}
+
+#[test]
+fn nodes_without_lists_are_judged(rt: HostRuntime) {
+    rows_hold(&rt, &plain::DECLARATIONS);
+    rows_hold(&rt, &plain::NAMES);
+    rows_hold(&rt, &plain::OPERATORS);
+    rows_hold(&rt, &plain::CONSTANTS);
+    rows_hold(&rt, &plain::VALUES);
+    rows_hold(&rt, &plain::ENDS);
+    are_first(&rt, &plain::FIRST);
+}
+
+fn literal_breaks<'a>(fields: &'a [Kind<'a>], values: &'a [Shape<'a>]) -> Option<u8> {
+    broken(&Node::Literal(Some(fields), values))
+}
+
+fn keyed_breaks<'a>(
+    fields: &'a [Option<Kind<'a>>],
+    twice: bool,
+    values: &'a [Shape<'a>],
+) -> Option<u8> {
+    broken(&Node::Keyed(Some(fields), twice, values))
+}
+
+fn judged_literal<'a>(
+    alloc: Global,
+    int: &'a Type,
+    fields: &str,
+    values: &str,
+) -> Result<Option<u8>, Fail> {
+    let kinds = letters::kinds(alloc, fields, int)?;
+    let shapes = letters::values(alloc, values, int)?;
+    Ok(literal_breaks(&kinds, &shapes))
+}
+
+fn judged_keyed<'a>(
+    alloc: Global,
+    int: &'a Type,
+    fields: &str,
+    twice: bool,
+    values: &str,
+) -> Result<Option<u8>, Fail> {
+    let kinds = letters::known(alloc, fields, int)?;
+    let shapes = letters::values(alloc, values, int)?;
+    Ok(keyed_breaks(&kinds, twice, &shapes))
+}
+
+fn call_breaks<'a>(signature: &'a Signature<'a>, args: &'a [Shape<'a>]) -> [Option<u8>; 3] {
+    [
+        broken(&Node::Call(Role::Alone, signature, args)),
+        broken(&Node::Call(Role::Value, signature, args)),
+        broken(&Node::Go(signature, args)),
+    ]
+}
+
+fn judged_call(
+    alloc: Global,
+    signature: &Signature<'static>,
+    args: &str,
+) -> Result<[Option<u8>; 3], Fail> {
+    let shapes = letters::plain_values(alloc, args)?;
+    Ok(call_breaks(signature, &shapes))
+}
+
+fn builtins_break<'a>(args: &'a [Shape<'a>]) -> [Option<u8>; 5] {
+    [
+        broken(&Node::CallLen(args)),
+        broken(&Node::CallClose(Role::Alone, args)),
+        broken(&Node::CallClose(Role::Value, args)),
+        broken(&Node::Print(Role::Alone, args)),
+        broken(&Node::Print(Role::Printed, args)),
+    ]
+}
+
+fn pair_breaks<'a>(a: Shape<'a>, b: Shape<'a>) -> [Option<u8>; 4] {
+    [
+        broken(&Node::Binary(BinaryOp::Eq, a, b)),
+        broken(&Node::Index(a, b)),
+        broken(&Node::Send(a, b)),
+        broken(&Node::Assign(true, a, b)),
+    ]
+}
+
+#[test]
+fn literals_are_judged(rt: HostRuntime) -> Result<(), Fail> {
+    let alloc = rt.alloc();
+    let int = Type::Named(ident(alloc, "int")?);
+    for (fields, values, wanted) in lists::LITERALS {
+        let broken = judged_literal(alloc, &int, fields, values)?;
+        assert_eq!(rt; broken, wanted, "{values} for {fields}");
+    }
+    for (fields, twice, values, wanted) in lists::KEYED {
+        let broken = judged_keyed(alloc, &int, fields, twice, values)?;
+        assert_eq!(rt; broken, wanted, "{values} for {fields}");
+    }
+    assert_eq!(rt; broken(&Node::Literal(None, &[])), Some(7));
+    assert_eq!(rt; broken(&Node::Keyed(None, true, &[])), Some(7));
+    Ok(())
+}
+
+#[test]
+fn calls_are_judged(rt: HostRuntime) -> Result<(), Fail> {
+    let alloc = rt.alloc();
+    let int = Type::Named(ident(alloc, "int")?);
+    for (params, gives, args, wanted) in lists::CALLS {
+        let signature = letters::signature(alloc, params, gives)?;
+        let broken = judged_call(alloc, &signature, args)?;
+        assert_eq!(rt; broken, wanted, "{args} for {params}");
+    }
+    for (args, wanted) in lists::BUILTINS {
+        let shapes = letters::values(alloc, args, &int)?;
+        assert_eq!(rt; builtins_break(&shapes), wanted, "of {args}");
+    }
+    Ok(())
+}
+
+#[test]
+fn pairs_are_judged(rt: HostRuntime) -> Result<(), Fail> {
+    let int = Type::Named(ident(rt.alloc(), "int")?);
+    for (a, b, wanted) in lists::PAIRS {
+        let broken = pair_breaks(letters::value(a, &int), letters::value(b, &int));
+        assert_eq!(rt; broken, wanted, "{a} and {b}");
+    }
+    Ok(())
+}
+
+// int, []int, chan int, []chan *S1, []chan *S2, []*S1
+#[test]
+fn types_are_identical_by_their_spelling(rt: HostRuntime) -> Result<(), Fail> {
+    let alloc = rt.alloc();
+    let int = Type::Named(ident(alloc, "int")?);
+    let pointer = Type::Pointer(ident(alloc, "S")?, 0);
+    let channel = Type::Chan(Box::new(alloc, Type::Pointer(ident(alloc, "S")?, 0))?, 0);
+    let types = [
+        Kind::of(&int, Base::Int),
+        Kind::Slice(&int, Base::Int),
+        Kind::Chan(&int, Base::Int),
+        Kind::Slice(&channel, Base::Pointer(1)),
+        Kind::Slice(&channel, Base::Pointer(2)),
+        Kind::Slice(&pointer, Base::Pointer(1)),
+    ];
+    for (i, a) in types.iter().enumerate() {
+        for (j, b) in types.iter().enumerate() {
+            assert_eq!(rt; a.is_same(*b), i == j);
+        }
+    }
+    assert!(rt;
+        types[3]
+            .element()
+            .is_same(Kind::Chan(&pointer, Base::Pointer(1)))
+    );
+    let ty = types[3].to_type(alloc)?;
+    assert_eq!(rt; ty.layers.items(), [Layer::Slice, Layer::Chan].as_slice());
+    assert_eq!(rt; ty.base, Base::Pointer(1));
+    Ok(())
+}
+
+#[test]
+fn constants_have_their_values(rt: HostRuntime) {
+    for (op, a, b, value) in [
+        (BinaryOp::Add, i64::MAX, 0, Some(i64::MAX)),
+        (BinaryOp::Add, i64::MAX, 1, None),
+        (BinaryOp::Sub, i64::MIN, 1, None),
+        (BinaryOp::Sub, -1, i64::MAX, Some(i64::MIN)),
+        (
+            BinaryOp::Mul,
+            0x8000_0000,
+            0x8000_0000,
+            Some(0x4000_0000_0000_0000),
+        ),
+        (BinaryOp::Mul, 0x8000_0000, 0x1_0000_0000, None),
+        (BinaryOp::Mul, i64::MIN, -1, None),
+        (BinaryOp::Div, -7, 2, Some(-3)),
+        (BinaryOp::Div, i64::MIN, -1, None),
+        (BinaryOp::Div, 1, 0, None),
+        (BinaryOp::Rem, -7, 2, Some(-1)),
+        (BinaryOp::Rem, 7, -2, Some(1)),
+        (BinaryOp::Rem, i64::MIN, -1, Some(0)),
+        (BinaryOp::Rem, 1, 0, None),
+        (BinaryOp::Lt, 1, 2, None),
+    ] {
+        assert_eq!(rt; fold(op, a, b), value, "{a} and {b}");
+    }
+    for (op, a, value) in [
+        (UnaryOp::Plus, -5, Some(-5)),
+        (UnaryOp::Minus, -5, Some(5)),
+        (UnaryOp::Minus, i64::MAX, Some(-9_223_372_036_854_775_807)),
+        (UnaryOp::Minus, i64::MIN, None),
+        (UnaryOp::Not, 1, None),
+    ] {
+        assert_eq!(rt; fold_one(op, a), value, "of {a}");
+    }
+}
