@@ -5,8 +5,6 @@ mod laws;
 mod nesting;
 mod terminals;
 mod terms;
-#[cfg(test)]
-mod tests;
 
 pub use laws::one_reading;
 pub use nesting::{Level, deep_at};

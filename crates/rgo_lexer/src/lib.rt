@@ -10,8 +10,6 @@ mod numbers;
 mod operators;
 mod semicolons;
 mod strings;
-#[cfg(test)]
-mod tests;
 mod tokens;
 mod words;
 

@@ -12,8 +12,6 @@ mod programs;
 mod reads;
 mod simple;
 mod statements;
-#[cfg(test)]
-mod tests;
 mod types;
 
 pub use laws::one_answer;

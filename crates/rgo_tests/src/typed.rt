@@ -1,6 +1,6 @@
 //! Types and lists of typed trees, and a program built by hand.
 
-use crate::{
+use rgo_typed::{
     Action, Base, Function, Layer, Logical, Piece, Row, Stmt, Struct, Term, Type, Typed, Variable,
 };
 use rgo_ast::{BinaryOp, Name};

@@ -4,7 +4,7 @@
 mod marked;
 mod nested;
 
-use crate::{ParseError, ParseRefusal, parse};
+use rgo_parser::{ParseError, ParseRefusal, parse};
 use rgo_ast::Program;
 use rgo_lexer::lex;
 use std::alloc::{AllocError, AllocFailed, Global};

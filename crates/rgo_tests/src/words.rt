@@ -1,6 +1,6 @@
 //! Rows of words, and what they ask for.
 
-use crate::{Command, Limits, WordsError, read_words};
+use rgo_words::{Command, Limits, WordsError, read_words};
 use std::alloc::{AllocError, Global};
 use std::process::Abort;
 use std::test::Fail;

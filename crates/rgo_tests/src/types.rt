@@ -1,6 +1,6 @@
 //! Programs built by hand: one that is refused, and one that is typed.
 
-use crate::{TypeError, TypeRefusal, check};
+use rgo_types::{TypeError, TypeRefusal, check};
 use rgo_ast::{Decl, Function, Ident, Name, Program};
 use std::alloc::Global;
 use std::test::Fail;

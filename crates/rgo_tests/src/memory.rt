@@ -1,6 +1,6 @@
 //! Actions one after another on one memory, each with what the language says that it gives.
 
-use crate::{Effect, Memory, meets_at, perform};
+use rgo_memory::{Effect, Memory, meets_at, perform};
 use rgo_ast::{BinaryOp, Name};
 use rgo_typed::{Action, Base, Layer, Row, Struct, Type, Variable};
 use rgo_values::{Trap, Value};

@@ -1,6 +1,6 @@
 //! Texts with their terminals.
 
-use crate::terminals::Terminal::{self, *};
+use rgo_grammar::Terminal::{self, *};
 use rgo_ast::{AssignOp, BinaryOp, StepOp};
 
 pub(super) const WORDS: [(&[u8], &[Terminal]); 4] = [

@@ -6,7 +6,7 @@ mod typing;
 
 ghost use Rattle.std.specs.Prelude.{None};
 
-use crate::rgo;
+use rgo_run::rgo;
 use rgo_outside::{
     Failed, MemSink, MemSource, NoFaultSink, NoFaultSource, NoGate, Sink, StdSink, StdSource,
     read_all,

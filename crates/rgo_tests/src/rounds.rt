@@ -1,6 +1,6 @@
 //! Programs built by hand, each with how its run ends and what it prints.
 
-use crate::{Limits, RunEnd, run};
+use rgo_rounds::{Limits, RunEnd, run};
 use rgo_ast::{BinaryOp, Name};
 use rgo_outside::MemSink;
 use rgo_typed::{Action, Base, Function, Layer, Piece, Row, Stmt, Term, Type, Typed};

@@ -1,6 +1,6 @@
 //! Operators, zeros and prints, with values computed by hand.
 
-use crate::{Trap, Value, binary, element_zero, inverted, is_nil, negated, write_value, zero};
+use rgo_values::{Trap, Value, binary, element_zero, inverted, is_nil, negated, write_value, zero};
 use rgo_ast::BinaryOp;
 use rgo_typed::{Base, Layer, Row, Type};
 use std::test::Fail;

@@ -2,7 +2,7 @@
 
 ghost use Rattle.std.specs.Prelude.{None};
 
-use crate::{
+use rgo_outside::{
     Failed, MemSink, MemSource, NoFaultSink, NoFaultSource, ReadEnd, Sink, StdSink, StdSource,
     WriteFault, read_all, write_all,
 };

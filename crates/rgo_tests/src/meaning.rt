@@ -1,6 +1,6 @@
 //! Runs of programs that are built by hand.
 
-use crate::{Next, SourceState, next_act, printed, start, step};
+use rgo_meaning::{Next, SourceState, next_act, printed, start, step};
 use rgo_ast::Name;
 use rgo_machine::{End, Pick, Stepped};
 use rgo_typed::{Action, Base, Function, Layer, Piece, Row, Stmt, Term, Type, Typed};

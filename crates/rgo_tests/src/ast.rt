@@ -1,6 +1,6 @@
 //! Trees of small texts, with places counted by hand.
 
-use crate::{
+use rgo_ast::{
     AssignOp, BinaryOp, Binding, Element, Expr, Ident, LocalVar, Name, Place, StepOp, Stmt, TypeExpr,
     UnaryOp,
 };

@@ -4,9 +4,9 @@ mod letters;
 mod lists;
 mod plain;
 
-use crate::{Kind, Node, Role, Shape, Signature, broken, fold, fold_one};
+use rgo_typing_rules::{Kind, Node, Role, Shape, Signature, broken, fold, fold_one};
 use plain::Row;
-use rgo_ast::{BinaryOp, Ident, Name, Type, UnaryOp};
+use rgo_ast::{BinaryOp, Ident, Name, TypeExpr, UnaryOp};
 use rgo_typed::{Base, Layer};
 use std::alloc::Global;
 use std::process::Abort;
@@ -55,7 +55,7 @@ fn keyed_breaks<'a>(
 
 fn judged_literal<'a>(
     alloc: Global,
-    int: &'a Type,
+    int: &'a TypeExpr,
     fields: &str,
     values: &str,
 ) -> Result<Option<u8>, Fail> {
@@ -66,7 +66,7 @@ fn judged_literal<'a>(
 
 fn judged_keyed<'a>(
     alloc: Global,
-    int: &'a Type,
+    int: &'a TypeExpr,
     fields: &str,
     twice: bool,
     values: &str,
@@ -115,7 +115,7 @@ fn pair_breaks<'a>(a: Shape<'a>, b: Shape<'a>) -> [Option<u8>; 4] {
 #[test]
 fn literals_are_judged(rt: HostRuntime) -> Result<(), Fail> {
     let alloc = rt.alloc();
-    let int = Type::Named(ident(alloc, "int")?);
+    let int = TypeExpr::Named(ident(alloc, "int")?);
     for (fields, values, wanted) in lists::LITERALS {
         let broken = judged_literal(alloc, &int, fields, values)?;
         assert_eq!(rt; broken, wanted, "{values} for {fields}");
@@ -132,7 +132,7 @@ fn literals_are_judged(rt: HostRuntime) -> Result<(), Fail> {
 #[test]
 fn calls_are_judged(rt: HostRuntime) -> Result<(), Fail> {
     let alloc = rt.alloc();
-    let int = Type::Named(ident(alloc, "int")?);
+    let int = TypeExpr::Named(ident(alloc, "int")?);
     for (params, gives, args, wanted) in lists::CALLS {
         let signature = letters::signature(alloc, params, gives)?;
         let broken = judged_call(alloc, &signature, args)?;
@@ -147,7 +147,7 @@ fn calls_are_judged(rt: HostRuntime) -> Result<(), Fail> {
 
 #[test]
 fn pairs_are_judged(rt: HostRuntime) -> Result<(), Fail> {
-    let int = Type::Named(ident(rt.alloc(), "int")?);
+    let int = TypeExpr::Named(ident(rt.alloc(), "int")?);
     for (a, b, wanted) in lists::PAIRS {
         let broken = pair_breaks(letters::value(a, &int), letters::value(b, &int));
         assert_eq!(rt; broken, wanted, "{a} and {b}");
@@ -159,9 +159,9 @@ fn pairs_are_judged(rt: HostRuntime) -> Result<(), Fail> {
 #[test]
 fn types_are_identical_by_their_spelling(rt: HostRuntime) -> Result<(), Fail> {
     let alloc = rt.alloc();
-    let int = Type::Named(ident(alloc, "int")?);
-    let pointer = Type::Pointer(ident(alloc, "S")?, 0);
-    let channel = Type::Chan(Box::new(alloc, Type::Pointer(ident(alloc, "S")?, 0))?, 0);
+    let int = TypeExpr::Named(ident(alloc, "int")?);
+    let pointer = TypeExpr::Pointer(ident(alloc, "S")?, 0);
+    let channel = TypeExpr::Chan(Box::new(alloc, TypeExpr::Pointer(ident(alloc, "S")?, 0))?, 0);
     let types = [
         Kind::of(&int, Base::Int),
         Kind::Slice(&int, Base::Int),

@@ -1,6 +1,6 @@
 //! Small expressions, with what they are worked out by hand.
 
-use crate::{
+use rgo_typing_expressions::{
     Judged, Package, Scope, TypeError, TypeRefusal, bare, is_place, judge_expr, may_stand, meaning,
 };
 use rgo_ast::{BinaryOp, Expr, Ident, Name, Place};
