@@ -1,16 +1,19 @@
--- Each text is one program at most, and is within the rules or has one refusal, and never both.
+-- Each text is at most one program, and is valid or has one refusal, never both.
 use Rattle.std.proofs.Common.{◌≡◌, ℕ, ◌<◌, ◌≤◌, ◌⊎◌, inl, inr, List, length, Option, Some, None, refl, sym, ap, ◌∙◌, subst, arith}
 use Rattle.std.proofs.lemmas.Bool.{cases_lt}
-use Rattle.rgo_lexer.specs.declared.tokens.Token.{Token}
-use Rattle.rgo_lexer.specs.declared.tokens.LexRefusal.{LexRefusal}
-use Rattle.rgo_lexer.specs.Tokens.{Tokens}
+use Rattle.rgo_lexer.specs.declared.refusals.LexicalKind.{LexicalKind}
+use Rattle.rgo_lexer.specs.declared.refusals.LexRefusal.{LexRefusal}
+use Rattle.rgo_lexer.specs.Lexemes.{Lexeme}
+use Rattle.rgo_lexer.specs.Lexing.{LexesAs}
 use Rattle.rgo_lexer.specs.Refusals.{Refuses as LexRefuses, refusal}
 use Rattle.rgo_lexer.proofs.OneReading as lexer
 use Rattle.rgo_ast.specs.Tree.{Program}
 use Rattle.rgo_parser.specs.Parsing.{IsParsed, Refuses}
 use Rattle.rgo_parser.specs.declared.parser.ParseRefusal.{ParseRefusal}
 use Rattle.rgo_parser.specs.declared.parser.ParseRefusal.TheVariants as parse
-use Rattle.rgo_typing_expressions.specs.Sites.{Fault, first_fault}
+use Rattle.rgo_typing_rules.specs.Sites.{first_refusal}
+use Rattle.rgo_typing_rules.specs.declared.errors.TypeRefusal.{TypeRefusal}
+use Rattle.rgo_typing_rules.specs.declared.rules.Rule.{Rule}
 use Rattle.rgo_typed.specs.Tree.{Typed}
 use Rattle.rgo_types.specs.Programs.{sites_of, typed_program}
 use Rattle.rgo_run.specs.declared.endings.Position.{Position}
@@ -20,31 +23,31 @@ use Rattle.rgo_run.specs.Positions.{position_of, place_of}
 use Rattle.rgo_run.specs.Verdicts.{text_limit, IsTree, IsWellTyped, Passes, IsProgram, IsRefused, IsMistyped, Refused, OneVerdict}
 use Rattle.rgo_parser.proofs.Answered as parser
 
--- what was said of one list of tokens is said of the other
-moved : (text : List ℕ) (a b : List Token) (P : List Token → Type 0) → Tokens text a → Tokens text b → P a → P b
+-- what was said of one list of lexemes is said of the other
+moved : (text : List ℕ) (a b : List Lexeme) (P : List Lexeme → Type 0) → LexesAs text a → LexesAs text b → P a → P b
 moved text a b P s t h = subst P (lexer.one_list text a b s t) h
 
 one_tree : (text : List ℕ) (p q : Program) → IsTree text p → IsTree text q → p ≡ q
 one_tree text p q a b =
-    parser.one_tree text b.tokens p q (moved text a.tokens b.tokens (λ t. IsParsed text t p) a.are_tokens b.are_tokens a.parsed) b.parsed
+    parser.one_tree (length text) b.lexemes p q (moved text a.lexemes b.lexemes (λ t. IsParsed (length text) t p) a.lexed b.lexed a.parsed) b.parsed
 
 pub one_program : (text : List ℕ) (p q : Typed) → IsProgram text p → IsProgram text q → p ≡ q
 one_program text p q a b = a.typed ∙ ap typed_program (one_tree text a.tree b.tree a.is_well_typed.is_tree b.is_well_typed.is_tree) ∙ sym b.typed
 
--- a tree has no lexical refusal, and no refusal of its tokens
+-- a tree has no lexical refusal, and no refusal of its lexemes
 not_lexical : (text : List ℕ) (tree : Program) (r : LexRefusal) → IsTree text tree → LexRefuses text r → ⊥
-not_lexical text tree r a w = lexer.never_both text a.tokens r a.are_tokens w
+not_lexical text tree r a w = lexer.never_both text a.lexemes r a.lexed w
 
 not_refused : (text : List ℕ) (tree : Program) (r : ParseRefusal) (k : ℕ) (at : Position) → IsTree text tree → IsRefused text r k at → ⊥
 not_refused text tree r k at a w =
-    parser.never_both text w.tokens tree r (moved text a.tokens w.tokens (λ t. IsParsed text t tree) a.are_tokens w.are_tokens a.parsed) w.refused
+    parser.never_both (length text) w.lexemes tree r (moved text a.lexemes w.lexemes (λ t. IsParsed (length text) t tree) a.lexed w.lexed a.parsed) w.refused
 
--- a fault of the tree is one of each tree of the text
-moved_fault : (text : List ℕ) (tree : Program) (rule : ℕ) (at : Position) → IsTree text tree → (w : IsMistyped text rule at) → first_fault (sites_of tree) ≡ Some (rule, w.place)
-moved_fault text tree rule at a w = subst (λ t. first_fault (sites_of t) ≡ Some (rule, w.place)) (one_tree text w.tree tree w.is_tree a) w.fault
+-- the first broken rule of a tree is that of each tree of the text
+moved_rule : (text : List ℕ) (tree : Program) (rule : Rule) (at : Position) → IsTree text tree → (w : IsMistyped text rule at) → first_refusal (sites_of tree) ≡ Some (record { rule = rule; at = w.place })
+moved_rule text tree rule at a w = subst (λ t. first_refusal (sites_of t) ≡ Some (record { rule = rule; at = w.place })) (one_tree text w.tree tree w.is_tree a) w.broken
 
-not_mistyped : (text : List ℕ) (tree : Program) (rule : ℕ) (at : Position) → IsWellTyped text tree → IsMistyped text rule at → ⊥
-not_mistyped text tree rule at a w = let fault = moved_fault text tree rule at a.is_tree w in let none = a.no_fault in cc
+not_mistyped : (text : List ℕ) (tree : Program) (rule : Rule) (at : Position) → IsWellTyped text tree → IsMistyped text rule at → ⊥
+not_mistyped text tree rule at a w = let broken = moved_rule text tree rule at a.is_tree w in let none = a.unbroken in cc
 
 -- what is within the rules breaks none
 keeps : (text : List ℕ) (tree : Program) (why : Ending) → IsWellTyped text tree → Refused text why → ⊥
@@ -59,7 +62,7 @@ pub never_both : (text : List ℕ) (why : Ending) → Passes text → Refused te
 never_both text why t r = keeps text t.0 why t.1 r
 
 -- one lexical refusal
-same_lexical : (text : List ℕ) (j k : ℕ) (a b : Position) (p q : ℕ) → LexRefuses text (refusal j p) → LexRefuses text (refusal k q) → a ≡ position_of text p → b ≡ position_of text q → Lexical j a ≡ Lexical k b
+same_lexical : (text : List ℕ) (j k : LexicalKind) (a b : Position) (p q : ℕ) → LexRefuses text (refusal j p) → LexRefuses text (refusal k q) → a ≡ position_of text p → b ≡ position_of text q → Lexical j a ≡ Lexical k b
 same_lexical text j k a b p q r s e f =
     let same = lexer.one_refusal text (refusal j p) (refusal k q) r s in
     let kinds : j ≡ k = ap (λ (x : LexRefusal). x.kind) same in
@@ -67,15 +70,15 @@ same_lexical text j k a b p q r s e f =
     let at : a ≡ b = e ∙ ap (position_of text) places ∙ sym f in
     cc
 
--- one refusal of the tokens
+-- one refusal of the lexemes
 same_refusal : (text : List ℕ) (r s : ParseRefusal) (j k : ℕ) (a b : Position) → IsRefused text r j a → IsRefused text s k b → r ≡ s
 same_refusal text r s j k a b v w =
-    parser.one_refusal text w.tokens r s (moved text v.tokens w.tokens (λ t. Refuses text t r) v.are_tokens w.are_tokens v.refused) w.refused
+    parser.one_refusal w.lexemes r s (moved text v.lexemes w.lexemes (λ t. Refuses t r) v.lexed w.lexed v.refused) w.refused
 
 same_position : (text : List ℕ) (r s : ParseRefusal) (j k : ℕ) (a b : Position) → IsRefused text r j a → IsRefused text s k b → j ≡ k → a ≡ b
 same_position text r s j k a b v w e =
-    v.position ∙ ap (λ l. position_of text (place_of text l j)) (lexer.one_list text v.tokens w.tokens v.are_tokens w.are_tokens)
-    ∙ ap (λ n. position_of text (place_of text w.tokens n)) e ∙ sym w.position
+    v.position ∙ ap (λ l. position_of text (place_of text l j)) (lexer.one_list text v.lexemes w.lexemes v.lexed w.lexed)
+    ∙ ap (λ n. position_of text (place_of text w.lexemes n)) e ∙ sym w.position
 
 same_syntax : (text : List ℕ) (j k : ℕ) (a b : Position) → IsRefused text (parse.Syntax j) j a → IsRefused text (parse.Syntax k) k b → Syntax a ≡ Syntax b
 same_syntax text j k a b v w =
@@ -93,17 +96,17 @@ not_both_ways : (text : List ℕ) (j k : ℕ) (a b : Position) → IsRefused tex
 not_both_ways text j k a b v w = let same = same_refusal text (parse.Syntax j) (parse.TooDeep k) j k a b v w in cc
 
 not_both_orders : (text : List ℕ) (r : LexRefusal) (s : ParseRefusal) (k : ℕ) (at : Position) → LexRefuses text r → IsRefused text s k at → ⊥
-not_both_orders text r s k at v w = lexer.never_both text w.tokens r w.are_tokens v
+not_both_orders text r s k at v w = lexer.never_both text w.lexemes r w.lexed v
 
-abbrev fault_or : Fault → Option Fault → Fault
-fault_or fault None = fault
-fault_or fault (Some f) = f
+abbrev refusal_or : TypeRefusal → Option TypeRefusal → TypeRefusal
+refusal_or r None = r
+refusal_or r (Some s) = s
 
-same_fault : (text : List ℕ) (i j : ℕ) (a b : Position) → IsMistyped text i a → IsMistyped text j b → Typing i a ≡ Typing j b
-same_fault text i j a b v w =
-    let same = ap (fault_or (i, v.place)) (sym (moved_fault text w.tree i a w.is_tree v) ∙ w.fault) in
-    let rules : i ≡ j = ap (λ (f : Fault). f.0) same in
-    let places : v.place ≡ w.place = ap (λ (f : Fault). f.1) same in
+same_rule : (text : List ℕ) (i j : Rule) (a b : Position) → IsMistyped text i a → IsMistyped text j b → Typing i a ≡ Typing j b
+same_rule text i j a b v w =
+    let same = ap (refusal_or (record { rule = i; at = v.place })) (sym (moved_rule text w.tree i a w.is_tree v) ∙ w.broken) in
+    let rules : i ≡ j = ap (λ (r : TypeRefusal). r.rule) same in
+    let places : v.place ≡ w.place = ap (λ (r : TypeRefusal). r.at) same in
     let at : a ≡ b = v.position ∙ ap (position_of text) places ∙ sym w.position in
     cc
 
@@ -132,7 +135,7 @@ one_refusal text (Typing j a) TooLong r s = absurd (omega (arith, r.is_tree.with
 one_refusal text (Typing j a) (Lexical k b) r s = absurd (not_lexical text r.tree (refusal k s.1) r.is_tree s.2)
 one_refusal text (Typing j a) (Syntax b) r s = absurd (not_refused text r.tree (parse.Syntax s.0) s.0 b r.is_tree s.1)
 one_refusal text (Typing j a) (Nesting b) r s = absurd (not_refused text r.tree (parse.TooDeep s.0) s.0 b r.is_tree s.1)
-one_refusal text (Typing j a) (Typing k b) r s = same_fault text j k a b r s
+one_refusal text (Typing j a) (Typing k b) r s = same_rule text j k a b r s
 one_refusal text TooLong _ r s = absurd s
 one_refusal text (Lexical j a) _ r s = absurd s
 one_refusal text (Syntax a) _ r s = absurd s
@@ -143,24 +146,24 @@ one_refusal text _ b r s = absurd r
 abbrev pub Judged : List ℕ → Type 0
 Judged text = Passes text ⊎ ((why : Ending) × Refused text why)
 
-of_fault : (text : List ℕ) (tree : Program) (fault : Option Fault) → IsTree text tree → first_fault (sites_of tree) ≡ fault → Judged text
-of_fault text tree None t e = inl (tree, record { is_tree = t; no_fault = e })
-of_fault text tree (Some f) t e = inr (Typing f.0 (position_of text f.1), record { tree = tree; is_tree = t; place = f.1; fault = e; position = refl })
+of_rule : (text : List ℕ) (tree : Program) (broken : Option TypeRefusal) → IsTree text tree → first_refusal (sites_of tree) ≡ broken → Judged text
+of_rule text tree None t e = inl (tree, record { is_tree = t; unbroken = e })
+of_rule text tree (Some r) t e = inr (Typing r.rule (position_of text r.at), record { tree = tree; is_tree = t; place = r.at; broken = e; position = refl })
 
-refused_at : (text : List ℕ) (tokens : List Token) (r : ParseRefusal) (k : ℕ) → length text ≤ text_limit → Tokens text tokens → Refuses text tokens r → IsRefused text r k (position_of text (place_of text tokens k))
-refused_at text tokens r k h t w = record { within = h; tokens = tokens; are_tokens = t; refused = w; position = refl }
+refused_at : (text : List ℕ) (lexemes : List Lexeme) (r : ParseRefusal) (k : ℕ) → length text ≤ text_limit → LexesAs text lexemes → Refuses lexemes r → IsRefused text r k (position_of text (place_of text lexemes k))
+refused_at text lexemes r k h t w = record { within = h; lexemes = lexemes; lexed = t; refused = w; position = refl }
 
-of_refusal : (text : List ℕ) (tokens : List Token) (r : ParseRefusal) → length text ≤ text_limit → Tokens text tokens → Refuses text tokens r → Judged text
-of_refusal text tokens (parse.Syntax k) h t w = inr (Syntax (position_of text (place_of text tokens k)), (k, refused_at text tokens (parse.Syntax k) k h t w))
-of_refusal text tokens (parse.TooDeep k) h t w = inr (Nesting (position_of text (place_of text tokens k)), (k, refused_at text tokens (parse.TooDeep k) k h t w))
+of_refusal : (text : List ℕ) (lexemes : List Lexeme) (r : ParseRefusal) → length text ≤ text_limit → LexesAs text lexemes → Refuses lexemes r → Judged text
+of_refusal text lexemes (parse.Syntax k) h t w = inr (Syntax (position_of text (place_of text lexemes k)), (k, refused_at text lexemes (parse.Syntax k) k h t w))
+of_refusal text lexemes (parse.TooDeep k) h t w = inr (Nesting (position_of text (place_of text lexemes k)), (k, refused_at text lexemes (parse.TooDeep k) k h t w))
 
-of_answer : (text : List ℕ) (tokens : List Token) → length text ≤ text_limit → Tokens text tokens
-    → ((tree : Program) × IsParsed text tokens tree) ⊎ ((r : ParseRefusal) × Refuses text tokens r) → Judged text
-of_answer text tokens h t (inl p) = of_fault text p.0 (first_fault (sites_of p.0)) (record { within = h; tokens = tokens; are_tokens = t; parsed = p.1 }) refl
-of_answer text tokens h t (inr r) = of_refusal text tokens r.0 h t r.1
+of_answer : (text : List ℕ) (lexemes : List Lexeme) → length text ≤ text_limit → LexesAs text lexemes
+    → ((tree : Program) × IsParsed (length text) lexemes tree) ⊎ ((r : ParseRefusal) × Refuses lexemes r) → Judged text
+of_answer text lexemes h t (inl p) = of_rule text p.0 (first_refusal (sites_of p.0)) (record { within = h; lexemes = lexemes; lexed = t; parsed = p.1 }) refl
+of_answer text lexemes h t (inr r) = of_refusal text lexemes r.0 h t r.1
 
-of_tokens : (text : List ℕ) → length text ≤ text_limit → ((tokens : List Token) × Tokens text tokens) ⊎ ((r : LexRefusal) × LexRefuses text r) → Judged text
-of_tokens text h (inl t) = of_answer text t.0 h t.1 (parser.one_of_both text t.0)
+of_tokens : (text : List ℕ) → length text ≤ text_limit → ((lexemes : List Lexeme) × LexesAs text lexemes) ⊎ ((r : LexRefusal) × LexRefuses text r) → Judged text
+of_tokens text h (inl t) = of_answer text t.0 h t.1 (parser.one_of_both (length text) t.0)
 of_tokens text h (inr r) = inr (Lexical r.0.kind (position_of text r.0.at), (h, r.0.at, r.1, refl))
 
 of_length : (text : List ℕ) → (text_limit < length text) ⊎ (length text ≤ text_limit) → Judged text

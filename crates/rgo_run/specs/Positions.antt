@@ -1,7 +1,7 @@
--- Places of a text: of its tokens, and as lines and columns.
+-- Places of a text: of its lexemes, and as lines and columns.
 use Rattle.std.specs.Prelude.{ℕ, ◌+◌, ◌==◌, Bool, not, List, length, take, None, Some, count_by}
 use Rattle.std.specs.List.{suffix_len, slice_get}
-use Rattle.rgo_lexer.specs.declared.tokens.Token.{Token}
+use Rattle.rgo_lexer.specs.Lexemes.{Lexeme}
 use Rattle.rgo_run.specs.declared.endings.Position.{Position}
 
 abbrev pub is_in_line : ℕ → Bool
@@ -14,6 +14,6 @@ position_of text place = record {
   column = 1 + suffix_len is_in_line (take place text);
 }
 
--- where the token with this number begins; for the number of tokens, the text's end
-abbrev pub place_of : List ℕ → List Token → ℕ → ℕ
-place_of text tokens k = elim (slice_get tokens k) [ None ↦ length text | Some t ↦ t.span.start ]
+-- where the lexeme with this number begins; for the number of lexemes, the text's end
+abbrev pub place_of : List ℕ → List Lexeme → ℕ → ℕ
+place_of text lexemes k = elim (slice_get lexemes k) [ None ↦ length text | Some l ↦ l.leaf.at ]

@@ -1,13 +1,14 @@
 -- The verdict on a text: the program that it is, or the first place at which it breaks a rule.
 use Rattle.std.specs.Prelude.{◌≡◌, ℕ, ◌<◌, ◌≤◌, ◌⊎◌, List, length, Some, None}
-use Rattle.rgo_lexer.specs.declared.tokens.Token.{Token}
-use Rattle.rgo_lexer.specs.Tokens.{Tokens}
+use Rattle.rgo_lexer.specs.Lexemes.{Lexeme}
+use Rattle.rgo_lexer.specs.Lexing.{LexesAs}
 use Rattle.rgo_lexer.specs.Refusals.{Refuses as LexRefuses, refusal}
 use Rattle.rgo_ast.specs.Tree.{Program}
 use Rattle.rgo_parser.specs.Parsing.{IsParsed, Refuses}
 use Rattle.rgo_parser.specs.declared.parser.ParseRefusal.{ParseRefusal}
 use Rattle.rgo_parser.specs.declared.parser.ParseRefusal.TheVariants as parse
-use Rattle.rgo_typing_expressions.specs.Sites.{first_fault}
+use Rattle.rgo_typing_rules.specs.Sites.{first_refusal}
+use Rattle.rgo_typing_rules.specs.declared.rules.Rule.{Rule}
 use Rattle.rgo_typed.specs.Tree.{Typed}
 use Rattle.rgo_types.specs.Programs.{sites_of, typed_program}
 use Rattle.rgo_run.specs.declared.endings.Position.{Position}
@@ -19,46 +20,46 @@ use Rattle.rgo_run.specs.Positions.{position_of, place_of}
 abbrev pub text_limit : ℕ
 text_limit = 1048576
 
--- the text is within the limit, and its tokens are this tree
+-- the text is within the limit, and its lexemes are this tree
 pub record IsTree (text : List ℕ) (tree : Program) : Type 0 where
   pub within : length text ≤ text_limit
-  pub tokens : List Token
-  pub are_tokens : Tokens text tokens
-  pub parsed : IsParsed text tokens tree
+  pub lexemes : List Lexeme
+  pub lexed : LexesAs text lexemes
+  pub parsed : IsParsed (length text) lexemes tree
 
--- the text is this tree, and no node of it breaks a rule on meaning
+-- the text is this tree, and no node of it breaks a typing rule
 pub record IsWellTyped (text : List ℕ) (tree : Program) : Type 0 where
   pub is_tree : IsTree text tree
-  pub no_fault : first_fault (sites_of tree) ≡ None
+  pub unbroken : first_refusal (sites_of tree) ≡ None
 
--- the text is within the rules
+-- the text is a valid program
 abbrev pub Passes : List ℕ → Type 0
 Passes text = (tree : Program) × IsWellTyped text tree
 
--- the text is within the rules, and the program is its typed tree
+-- the text is valid, and the program is its typed tree
 pub record IsProgram (text : List ℕ) (program : Typed) : Type 0 where
   pub tree : Program
   pub is_well_typed : IsWellTyped text tree
   pub typed : program ≡ typed_program tree
 
--- the text is within the limit, and its tokens are refused, at this position
+-- the text is within the limit, and its lexemes are refused, at this position
 pub record IsRefused (text : List ℕ) (refusal : ParseRefusal) (number : ℕ) (at : Position) : Type 0 where
   pub within : length text ≤ text_limit
-  pub tokens : List Token
-  pub are_tokens : Tokens text tokens
-  pub refused : Refuses text tokens refusal
-  pub position : at ≡ position_of text (place_of text tokens number)
+  pub lexemes : List Lexeme
+  pub lexed : LexesAs text lexemes
+  pub refused : Refuses lexemes refusal
+  pub position : at ≡ position_of text (place_of text lexemes number)
 
--- the text is a tree of which a node breaks a rule on meaning: in the order of judgement the first that breaks one, and
--- the first rule that it breaks, at this position
-pub record IsMistyped (text : List ℕ) (rule : ℕ) (at : Position) : Type 0 where
+-- the text is a tree of which a node breaks a typing rule: in the order of checking the first that breaks one, and the
+-- first rule that it breaks, at this position
+pub record IsMistyped (text : List ℕ) (rule : Rule) (at : Position) : Type 0 where
   pub tree : Program
   pub is_tree : IsTree text tree
   pub place : ℕ
-  pub fault : first_fault (sites_of tree) ≡ Some (rule, place)
+  pub broken : first_refusal (sites_of tree) ≡ Some (record { rule = rule; at = place })
   pub position : at ≡ position_of text place
 
--- why a text is refused: the first place at which it breaks a rule, as the ending that tells of it
+-- why a text is refused: the first place at which it breaks a rule, as the ending that reports it
 abbrev pub Refused : List ℕ → Ending → Type 0
 Refused text TooLong = text_limit < length text
 Refused text (Lexical kind at) =
@@ -68,7 +69,7 @@ Refused text (Nesting at) = (k : ℕ) × IsRefused text (parse.TooDeep k) k at
 Refused text (Typing rule at) = IsMistyped text rule at
 Refused text _ = ⊥
 
--- Each text is one program at most, and is within the rules or has one refusal, and never both.
+-- Each text is at most one program, and is valid or has one refusal, never both.
 pub record OneVerdict : Type 0 where
   pub one_program : (text : List ℕ) (p q : Typed) → IsProgram text p → IsProgram text q → p ≡ q
   pub one_refusal : (text : List ℕ) (a b : Ending) → Refused text a → Refused text b → a ≡ b

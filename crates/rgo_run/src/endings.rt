@@ -1,5 +1,7 @@
 //! How a call of `rgo` ends.
 
+use rgo_lexer::LexicalKind;
+use rgo_typing_rules::Rule;
 use rgo_values::Trap;
 
 /// A line and a column of a text, both from 1. Columns are bytes.
@@ -30,14 +32,14 @@ pub enum Ending {
     ReadFault,
     /// The source gave more bytes than a text may have.
     TooLong,
-    /// The text has no tokens: the number of what is wrong, and where.
-    Lexical { kind: u8, at: Position },
-    /// The tokens are no program's: where the first stands with which no program goes on.
+    /// The text has no lexemes: what is wrong first, and where.
+    Lexical { kind: LexicalKind, at: Position },
+    /// The text is not a program: where the first token is with which no program continues.
     Syntax { at: Position },
-    /// The program nests too deep: where the first token stands from which on it does.
+    /// The program is nested too deep: where the first token is after which it is.
     Nesting { at: Position },
-    /// The program breaks a rule of those on its meaning: the rule's number, and where.
-    Typing { rule: u8, at: Position },
+    /// The program breaks a typing rule: the first that it breaks, and where.
+    Typing { rule: Rule, at: Position },
     /// A write to `out` failed.
     WriteFault,
     /// Memory ran out.

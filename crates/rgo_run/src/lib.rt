@@ -10,7 +10,9 @@ mod top;
 
 pub use endings::{Ending, Position};
 pub use laws::one_verdict;
+pub use rgo_lexer::LexicalKind;
 pub use rgo_rounds::{Limits as RunLimits, RunEnd};
+pub use rgo_typing_rules::Rule;
 pub use rgo_values::Trap;
 pub use rgo_words::{Command, Limits};
 pub use top::rgo;

@@ -1,37 +1,27 @@
 //! The report of an ending: its line on `err`, and its status.
 
 ghost use Rattle.std.specs.Prelude.{◌≡◌, IfOk, string_bytes};
-ghost use Rattle.rgo_run.specs.Endings.{lexical_name, rule_name, line_of};
+ghost use Rattle.rgo_run.specs.Endings.{line_of};
 ghost use Rattle.rgo_run.specs.Reports.{Tells, Reports};
 
 use crate::endings::{Ending, Position};
+use rgo_lexer::LexicalKind;
 use rgo_outside::{Sink, write_all};
+use rgo_typing_rules::Rule;
 use rgo_values::Trap;
 use std::alloc::{AllocError, Global};
 
 const USAGE: &[u8] =
     b"usage: rgo run [--steps N] [--pages N] [--page-words N] [--regions N] [--goroutines N] [--workers N] [--stats] | check | emit | code | big N\n";
 
-fn lexical_name(kind: u8) -> &'static str
-    ensures { result.now ≡ lexical_name kind }
-{
-    match kind {
-        1 => "BadUtf8",
-        2 => "BadByte",
-        3 => "BadNumber",
-        4 => "BadEscape",
-        5 => "OpenString",
-        _ => "OpenComment",
-    }
-}
-
-fn lexical_line(alloc: Global, kind: u8, at: Position) -> Result<String, AllocError>
+fn lexical_line(alloc: Global, kind: LexicalKind, at: Position) -> Result<String, AllocError>
     ensures { IfOk result (λ line. string_bytes line ≡ line_of (Ending.Lexical kind at)) }
 {
     let line = at.line;
     let column = at.column;
-    let name = lexical_name(kind);
-    format!(in alloc; "rgo: {line}:{column}: lexical {kind} {name}\n")
+    let number = kind.number();
+    let name = kind.name();
+    format!(in alloc; "rgo: {line}:{column}: lexical {number} {name}\n")
 }
 
 fn syntax_line(alloc: Global, at: Position) -> Result<String, AllocError>
@@ -50,55 +40,14 @@ fn nesting_line(alloc: Global, at: Position) -> Result<String, AllocError>
     format!(in alloc; "rgo: {line}:{column}: nesting\n")
 }
 
-fn rule_name(rule: u8) -> &'static str
-    ensures { result.now ≡ rule_name rule }
-{
-    match rule {
-        1 => "BadImport",
-        2 => "Redeclared",
-        3 => "ReservedName",
-        4 => "NoSuchName",
-        5 => "NotType",
-        6 => "StructByValue",
-        7 => "PointerBase",
-        8 => "NotValue",
-        9 => "StringPlace",
-        10 => "Mismatch",
-        11 => "SliceCompare",
-        12 => "BareNil",
-        13 => "NotAssignable",
-        14 => "NotPlace",
-        15 => "NoSuchField",
-        16 => "NotIndexable",
-        17 => "NotCall",
-        18 => "ArgCount",
-        19 => "NoResult",
-        20 => "NotStatement",
-        21 => "GoTarget",
-        22 => "NotChannel",
-        23 => "NotBool",
-        24 => "NotInt",
-        25 => "ConstRange",
-        26 => "ConstZeroDivisor",
-        27 => "ConstIndex",
-        28 => "ConstSize",
-        29 => "LiteralFields",
-        30 => "PrintType",
-        31 => "ReturnCount",
-        32 => "MissingReturn",
-        33 => "LoopOutside",
-        34 => "NoMain",
-        _ => "",
-    }
-}
-
-fn typing_line(alloc: Global, rule: u8, at: Position) -> Result<String, AllocError>
+fn typing_line(alloc: Global, rule: Rule, at: Position) -> Result<String, AllocError>
     ensures { IfOk result (λ line. string_bytes line ≡ line_of (Ending.Typing rule at)) }
 {
     let line = at.line;
     let column = at.column;
-    let name = rule_name(rule);
-    format!(in alloc; "rgo: {line}:{column}: type {rule} {name}\n")
+    let number = rule.number();
+    let name = rule.name();
+    format!(in alloc; "rgo: {line}:{column}: type {number} {name}\n")
 }
 
 fn trap_line(alloc: Global, trap: Trap, at: Position) -> Result<String, AllocError>

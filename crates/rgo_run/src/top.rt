@@ -3,15 +3,15 @@
 ghost use Rattle.std.specs.Prelude.{◌≡◌, ◌≤◌, ◌⊎◌, ◌<◌, ◌^◌, true, map, length, string_bytes};
 ghost use Rattle.std.specs.Prelude.{IfErr, IfOk, Some, None};
 ghost use Rattle.rgo_outside.specs.Causes.{Rose};
-ghost use Rattle.rgo_lexer.specs.Tokens.{Tokens};
+ghost use Rattle.rgo_lexer.specs.Lexing.{LexesAs};
 ghost use Rattle.rgo_lexer.specs.Refusals.{Fails};
 ghost use Rattle.rgo_ast.specs.Views.{program_of};
 ghost use Rattle.rgo_typed.specs.Views.{typed_of};
 ghost use Rattle.rgo_parser.specs.Parsing.{Fails as ParseFails};
 ghost use Rattle.rgo_words.specs.Commands.{command_of};
 ghost use Rattle.rgo_words.specs.declared.commands.Command.TheVariants.{Check};
-ghost use Rattle.rgo_typing_expressions.specs.Sites.{first_fault};
-ghost use Rattle.rgo_typing_expressions.specs.Judges.{Fails as TypeFails};
+ghost use Rattle.rgo_typing_rules.specs.Checks.{Refuses as TypeRefuses};
+ghost use Rattle.rgo_typing_rules.specs.Sites.{first_refusal};
 ghost use Rattle.rgo_types.specs.Programs.{sites_of};
 ghost use Rattle.rgo_run.specs.Positions.{place_of};
 ghost use Rattle.rgo_run.specs.Verdicts.{IsTree, IsProgram, text_limit};
@@ -26,26 +26,26 @@ use crate::endings::Ending;
 use crate::positions::position_of;
 use crate::report::report;
 use rgo_ast::Program;
-use rgo_lexer::{LexError, Token, lex};
+use rgo_lexer::{LexError, Lexeme, lex};
 use rgo_outside::{Gate, ReadEnd, Sink, Source, read_all};
 use rgo_parser::{ParseError, ParseRefusal, parse};
 use rgo_rounds::{RunEnd, run};
 use rgo_typed::Typed;
-use rgo_types::{TypeError, check};
+use rgo_types::check;
+use rgo_typing_rules::TypeError;
 use rgo_words::{Command, Limits, WordsError, read_words};
 use std::alloc::Global;
 
 /// The most bytes of a text.
 const TEXT_LIMIT: usize = 1_048_576;
 
-// Where a token begins; for the number of tokens, the text's end.
-fn place_of(text: &[u8], tokens: &[Token], k: usize) -> usize
-    ensures { result ≡ place_of text.now tokens.now k }
+// Where a lexeme begins; for the number of lexemes, the text's end.
+fn place_of(text: &[u8], lexemes: &[Lexeme<'_>], k: usize) -> usize
+    ensures { result ≡ place_of text.now lexemes.now k }
 {
-    if k < tokens.len() {
-        tokens[k].span.start
-    } else {
-        text.len()
+    match lexemes.get(k) {
+        Some(lexeme) => lexeme.at,
+        None => text.len(),
     }
 }
 
@@ -63,19 +63,19 @@ fn lex_ending(text: &[u8], error: LexError) -> Ending
     }
 }
 
-fn parse_ending(text: &[u8], tokens: &[Token], error: ParseError) -> Ending
-    requires tokens { Tokens text.now tokens.now }
-    requires fails { ParseFails text.now tokens.now error }
+fn parse_ending(text: &[u8], lexemes: &[Lexeme<'_>], error: ParseError) -> Ending
+    requires lexed { LexesAs text.now lexemes.now }
+    requires fails { ParseFails lexemes.now error }
     requires within { length text.now ≤ text_limit }
     ensures { TextFails text.now result }
 {
     match error {
         ParseError::NoMemory => Ending::NoMemory,
         ParseError::Refused(ParseRefusal::Syntax { at }) => Ending::Syntax {
-            at: position_of(text, place_of(text, tokens, at)),
+            at: position_of(text, place_of(text, lexemes, at)),
         },
         ParseError::Refused(ParseRefusal::TooDeep { at }) => Ending::Nesting {
-            at: position_of(text, place_of(text, tokens, at)),
+            at: position_of(text, place_of(text, lexemes, at)),
         },
     }
 }
@@ -87,9 +87,9 @@ fn tree_of(alloc: Global, text: &[u8]) -> Result<Program, Ending>
     ensures err { IfErr result (TextFails text.now) }
 {
     match lex(alloc, text) {
-        Ok(tokens) => match parse(alloc, text, &tokens) {
+        Ok(lexemes) => match parse(alloc, text.len(), &lexemes) {
             Ok(tree) => Ok(tree),
-            Err(error) => Err(parse_ending(text, &tokens, error)),
+            Err(error) => Err(parse_ending(text, &lexemes, error)),
         },
         Err(error) => Err(lex_ending(text, error)),
     }
@@ -97,15 +97,15 @@ fn tree_of(alloc: Global, text: &[u8]) -> Result<Program, Ending>
 
 fn type_ending(text: &[u8], tree: &Program, error: TypeError) -> Ending
     requires tree { IsTree text.now (program_of tree.now) }
-    requires fails { TypeFails error (first_fault (sites_of (program_of tree.now))) }
+    requires fails { TypeRefuses error (first_refusal (sites_of (program_of tree.now))) }
     requires within { length text.now ≤ text_limit }
     ensures { TextFails text.now result }
 {
     match error {
         TypeError::NoMemory => Ending::NoMemory,
-        TypeError::Refused(fault) => Ending::Typing {
-            rule: fault.rule,
-            at: position_of(text, fault.at),
+        TypeError::Refused(refusal) => Ending::Typing {
+            rule: refusal.rule,
+            at: position_of(text, refusal.at),
         },
     }
 }
