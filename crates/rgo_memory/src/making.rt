@@ -23,7 +23,7 @@ fn make(memory: &mut Memory, object: Object) -> Result<Effect, AllocError>
     Ok(Effect::Gives(Value::Object(number)))
 }
 
-fn zeros(alloc: Global, types: &[Type]) -> Result<Vec<Value>, AllocError>
+fn zero_fields(alloc: Global, types: &[Type]) -> Result<Vec<Value>, AllocError>
     ensures { IfOk result (λ values. values.items ≡ map zero_of types.now) }
 {
     types.iter().map(|ty| zero(ty)).collect(alloc)
@@ -42,7 +42,7 @@ pub(crate) fn new_struct(
     let Some(of) = structs.get(number) else {
         return Ok(Effect::Gives(Value::Nil));
     };
-    let cells = zeros(alloc, of.fields.items())?;
+    let cells = zero_fields(alloc, of.fields.items())?;
     make(memory, Object::Struct(cells))
 }
 

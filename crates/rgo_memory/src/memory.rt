@@ -18,7 +18,7 @@ pub struct Memory {
     pub variables: Vec<Value>,
 }
 
-fn zeros(alloc: Global, variables: &[Variable]) -> Result<Vec<Value>, AllocError>
+fn zero_variables(alloc: Global, variables: &[Variable]) -> Result<Vec<Value>, AllocError>
     ensures { IfOk result (λ values. values.items ≡ map (λ v. zero_of v.ty) variables.now) }
 {
     variables.iter().map(|v| zero(&v.ty)).collect(alloc)
@@ -36,7 +36,7 @@ impl Memory {
     {
         Ok(Memory {
             objects: Vec::new(alloc),
-            variables: zeros(alloc, variables)?,
+            variables: zero_variables(alloc, variables)?,
         })
     }
 }
