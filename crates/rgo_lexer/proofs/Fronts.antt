@@ -8,7 +8,7 @@ use Rattle.rgo_lexer.specs.Numbers.{number_at}
 use Rattle.rgo_lexer.specs.Strings.{string_at}
 use Rattle.rgo_lexer.specs.Comments.{begins_comment, comment_at}
 use Rattle.rgo_lexer.specs.Operators.{operator_at}
-use Rattle.rgo_lexer.specs.Laws.{LongestMatch, IsLongestOperator, begins_as_operator}
+use Rattle.rgo_lexer.specs.Laws.{LongestMatch, IsLongestOperator}
 use Rattle.rgo_lexer.specs.Front.{front_of, FitsIn, IsWidthIn}
 use Rattle.rgo_lexer.specs.declared.front.Front.{Front}
 use Rattle.rgo_lexer.specs.declared.front.Front.TheVariants.{Blank, Newline, Piece}

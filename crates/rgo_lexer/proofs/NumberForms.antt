@@ -1,5 +1,5 @@
 -- The number at the front of a text: it fits, and by itself it is the same number.
-use Rattle.std.proofs.Common.{◌≡◌, ℕ, ◌<◌, true, List, ◌∷◌, length, take, Option, Some, None, refl, ap, ◌∙◌, arith}
+use Rattle.std.proofs.Common.{◌≡◌, ℕ, true, List, ◌∷◌, take, Option, Some, None, refl, ap, ◌∙◌, arith}
 use Rattle.std.proofs.lemmas.Bool.{or_right}
 use Rattle.rgo_lexer.specs.Bytes.{is_letter, is_digit}
 use Rattle.rgo_lexer.specs.Words.{run_of}

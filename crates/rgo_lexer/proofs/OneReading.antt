@@ -56,12 +56,12 @@ one_list_from others (finish e) (blank m d u) = cc
 one_list_from others (finish e) (newline m d u) = cc
 one_list_from others (finish e) (piece j m d u) = cc
 one_list_from others (blank n e t) (finish d) = cc
-one_list_from others (blank {at} {open' = ending} {rest} {lexemes} n e t) (blank m d u) = same_after at ending rest lexemes others n m (cc) (λ v. one_list_from others t v) u
+one_list_from others (blank {at} {ending = ending} {rest} {lexemes} n e t) (blank m d u) = same_after at ending rest lexemes others n m (cc) (λ v. one_list_from others t v) u
 one_list_from others (blank n e t) (newline m d u) = cc
 one_list_from others (blank n e t) (piece j m d u) = cc
 one_list_from others (newline n e t) (finish d) = cc
 one_list_from others (newline n e t) (blank m d u) = cc
-one_list_from others (newline {at} {open' = ending} {rest} {lexemes} n e t) (newline {lexemes = more} m d u) =
+one_list_from others (newline {at} {ending = ending} {rest} {lexemes} n e t) (newline {lexemes = more} m d u) =
     ap (λ x. inserted ending ++ x) (same_after at None rest lexemes more n m (cc) (λ v. one_list_from more t v) u)
 one_list_from others (newline n e t) (piece j m d u) = cc
 one_list_from others (piece k n e t) (finish d) = cc

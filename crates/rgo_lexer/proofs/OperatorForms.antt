@@ -1,7 +1,7 @@
 -- The operator at the front of a text: it fits, by itself it is the same operator, and it is the longest.
-use Rattle.std.proofs.Common.{◌≡◌, ℕ, zero, suc, ◌<◌, ◌≤◌, true, List, [], ◌∷◌, ◌++◌, length, take, Option, Some, None, refl, ap, ◌∙◌, arith, Contains}
+use Rattle.std.proofs.Common.{◌≡◌, ℕ, zero, suc, ◌<◌, ◌≤◌, true, List, [], ◌∷◌, length, take, Option, Some, None, refl, ap, ◌∙◌, arith, Contains}
 use Rattle.std.specs.Prelude.{nat_lt}
-use Rattle.rgo_lexer.specs.Operators.{operator_at, operator_front, operators, longest_front}
+use Rattle.rgo_lexer.specs.Operators.{operator_at, operator_entry, operator_front, operators, longest_front}
 use Rattle.rgo_lexer.specs.Front.{FitsIn}
 use Rattle.rgo_lexer.specs.Laws.{IsLongestOperator}
 use Rattle.rgo_lexer.specs.declared.front.Front.TheVariants.{Piece}
@@ -21,7 +21,7 @@ front_fits text (Some f) h found =
     record { some = some text f.0 f.1 found.0; within = found.1 }
 
 pub operator_fits_in : (text : List ℕ) → 0 < length text → FitsIn text (operator_at text)
-unfolding operator_at
+unfolding operator_at operator_entry
 operator_fits_in text h = front_fits text (longest_front operators text) h (found_among operators text)
 
 pub operator_fits : (b : ℕ) (rest : List ℕ) → FitsIn (b ∷ rest) (operator_at (b ∷ rest))
@@ -35,7 +35,7 @@ at_most : (o : Option (ℕ × Terminal)) (n : ℕ) (k : Terminal) → o ≡ Some
 at_most o n k e = rw e (omega arith)
 
 pub operator_stable : (text : List ℕ) (k : Terminal) (n : ℕ) → operator_at text ≡ Piece k n → operator_at (take n text) ≡ Piece k n
-unfolding operator_at
+unfolding operator_at operator_entry
 operator_stable text k n e =
     let found = piece_is (longest_front operators text) k n e in
     ap operator_front (found-take operators text n (at_most (longest_front operators text) n k found)) ∙ e
@@ -44,7 +44,7 @@ covers_at_most : (m n : ℕ) (k : Terminal) (o : Option (ℕ × Terminal)) → o
 covers_at_most m n k o e c = rw e at c
 
 pub operator_longest : (text : List ℕ) (k : Terminal) (n : ℕ) → operator_at text ≡ Piece k n → IsLongestOperator text k n
-unfolding operator_at
+unfolding operator_at operator_entry
 operator_longest text k n e =
     let found = piece_is (longest_front operators text) k n e in
     record {

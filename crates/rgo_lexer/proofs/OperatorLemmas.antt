@@ -21,6 +21,9 @@ longer_by e f v = cond v (Some (length e.0, e.1)) (Some f)
 contains_later : (e : List ℕ × Terminal) (table : List (List ℕ × Terminal)) (f : List ℕ × Terminal) → Contains table f → Contains (e ∷ table) f
 contains_later e table f c = (suc c.0, omega (arith, c.1), c.2)
 
+some_same : (p q : ℕ × Terminal) → Some p ≡ Some q → (p.0 ≡ q.0) × (p.1 ≡ q.1)
+some_same p q e = let same : p ≡ q = cc in (ap (λ x. x.0) same, ap (λ x. x.1) same)
+
 -- what is found is the front of the text, and in the table
 pub found_among : (table : List (List ℕ × Terminal)) (text : List ℕ) (n : ℕ) (k : Terminal) → longest_front table text ≡ Some (n, k)
     → Contains table (take n text, k) × (n ≤ length text)
@@ -38,12 +41,12 @@ found_among (e ∷ table) text n k found = by_test (begins_with text e.0) refl (
 
     by_length : begins_with text e.0 ≡ true → (v : Bool) (f : ℕ × Terminal) → (Some f ≡ Some (n, k) → Contains (e ∷ table) (take n text, k) × (n ≤ length text))
         → longer_by e f v ≡ Some (n, k) → Contains (e ∷ table) (take n text, k) × (n ≤ length text)
-    by_length b true f ih d = let w : length e.0 ≡ n = cc in let t : e.1 ≡ k = cc in this b w t
+    by_length b true f ih d = this b (some_same (length e.0, e.1) (n, k) d).0 (some_same (length e.0, e.1) (n, k) d).1
     by_length b false f ih d = ih d
 
     by_found : begins_with text e.0 ≡ true → (o : Option (ℕ × Terminal)) → (o ≡ Some (n, k) → Contains (e ∷ table) (take n text, k) × (n ≤ length text))
         → longer e o ≡ Some (n, k) → Contains (e ∷ table) (take n text, k) × (n ≤ length text)
-    by_found b None ih d = let w : length e.0 ≡ n = cc in let t : e.1 ≡ k = cc in this b w t
+    by_found b None ih d = this b (some_same (length e.0, e.1) (n, k) d).0 (some_same (length e.0, e.1) (n, k) d).1
     by_found b (Some f) ih d = by_length b (nat_le f.0 (length e.0)) f ih d
 
     by_test : (v : Bool) → begins_with text e.0 ≡ v → (longest_front table text ≡ Some (n, k) → Contains (e ∷ table) (take n text, k) × (n ≤ length text))
@@ -52,7 +55,7 @@ found_among (e ∷ table) text n k found = by_test (begins_with text e.0) refl (
     by_test false b ih d = ih d
 
 -- something of m bytes or more is found
-abbrev Covers : ℕ → Option (ℕ × Terminal) → Type 0
+abbrev pub Covers : ℕ → Option (ℕ × Terminal) → Type 0
 Covers m None = ⊥
 Covers m (Some f) = m ≤ f.0
 
@@ -85,7 +88,7 @@ found_longest table text f c b = at_place table c.0 c.1 c.2
         later true ih = covers_later (length f.0) e (longest_front l text) ih
         later false ih = ih
 
-abbrev IsAtMost : ℕ → Option (ℕ × Terminal) → Type 0
+abbrev pub IsAtMost : ℕ → Option (ℕ × Terminal) → Type 0
 IsAtMost n o = IfSome o (λ f. f.0 ≤ n)
 
 -- the longer of two is within a bound exactly where both are

@@ -1,5 +1,5 @@
 -- The lexemes of a text are parts of it, in order.
-use Rattle.std.proofs.Common.{ℕ, ◌+◌, ◌≤◌, true, false, cond, List, [], ◌∷◌, ◌++◌, length, take, codes, Option, Some, None, IfSome, arith}
+use Rattle.std.proofs.Common.{ℕ, ◌+◌, ◌≤◌, true, false, cond, List, [], ◌∷◌, ◌++◌, length, take, codes, Option, Some, None, IfSome, sym, subst, arith}
 use Rattle.std.specs.Str.{bytes_eq}
 use Rattle.std.proofs.lemmas.List.{length-take}
 use Rattle.rgo_lexer.specs.Lexemes.{Lexeme, tok}
@@ -46,4 +46,4 @@ named_in_order from (l ∷ m ∷ lexemes) h =
     elim (bytes_eq m.leaf.word (codes "main")) as (λ b. IsInOrder from (l ∷ cond b (tok Main m.leaf) m ∷ lexemes)) [ true ↦ h | false ↦ h ]
 
 pub in_order : InOrder
-in_order text lexemes t = rw t.3 (named_in_order 0 t.1 (in_order_from 0 t.2 (omega arith) tt))
+in_order text lexemes t = subst (IsInOrder 0) (sym t.3) (named_in_order 0 t.1 (in_order_from 0 t.2 (omega arith) tt))

@@ -1,5 +1,5 @@
 -- Each lexeme of a text is a part of it, and so is a refused byte.
-use Rattle.std.proofs.Common.{◌≡◌, ℕ, ◌+◌, ◌-◌, ◌<◌, ◌≤◌, Bool, true, false, cond, List, [], ◌∷◌, ◌++◌, length, take, drop, codes, Option, None, Some, refl, sym, ap, ◌∙◌, All, IfSome, arith, inl, inr}
+use Rattle.std.proofs.Common.{◌≡◌, ℕ, ◌+◌, ◌-◌, ◌<◌, ◌≤◌, Bool, true, false, cond, List, [], ◌∷◌, length, take, drop, codes, Option, None, Some, refl, sym, ap, subst, ◌∙◌, All, IfSome, arith, inl, inr}
 use Rattle.std.specs.Prelude.{◌==◌, slice_range}
 use Rattle.std.specs.Str.{bytes_eq}
 use Rattle.std.proofs.lemmas.Bool.{cond_both}
@@ -8,10 +8,11 @@ use Rattle.std.proofs.lemmas.List.{drop-drop, length-drop, length-take-le}
 use Rattle.std.proofs.lemmas.List.Elements.{All-nil, All-cons, All-append, All-head, All-tail}
 use Rattle.std.proofs.lemmas.Slice.Eq.{bytes_eq-Decides}
 use Rattle.rgo_lexer.specs.Front.{front_of, FitsIn, IsWidthIn}
-use Rattle.rgo_lexer.specs.Lexemes.{Lexeme, leaf, tok, end_of}
+use Rattle.rgo_lexer.specs.Lexemes.{Lexeme, leaf, tok}
 use Rattle.rgo_lexer.specs.Semicolons.{ending_after, inserted, may_end}
 use Rattle.rgo_lexer.specs.Bytes.{begins_with}
-use Rattle.rgo_lexer.specs.Lexing.{LexesFrom, LexesAs, byte_order_mark, start_of, IsLexemeOf, terminal_of, terminal_at_width, with_package_name}
+use Rattle.rgo_lexer.specs.Laws.{OfText}
+use Rattle.rgo_lexer.specs.Lexing.{LexesFrom, byte_order_mark, start_of, IsLexemeOf, terminal_of, terminal_at_width, with_package_name}
 use Rattle.rgo_lexer.specs.Lexing.LexesFrom.{finish, blank, newline, piece}
 use Rattle.rgo_lexer.specs.Refusals.{RefusesFrom, Fails, IsPlacedIn, width}
 use Rattle.rgo_lexer.specs.Refusals.RefusesFrom.{here, later}
@@ -118,9 +119,12 @@ pub start_within : (text : List ℕ) → start_of text ≤ length text
 start_within text =
     cond_both (begins_with text byte_order_mark) 3 0 (λ n. n ≤ length text) (λ e. begins_with-length byte_order_mark text e) (λ e. omega arith)
 
+pub named_of_text : (text : List ℕ) (found lexemes : List Lexeme) → LexesFrom (start_of text) None (drop (start_of text) text) found → lexemes ≡ with_package_name found → All (IsLexemeOf text) lexemes
+named_of_text text found lexemes t e = subst (All (IsLexemeOf text)) (sym e) (with_name text found (of_text_from text t refl (start_within text) tt))
+
 -- each lexeme of a text is an inserted `;`, or a part of the text that is a token by itself
-pub of_text : (text : List ℕ) (lexemes : List Lexeme) → LexesAs text lexemes → All (IsLexemeOf text) lexemes
-of_text text lexemes t = rw t.3 (with_name text t.1 (of_text_from text t.2 refl (start_within text) tt))
+pub of_text : OfText
+of_text text lexemes t = named_of_text text t.1 lexemes t.2 t.3
 
 width_is : (front : Front) (text : List ℕ) (n : ℕ) → FitsIn text front → width front ≡ Some n → IsWidthIn text n
 width_is End text n f e = cc
@@ -142,4 +146,3 @@ pub placed : (text : List ℕ) (e : LexError) → Fails text e → IsPlacedIn te
 placed text error.NoMemory h = tt
 placed text (error.Refused r) (inl h) = refusal_placed text h.1 refl (start_within text)
 placed text (error.Refused r) (inr h) = rw h.1 (utf8_stops text h.0)
-

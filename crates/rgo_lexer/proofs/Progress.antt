@@ -49,13 +49,18 @@ after_newline text start at n ending found now g w e i = record {
   refuses = refuses_later text start at n ending found g (ap width e);
 }
 
+-- with the word as the code cuts it out
 pub after_piece : (text : List ℕ) (start at n : ℕ) (terminal : Terminal) (ending : Option ℕ) (found now : List Lexeme) → Progress text start at ending found → IsWidthIn (drop at text) n
-    → front_of (drop at text) ≡ Piece terminal n → now ≡ found ++ tok terminal (leaf at (take n (drop at text))) ∷ [] → Progress text start (at + n) (ending_after terminal (take n (drop at text)) (at + n)) now
-after_piece text start at n kind ending found now g w e i = record {
-  within = after text at n g.within w;
-  completes = λ more t. rw (i, append_assoc) (g.completes (tok terminal (leaf at (take n (drop at text))) ∷ more) (piece terminal n e (rw farther t)));
-  refuses = refuses_later text start at n ending found g (ap width e);
-}
+    → front_of (drop at text) ≡ Piece terminal n → now ≡ found ++ tok terminal (leaf at (take (at + n - at) (drop at text))) ∷ []
+    → Progress text start (at + n) (ending_after terminal (take (at + n - at) (drop at text)) (at + n)) now
+after_piece text start at n terminal ending found now g w e i =
+    let m : at + n - at ≡ n = omega arith in
+    let i' : now ≡ found ++ tok terminal (leaf at (take n (drop at text))) ∷ [] = rw m at i in
+    rw m record {
+      within = after text at n g.within w;
+      completes = λ more t. rw (i', append_assoc) (g.completes (tok terminal (leaf at (take n (drop at text))) ∷ more) (piece terminal n e (rw farther t)));
+      refuses = refuses_later text start at n ending found g (ap width e);
+    }
 
 pub at_end : (text : List ℕ) (start at : ℕ) (ending : Option ℕ) (found now : List Lexeme) → Progress text start at ending found → front_of (drop at text) ≡ End → now ≡ found ++ inserted ending
     → LexesFrom start None (drop start text) now

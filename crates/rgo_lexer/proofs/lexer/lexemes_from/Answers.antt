@@ -1,4 +1,3 @@
-use Rattle.std.proofs.Common.{◌≡◌, ◌+◌, ◌-◌, arith}
 use Rattle.rgo_lexer.proofs.Progress.{after_blank, after_newline, after_piece, at_end, at_refusal, seen, seen_width}
 use Rattle.rgo_lexer.proofs.lexer.lexemes_from.Goals as goal
 
@@ -13,8 +12,7 @@ pieces-preserved-in-Newline c =
 
 pub pieces-preserved : goal.pieces-preserved
 pieces-preserved c =
-    let i : c.pieces.at + c.in-Piece.width - c.pieces.at ≡ c.in-Piece.width = omega arith in
-    rw (c.ending_after-ending.ensures, i)
+    rw c.ending_after-ending.ensures
     (after_piece c.args.text.now _ c.pieces.at c.in-Piece.width c.in-Piece.terminal _ _ _ c.pieces.invariant (seen_width c.args.text.now c.pieces.at _ c.in-Piece.ensures.within)
     (seen c.args.text.now c.pieces.at _ c.in-Piece.ensures.value) c.in_ok-push-in-Piece.ensures.items)
 
