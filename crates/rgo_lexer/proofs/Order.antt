@@ -55,8 +55,9 @@ named_in_order : (from : ℕ) (lexemes : List Lexeme) → IsInOrder from lexemes
 named_in_order from [] h = h
 named_in_order from (l ∷ []) h = h
 named_in_order from (l ∷ m ∷ lexemes) h =
-    elim (bytes_eq m.leaf.word (codes "main")) as (λ b. IsInOrder from
-    (l ∷ cond b (tok Main m.leaf) m ∷ lexemes)) [ true ↦ h | false ↦ h ]
+    elim (bytes_eq m.leaf.word (codes "main"))
+    as (λ b. IsInOrder from (l ∷ cond b (tok Main m.leaf) m ∷ lexemes))
+    [ true ↦ h | false ↦ h ]
 
 pub in_order : InOrder
 in_order text lexemes t =

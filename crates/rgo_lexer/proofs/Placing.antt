@@ -12,7 +12,7 @@ use Rattle.rgo_lexer.specs.Lexemes.{Lexeme, leaf, tok}
 use Rattle.rgo_lexer.specs.Semicolons.{ending_after, inserted, may_end}
 use Rattle.rgo_lexer.specs.Bytes.{begins_with}
 use Rattle.rgo_lexer.specs.Laws.{OfText}
-use Rattle.rgo_lexer.specs.Lexing.{LexesFrom, byte_order_mark, start_of, IsLexemeOf, terminal_of, terminal_at_width, with_package_name}
+use Rattle.rgo_lexer.specs.Lexing.{LexesFrom, byte_order_mark, start_of, IsLexemeOf, terminal_of, terminal_at_width, package_name, with_package_name}
 use Rattle.rgo_lexer.specs.Lexing.LexesFrom.{finish, blank, newline, piece}
 use Rattle.rgo_lexer.specs.Refusals.{RefusesFrom, Fails, IsPlacedIn, width}
 use Rattle.rgo_lexer.specs.Refusals.RefusesFrom.{here, later}
@@ -116,14 +116,12 @@ of_text_from text {at} {ending} {rest} (piece {lexemes = lexemes} terminal n e t
 named_of : (text : List ℕ) (m : Lexeme) (b : Bool) → bytes_eq m.leaf.word (codes "main") ≡ b
     → IsLexemeOf text m → IsLexemeOf text (cond b (tok Main m.leaf) m)
 named_of text m true e h =
-    let same : m.leaf.word ≡ codes "main" = (bytes_eq-Decides m.leaf.word (codes "main")).0 e in
+    let same = (bytes_eq-Decides m.leaf.word (codes "main")).0 e in
     record {
       within = h.within;
       bytes = h.bytes;
-      spelled = λ lt. inr
-          (refl, same);
-      inserted = λ none. absurd (let long : length m.leaf.word ≡ 4 = ap length same in
-          omega (arith, none, long));
+      spelled = λ lt. inr (refl, same);
+      inserted = λ none. absurd (omega (arith, none, ap length same));
     }
 named_of text m false e h = h
 
@@ -133,12 +131,11 @@ with_name text [] h = h
 with_name text (l ∷ []) h = h
 with_name text (l ∷ m ∷ lexemes) h =
     let P = IsLexemeOf text in
+    let named = package_name m in
     let later : All P (m ∷ lexemes) = All-tail P l (m ∷ lexemes) h in
-    All-cons P l (cond (bytes_eq m.leaf.word (codes "main")) (tok Main m.leaf) m ∷ lexemes)
-    (All-head P l (m ∷ lexemes) h)
-    (All-cons P (cond (bytes_eq m.leaf.word (codes "main")) (tok Main m.leaf) m) lexemes
-    (named_of text m (bytes_eq m.leaf.word (codes "main")) refl (All-head P m lexemes later))
-    (All-tail P m lexemes later))
+    let second = named_of text m (bytes_eq m.leaf.word (codes "main")) refl (All-head P m lexemes later) in
+    All-cons P l (named ∷ lexemes) (All-head P l (m ∷ lexemes) h)
+    (All-cons P named lexemes second (All-tail P m lexemes later))
 
 -- a text begins in itself
 pub start_within : (text : List ℕ) → start_of text ≤ length text

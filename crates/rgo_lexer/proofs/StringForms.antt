@@ -32,8 +32,8 @@ string_fits b rest =
 
 -- if it is a string, a quote follows the items, and its width is theirs and two
 before_piece : (n : ℕ) (after : List ℕ) (terminal : Terminal) (m : ℕ)
-    → string_before n after ≡ Piece terminal m → (m ≡ n + 2)
-    × (string_before n (take 1 after) ≡ Piece terminal m)
+    → string_before n after ≡ Piece terminal m
+    → (m ≡ n + 2) × (string_before n (take 1 after) ≡ Piece terminal m)
 before_piece n [] terminal m e = cc
 before_piece n (b ∷ rest) terminal m e =
     by_test (b == 34) (b == 10 || length rest == 0) (b == 10 || length (take 0 rest) == 0) e
@@ -53,13 +53,14 @@ unfolding string_at
 string_stable text terminal m e =
     let n : ℕ = items_len (drop 1 text) in
     let piece = before_piece n (drop (n + 1) text) terminal m e in
-    let inside : drop 1 (take m text) ≡ take (n + 1)
-    (drop 1 text) = (let w : m ≡ 1 + (n + 1) = omega (arith, piece.0) in
-    ap (λ k. drop 1 (take k text)) w ∙ drop-take 1 (n + 1) text) in
-    let after : drop (n + 1) (take m text) ≡ take 1
-    (drop (n + 1) text) = (let w : m ≡ n + 1 + 1 = omega (arith, piece.0) in
-    ap (λ k. drop (n + 1) (take k text)) w ∙ drop-take (n + 1) 1 text) in
-    let same : items_len (drop 1 (take m text)) ≡ n = ap items_len inside
-    ∙ items_len-take (drop 1 text) (n + 1) (omega arith) in
-    ap (λ k. string_before k (drop (k + 1) (take m text))) same ∙ ap (string_before n) after
+    let w : m ≡ 1 + (n + 1) = omega (arith, piece.0) in
+    let v : m ≡ n + 1 + 1 = omega (arith, piece.0) in
+    let inside : drop 1 (take m text) ≡ take (n + 1) (drop 1 text) =
+    ap (λ k. drop 1 (take k text)) w ∙ drop-take 1 (n + 1) text in
+    let after : drop (n + 1) (take m text) ≡ take 1 (drop (n + 1) text) =
+    ap (λ k. drop (n + 1) (take k text)) v ∙ drop-take (n + 1) 1 text in
+    let same : items_len (drop 1 (take m text)) ≡ n =
+    ap items_len inside ∙ items_len-take (drop 1 text) (n + 1) (omega arith) in
+    ap (λ k. string_before k (drop (k + 1) (take m text))) same
+    ∙ ap (string_before n) after
     ∙ piece.1

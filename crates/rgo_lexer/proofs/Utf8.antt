@@ -26,12 +26,12 @@ pub utf8_stops : (text : List ℕ) → ¬ (IsUtf8 text) → utf8_valid_len text 
 unfolding utf8_valid_len
 utf8_stops [] no' = absurd (no' ([], (refl, refl)))
 utf8_stops (b ∷ text) no' =
-    let whole : is_utf8 (take (suc (length text)) (b ∷ text)) ≡ false = ap is_utf8
-    (take_all (suc (length text)) (b ∷ text) (omega arith))
-    ∙ false_from_ne_true (is_utf8 (b ∷ text)) (λ e. no' (IsUtf8-from_is_utf8 (b ∷ text) e)) in
-    let below : valid_len_up_to (b ∷ text) (length text) ≤ length text = up_to (b ∷ text)
-    (length text) in
-    let e : valid_len_up_to (b ∷ text) (suc (length text)) ≡ valid_len_up_to (b ∷ text)
-    (length text) = ap (λ v. cond v (suc (length text))
-    (valid_len_up_to (b ∷ text) (length text))) whole in
+    let l = b ∷ text in
+    let n = length text in
+    let whole : is_utf8 (take (suc n) l) ≡ false =
+    ap is_utf8 (take_all (suc n) l (omega arith))
+    ∙ false_from_ne_true (is_utf8 l) (λ e. no' (IsUtf8-from_is_utf8 l e)) in
+    let below : valid_len_up_to l n ≤ n = up_to l n in
+    let e : valid_len_up_to l (suc n) ≡ valid_len_up_to l n =
+    ap (λ v. cond v (suc n) (valid_len_up_to l n)) whole in
     omega arith
