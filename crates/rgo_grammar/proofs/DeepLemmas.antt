@@ -16,16 +16,17 @@ deep_step : (limit : ℕ) (before : Terminal) (s : List Level) (k : ℕ) (l : Li
 unfolding deep_from
 deep_step limit before s k l i d h = rw (drop_more l i d h) refl
 
-module _ (limit : ℕ) (before : Terminal) (s after : List Level) (k : ℕ) (l : List Lexeme) (i : ℕ) (d : Lexeme) (h : i < length l)
-    (passed : after ≡ levels_after before (get_or l i d).terminal s) where
-  -- at this lexeme
+-- at a lexeme, by its terminal
+module _ (limit : ℕ) (before terminal : Terminal) (s after : List Level) (k : ℕ) (l : List Lexeme) (i : ℕ) (d : Lexeme) (h : i < length l) (this : (get_or l i d).terminal ≡ terminal)
+    (passed : after ≡ levels_after before terminal s) where
+  -- it nests too deep
   pub deep_here : limit < nesting after → deep_from limit before s k (terminals (drop i l)) ≡ Some k
-  deep_here g = rw (deep_step limit before s k l i d h, ← passed, lt-ltb limit (nesting after) g) refl
+  deep_here g = rw (deep_step limit before s k l i d h, this, ← passed, lt-ltb limit (nesting after) g) refl
 
-  -- after it
+  -- one after it may
   pub deep_later : nesting after ≤ limit
-      → deep_from limit before s k (terminals (drop i l)) ≡ deep_from limit (get_or l i d).terminal after (k + 1) (terminals (drop (i + 1) l))
-  deep_later g = rw (deep_step limit before s k l i d h, ← passed, le-ltb limit (nesting after) g) refl
+      → deep_from limit before s k (terminals (drop i l)) ≡ deep_from limit terminal after (k + 1) (terminals (drop (i + 1) l))
+  deep_later g = rw (deep_step limit before s k l i d h, this, ← passed, le-ltb limit (nesting after) g) refl
 
 pub deep_never : (limit : ℕ) (before : Terminal) (s : List Level) (k : ℕ) (l : List Lexeme) (i : ℕ) → length l ≤ i
     → deep_from limit before s k (terminals (drop i l)) ≡ None

@@ -50,11 +50,15 @@ longer_first [] = true
 longer_first (e ∷ table) =
     list_all (λ f. nat_le (length f.0) (length e.0)) table && longer_first table
 
--- what an operator of a width is, or a text that begins with none
+-- the longest operator that a text begins with
+unfoldable pub operator_entry : List ℕ → Option (ℕ × Terminal)
+operator_entry text = longest_front operators text
+
+-- the front of a text, by the operator that was found
 abbrev pub operator_front : Option (ℕ × Terminal) → Front
 operator_front None = bad_byte
 operator_front (Some f) = Piece f.1 f.0
 
 -- the operator at the front of a text that begins with no other form
 unfoldable pub operator_at : List ℕ → Front
-operator_at text = operator_front (longest_front operators text)
+operator_at text = operator_front (operator_entry text)

@@ -1,5 +1,5 @@
 -- Words: names and keywords.
-use Rattle.std.specs.Prelude.{ℕ, Bool, if◌then◌else◌, List, [], ◌∷◌, map, take, codes}
+use Rattle.std.specs.Prelude.{ℕ, if◌then◌else◌, List, [], ◌∷◌, map, take, codes}
 use Rattle.std.specs.List.{prefix_len}
 use Rattle.std.specs.Str.{bytes_eq}
 use denote.Ref.{Bor}
@@ -41,6 +41,7 @@ word_terminal word = looked_up words Name word
 abbrev pub run_of : List ℕ → ℕ
 run_of text = prefix_len is_word_byte text
 
--- the word at the front of a text that begins with a letter: all bytes at the front that may occur in one
+-- the word at the front of a text that begins with a letter: all bytes at the front that may occur
+-- in one
 unfoldable pub word_at : List ℕ → Front
 word_at text = Piece (word_terminal (take (run_of text) text)) (run_of text)

@@ -69,10 +69,10 @@ fn start_of(text: &[u8]) -> usize
 }
 
 // Where the second lexeme is the word `main`, makes it the package's name.
-fn name_package<'a>(lexemes: &mut [Lexeme<'a>])
-    ensures { lexemes.new ≡ with_package_name lexemes.old }
+fn name_package<'a>(lexemes: &mut Vec<Lexeme<'a>>)
+    ensures { lexemes.new.items ≡ with_package_name lexemes.old.items }
 {
-    if let [_, second, ..] = lexemes {
+    if let [_, second, ..] = lexemes.as_mut_slice() {
         if second.word == b"main".as_slice() {
             second.terminal = Terminal::Main;
         }

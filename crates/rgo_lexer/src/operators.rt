@@ -1,7 +1,7 @@
 //! Operators and punctuation.
 
 ghost use Rattle.std.specs.Prelude.{◌≡◌, IsTrue};
-ghost use Rattle.rgo_lexer.specs.Operators.{longer_first, longest_front, operator_at};
+ghost use Rattle.rgo_lexer.specs.Operators.{longer_first, longest_front, operator_entry, operator_at};
 ghost use Rattle.rgo_lexer.specs.Words.{entries};
 
 use crate::front::Front;
@@ -75,12 +75,20 @@ fn longest_front(table: &[(&[u8], Terminal)], text: &[u8]) -> Option<(usize, Ter
     None
 }
 
+// The longest operator that the text begins with: its width and its terminal.
+#[tactic(auto, unfolding(crate::specs::Operators::operator_entry))]
+fn operator_entry(text: &[u8]) -> Option<(usize, Terminal)>
+    ensures { result ≡ operator_entry text.now }
+{
+    longest_front(&OPERATORS, text)
+}
+
 /// The operator at the front of a text that begins with no other form.
 #[tactic(auto, unfolding(crate::specs::Operators::operator_at))]
 pub(crate) fn operator(text: &[u8]) -> Front
     ensures { result ≡ operator_at text.now }
 {
-    match longest_front(&OPERATORS, text) {
+    match operator_entry(text) {
         Some((width, terminal)) => Front::Piece(terminal, width),
         None => Front::Refused(LexicalKind::BadByte, 0),
     }
