@@ -28,7 +28,7 @@ mutual
       → Meets (stmt n (x ++ l)) (Done (s ∷ []) l)
   stmt_complete d zero l h = inl refl
   stmt_complete (a_block i {y} {b} {end = j} d) (suc n) l h =
-      meets_bind (stmts n (y ++ l)) (Done (b, j) l) (given (λ x. tree.Block (stmts_of x.0) i.at ∷ [])) (stmts_found d n n [] l)
+      meets_bind _ (stmts_found d n n [] l)
   stmt_complete (simple {x} d) (suc n) l h =
       rw (stmt_simple n (x ++ l) (simple_starts d l))
       (single_done (defining (expr false n 1) (x ++ l)) (simple_complete (expr false n 1) false (reads false n) d l (ends_as_simple l h)))
@@ -38,19 +38,17 @@ mutual
   stmt_complete (var i {x} {v} d) (suc n) l h =
       let vs = one_complete n (expr false n 1) (reads false n) d l (ends_as_local l h) in
       single_done (vars_on n (expr false n 1) (x ++ l) (first_of (x ++ l)) >>= given (λ vs. tree.Var vs i.at))
-      (meets_bind (vars_on n (expr false n 1) (x ++ l) (first_of (x ++ l))) (Done (v ∷ []) l) (given (λ vs. tree.Var vs i.at)) vs)
+      (meets_bind _ vs)
   stmt_complete (vars i j {y} {vs} d) (suc n) l h =
       let m = tok OpenParen j ∷ (y ++ l) in
       single_done (vars_on n (expr false n 1) m (first_of m) >>= given (λ vs. tree.Var vs i.at))
-      (meets_bind (vars_on n (expr false n 1) m (first_of m)) (Done vs l) (given (λ vs. tree.Var vs i.at))
-      (vars_complete n (expr false n 1) (reads false n) j d l))
+      (meets_bind _ (vars_complete n (expr false n 1) (reads false n) j d l))
   stmt_complete (returned i) (suc n) l h =
       single_done (return_on (expr false n 1) i l (first_of l)) (inr (return_done (expr false n 1) i l h))
   stmt_complete (returns i {x} {v} e) (suc n) l h =
       single_done (return_on (expr false n 1) i (x ++ l) (first_of (x ++ l)))
       (rw (returns_at (expr false n 1) i (x ++ l) (starts_append x l (expr_starts e)))
-      (meets_bind (expr false n 1 (x ++ l)) (Done v l) (given (λ v. tree.Return (Some v) i.at))
-      (expr_complete e n l (simple_ends l (ends_as_simple l h)))))
+      (meets_bind _ (expr_complete e n l (simple_ends l (ends_as_simple l h)))))
   stmt_complete (broken i) (suc n) l h = inr refl
   stmt_complete (continued i) (suc n) l h = inr refl
 
@@ -61,9 +59,7 @@ mutual
       let one = listed_more Semicolon CloseBrace refl (stmt n) m found [] i [] (y ++ l) (tok Semicolon i, y ++ l, refl, refl)
       (empty_item n i (y ++ l)) in
       let one' = rw append-nil at one.1 in
-      meets_trans (listed Semicolon CloseBrace (stmt n) m found (tok Semicolon i ∷ (y ++ l)))
-      (listed Semicolon CloseBrace (stmt n) one.0 found (y ++ l))
-      (Done (found ++ b, j) l) one' (stmts_found d n one.0 found l)
+      meets_trans one' (stmts_found d n one.0 found l)
   stmts_found (last j {x} {s} d) n m found l =
       rw append_assoc (listed_last Semicolon CloseBrace refl (stmt n) m found (s ∷ []) j x l (stmt_opens d (tok CloseBrace j ∷ l))
       (stmt_complete d n (tok CloseBrace j ∷ l) refl))
@@ -73,9 +69,7 @@ mutual
       let rest = stmts_found g n one.0 (found ++ s ∷ []) l in
       let rest' = rw (append_assoc found (s ∷ []) b) at rest in
       rw append_assoc
-      (meets_trans (listed Semicolon CloseBrace (stmt n) m found (x ++ tok Semicolon i ∷ (y ++ l)))
-      (listed Semicolon CloseBrace (stmt n) one.0 (found ++ s ∷ []) (y ++ l))
-      (Done (found ++ s ∷ b, j) l) one.1 rest')
+      (meets_trans one.1 rest')
 
   if_complete : {x : List Term} {s : tree.Stmt} → IsIf x s → (n : ℕ) (l : List Term) → EndsStmt l → Meets (if_at n (x ++ l)) (Done s l)
   if_complete (plain i k e d f) zero l h = inl refl
@@ -96,9 +90,9 @@ mutual
       → Meets (else_on (block n) (if_stmt n) (z ++ l) (first_of (z ++ l))) (Done e l)
   else_complete no_else n l h = inr (else_done (block n) (if_stmt n) l h)
   else_complete (else_if i {x} {s} d) n l h =
-      rw (else_if_at d n l) (meets_bind (if_at n (x ++ l)) (Done s l) (given (λ s. Some s)) (if_complete d n l h))
+      rw (else_if_at d n l) (meets_bind _ (if_complete d n l h))
   else_complete (else_block i k {y} {b} {end = j} d) n l h =
-      meets_bind (stmts n (y ++ l)) (Done (b, j) l) (given (λ x. Some (tree.Block (stmts_of x.0) k.at))) (stmts_found d n n [] l)
+      meets_bind _ (stmts_found d n n [] l)
 
   for_complete : {x : List Term} {s : tree.Stmt} → IsFor x s → (n : ℕ) (l : List Term) → Meets (for_at n (x ++ l)) (Done s l)
   for_complete (while i k {x} {y} {c} {b} {end = j} g d) n l =

@@ -11,7 +11,8 @@ use Rattle.rgo_grammar.specs.ReadExprs.{expr}
 use Rattle.rgo_grammar.specs.ReadStmts.{stmts_by, block_by, stmt, if_stmt, stmts, block}
 use Rattle.rgo_grammar.proofs.Table.{Sym, T, Block, Stmts, StmtEnd, IfHead, step}
 use Rattle.rgo_grammar.proofs.Machine.{run, closes}
-use Rattle.rgo_grammar.proofs.Correct.{Correct, correct_from, correct_weaker, correct_token_then, ListSyms, listed_correct, AreListed}
+use Rattle.rgo_grammar.proofs.Correct.Correct.{done, stops}
+use Rattle.rgo_grammar.proofs.Correct.{Correct, correct_after, token_read, same_start, correct_weaker, correct_token_then, ListSyms, listed_correct, AreListed}
 use Rattle.rgo_grammar.proofs.ExprsCorrect.{value_correct, args_correct}
 use Rattle.rgo_grammar.proofs.StmtsLoops.{IsBlock}
 use Rattle.rgo_grammar.proofs.StmtsBranches.{if_correct}
@@ -48,12 +49,8 @@ stmts_by_correct : (one : List Term → Read (List tree.Stmt)) (n : ℕ) (l : Li
     → Correct (Stmts ∷ []) (λ _. StmtEnd ∷ []) (λ z ss w. IsItem z ss) (t ∷ m) (one (t ∷ m)))
     → Correct (Stmts ∷ []) (λ _. []) StmtsAt l (stmts_by one n l)
 stmts_by_correct one n l b h =
-    correct_weaker (Stmts ∷ []) (λ _. []) (AreListed Semicolon CloseBrace Stmts StmtEnd stmt_syms one IsItem IsList (length l) h
-    (λ j. end j) list_last list_more [])
-    StmtsAt l (stmts_by one n l)
-    (listed_correct Semicolon CloseBrace Stmts StmtEnd stmt_syms one IsItem IsList (length l) h (λ j. end j) list_last list_more n [] l b
-    (omega arith))
-    (λ z x w c g. rw g.1 g.2)
+    correct_weaker (listed_correct Semicolon CloseBrace Stmts StmtEnd stmt_syms one IsItem IsList (length l) h (λ j. end j) list_last list_more n [] l b
+    (omega arith)) (λ z x w c g. rw g.1 g.2)
 
 block_by_correct : (one : List Term → Read (List tree.Stmt)) (n : ℕ) (l : List Term) → length l ≤ n
     → ((t : Term) (m : List Term) → length m + 1 < length l → same CloseBrace t.terminal ≡ false
@@ -61,11 +58,7 @@ block_by_correct : (one : List Term → Read (List tree.Stmt)) (n : ℕ) (l : Li
     → Correct (Block ∷ []) (λ _. []) IsBlock l (block_by one n l)
 unfolding run step closes
 block_by_correct one n l b h =
-    correct_from (Block ∷ []) (T OpenBrace ∷ Stmts ∷ []) (λ _. []) IsBlock [] l l (block_by one n l) refl (block_run l)
-    (correct_token_then OpenBrace (Stmts ∷ []) (λ _. []) IsBlock l (λ _. stmts_by one n) refl
-    (λ i w c. correct_weaker (Stmts ∷ []) (λ _. []) StmtsAt (λ z x u. IsBlock (tok OpenBrace i ∷ z) x u) w (stmts_by one n w)
-    (stmts_by_correct one n w (omega (arith, b, ap length c)) (λ t m g e. h t m (omega (arith, g, ap length c)) e))
-    (λ z x u d g. (i, z, refl, g))))
+    same_start (correct_token_then OpenBrace refl (λ i w c. correct_weaker (stmts_by_correct one n w (omega (arith, b, ap length c)) (λ t m g e. h t m (omega (arith, g, ap length c)) e)) (λ z x u d g. (i, z, refl, g)))) (block_run l)
   where
     brace_run : (k : Terminal) (i : Leaf) (l : List Term) (s : List Sym)
         → run (tok k i ∷ l) (Block ∷ s) ≡ run (tok k i ∷ l) (T OpenBrace ∷ Stmts ∷ s)

@@ -11,19 +11,19 @@ use Rattle.rgo_grammar.proofs.Table.{same_self}
 abbrev pub Meets : {A : Type 0} → Read A → Read A → Type 0
 Meets x y = (x ≡ Failed Starving) ⊎ (x ≡ y)
 
-pub meets_trans : {A : Type 0} (x y z : Read A) → Meets x y → Meets y z → Meets x z
-meets_trans x y z (inl e) g = inl e
-meets_trans x y z (inr e) (inl g) = inl (e ∙ g)
-meets_trans x y z (inr e) (inr g) = inr (e ∙ g)
+pub meets_trans : {A : Type 0} {x y z : Read A} → Meets x y → Meets y z → Meets x z
+meets_trans (inl e) g = inl e
+meets_trans (inr e) (inl g) = inl (e ∙ g)
+meets_trans (inr e) (inr g) = inr (e ∙ g)
 
-pub meets_bind : {A B : Type 0} (x y : Read A) (f : A → List Term → Read B) → Meets x y → Meets (x >>= f) (y >>= f)
-meets_bind x y f (inl e) = inl (ap (λ u. u >>= f) e)
-meets_bind x y f (inr e) = inr (ap (λ u. u >>= f) e)
+pub meets_bind : {A B : Type 0} {x y : Read A} (f : A → List Term → Read B) → Meets x y → Meets (x >>= f) (y >>= f)
+meets_bind f (inl e) = inl (ap (λ u. u >>= f) e)
+meets_bind f (inr e) = inr (ap (λ u. u >>= f) e)
 
 -- what is read first, and then what is read behind it
-pub meets_then : {A B : Type 0} (x : Read A) (a : A) (w : List Term) (f : A → List Term → Read B) (z : Read B)
+pub meets_then : {A B : Type 0} {x : Read A} {a : A} {w : List Term} (f : A → List Term → Read B) {z : Read B}
     → Meets x (Done a w) → Meets (f a w) z → Meets (x >>= f) z
-meets_then x a w f z h g = meets_trans (x >>= f) (f a w) z (meets_bind x (Done a w) f h) g
+meets_then f h g = meets_trans (meets_bind f h) g
 
 pub bind_assoc : {A B C : Type 0} (m : Read A) (f : A → List Term → Read B) (g : B → List Term → Read C)
     → ((m >>= f) >>= g) ≡ (m >>= λ a w. f a w >>= g)
@@ -68,9 +68,7 @@ module _ {A : Type 0} (separator closer : Terminal) (other : same closer separat
   listed_last zero found a j x l o h = inl refl
   listed_last (suc n) found a j x l o h =
       rw (listed_open n found (x ++ tok closer j ∷ l) o)
-      (meets_then (item (x ++ tok closer j ∷ l)) a (tok closer j ∷ l)
-      (λ b. ended separator closer (listed separator closer item n) (found ++ b)) (Done (found ++ a, j) l) h
-      (inr (ended_last (listed separator closer item n) (found ++ a) j l)))
+      (meets_then _ h (inr (ended_last (listed separator closer item n) (found ++ a) j l)))
 
   pub listed_more : (n : ℕ) (found a : List A) (i : Leaf) (x l : List Term) → Opens closer (x ++ tok separator i ∷ l)
       → Meets (item (x ++ tok separator i ∷ l)) (Done a (tok separator i ∷ l))
@@ -80,10 +78,7 @@ module _ {A : Type 0} (separator closer : Terminal) (other : same closer separat
   listed_more (suc n) found a i x l o h = (
     n,
     rw (listed_open n found (x ++ tok separator i ∷ l) o)
-        (meets_then (item (x ++ tok separator i ∷ l)) a (tok separator i ∷ l)
-        (λ b. ended separator closer (listed separator closer item n) (found ++ b))
-        (listed separator closer item n (found ++ a) l) h
-        (inr (ended_more (listed separator closer item n) (found ++ a) i l))),
+        (meets_then _ h (inr (ended_more (listed separator closer item n) (found ++ a) i l))),
   )
 
 -- a list in the grammar is read as its items, where each item is that stands before a separator or what closes the list
@@ -94,7 +89,7 @@ module _ {A : Type 0} (separator closer : Terminal) (other : same closer separat
     → Meets (item (x ++ tok k j ∷ l)) (Done a (tok k j ∷ l))) where
   single_reads : {x : List Term} {a : A} → Item x a → (k : Terminal) (j : Leaf) (l : List Term) → (k ≡ separator) ⊎ (k ≡ closer)
       → Meets (single (item (x ++ tok k j ∷ l))) (Done (a ∷ []) (tok k j ∷ l))
-  single_reads {x} {a} h k j l s = meets_bind (item (x ++ tok k j ∷ l)) (Done a (tok k j ∷ l)) (given (λ b. b ∷ [])) (reads x a h k j l s)
+  single_reads {x} {a} h k j l s = meets_bind _ (reads x a h k j l s)
 
   pub listed_complete : {y : List Term} {all : List A} → Listed Item separator closer y all → (n : ℕ) (found : List A) (l : List Term)
       → (j : Leaf) × Meets (listed separator closer (λ m. single (item m)) n found (y ++ l)) (Done (found ++ all, j) l)
@@ -111,7 +106,5 @@ module _ {A : Type 0} (separator closer : Terminal) (other : same closer separat
       let rest' = rw append_assoc at rest.1 in (
         rest.0,
         rw append_assoc
-            (meets_trans (listed separator closer (λ m. single (item m)) n found (x ++ tok separator i ∷ (y ++ l)))
-            (listed separator closer (λ m. single (item m)) one.0 (found ++ a ∷ []) (y ++ l))
-            (Done (found ++ a ∷ all, rest.0) l) one.1 rest'),
+            (meets_trans one.1 rest'),
       )

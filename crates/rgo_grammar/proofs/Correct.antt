@@ -8,48 +8,56 @@ use Rattle.rgo_grammar.specs.Reading.{Read, Done, Failed, At, Starving, ◌>>=�
 use Rattle.rgo_grammar.proofs.Table.{Sym, T, Row, row, nullable, next, find, behind, entered, step, same_self}
 use Rattle.rgo_grammar.proofs.Machine.{Run, Stopped, advance, run, closes, same_class}
 
--- From the stack `from` (and what lies under it) at l: a value that holds of the tokens read, and the stack that is left for
--- it; or the machine stops there too.
-abbrev pub Correct : {A : Type 0} → List Sym → (A → List Sym) → (List Term → A → List Term → Type 0) → List Term → Read A → Type 0
-Correct from to P l (Done a w) = (z : List Term) × (l ≡ z ++ w) × P z a w × ((s : List Sym) → run l (from ++ s) ≡ run w (to a ++ s))
-Correct from to P l (Failed (At w)) = (s : List Sym) → run l (from ++ s) ≡ Stopped w
-Correct from to P l (Failed Starving) = ⊥
+-- Reading from l on, where the stack begins with `from`, in step with the machine: a value that holds of the tokens read, and
+-- the stack that is left for it; or the machine stops at the same token.
+pub data Correct {A : Type 0} (from : List Sym) (to : A → List Sym) (P : List Term → A → List Term → Type 0) (l : List Term)
+    : Read A → Type 0 where
+  done : (z : List Term) {a : A} {w : List Term} → l ≡ z ++ w → P z a w
+      → ((s : List Sym) → run l (from ++ s) ≡ run w (to a ++ s)) → Correct from to P l (Done a w)
+  stops : {w : List Term} → ((s : List Sym) → run l (from ++ s) ≡ Stopped w) → Correct from to P l (Failed (At w))
 
 -- behind tokens z that lead from a stack to another
-pub correct_from : {A : Type 0} (from via : List Sym) (to : A → List Sym) (Q : List Term → A → List Term → Type 0) (z l w : List Term)
-    (r : Read A)
-    → l ≡ z ++ w → ((s : List Sym) → run l (from ++ s) ≡ run w (via ++ s))
-    → Correct via to (λ x a u. Q (z ++ x) a u) w r → Correct from to Q l r
-correct_from from via to Q z l w (Done a u) c e h =
-    (z ++ h.0, c ∙ ap (λ m. z ++ m) h.1 ∙ sym (append_assoc z h.0 u), h.2, λ s. e s ∙ h.3 s)
-correct_from from via to Q z l w (Failed (At u)) c e h = λ s. e s ∙ h s
-correct_from from via to Q z l w (Failed Starving) c e h = h
+pub correct_after : {A : Type 0} {from via : List Sym} {to : A → List Sym} {Q : List Term → A → List Term → Type 0} (z : List Term)
+    {l w : List Term} {r : Read A}
+    → l ≡ z ++ w → Correct via to (λ x a u. Q (z ++ x) a u) w r → ((s : List Sym) → run l (from ++ s) ≡ run w (via ++ s))
+    → Correct from to Q l r
+correct_after z {w = w} c (done x {w = u} d p h) e = done (z ++ x) (c ∙ ap (λ m. z ++ m) d ∙ sym (append_assoc z x u)) p (λ s. e s ∙ h s)
+correct_after z c (stops h) e = stops (λ s. e s ∙ h s)
 
-pub correct_bind : {A B : Type 0} (from : List Sym) (via : A → List Sym) (to : B → List Sym) (P : List Term → A → List Term → Type 0)
-    (Q : List Term → B → List Term → Type 0) (l : List Term) (m : Read A) (f : A → List Term → Read B)
+-- a token first
+pub token_read : {A : Type 0} {from via : List Sym} {to : A → List Sym} {Q : List Term → A → List Term → Type 0} {t : Term} {l : List Term}
+    {r : Read A}
+    → Correct via to (λ x a u. Q (t ∷ x) a u) l r → ((s : List Sym) → run (t ∷ l) (from ++ s) ≡ run l (via ++ s))
+    → Correct from to Q (t ∷ l) r
+token_read {t = t} h e = correct_after (t ∷ []) refl h e
+
+-- no token yet, where the machine takes one stack as the other
+pub same_start : {A : Type 0} {from via : List Sym} {to : A → List Sym} {Q : List Term → A → List Term → Type 0} {l : List Term} {r : Read A}
+    → Correct via to Q l r → ((s : List Sym) → run l (from ++ s) ≡ run l (via ++ s)) → Correct from to Q l r
+same_start h e = correct_after [] refl h e
+
+pub correct_bind : {A B : Type 0} {from : List Sym} {via : A → List Sym} {to : B → List Sym} {P : List Term → A → List Term → Type 0}
+    {Q : List Term → B → List Term → Type 0} {l : List Term} {m : Read A} {f : A → List Term → Read B}
     → Correct from via P l m
     → ((z : List Term) (a : A) (w : List Term) → l ≡ z ++ w → P z a w → Correct (via a) to (λ x b u. Q (z ++ x) b u) w (f a w))
     → Correct from to Q l (m >>= f)
-correct_bind from via to P Q l (Done a w) f h g = correct_from from (via a) to Q h.0 l w (f a w) h.1 h.3 (g h.0 a w h.1 h.2)
-correct_bind from via to P Q l (Failed (At w)) f h g = h
-correct_bind from via to P Q l (Failed Starving) f h g = h
+correct_bind (done z {a} {w} c p h) g = correct_after z c (g z a w c p) h
+correct_bind (stops h) g = stops h
 
 -- a value made into another; the stack that is left does not tell them apart
-pub correct_given : {A B : Type 0} (from to : List Sym) (P : List Term → A → List Term → Type 0) (Q : List Term → B → List Term → Type 0)
-    (l : List Term) (m : Read A) (f : A → B)
+pub correct_given : {A B : Type 0} {from to : List Sym} {P : List Term → A → List Term → Type 0} {Q : List Term → B → List Term → Type 0}
+    {l : List Term} {m : Read A} (f : A → B)
     → Correct from (λ _. to) P l m → ((z : List Term) (a : A) (w : List Term) → P z a w → Q z (f a) w)
     → Correct from (λ _. to) Q l (m >>= given f)
-correct_given from to P Q l (Done a w) f h g = (h.0, h.1, g h.0 a w h.2, h.3)
-correct_given from to P Q l (Failed (At w)) f h g = h
-correct_given from to P Q l (Failed Starving) f h g = h
+correct_given f (done z {a} {w} c p h) g = done z c (g z a w p) h
+correct_given f (stops h) g = stops h
 
 -- the same with weaker facts
-pub correct_weaker : {A : Type 0} (from : List Sym) (to : A → List Sym) (P Q : List Term → A → List Term → Type 0) (l : List Term)
-    (m : Read A)
+pub correct_weaker : {A : Type 0} {from : List Sym} {to : A → List Sym} {P Q : List Term → A → List Term → Type 0} {l : List Term}
+    {m : Read A}
     → Correct from to P l m → ((z : List Term) (a : A) (w : List Term) → l ≡ z ++ w → P z a w → Q z a w) → Correct from to Q l m
-correct_weaker from to P Q l (Done a w) h g = (h.0, h.1, g h.0 a w h.1 h.2, h.3)
-correct_weaker from to P Q l (Failed (At w)) h g = h
-correct_weaker from to P Q l (Failed Starving) h g = h
+correct_weaker (done z {a} {w} c p h) g = done z c (g z a w c p) h
+correct_weaker (stops h) g = stops h
 
 -- how much shorter a rest is
 pub shorter : (l z w : List Term) → l ≡ z ++ w → length w + length z ≡ length l
@@ -105,48 +113,43 @@ token_by : (k j : Terminal) (i : Leaf) (l : List Term) (v : Bool) → plain k �
     → Correct (T k ∷ []) (λ _. []) (IsToken k) (tok j i ∷ l) (cond v (Done i l) (Failed (At (tok j i ∷ l))))
 token_by k j i l true p e =
     let is : j ≡ k = same_plain k j p e in
-    (tok j i ∷ [], refl, rw is refl, λ s. rw is (take_token k i l s))
-token_by k j i l false p e = λ s. leave_token k (tok j i) l s e
+    done (tok j i ∷ []) refl (rw is refl) (λ s. rw is (take_token k i l s))
+token_by k j i l false p e = stops (λ s. leave_token k (tok j i) l s e)
 
-pub correct_token : (k : Terminal) (l : List Term) → plain k ≡ true → Correct (T k ∷ []) (λ _. []) (IsToken k) l (token k l)
-correct_token k [] p = λ s. no_token k s
-correct_token k (t ∷ l) p = token_by k t.terminal t.leaf l (same k t.terminal) p refl
+pub correct_token : (k : Terminal) {l : List Term} → plain k ≡ true → Correct (T k ∷ []) (λ _. []) (IsToken k) l (token k l)
+correct_token k {l = []} p = stops (λ s. no_token k s)
+correct_token k {l = t ∷ l} p = token_by k t.terminal t.leaf l (same k t.terminal) p refl
 
 -- ---- one thing after another
 
 -- with more under it on the stack
-pub correct_under : {A : Type 0} (from : List Sym) (to : A → List Sym) (more : List Sym) (P : List Term → A → List Term → Type 0)
-    (l : List Term) (m : Read A)
+pub correct_under : {A : Type 0} {from : List Sym} {to : A → List Sym} (more : List Sym) {P : List Term → A → List Term → Type 0}
+    {l : List Term} {m : Read A}
     → Correct from to P l m → Correct (from ++ more) (λ a. to a ++ more) P l m
-correct_under from to more P l (Done a w) h =
-    (h.0, h.1, h.2, λ s. rw (append_assoc from more s, append_assoc (to a) more s) (h.3 (more ++ s)))
-correct_under from to more P l (Failed (At w)) h = λ s. rw append_assoc (h (more ++ s))
-correct_under from to more P l (Failed Starving) h = h
+correct_under {from = from} {to = to} more (done z {a} c p h) =
+    done z c p (λ s. rw (append_assoc from more s, append_assoc (to a) more s) (h (more ++ s)))
+correct_under more (stops h) = stops (λ s. rw append_assoc (h (more ++ s)))
 
 -- what is read first leaves what lay under it on the stack
-pub correct_then : {A B : Type 0} (from more : List Sym) (to : B → List Sym) (P : List Term → A → List Term → Type 0)
-    (Q : List Term → B → List Term → Type 0) (l : List Term) (m : Read A) (f : A → List Term → Read B)
+pub correct_then : {A B : Type 0} {from more : List Sym} {to : B → List Sym} {P : List Term → A → List Term → Type 0}
+    {Q : List Term → B → List Term → Type 0} {l : List Term} {m : Read A} {f : A → List Term → Read B}
     → Correct from (λ _. []) P l m
     → ((z : List Term) (a : A) (w : List Term) → l ≡ z ++ w → P z a w → Correct more to (λ x b u. Q (z ++ x) b u) w (f a w))
     → Correct (from ++ more) to Q l (m >>= f)
-correct_then from more to P Q l m f h g =
-    correct_bind (from ++ more) (λ _. more) to P Q l m f (correct_under from (λ _. []) more P l m h) g
+correct_then {more = more} h g = correct_bind (correct_under more h) g
 
 -- a token first
-pub correct_token_then : {B : Type 0} (k : Terminal) (more : List Sym) (to : B → List Sym) (Q : List Term → B → List Term → Type 0)
-    (l : List Term) (f : Leaf → List Term → Read B) → plain k ≡ true
+pub correct_token_then : {B : Type 0} (k : Terminal) {more : List Sym} {to : B → List Sym} {Q : List Term → B → List Term → Type 0}
+    {l : List Term} {f : Leaf → List Term → Read B} → plain k ≡ true
     → ((i : Leaf) (w : List Term) → l ≡ tok k i ∷ w → Correct more to (λ x b u. Q (tok k i ∷ x) b u) w (f i w))
     → Correct (T k ∷ more) to Q l (token k l >>= f)
-correct_token_then k more to Q l f p g =
-    correct_then (T k ∷ []) more to (IsToken k) Q l (token k l) f (correct_token k l p)
-    (λ z i w c e. rw e (g i w (rw e at c)))
+correct_token_then k p g = correct_then (correct_token k p) (λ z i w c e. rw e (g i w (rw e at c)))
 
 -- a token alone, made into something
-pub correct_token_given : {B : Type 0} (k : Terminal) (Q : List Term → B → List Term → Type 0) (l : List Term) (f : Leaf → B)
+pub correct_token_given : {B : Type 0} (k : Terminal) {Q : List Term → B → List Term → Type 0} {l : List Term} (f : Leaf → B)
     → plain k ≡ true
     → ((i : Leaf) (w : List Term) → Q (tok k i ∷ []) (f i) w) → Correct (T k ∷ []) (λ _. []) Q l (token k l >>= given f)
-correct_token_given k Q l f p g =
-    correct_given (T k ∷ []) [] (IsToken k) Q l (token k l) f (correct_token k l p) (λ z i w e. rw e (g i w))
+correct_token_given k f p g = correct_given f (correct_token k p) (λ z i w e. rw e (g i w))
 
 -- ---- lists
 
@@ -198,23 +201,20 @@ module _ {A : Type 0} (separator closer : Terminal) (L E : Sym) (syms : ListSyms
       (cond c (Done (found ++ new, i) w) (cond s (again (found ++ new) w) (Failed (At (tok k i ∷ w)))))
   ended_by again found new l z k i w true s ce se e h ih =
       let is : k ≡ closer = same_plain closer k syms.plain_closer ce in
-      (tok k i ∷ [], refl, (new, refl, rw is (r_last z new i h)), λ v. take_first E k [] i w v (rw (syms.end_row, ce) refl))
+      done (tok k i ∷ []) refl (new, refl, rw is (r_last z new i h)) (λ v. take_first E k [] i w v (rw (syms.end_row, ce) refl))
   ended_by again found new l z k i w false true ce se e h ih =
       let is : k ≡ separator = same_plain separator k syms.plain_separator se in
-      correct_from (E ∷ []) (L ∷ []) (λ _. []) (λ x b u. AreListed found (z ++ x) b u) (tok k i ∷ []) (tok k i ∷ w) w
-      (again (found ++ new) w) refl
-      (λ v. take_first E k (L ∷ []) i w v (rw (syms.end_row, ce, se) refl))
-      (correct_weaker (L ∷ []) (λ _. []) (AreListed (found ++ new)) (λ x b u. AreListed found (z ++ tok k i ∷ x) b u) w
-      (again (found ++ new) w) (ih (found ++ new) se)
+      token_read (correct_weaker (ih (found ++ new) se)
       (λ x b u d g. (new ++ g.0, g.1 ∙ append_assoc found new g.0, rw is (r_more z new i x g.0 b.1 h g.2))))
+      (λ v. take_first E k (L ∷ []) i w v (rw (syms.end_row, ce, se) refl))
   ended_by again found new l z k i w false false ce se e h ih =
-      λ v. refuse_first E (tok k i) w v (rw (syms.end_row, ce, se) refl) syms.end_stays
+      stops (λ v. refuse_first E (tok k i) w v (rw (syms.end_row, ce, se) refl) syms.end_stays)
 
   -- behind an item
   pub ended_correct : (again : List A → List Term → Read (List A × Leaf)) (found new : List A) (l z w : List Term) → l ≡ z ++ w → I z new
       → ((f : List A) (m : List Term) → length m < length w → Correct (L ∷ []) (λ _. []) (AreListed f) m (again f m))
       → Correct (E ∷ []) (λ _. []) (λ x b u. AreListed found (z ++ x) b u) w (ended separator closer again (found ++ new) w)
-  ended_correct again found new l z [] e h ih = λ v. stays E v syms.end_stays
+  ended_correct again found new l z [] e h ih = stops (λ v. stays E v syms.end_stays)
   ended_correct again found new l z (t ∷ w) e h ih =
       ended_by again found new l z t.terminal t.leaf w (same closer t.terminal) (same separator t.terminal) refl refl e h
       (λ f _. ih f w (omega arith))
@@ -227,18 +227,16 @@ module _ {A : Type 0} (separator closer : Terminal) (L E : Sym) (syms : ListSyms
       (cond c (Done (found, i) l) (item (tok k i ∷ l) >>= λ a. ended separator closer again (found ++ a)))
   listed_by again found k i l true b ce ih =
       let is : k ≡ closer = same_plain closer k syms.plain_closer ce in
-      (tok k i ∷ [], refl, ([], sym (append-nil found), rw is (r_none i)), λ v. take_first L k [] i l v (syms.list_row k ce))
+      done (tok k i ∷ []) refl ([], sym (append-nil found), rw is (r_none i)) (λ v. take_first L k [] i l v (syms.list_row k ce))
   listed_by again found k i l false b ce ih =
-      correct_bind (L ∷ []) (λ _. E ∷ []) (λ _. []) (λ z a w. I z a) (AreListed found) (tok k i ∷ l) (item (tok k i ∷ l))
-      (λ a. ended separator closer again (found ++ a))
-      (item_c (tok k i) l b ce)
+      correct_bind (item_c (tok k i) l b ce)
       (λ z a w e h. ended_correct again found a (tok k i ∷ l) z w e h (λ f m g. ih f m (omega (arith, shorter (tok k i ∷ l) z w e))))
 
   pub listed_correct : (n : ℕ) (found : List A) (l : List Term) → length l < n → length l ≤ bound
       → Correct (L ∷ []) (λ _. []) (AreListed found) l (listed separator closer item n found l)
   unfolding listed
   listed_correct zero found l h b = absurd (omega arith)
-  listed_correct (suc n) found [] h b = λ v. stays L v syms.list_stays
+  listed_correct (suc n) found [] h b = stops (λ v. stays L v syms.list_stays)
   listed_correct (suc n) found (t ∷ l) h b =
       listed_by (listed separator closer item n) found t.terminal t.leaf l (same closer t.terminal) (omega arith) refl
       (λ f m g. listed_correct n f m (omega arith) (omega arith))

@@ -34,7 +34,7 @@ module _ {A : Type 0} (n : ℕ) (Item : List Term → A → Type 0) (item : List
   pub group_one : (x : List Term) (a : A) (l : List Term) → Item x a → Meets (group item n (x ++ l)) (Done (a ∷ []) l)
   group_one x a l h =
       rw (group_open (x ++ l) (opens_append OpenParen x l (opens OpenParen (refl, refl) x a h)))
-      (meets_bind (item (x ++ l)) (Done a l) (given (λ b. b ∷ [])) (reads x a h l))
+      (meets_bind _ (reads x a h l))
 
   pub group_list : (j : Leaf) (y : List Term) (all : List A) (l : List Term) → Listed Item Semicolon CloseParen y all
       → Meets (group item n (tok OpenParen j ∷ (y ++ l))) (Done all l)
@@ -42,7 +42,7 @@ module _ {A : Type 0} (n : ℕ) (Item : List Term → A → Type 0) (item : List
   group_list j y all l d =
       let h = listed_complete Semicolon CloseParen refl Item item (λ x a h. opens CloseParen (refl, refl) x a h)
       (λ x a h k i m s. reads x a h (tok k i ∷ m)) d n [] l in
-      meets_bind (listed Semicolon CloseParen (λ w. single (item w)) n [] (y ++ l)) (Done (all, h.0) l) (given (λ x. x.0)) h.1
+      meets_bind _ h.1
 
 -- ---- imports
 
@@ -57,19 +57,9 @@ import_complete : {x : List Term} {d : tree.Import} → IsImport x d
     → (n : ℕ) (found : List tree.Import) (again : List tree.Import → List Term → Read (List tree.Import)) (j : Leaf) (l : List Term)
     → Meets (imports_on n again found (x ++ tok Semicolon j ∷ l) (first_of (x ++ tok Semicolon j ∷ l))) (again (found ++ d ∷ []) l)
 import_complete (g.one i {x} {p} h) n found again j l =
-    meets_then (import_decl n i (x ++ tok Semicolon j ∷ l)) (record { paths = p ∷ []; at = i.at }) (tok Semicolon j ∷ l)
-    (λ d w. token Semicolon w >>= λ _. again (found ++ d ∷ []))
-    (again (found ++ record { paths = p ∷ []; at = i.at } ∷ []) l)
-    (meets_bind (group import_path n (x ++ tok Semicolon j ∷ l)) (Done (p ∷ []) (tok Semicolon j ∷ l))
-    (given (λ ps. record { paths = ps; at = i.at }))
-    (group_one n IsPath import_path path_opens path_reads x p (tok Semicolon j ∷ l) h)) (inr refl)
+    meets_then _ (meets_bind _ (group_one n IsPath import_path path_opens path_reads x p (tok Semicolon j ∷ l) h)) (inr refl)
 import_complete (g.group i k {y} {ps} d) n found again j l =
-    meets_then (import_decl n i (tok OpenParen k ∷ (y ++ tok Semicolon j ∷ l))) (record { paths = ps; at = i.at }) (tok Semicolon j ∷ l)
-    (λ d w. token Semicolon w >>= λ _. again (found ++ d ∷ []))
-    (again (found ++ record { paths = ps; at = i.at } ∷ []) l)
-    (meets_bind (group import_path n (tok OpenParen k ∷ (y ++ tok Semicolon j ∷ l))) (Done ps (tok Semicolon j ∷ l))
-    (given (λ ps. record { paths = ps; at = i.at }))
-    (group_list n IsPath import_path path_opens path_reads k y ps (tok Semicolon j ∷ l) d)) (inr refl)
+    meets_then _ (meets_bind _ (group_list n IsPath import_path path_opens path_reads k y ps (tok Semicolon j ∷ l) d)) (inr refl)
 
 no_import : (n : ℕ) (again : List tree.Import → List Term → Read (List tree.Import)) (found : List tree.Import) (k : Terminal) (i : Leaf)
     (m : List Term) → is_import k ≡ false
@@ -92,9 +82,7 @@ imports_complete (next j {x} {y} {a} {all} p e) n zero found l h = inl refl
 imports_complete (next j {x} {y} {a} {all} p e) n (suc m) found l h =
     let rest = imports_complete e n m (found ++ a ∷ []) l h in
     rw append_assoc
-    (meets_trans (imports_on n (imports n m) found (x ++ tok Semicolon j ∷ (y ++ l)) (first_of (x ++ tok Semicolon j ∷ (y ++ l))))
-    (imports n m (found ++ a ∷ []) (y ++ l)) (Done (found ++ a ∷ all) l)
-    (import_complete p n found (imports n m) j (y ++ l)) (rw (append_assoc found (a ∷ []) all) at rest))
+    (meets_trans (import_complete p n found (imports n m) j (y ++ l)) (rw (append_assoc found (a ∷ []) all) at rest))
 
 -- ---- declarations
 
@@ -104,7 +92,7 @@ spec_opens k e _ _ (g.struct i j m {y} d) = (tok Name i, tok Struct j ∷ tok Op
 spec_reads : (n : ℕ) (x : List Term) (s : TypeSpec) → IsTypeSpec x s → (l : List Term) → Meets (type_spec n (x ++ l)) (Done s l)
 spec_reads n _ _ (g.struct i j k {y} {fs} d) l =
     let h = bindings_complete Semicolon CloseBrace refl refl d n l in
-    meets_bind (bindings Semicolon CloseBrace n (y ++ l)) (Done (fs, h.0) l) (given (λ x. struct i x.0)) h.1
+    meets_bind _ h.1
 
 var_opens : (k : Terminal) → (same k Name ≡ false) × (same k Text ≡ false) → (x : List Term) (b : Binding) → IsBinding x b → Opens k x
 var_opens k e x b h = binding_opens k e.0 x b h
@@ -124,8 +112,7 @@ result_complete : {x : List Term} {r : Option tree.TypeExpr} → IsResult x r �
 result_complete g.none n m l = inr refl
 result_complete (g.some {x} {t} h) n m l =
     rw (result_type n x t (tok OpenBrace m ∷ l) h)
-    (meets_bind (a_type n (x ++ tok OpenBrace m ∷ l)) (Done t (tok OpenBrace m ∷ l)) (given (λ t. Some t))
-    (type_complete x t h n (tok OpenBrace m ∷ l)))
+    (meets_bind _ (type_complete x t h n (tok OpenBrace m ∷ l)))
 
 module _ (n : ℕ) where
   func_complete : (i j k m end : Leaf) (x y z : List Term) (ps : List Binding) (r : Option tree.TypeExpr) (b : List tree.Stmt) (l : List Term)
@@ -133,52 +120,23 @@ module _ (n : ℕ) where
       → Meets (func n i (tok Name j ∷ tok OpenParen k ∷ (x ++ (y ++ tok OpenBrace m ∷ (z ++ l))))) (Done (function i j ps r b end) l)
   func_complete i j k m end x y z ps r b l p q s =
       let h = bindings_complete Comma CloseParen refl refl p n (y ++ tok OpenBrace m ∷ (z ++ l)) in
-      meets_then (bindings Comma CloseParen n (x ++ (y ++ tok OpenBrace m ∷ (z ++ l)))) (ps, h.0) (y ++ tok OpenBrace m ∷ (z ++ l))
-      (λ ps v. result_on n v (first_of v) >>= λ r y. block n y >>= given (λ b. function i j ps.0 r b.0 b.1))
-      (Done (function i j ps r b end) l) h.1
-      (meets_then (result_on n (y ++ tok OpenBrace m ∷ (z ++ l)) (first_of (y ++ tok OpenBrace m ∷ (z ++ l)))) r
-      (tok OpenBrace m ∷ (z ++ l))
-      (λ r y. block n y >>= given (λ b. function i j ps r b.0 b.1)) (Done (function i j ps r b end) l) (result_complete q n m (z ++ l))
-      (meets_bind (block n (tok OpenBrace m ∷ (z ++ l))) (Done (b, end) l) (given (λ b. function i j ps r b.0 b.1))
-      (block_complete s m n l)))
+      meets_then _ h.1 (meets_then _ (result_complete q n m (z ++ l)) (meets_bind _ (block_complete s m n l)))
 
   -- with the `;` behind it
   decl_complete : {x : List Term} {d : tree.Decl} → IsDecl x d
       → (found : List tree.Decl) (again : List tree.Decl → List Term → Read (List tree.Decl)) (j : Leaf) (l : List Term)
       → Meets (decls_on n again found (x ++ tok Semicolon j ∷ l) (first_of (x ++ tok Semicolon j ∷ l))) (again (found ++ d ∷ []) l)
   decl_complete (g.type i {x} {s} h) found again j l =
-      meets_then (group (type_spec n) n (x ++ tok Semicolon j ∷ l) >>= given (λ ss. tree.Types ss i.at)) (tree.Types (s ∷ []) i.at)
-      (tok Semicolon j ∷ l)
-      (λ d w. token Semicolon w >>= λ _. again (found ++ d ∷ [])) (again (found ++ tree.Types (s ∷ []) i.at ∷ []) l)
-      (meets_bind (group (type_spec n) n (x ++ tok Semicolon j ∷ l)) (Done (s ∷ []) (tok Semicolon j ∷ l))
-      (given (λ ss. tree.Types ss i.at))
-      (group_one n IsTypeSpec (type_spec n) spec_opens (spec_reads n) x s (tok Semicolon j ∷ l) h)) (inr refl)
+      meets_then _ (meets_bind _ (group_one n IsTypeSpec (type_spec n) spec_opens (spec_reads n) x s (tok Semicolon j ∷ l) h)) (inr refl)
   decl_complete (g.types i k {y} {ss} d) found again j l =
-      meets_then (group (type_spec n) n (tok OpenParen k ∷ (y ++ tok Semicolon j ∷ l)) >>= given (λ ss. tree.Types ss i.at))
-      (tree.Types ss i.at) (tok Semicolon j ∷ l)
-      (λ d w. token Semicolon w >>= λ _. again (found ++ d ∷ [])) (again (found ++ tree.Types ss i.at ∷ []) l)
-      (meets_bind (group (type_spec n) n (tok OpenParen k ∷ (y ++ tok Semicolon j ∷ l))) (Done ss (tok Semicolon j ∷ l))
-      (given (λ ss. tree.Types ss i.at))
-      (group_list n IsTypeSpec (type_spec n) spec_opens (spec_reads n) k y ss (tok Semicolon j ∷ l) d)) (inr refl)
+      meets_then _ (meets_bind _ (group_list n IsTypeSpec (type_spec n) spec_opens (spec_reads n) k y ss (tok Semicolon j ∷ l) d)) (inr refl)
   decl_complete (g.var i {x} {b} h) found again j l =
-      meets_then (group (binding n) n (x ++ tok Semicolon j ∷ l) >>= given (λ bs. tree.Vars bs i.at)) (tree.Vars (b ∷ []) i.at)
-      (tok Semicolon j ∷ l)
-      (λ d w. token Semicolon w >>= λ _. again (found ++ d ∷ [])) (again (found ++ tree.Vars (b ∷ []) i.at ∷ []) l)
-      (meets_bind (group (binding n) n (x ++ tok Semicolon j ∷ l)) (Done (b ∷ []) (tok Semicolon j ∷ l)) (given (λ bs. tree.Vars bs i.at))
-      (group_one n IsBinding (binding n) var_opens (var_reads n) x b (tok Semicolon j ∷ l) h)) (inr refl)
+      meets_then _ (meets_bind _ (group_one n IsBinding (binding n) var_opens (var_reads n) x b (tok Semicolon j ∷ l) h)) (inr refl)
   decl_complete (g.vars i k {y} {bs} d) found again j l =
-      meets_then (group (binding n) n (tok OpenParen k ∷ (y ++ tok Semicolon j ∷ l)) >>= given (λ bs. tree.Vars bs i.at))
-      (tree.Vars bs i.at) (tok Semicolon j ∷ l)
-      (λ d w. token Semicolon w >>= λ _. again (found ++ d ∷ [])) (again (found ++ tree.Vars bs i.at ∷ []) l)
-      (meets_bind (group (binding n) n (tok OpenParen k ∷ (y ++ tok Semicolon j ∷ l))) (Done bs (tok Semicolon j ∷ l))
-      (given (λ bs. tree.Vars bs i.at))
-      (group_list n IsBinding (binding n) var_opens (var_reads n) k y bs (tok Semicolon j ∷ l) d)) (inr refl)
+      meets_then _ (meets_bind _ (group_list n IsBinding (binding n) var_opens (var_reads n) k y bs (tok Semicolon j ∷ l) d)) (inr refl)
   decl_complete (g.func i j k m end {x} {y} {z} {ps} {r} {b} p q s) found again s' l =
       rw (append_assoc, append_assoc)
-      (meets_then (func n i (tok Name j ∷ tok OpenParen k ∷ (x ++ (y ++ tok OpenBrace m ∷ (z ++ tok Semicolon s' ∷ l)))))
-      (function i j ps r b end) (tok Semicolon s' ∷ l)
-      (λ d w. token Semicolon w >>= λ _. again (found ++ d ∷ [])) (again (found ++ function i j ps r b end ∷ []) l)
-      (func_complete i j k m end x y z ps r b (tok Semicolon s' ∷ l) p q s) (inr refl))
+      (meets_then _ (func_complete i j k m end x y z ps r b (tok Semicolon s' ∷ l) p q s) (inr refl))
 
   decls_complete : {x : List Term} {all : List tree.Decl} → Each IsDecl x all → (m : ℕ) (found : List tree.Decl)
       → Meets (decls n m found x) (Done (found ++ all) [])
@@ -188,9 +146,7 @@ module _ (n : ℕ) where
   decls_complete (next j {x} {y} {a} {all} p e) zero found = inl refl
   decls_complete (next j {x} {y} {a} {all} p e) (suc m) found =
       let rest = decls_complete e m (found ++ a ∷ []) in
-      meets_trans (decls_on n (decls n m) found (x ++ tok Semicolon j ∷ y) (first_of (x ++ tok Semicolon j ∷ y)))
-      (decls n m (found ++ a ∷ []) y) (Done (found ++ a ∷ all) [])
-      (decl_complete p found (decls n m) j y) (rw (append_assoc found (a ∷ []) all) at rest)
+      meets_trans (decl_complete p found (decls n m) j y) (rw (append_assoc found (a ∷ []) all) at rest)
 
   decl_starts : {x : List Term} {d : tree.Decl} → IsDecl x d → (l : List Term) → NoImport (x ++ l)
   decl_starts (g.type i h) l = refl
@@ -206,6 +162,4 @@ module _ (n : ℕ) where
   pub program_complete : {l : List Term} {is : List tree.Import} {ds : List tree.Decl} → IsProgram l is ds
       → Meets (program n l) (Done (is, ds) [])
   program_complete (g.program i j k {x} {y} {imports = is} {decls = ds} p q) =
-      meets_then (imports n n [] (x ++ y)) is y (λ is u. decls n n [] u >>= given (λ ds. (is, ds))) (Done (is, ds) [])
-      (imports_complete p n n [] y (decls_start q))
-      (meets_bind (decls n n [] y) (Done ds []) (given (λ ds. (is, ds))) (decls_complete q n []))
+      meets_then _ (imports_complete p n n [] y (decls_start q)) (meets_bind _ (decls_complete q n []))

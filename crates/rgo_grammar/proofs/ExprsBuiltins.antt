@@ -28,9 +28,7 @@ ended_value : (y : List Term) (v : tree.Expr) {z : List Term} (f : tree.Expr →
     → Meets (expr false n 1 (y ++ (z ++ l)) >>= λ u w. make_end w >>= given (λ _. f u)) (Done (f v) l)
 ended_value y v {z} f n l h e =
     let g = make_end_done e l in
-    meets_then (expr false n 1 (y ++ (z ++ l))) v (z ++ l) (λ u w. make_end w >>= given (λ _. f u)) (Done (f v) l)
-    (h n (z ++ l) (make_end_ends e l))
-    (inr (ap (λ r. r >>= given (λ _. f v)) g.1))
+    meets_then _ (h n (z ++ l) (make_end_ends e l)) (inr (ap (λ r. r >>= given (λ _. f v)) g.1))
 
 pub new_complete : (i j k m : Leaf) (n : ℕ) (l : List Term)
     → Meets (primary (suc n) (tok New i ∷ tok OpenParen j ∷ tok Name k ∷ tok CloseParen m ∷ l)) (post n (tree.New (ident k) i.at) l)
@@ -45,11 +43,7 @@ pub slice_complete : (i j k m c : Leaf) {x z : List Term} (y : List Term) {t : t
     (post n (tree.MakeSlice t v i.at) l)
 unfolding expr
 slice_complete i j k m c {x} {z} y {t} v h f e n l =
-    meets_bind (a_type n (x ++ tok Comma c ∷ (y ++ (z ++ l))) >>= make_slice (expr false n 1) i) (Done (tree.MakeSlice t v i.at) l) (post n)
-    (meets_then (a_type n (x ++ tok Comma c ∷ (y ++ (z ++ l)))) t (tok Comma c ∷ (y ++ (z ++ l))) (make_slice (expr false n 1) i)
-    (Done (tree.MakeSlice t v i.at) l)
-    (type_complete x t h n (tok Comma c ∷ (y ++ (z ++ l))))
-    (ended_value y v (λ u. tree.MakeSlice t u i.at) n l f e))
+    meets_bind _ (meets_then _ (type_complete x t h n (tok Comma c ∷ (y ++ (z ++ l)))) (ended_value y v (λ u. tree.MakeSlice t u i.at) n l f e))
 
 -- ---- make ( chan Type [ , Expr ] [,] )
 
@@ -63,9 +57,7 @@ pub chan_complete : (i j k : Leaf) {x z : List Term} {t : tree.TypeExpr} → IsT
     (post n (tree.MakeChan t tree.no_capacity i.at) l)
 unfolding expr
 chan_complete i j k {x} {z} {t} h e n l =
-    meets_bind (a_type n (x ++ (z ++ l)) >>= λ u. sized (expr false n 1) u i) (Done (tree.MakeChan t tree.no_capacity i.at) l) (post n)
-    (meets_then (a_type n (x ++ (z ++ l))) t (z ++ l) (λ u. sized (expr false n 1) u i) (Done (tree.MakeChan t tree.no_capacity i.at) l)
-    (type_complete x t h n (z ++ l)) (inr (sized_end (expr false n 1) t i e l)))
+    meets_bind _ (meets_then _ (type_complete x t h n (z ++ l)) (inr (sized_end (expr false n 1) t i e l)))
 
 capacity_else : (inner : List Term → Read tree.Expr) (t : tree.TypeExpr) (i : Leaf) (k : Terminal) (l m : List Term) → starts k ≡ true
     → capacity_by inner t i k l m ≡ (inner l >>= λ v w. make_end w >>= given (λ _. tree.MakeChan t (tree.a_capacity v) i.at))
@@ -82,10 +74,5 @@ pub sized_complete : (i j k c : Leaf) {x z : List Term} (y : List Term) {t : tre
     (post n (tree.MakeChan t (tree.a_capacity v) i.at) l)
 unfolding expr
 sized_complete i j k c {x} {z} y {t} v h s f e n l =
-    meets_bind (a_type n (x ++ tok Comma c ∷ (y ++ (z ++ l))) >>= λ u. sized (expr false n 1) u i)
-    (Done (tree.MakeChan t (tree.a_capacity v) i.at) l) (post n)
-    (meets_then (a_type n (x ++ tok Comma c ∷ (y ++ (z ++ l)))) t (tok Comma c ∷ (y ++ (z ++ l))) (λ u. sized (expr false n 1) u i)
-    (Done (tree.MakeChan t (tree.a_capacity v) i.at) l)
-    (type_complete x t h n (tok Comma c ∷ (y ++ (z ++ l))))
-    (rw (capacity_at (expr false n 1) t i (y ++ (z ++ l)) (starts_append y (z ++ l) s))
+    meets_bind {y = Done (tree.MakeChan t (tree.a_capacity v) i.at) l} _ (meets_then _ (type_complete x t h n (tok Comma c ∷ (y ++ (z ++ l)))) (rw (capacity_at (expr false n 1) t i (y ++ (z ++ l)) (starts_append y (z ++ l) s))
     (ended_value y v (λ u. tree.MakeChan t (tree.a_capacity u) i.at) n l f e)))

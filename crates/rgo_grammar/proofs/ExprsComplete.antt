@@ -53,23 +53,20 @@ mutual
       let h = primary_complete p (suc n) (tok Dot i ∷ tok Name j ∷ l) in
       let g = selected i j v h.0 l in (
         g.0,
-        rw append_assoc (meets_trans (primary (suc n) (x ++ tok Dot i ∷ tok Name j ∷ l)) (post h.0 v (tok Dot i ∷ tok Name j ∷ l))
-            (post g.0 (tree.Select v (ident j)) l) h.1 g.1),
+        rw append_assoc (meets_trans h.1 g.1),
       )
   primary_complete (index i j {x} {y} {v} {w} p f) (suc n) l =
       let h = primary_complete p (suc n) (tok OpenBracket i ∷ (y ++ tok CloseBracket j ∷ l)) in
       let g = indexed_at i j v w y h.0 l (λ m u e. finished false m y w u
       (formula_complete f m 1 u (omega arith) (omega (arith, e.0)) e.1) e.0) in (
         g.0,
-        rw (append_assoc, append_assoc) (meets_trans (primary (suc n) (x ++ tok OpenBracket i ∷ (y ++ tok CloseBracket j ∷ l)))
-            (post h.0 v (tok OpenBracket i ∷ (y ++ tok CloseBracket j ∷ l))) (post g.0 (tree.Index v w i.at) l) h.1 g.1),
+        rw (append_assoc, append_assoc) (meets_trans h.1 g.1),
       )
   primary_complete (call i {x} {y} {v} {vs} p d) (suc n) l =
       let h = primary_complete p (suc n) (tok OpenParen i ∷ (y ++ l)) in
       let g = called_at i v y vs h.0 l (λ m k. exprs_found d paren_closer m k [] l) in (
         g.0,
-        rw append_assoc (meets_trans (primary (suc n) (x ++ tok OpenParen i ∷ (y ++ l))) (post h.0 v (tok OpenParen i ∷ (y ++ l)))
-            (post g.0 (tree.Called v (exprs_of vs) i.at) l) h.1 g.1),
+        rw append_assoc (meets_trans h.1 g.1),
       )
 
   unary_complete : {h : Bool} {x : List Term} {v : tree.Expr} → IsUnary h x v → (n : ℕ) (l : List Term) → Unposted l
@@ -85,15 +82,13 @@ mutual
       → (m : ℕ) × Meets (expr h n p (x ++ l)) (climb h m p v l)
   formula_complete f zero p l a t e = (0, inl refl)
   formula_complete (of_unary {header} {x} {v} u) (suc n) p l a t e =
-      (n, meets_bind (unary header n (x ++ l)) (Done v l) (climb header n p) (unary_complete u n l e))
+      (n, meets_bind _ (unary_complete u n l e))
   formula_complete (binary {header} o i {x} {y} {a} {b} le f g) (suc n) p l s t e =
       let first = formula_complete f (suc n) p (tok (Binary o) i ∷ (y ++ l)) (omega arith) (omega arith) refl in
       let rest = operated header p o i a b y first.0 l (omega arith) (omega arith)
       (λ m. formula_complete g m (level o + 1) l (omega arith) (omega arith) e) in (
         rest.0,
-        rw append_assoc (meets_trans (expr header (suc n) p (x ++ tok (Binary o) i ∷ (y ++ l)))
-            (climb header first.0 p a (tok (Binary o) i ∷ (y ++ l)))
-            (climb header rest.0 p (tree.Binary o a b i.at) l) first.1 rest.1),
+        rw append_assoc (meets_trans first.1 rest.1),
       )
 
   -- behind those that were found

@@ -16,7 +16,8 @@ use Rattle.rgo_grammar.specs.Reading.{Read, Done, Failed, At, Starving, ◌>>=�
 use Rattle.rgo_grammar.specs.ReadExprs.{exprs, operand, literal, signed, unary_by, climb_by, expr, climb, unary, primary, post}
 use Rattle.rgo_grammar.proofs.Table.{Sym, T, Unary, Bin, Post, Args, Elems, step}
 use Rattle.rgo_grammar.proofs.Machine.{run, closes}
-use Rattle.rgo_grammar.proofs.Correct.{Correct, correct_from, correct_bind, correct_given, correct_weaker, correct_then, shorter}
+use Rattle.rgo_grammar.proofs.Correct.Correct.{done, stops}
+use Rattle.rgo_grammar.proofs.Correct.{Correct, correct_after, token_read, same_start, correct_bind, correct_given, correct_weaker, correct_then, shorter}
 use Rattle.rgo_grammar.proofs.ExprsStarts.{level_of, top, starts_some, unary_starts, primary_starts}
 use Rattle.rgo_grammar.proofs.ExprsFirst.{Reads, operator_run, bin_pops}
 use Rattle.rgo_grammar.proofs.ExprsLists.{exprs_correct}
@@ -24,11 +25,10 @@ use Rattle.rgo_grammar.proofs.ExprsLiteral.{literal_correct}
 use Rattle.rgo_grammar.proofs.ExprsOperand.{unsigned, operand_by_correct, post_by_correct}
 
 -- where no operator comes next, the wait for one is over
-pub correct_popped : {A : Type 0} (h : Bool) (from : List Sym) (P : List Term → A → List Term → Type 0) (l : List Term) (m : Read A)
+pub correct_popped : {A : Type 0} {h : Bool} {from : List Sym} {P : List Term → A → List Term → Type 0} {l : List Term} {m : Read A}
     → Correct from (λ _. Bin h ∷ []) (λ z v w. P z v w × (top w < 1)) l m → Correct from (λ _. []) P l m
-correct_popped h from P l (Done a w) g = (g.0, g.1, g.2.0, λ s. g.3 s ∙ bin_pops h w s g.2.1)
-correct_popped h from P l (Failed (At w)) g = g
-correct_popped h from P l (Failed Starving) g = g
+correct_popped {h = h} (done z {a} {w} c p g) = done z c p.0 (λ s. g s ∙ bin_pops h w s p.1)
+correct_popped (stops g) = stops g
 
 abbrev IsUnaryAt : Bool → List Term → tree.Expr → List Term → Type 0
 IsUnaryAt h z v w = IsUnary h z v
@@ -38,9 +38,7 @@ signed_correct : (h : Bool) (again : List Term → Read tree.Expr) (k : Terminal
     → Correct (Unary h ∷ []) (λ _. []) (IsUnaryAt h) l (again l)
     → Correct (Unary h ∷ []) (λ _. []) (IsUnaryAt h) (tok k i ∷ l) (signed again o i l)
 signed_correct h again k o i l e r g =
-    correct_from (Unary h ∷ []) (Unary h ∷ []) (λ _. []) (IsUnaryAt h) (tok k i ∷ []) (tok k i ∷ l) l (signed again o i l) refl r
-    (correct_given (Unary h ∷ []) [] (IsUnaryAt h) (λ z v w. IsUnary h (tok k i ∷ z) v) l (again l) (λ v. tree.Unary o v i.at) g
-    (λ z v w u. with_sign k o i e u))
+    token_read (correct_given _ g (λ z v w u. with_sign k o i e u)) r
 
 unary_by_correct : (h : Bool) (n : ℕ) (inner again primary : List Term → Read tree.Expr) (k : Terminal) (i : Leaf) (l : List Term)
     → length l < n
@@ -55,14 +53,11 @@ unary_by_correct h n inner again primary (Binary op.Sub) i l b hi ha hp =
     signed_correct h again (Binary op.Sub) unary_op.Minus i l refl (λ s. refl) ha
 unary_by_correct h n inner again primary Bang i l b hi ha hp = signed_correct h again Bang unary_op.Not i l refl (λ s. refl) ha
 unary_by_correct h n inner again primary Arrow i l b hi ha hp = signed_correct h again Arrow unary_op.Receive i l refl (λ s. refl) ha
-unary_by_correct true n inner again primary Ampersand i l b hi ha hp = λ s. refl
+unary_by_correct true n inner again primary Ampersand i l b hi ha hp = stops (λ s. refl)
 unary_by_correct false n inner again primary Ampersand i l b hi ha hp =
-    correct_from (Unary false ∷ []) (T Name ∷ T OpenBrace ∷ Elems ∷ []) (λ _. []) (IsUnaryAt false) (tok Ampersand i ∷ [])
-    (tok Ampersand i ∷ l) l (literal n inner i l) refl
-    (λ s. refl) (literal_correct (length l) inner hi n i l b (omega arith))
+    token_read (literal_correct (length l) inner hi n i l b (omega arith)) (λ s. refl)
 unary_by_correct h n inner again primary k i l b hi ha hp =
-    correct_weaker (Unary h ∷ []) (λ _. []) (λ z v w. IsPrimary z v) (IsUnaryAt h) (tok k i ∷ l) (primary (tok k i ∷ l)) (hp refl)
-    (λ z v w c p. of_primary p)
+    correct_weaker (hp refl) (λ z v w c p. of_primary p)
 
 -- what was read and what binds so tightly next
 abbrev IsExprAt : Bool → ℕ → List Term → List Term → tree.Expr → List Term → Type 0
@@ -78,17 +73,9 @@ operator_correct : (h : Bool) (right : ℕ → List Term → Read tree.Expr) (ag
     → Correct (Bin h ∷ []) (λ _. Bin h ∷ []) (IsExprAt h least x) (tok (Binary o) i ∷ l)
     (right (level o + 1) l >>= (λ b. again (tree.Binary o a b i.at)))
 operator_correct h right again least a x o i l le hr ha f =
-    correct_from (Bin h ∷ []) (Unary h ∷ Bin h ∷ []) (λ _. Bin h ∷ []) (IsExprAt h least x) (tok (Binary o) i ∷ []) (tok (Binary o) i ∷ l) l
-    (right (level o + 1) l >>= (λ b. again (tree.Binary o a b i.at))) refl (λ s. operator_run h o i l s)
-    (correct_bind (Unary h ∷ Bin h ∷ []) (λ _. Bin h ∷ []) (λ _. Bin h ∷ []) (IsExprAt h (level o + 1) [])
-    (λ z v w. IsExprAt h least x (tok (Binary o) i ∷ z) v w) l
-    (right (level o + 1) l) (λ b. again (tree.Binary o a b i.at)) hr (λ y b w c g.
-    correct_weaker (Bin h ∷ []) (λ _. Bin h ∷ []) (IsExprAt h least (x ++ tok (Binary o) i ∷ y))
-    (λ z v w. IsExprAt h least x (tok (Binary o) i ∷ (y ++ z)) v w) w
-    (again (tree.Binary o a b i.at) w)
-    (ha (tree.Binary o a b i.at) (x ++ tok (Binary o) i ∷ y) w (binary o i le f g.0) (binary o i (omega (arith, g.1)) f g.0)
-    (omega (arith, shorter l y w c)))
-    (λ z v u d e. (rw append_assoc at e.0, e.1))))
+    token_read (correct_bind hr (λ y b w c g.
+    correct_weaker (ha (tree.Binary o a b i.at) (x ++ tok (Binary o) i ∷ y) w (binary o i le f g.0) (binary o i (omega (arith, g.1)) f g.0)
+    (omega (arith, shorter l y w c))) (λ z v u d e. (rw append_assoc at e.0, e.1)))) (λ s. operator_run h o i l s)
 
 climb_by_correct : (h : Bool) (right : ℕ → List Term → Read tree.Expr) (again : tree.Expr → List Term → Read tree.Expr) (least : ℕ)
     (a : tree.Expr) (x : List Term)
@@ -102,9 +89,9 @@ climb_by_correct h right again least a x (Binary o) i l one f g hr ha =
     (tok (Binary o) i ∷ l)
     (cond v (right (level o + 1) l >>= (λ b. again (tree.Binary o a b i.at))) (Done a (tok (Binary o) i ∷ l)))) [
       | true ↦ λ is. operator_correct h right again least a x o i l (leb-true least (level o) is) (hr (level o + 1) (omega arith)) ha g
-      | false ↦ λ isnt. ([], refl, (rw append-nil f, leb-false least (level o) isnt), λ s. refl)
+      | false ↦ λ isnt. done [] refl (rw append-nil f, leb-false least (level o) isnt) (λ s. refl)
     ] refl
-climb_by_correct h right again least a x k i l one f g hr ha = ([], refl, (rw append-nil f, omega arith), λ s. refl)
+climb_by_correct h right again least a x k i l one f g hr ha = done [] refl (rw append-nil f, omega arith) (λ s. refl)
 
 mutual
   unfolding expr run closes
@@ -113,15 +100,14 @@ mutual
       → Correct (Unary h ∷ Bin h ∷ []) (λ _. Bin h ∷ []) (λ z v w. IsExpr h least z v × (top w < least)) l (expr h n least l)
   expr_correct h zero least l one b = absurd (omega arith)
   expr_correct h (suc n) least l one b =
-      correct_then (Unary h ∷ []) (Bin h ∷ []) (λ _. Bin h ∷ []) (IsUnaryAt h) (IsExprAt h least []) l (unary h n l) (climb h n least)
-      (unary_correct h n l (omega arith)) (λ x a w c u.
+      correct_then (unary_correct h n l (omega arith)) (λ x a w c u.
       climb_correct h n least a x w one (of_unary u) (of_unary u) (omega (arith, shorter l x w c, starts_some x (unary_starts u))))
 
   pub climb_correct : (h : Bool) (n least : ℕ) (a : tree.Expr) (x l : List Term) → 1 ≤ least → IsExpr h least x a → IsExpr h (top l) x a
       → 4 * length l + 1 ≤ n
       → Correct (Bin h ∷ []) (λ _. Bin h ∷ []) (λ z v w. IsExpr h least (x ++ z) v × (top w < least)) l (climb h n least a l)
   climb_correct h zero least a x l one f g b = absurd (omega arith)
-  climb_correct h (suc n) least a x [] one f g b = ([], refl, (rw append-nil f, omega arith), λ s. refl)
+  climb_correct h (suc n) least a x [] one f g b = done [] refl (rw append-nil f, omega arith) (λ s. refl)
   climb_correct h (suc n) least a x (t ∷ l) one f g b =
       climb_by_correct h (expr h n) (climb h n least) least a x t.terminal t.leaf l one f g (λ p q. expr_correct h n p l q (omega arith))
       (λ c y m d e s. climb_correct h n least c y m one d e (omega arith))
@@ -129,50 +115,41 @@ mutual
   pub unary_correct : (h : Bool) (n : ℕ) (l : List Term) → 4 * length l + 2 ≤ n
       → Correct (Unary h ∷ []) (λ _. []) (λ z v w. IsUnary h z v) l (unary h n l)
   unary_correct h zero l b = absurd (omega arith)
-  unary_correct h (suc n) [] b = λ s. refl
+  unary_correct h (suc n) [] b = stops (λ s. refl)
   unary_correct h (suc n) (t ∷ l) b =
       unary_by_correct h n (expr false n 1) (unary h n) (primary n) t.terminal t.leaf l (omega arith)
-      (λ m g. correct_popped false (Unary false ∷ Bin false ∷ []) (λ z v w. IsExpr false 1 z v) m (expr false n 1 m)
-      (expr_correct false n 1 m (omega arith) (omega arith)))
+      (λ m g. correct_popped (expr_correct false n 1 m (omega arith) (omega arith)))
       (unary_correct h n l (omega arith)) (λ u. primary_correct h n t l u (omega arith))
 
   pub primary_correct : (h : Bool) (n : ℕ) (t : Term) (l : List Term) → unsigned t.terminal ≡ true → 4 * length l + 5 ≤ n
       → Correct (Unary h ∷ []) (λ _. []) (λ z v w. IsPrimary z v) (t ∷ l) (primary n (t ∷ l))
   primary_correct h zero t l u b = absurd (omega arith)
   primary_correct h (suc n) t l u b =
-      correct_bind (Unary h ∷ []) (λ _. Post ∷ []) (λ _. []) (λ z v w. IsPrimary z v) (λ z v w. IsPrimary z v) (t ∷ l)
-      (operand n (expr false n 1) (t ∷ l)) (post n)
-      (operand_by_correct (length l) (expr false n 1)
-      (λ m g. correct_popped false (Unary false ∷ Bin false ∷ []) (λ z v w. IsExpr false 1 z v) m (expr false n 1 m)
-      (expr_correct false n 1 m (omega arith) (omega arith)))
-      n (omega arith) h t.terminal t.leaf l (omega arith) u)
-      (λ x v w c p. post_correct n v x w p (omega (arith, shorter (t ∷ l) x w c, starts_some x (primary_starts p))))
+      correct_bind (operand_by_correct (length l) (expr false n 1)
+      (λ m g. correct_popped (expr_correct false n 1 m (omega arith) (omega arith)))
+      n (omega arith) h t.terminal t.leaf l (omega arith) u) (λ x v w c p. post_correct n v x w p (omega (arith, shorter (t ∷ l) x w c, starts_some x (primary_starts p))))
 
   -- what was read so far has the tokens x
   pub post_correct : (n : ℕ) (v : tree.Expr) (x l : List Term) → IsPrimary x v → 4 * length l + 1 ≤ n
       → Correct (Post ∷ []) (λ _. []) (λ z u w. IsPrimary (x ++ z) u) l (post n v l)
   post_correct zero v x l p b = absurd (omega arith)
-  post_correct (suc n) v x [] p b = ([], refl, rw append-nil p, λ s. refl)
+  post_correct (suc n) v x [] p b = done [] refl (rw append-nil p) (λ s. refl)
   post_correct (suc n) v x (t ∷ l) p b =
       post_by_correct (length l) (expr false n 1)
-      (λ m g. correct_popped false (Unary false ∷ Bin false ∷ []) (λ z v w. IsExpr false 1 z v) m (expr false n 1 m)
-      (expr_correct false n 1 m (omega arith) (omega arith)))
+      (λ m g. correct_popped (expr_correct false n 1 m (omega arith) (omega arith)))
       n (omega arith) (post n) v x t.terminal t.leaf l (omega arith) p (λ u y m q g. post_correct n u y m q (omega arith))
 
 -- an expression with no operator behind it
 pub value_correct : (h : Bool) (n : ℕ) (l : List Term) → 4 * length l + 3 ≤ n
     → Correct (Unary h ∷ Bin h ∷ []) (λ _. []) (λ z v w. IsExpr h 1 z v) l (expr h n 1 l)
 value_correct h n l b =
-    correct_popped h (Unary h ∷ Bin h ∷ []) (λ z v w. IsExpr h 1 z v) l (expr h n 1 l) (expr_correct h n 1 l (omega arith) b)
+    correct_popped (expr_correct h n 1 l (omega arith) b)
 
 -- the same, with what comes next
 pub value_ends : (h : Bool) (n : ℕ) (l : List Term) → 4 * length l + 3 ≤ n
     → Correct (Unary h ∷ Bin h ∷ []) (λ _. []) (λ z v w. IsExpr h 1 z v × (top w < 1)) l (expr h n 1 l)
 value_ends h n l b =
-    correct_popped h (Unary h ∷ Bin h ∷ []) (λ z v w. IsExpr h 1 z v × (top w < 1)) l (expr h n 1 l)
-    (correct_weaker (Unary h ∷ Bin h ∷ []) (λ _. Bin h ∷ []) (λ z v w. IsExpr h 1 z v × (top w < 1))
-    (λ z v w. (IsExpr h 1 z v × (top w < 1)) × (top w < 1)) l (expr h n 1 l)
-    (expr_correct h n 1 l (omega arith) b) (λ z v w c g. (g, g.1)))
+    correct_popped (correct_weaker (expr_correct h n 1 l (omega arith) b) (λ z v w c g. (g, g.1)))
 
 -- an argument list behind its `(`
 pub args_correct : (n : ℕ) (l : List Term) → 4 * length l + 3 ≤ n

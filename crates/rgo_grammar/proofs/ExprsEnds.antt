@@ -66,7 +66,7 @@ climb_done h (suc n) p v (t ∷ l) e = inr (climb_done_by (expr h n) (climb h n 
 pub finished : (h : Bool) (n : ℕ) (x : List Term) (v : tree.Expr) (l : List Term) → (m : ℕ) × Meets (expr h n 1 (x ++ l)) (climb h m 1 v l)
     → top l < 1
     → Meets (expr h n 1 (x ++ l)) (Done v l)
-finished h n x v l g e = meets_trans (expr h n 1 (x ++ l)) (climb h g.0 1 v l) (Done v l) g.1 (climb_done h g.0 1 v l e)
+finished h n x v l g e = meets_trans g.1 (climb_done h g.0 1 v l e)
 
 pub operated : (h : Bool) (p : ℕ) (o : BinaryOp) (i : Leaf) (a b : tree.Expr) (y : List Term) (m : ℕ) (l : List Term) → p ≤ level o
     → top l < level o + 1
@@ -76,11 +76,9 @@ unfolding expr
 operated h p o i a b y zero l e t g = (0, inl refl)
 operated h p o i a b y (suc m) l e t g =
     let right = g m in
-    let done = meets_trans (expr h m (level o + 1) (y ++ l)) (climb h right.0 (level o + 1) b l) (Done b l) right.1
-    (climb_done h right.0 (level o + 1) b l t) in (
+    let done = meets_trans right.1 (climb_done h right.0 (level o + 1) b l t) in (
       m,
-      rw (le-leb p (level o) e) (meets_bind (expr h m (level o + 1) (y ++ l)) (Done b l)
-          (λ c. climb h m p (tree.Binary o a c i.at)) done),
+      rw (le-leb p (level o) e) (meets_bind _ done),
     )
 
 -- ---- what stands behind a primary expression
@@ -97,9 +95,7 @@ unfolding expr
 indexed_at i j v w y zero l h = (0, inl refl)
 indexed_at i j v w y (suc n) l h = (
   n,
-  meets_then (expr false n 1 (y ++ tok CloseBracket j ∷ l)) w (tok CloseBracket j ∷ l)
-      (λ x m. token CloseBracket m >>= λ _. post n (tree.Index v x i.at))
-      (post n (tree.Index v w i.at) l) (h n (tok CloseBracket j ∷ l) (omega arith, refl)) (inr refl),
+  meets_then _ (h n (tok CloseBracket j ∷ l) (omega arith, refl)) (inr refl),
 )
 
 pub called_at : (i : Leaf) (v : tree.Expr) (y : List Term) (vs : List tree.Expr) (n : ℕ) (l : List Term)
@@ -109,16 +105,13 @@ unfolding expr
 called_at i v y vs zero l h = (0, inl refl)
 called_at i v y vs (suc n) l h =
     let g = h n n in
-    (n, meets_bind (exprs CloseParen n (expr false n 1) (y ++ l)) (Done (vs, g.0) l) (λ x. post n (tree.Called v (exprs_of x.0) i.at)) g.1)
+    (n, meets_bind _ g.1)
 
 pub parens_at : (i j : Leaf) (v : tree.Expr) (x : List Term) (n : ℕ) (l : List Term) → ReadsAs x v
     → Meets (primary (suc n) (tok OpenParen i ∷ (x ++ tok CloseParen j ∷ l))) (post n (tree.Paren v i.at) l)
 unfolding expr
 parens_at i j v x n l h =
-    meets_bind (parens (expr false n 1) i (x ++ tok CloseParen j ∷ l)) (Done (tree.Paren v i.at) l) (post n)
-    (meets_then (expr false n 1 (x ++ tok CloseParen j ∷ l)) v (tok CloseParen j ∷ l)
-    (λ u w. token CloseParen w >>= given (λ _. tree.Paren u i.at))
-    (Done (tree.Paren v i.at) l) (h n (tok CloseParen j ∷ l) (omega arith, refl)) (inr refl))
+    meets_bind _ (meets_then _ (h n (tok CloseParen j ∷ l) (omega arith, refl)) (inr refl))
 
 -- ---- signs
 
@@ -136,7 +129,7 @@ pub signed_at : (h : Bool) (n : ℕ) (k : Terminal) (o : UnaryOp) (i : Leaf) (v 
 unfolding expr
 signed_at h n k o i v x l e g =
     rw (signed_by h n (expr false n 1) (unary h n) (primary n) k o i (tok k i ∷ (x ++ l)) (x ++ l) e)
-    (meets_bind (unary h n (x ++ l)) (Done v l) (given (λ u. tree.Unary o u i.at)) g)
+    (meets_bind _ g)
 
 -- ---- without a sign
 
@@ -179,4 +172,4 @@ pub primary_at : (h : Bool) (n : ℕ) {x : List Term} {v : tree.Expr} → IsPrim
     → (m : ℕ) × Meets (primary n (x ++ l)) (post m v l) → Meets (unary h (suc n) (x ++ l)) (Done v l)
 primary_at h n {x} {v} p l u g =
     rw (unsigned_at h n (x ++ l) (unsigned_append x l (primary_unsigned p)))
-    (meets_trans (primary n (x ++ l)) (post g.0 v l) (Done v l) g.1 (post_done g.0 v l u))
+    (meets_trans g.1 (post_done g.0 v l u))

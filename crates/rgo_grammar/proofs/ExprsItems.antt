@@ -41,7 +41,7 @@ module _ {A : Type 0} (closer : Terminal) (other : same closer Comma ≡ false) 
   items_last n found a j x l o h = (
     j,
     listed_last Comma closer other (λ m. single (item m)) n found (a ∷ []) j x l (opens_append closer x (tok closer j ∷ l) o)
-        (meets_bind (item (x ++ tok closer j ∷ l)) (Done a (tok closer j ∷ l)) (given (λ b. b ∷ [])) h),
+        (meets_bind _ h),
   )
 
   pub items_more : (n : ℕ) (found all : List A) (a : A) (i : Leaf) (x y l : List Term) → Opens closer x
@@ -51,17 +51,16 @@ module _ {A : Type 0} (closer : Terminal) (other : same closer Comma ≡ false) 
   items_more n found all a i x y l o h again =
       let one = listed_more Comma closer other (λ m. single (item m)) n found (a ∷ []) i x (y ++ l)
       (opens_append closer x (tok Comma i ∷ (y ++ l)) o)
-      (meets_bind (item (x ++ tok Comma i ∷ (y ++ l))) (Done a (tok Comma i ∷ (y ++ l))) (given (λ b. b ∷ [])) h) in
+      (meets_bind _ h) in
       let rest = again one.0 (found ++ a ∷ []) in
       let rest' = rw append_assoc at rest.1 in (
         rest.0,
-        meets_trans (listed Comma closer (λ m. single (item m)) n found (x ++ tok Comma i ∷ (y ++ l)))
-            (listed Comma closer (λ m. single (item m)) one.0 (found ++ a ∷ []) (y ++ l)) (Done (found ++ a ∷ all, rest.0) l) one.1 rest',
+        meets_trans one.1 rest',
       )
 
 pub element_at : (i c : Leaf) (x : List Term) (v : tree.Expr) (n : ℕ) (l : List Term) → ReadsAs x v → EndsExpr l
     → Meets (element (expr false n 1) (tok Name i ∷ tok Colon c ∷ (x ++ l))) (Done (ident i, v) l)
-element_at i c x v n l h e = meets_bind (expr false n 1 (x ++ l)) (Done v l) (given (λ u. (ident i, u))) (h n l e)
+element_at i c x v n l h e = meets_bind _ (h n l e)
 
 elements_keyed : {y : List Term} {e : Ident × tree.Expr} {es : List (Ident × tree.Expr)} (t : List (Ident × tree.Expr)) → IsElements y t
     → t ≡ e ∷ es → (l : List Term)
@@ -82,8 +81,7 @@ pub literal_at : (i j k : Leaf) {y : List Term} {vs : List tree.Expr} → IsExpr
 unfolding expr
 literal_at i j k {y} {vs} d n l h =
     let g = h n n in
-    rw (exprs_unkeyed d l) (meets_bind (exprs CloseBrace n (expr false n 1) (y ++ l)) (Done (vs, g.0) l)
-    (given (λ x. tree.Literal (ident j) (exprs_of x.0) i.at)) g.1)
+    rw (exprs_unkeyed d l) (meets_bind _ g.1)
 
 pub keyed_at : (i j k : Leaf) {y : List Term} {e : Ident × tree.Expr} {es : List (Ident × tree.Expr)} → IsElements y (e ∷ es)
     → (n : ℕ) (l : List Term)
@@ -94,5 +92,4 @@ unfolding expr
 keyed_at i j k {y} {e} {es} d n l h =
     let g = h n (suc n) in
     rw (keyed_here n (expr false n 1) i j (y ++ l) (elements_keyed (e ∷ es) d refl l))
-    (meets_bind (elements_from (suc n) (expr false n 1) [] (y ++ l)) (Done (e ∷ es, g.0) l)
-    (given (λ x. tree.Keyed (ident j) (elements_of x.0) i.at)) g.1)
+    (meets_bind _ g.1)

@@ -11,7 +11,8 @@ use Rattle.rgo_grammar.specs.Grammar.IsExprs.{none, last, more}
 use Rattle.rgo_grammar.specs.Reading.{Read, several}
 use Rattle.rgo_grammar.specs.ReadExprs.{exprs}
 use Rattle.rgo_grammar.proofs.Table.{Sym, Unary, Bin, Args, ArgsEnd, ElemsEnd, ElemsMore, row, expr_row}
-use Rattle.rgo_grammar.proofs.Correct.{Correct, ListSyms, correct_from, correct_weaker, correct_under}
+use Rattle.rgo_grammar.proofs.Correct.Correct.{done, stops}
+use Rattle.rgo_grammar.proofs.Correct.{Correct, ListSyms, correct_after, token_read, same_start, correct_weaker, correct_under}
 use Rattle.rgo_grammar.proofs.TypesCorrect.{list_correct}
 use Rattle.rgo_grammar.proofs.ExprsFirst.{Reads, expr_first}
 
@@ -58,16 +59,12 @@ module _ (bound : ℕ) (inner : List Term → Read tree.Expr) (inner_c : (m : Li
       → Correct (L ∷ []) (λ _. []) (λ z x w. IsExprs closer z x.0) l (exprs closer n inner l)
   unfolding several
   exprs_by closer L E syms r n l h b =
-      correct_weaker (L ∷ []) (λ _. []) (λ z x w. Listed (IsExpr false 1) Comma closer z x.0) (λ z x w. IsExprs closer z x.0) l
-      (exprs closer n inner l)
-      (list_correct Comma closer L E syms (IsExpr false 1) inner bound item n l h b) (λ z x w c d. exprs_listed closer d)
+      correct_weaker (list_correct Comma closer L E syms (IsExpr false 1) inner bound item n l h b) (λ z x w c d. exprs_listed closer d)
     where
       item : (t : Term) (m : List Term) → length m < bound → same closer t.terminal ≡ false
           → Correct (L ∷ []) (λ _. E ∷ []) IsValue (t ∷ m) (inner (t ∷ m))
       item t m g e =
-          correct_from (L ∷ []) (Unary false ∷ Bin false ∷ E ∷ []) (λ _. E ∷ []) IsValue [] (t ∷ m) (t ∷ m) (inner (t ∷ m)) refl
-          (λ s. expr_first false L closer [] (Bin false ∷ E ∷ []) t m s r syms.list_stays e)
-          (correct_under (Unary false ∷ Bin false ∷ []) (λ _. []) (E ∷ []) IsValue (t ∷ m) (inner (t ∷ m)) (inner_c (t ∷ m) (omega arith)))
+          same_start (correct_under (E ∷ []) (inner_c (t ∷ m) (omega arith))) (λ s. expr_first false L closer [] (Bin false ∷ E ∷ []) t m s r syms.list_stays e)
 
   pub exprs_correct : (n : ℕ) (l : List Term) → length l < n → length l ≤ bound
       → Correct (Args ∷ []) (λ _. []) (λ z x w. IsExprs CloseParen z x.0) l (exprs CloseParen n inner l)

@@ -15,7 +15,8 @@ use Rattle.rgo_grammar.specs.Reading.{Read, ◌>>=◌, given, token, ended, list
 use Rattle.rgo_grammar.specs.ReadExprs.{exprs, element, elements_from, is_keyed, keyed, unkeyed, elements, literal as read_literal}
 use Rattle.rgo_grammar.proofs.Table.{Sym, T, Unary, Bin, Elems, ElemsMore, KeyedEnd, KeyedMore, step}
 use Rattle.rgo_grammar.proofs.Machine.{run, closes}
-use Rattle.rgo_grammar.proofs.Correct.{Correct, ListSyms, correct_from, correct_given, correct_weaker, correct_under, correct_token_then, shorter}
+use Rattle.rgo_grammar.proofs.Correct.Correct.{done, stops}
+use Rattle.rgo_grammar.proofs.Correct.{Correct, ListSyms, correct_after, token_read, same_start, correct_given, correct_weaker, correct_under, correct_token_then, shorter}
 use Rattle.rgo_grammar.proofs.Complete.{bind_assoc}
 use Rattle.rgo_grammar.proofs.TypesCorrect.{list_correct}
 use Rattle.rgo_grammar.proofs.ExprsFirst.{Reads}
@@ -134,18 +135,9 @@ module _ (bound : ℕ) (inner : List Term → Read tree.Expr) (inner_c : (m : Li
   element_correct : (t : Term) (l : List Term) → length l < bound → same CloseBrace t.terminal ≡ false
       → Correct (KeyedMore ∷ []) (λ _. KeyedEnd ∷ []) AnElement (t ∷ l) (element inner (t ∷ l))
   element_correct t l b e =
-      correct_from (KeyedMore ∷ []) (T Name ∷ T Colon ∷ Unary false ∷ Bin false ∷ KeyedEnd ∷ []) (λ _. KeyedEnd ∷ []) AnElement [] (t ∷ l)
-      (t ∷ l) (element inner (t ∷ l)) refl
-      (λ s. key_first t.terminal t.leaf l s e)
-      (correct_token_then Name (T Colon ∷ Unary false ∷ Bin false ∷ KeyedEnd ∷ []) (λ _. KeyedEnd ∷ []) AnElement (t ∷ l)
-      (λ i w. token Colon w >>= λ _ u. inner u >>= given (λ v. (ident i, v))) refl (λ i w d.
-      correct_token_then Colon (Unary false ∷ Bin false ∷ KeyedEnd ∷ []) (λ _. KeyedEnd ∷ []) (λ z e w. AnElement (tok Name i ∷ z) e w) w
-      (λ _ u. inner u >>= given (λ v. (ident i, v))) refl (λ c u d'.
-      correct_given (Unary false ∷ Bin false ∷ KeyedEnd ∷ []) (KeyedEnd ∷ []) IsValue
-      (λ z e w. AnElement (tok Name i ∷ tok Colon c ∷ z) e w) u (inner u) (λ v. (ident i, v))
-      (correct_under (Unary false ∷ Bin false ∷ []) (λ _. []) (KeyedEnd ∷ []) IsValue u (inner u)
-      (inner_c u (omega (arith, shorter (t ∷ l) (tok Name i ∷ []) w d, shorter w (tok Colon c ∷ []) u d'))))
-      (λ z v w h. (i, c, z, refl, refl, h)))))
+      same_start (correct_token_then Name refl (λ i w d.
+      correct_token_then Colon refl (λ c u d'.
+      correct_given _ (correct_under (KeyedEnd ∷ []) (inner_c u (omega (arith, shorter (t ∷ l) (tok Name i ∷ []) w d, shorter w (tok Colon c ∷ []) u d')))) (λ z v w h. (i, c, z, refl, refl, h))))) (λ s. key_first t.terminal t.leaf l s e)
 
   -- behind `& name {`
   abbrev IsRest : Leaf → Leaf → Leaf → List Term → tree.Expr → List Term → Type 0
@@ -162,26 +154,13 @@ module _ (bound : ℕ) (inner : List Term → Read tree.Expr) (inner_c : (m : Li
           → Correct (Elems ∷ []) (λ _. []) (IsRest i j k) (tok Name a ∷ tok Colon c ∷ m) (keyed n inner i j (tok Name a ∷ tok Colon c ∷ m))
       with_key a c m g b' =
           rw (keyed_list n inner i j (tok Name a) (tok Colon c ∷ m) refl)
-          (correct_given (Elems ∷ []) [] (λ z x w. IsElements z x.0 × NotEmpty x.0) (IsRest i j k) (tok Name a ∷ tok Colon c ∷ m)
-          (elements_from (suc n) inner [] (tok Name a ∷ tok Colon c ∷ m)) (λ x. tree.Keyed (ident j) (elements_of x.0) i.at)
-          (correct_weaker (Elems ∷ []) (λ _. []) (λ z x w. Listed IsElement Comma CloseBrace z x.0)
-          (λ z x w. IsElements z x.0 × NotEmpty x.0) (tok Name a ∷ tok Colon c ∷ m)
-          (elements_from (suc n) inner [] (tok Name a ∷ tok Colon c ∷ m))
-          (correct_from (Elems ∷ []) (KeyedMore ∷ []) (λ _. []) (λ z x w. Listed IsElement Comma CloseBrace z x.0) []
-          (tok Name a ∷ tok Colon c ∷ m) (tok Name a ∷ tok Colon c ∷ m)
-          (elements_from (suc n) inner [] (tok Name a ∷ tok Colon c ∷ m)) refl (λ s. key_run a c m s)
-          (list_correct Comma CloseBrace KeyedMore KeyedEnd keyed_syms IsElement (element inner) bound element_correct (suc n)
-          (tok Name a ∷ tok Colon c ∷ m) (omega arith) (omega arith)))
-          (λ z x w p d. let d' = elements_listed d in (d', some_elements d' (tok Name a) (tok Colon c ∷ m) w refl p)))
-          (λ z x w d. keyed_rest i j k z x.0 d.0 d.1))
+          (correct_given {P = λ z x w. IsElements z x.0 × NotEmpty x.0} _ (correct_weaker (same_start (list_correct Comma CloseBrace KeyedMore KeyedEnd keyed_syms IsElement (element inner) bound element_correct (suc n)
+          (tok Name a ∷ tok Colon c ∷ m) (omega arith) (omega arith)) (λ s. key_run a c m s)) (λ z x w p d. let d' = elements_listed d in (d', some_elements d' (tok Name a) (tok Colon c ∷ m) w refl p))) (λ z x w d. keyed_rest i j k z x.0 d.0 d.1))
 
   unkeyed_correct : (n : ℕ) (i j k : Leaf) (l : List Term) → length l < n → length l ≤ bound → is_keyed l ≡ false
       → Correct (Elems ∷ []) (λ _. []) (IsRest i j k) l (unkeyed n inner i j l)
   unkeyed_correct n i j k l h b e =
-      correct_from (Elems ∷ []) (ElemsMore ∷ []) (λ _. []) (IsRest i j k) [] l l (unkeyed n inner i j l) refl (λ s. unkeyed_run l s e)
-      (correct_given (ElemsMore ∷ []) [] (λ z x w. IsExprs CloseBrace z x.0) (IsRest i j k) l (exprs CloseBrace n inner l)
-      (λ x. tree.Literal (ident j) (exprs_of x.0) i.at)
-      (elems_correct bound inner inner_c n l h b) (λ z x w d. literal i j k d))
+      same_start (correct_given _ (elems_correct bound inner inner_c n l h b) (λ z x w d. literal i j k d)) (λ s. unkeyed_run l s e)
 
   elements_correct : (n : ℕ) (i j k : Leaf) (l : List Term) → length l < n → length l ≤ bound
       → Correct (Elems ∷ []) (λ _. []) (IsRest i j k) l (elements n inner i j l)
@@ -193,9 +172,7 @@ module _ (bound : ℕ) (inner : List Term → Read tree.Expr) (inner_c : (m : Li
   pub literal_correct : (n : ℕ) (i : Leaf) (l : List Term) → length l < n → length l ≤ bound
       → Correct (T Name ∷ T OpenBrace ∷ Elems ∷ []) (λ _. []) (λ z v w. IsUnary false (tok Ampersand i ∷ z) v) l (read_literal n inner i l)
   literal_correct n i l h b =
-      correct_token_then Name (T OpenBrace ∷ Elems ∷ []) (λ _. []) (λ z v w. IsUnary false (tok Ampersand i ∷ z) v) l
-      (λ j w. token OpenBrace w >>= λ _. elements n inner i j) refl (λ j w c.
-      correct_token_then OpenBrace (Elems ∷ []) (λ _. []) (λ z v w. IsUnary false (tok Ampersand i ∷ tok Name j ∷ z) v) w
-      (λ _. elements n inner i j) refl (λ k u d.
+      correct_token_then Name refl (λ j w c.
+      correct_token_then OpenBrace refl (λ k u d.
       elements_correct n i j k u (omega (arith, shorter l (tok Name j ∷ []) w c, shorter w (tok OpenBrace k ∷ []) u d))
       (omega (arith, shorter l (tok Name j ∷ []) w c, shorter w (tok OpenBrace k ∷ []) u d))))

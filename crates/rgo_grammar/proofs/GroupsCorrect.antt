@@ -8,7 +8,8 @@ use Rattle.rgo_grammar.specs.Reading.{Read, ◌>>=◌, given, listed, single, se
 use Rattle.rgo_grammar.specs.ReadDecls.{group_by, group}
 use Rattle.rgo_grammar.proofs.Table.{Sym}
 use Rattle.rgo_grammar.proofs.Machine.{Stopped, run}
-use Rattle.rgo_grammar.proofs.Correct.{Correct, correct_from, correct_given, correct_under, ListSyms}
+use Rattle.rgo_grammar.proofs.Correct.Correct.{done, stops}
+use Rattle.rgo_grammar.proofs.Correct.{Correct, correct_after, token_read, same_start, correct_given, correct_under, ListSyms}
 use Rattle.rgo_grammar.proofs.TypesCorrect.{IsOne, list_correct}
 
 abbrev pub IsGroup : {A : Type 0} → (List Term → A → Type 0) → List Term → List A → Type 0
@@ -34,27 +35,17 @@ module _ {A : Type 0} (G L E : Sym) (from : List Sym) (syms : GroupSyms G L E fr
   listed_item : (t : Term) (l : List Term) → length l < bound → same CloseParen t.terminal ≡ false
       → Correct (L ∷ []) (λ _. E ∷ []) (λ z a w. Item z a) (t ∷ l) (item (t ∷ l))
   listed_item t l b e =
-      correct_from (L ∷ []) (from ++ E ∷ []) (λ _. E ∷ []) (λ z a w. Item z a) [] (t ∷ l) (t ∷ l) (item (t ∷ l)) refl
-      (λ s. syms.starts t l s e)
-      (correct_under from (λ _. []) (E ∷ []) (λ z a w. Item z a) (t ∷ l) (item (t ∷ l)) (item_c (t ∷ l) (omega arith)))
+      same_start (correct_under (E ∷ []) (item_c (t ∷ l) (omega arith))) (λ s. syms.starts t l s e)
 
   group_by_correct : (n : ℕ) (k : Terminal) (i : Leaf) (m : List Term) → length m < n → length m < bound
       → Correct (G ∷ []) (λ _. []) (λ z l w. IsGroup Item z l) (tok k i ∷ m) (group_by item n k (tok k i ∷ m) m)
   unfolding several
   group_by_correct n OpenParen i m h b =
-      correct_from (G ∷ []) (L ∷ []) (λ _. []) (λ z l w. IsGroup Item z l) (tok OpenParen i ∷ []) (tok OpenParen i ∷ m) m
-      (listed Semicolon CloseParen (λ w. single (item w)) n [] m >>= given (λ x. x.0)) refl (λ s. syms.opens i m s)
-      (correct_given (L ∷ []) [] (λ z x w. Listed Item Semicolon CloseParen z x.0) (λ z l w. IsGroup Item (tok OpenParen i ∷ z) l) m
-      (listed Semicolon CloseParen (λ w. single (item w)) n [] m) (λ x. x.0)
-      (list_correct Semicolon CloseParen L E syms.list Item item bound listed_item n m h (omega arith))
-      (λ z x w d. inr (i, z, refl, d)))
+      token_read (correct_given _ (list_correct Semicolon CloseParen L E syms.list Item item bound listed_item n m h (omega arith)) (λ z x w d. inr (i, z, refl, d))) (λ s. syms.opens i m s)
   group_by_correct n k i m h b =
-      correct_from (G ∷ []) from (λ _. []) (λ z l w. IsGroup Item z l) [] (tok k i ∷ m) (tok k i ∷ m) (single (item (tok k i ∷ m))) refl
-      (λ s. syms.alone k i m s refl)
-      (correct_given from [] (λ z a w. Item z a) (λ z l w. IsGroup Item z l) (tok k i ∷ m) (item (tok k i ∷ m)) (λ a. a ∷ [])
-      (item_c (tok k i ∷ m) (omega arith)) (λ z a w d. inl (a, refl, d)))
+      same_start (correct_given _ (item_c (tok k i ∷ m) (omega arith)) (λ z a w d. inl (a, refl, d))) (λ s. syms.alone k i m s refl)
 
   pub group_correct : (n : ℕ) (l : List Term) → length l ≤ n → length l ≤ bound
       → Correct (G ∷ []) (λ _. []) (λ z x w. IsGroup Item z x) l (group item n l)
-  group_correct n [] h b = λ s. syms.ends s
+  group_correct n [] h b = stops (λ s. syms.ends s)
   group_correct n (t ∷ l) h b = group_by_correct n t.terminal t.leaf l (omega arith) (omega arith)

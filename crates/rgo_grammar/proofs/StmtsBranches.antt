@@ -12,7 +12,8 @@ use Rattle.rgo_grammar.specs.Reading.{Read, ◌>>=◌, given, first_of}
 use Rattle.rgo_grammar.specs.ReadStmts.{Head, condition, init, head, else_body_by, else_body_on, else_by, else_on, branches, if_rest}
 use Rattle.rgo_grammar.proofs.Table.{before_if, Sym, Unary, Bin, Block, IfHead, IfElse, ElseBody, step}
 use Rattle.rgo_grammar.proofs.Machine.{run, closes}
-use Rattle.rgo_grammar.proofs.Correct.{Correct, correct_from, correct_bind, correct_given, correct_weaker, correct_then, shorter}
+use Rattle.rgo_grammar.proofs.Correct.Correct.{done, stops}
+use Rattle.rgo_grammar.proofs.Correct.{Correct, correct_after, token_read, same_start, correct_bind, correct_given, correct_weaker, correct_then, shorter}
 use Rattle.rgo_grammar.proofs.StmtsSimple.{Values}
 use Rattle.rgo_grammar.proofs.StmtsHeads.{IsHead, behind_head, if_head_correct}
 use Rattle.rgo_grammar.proofs.StmtsLoops.{IsBlock, Blocks, Ifs}
@@ -47,46 +48,33 @@ module _ (m : ℕ) (block : List Term → Read (List tree.Stmt × Leaf)) (block_
   block_from : (k : Terminal) (i : Leaf) (l : List Term) → length l + 1 ≤ m
       → Correct (Block ∷ []) (λ _. []) (BlockFrom i) (tok k i ∷ l) (block (tok k i ∷ l))
   block_from k i l b =
-      correct_weaker (Block ∷ []) (λ _. []) IsBlock (BlockFrom i) (tok k i ∷ l) (block (tok k i ∷ l))
-      (block_c (tok k i ∷ l) (omega (arith, b)))
-      (λ z x w e (c, y, ez, h). let e' = rw ez at e in let is : c ≡ i = same_leaf k OpenBrace i c l (y ++ w) e' in (y, rw (ez, is) refl, h))
+      correct_weaker (block_c (tok k i ∷ l) (omega (arith, b))) (λ z x w e (c, y, ez, h). let e' = rw ez at e in let is : c ≡ i = same_leaf k OpenBrace i c l (y ++ w) e' in (y, rw (ez, is) refl, h))
 
   else_body_by_correct : (k : Terminal) (i : Leaf) (l : List Term) → length l + 1 ≤ m
       → Correct (ElseBody ∷ []) (λ _. []) (ElseAt []) (tok k i ∷ l) (else_body_by block again k i (tok k i ∷ l) l)
   unfolding run step
   else_body_by_correct If i l b =
-      correct_from (ElseBody ∷ []) (IfHead ∷ []) (λ _. []) (ElseAt []) (tok If i ∷ []) (tok If i ∷ l) l
-      (again i l >>= given (λ s. Some s)) refl (λ s. refl)
-      (correct_given (IfHead ∷ []) [] (λ z s w. IsIf (tok If i ∷ z) s) (ElseAt (tok If i ∷ [])) l (again i l) (λ s. Some s)
-      (again_c i l (omega (arith, b)))
-      (λ z s w h. λ j. an_if j h))
+      token_read (correct_given _ (again_c i l (omega (arith, b))) (λ z s w h. λ j. an_if j h)) (λ s. refl)
   else_body_by_correct k i l b =
-      correct_from (ElseBody ∷ []) (Block ∷ []) (λ _. []) (ElseAt []) [] (tok k i ∷ l) (tok k i ∷ l)
-      (block (tok k i ∷ l) >>= given (λ x. Some (tree.Block (stmts_of x.0) i.at))) refl (λ s. body_run k i l s refl)
-      (correct_given (Block ∷ []) [] (BlockFrom i) (ElseAt []) (tok k i ∷ l) (block (tok k i ∷ l))
-      (λ x. Some (tree.Block (stmts_of x.0) i.at)) (block_from k i l b)
-      (λ z x w h. λ j. rw h.1 (a_block j i h.2)))
+      same_start (correct_given _ (block_from k i l b) (λ z x w h. λ j. rw h.1 (a_block j i h.2))) (λ s. body_run k i l s refl)
 
   else_body_on_correct : (l : List Term) → length l ≤ m
       → Correct (ElseBody ∷ []) (λ _. []) (ElseAt []) l (else_body_on block again l (first_of l))
   unfolding run closes
-  else_body_on_correct [] b = λ s. refl
+  else_body_on_correct [] b = stops (λ s. refl)
   else_body_on_correct (t ∷ l) b = else_body_by_correct t.terminal t.leaf l (omega (arith, b))
 
   else_by_correct : (k : Terminal) (i : Leaf) (l : List Term) → length l + 1 ≤ m
       → Correct (IfElse ∷ []) (λ _. []) (λ z e w. IsElse z e) (tok k i ∷ l) (else_by block again k (tok k i ∷ l) l)
   unfolding run step
   else_by_correct Else i l b =
-      correct_from (IfElse ∷ []) (ElseBody ∷ []) (λ _. []) (λ z e w. IsElse z e) (tok Else i ∷ []) (tok Else i ∷ l) l
-      (else_body_on block again l (first_of l)) refl (λ s. refl)
-      (correct_weaker (ElseBody ∷ []) (λ _. []) (ElseAt []) (λ z e w. IsElse (tok Else i ∷ z) e) l (else_body_on block again l (first_of l))
-      (else_body_on_correct l (omega (arith, b))) (λ z e w c h. h i))
-  else_by_correct _ i l b = ([], refl, no_else, λ s. refl)
+      token_read (correct_weaker (else_body_on_correct l (omega (arith, b))) (λ z e w c h. h i)) (λ s. refl)
+  else_by_correct _ i l b = done [] refl no_else (λ s. refl)
 
   else_on_correct : (l : List Term) → length l ≤ m
       → Correct (IfElse ∷ []) (λ _. []) (λ z e w. IsElse z e) l (else_on block again l (first_of l))
   unfolding run closes
-  else_on_correct [] b = ([], refl, no_else, λ s. refl)
+  else_on_correct [] b = done [] refl no_else (λ s. refl)
   else_on_correct (t ∷ l) b = else_by_correct t.terminal t.leaf l (omega (arith, b))
 
   branches_correct : (Q : List Term → tree.Stmt → List Term → Type 0) (i : Leaf) (s : Option tree.Stmt) (c : tree.Expr) (l : List Term)
@@ -96,12 +84,7 @@ module _ (m : ℕ) (block : List Term → Read (List tree.Stmt × Leaf)) (block_
       → Q (tok OpenBrace k ∷ (y ++ z)) (tree.If (clause_of s) c (stmts_of b) (clause_of e) i.at) w)
       → Correct (Block ∷ IfElse ∷ []) (λ _. []) Q l (branches block again i s c l)
   branches_correct Q i s c l b g =
-      correct_then (Block ∷ []) (IfElse ∷ []) (λ _. []) IsBlock Q l (block l)
-      (λ x w. else_on block again w (first_of w) >>= given (λ e. tree.If (clause_of s) c (stmts_of x.0) (clause_of e) i.at)) (block_c l b)
-      (λ z x w d (k, y, ez, h). correct_given (IfElse ∷ []) [] (λ z e w. IsElse z e) (λ v t u. Q (z ++ v) t u) w
-      (else_on block again w (first_of w))
-      (λ e. tree.If (clause_of s) c (stmts_of x.0) (clause_of e) i.at) (else_on_correct w (omega (arith, b, shorter l z w d)))
-      (λ v e u f. rw ez (g k y v x.0 x.1 e u h f)))
+      correct_then (block_c l b) (λ z x w d (k, y, ez, h). correct_given _ (else_on_correct w (omega (arith, b, shorter l z w d))) (λ v e u f. rw ez (g k y v x.0 x.1 e u h f)))
 
   module _ (value : List Term → Read tree.Expr) (value_c : Values true m value) where
     if_rest_correct : (i : Leaf) (x : List Term) (h : Head) (l : List Term) → length l ≤ m → IsHead x h
@@ -109,15 +92,10 @@ module _ (m : ℕ) (block : List Term → Read (List tree.Stmt × Leaf)) (block_
     if_rest_correct i x (condition c) l b h =
         branches_correct (IfAt i x) i None c l b (λ k y z bs end e w d f. plain i k h d f)
     if_rest_correct i x (init s) l b (v, j, ex, hs) =
-        correct_then (Unary true ∷ Bin true ∷ []) (Block ∷ IfElse ∷ []) (λ _. []) (λ z c w. IsExpr true 1 z c) (IfAt i x) l (value l)
-        (branches block again i s) (value_c l b)
-        (λ u c w e hc. branches_correct (λ q t r. IfAt i x (u ++ q) t r) i s c w (omega (arith, b, shorter l u w e))
+        correct_then (value_c l b) (λ u c w e hc. branches_correct (λ q t r. IfAt i x (u ++ q) t r) i s c w (omega (arith, b, shorter l u w e))
         (λ k y z bs end f r d g. with_of i j k ex hs hc d g))
 
     pub if_correct : (i : Leaf) (l : List Term) → length l ≤ m
         → Correct (IfHead ∷ []) (λ _. []) (λ z s w. IsIf (tok If i ∷ z) s) l (head value l >>= if_rest block again value i)
     if_correct i l b =
-        correct_bind (IfHead ∷ []) (behind_head before_if) (λ _. []) (λ z h w. IsHead z h) (IfAt i []) l (head value l)
-        (if_rest block again value i)
-        (if_head_correct m value value_c l b)
-        (λ z h w e d. if_rest_correct i z h w (omega (arith, b, shorter l z w e)) d)
+        correct_bind (if_head_correct m value value_c l b) (λ z h w e d. if_rest_correct i z h w (omega (arith, b, shorter l z w e)) d)

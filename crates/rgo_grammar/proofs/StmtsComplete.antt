@@ -119,7 +119,7 @@ stmt_opens (continued i) l = (tok Continue i, l, refl, refl)
 -- ---- their parts
 
 pub single_done : {s : tree.Stmt} {l : List Term} (r : Read tree.Stmt) → Meets r (Done s l) → Meets (single r) (Done (s ∷ []) l)
-single_done {s} {l} r h = meets_bind r (Done s l) (given (λ a. a ∷ [])) h
+single_done {s} {l} r h = meets_bind _ h
 
 return_kind : (value : List Term → Read tree.Expr) (i : Leaf) (k : Terminal) (l : List Term) → ends_stmt k ≡ true
     → return_by value i k l ≡ Done (tree.Return None i.at) l
@@ -165,20 +165,14 @@ module _ (n : ℕ) (i k : Leaf) (y z l : List Term) (b : List tree.Stmt) (close 
       → Meets (branches (block n) (if_stmt n) i s c (tok OpenBrace k ∷ (y ++ (z ++ l))))
       (Done (tree.If (clause_of s) c (stmts_of b) (clause_of e) i.at) l)
   branches_done s c =
-      meets_then (stmts n (y ++ (z ++ l))) (b, close) (z ++ l)
-      (λ x w. else_on (block n) (if_stmt n) w (first_of w) >>= given (λ o. tree.If (clause_of s) c (stmts_of x.0) (clause_of o) i.at))
-      (Done (tree.If (clause_of s) c (stmts_of b) (clause_of e) i.at) l) body
-      (meets_bind (else_on (block n) (if_stmt n) (z ++ l) (first_of (z ++ l))) (Done e l)
-      (given (λ o. tree.If (clause_of s) c (stmts_of b) (clause_of o) i.at)) otherwise)
+      meets_then _ body (meets_bind _ otherwise)
 
   pub plain_done : {x : List Term} {c : tree.Expr} → IsExpr true 1 x c
       → Meets (if_stmt (suc n) i (x ++ tok OpenBrace k ∷ (y ++ (z ++ l))))
       (Done (tree.If tree.no_clause c (stmts_of b) (clause_of e) i.at) l)
   unfolding stmt
   plain_done {x} {c} d =
-      meets_then (head (expr true n 1) (x ++ tok OpenBrace k ∷ (y ++ (z ++ l)))) (condition c) (tok OpenBrace k ∷ (y ++ (z ++ l)))
-      (if_rest (block_by (stmt n) n) (if_stmt n) (expr true n 1) i) (Done (tree.If tree.no_clause c (stmts_of b) (clause_of e) i.at) l)
-      (head_condition (expr true n 1) (reads true n) d k (y ++ (z ++ l))) (branches_done None c)
+      meets_then _ (head_condition (expr true n 1) (reads true n) d k (y ++ (z ++ l))) (branches_done None c)
 
   pub with_done : (j : Leaf) {w x : List Term} {s : Option tree.Stmt} {c : tree.Expr} → IsClause true w s → IsExpr true 1 x c
       → Meets (if_stmt (suc n) i (w ++ tok Semicolon j ∷ (x ++ tok OpenBrace k ∷ (y ++ (z ++ l)))))
@@ -186,19 +180,14 @@ module _ (n : ℕ) (i k : Leaf) (y z l : List Term) (b : List tree.Stmt) (close 
   unfolding stmt
   with_done j {w} {x} {s} {c} g d =
       let u = x ++ tok OpenBrace k ∷ (y ++ (z ++ l)) in
-      meets_then (head (expr true n 1) (w ++ tok Semicolon j ∷ u)) (init s) u
-      (if_rest (block_by (stmt n) n) (if_stmt n) (expr true n 1) i) (Done (tree.If (clause_of s) c (stmts_of b) (clause_of e) i.at) l)
-      (head_clause (expr true n 1) (reads true n) g j u)
-      (meets_then (expr true n 1 u) c (tok OpenBrace k ∷ (y ++ (z ++ l))) (branches (block_by (stmt n) n) (if_stmt n) i s)
-      (Done (tree.If (clause_of s) c (stmts_of b) (clause_of e) i.at) l)
-      (expr_complete d n (tok OpenBrace k ∷ (y ++ (z ++ l))) (omega arith, refl)) (branches_done s c))
+      meets_then _ (head_clause (expr true n 1) (reads true n) g j u) (meets_then _ (expr_complete d n (tok OpenBrace k ∷ (y ++ (z ++ l))) (omega arith, refl)) (branches_done s c))
 
 pub looped_done : (n : ℕ) (i k : Leaf) (y l : List Term) (b : List tree.Stmt) (close : Leaf) (s : Option tree.Stmt) (c : Option tree.Expr)
     (p : Option tree.Stmt)
     → Meets (stmts n (y ++ l)) (Done (b, close) l)
     → Meets (looped (block n) i s c p (tok OpenBrace k ∷ (y ++ l))) (Done (tree.For (clause_of s) c (clause_of p) (stmts_of b) i.at) l)
 looped_done n i k y l b close s c p h =
-    meets_bind (stmts n (y ++ l)) (Done (b, close) l) (given (λ x. tree.For (clause_of s) c (clause_of p) (stmts_of x.0) i.at)) h
+    meets_bind _ h
 
 pub going_done : (n : ℕ) (i j k : Leaf) {y : List Term} {vs : List tree.Expr} → IsExprs CloseParen y vs → (l : List Term)
     → Meets (stmt (suc n) (tok Go i ∷ tok Name j ∷ tok OpenParen k ∷ (y ++ l))) (Done (tree.Go (ident j) (exprs_of vs) i.at ∷ []) l)
@@ -206,7 +195,7 @@ unfolding stmt
 going_done n i j k {y} {vs} d l =
     let h = exprs_complete d paren_closer n n l in
     single_done (exprs CloseParen n (expr false n 1) (y ++ l) >>= given (λ x. tree.Go (ident j) (exprs_of x.0) i.at))
-    (meets_bind (exprs CloseParen n (expr false n 1) (y ++ l)) (Done (vs, h.0) l) (given (λ x. tree.Go (ident j) (exprs_of x.0) i.at)) h.1)
+    (meets_bind _ h.1)
 
 pub empty_item : (n : ℕ) (i : Leaf) (l : List Term) → Meets (stmt n (tok Semicolon i ∷ l)) (Done [] (tok Semicolon i ∷ l))
 unfolding stmt

@@ -13,7 +13,8 @@ use Rattle.rgo_grammar.specs.ReadExprs.{expr, exprs}
 use Rattle.rgo_grammar.specs.ReadStmts.{defining, going, return_by, return_on, vars, vars_on, for_on, stmt_by, stmts}
 use Rattle.rgo_grammar.proofs.Table.{alone, Sym, T, Unary, Bin, Tail, Args, Stmts, StmtEnd, Value, IfHead, Locals, ForHead, step}
 use Rattle.rgo_grammar.proofs.Machine.{run, closes}
-use Rattle.rgo_grammar.proofs.Correct.{Correct, correct_from, correct_given, correct_weaker, correct_under, correct_token_then}
+use Rattle.rgo_grammar.proofs.Correct.Correct.{done, stops}
+use Rattle.rgo_grammar.proofs.Correct.{Correct, correct_after, token_read, same_start, correct_given, correct_weaker, correct_under, correct_token_then}
 use Rattle.rgo_grammar.proofs.StmtsSimple.{Values}
 use Rattle.rgo_grammar.proofs.StmtsDefining.{defining_by_correct, alone_correct}
 use Rattle.rgo_grammar.proofs.StmtsLocals.{AreVars, vars_on_correct}
@@ -36,12 +37,7 @@ keyword_correct : (k : Terminal) (i : Leaf) (l : List Term) (a : List Sym) (r : 
     → Correct a (λ _. []) (λ z s w. IsStmt (tok k i ∷ z) s) l r
     → Correct (Stmts ∷ []) (λ _. StmtEnd ∷ []) ItemAt (tok k i ∷ l) (single r)
 keyword_correct k i l a r e h =
-    correct_from (Stmts ∷ []) (a ++ StmtEnd ∷ []) (λ _. StmtEnd ∷ []) ItemAt (tok k i ∷ []) (tok k i ∷ l) l (single r) refl
-    (λ s. rw append_assoc (e s))
-    (correct_given (a ++ StmtEnd ∷ []) (StmtEnd ∷ []) (λ z s w. IsStmt (tok k i ∷ z) s) (λ z ss w. IsItem (tok k i ∷ z) ss) l r
-    (λ s. s ∷ [])
-    (correct_under a (λ _. []) (StmtEnd ∷ []) (λ z s w. IsStmt (tok k i ∷ z) s) l r h)
-    (λ z s w g. inr (s, refl, g)))
+    token_read (correct_given _ (correct_under (StmtEnd ∷ []) h) (λ z s w g. inr (s, refl, g))) (λ s. rw append_assoc (e s))
 
 return_run : (k : Terminal) (i : Leaf) (l : List Term) (s : List Sym) → same Semicolon k ≡ false → same CloseBrace k ≡ false
     → run (tok k i ∷ l) (Value ∷ StmtEnd ∷ s) ≡ run (tok k i ∷ l) (Unary false ∷ Bin false ∷ StmtEnd ∷ s)
@@ -89,53 +85,31 @@ module _ (n m : ℕ) (small : m + 2 < n) (value_c : (h : Bool) → Values h (m +
   going_correct : (i : Leaf) (l : List Term) → length l ≤ m
       → Correct (T Name ∷ T OpenParen ∷ Args ∷ []) (λ _. []) (λ z s w. IsStmt (tok Go i ∷ z) s) l (going n (expr false n 1) i l)
   going_correct i l b =
-      correct_token_then Name (T OpenParen ∷ Args ∷ []) (λ _. []) (λ z s w. IsStmt (tok Go i ∷ z) s) l
-      (λ j w. token OpenParen w >>= λ _ u. exprs CloseParen n (expr false n 1) u >>= given
-      (λ x. tree.Go (ident j) (exprs_of x.0) i.at)) refl
-      (λ j w c. correct_token_then OpenParen (Args ∷ []) (λ _. []) (λ z s u. IsStmt (tok Go i ∷ tok Name j ∷ z) s) w
-      (λ _ u. exprs CloseParen n (expr false n 1) u >>= given (λ x. tree.Go (ident j) (exprs_of x.0) i.at)) refl
-      (λ k u d. correct_given (Args ∷ []) [] (λ z x w. IsExprs CloseParen z x.0)
-      (λ z s w. IsStmt (tok Go i ∷ tok Name j ∷ tok OpenParen k ∷ z) s) u
-      (exprs CloseParen n (expr false n 1) u) (λ x. tree.Go (ident j) (exprs_of x.0) i.at)
-      (exprs_c u (omega (arith, b, ap length c, ap length d)))
-      (λ z x w h. go i j k h)))
+      correct_token_then Name refl (λ j w c. correct_token_then OpenParen refl (λ k u d. correct_given _ (exprs_c u (omega (arith, b, ap length c, ap length d))) (λ z x w h. go i j k h)))
 
   return_by_correct : (i : Leaf) (k : Terminal) (j : Leaf) (l : List Term) → length l ≤ m
       → Correct (Value ∷ StmtEnd ∷ []) (λ _. StmtEnd ∷ []) (λ z s w. IsStmt (tok Return i ∷ z) s) (tok k j ∷ l)
       (return_by (expr false n 1) i k (tok k j ∷ l))
   unfolding run step
-  return_by_correct i Semicolon j l b = ([], refl, returned i, λ s. refl)
-  return_by_correct i CloseBrace j l b = ([], refl, returned i, λ s. refl)
+  return_by_correct i Semicolon j l b = done [] refl (returned i) (λ s. refl)
+  return_by_correct i CloseBrace j l b = done [] refl (returned i) (λ s. refl)
   return_by_correct i k j l b =
-      correct_from (Value ∷ StmtEnd ∷ []) (Unary false ∷ Bin false ∷ StmtEnd ∷ []) (λ _. StmtEnd ∷ [])
-      (λ z s w. IsStmt (tok Return i ∷ z) s) []
-      (tok k j ∷ l) (tok k j ∷ l) (expr false n 1 (tok k j ∷ l) >>= given (λ v. tree.Return (Some v) i.at)) refl
-      (λ s. return_run k j l s refl refl)
-      (correct_given (Unary false ∷ Bin false ∷ StmtEnd ∷ []) (StmtEnd ∷ []) (λ z v w. IsExpr false 1 z v)
-      (λ z s w. IsStmt (tok Return i ∷ z) s) (tok k j ∷ l)
-      (expr false n 1 (tok k j ∷ l)) (λ v. tree.Return (Some v) i.at)
-      (correct_under (Unary false ∷ Bin false ∷ []) (λ _. []) (StmtEnd ∷ []) (λ z v w. IsExpr false 1 z v) (tok k j ∷ l)
-      (expr false n 1 (tok k j ∷ l))
-      (value_c false (tok k j ∷ l) (omega (arith, b))))
-      (λ z v w h. returns i h))
+      same_start (correct_given _ (correct_under (StmtEnd ∷ []) (value_c false (tok k j ∷ l) (omega (arith, b)))) (λ z v w h. returns i h)) (λ s. return_run k j l s refl refl)
 
   return_on_correct : (i : Leaf) (l : List Term) → length l ≤ m
       → Correct (Value ∷ StmtEnd ∷ []) (λ _. StmtEnd ∷ []) (λ z s w. IsStmt (tok Return i ∷ z) s) l
       (return_on (expr false n 1) i l (first_of l))
   unfolding run closes
-  return_on_correct i [] b = λ s. refl
+  return_on_correct i [] b = stops (λ s. refl)
   return_on_correct i (t ∷ l) b = return_by_correct i t.terminal t.leaf l (omega (arith, b))
 
   simple_correct : (k : Terminal) (i : Leaf) (l : List Term) → length l ≤ m → keyword k ≡ false
       → Correct (Stmts ∷ []) (λ _. StmtEnd ∷ []) ItemAt (tok k i ∷ l) (single (defining (expr false n 1) (tok k i ∷ l)))
   unfolding run step
   simple_correct k i l b e =
-      correct_given (Stmts ∷ []) (StmtEnd ∷ []) (λ z s w. IsSimple false true z s) ItemAt (tok k i ∷ l)
-      (defining (expr false n 1) (tok k i ∷ l)) (λ s. s ∷ [])
-      (alone_correct Stmts (StmtEnd ∷ []) true (tok k i ∷ l) (defining (expr false n 1) (tok k i ∷ l))
+      correct_given _ (alone_correct Stmts (StmtEnd ∷ []) true (tok k i ∷ l) (defining (expr false n 1) (tok k i ∷ l))
       (defining_by_correct alone (m + 1) (expr false n 1) (value_c false) Stmts (StmtEnd ∷ []) (λ i l s. refl) k i l (omega (arith, b))
-      (λ g s. simple_run k i l s e g)))
-      (λ z s w h. inr (s, refl, simple h))
+      (λ g s. simple_run k i l s e g))) (λ z s w h. inr (s, refl, simple h))
 
   module _ (block : List Term → Read (List tree.Stmt × Leaf)) (block_c : Blocks m block) (stmts : List Term → Read (List tree.Stmt × Leaf))
       (stmts_c : Lists m stmts)
@@ -145,23 +119,13 @@ module _ (n m : ℕ) (small : m + 2 < n) (value_c : (h : Bool) → Values h (m +
         (stmts l >>= given (λ b. tree.Block (stmts_of b.0) i.at ∷ []))
     unfolding run step
     block_stmt i l b =
-        correct_from (Stmts ∷ []) (Stmts ∷ StmtEnd ∷ []) (λ _. StmtEnd ∷ []) ItemAt (tok OpenBrace i ∷ []) (tok OpenBrace i ∷ l) l
-        (stmts l >>= given (λ b. tree.Block (stmts_of b.0) i.at ∷ [])) refl (λ s. refl)
-        (correct_given (Stmts ∷ StmtEnd ∷ []) (StmtEnd ∷ []) (λ z x w. IsStmts z x.0 x.1) (λ z ss w. IsItem (tok OpenBrace i ∷ z) ss) l
-        (stmts l)
-        (λ b. tree.Block (stmts_of b.0) i.at ∷ [])
-        (correct_under (Stmts ∷ []) (λ _. []) (StmtEnd ∷ []) (λ z x w. IsStmts z x.0 x.1) l (stmts l) (stmts_c l b))
-        (λ z x w h. inr (tree.Block (stmts_of x.0) i.at, refl, a_block i h)))
+        token_read (correct_given _ (correct_under (StmtEnd ∷ []) (stmts_c l b)) (λ z x w h. inr (tree.Block (stmts_of x.0) i.at, refl, a_block i h))) (λ s. refl)
 
     return_stmt : (i : Leaf) (l : List Term) → length l ≤ m
         → Correct (Stmts ∷ []) (λ _. StmtEnd ∷ []) ItemAt (tok Return i ∷ l) (single (return_on (expr false n 1) i l (first_of l)))
     unfolding run step
     return_stmt i l b =
-        correct_from (Stmts ∷ []) (Value ∷ StmtEnd ∷ []) (λ _. StmtEnd ∷ []) ItemAt (tok Return i ∷ []) (tok Return i ∷ l) l
-        (single (return_on (expr false n 1) i l (first_of l))) refl (λ s. refl)
-        (correct_given (Value ∷ StmtEnd ∷ []) (StmtEnd ∷ []) (λ z s w. IsStmt (tok Return i ∷ z) s)
-        (λ z ss w. IsItem (tok Return i ∷ z) ss) l
-        (return_on (expr false n 1) i l (first_of l)) (λ s. s ∷ []) (return_on_correct i l b) (λ z s w h. inr (s, refl, h)))
+        token_read (correct_given _ (return_on_correct i l b) (λ z s w h. inr (s, refl, h))) (λ s. refl)
 
     pub stmt_by_correct : (k : Terminal) (i : Leaf) (l : List Term) → length l ≤ m → same CloseBrace k ≡ false
         → Correct (Stmts ∷ []) (λ _. StmtEnd ∷ []) ItemAt (tok k i ∷ l) (stmt_by n block stmts ifs k i (tok k i ∷ l) l)
@@ -169,23 +133,18 @@ module _ (n m : ℕ) (small : m + 2 < n) (value_c : (h : Bool) → Values h (m +
     stmt_by_correct OpenBrace i l b e = block_stmt i l b
     stmt_by_correct If i l b e =
         keyword_correct If i l (IfHead ∷ []) (ifs i l) (λ s. refl)
-        (correct_weaker (IfHead ∷ []) (λ _. []) (λ z s w. IsIf (tok If i ∷ z) s) (λ z s w. IsStmt (tok If i ∷ z) s) l (ifs i l)
-        (ifs_c i l (omega (arith, b))) (λ z s w c h. an_if h))
+        (correct_weaker (ifs_c i l (omega (arith, b))) (λ z s w c h. an_if h))
     stmt_by_correct For i l b e =
         keyword_correct For i l (ForHead ∷ []) (for_on block (expr true n 1) i l (first_of l)) (λ s. refl)
-        (correct_weaker (ForHead ∷ []) (λ _. []) (λ z s w. IsFor (tok For i ∷ z) s) (λ z s w. IsStmt (tok For i ∷ z) s) l
-        (for_on block (expr true n 1) i l (first_of l))
-        (for_on_correct m (expr true n 1) (λ w g. value_c true w (omega (arith, g))) block block_c i l b) (λ z s w c h. a_for h))
+        (correct_weaker (for_on_correct m (expr true n 1) (λ w g. value_c true w (omega (arith, g))) block block_c i l b) (λ z s w c h. a_for h))
     stmt_by_correct Go i l b e =
         keyword_correct Go i l (T Name ∷ T OpenParen ∷ Args ∷ []) (going n (expr false n 1) i l) (λ s. refl) (going_correct i l b)
     stmt_by_correct Var i l b e =
         keyword_correct Var i l (Locals ∷ []) (vars n (expr false n 1) i l) (λ s. refl)
-        (correct_given (Locals ∷ []) [] AreVars (λ z s w. IsStmt (tok Var i ∷ z) s) l (vars_on n (expr false n 1) l (first_of l))
-        (λ vs. tree.Var vs i.at)
-        (vars_on_correct n m (expr false n 1) (λ w g. value_c false w (omega (arith, g))) l (omega (arith, b, small)) b) (λ z vs w h. h i))
+        (correct_given _ (vars_on_correct n m (expr false n 1) (λ w g. value_c false w (omega (arith, g))) l (omega (arith, b, small)) b) (λ z vs w h. h i))
     stmt_by_correct Return i l b e = return_stmt i l b
-    stmt_by_correct Break i l b e = (tok Break i ∷ [], refl, inr (tree.Break i.at, refl, broken i), λ s. refl)
-    stmt_by_correct Continue i l b e = (tok Continue i ∷ [], refl, inr (tree.Continue i.at, refl, continued i), λ s. refl)
-    stmt_by_correct Semicolon i l b e = ([], refl, inl (refl, refl), λ s. refl)
+    stmt_by_correct Break i l b e = done (tok Break i ∷ []) refl (inr (tree.Break i.at, refl, broken i)) (λ s. refl)
+    stmt_by_correct Continue i l b e = done (tok Continue i ∷ []) refl (inr (tree.Continue i.at, refl, continued i)) (λ s. refl)
+    stmt_by_correct Semicolon i l b e = done [] refl (inl (refl, refl)) (λ s. refl)
     stmt_by_correct CloseBrace i l b e = cc
     stmt_by_correct k i l b e = simple_correct k i l b refl

@@ -14,7 +14,8 @@ use Rattle.rgo_grammar.specs.Reading.{Read, ◌>>=◌, given, first_of}
 use Rattle.rgo_grammar.specs.ReadStmts.{valued, named_by, named_on, defining}
 use Rattle.rgo_grammar.proofs.Table.{Context, alone, before_if, before_for, behind_for, Sym, Unary, Bin, Tail, Named, Post, Block, header, rest, step}
 use Rattle.rgo_grammar.proofs.Machine.{run, closes}
-use Rattle.rgo_grammar.proofs.Correct.{Correct, correct_from, correct_under}
+use Rattle.rgo_grammar.proofs.Correct.Correct.{done, stops}
+use Rattle.rgo_grammar.proofs.Correct.{Correct, correct_after, token_read, same_start, correct_under}
 use Rattle.rgo_grammar.proofs.StmtsSimple.{correct_left, tails, Untailed, leaves, Left, AtSimple, Values, made_correct, simple_done, valued_correct}
 
 abbrev pub is_define : Terminal → Bool
@@ -85,29 +86,19 @@ module _ (c : Context) (m : ℕ) (value : List Term → Read tree.Expr) (value_c
       → ((s : List Sym) → run l (X ∷ s) ≡ run l (Unary (header c) ∷ Bin (header c) ∷ Tail c ∷ (u ++ s)))
       → Correct (X ∷ []) (λ s. leaves c s ++ u) (AtSimple c true []) l (valued value l)
   as_value l b e =
-      correct_from (X ∷ []) (Unary (header c) ∷ Bin (header c) ∷ Tail c ∷ u) (λ s. leaves c s ++ u) (AtSimple c true []) [] l l
-      (valued value l) refl e
-      (correct_under (Unary (header c) ∷ Bin (header c) ∷ Tail c ∷ []) (leaves c) u (AtSimple c true []) l (valued value l)
-      (valued_correct c m value value_c true l b))
+      same_start (correct_under u (valued_correct c m value value_c true l b)) e
 
   define_correct : (i j : Leaf) (l : List Term) → length l ≤ m
       → Correct (X ∷ []) (λ s. leaves c s ++ u) (AtSimple c true []) (tok Name i ∷ tok Define j ∷ l)
       (value l >>= given (λ v. tree.Define (ident i) v j.at))
   unfolding run step
   define_correct i j l b =
-      correct_from (X ∷ []) (Unary (header c) ∷ Bin (header c) ∷ (rest c ++ u)) (λ s. leaves c s ++ u) (AtSimple c true [])
-      (tok Name i ∷ tok Define j ∷ [])
-      (tok Name i ∷ tok Define j ∷ l) l (value l >>= given (λ v. tree.Define (ident i) v j.at)) refl
-      (λ s. x_name i (tok Define j ∷ l) s ∙ rw append_assoc refl)
-      (correct_under (Unary (header c) ∷ Bin (header c) ∷ rest c) (leaves c) u
-      (λ z s w. AtSimple c true [] (tok Name i ∷ tok Define j ∷ z) s w) l
-      (value l >>= given (λ v. tree.Define (ident i) v j.at))
-      (simple_done c m value value_c (Unary (header c) ∷ Bin (header c) ∷ rest c) (leaves c)
+      correct_after (tok Name i ∷ tok Define j ∷ []) refl (correct_under u (simple_done c m value value_c (Unary (header c) ∷ Bin (header c) ∷ rest c) (leaves c)
       (λ z s w. AtSimple c true [] (tok Name i ∷ tok Define j ∷ z) s w) l
       (value l >>= given (λ v. tree.Define (ident i) v j.at))
       (made_correct c m value value_c (λ z s w. AtSimple c true [] (tok Name i ∷ tok Define j ∷ z) s w × (leaves c s ≡ rest c)) l
       (λ v. tree.Define (ident i) v j.at) b
-      (λ z v w g. ((define i j g, tt), refl)))))
+      (λ z v w g. ((define i j g, tt), refl))))) (λ s. x_name i (tok Define j ∷ l) s ∙ rw append_assoc refl)
 
   named_by_correct : (i : Leaf) (k : Terminal) (j : Leaf) (l : List Term) → length l + 2 ≤ m
       → Correct (X ∷ []) (λ s. leaves c s ++ u) (AtSimple c true []) (tok Name i ∷ tok k j ∷ l)
@@ -151,8 +142,7 @@ pub alone_correct : (X : Sym) (u : List Sym) (d : Bool) (l : List Term) (r : Rea
     → Correct (X ∷ []) (λ s. leaves alone s ++ u) (AtSimple alone d []) l r
     → Correct (X ∷ []) (λ _. u) (λ z s w. IsSimple false d z s) l r
 alone_correct X u d l r h =
-    correct_left (X ∷ []) (λ s. leaves alone s ++ u) (λ _. u) (AtSimple alone d []) (λ z s w. IsSimple false d z s) l r h
-    (λ z st w g. (g.0, λ s. rw append_assoc (left_alone st w (u ++ s) g.1)))
+    correct_left h (λ z st w g. (g.0, λ s. rw append_assoc (left_alone st w (u ++ s) g.1)))
 
 left_behind_by : (k : Terminal) (i : Leaf) (l : List Term) (s : List Sym) → tails k ≡ false
     → run (tok k i ∷ l) (Tail behind_for ∷ s) ≡ run (tok k i ∷ l) (Block ∷ s)

@@ -12,6 +12,7 @@ use Rattle.rgo_grammar.specs.Reading.{Read, Failed, At, first_of}
 use Rattle.rgo_grammar.specs.ReadStmts.{defining, Head, condition, init, head_before_block, head_end_by, head_end_on, head_by, head}
 use Rattle.rgo_grammar.proofs.Table.{Context, alone, before_if, before_for, behind_for, Sym, Unary, Bin, Tail, Named, Block, IfHead, IfElse, ForHead, Condition, header, rest, step}
 use Rattle.rgo_grammar.proofs.Machine.{Stopped, run, closes}
+use Rattle.rgo_grammar.proofs.Correct.Correct.{done, stops}
 use Rattle.rgo_grammar.proofs.Correct.{Correct, correct_bind}
 use Rattle.rgo_grammar.proofs.StmtsSimple.{Values, tails, leaves, Left, AtSimple}
 use Rattle.rgo_grammar.proofs.StmtsDefining.{defining_by_correct}
@@ -45,18 +46,18 @@ plain_end_by : (c : Context) → heads c ≡ true → (x : List Term) (v : tree.
 unfolding run step
 plain_end_by alone h x v k i l e g = cc
 plain_end_by behind_for h x v k i l e g = cc
-plain_end_by before_if h x v OpenBrace i l e g = ([], refl, rw append-nil e, λ s. refl)
-plain_end_by before_if h x v Semicolon i l e g = (tok Semicolon i ∷ [], refl, (x, i, refl, some (plain e)), λ s. refl)
+plain_end_by before_if h x v OpenBrace i l e g = done [] refl (rw append-nil e) (λ s. refl)
+plain_end_by before_if h x v Semicolon i l e g = done (tok Semicolon i ∷ []) refl (x, i, refl, some (plain e)) (λ s. refl)
 plain_end_by before_if h x v Arrow i l e g = cc
 plain_end_by before_if h x v (Step o) i l e g = cc
 plain_end_by before_if h x v (Assign o) i l e g = cc
-plain_end_by before_if h x v _ i l e g = λ s. refl
-plain_end_by before_for h x v OpenBrace i l e g = ([], refl, rw append-nil e, λ s. refl)
-plain_end_by before_for h x v Semicolon i l e g = (tok Semicolon i ∷ [], refl, (x, i, refl, some (plain e)), λ s. refl)
+plain_end_by before_if h x v _ i l e g = stops (λ s. refl)
+plain_end_by before_for h x v OpenBrace i l e g = done [] refl (rw append-nil e) (λ s. refl)
+plain_end_by before_for h x v Semicolon i l e g = done (tok Semicolon i ∷ []) refl (x, i, refl, some (plain e)) (λ s. refl)
 plain_end_by before_for h x v Arrow i l e g = cc
 plain_end_by before_for h x v (Step o) i l e g = cc
 plain_end_by before_for h x v (Assign o) i l e g = cc
-plain_end_by before_for h x v _ i l e g = λ s. refl
+plain_end_by before_for h x v _ i l e g = stops (λ s. refl)
 
 -- behind another simple statement
 other_end_by : (c : Context) → heads c ≡ true → (x : List Term) (st : tree.Stmt) (k : Terminal) (i : Leaf) (l : List Term)
@@ -65,12 +66,12 @@ other_end_by : (c : Context) → heads c ≡ true → (x : List Term) (st : tree
 unfolding run step
 other_end_by alone h x st k i l e g = cc
 other_end_by behind_for h x st k i l e g = cc
-other_end_by before_if h x st OpenBrace i l e g = rw g (λ s. refl)
-other_end_by before_if h x st Semicolon i l e g = (tok Semicolon i ∷ [], refl, (x, i, refl, some e), λ s. refl)
-other_end_by before_if h x st _ i l e g = λ s. refl
-other_end_by before_for h x st OpenBrace i l e g = rw g (λ s. refl)
-other_end_by before_for h x st Semicolon i l e g = (tok Semicolon i ∷ [], refl, (x, i, refl, some e), λ s. refl)
-other_end_by before_for h x st _ i l e g = λ s. refl
+other_end_by before_if h x st OpenBrace i l e g = rw g (stops (λ s. refl))
+other_end_by before_if h x st Semicolon i l e g = done (tok Semicolon i ∷ []) refl (x, i, refl, some e) (λ s. refl)
+other_end_by before_if h x st _ i l e g = stops (λ s. refl)
+other_end_by before_for h x st OpenBrace i l e g = rw g (stops (λ s. refl))
+other_end_by before_for h x st Semicolon i l e g = done (tok Semicolon i ∷ []) refl (x, i, refl, some e) (λ s. refl)
+other_end_by before_for h x st _ i l e g = stops (λ s. refl)
 
 head_nothing : (c : Context) → heads c ≡ true → (st : tree.Stmt) (s : List Sym) → run [] (leaves c st ++ s) ≡ Stopped []
 unfolding run closes
@@ -94,7 +95,7 @@ head_end_some c h x st t l e g = other_end_by c h x st t.terminal t.leaf l e (λ
 
 head_end_correct : (c : Context) → heads c ≡ true → (x : List Term) (st : tree.Stmt) (w : List Term) → AtSimple c true [] x st w
     → Correct (leaves c st) (behind_head c) (HeadAt x) w (head_end_on st w (first_of w))
-head_end_correct c h x st [] g = λ s. head_nothing c h st s
+head_end_correct c h x st [] g = stops (λ s. head_nothing c h st s)
 head_end_correct c h x st (t ∷ w) g = let e = rw (heads_header c h) at g.0 in head_end_some c h x st t w e g.1
 
 module _ (c : Context) (c_heads : heads c ≡ true) (m : ℕ) (value : List Term → Read tree.Expr) (value_c : Values (header c) m value)
@@ -106,13 +107,9 @@ module _ (c : Context) (c_heads : heads c ≡ true) (m : ℕ) (value : List Term
       → (same Name k ≡ false → same Semicolon k ≡ false
       → (s : List Sym) → run (tok k i ∷ l) (X ∷ s) ≡ run (tok k i ∷ l) (Unary (header c) ∷ Bin (header c) ∷ Tail c ∷ s))
       → Correct (X ∷ []) (behind_head c) (HeadAt []) (tok k i ∷ l) (head_by value k (tok k i ∷ l) l)
-  head_by_correct Semicolon i l b g = (tok Semicolon i ∷ [], refl, ([], i, refl, empty), λ s. x_semicolon i l s)
+  head_by_correct Semicolon i l b g = done (tok Semicolon i ∷ []) refl ([], i, refl, empty) (λ s. x_semicolon i l s)
   head_by_correct k i l b g =
-      correct_bind (X ∷ []) (λ s. leaves c s ++ []) (behind_head c) (AtSimple c true []) (HeadAt []) (tok k i ∷ l)
-      (defining value (tok k i ∷ l))
-      (λ s w. head_end_on s w (first_of w))
-      (defining_by_correct c m value value_c X [] x_name k i l b (λ e. g e refl))
-      (λ z st w e d. rw append-nil (head_end_correct c c_heads z st w d))
+      correct_bind (defining_by_correct c m value value_c X [] x_name k i l b (λ e. g e refl)) (λ z st w e d. rw append-nil (head_end_correct c c_heads z st w d))
 
 if_run : (k : Terminal) (i : Leaf) (l : List Term) (s : List Sym) → same Name k ≡ false → same Semicolon k ≡ false
     → run (tok k i ∷ l) (IfHead ∷ s) ≡ run (tok k i ∷ l) (Unary true ∷ Bin true ∷ Tail before_if ∷ s)
@@ -144,7 +141,7 @@ module _ (m : ℕ) (value : List Term → Read tree.Expr) (value_c : Values true
   pub if_head_correct : (l : List Term) → length l ≤ m
       → Correct (IfHead ∷ []) (behind_head before_if) (λ z h w. IsHead z h) l (head value l)
   unfolding run closes
-  if_head_correct [] b = λ s. refl
+  if_head_correct [] b = stops (λ s. refl)
   if_head_correct (t ∷ l) b = if_head_some t.terminal t.leaf l (omega (arith, b))
 
   pub for_head_correct : (k : Terminal) (i : Leaf) (l : List Term) → length l + 1 ≤ m → same OpenBrace k ≡ false

@@ -45,9 +45,7 @@ module _ (value : List Term → Read tree.Expr) where
         → Meets (head value (x ++ tok OpenBrace k ∷ l)) (Done (condition c) (tok OpenBrace k ∷ l))
     head_condition {x} {c} e k l =
         rw (head_at (x ++ tok OpenBrace k ∷ l) (starts_append x (tok OpenBrace k ∷ l) (expr_starts e)))
-        (meets_bind (defining value (x ++ tok OpenBrace k ∷ l)) (Done (tree.Plain c) (tok OpenBrace k ∷ l))
-        (λ s w. head_end_on s w (first_of w))
-        (simple_complete value true value_done (plain e) (tok OpenBrace k ∷ l) refl))
+        (meets_bind _ (simple_complete value true value_done (plain e) (tok OpenBrace k ∷ l) refl))
 
     -- what stands before the first `;`
     pub head_clause : {x : List Term} {s : Option tree.Stmt} → IsClause true x s → (j : Leaf) (l : List Term)
@@ -55,24 +53,21 @@ module _ (value : List Term → Read tree.Expr) where
     head_clause empty j l = inr refl
     head_clause (a_clause {x} {s} h) j l =
         rw (head_at (x ++ tok Semicolon j ∷ l) (simple_starts h (tok Semicolon j ∷ l)))
-        (meets_bind (defining value (x ++ tok Semicolon j ∷ l)) (Done s (tok Semicolon j ∷ l)) (λ s w. head_end_on s w (first_of w))
-        (simple_complete value true value_done h (tok Semicolon j ∷ l) refl))
+        (meets_bind _ (simple_complete value true value_done h (tok Semicolon j ∷ l) refl))
 
     pub condition_complete : {x : List Term} {c : Option tree.Expr} → IsCondition x c → (k : Leaf) (l : List Term)
         → Meets (condition_on value (x ++ tok Semicolon k ∷ l) (first_of (x ++ tok Semicolon k ∷ l))) (Done c l)
     condition_complete unconditional k l = inr refl
     condition_complete (on_condition {x} {v} e) k l =
         rw (condition_at (x ++ tok Semicolon k ∷ l) (starts_append x (tok Semicolon k ∷ l) (expr_starts e)))
-        (meets_bind (value (x ++ tok Semicolon k ∷ l)) (Done v (tok Semicolon k ∷ l)) (λ v w. token Semicolon w >>= given (λ _. Some v))
-        (value_done x v e (tok Semicolon k ∷ l) (omega arith, refl)))
+        (meets_bind _ (value_done x v e (tok Semicolon k ∷ l) (omega arith, refl)))
 
     pub step_complete : {x : List Term} {p : Option tree.Stmt} → IsClause false x p → (m : Leaf) (l : List Term)
         → Meets (step_on value (x ++ tok OpenBrace m ∷ l) (first_of (x ++ tok OpenBrace m ∷ l))) (Done p (tok OpenBrace m ∷ l))
     step_complete empty m l = inr refl
     step_complete (a_clause {x} {s} h) m l =
         rw (step_at (x ++ tok OpenBrace m ∷ l) (simple_starts h (tok OpenBrace m ∷ l)))
-        (meets_bind (valued value (x ++ tok OpenBrace m ∷ l)) (Done s (tok OpenBrace m ∷ l)) (given (λ s. Some s))
-        (valued_complete value true value_done h (tok OpenBrace m ∷ l) refl))
+        (meets_bind _ (valued_complete value true value_done h (tok OpenBrace m ∷ l) refl))
 
 -- ---- `for`, from what stands behind its keyword to its block, which is read as this
 module _ (value : List Term → Read tree.Expr) (value_done : ReadsExprs true value)
@@ -96,8 +91,7 @@ module _ (value : List Term → Read tree.Expr) (value_done : ReadsExprs true va
   while_complete unconditional k l r g = g
   while_complete (on_condition {x} {v} e) k l r g =
       rw (for_at (x ++ tok OpenBrace k ∷ l) (starts_append x (tok OpenBrace k ∷ l) (expr_starts e)))
-      (meets_then (head value (x ++ tok OpenBrace k ∷ l)) (condition v) (tok OpenBrace k ∷ l) (for_rest block value i) r
-      (head_condition value value_done e k l) g)
+      (meets_then _ (head_condition value value_done e k l) g)
 
   pub three_complete : {u v w : List Term} {s p : Option tree.Stmt} {c : Option tree.Expr} → IsClause true u s → IsCondition v c
       → IsClause false w p
@@ -109,8 +103,4 @@ module _ (value : List Term → Read tree.Expr) (value_done : ReadsExprs true va
       let z = w ++ tok OpenBrace m ∷ l in
       let y = v ++ tok Semicolon k ∷ z in
       rw (for_clause_at hs j y)
-      (meets_then (head value (u ++ tok Semicolon j ∷ y)) (init s) y (for_rest block value i) r (head_clause value value_done hs j y)
-      (meets_then (condition_on value y (first_of y)) c z (λ c w. step_on value w (first_of w) >>= λ p. looped block i s c p) r
-      (condition_complete value value_done hc k z)
-      (meets_then (step_on value z (first_of z)) p (tok OpenBrace m ∷ l) (λ p. looped block i s c p) r
-      (step_complete value value_done hp m l) g)))
+      (meets_then _ (head_clause value value_done hs j y) (meets_then _ (condition_complete value value_done hc k z) (meets_then _ (step_complete value value_done hp m l) g)))

@@ -16,7 +16,8 @@ use Rattle.rgo_grammar.specs.ReadTypes.{a_type, typed_names}
 use Rattle.rgo_grammar.specs.ReadStmts.{initial_by, initial, local_by, local_on, local, vars_by, vars_on}
 use Rattle.rgo_grammar.proofs.Table.{Sym, T, Unary, Bin, AType, NamesType, Locals, LocalList, LocalSep, LocalRest, Initial, step}
 use Rattle.rgo_grammar.proofs.Machine.{run, closes}
-use Rattle.rgo_grammar.proofs.Correct.{Correct, correct_from, correct_given, correct_under, correct_then, correct_token_then, ListSyms, shorter}
+use Rattle.rgo_grammar.proofs.Correct.Correct.{done, stops}
+use Rattle.rgo_grammar.proofs.Correct.{Correct, correct_after, token_read, same_start, correct_given, correct_under, correct_then, correct_token_then, ListSyms, shorter}
 use Rattle.rgo_grammar.proofs.TypesCorrect.{type_correct, typed_names_correct, list_correct}
 use Rattle.rgo_grammar.proofs.StmtsSimple.{Values}
 
@@ -68,96 +69,66 @@ module _ (n m : ℕ) (value : List Term → Read tree.Expr) (value_c : Values fa
       → ((z : List Term) (v : tree.Expr) (w : List Term) → IsExpr false 1 z v → IsLocal (x ++ z) (f v))
       → Correct (Unary false ∷ Bin false ∷ []) (λ _. []) (LocalAt x) l (value l >>= given f)
   local_value x l f b g =
-      correct_given (Unary false ∷ Bin false ∷ []) [] (λ z v w. IsExpr false 1 z v) (LocalAt x) l (value l) f (value_c l b) g
+      correct_given _ (value_c l b) g
 
   initial_by_correct : (i : Leaf) (x : List Term) (t : tree.TypeExpr) (k : Terminal) (j : Leaf) (l : List Term) → length l ≤ m → IsType x t
       → Correct (Initial ∷ []) (λ _. []) (LocalAt (tok Name i ∷ x)) (tok k j ∷ l) (initial_by value i t k j (tok k j ∷ l) l)
   unfolding run step
   initial_by_correct i x t (Assign assign_op.Plain) j l b h =
-      correct_from (Initial ∷ []) (Unary false ∷ Bin false ∷ []) (λ _. []) (LocalAt (tok Name i ∷ x)) (tok (Assign assign_op.Plain) j ∷ [])
-      (tok (Assign assign_op.Plain) j ∷ l) l (value l >>= given (λ v. tree.Typed (ident i) t v j.at)) refl (λ s. refl)
-      (correct_given (Unary false ∷ Bin false ∷ []) [] (λ z v w. IsExpr false 1 z v)
-      (λ z v w. LocalAt (tok Name i ∷ x) (tok (Assign assign_op.Plain) j ∷ z) v w)
-      l (value l) (λ v. tree.Typed (ident i) t v j.at) (value_c l b) (λ z v w g. typed i j h g))
-  initial_by_correct i x t _ j l b h = ([], refl, rw append-nil (zeroed (of_names (one i) h)), λ s. refl)
+      token_read (correct_given _ (value_c l b) (λ z v w g. typed i j h g)) (λ s. refl)
+  initial_by_correct i x t _ j l b h = done [] refl (rw append-nil (zeroed (of_names (one i) h))) (λ s. refl)
 
   initial_correct : (i : Leaf) (x : List Term) (t : tree.TypeExpr) (l : List Term) → length l ≤ m → IsType x t
       → Correct (Initial ∷ []) (λ _. []) (LocalAt (tok Name i ∷ x)) l (initial value i t l (first_of l))
   unfolding run closes
-  initial_correct i x t [] b h = ([], refl, rw append-nil (zeroed (of_names (one i) h)), λ s. refl)
+  initial_correct i x t [] b h = done [] refl (rw append-nil (zeroed (of_names (one i) h))) (λ s. refl)
   initial_correct i x t (u ∷ l) b h = initial_by_correct i x t u.terminal u.leaf l (omega (arith, b)) h
 
   local_type : (i : Leaf) (l : List Term) → length l < n → length l ≤ m
       → Correct (AType ∷ Initial ∷ []) (λ _. []) (LocalAt (tok Name i ∷ [])) l (a_type n l >>= λ t w. initial value i t w (first_of w))
   local_type i l a b =
-      correct_then (AType ∷ []) (Initial ∷ []) (λ _. []) (λ z t w. IsType z t) (LocalAt (tok Name i ∷ [])) l (a_type n l)
-      (λ t w. initial value i t w (first_of w))
-      (type_correct n l a)
-      (λ z t w e h. initial_correct i z t w (omega (arith, shorter l z w e)) h)
+      correct_then (type_correct n l a) (λ z t w e h. initial_correct i z t w (omega (arith, shorter l z w e)) h)
 
   local_by_correct : (i : Leaf) (k : Terminal) (j : Leaf) (l : List Term) → length l + 1 < n → length l + 1 ≤ m
       → Correct (LocalRest ∷ []) (λ _. []) (LocalAt (tok Name i ∷ [])) (tok k j ∷ l) (local_by n value i k j (tok k j ∷ l) l)
   unfolding run step
   local_by_correct i Comma j l a b =
-      correct_from (LocalRest ∷ []) (NamesType ∷ []) (λ _. []) (LocalAt (tok Name i ∷ [])) [] (tok Comma j ∷ l) (tok Comma j ∷ l)
-      (typed_names n (ident i ∷ []) (tok Comma j ∷ l) >>= given tree.Zero) refl (λ s. refl)
-      (correct_given (NamesType ∷ []) [] (λ z b w. IsBinding (tok Name i ∷ z) b) (LocalAt (tok Name i ∷ [])) (tok Comma j ∷ l)
-      (typed_names n (ident i ∷ []) (tok Comma j ∷ l)) tree.Zero
-      (typed_names_correct n (tok Comma j ∷ l) (omega (arith, a)) i) (λ z c w h. zeroed h))
+      same_start (correct_given _ (typed_names_correct n (tok Comma j ∷ l) (omega (arith, a)) i) (λ z c w h. zeroed h)) (λ s. refl)
   local_by_correct i (Assign assign_op.Plain) j l a b =
-      correct_from (LocalRest ∷ []) (Unary false ∷ Bin false ∷ []) (λ _. []) (LocalAt (tok Name i ∷ []))
-      (tok (Assign assign_op.Plain) j ∷ [])
-      (tok (Assign assign_op.Plain) j ∷ l) l (value l >>= given (λ v. tree.Inferred (ident i) v j.at)) refl (λ s. refl)
-      (local_value (tok Name i ∷ tok (Assign assign_op.Plain) j ∷ []) l (λ v. tree.Inferred (ident i) v j.at) (omega (arith, b))
-      (λ z v w g. inferred i j g))
+      token_read (local_value (tok Name i ∷ tok (Assign assign_op.Plain) j ∷ []) l (λ v. tree.Inferred (ident i) v j.at) (omega (arith, b))
+      (λ z v w g. inferred i j g)) (λ s. refl)
   local_by_correct i k j l a b =
-      correct_from (LocalRest ∷ []) (AType ∷ Initial ∷ []) (λ _. []) (LocalAt (tok Name i ∷ [])) [] (tok k j ∷ l) (tok k j ∷ l)
-      (a_type n (tok k j ∷ l) >>= λ t w. initial value i t w (first_of w)) refl (λ s. type_run k j l s refl)
-      (local_type i (tok k j ∷ l) (omega (arith, a)) (omega (arith, b)))
+      same_start (local_type i (tok k j ∷ l) (omega (arith, a)) (omega (arith, b))) (λ s. type_run k j l s refl)
 
   local_on_correct : (i : Leaf) (l : List Term) → length l < n → length l ≤ m
       → Correct (LocalRest ∷ []) (λ _. []) (LocalAt (tok Name i ∷ [])) l (local_on n value i l (first_of l))
   unfolding run closes
-  local_on_correct i [] a b = λ s. refl
+  local_on_correct i [] a b = stops (λ s. refl)
   local_on_correct i (t ∷ l) a b = local_by_correct i t.terminal t.leaf l (omega (arith, a)) (omega (arith, b))
 
   local_correct : (l : List Term) → length l < n → length l ≤ m
       → Correct (T Name ∷ LocalRest ∷ []) (λ _. []) (λ z v w. IsLocal z v) l (local n value l)
   local_correct l a b =
-      correct_token_then Name (LocalRest ∷ []) (λ _. []) (λ z v w. IsLocal z v) l (λ i w. local_on n value i w (first_of w)) refl
-      (λ i w c. local_on_correct i w (omega (arith, a, ap length c)) (omega (arith, b, ap length c)))
+      correct_token_then Name refl (λ i w c. local_on_correct i w (omega (arith, a, ap length c)) (omega (arith, b, ap length c)))
 
   local_list : (l : List Term) → length l < n → length l ≤ m
       → Correct (LocalList ∷ []) (λ _. []) (λ z x w. Listed IsLocal Semicolon CloseParen z x.0) l
       (listed Semicolon CloseParen (λ w. single (local n value w)) n [] l)
   local_list l a b =
       list_correct Semicolon CloseParen LocalList LocalSep local_syms IsLocal (local n value) (length l)
-      (λ t w g e. correct_from (LocalList ∷ []) (T Name ∷ LocalRest ∷ LocalSep ∷ []) (λ _. LocalSep ∷ []) (λ z v w. IsLocal z v) [] (t ∷ w)
-      (t ∷ w) (local n value (t ∷ w)) refl
-      (λ s. list_run t.terminal t.leaf w s e)
-      (correct_under (T Name ∷ LocalRest ∷ []) (λ _. []) (LocalSep ∷ []) (λ z v w. IsLocal z v) (t ∷ w) (local n value (t ∷ w))
-      (local_correct (t ∷ w) (omega (arith, a, g)) (omega (arith, b, g)))))
+      (λ t w g e. same_start (correct_under (LocalSep ∷ []) (local_correct (t ∷ w) (omega (arith, a, g)) (omega (arith, b, g)))) (λ s. list_run t.terminal t.leaf w s e))
       n l a (omega arith)
 
   vars_by_correct : (k : Terminal) (i : Leaf) (l : List Term) → length l + 1 < n → length l + 1 ≤ m
       → Correct (Locals ∷ []) (λ _. []) AreVars (tok k i ∷ l) (vars_by n value k (tok k i ∷ l) l)
   unfolding run step several
   vars_by_correct OpenParen i l a b =
-      correct_from (Locals ∷ []) (LocalList ∷ []) (λ _. []) AreVars (tok OpenParen i ∷ []) (tok OpenParen i ∷ l) l
-      (listed Semicolon CloseParen (λ w. single (local n value w)) n [] l >>= given (λ x. x.0)) refl (λ s. refl)
-      (correct_given (LocalList ∷ []) [] (λ z x w. Listed IsLocal Semicolon CloseParen z x.0)
-      (λ z vs w. AreVars (tok OpenParen i ∷ z) vs w) l
-      (listed Semicolon CloseParen (λ w. single (local n value w)) n [] l) (λ x. x.0) (local_list l (omega (arith, a)) (omega (arith, b)))
-      (λ z x w h. λ j. some_vars j i h))
+      token_read (correct_given _ (local_list l (omega (arith, a)) (omega (arith, b))) (λ z x w h. λ j. some_vars j i h)) (λ s. refl)
   vars_by_correct k i l a b =
-      correct_from (Locals ∷ []) (T Name ∷ LocalRest ∷ []) (λ _. []) AreVars [] (tok k i ∷ l) (tok k i ∷ l)
-      (single (local n value (tok k i ∷ l))) refl
-      (λ s. one_run k i l s refl)
-      (correct_given (T Name ∷ LocalRest ∷ []) [] (λ z v w. IsLocal z v) AreVars (tok k i ∷ l) (local n value (tok k i ∷ l)) (λ v. v ∷ [])
-      (local_correct (tok k i ∷ l) (omega (arith, a)) (omega (arith, b))) (λ z v w h. λ j. a_var j h))
+      same_start (correct_given _ (local_correct (tok k i ∷ l) (omega (arith, a)) (omega (arith, b))) (λ z v w h. λ j. a_var j h)) (λ s. one_run k i l s refl)
 
   pub vars_on_correct : (l : List Term) → length l < n → length l ≤ m
       → Correct (Locals ∷ []) (λ _. []) AreVars l (vars_on n value l (first_of l))
   unfolding run closes
-  vars_on_correct [] a b = λ s. refl
+  vars_on_correct [] a b = stops (λ s. refl)
   vars_on_correct (t ∷ l) a b = vars_by_correct t.terminal t.leaf l (omega (arith, a)) (omega (arith, b))

@@ -66,21 +66,20 @@ module _ (n : ℕ) (value : List Term → Read tree.Expr) (value_done : ReadsExp
 
   value_given : {x : List Term} {v : tree.Expr} → IsExpr false 1 x v → (f : tree.Expr → tree.LocalVar) (l : List Term) → EndsLocal l
       → Meets (value (x ++ l) >>= given f) (Done (f v) l)
-  value_given {x} {v} e f l h = meets_bind (value (x ++ l)) (Done v l) (given f) (value_done x v e l (local_ends l h))
+  value_given {x} {v} e f l h = meets_bind _ (value_done x v e l (local_ends l h))
 
   type_then : (i : Leaf) {x : List Term} {t : tree.TypeExpr} → IsType x t → (l : List Term) (r : Read tree.LocalVar)
       → Meets (initial value i t l (first_of l)) r
       → Meets (local n value (tok Name i ∷ (x ++ l))) r
   type_then i {x} {t} h l r g =
-      rw (type_at i h l) (meets_then (a_type n (x ++ l)) t l (λ u w. initial value i u w (first_of w)) r (type_complete x t h n l) g)
+      rw (type_at i h l) (meets_then _ (type_complete x t h n l) g)
 
   pub local_complete : {x : List Term} {v : tree.LocalVar} → IsLocal x v → (l : List Term) → EndsLocal l
       → Meets (local n value (x ++ l)) (Done v l)
   local_complete (zeroed (of_names {t = t} (one_name i) h)) l e =
       type_then i h l (Done (tree.Zero (bound (ident i ∷ []) t)) l) (inr (initial_end i t l e))
   local_complete (zeroed (of_names {y = y} {t = t} (more_names i j {x} {ns} g) h)) l e =
-      meets_bind (binding n (tok Name i ∷ tok Comma j ∷ ((x ++ y) ++ l))) (Done (bound (ident i ∷ ns) t) l) (given tree.Zero)
-      (binding_complete (tok Name i ∷ tok Comma j ∷ (x ++ y)) (bound (ident i ∷ ns) t) (of_names (more_names i j g) h) n l)
+      meets_bind _ (binding_complete (tok Name i ∷ tok Comma j ∷ (x ++ y)) (bound (ident i ∷ ns) t) (of_names (more_names i j g) h) n l)
   local_complete (typed i j {x} {y} {t} {v} h g) l e =
       rw append_assoc (type_then i h (tok (Assign assign_op.Plain) j ∷ (y ++ l)) (Done (tree.Typed (ident i) t v j.at) l)
       (value_given g (λ u. tree.Typed (ident i) t u j.at) l e))
@@ -99,7 +98,7 @@ module _ (n : ℕ) (value : List Term → Read tree.Expr) (value_done : ReadsExp
   pub one_complete : {x : List Term} {v : tree.LocalVar} → IsLocal x v → (l : List Term) → EndsLocal l
       → Meets (vars_on n value (x ++ l) (first_of (x ++ l))) (Done (v ∷ []) l)
   one_complete {x} {v} h l e =
-      rw (one_at h l) (meets_bind (local n value (x ++ l)) (Done v l) (given (λ u. u ∷ [])) (local_complete h l e)) where
+      rw (one_at h l) (meets_bind _ (local_complete h l e)) where
         one_at : {x : List Term} {v : tree.LocalVar} → IsLocal x v → (l : List Term)
             → vars_on n value (x ++ l) (first_of (x ++ l)) ≡ single (local n value (x ++ l))
         one_at h l = let f = local_first h in rw f.2 refl
@@ -109,4 +108,4 @@ module _ (n : ℕ) (value : List Term → Read tree.Expr) (value_done : ReadsExp
   unfolding several
   vars_complete i {y} {vs} d l =
       let h = listed_complete Semicolon CloseParen refl IsLocal (local n value) local_opens local_reads d n [] l in
-      meets_bind (listed Semicolon CloseParen (λ w. single (local n value w)) n [] (y ++ l)) (Done (vs, h.0) l) (given (λ x. x.0)) h.1
+      meets_bind _ h.1

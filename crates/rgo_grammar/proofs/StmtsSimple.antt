@@ -12,17 +12,17 @@ use Rattle.rgo_grammar.specs.Reading.{Read, Done, Failed, At, Starving, ◌>>=�
 use Rattle.rgo_grammar.specs.ReadStmts.{simple_by, simple_on, valued}
 use Rattle.rgo_grammar.proofs.Table.{Context, Sym, Unary, Bin, Tail, header, rest, step}
 use Rattle.rgo_grammar.proofs.Machine.{run}
-use Rattle.rgo_grammar.proofs.Correct.{Correct, correct_from, correct_bind, correct_given, correct_under, shorter}
+use Rattle.rgo_grammar.proofs.Correct.Correct.{done, stops}
+use Rattle.rgo_grammar.proofs.Correct.{Correct, correct_after, token_read, same_start, correct_bind, correct_given, correct_under, shorter}
 
 -- a stack for a value in place of another, which the machine takes as the same at what comes next
-pub correct_left : {A : Type 0} (from : List Sym) (to via : A → List Sym) (P Q : List Term → A → List Term → Type 0) (l : List Term)
-    (m : Read A)
+pub correct_left : {A : Type 0} {from : List Sym} {to via : A → List Sym} {P Q : List Term → A → List Term → Type 0} {l : List Term}
+    {m : Read A}
     → Correct from to P l m
     → ((z : List Term) (a : A) (w : List Term) → P z a w → Q z a w × ((s : List Sym) → run w (to a ++ s) ≡ run w (via a ++ s)))
     → Correct from via Q l m
-correct_left from to via P Q l (Done a w) h g = let f = g h.0 a w h.2 in (h.0, h.1, f.0, λ s. h.3 s ∙ f.1 s)
-correct_left from to via P Q l (Failed (At w)) h g = h
-correct_left from to via P Q l (Failed Starving) h g = h
+correct_left (done z {a} {w} c p h) g = let f = g z a w p in done z c f.0 (λ s. h s ∙ f.1 s)
+correct_left (stops h) g = stops h
 
 -- what goes on with a simple statement that is an expression so far
 abbrev pub tails : Terminal → Bool
@@ -64,50 +64,37 @@ module _ (c : Context) (m : ℕ) (value : List Term → Read tree.Expr) (value_c
       → ((z : List Term) (v : tree.Expr) (w : List Term) → IsExpr (header c) 1 z v → Q z (f v) w)
       → Correct (Unary (header c) ∷ Bin (header c) ∷ rest c) (λ _. rest c) Q l (value l >>= given f)
   made_correct Q l f b g =
-      correct_given (Unary (header c) ∷ Bin (header c) ∷ rest c) (rest c) (λ z v w. IsExpr (header c) 1 z v) Q l (value l) f
-      (correct_under (Unary (header c) ∷ Bin (header c) ∷ []) (λ _. []) (rest c) (λ z v w. IsExpr (header c) 1 z v) l (value l)
-      (value_c l b)) g
+      correct_given _ (correct_under (rest c) (value_c l b)) g
 
   -- a part that leaves what is left for what is no expression
   pub simple_done : {A : Type 0} (from : List Sym) (to : A → List Sym) (Q : List Term → A → List Term → Type 0) (l : List Term) (r : Read A)
       → Correct from (λ _. rest c) (λ z a w. Q z a w × (to a ≡ rest c)) l r → Correct from to Q l r
   simple_done from to Q l r h =
-      correct_left from (λ _. rest c) to (λ z a w. Q z a w × (to a ≡ rest c)) Q l r h (λ z a w g. (g.0, λ s. rw g.1 refl))
+      correct_left h (λ z a w g. (g.0, λ s. rw g.1 refl))
 
   simple_by_correct : (d : Bool) (x : List Term) (a : tree.Expr) (k : Terminal) (i : Leaf) (l : List Term) → length l ≤ m
       → IsExpr (header c) 1 x a
       → Correct (Tail c ∷ []) (leaves c) (AtSimple c d x) (tok k i ∷ l) (simple_by value a k i (tok k i ∷ l) l)
   unfolding run step
   simple_by_correct d x a Arrow i l b e =
-      correct_from (Tail c ∷ []) (Unary (header c) ∷ Bin (header c) ∷ rest c) (leaves c) (AtSimple c d x) (tok Arrow i ∷ [])
-      (tok Arrow i ∷ l) l
-      (value l >>= given (λ v. tree.Send a v i.at)) refl (λ s. refl)
-      (simple_done (Unary (header c) ∷ Bin (header c) ∷ rest c) (leaves c) (λ z s w. AtSimple c d x (tok Arrow i ∷ z) s w) l
+      token_read (simple_done (Unary (header c) ∷ Bin (header c) ∷ rest c) (leaves c) (λ z s w. AtSimple c d x (tok Arrow i ∷ z) s w) l
       (value l >>= given (λ v. tree.Send a v i.at))
       (made_correct (λ z s w. AtSimple c d x (tok Arrow i ∷ z) s w × (leaves c s ≡ rest c)) l (λ v. tree.Send a v i.at) b
-      (λ z v w g. ((send i e g, tt), refl))))
-  simple_by_correct d x a (Step o) i l b e = (tok (Step o) i ∷ [], refl, (stepped o i e, tt), λ s. refl)
+      (λ z v w g. ((send i e g, tt), refl)))) (λ s. refl)
+  simple_by_correct d x a (Step o) i l b e = done (tok (Step o) i ∷ []) refl (stepped o i e, tt) (λ s. refl)
   simple_by_correct d x a (Assign o) i l b e =
-      correct_from (Tail c ∷ []) (Unary (header c) ∷ Bin (header c) ∷ rest c) (leaves c) (AtSimple c d x) (tok (Assign o) i ∷ [])
-      (tok (Assign o) i ∷ l) l
-      (value l >>= given (λ v. tree.Assign o a v i.at)) refl (λ s. assign_run c o i l s)
-      (simple_done (Unary (header c) ∷ Bin (header c) ∷ rest c) (leaves c) (λ z s w. AtSimple c d x (tok (Assign o) i ∷ z) s w) l
+      token_read (simple_done (Unary (header c) ∷ Bin (header c) ∷ rest c) (leaves c) (λ z s w. AtSimple c d x (tok (Assign o) i ∷ z) s w) l
       (value l >>= given (λ v. tree.Assign o a v i.at))
       (made_correct (λ z s w. AtSimple c d x (tok (Assign o) i ∷ z) s w × (leaves c s ≡ rest c)) l (λ v. tree.Assign o a v i.at) b
-      (λ z v w g. ((assign o i e g, tt), refl))))
-  simple_by_correct d x a _ i l b e = ([], refl, (rw append-nil (plain e), refl), λ s. refl)
+      (λ z v w g. ((assign o i e g, tt), refl)))) (λ s. assign_run c o i l s)
+  simple_by_correct d x a _ i l b e = done [] refl (rw append-nil (plain e), refl) (λ s. refl)
 
   simple_on_correct : (d : Bool) (x : List Term) (a : tree.Expr) (l : List Term) → length l ≤ m → IsExpr (header c) 1 x a
       → Correct (Tail c ∷ []) (leaves c) (AtSimple c d x) l (simple_on value a l (first_of l))
-  simple_on_correct d x a [] b e = ([], refl, (rw append-nil (plain e), tt), λ s. refl)
+  simple_on_correct d x a [] b e = done [] refl (rw append-nil (plain e), tt) (λ s. refl)
   simple_on_correct d x a (t ∷ l) b e = simple_by_correct d x a t.terminal t.leaf l (omega arith) e
 
   pub valued_correct : (d : Bool) (l : List Term) → length l ≤ m
       → Correct (Unary (header c) ∷ Bin (header c) ∷ Tail c ∷ []) (leaves c) (AtSimple c d []) l (valued value l)
   valued_correct d l b =
-      correct_bind (Unary (header c) ∷ Bin (header c) ∷ Tail c ∷ []) (λ _. Tail c ∷ []) (leaves c) (λ z v w. IsExpr (header c) 1 z v)
-      (AtSimple c d []) l (value l)
-      (λ a w. simple_on value a w (first_of w))
-      (correct_under (Unary (header c) ∷ Bin (header c) ∷ []) (λ _. []) (Tail c ∷ []) (λ z v w. IsExpr (header c) 1 z v) l (value l)
-      (value_c l b))
-      (λ z a w e h. simple_on_correct d z a w (omega (arith, shorter l z w e)) h)
+      correct_bind (correct_under (Tail c ∷ []) (value_c l b)) (λ z a w e h. simple_on_correct d z a w (omega (arith, shorter l z w e)) h)

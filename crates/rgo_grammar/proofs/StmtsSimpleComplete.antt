@@ -96,31 +96,23 @@ module _ (value : List Term → Read tree.Expr) where
     plain_done : {x : List Term} {v : tree.Expr} → IsExpr h 1 x v → (l : List Term) → EndsSimple l
         → Meets (valued value (x ++ l)) (Done (tree.Plain v) l)
     plain_done {x} {v} e l d =
-        meets_then (value (x ++ l)) v l (λ a w. simple_on value a w (first_of w)) (Done (tree.Plain v) l)
-        (value_done x v e l (simple_ends l d)) (inr (simple_end v l d))
+        meets_then _ (value_done x v e l (simple_ends l d)) (inr (simple_end v l d))
 
     send_done : (i : Leaf) {x y : List Term} {a b : tree.Expr} → IsExpr h 1 x a → IsExpr h 1 y b → (l : List Term) → EndsSimple l
         → Meets (valued value (x ++ tok Arrow i ∷ (y ++ l))) (Done (tree.Send a b i.at) l)
     send_done i {x} {y} {a} {b} e g l d =
-        meets_then (value (x ++ tok Arrow i ∷ (y ++ l))) a (tok Arrow i ∷ (y ++ l)) (λ u w. simple_on value u w (first_of w))
-        (Done (tree.Send a b i.at) l)
-        (value_done x a e (tok Arrow i ∷ (y ++ l)) (omega arith, refl))
-        (meets_bind (value (y ++ l)) (Done b l) (given (λ u. tree.Send a u i.at)) (value_done y b g l (simple_ends l d)))
+        meets_then _ (value_done x a e (tok Arrow i ∷ (y ++ l)) (omega arith, refl)) (meets_bind _ (value_done y b g l (simple_ends l d)))
 
     step_done : (o : StepOp) (i : Leaf) {x : List Term} {v : tree.Expr} → IsExpr h 1 x v → (l : List Term)
         → Meets (valued value (x ++ tok (Step o) i ∷ l)) (Done (tree.Step o v i.at) l)
     step_done o i {x} {v} e l =
-        meets_bind (value (x ++ tok (Step o) i ∷ l)) (Done v (tok (Step o) i ∷ l)) (λ u w. simple_on value u w (first_of w))
-        (value_done x v e (tok (Step o) i ∷ l) (omega arith, refl))
+        meets_bind _ (value_done x v e (tok (Step o) i ∷ l) (omega arith, refl))
 
     assign_done : (o : AssignOp) (i : Leaf) {x y : List Term} {a b : tree.Expr} → IsExpr h 1 x a → IsExpr h 1 y b → (l : List Term)
         → EndsSimple l
         → Meets (valued value (x ++ tok (Assign o) i ∷ (y ++ l))) (Done (tree.Assign o a b i.at) l)
     assign_done o i {x} {y} {a} {b} e g l d =
-        meets_then (value (x ++ tok (Assign o) i ∷ (y ++ l))) a (tok (Assign o) i ∷ (y ++ l)) (λ u w. simple_on value u w (first_of w))
-        (Done (tree.Assign o a b i.at) l)
-        (value_done x a e (tok (Assign o) i ∷ (y ++ l)) (omega arith, refl))
-        (meets_bind (value (y ++ l)) (Done b l) (given (λ u. tree.Assign o a u i.at)) (value_done y b g l (simple_ends l d)))
+        meets_then _ (value_done x a e (tok (Assign o) i ∷ (y ++ l)) (omega arith, refl)) (meets_bind _ (value_done y b g l (simple_ends l d)))
 
     -- one that may be no definition
     pub valued_complete : {x : List Term} {s : tree.Stmt} → IsSimple h false x s → (l : List Term) → EndsSimple l
@@ -144,4 +136,4 @@ module _ (value : List Term → Read tree.Expr) where
         let z = tok (Assign o) i ∷ (y ++ l) in
         rw (append_assoc, undefined_at (x ++ z) (starts_append x z (expr_starts e)) (expr_undefined z e refl)) (assign_done o i e g l d)
     simple_complete (define i j {x} {v} e) l d =
-        meets_bind (value (x ++ l)) (Done v l) (given (λ u. tree.Define (ident i) u j.at)) (value_done x v e l (simple_ends l d))
+        meets_bind _ (value_done x v e l (simple_ends l d))

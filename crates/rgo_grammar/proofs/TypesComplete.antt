@@ -21,9 +21,9 @@ type_complete x t h zero l = inl refl
 type_complete _ _ (named i) (suc n) l = inr refl
 type_complete _ _ (pointer i j) (suc n) l = inr refl
 type_complete _ _ (slice i j {x} {t} h) (suc n) l =
-    meets_bind (a_type n (x ++ l)) (Done t l) (given (λ u. tree.Slice u i.at)) (type_complete x t h n l)
+    meets_bind _ (type_complete x t h n l)
 type_complete _ _ (chan i {x} {t} h) (suc n) l =
-    meets_bind (a_type n (x ++ l)) (Done t l) (given (λ u. tree.Chan u i.at)) (type_complete x t h n l)
+    meets_bind _ (type_complete x t h n l)
 
 names_end : (n : ℕ) (found : List Ident) (l : List Term) → NoComma l → Meets (names n found l) (Done found l)
 unfolding names
@@ -51,10 +51,7 @@ type_starts _ _ l (chan i h) = refl
 pub binding_complete : (x : List Term) (b : Binding) → IsBinding x b → (n : ℕ) (l : List Term) → Meets (binding n (x ++ l)) (Done b l)
 binding_complete _ _ (of_names {x} {y} {ns} {t} h g) n l =
     rw (append_assoc, ← bind_assoc (token Name (x ++ (y ++ l))) (λ i. names n (ident i ∷ [])) (λ ms w. a_type n w >>= given (bound ms)))
-    (meets_then (token Name (x ++ (y ++ l)) >>= λ i. names n (ident i ∷ [])) ns (y ++ l) (λ ms w. a_type n w >>= given (bound ms))
-    (Done (bound ns t) l)
-    (names_complete h n [] (y ++ l) (type_starts y t l g))
-    (meets_bind (a_type n (y ++ l)) (Done t l) (given (bound ns)) (type_complete y t g n l)))
+    (meets_then _ (names_complete h n [] (y ++ l) (type_starts y t l g)) (meets_bind _ (type_complete y t g n l)))
 
 -- names and types begin with a name
 names_open : (closer : Terminal) → same closer Name ≡ false → (x : List Term) (ns : List Ident) → IsNames x ns → Opens closer x

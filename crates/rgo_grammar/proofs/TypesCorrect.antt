@@ -16,7 +16,8 @@ use Rattle.rgo_grammar.specs.Reading.{Read, ◌>>=◌, given, token, listed, sin
 use Rattle.rgo_grammar.specs.ReadTypes.{type_by, a_type, names_by, names, bound, typed_names, binding, bindings}
 use Rattle.rgo_grammar.proofs.Table.{Sym, T, AType, NamesType, step}
 use Rattle.rgo_grammar.proofs.Machine.{run, closes}
-use Rattle.rgo_grammar.proofs.Correct.{Correct, correct_from, correct_bind, correct_given, correct_weaker, correct_under, correct_token_then, correct_token_given, ListSyms, listed_correct, AreListed, same_plain, shorter}
+use Rattle.rgo_grammar.proofs.Correct.Correct.{done, stops}
+use Rattle.rgo_grammar.proofs.Correct.{Correct, correct_after, token_read, same_start, correct_bind, correct_given, correct_weaker, correct_under, correct_token_then, correct_token_given, ListSyms, listed_correct, AreListed, same_plain, shorter}
 
 -- ---- types
 
@@ -27,31 +28,19 @@ type_by_correct : (inner : List Term → Read tree.TypeExpr) (k : Terminal) (i :
     → ((w : List Term) → length w ≤ length m → Correct (AType ∷ []) (λ _. []) ATypeAt w (inner w))
     → Correct (AType ∷ []) (λ _. []) ATypeAt (tok k i ∷ m) (type_by inner k i (tok k i ∷ m) m)
 unfolding run step
-type_by_correct inner Name i m hi = (tok Name i ∷ [], refl, named i, λ s. refl)
+type_by_correct inner Name i m hi = done (tok Name i ∷ []) refl (named i) (λ s. refl)
 type_by_correct inner (Binary op.Mul) i m hi =
-    correct_from (AType ∷ []) (T Name ∷ []) (λ _. []) ATypeAt (tok (Binary op.Mul) i ∷ []) (tok (Binary op.Mul) i ∷ m) m
-    (token Name m >>= given (λ j. tree.Pointer (ident j) i.at)) refl (λ s. refl)
-    (correct_token_given Name (λ x t u. IsType (tok (Binary op.Mul) i ∷ x) t) m (λ j. tree.Pointer (ident j) i.at) refl
-    (λ j w. pointer i j))
+    token_read (correct_token_given Name _ refl (λ j w. pointer i j)) (λ s. refl)
 type_by_correct inner OpenBracket i m hi =
-    correct_from (AType ∷ []) (T CloseBracket ∷ AType ∷ []) (λ _. []) ATypeAt (tok OpenBracket i ∷ []) (tok OpenBracket i ∷ m) m
-    (token CloseBracket m >>= λ _ w. inner w >>= given (λ t. tree.Slice t i.at)) refl (λ s. refl)
-    (correct_token_then CloseBracket (AType ∷ []) (λ _. []) (λ x t u. IsType (tok OpenBracket i ∷ x) t) m
-    (λ _ w. inner w >>= given (λ t. tree.Slice t i.at)) refl
-    (λ j w c. correct_given (AType ∷ []) [] ATypeAt (λ x t u. IsType (tok OpenBracket i ∷ tok CloseBracket j ∷ x) t) w (inner w)
-    (λ t. tree.Slice t i.at)
-    (hi w (omega (arith, ap length c))) (λ x t u h. slice i j h)))
+    token_read (correct_token_then CloseBracket refl (λ j w c. correct_given _ (hi w (omega (arith, ap length c))) (λ x t u h. slice i j h))) (λ s. refl)
 type_by_correct inner Chan i m hi =
-    correct_from (AType ∷ []) (AType ∷ []) (λ _. []) ATypeAt (tok Chan i ∷ []) (tok Chan i ∷ m) m
-    (inner m >>= given (λ t. tree.Chan t i.at)) refl (λ s. refl)
-    (correct_given (AType ∷ []) [] ATypeAt (λ x t u. IsType (tok Chan i ∷ x) t) m (inner m) (λ t. tree.Chan t i.at) (hi m (omega arith))
-    (λ x t u h. chan i h))
-type_by_correct inner _ i m hi = λ s. refl
+    token_read (correct_given _ (hi m (omega arith)) (λ x t u h. chan i h)) (λ s. refl)
+type_by_correct inner _ i m hi = stops (λ s. refl)
 
 pub type_correct : (n : ℕ) (l : List Term) → length l < n → Correct (AType ∷ []) (λ _. []) (λ z t w. IsType z t) l (a_type n l)
 unfolding a_type run closes
 type_correct zero l h = absurd (omega arith)
-type_correct (suc n) [] h = λ s. refl
+type_correct (suc n) [] h = stops (λ s. refl)
 type_correct (suc n) (t ∷ l) h = type_by_correct (a_type n) t.terminal t.leaf l (λ w g. type_correct n w (omega arith))
 
 -- ---- names and their type
@@ -85,28 +74,21 @@ names_by_correct : (again : List Ident → List Term → Read (List Ident)) (fou
     → Correct (NamesType ∷ []) (λ _. NamesType ∷ []) (AreNames x) (tok k i ∷ m) (names_by again found k (tok k i ∷ m) m)
 unfolding run step
 names_by_correct again found x Comma i m f hi =
-    correct_from (NamesType ∷ []) (T Name ∷ NamesType ∷ []) (λ _. NamesType ∷ []) (AreNames x) (tok Comma i ∷ []) (tok Comma i ∷ m) m
-    (token Name m >>= λ j. again (found ++ ident j ∷ [])) refl (λ s. refl)
-    (correct_token_then Name (NamesType ∷ []) (λ _. NamesType ∷ []) (λ z ns w. AreNames x (tok Comma i ∷ z) ns w) m
-    (λ j. again (found ++ ident j ∷ [])) refl
-    (λ j w c. correct_more j w c))
+    token_read (correct_token_then Name refl (λ j w c. correct_more j w c)) (λ s. refl)
   where
     correct_more : (j : Leaf) (w : List Term) → m ≡ tok Name j ∷ w
         → Correct (NamesType ∷ []) (λ _. NamesType ∷ []) (λ z ns u. AreNames x (tok Comma i ∷ tok Name j ∷ z) ns u) w
         (again (found ++ ident j ∷ []) w)
     correct_more j w c =
-        correct_weaker (NamesType ∷ []) (λ _. NamesType ∷ []) (AreNames (x ++ tok Comma i ∷ tok Name j ∷ []))
-        (λ z ns u. AreNames x (tok Comma i ∷ tok Name j ∷ z) ns u) w (again (found ++ ident j ∷ []) w)
-        (hi (found ++ ident j ∷ []) (x ++ tok Comma i ∷ tok Name j ∷ []) w (omega (arith, ap length c))
-        (names_append x (tok Name j ∷ []) i found (ident j ∷ []) f (one j)))
-        (λ z ns u d g. let h = g.0 in (rw append_assoc at h, g.1))
-names_by_correct again found x k i m f hi = ([], refl, (rw append-nil f, refl), λ s. refl)
+        correct_weaker (hi (found ++ ident j ∷ []) (x ++ tok Comma i ∷ tok Name j ∷ []) w (omega (arith, ap length c))
+        (names_append x (tok Name j ∷ []) i found (ident j ∷ []) f (one j))) (λ z ns u d g. let h = g.0 in (rw append_assoc at h, g.1))
+names_by_correct again found x k i m f hi = done [] refl (rw append-nil f, refl) (λ s. refl)
 
 names_correct : (n : ℕ) (found : List Ident) (x l : List Term) → length l < n → IsNames x found
     → Correct (NamesType ∷ []) (λ _. NamesType ∷ []) (AreNames x) l (names n found l)
 unfolding names
 names_correct zero found x l h f = absurd (omega arith)
-names_correct (suc n) found x [] h f = ([], refl, (rw append-nil f, tt), λ s. refl)
+names_correct (suc n) found x [] h f = done [] refl (rw append-nil f, tt) (λ s. refl)
 names_correct (suc n) found x (t ∷ l) h f =
     names_by_correct (names n) found x t.terminal t.leaf l f (λ ns y w g e. names_correct n ns y w (omega arith) e)
 
@@ -127,14 +109,7 @@ names_end (t ∷ w) s h = rw (not_comma t.terminal h) refl
 typed_from : (n : ℕ) (found : List Ident) (x l : List Term) → length l < n → IsNames x found
     → Correct (NamesType ∷ []) (λ _. []) (λ z b w. IsBinding (x ++ z) b) l (typed_names n found l)
 typed_from n found x l h f =
-    correct_bind (NamesType ∷ []) (λ _. NamesType ∷ []) (λ _. []) (AreNames x) (λ z b w. IsBinding (x ++ z) b) l (names n found l)
-    (λ ns w. a_type n w >>= given (bound ns)) (names_correct n found x l h f)
-    (λ z ns w c g. correct_from (NamesType ∷ []) (AType ∷ []) (λ _. []) (λ y b u. IsBinding (x ++ (z ++ y)) b) [] w w
-    (a_type n w >>= given (bound ns)) refl
-    (λ s. names_end w s g.1)
-    (correct_given (AType ∷ []) [] ATypeAt (λ y b u. IsBinding (x ++ (z ++ y)) b) w (a_type n w) (bound ns)
-    (type_correct n w (omega (arith, shorter l z w c)))
-    (λ y t u d. rw (← append_assoc) (of_names g.0 d))))
+    correct_bind (names_correct n found x l h f) (λ z ns w c g. same_start (correct_given _ (type_correct n w (omega (arith, shorter l z w c))) (λ y t u d. rw (← append_assoc) (of_names g.0 d))) (λ s. names_end w s g.1))
 
 pub typed_names_correct : (n : ℕ) (l : List Term) → length l < n → (i : Leaf)
     → Correct (NamesType ∷ []) (λ _. []) (λ z b w. IsBinding (tok Name i ∷ z) b) l (typed_names n (ident i ∷ []) l)
@@ -143,8 +118,7 @@ typed_names_correct n l h i = typed_from n (ident i ∷ []) (tok Name i ∷ []) 
 pub binding_correct : (n : ℕ) (l : List Term) → length l < n
     → Correct (T Name ∷ NamesType ∷ []) (λ _. []) (λ z b w. IsBinding z b) l (binding n l)
 binding_correct n l h =
-    correct_token_then Name (NamesType ∷ []) (λ _. []) (λ z b w. IsBinding z b) l (λ i. typed_names n (ident i ∷ [])) refl
-    (λ i w c. typed_names_correct n w (omega (arith, ap length c)) i)
+    correct_token_then Name refl (λ i w c. typed_names_correct n w (omega (arith, ap length c)) i)
 
 -- ---- a list of items of the grammar
 
@@ -171,19 +145,13 @@ pub list_correct : {A : Type 0} (separator closer : Terminal) (L E : Sym) → Li
     → (n : ℕ) (l : List Term) → length l < n → length l ≤ bound
     → Correct (L ∷ []) (λ _. []) (λ z x w. Listed Item separator closer z x.0) l (listed separator closer (λ m. single (item m)) n [] l)
 list_correct {A = A} separator closer L E syms Item item bound hi n l h b =
-    correct_weaker (L ∷ []) (λ _. [])
-    (AreListed separator closer L E syms (λ m. single (item m)) (IsOne Item) (IsList Item separator closer) bound singles none_listed
-    (list_last Item separator closer) more_listed [])
-    (λ z x w. Listed Item separator closer z x.0) l (listed separator closer (λ m. single (item m)) n [] l)
-    (listed_correct separator closer L E syms (λ m. single (item m)) (IsOne Item) (IsList Item separator closer) bound singles none_listed
-    (list_last Item separator closer) more_listed n [] l h b)
-    (λ z x w c g. rw g.1 g.2)
+    correct_weaker (listed_correct separator closer L E syms (λ m. single (item m)) (IsOne Item) (IsList Item separator closer) bound singles none_listed
+    (list_last Item separator closer) more_listed n [] l h b) (λ z x w c g. rw g.1 g.2)
   where
     singles : (t : Term) (m : List Term) → length m < bound → same closer t.terminal ≡ false
         → Correct (L ∷ []) (λ _. E ∷ []) (λ z a w. IsOne Item z a) (t ∷ m) (single (item (t ∷ m)))
     singles t m g e =
-        correct_given (L ∷ []) (E ∷ []) (λ z a w. Item z a) (λ z a w. IsOne Item z a) (t ∷ m) (item (t ∷ m)) (λ a. a ∷ []) (hi t m g e)
-        (λ z a w d. (a, refl, d))
+        correct_given _ (hi t m g e) (λ z a w d. (a, refl, d))
 
     none_listed : (j : Leaf) → IsList Item separator closer (tok closer j ∷ []) [] j
     none_listed j = none_item j
@@ -202,9 +170,5 @@ pub bindings_correct : (separator closer : Terminal) (L E : Sym) → ListSyms se
 unfolding several
 bindings_correct separator closer L E syms starts n l h =
     list_correct separator closer L E syms IsBinding (binding n) (length l)
-    (λ t m g e. correct_from (L ∷ []) (T Name ∷ NamesType ∷ E ∷ []) (λ _. E ∷ []) (λ z b w. IsBinding z b) [] (t ∷ m) (t ∷ m)
-    (binding n (t ∷ m)) refl
-    (λ s. starts t m s e)
-    (correct_under (T Name ∷ NamesType ∷ []) (λ _. []) (E ∷ []) (λ z b w. IsBinding z b) (t ∷ m) (binding n (t ∷ m))
-    (binding_correct n (t ∷ m) (omega arith))))
+    (λ t m g e. same_start (correct_under (E ∷ []) (binding_correct n (t ∷ m) (omega arith))) (λ s. starts t m s e))
     n l h (omega arith)

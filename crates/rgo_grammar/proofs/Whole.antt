@@ -12,6 +12,7 @@ use Rattle.rgo_grammar.proofs.Table.{Program, fine, leads}
 use Rattle.rgo_grammar.proofs.Machine.{Accepted, Stopped, run, Reached, stopped, finish, finish_run}
 use Rattle.rgo_grammar.proofs.Complete.{Meets}
 use Rattle.rgo_grammar.proofs.ProgramCorrect.{Closed, program_correct}
+use Rattle.rgo_grammar.proofs.ProgramCorrect.Closed.{accepts, refuses}
 use Rattle.rgo_grammar.proofs.DeclsComplete.{program_complete}
 
 -- the turns that a list of tokens takes at most
@@ -31,8 +32,12 @@ start_fine = refl
 closed : (l : List Term) → Closed (Program ∷ []) IsRead l (read l)
 closed l = program_correct (turns l) l (omega arith)
 
+starves : {l : List Term} {r : Read (List Import × List Decl)} → Closed (Program ∷ []) IsRead l r → r ≡ Failed Starving → ⊥
+starves (accepts p h) e = cc
+starves (refuses h) e = cc
+
 pub never_starved : (l : List Term) → read l ≡ Failed Starving → ⊥
-never_starved l e = let P : Read (List Import × List Decl) → Type 0 = λ r. Closed (Program ∷ []) IsRead l r in subst P e (closed l)
+never_starved l e = starves (closed l) e
 
 -- a program is read as its tree
 pub read_again : (l : List Term) (is : List Import) (ds : List Decl) → IsProgram l is ds → read l ≡ Done (is, ds) []
@@ -41,25 +46,24 @@ read_again l is ds h = by_cases (program_complete (turns l) h) where
   by_cases (inl e) = absurd (never_starved l e)
   by_cases (inr e) = e
 
-parsed_by : (l : List Term) (x : List Import × List Decl) (w : List Term) (r : Read (List Import × List Decl))
-    → Closed (Program ∷ []) IsRead l r → r ≡ Done x w
-    → (w ≡ []) × IsRead l x × (run l (Program ∷ []) ≡ Accepted)
-parsed_by l x w r h e = let P : Read (List Import × List Decl) → Type 0 = λ r. Closed (Program ∷ []) IsRead l r in subst P e h
+parsed_by : {l : List Term} {x : List Import × List Decl} {w : List Term} {r : Read (List Import × List Decl)}
+    → Closed (Program ∷ []) IsRead l r → r ≡ Done x w → IsRead l x × (run l (Program ∷ []) ≡ Accepted)
+parsed_by {x = x} (accepts {a} p h) e = let f : a ≡ x = cc in (rw (← f) p, h)
+parsed_by (refuses h) e = cc
 
 pub parsed : (l : List Term) (x : List Import × List Decl) (w : List Term) → read l ≡ Done x w → IsProgram l x.0 x.1
-parsed l x w e = (parsed_by l x w (read l) (closed l) e).1
+parsed l x w e = (parsed_by (closed l) e).0
 
 takes : (l : List Term) (is : List Import) (ds : List Decl) → IsProgram l is ds → run l (Program ∷ []) ≡ Accepted
-takes l is ds h = (parsed_by l (is, ds) [] (read l) (closed l) (read_again l is ds h)).2
+takes l is ds h = (parsed_by (closed l) (read_again l is ds h)).1
 
-accepted_by : (l : List Term) (r : Read (List Import × List Decl)) → Closed (Program ∷ []) IsRead l r → run l (Program ∷ []) ≡ Accepted
+accepted_by : {l : List Term} {r : Read (List Import × List Decl)} → Closed (Program ∷ []) IsRead l r → run l (Program ∷ []) ≡ Accepted
     → (is : List Import) × (ds : List Decl) × IsProgram l is ds
-accepted_by l (Done x w) h a = (x.0, x.1, h.1)
-accepted_by l (Failed (At w)) h a = cc
-accepted_by l (Failed Starving) h a = absurd h
+accepted_by (accepts {a = x} p h) e = (x.0, x.1, p)
+accepted_by (refuses h) a = cc
 
 accepted : (l : List Term) → run l (Program ∷ []) ≡ Accepted → (is : List Import) × (ds : List Decl) × IsProgram l is ds
-accepted l a = accepted_by l (read l) (closed l) a
+accepted l a = accepted_by (closed l) a
 
 same_pair : (x y : List Import × List Decl) → x ≡ y → (x.0 ≡ y.0) × (x.1 ≡ y.1)
 same_pair x y e = (ap (λ z. z.0) e, ap (λ z. z.1) e)
@@ -95,12 +99,13 @@ first_bad_at l r e at =
         let no = at.leads_here (t ∷ b.0) ∙ at.stuck t q b.0 g in
         cc
 
-stopped_at : (l r : List Term) (x : Read (List Import × List Decl)) → Closed (Program ∷ []) IsRead l x → x ≡ Failed (At r)
+stopped_at : {l r : List Term} {x : Read (List Import × List Decl)} → Closed (Program ∷ []) IsRead l x → x ≡ Failed (At r)
     → run l (Program ∷ []) ≡ Stopped r
-stopped_at l r x h e = let P : Read (List Import × List Decl) → Type 0 = λ r. Closed (Program ∷ []) IsRead l r in subst P e h
+stopped_at (accepts p h) e = cc
+stopped_at {r = r} (refuses {w} h) e = let f : w ≡ r = cc in rw (← f) h
 
 reached : (l r : List Term) → read l ≡ Failed (At r) → Reached l (Program ∷ []) r
-reached l r e = stopped l (Program ∷ []) r start_fine (stopped_at l r (read l) (closed l) e)
+reached l r e = stopped l (Program ∷ []) r start_fine (stopped_at (closed l) e)
 
 pub first_bad : (l r : List Term) → read l ≡ Failed (At r) → IsFirstBad l (length l - length r)
 first_bad l r e = first_bad_at l r e (reached l r e)
