@@ -3,7 +3,7 @@ use Rattle.std.proofs.Common.{◌≡◌, Bool, true, false, ◌&&◌, cond, not,
 use Rattle.std.proofs.lemmas.Bool.{eqb-true}
 use Rattle.rgo_grammar.specs.declared.terminals.Terminal.{Terminal}
 use Rattle.rgo_grammar.specs.Terms.{Leaf, Term, tok, class, subclass, same}
-use Rattle.rgo_grammar.proofs.Table.{Sym, Row, row, nullable, word, opens, settled, closer, find, next, entered, step, closes_first, leads, fine, all_entries, go_on, after, all_nullable, entries_fine, passes_closers, word_nullable, words_settle, settles_open, nullable_opens}
+use Rattle.rgo_grammar.proofs.Table.{Sym, Row, row, nullable, word, opens, closer, find, next, entered, step, closes_first, leads, fine, all_entries, go_on, after, all_nullable, entries_fine, Skips, skips, Settles, settled, both, join}
 
 unfoldable pub closes : List Sym → Bool
 closes [] = true
@@ -44,14 +44,6 @@ same_class j k e = eqb-true (class j) (class k) (classes_same (nat_eq (class j) 
 closer_same : (j k : Terminal) → same j k ≡ true → closer k ≡ closer j
 closer_same j k e = rw (same_class j k e) refl
 
-pub both : (a b : Bool) → cond a b false ≡ true → (a ≡ true) × (b ≡ true)
-both true b e = (refl, e)
-both false b e = cc
-
-pub join : (a b : Bool) → a ≡ true → b ≡ true → cond a b false ≡ true
-join true b d e = e
-join false b d e = cc
-
 found_at : (p : Terminal → List Sym → Bool) (k j : Terminal) (b : List Sym) (r : Row) (a : List Sym) (v : Bool) → same j k ≡ v
     → p j b ≡ true
     → (find k r ≡ Some a → (i : Terminal) × (same i k ≡ true) × (p i a ≡ true))
@@ -63,7 +55,7 @@ all_found : (p : Terminal → List Sym → Bool) (k : Terminal) (r : Row) (a : L
     → (i : Terminal) × (same i k ≡ true) × (p i a ≡ true)
 all_found p k [] a h e = cc
 all_found p k ((j, b) ∷ r) a h e =
-    let hs = both (p j b) (all_entries p r) h in
+    let hs = both h in
     found_at p k j b r a (same j k) refl hs.0 (λ d. all_found p k r a hs.1 d) e
 
 leads_append : (b s : List Sym) (o : Bool) → leads b o ≡ true → cond o (leads s true) true ≡ true → leads (b ++ s) true ≡ true
@@ -85,7 +77,7 @@ fine_append : (a s : List Sym) (o : Bool) → fine a o ≡ true → cond o (lead
 unfolding fine
 fine_append [] s o h e f = f
 fine_append (y ∷ b) s o h e f =
-    let hs = both (cond (opens y) (leads b o) true) (fine b o) h in
+    let hs = both h in
     join (cond (opens y) (leads (b ++ s) true) true) (fine (b ++ s) true) (opens_append (opens y) b s o hs.0 e) (fine_append b s o hs.1 e f)
 
 step_fine_by : (x : Sym) (s : List Sym) (k : Terminal) (r : List Sym) (n : Option (List Sym)) → next x k ≡ n → fine (x ∷ s) true ≡ true
@@ -93,7 +85,7 @@ step_fine_by : (x : Sym) (s : List Sym) (k : Terminal) (r : List Sym) (n : Optio
     → entered n s (cond (nullable x) (step s k) None) ≡ Some r → fine r true ≡ true
 unfolding fine
 step_fine_by x s k r (Some a) ne f ih e =
-    let fs = both (cond (opens x) (leads s true) true) (fine s true) f in
+    let fs = both f in
     let found = all_found (λ k a. fine a (opens x)) k (row x) a (entries_fine x) ne in
     let g = fine_append a s (opens x) found.2 fs.0 fs.1 in
     let er : a ++ s ≡ r = cc in
@@ -105,7 +97,7 @@ step_fine : (s : List Sym) (k : Terminal) (r : List Sym) → fine s true ≡ tru
 unfolding step fine
 step_fine [] k r f e = cc
 step_fine (x ∷ s) k r f e =
-    let fs = both (cond (opens x) (leads s true) true) (fine s true) f in
+    let fs = both f in
     step_fine_by x s k r (next x k) refl f (λ d. step_fine s k r fs.1 d) e
 
 -- nothing is left, or what is left begins with a token that ends what stands before it
@@ -116,7 +108,7 @@ Closed (t ∷ l) = closer t.terminal ≡ true
 next_none_by : (x : Sym) (k : Terminal) (n : Option (List Sym)) → nullable x ≡ true → closer k ≡ true → next x k ≡ n → n ≡ None
 next_none_by x k None h c e = refl
 next_none_by x k (Some a) h c e =
-    let found = all_found (λ k a. not (closer k)) k (row x) a (passes_closers x h) e in
+    let found = all_found (λ k a. not (closer k)) k (row x) a (skips x h).passes_closers e in
     let d : not (closer k) ≡ true = rw (closer_same found.0 k found.1) found.2 in
     let d' = rw c at d in
     cc
@@ -134,7 +126,7 @@ pops : (a s : List Sym) (l : List Term) → all_nullable a ≡ true → Closed l
 unfolding all_nullable
 pops [] s l h c = refl
 pops (x ∷ a) s l h c =
-    let hs = both (nullable x) (all_nullable a) h in
+    let hs = both h in
     pop x (a ++ s) l hs.0 c ∙ pops a s l hs.1 c
 
 step_append_by : (a s b : List Sym) (x : Sym) (k : Terminal) (n : Option (List Sym)) → (step a k ≡ Some b → step (a ++ s) k ≡ Some (b ++ s))
@@ -170,7 +162,7 @@ first_word (k ∷ ks) l h = h
 first_in : (x : Sym) (s : List Sym) (v : Bool) → nullable x ≡ v → cond v (leads s true) (closes_first (word x)) ≡ true
     → (leads s true ≡ true → Closed (finish s)) → Closed (toks (word x) ++ finish s)
 unfolding toks
-first_in x s true n h ih = rw (word_nullable x n) (ih h)
+first_in x s true n h ih = rw (skips x n).no_word (ih h)
 first_in x s false n h ih = first_word (word x) (finish s) h
 
 closed_finish : (s : List Sym) → leads s true ≡ true → Closed (finish s)
@@ -186,26 +178,25 @@ unless : (v : Bool) (s : List Sym) → v ≡ true → cond v (leads s true) true
 unless true s e h = h
 unless false s e h = cc
 
-settle_by : (x : Sym) (s : List Sym) → cond (opens x) (leads s true) true ≡ true → all_nullable (settled x) ≡ true
-    → (settled x ≡ []) ⊎ (opens x ≡ true)
-    → run (finish s) (settled x ++ s) ≡ run (finish s) s
-settle_by x s o n (inl e) = rw e refl
-settle_by x s o n (inr e) = pops (settled x) s (finish s) n (closed_finish s (unless (opens x) s e o))
+settle_by : (a s : List Sym) (o : Bool) → cond o (leads s true) true ≡ true → all_nullable a ≡ true → (a ≡ []) ⊎ (o ≡ true)
+    → run (finish s) (a ++ s) ≡ run (finish s) s
+settle_by a s o l n (inl e) = rw e refl
+settle_by a s o l n (inr e) = pops a s (finish s) n (closed_finish s (unless o s e l))
 
 finish_by : (x : Sym) (s : List Sym) (v : Bool) → nullable x ≡ v → cond (opens x) (leads s true) true ≡ true → run (finish s) s ≡ Accepted
     → run (toks (word x) ++ finish s) (x ∷ s) ≡ Accepted
 unfolding toks
-finish_by x s true n o h = rw (word_nullable x n) (pop x s (finish s) n (closed_finish s (unless (opens x) s (nullable_opens x n) o)) ∙ h)
+finish_by x s true n o h = rw (skips x n).no_word (pop x s (finish s) n (closed_finish s (unless (opens x) s (skips x n).is_open o)) ∙ h)
 finish_by x s false n o h =
-    let w = words_settle x n in
-    after_run (word x) (x ∷ []) s (settled x) (finish s) w.0 ∙ settle_by x s o w.1 (settles_open x) ∙ h
+    let w = settled x n in
+    after_run (word x) (x ∷ []) s w.stack (finish s) w.reached ∙ settle_by w.stack s (opens x) o w.may_end w.is_open ∙ h
 
 -- a stack of this kind can be emptied
 pub finish_run : (s : List Sym) → fine s true ≡ true → run (finish s) s ≡ Accepted
 unfolding fine finish
 finish_run [] f = ended
 finish_run (x ∷ s) f =
-    let fs = both (cond (opens x) (leads s true) true) (fine s true) f in
+    let fs = both f in
     finish_by x s (nullable x) refl fs.0 (finish_run s fs.1)
 
 -- a list at which the machine stops: the stack that the tokens before it lead to

@@ -183,66 +183,37 @@ nullable (Named alone) = true
 nullable (Bin h) = true
 nullable _ = false
 
--- a shortest text
+-- a short text: its first token where a row begins with one that ends it
+abbrev one_token : Row → List Terminal
+one_token ((k, []) ∷ r) = k ∷ []
+one_token _ = []
+
+abbrev braces : List Terminal
+braces = OpenBrace ∷ CloseBrace ∷ []
+
 abbrev pub word : Sym → List Terminal
-word (T k) = k ∷ []
 word (Unary h) = Name ∷ []
-word (Bin h) = []
 word (Tail alone) = []
-word (Tail before_if) = OpenBrace ∷ CloseBrace ∷ []
-word (Tail before_for) = OpenBrace ∷ CloseBrace ∷ []
-word (Tail behind_for) = OpenBrace ∷ CloseBrace ∷ []
+word (Tail _) = braces
 word (Named alone) = []
-word (Named before_if) = OpenBrace ∷ CloseBrace ∷ []
-word (Named before_for) = OpenBrace ∷ CloseBrace ∷ []
-word (Named behind_for) = OpenBrace ∷ CloseBrace ∷ []
+word (Named _) = braces
 word Program = Package ∷ Main ∷ Semicolon ∷ []
-word Imports = []
-word Decls = []
 word Paths = Text ∷ []
-word PathList = CloseParen ∷ []
-word PathSep = CloseParen ∷ []
-word Specs = Name ∷ Struct ∷ OpenBrace ∷ CloseBrace ∷ []
-word SpecList = CloseParen ∷ []
-word SpecSep = CloseParen ∷ []
+word Specs = Name ∷ Struct ∷ braces
 word Vars = Name ∷ Name ∷ []
-word VarList = CloseParen ∷ []
-word VarSep = CloseParen ∷ []
-word Fields = CloseBrace ∷ []
-word FieldSep = CloseBrace ∷ []
 word NamesType = Name ∷ []
-word AType = Name ∷ []
-word Params = CloseParen ∷ []
-word ParamSep = CloseParen ∷ []
-word Result = OpenBrace ∷ CloseBrace ∷ []
-word Block = OpenBrace ∷ CloseBrace ∷ []
-word Stmts = CloseBrace ∷ []
-word StmtEnd = CloseBrace ∷ []
+word Result = braces
+word Block = braces
 word Locals = Name ∷ Name ∷ []
-word LocalList = CloseParen ∷ []
-word LocalSep = CloseParen ∷ []
 word LocalRest = Name ∷ []
-word Initial = []
-word Value = []
-word IfHead = Name ∷ OpenBrace ∷ CloseBrace ∷ []
-word IfElse = []
-word ElseBody = OpenBrace ∷ CloseBrace ∷ []
-word ForHead = OpenBrace ∷ CloseBrace ∷ []
-word Condition = Semicolon ∷ OpenBrace ∷ CloseBrace ∷ []
-word ForStep = OpenBrace ∷ CloseBrace ∷ []
-word Post = []
+word IfHead = Name ∷ braces
+word ElseBody = braces
+word ForHead = braces
+word Condition = Semicolon ∷ braces
+word ForStep = braces
 word MakeType = Chan ∷ Name ∷ CloseParen ∷ []
-word MakeSize = CloseParen ∷ []
-word MakeMore = CloseParen ∷ []
-word MakeEnd = CloseParen ∷ []
-word Args = CloseParen ∷ []
-word ArgsEnd = CloseParen ∷ []
-word Elems = CloseBrace ∷ []
 word ElemsNamed = CloseBrace ∷ []
-word ElemsEnd = CloseBrace ∷ []
-word ElemsMore = CloseBrace ∷ []
-word KeyedEnd = CloseBrace ∷ []
-word KeyedMore = CloseBrace ∷ []
+word x = one_token (row x)
 
 -- what may go on at its end
 abbrev pub opens : Sym → Bool
@@ -264,17 +235,6 @@ opens Post = true
 opens Locals = true
 opens LocalRest = true
 opens _ = false
-
--- what is left of a symbol behind its shortest text, all of which may be left out
-abbrev pub settled : Sym → List Sym
-settled (Unary h) = Post ∷ []
-settled (Tail before_if) = IfElse ∷ []
-settled (Named before_if) = IfElse ∷ []
-settled Program = Imports ∷ []
-settled IfHead = IfElse ∷ []
-settled Locals = Initial ∷ []
-settled LocalRest = Initial ∷ []
-settled _ = []
 
 -- tokens that end what stands before them: `)`, `]`, `{`, `}`, `,`, `;` and `:`
 abbrev pub closer : Terminal → Bool
@@ -325,328 +285,93 @@ unfoldable pub all_nullable : List Sym → Bool
 all_nullable [] = true
 all_nullable (x ∷ s) = cond (nullable x) (all_nullable s) false
 
--- the table is checked by computing
-pub entries_fine : (x : Sym) → all_entries (λ k a. fine a (opens x)) (row x) ≡ true
-unfolding fine leads
-entries_fine (T k) = refl
-entries_fine (Unary true) = refl
-entries_fine (Unary false) = refl
-entries_fine (Bin true) = refl
-entries_fine (Bin false) = refl
-entries_fine (Tail alone) = refl
-entries_fine (Tail before_if) = refl
-entries_fine (Tail before_for) = refl
-entries_fine (Tail behind_for) = refl
-entries_fine (Named alone) = refl
-entries_fine (Named before_if) = refl
-entries_fine (Named before_for) = refl
-entries_fine (Named behind_for) = refl
-entries_fine Program = refl
-entries_fine Imports = refl
-entries_fine Decls = refl
-entries_fine Paths = refl
-entries_fine PathList = refl
-entries_fine PathSep = refl
-entries_fine Specs = refl
-entries_fine SpecList = refl
-entries_fine SpecSep = refl
-entries_fine Vars = refl
-entries_fine VarList = refl
-entries_fine VarSep = refl
-entries_fine Fields = refl
-entries_fine FieldSep = refl
-entries_fine NamesType = refl
-entries_fine AType = refl
-entries_fine Params = refl
-entries_fine ParamSep = refl
-entries_fine Result = refl
-entries_fine Block = refl
-entries_fine Stmts = refl
-entries_fine StmtEnd = refl
-entries_fine Locals = refl
-entries_fine LocalList = refl
-entries_fine LocalSep = refl
-entries_fine LocalRest = refl
-entries_fine Initial = refl
-entries_fine Value = refl
-entries_fine IfHead = refl
-entries_fine IfElse = refl
-entries_fine ElseBody = refl
-entries_fine ForHead = refl
-entries_fine Condition = refl
-entries_fine ForStep = refl
-entries_fine Post = refl
-entries_fine MakeType = refl
-entries_fine MakeSize = refl
-entries_fine MakeMore = refl
-entries_fine MakeEnd = refl
-entries_fine Args = refl
-entries_fine ArgsEnd = refl
-entries_fine Elems = refl
-entries_fine ElemsNamed = refl
-entries_fine ElemsEnd = refl
-entries_fine ElemsMore = refl
-entries_fine KeyedEnd = refl
-entries_fine KeyedMore = refl
+abbrev empty : {A : Type 0} → List A → Bool
+empty [] = true
+empty (x ∷ l) = false
 
-pub passes_closers : (x : Sym) → nullable x ≡ true → all_entries (λ k a. not (closer k)) (row x) ≡ true
-passes_closers (T k) e = cc
-passes_closers (Unary true) e = cc
-passes_closers (Unary false) e = cc
-passes_closers (Bin true) e = refl
-passes_closers (Bin false) e = refl
-passes_closers (Tail alone) e = refl
-passes_closers (Tail before_if) e = cc
-passes_closers (Tail before_for) e = cc
-passes_closers (Tail behind_for) e = cc
-passes_closers (Named alone) e = refl
-passes_closers (Named before_if) e = cc
-passes_closers (Named before_for) e = cc
-passes_closers (Named behind_for) e = cc
-passes_closers Program e = cc
-passes_closers Imports e = refl
-passes_closers Decls e = refl
-passes_closers Paths e = cc
-passes_closers PathList e = cc
-passes_closers PathSep e = cc
-passes_closers Specs e = cc
-passes_closers SpecList e = cc
-passes_closers SpecSep e = cc
-passes_closers Vars e = cc
-passes_closers VarList e = cc
-passes_closers VarSep e = cc
-passes_closers Fields e = cc
-passes_closers FieldSep e = cc
-passes_closers NamesType e = cc
-passes_closers AType e = cc
-passes_closers Params e = cc
-passes_closers ParamSep e = cc
-passes_closers Result e = cc
-passes_closers Block e = cc
-passes_closers Stmts e = cc
-passes_closers StmtEnd e = cc
-passes_closers Locals e = cc
-passes_closers LocalList e = cc
-passes_closers LocalSep e = cc
-passes_closers LocalRest e = cc
-passes_closers Initial e = refl
-passes_closers Value e = refl
-passes_closers IfHead e = cc
-passes_closers IfElse e = refl
-passes_closers ElseBody e = cc
-passes_closers ForHead e = cc
-passes_closers Condition e = cc
-passes_closers ForStep e = cc
-passes_closers Post e = refl
-passes_closers MakeType e = cc
-passes_closers MakeSize e = cc
-passes_closers MakeMore e = cc
-passes_closers MakeEnd e = cc
-passes_closers Args e = cc
-passes_closers ArgsEnd e = cc
-passes_closers Elems e = cc
-passes_closers ElemsNamed e = cc
-passes_closers ElemsEnd e = cc
-passes_closers ElemsMore e = cc
-passes_closers KeyedEnd e = cc
-passes_closers KeyedMore e = cc
+-- ---- the table is checked by computing: a test of each symbol, and what the test says
 
-pub word_nullable : (x : Sym) → nullable x ≡ true → word x ≡ []
-word_nullable (T k) e = cc
-word_nullable (Unary true) e = cc
-word_nullable (Unary false) e = cc
-word_nullable (Bin true) e = refl
-word_nullable (Bin false) e = refl
-word_nullable (Tail alone) e = refl
-word_nullable (Tail before_if) e = cc
-word_nullable (Tail before_for) e = cc
-word_nullable (Tail behind_for) e = cc
-word_nullable (Named alone) e = refl
-word_nullable (Named before_if) e = cc
-word_nullable (Named before_for) e = cc
-word_nullable (Named behind_for) e = cc
-word_nullable Program e = cc
-word_nullable Imports e = refl
-word_nullable Decls e = refl
-word_nullable Paths e = cc
-word_nullable PathList e = cc
-word_nullable PathSep e = cc
-word_nullable Specs e = cc
-word_nullable SpecList e = cc
-word_nullable SpecSep e = cc
-word_nullable Vars e = cc
-word_nullable VarList e = cc
-word_nullable VarSep e = cc
-word_nullable Fields e = cc
-word_nullable FieldSep e = cc
-word_nullable NamesType e = cc
-word_nullable AType e = cc
-word_nullable Params e = cc
-word_nullable ParamSep e = cc
-word_nullable Result e = cc
-word_nullable Block e = cc
-word_nullable Stmts e = cc
-word_nullable StmtEnd e = cc
-word_nullable Locals e = cc
-word_nullable LocalList e = cc
-word_nullable LocalSep e = cc
-word_nullable LocalRest e = cc
-word_nullable Initial e = refl
-word_nullable Value e = refl
-word_nullable IfHead e = cc
-word_nullable IfElse e = refl
-word_nullable ElseBody e = cc
-word_nullable ForHead e = cc
-word_nullable Condition e = cc
-word_nullable ForStep e = cc
-word_nullable Post e = refl
-word_nullable MakeType e = cc
-word_nullable MakeSize e = cc
-word_nullable MakeMore e = cc
-word_nullable MakeEnd e = cc
-word_nullable Args e = cc
-word_nullable ArgsEnd e = cc
-word_nullable Elems e = cc
-word_nullable ElemsNamed e = cc
-word_nullable ElemsEnd e = cc
-word_nullable ElemsMore e = cc
-word_nullable KeyedEnd e = cc
-word_nullable KeyedMore e = cc
+-- a symbol that may be left out: no closer begins it, and nothing is its short text
+abbrev skipped : Sym → Bool
+skipped x = cond (all_entries (λ k a. not (closer k)) (row x)) (cond (empty (word x)) (opens x) false) false
+
+-- another: after its short text only what may be left out remains on the stack, and nothing unless it may go on
+abbrev settles : Sym → Option (List Sym) → Bool
+settles x None = false
+settles x (Some s) = cond (all_nullable s) (cond (empty s) true (opens x)) false
+
+abbrev skips_or_settles : Sym → Bool
+skips_or_settles x = cond (nullable x) (skipped x) (settles x (after (word x) (x ∷ [])))
+
+abbrev checks : Sym → Bool
+checks x = cond (all_entries (λ k a. fine a (opens x)) (row x)) (skips_or_settles x) false
 
 pub same_self : (k : Terminal) → same k k ≡ true
 same_self k = rw (eq-eqb (class k) (class k) refl) (eq-eqb (subclass k) (subclass k) refl)
 
-pub words_settle : (x : Sym) → nullable x ≡ false → (after (word x) (x ∷ []) ≡ Some (settled x)) × (all_nullable (settled x) ≡ true)
-unfolding after step all_nullable
-words_settle (T k) e = (rw same_self refl, refl)
-words_settle (Unary true) e = (refl, refl)
-words_settle (Unary false) e = (refl, refl)
-words_settle (Bin true) e = cc
-words_settle (Bin false) e = cc
-words_settle (Tail alone) e = cc
-words_settle (Tail before_if) e = (refl, refl)
-words_settle (Tail before_for) e = (refl, refl)
-words_settle (Tail behind_for) e = (refl, refl)
-words_settle (Named alone) e = cc
-words_settle (Named before_if) e = (refl, refl)
-words_settle (Named before_for) e = (refl, refl)
-words_settle (Named behind_for) e = (refl, refl)
-words_settle Program e = (refl, refl)
-words_settle Imports e = cc
-words_settle Decls e = cc
-words_settle Paths e = (refl, refl)
-words_settle PathList e = (refl, refl)
-words_settle PathSep e = (refl, refl)
-words_settle Specs e = (refl, refl)
-words_settle SpecList e = (refl, refl)
-words_settle SpecSep e = (refl, refl)
-words_settle Vars e = (refl, refl)
-words_settle VarList e = (refl, refl)
-words_settle VarSep e = (refl, refl)
-words_settle Fields e = (refl, refl)
-words_settle FieldSep e = (refl, refl)
-words_settle NamesType e = (refl, refl)
-words_settle AType e = (refl, refl)
-words_settle Params e = (refl, refl)
-words_settle ParamSep e = (refl, refl)
-words_settle Result e = (refl, refl)
-words_settle Block e = (refl, refl)
-words_settle Stmts e = (refl, refl)
-words_settle StmtEnd e = (refl, refl)
-words_settle Locals e = (refl, refl)
-words_settle LocalList e = (refl, refl)
-words_settle LocalSep e = (refl, refl)
-words_settle LocalRest e = (refl, refl)
-words_settle Initial e = cc
-words_settle Value e = cc
-words_settle IfHead e = (refl, refl)
-words_settle IfElse e = cc
-words_settle ElseBody e = (refl, refl)
-words_settle ForHead e = (refl, refl)
-words_settle Condition e = (refl, refl)
-words_settle ForStep e = (refl, refl)
-words_settle Post e = cc
-words_settle MakeType e = (refl, refl)
-words_settle MakeSize e = (refl, refl)
-words_settle MakeMore e = (refl, refl)
-words_settle MakeEnd e = (refl, refl)
-words_settle Args e = (refl, refl)
-words_settle ArgsEnd e = (refl, refl)
-words_settle Elems e = (refl, refl)
-words_settle ElemsNamed e = (refl, refl)
-words_settle ElemsEnd e = (refl, refl)
-words_settle ElemsMore e = (refl, refl)
-words_settle KeyedEnd e = (refl, refl)
-words_settle KeyedMore e = (refl, refl)
+checked : (x : Sym) → checks x ≡ true
+unfolding fine leads after step all_nullable
+checked (T k) = rw same_self refl
+checked (Unary true) = refl
+checked (Unary false) = refl
+checked (Bin true) = refl
+checked (Bin false) = refl
+checked (Tail alone) = refl
+checked (Tail before_if) = refl
+checked (Tail before_for) = refl
+checked (Tail behind_for) = refl
+checked (Named alone) = refl
+checked (Named before_if) = refl
+checked (Named before_for) = refl
+checked (Named behind_for) = refl
+checked _ = refl
 
-pub settles_open : (x : Sym) → (settled x ≡ []) ⊎ (opens x ≡ true)
-settles_open (Unary h) = inr refl
-settles_open (Tail before_if) = inr refl
-settles_open (Named before_if) = inr refl
-settles_open Program = inr refl
-settles_open IfHead = inr refl
-settles_open Locals = inr refl
-settles_open LocalRest = inr refl
-settles_open _ = inl refl
+pub both : {a b : Bool} → cond a b false ≡ true → (a ≡ true) × (b ≡ true)
+both {a = true} e = (refl, e)
+both {a = false} e = cc
 
-pub nullable_opens : (x : Sym) → nullable x ≡ true → opens x ≡ true
-nullable_opens (T k) e = cc
-nullable_opens (Unary true) e = cc
-nullable_opens (Unary false) e = cc
-nullable_opens (Bin true) e = refl
-nullable_opens (Bin false) e = refl
-nullable_opens (Tail alone) e = refl
-nullable_opens (Tail before_if) e = cc
-nullable_opens (Tail before_for) e = cc
-nullable_opens (Tail behind_for) e = cc
-nullable_opens (Named alone) e = refl
-nullable_opens (Named before_if) e = cc
-nullable_opens (Named before_for) e = cc
-nullable_opens (Named behind_for) e = cc
-nullable_opens Program e = cc
-nullable_opens Imports e = refl
-nullable_opens Decls e = refl
-nullable_opens Paths e = cc
-nullable_opens PathList e = cc
-nullable_opens PathSep e = cc
-nullable_opens Specs e = cc
-nullable_opens SpecList e = cc
-nullable_opens SpecSep e = cc
-nullable_opens Vars e = cc
-nullable_opens VarList e = cc
-nullable_opens VarSep e = cc
-nullable_opens Fields e = cc
-nullable_opens FieldSep e = cc
-nullable_opens NamesType e = cc
-nullable_opens AType e = cc
-nullable_opens Params e = cc
-nullable_opens ParamSep e = cc
-nullable_opens Result e = cc
-nullable_opens Block e = cc
-nullable_opens Stmts e = cc
-nullable_opens StmtEnd e = cc
-nullable_opens Locals e = cc
-nullable_opens LocalList e = cc
-nullable_opens LocalSep e = cc
-nullable_opens LocalRest e = cc
-nullable_opens Initial e = refl
-nullable_opens Value e = refl
-nullable_opens IfHead e = cc
-nullable_opens IfElse e = refl
-nullable_opens ElseBody e = cc
-nullable_opens ForHead e = cc
-nullable_opens Condition e = cc
-nullable_opens ForStep e = cc
-nullable_opens Post e = refl
-nullable_opens MakeType e = cc
-nullable_opens MakeSize e = cc
-nullable_opens MakeMore e = cc
-nullable_opens MakeEnd e = cc
-nullable_opens Args e = cc
-nullable_opens ArgsEnd e = cc
-nullable_opens Elems e = cc
-nullable_opens ElemsNamed e = cc
-nullable_opens ElemsEnd e = cc
-nullable_opens ElemsMore e = cc
-nullable_opens KeyedEnd e = cc
-nullable_opens KeyedMore e = cc
+pub join : (a b : Bool) → a ≡ true → b ≡ true → cond a b false ≡ true
+join true b d e = e
+join false b d e = cc
+
+pub entries_fine : (x : Sym) → all_entries (λ k a. fine a (opens x)) (row x) ≡ true
+entries_fine x = (both (checked x)).0
+
+-- what holds of a symbol that may be left out
+pub record Skips (x : Sym) : Type 0 where
+  pub passes_closers : all_entries (λ k a. not (closer k)) (row x) ≡ true
+  pub no_word : word x ≡ []
+  pub is_open : opens x ≡ true
+
+no_item : {A : Type 0} (l : List A) → empty l ≡ true → l ≡ []
+no_item [] e = refl
+no_item (x ∷ l) e = cc
+
+pub skips : (x : Sym) → nullable x ≡ true → Skips x
+skips x n =
+    let h : skips_or_settles x ≡ true = (both (checked x)).1 in
+    let h' : skipped x ≡ true = rw n at h in
+    let k = both h' in
+    let w = both k.1 in record { passes_closers = k.0; no_word = no_item (word x) w.0; is_open = w.1 }
+
+-- what holds of another: the stack after its short text
+pub record Settles (x : Sym) : Type 0 where
+  pub stack : List Sym
+  pub reached : after (word x) (x ∷ []) ≡ Some stack
+  pub may_end : all_nullable stack ≡ true
+  pub is_open : (stack ≡ []) ⊎ (opens x ≡ true)
+
+empty_or : (s : List Sym) (b : Bool) → cond (empty s) true b ≡ true → (s ≡ []) ⊎ (b ≡ true)
+empty_or [] b e = inl refl
+empty_or (x ∷ s) b e = inr e
+
+settled_by : (x : Sym) (o : Option (List Sym)) → after (word x) (x ∷ []) ≡ o → settles x o ≡ true → Settles x
+settled_by x None a e = cc
+settled_by x (Some s) a e =
+    let h = both e in record { stack = s; reached = a; may_end = h.0; is_open = empty_or s (opens x) h.1 }
+
+pub settled : (x : Sym) → nullable x ≡ false → Settles x
+settled x n =
+    let h : skips_or_settles x ≡ true = (both (checked x)).1 in
+    let h' : settles x (after (word x) (x ∷ [])) ≡ true = rw n at h in
+    settled_by x (after (word x) (x ∷ [])) refl h'
