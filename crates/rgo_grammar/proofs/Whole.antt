@@ -1,5 +1,5 @@
 -- Where reading fails is the first token with which no program goes on, and what it gives is the one tree.
-use Rattle.std.proofs.Common.{◌≡◌, ℕ, suc, ◌+◌, ◌-◌, ◌*◌, ◌<◌, ◌≤◌, ◌⊎◌, inl, inr, true, List, [], ◌∷◌, ◌++◌, length, length-append, take, refl, ◌∙◌, ap, subst, append_assoc, add-one, arith}
+use Rattle.std.proofs.Common.{◌≡◌, ℕ, suc, ◌+◌, ◌-◌, ◌*◌, ◌<◌, ◌≤◌, ◌⊎◌, inl, inr, true, List, [], ◌∷◌, ◌++◌, length, take, refl, ◌∙◌, ap, append_assoc, arith, length-append, add-one}
 use Rattle.std.proofs.Math.Seq.{take-append_seam}
 use Rattle.rgo_ast.specs.Tree.{Import, Decl}
 use Rattle.rgo_grammar.specs.Terms.{Term}
@@ -8,12 +8,12 @@ use Rattle.rgo_grammar.specs.FirstBad.{Begins, IsFirstBad}
 use Rattle.rgo_grammar.specs.Laws.{OneTree, OneOfBoth}
 use Rattle.rgo_grammar.specs.Reading.{Read, Done, Failed, At, Starving}
 use Rattle.rgo_grammar.specs.ReadDecls.{program}
-use Rattle.rgo_grammar.proofs.Table.{Program, fine, leads}
-use Rattle.rgo_grammar.proofs.Machine.{Accepted, Stopped, run, Reached, stopped, finish, finish_run}
-use Rattle.rgo_grammar.proofs.Complete.{Meets}
-use Rattle.rgo_grammar.proofs.ProgramCorrect.{Closed, program_correct}
-use Rattle.rgo_grammar.proofs.ProgramCorrect.Closed.{accepts, refuses}
-use Rattle.rgo_grammar.proofs.DeclsComplete.{program_complete}
+use Rattle.rgo_grammar.proofs.machine.Table.{Program, fine, leads, next}
+use Rattle.rgo_grammar.proofs.machine.Runs.{Accepted, Stopped, run, Reached, stopped, finish, finish_run}
+use Rattle.rgo_grammar.proofs.reading.Complete.{Meets}
+use Rattle.rgo_grammar.proofs.declarations.Program.Closed.{accepts, rejects}
+use Rattle.rgo_grammar.proofs.declarations.Program.{Closed, program_correct}
+use Rattle.rgo_grammar.proofs.declarations.Complete.{program_complete}
 
 -- the turns that a list of tokens takes at most
 abbrev pub turns : List Term → ℕ
@@ -34,7 +34,7 @@ closed l = program_correct (turns l) l (omega arith)
 
 starves : {l : List Term} {r : Read (List Import × List Decl)} → Closed (Program ∷ []) IsRead l r → r ≡ Failed Starving → ⊥
 starves (accepts p h) e = cc
-starves (refuses h) e = cc
+starves (rejects h) e = cc
 
 pub never_starved : (l : List Term) → read l ≡ Failed Starving → ⊥
 never_starved l e = starves (closed l) e
@@ -49,7 +49,7 @@ read_again l is ds h = by_cases (program_complete (turns l) h) where
 parsed_by : {l : List Term} {x : List Import × List Decl} {w : List Term} {r : Read (List Import × List Decl)}
     → Closed (Program ∷ []) IsRead l r → r ≡ Done x w → IsRead l x × (run l (Program ∷ []) ≡ Accepted)
 parsed_by {x = x} (accepts {a} p h) e = let f : a ≡ x = cc in (rw (← f) p, h)
-parsed_by (refuses h) e = cc
+parsed_by (rejects h) e = cc
 
 pub parsed : (l : List Term) (x : List Import × List Decl) (w : List Term) → read l ≡ Done x w → IsProgram l x.0 x.1
 parsed l x w e = (parsed_by (closed l) e).0
@@ -60,7 +60,7 @@ takes l is ds h = (parsed_by (closed l) (read_again l is ds h)).1
 accepted_by : {l : List Term} {r : Read (List Import × List Decl)} → Closed (Program ∷ []) IsRead l r → run l (Program ∷ []) ≡ Accepted
     → (is : List Import) × (ds : List Decl) × IsProgram l is ds
 accepted_by (accepts {a = x} p h) e = (x.0, x.1, p)
-accepted_by (refuses h) a = cc
+accepted_by (rejects h) a = cc
 
 accepted : (l : List Term) → run l (Program ∷ []) ≡ Accepted → (is : List Import) × (ds : List Decl) × IsProgram l is ds
 accepted l a = accepted_by (closed l) a
@@ -102,7 +102,7 @@ first_bad_at l r e at =
 stopped_at : {l r : List Term} {x : Read (List Import × List Decl)} → Closed (Program ∷ []) IsRead l x → x ≡ Failed (At r)
     → run l (Program ∷ []) ≡ Stopped r
 stopped_at (accepts p h) e = cc
-stopped_at {r = r} (refuses {w} h) e = let f : w ≡ r = cc in rw (← f) h
+stopped_at {r = r} (rejects {w} h) e = let f : w ≡ r = cc in rw (← f) h
 
 reached : (l r : List Term) → read l ≡ Failed (At r) → Reached l (Program ∷ []) r
 reached l r e = stopped l (Program ∷ []) r start_fine (stopped_at (closed l) e)

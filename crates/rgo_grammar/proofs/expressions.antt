@@ -1,0 +1,9 @@
+pub mod Starts
+pub mod Operands
+pub mod Literals
+pub mod Correct
+pub mod Second
+pub mod Ends
+pub mod Builtins
+pub mod Items
+pub mod Complete

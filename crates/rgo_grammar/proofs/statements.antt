@@ -1,0 +1,12 @@
+pub mod Simple
+pub mod Locals
+pub mod Headers
+pub mod Loops
+pub mod Branches
+pub mod Kinds
+pub mod Correct
+pub mod SimpleComplete
+pub mod LocalsComplete
+pub mod HeadersComplete
+pub mod KindsComplete
+pub mod Complete
