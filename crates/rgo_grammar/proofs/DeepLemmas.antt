@@ -2,10 +2,10 @@
 use Rattle.std.proofs.Common.{◌≡◌, ℕ, ◌+◌, ◌<◌, ◌≤◌, nat_lt, cond, List, [], ◌∷◌, length, get_or, drop, Option, Some, None, refl}
 use Rattle.std.proofs.lemmas.List.{drop_more, drop_all}
 use Rattle.std.proofs.lemmas.Bool.{lt-ltb, le-ltb}
-use Rattle.rgo_grammar.specs.declared.terminals.Terminal.{Terminal}
+use Rattle.rgo_lexer.specs.declared.terminals.Terminal.{Terminal}
 use Rattle.rgo_grammar.specs.declared.nesting.Level.{Level}
-use Rattle.rgo_grammar.specs.declared.terms.Term.{Term as CodeTerm}
-use Rattle.rgo_grammar.specs.Seen.{terminals}
+use Rattle.rgo_grammar.specs.declared.terms.Lexeme.{Lexeme as CodeTerm}
+use Rattle.rgo_grammar.specs.Nesting.{terminals}
 use Rattle.rgo_grammar.specs.Nesting.{levels_after, nesting, deep_from}
 
 abbrev deep_by : ℕ → Terminal → List Level → ℕ → Terminal → List CodeTerm → Option ℕ

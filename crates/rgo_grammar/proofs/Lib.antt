@@ -6,5 +6,4 @@ pub mod statements
 pub mod declarations
 pub mod Whole
 pub mod OneReading
-pub mod TermsLemmas
 pub mod DeepLemmas

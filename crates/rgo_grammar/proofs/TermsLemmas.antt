@@ -1,9 +1,9 @@
 -- Terms of the code against their plain data: the package's name, and a list that grows.
 use Rattle.std.proofs.Common.{◌≡◌, ℕ, suc, ◌+◌, ◌<◌, ◌≤◌, Bool, true, false, List, [], ◌∷◌, ◌++◌, length, get_or, set, take, map, codes, refl, arith}
 use Rattle.std.specs.Str.{bytes_eq}
-use Rattle.rgo_grammar.specs.declared.terminals.Terminal.TheVariants.{Main}
-use Rattle.rgo_grammar.specs.declared.terms.Term.{Term as CodeTerm}
-use Rattle.rgo_grammar.specs.Terms.{with_package_name}
+use Rattle.rgo_lexer.specs.declared.terminals.Terminal.TheVariants.{Main}
+use Rattle.rgo_grammar.specs.declared.terms.Lexeme.{Lexeme as CodeTerm}
+use Rattle.rgo_lexer.specs.Lexemes.{with_package_name}
 use Rattle.rgo_lexer.specs.Tokens.{bytes_in}
 use Rattle.rgo_grammar.specs.Seen.{seen, seen_all}
 

@@ -1,10 +1,10 @@
 -- How deep a list of tokens nests, by their terminals alone. A level that is open has whether a bracket began it, its joints
 -- since its last `;` or `,`, and its `else` since its last `;` behind a `}`.
 use Rattle.std.specs.Prelude.{ℕ, ◌+◌, ◌≤◌, nat_lt, if◌then◌else◌, List, [], ◌∷◌, Option, Some, None, map, sum_by}
-use Rattle.rgo_grammar.specs.declared.terminals.Terminal.{Terminal}
-use Rattle.rgo_grammar.specs.declared.terminals.Terminal.TheVariants.{Binary, Bang, Ampersand, Arrow, OpenParen, CloseParen, OpenBracket, CloseBracket, OpenBrace, CloseBrace, Comma, Semicolon, Dot, Chan, Else, Other}
+use Rattle.rgo_lexer.specs.declared.terminals.Terminal.{Terminal}
+use Rattle.rgo_lexer.specs.declared.terminals.Terminal.TheVariants.{Binary, Bang, Ampersand, Arrow, OpenParen, CloseParen, OpenBracket, CloseBracket, OpenBrace, CloseBrace, Comma, Semicolon, Dot, Chan, Else, Other}
 use Rattle.rgo_grammar.specs.declared.nesting.Level.{Level}
-use Rattle.rgo_grammar.specs.Terms.{Term}
+use Rattle.rgo_lexer.specs.Lexemes.{Lexeme}
 
 -- the text itself
 abbrev pub outermost : Level
@@ -78,7 +78,7 @@ abbrev pub deep_among : ℕ → List Terminal → Option ℕ
 deep_among limit l = deep_from limit Other (outermost ∷ []) 0 l
 
 -- the first token behind which the tokens nest deeper than the limit
-abbrev pub deep_at : ℕ → List Term → Option ℕ
+abbrev pub deep_at : ℕ → List Lexeme → Option ℕ
 deep_at limit l = deep_among limit (map (λ t. t.terminal) l)
 
 -- no token before the k-th nests too deep

@@ -13,13 +13,13 @@ use Rattle.rgo_ast.specs.declared.ops.AssignOp.TheVariants as assign
 use Rattle.rgo_ast.specs.declared.ops.StepOp.TheVariants as step
 use Rattle.rgo_ast.specs.declared.names.Ident.{Ident}
 use Rattle.rgo_ast.specs.declared.names.ImportPath.{ImportPath}
-use Rattle.rgo_grammar.specs.declared.terminals.Terminal.{Terminal}
-use Rattle.rgo_grammar.specs.declared.terminals.Terminal.TheVariants.{Name, Main, New, Make, Number, Text, Binary, Bang}
-use Rattle.rgo_grammar.specs.declared.terminals.Terminal.TheVariants.{Ampersand, Arrow, Define, Assign, Step, OpenParen}
-use Rattle.rgo_grammar.specs.declared.terminals.Terminal.TheVariants.{CloseParen, OpenBracket, CloseBracket, OpenBrace}
-use Rattle.rgo_grammar.specs.declared.terminals.Terminal.TheVariants.{CloseBrace, Comma, Semicolon, Colon, Dot, Package}
-use Rattle.rgo_grammar.specs.declared.terminals.Terminal.TheVariants.{Import, TypeWord, Struct, Var, Func, Chan, Go, If}
-use Rattle.rgo_grammar.specs.declared.terminals.Terminal.TheVariants.{Else, For, Return, Break, Continue, Other}
+use Rattle.rgo_lexer.specs.declared.terminals.Terminal.{Terminal}
+use Rattle.rgo_lexer.specs.declared.terminals.Terminal.TheVariants.{Name, Main, New, Make, Number, Text, Binary, Bang}
+use Rattle.rgo_lexer.specs.declared.terminals.Terminal.TheVariants.{Ampersand, Arrow, Define, Assign, Step, OpenParen}
+use Rattle.rgo_lexer.specs.declared.terminals.Terminal.TheVariants.{CloseParen, OpenBracket, CloseBracket, OpenBrace}
+use Rattle.rgo_lexer.specs.declared.terminals.Terminal.TheVariants.{CloseBrace, Comma, Semicolon, Colon, Dot, Package}
+use Rattle.rgo_lexer.specs.declared.terminals.Terminal.TheVariants.{Import, TypeWord, Struct, Var, Func, Chan, Go, If}
+use Rattle.rgo_lexer.specs.declared.terminals.Terminal.TheVariants.{Else, For, Return, Break, Continue, Other}
 use Rattle.rgo_lexer.specs.Strings.{string_of}
 
 -- where a token stands, and what it spells
@@ -27,11 +27,11 @@ pub record Leaf : Type 0 where
   pub at : ℕ
   pub word : List ℕ
 
-pub record Term : Type 0 where
+pub record Lexeme : Type 0 where
   pub terminal : Terminal
   pub leaf : Leaf
 
-abbrev pub tok : Terminal → Leaf → Term
+abbrev pub tok : Terminal → Leaf → Lexeme
 tok k i = record { terminal = k; leaf = i }
 
 abbrev pub ident : Leaf → Ident
@@ -86,20 +86,20 @@ terminal_of kind.Number word = number (number_of word)
 terminal_of kind.Text word = Text
 terminal_of kind.Operator word = looked_up operators Other word
 
-abbrev pub term_of : List ℕ → Token → Term
+abbrev pub term_of : List ℕ → Token → Lexeme
 term_of text token =
     tok (terminal_of token.kind (bytes_of text token)) (record { at = token.span.start; word = bytes_of text token })
 
 -- the name of the package stands in a text's second token and nowhere else
-abbrev pub package_name : Term → Term
+abbrev pub package_name : Lexeme → Lexeme
 package_name t = if bytes_eq t.leaf.word (codes "main") then tok Main t.leaf else t
 
-abbrev pub with_package_name : List Term → List Term
+abbrev pub with_package_name : List Lexeme → List Lexeme
 with_package_name [] = []
 with_package_name (t ∷ []) = t ∷ []
 with_package_name (t ∷ u ∷ l) = t ∷ package_name u ∷ l
 
-abbrev pub terms : List ℕ → List Token → List Term
+abbrev pub terms : List ℕ → List Token → List Lexeme
 terms text tokens = with_package_name (map (term_of text) tokens)
 
 -- What tells terminals apart: a class for each form, and for the operators that stand in other places than their like a

@@ -3,9 +3,9 @@ use Rattle.std.proofs.Common.{ℕ, ◌+◌, ◌*◌, ◌<◌, ◌≤◌, inl, in
 use Rattle.rgo_ast.specs.declared.names.ImportPath.{ImportPath}
 use Rattle.rgo_ast.specs.Tree.{TypeSpec, Binding}
 use Rattle.rgo_ast.specs.Tree as tree
-use Rattle.rgo_grammar.specs.declared.terminals.Terminal.{Terminal}
-use Rattle.rgo_grammar.specs.declared.terminals.Terminal.TheVariants.{TypeWord, Var, Name, Text, OpenParen, CloseParen, OpenBrace, Comma, Import, Struct, Func}
-use Rattle.rgo_grammar.specs.Terms.{Leaf, Term, tok}
+use Rattle.rgo_lexer.specs.declared.terminals.Terminal.{Terminal}
+use Rattle.rgo_lexer.specs.declared.terminals.Terminal.TheVariants.{TypeWord, Var, Name, Text, OpenParen, CloseParen, OpenBrace, Comma, Import, Struct, Func}
+use Rattle.rgo_lexer.specs.Lexemes.{Leaf, Lexeme, tok}
 use Rattle.rgo_grammar.specs.Grammar.{IsPath, IsImport, IsTypeSpec, IsResult, IsBinding, IsDecl, Listed}
 use Rattle.rgo_grammar.specs.Reading.{◌>>=◌, given, first_of}
 use Rattle.rgo_grammar.specs.ReadStmts.{block}
@@ -23,15 +23,15 @@ use Rattle.rgo_grammar.proofs.statements.Correct.{block_correct}
 
 -- ---- imports
 
-path_correct : (l : List Term) → Correct (T Text ∷ []) (λ _. []) (λ z p w. IsPath z p) l (import_path l)
+path_correct : (l : List Lexeme) → Correct (T Text ∷ []) (λ _. []) (λ z p w. IsPath z p) l (import_path l)
 path_correct l = correct_token_given Text _ refl (λ i w. g.string i)
 
-import_of : (z : List Term) (i : Leaf) (ps : List ImportPath) → IsGroup IsPath z ps
+import_of : (z : List Lexeme) (i : Leaf) (ps : List ImportPath) → IsGroup IsPath z ps
     → IsImport (tok Import i ∷ z) (record { paths = ps; at = i.at })
 import_of z i ps (inl (p, e, h)) = rw e (g.one i h)
 import_of z i ps (inr (j, y, e, h)) = rw e (g.group i j h)
 
-pub import_correct : (n : ℕ) (i : Leaf) (l : List Term) → length l ≤ n
+pub import_correct : (n : ℕ) (i : Leaf) (l : List Lexeme) → length l ≤ n
     → Correct (Paths ∷ []) (λ _. []) (λ z d w. IsImport (tok Import i ∷ z) d) l (import_decl n i l)
 import_correct n i l h =
     correct_given _ (group_correct {L = PathList} import_path (length l) (λ m _. path_correct m) (list_syms refl refl refl refl refl refl)
@@ -39,18 +39,18 @@ import_correct n i l h =
 
 -- ---- types
 
-pub spec_correct : (n : ℕ) (l : List Term) → length l ≤ n + 1
+pub spec_correct : (n : ℕ) (l : List Lexeme) → length l ≤ n + 1
     → Correct (T Name ∷ T Struct ∷ T OpenBrace ∷ Fields ∷ []) (λ _. []) (λ z t w. IsTypeSpec z t) l (type_spec n l)
 spec_correct n l h =
     correct_token_then Name refl (λ i w c. correct_token_then Struct refl (λ j u d. correct_token_then OpenBrace refl (λ k v e.
     correct_given _ (bindings_correct (list_syms refl refl refl refl refl refl) n v (omega (arith, ap length c, ap length d, ap length e)))
     (λ z x w f. g.struct i j k f))))
 
-types_of : (z : List Term) (i : Leaf) (ss : List TypeSpec) → IsGroup IsTypeSpec z ss → IsDecl (tok TypeWord i ∷ z) (tree.Types ss i.at)
+types_of : (z : List Lexeme) (i : Leaf) (ss : List TypeSpec) → IsGroup IsTypeSpec z ss → IsDecl (tok TypeWord i ∷ z) (tree.Types ss i.at)
 types_of z i ss (inl (s, e, h)) = rw e (g.type i h)
 types_of z i ss (inr (j, y, e, h)) = rw e (g.types i j h)
 
-pub types_correct : (n : ℕ) (i : Leaf) (m : List Term) → length m ≤ n
+pub types_correct : (n : ℕ) (i : Leaf) (m : List Lexeme) → length m ≤ n
     → Correct (Specs ∷ []) (λ _. []) (λ z d w. IsDecl (tok TypeWord i ∷ z) d) m
     (group (type_spec n) n m >>= given (λ ss. tree.Types ss i.at))
 types_correct n i m h =
@@ -59,11 +59,11 @@ types_correct n i m h =
 
 -- ---- variables
 
-vars_of : (z : List Term) (i : Leaf) (bs : List Binding) → IsGroup IsBinding z bs → IsDecl (tok Var i ∷ z) (tree.Vars bs i.at)
+vars_of : (z : List Lexeme) (i : Leaf) (bs : List Binding) → IsGroup IsBinding z bs → IsDecl (tok Var i ∷ z) (tree.Vars bs i.at)
 vars_of z i bs (inl (b, e, h)) = rw e (g.var i h)
 vars_of z i bs (inr (j, y, e, h)) = rw e (g.vars i j h)
 
-pub vars_correct : (n : ℕ) (i : Leaf) (m : List Term) → length m < n
+pub vars_correct : (n : ℕ) (i : Leaf) (m : List Lexeme) → length m < n
     → Correct (Vars ∷ []) (λ _. []) (λ z d w. IsDecl (tok Var i ∷ z) d) m (group (binding n) n m >>= given (λ bs. tree.Vars bs i.at))
 vars_correct n i m h =
     correct_given _ (group_correct {L = VarList} (binding n) (length m) (λ l e. binding_correct n l (omega arith))
@@ -71,28 +71,28 @@ vars_correct n i m h =
 
 -- ---- functions
 
-result_by_correct : (n : ℕ) (k : Terminal) (i : Leaf) (m : List Term) → length m + 1 < n
+result_by_correct : (n : ℕ) (k : Terminal) (i : Leaf) (m : List Lexeme) → length m + 1 < n
     → Correct (Result ∷ []) (λ _. Block ∷ []) (λ z r w. IsResult z r) (tok k i ∷ m) (result_by n k (tok k i ∷ m))
 unfolding run step
 result_by_correct n OpenBrace i m h = done [] refl g.none (λ s. refl)
 result_by_correct n k i m h =
     same_start (correct_given _ (correct_under (Block ∷ []) (type_correct n (tok k i ∷ m) (omega arith))) (λ z t w d. g.some d)) (λ s. starts_as Result AType (Block ∷ []) (tok k i) m s refl refl refl)
 
-result_correct : (n : ℕ) (l : List Term) → length l < n
+result_correct : (n : ℕ) (l : List Lexeme) → length l < n
     → Correct (Result ∷ []) (λ _. Block ∷ []) (λ z r w. IsResult z r) l (result_on n l (first_of l))
 unfolding run closes
 result_correct n [] h = stops (λ s. refl)
 result_correct n (t ∷ l) h = result_by_correct n t.terminal t.leaf l (omega arith)
 
 module _ (n : ℕ) where
-  body_correct : (i j k : Leaf) (x y : List Term) (ps : List Binding) (r : Option tree.TypeExpr) (l : List Term) → 4 * length l + 4 ≤ n
+  body_correct : (i j k : Leaf) (x y : List Lexeme) (ps : List Binding) (r : Option tree.TypeExpr) (l : List Lexeme) → 4 * length l + 4 ≤ n
       → Listed IsBinding Comma CloseParen x ps → IsResult y r
       → Correct (Block ∷ []) (λ _. []) (λ z d w. IsDecl (tok Func i ∷ tok Name j ∷ tok OpenParen k ∷ (x ++ (y ++ z))) d) l
       (block n l >>= given (λ b. function i j ps r b.0 b.1))
   body_correct i j k x y ps r l h p q =
       correct_given _ (block_correct n l h) (λ z b w d. rw d.2 (g.func i j k d.0 b.1 p q d.3))
 
-  pub func_correct : (i : Leaf) (l : List Term) → 4 * length l + 4 ≤ n
+  pub func_correct : (i : Leaf) (l : List Lexeme) → 4 * length l + 4 ≤ n
       → Correct (T Name ∷ T OpenParen ∷ Params ∷ Result ∷ []) (λ _. []) (λ z d w. IsDecl (tok Func i ∷ z) d) l (func n i l)
   func_correct i l h =
       correct_token_then Name refl (λ j w c. correct_token_then OpenParen refl (λ k u d.

@@ -12,9 +12,9 @@ use Rattle.rgo_grammar.specs.Grammar.{IsPrimary, IsType, IsMakeEnd, Listed, IsEx
 use Rattle.rgo_grammar.specs.ReadExprs.{exprs, make_end, make_end_by, capacity, capacity_by, sized, sized_by, make_slice, made, made_by, new_at, parens, operand_by, post_by}
 use Rattle.rgo_grammar.specs.ReadTypes.{a_type}
 use Rattle.rgo_grammar.specs.Reading.{Read}
-use Rattle.rgo_grammar.specs.Terms.{Leaf, Term, tok, ident}
-use Rattle.rgo_grammar.specs.declared.terminals.Terminal.TheVariants.{CloseParen, Comma, Name, New, Make, Number, Text, Binary, Bang, Ampersand, Arrow, OpenParen, OpenBracket, CloseBracket, Dot, Chan}
-use Rattle.rgo_grammar.specs.declared.terminals.Terminal.{Terminal}
+use Rattle.rgo_lexer.specs.Lexemes.{Leaf, Lexeme, tok, ident}
+use Rattle.rgo_lexer.specs.declared.terminals.Terminal.TheVariants.{CloseParen, Comma, Name, New, Make, Number, Text, Binary, Bang, Ampersand, Arrow, OpenParen, OpenBracket, CloseBracket, Dot, Chan}
+use Rattle.rgo_lexer.specs.declared.terminals.Terminal.{Terminal}
 use Rattle.rgo_grammar.proofs.machine.Table.{Sym, Bin, Args, expr_row, T, Unary, Post, step, AType, MakeType, MakeSize, MakeMore, MakeEnd, closer}
 use Rattle.rgo_grammar.proofs.machine.Runs.{run, closes}
 use Rattle.rgo_grammar.proofs.machine.Starts.{starts_as}
@@ -35,7 +35,7 @@ unsigned _ = true
 
 -- ---- `new`, and the end of `make`
 
-make_end_by_correct : (k : Terminal) (i : Leaf) (l : List Term)
+make_end_by_correct : (k : Terminal) (i : Leaf) (l : List Lexeme)
     → Correct (MakeEnd ∷ []) (λ _. []) (λ z j w. IsMakeEnd z) (tok k i ∷ l) (make_end_by k (tok k i ∷ l) l)
 unfolding run step
 make_end_by_correct CloseParen i l = done (tok CloseParen i ∷ []) refl (plain i) (λ s. refl)
@@ -43,12 +43,12 @@ make_end_by_correct Comma i l =
     token_read (correct_weaker (correct_token CloseParen refl) (λ z j w c e. rw e (comma i j))) (λ s. refl)
 make_end_by_correct _ i l = stops (λ s. refl)
 
-pub make_end_correct : (l : List Term) → Correct (MakeEnd ∷ []) (λ _. []) (λ z j w. IsMakeEnd z) l (make_end l)
+pub make_end_correct : (l : List Lexeme) → Correct (MakeEnd ∷ []) (λ _. []) (λ z j w. IsMakeEnd z) l (make_end l)
 unfolding run closes
 make_end_correct [] = stops (λ s. refl)
 make_end_correct (t ∷ l) = make_end_by_correct t.terminal t.leaf l
 
-pub new_correct : (i : Leaf) (l : List Term)
+pub new_correct : (i : Leaf) (l : List Lexeme)
     → Correct (T OpenParen ∷ T Name ∷ T CloseParen ∷ []) (λ _. []) (λ z v w. IsPrimary (tok New i ∷ z) v) l (new_at i l)
 new_correct i l =
     correct_token_then OpenParen refl (λ j w c.
@@ -57,18 +57,18 @@ new_correct i l =
 
 -- ---- lists of expressions
 
-exprs_listed : {closer : Terminal} {z : List Term} {vs : List tree.Expr} → Listed (IsExpr false 1) Comma closer z vs → IsExprs closer z vs
+exprs_listed : {closer : Terminal} {z : List Lexeme} {vs : List tree.Expr} → Listed (IsExpr false 1) Comma closer z vs → IsExprs closer z vs
 exprs_listed (none_item j) = none j
 exprs_listed (last_item j h) = last j h
 exprs_listed (next_item j h d) = more j h (exprs_listed d)
 
-abbrev pub IsValue : List Term → tree.Expr → List Term → Type 0
+abbrev pub IsValue : List Lexeme → tree.Expr → List Lexeme → Type 0
 IsValue z v w = IsExpr false 1 z v
 
 -- `inner` reads an expression in brackets, of lists up to a bound
-module _ (bound : ℕ) (inner : List Term → Read tree.Expr) (inner_c : (m : List Term) → length m ≤ bound → Reads inner m) where
+module _ (bound : ℕ) (inner : List Lexeme → Read tree.Expr) (inner_c : (m : List Lexeme) → length m ≤ bound → Reads inner m) where
   pub exprs_correct : {closer : Terminal} {L E : Sym} → ListSyms Comma closer (expr_row false (Bin false ∷ E ∷ [])) L E
-      → (n : ℕ) (l : List Term) → length l < n → length l ≤ bound
+      → (n : ℕ) (l : List Lexeme) → length l < n → length l ≤ bound
       → Correct (L ∷ []) (λ _. []) (λ z x w. IsExprs closer z x.0) l (exprs closer n inner l)
   exprs_correct {L = L} {E = E} syms n l h b =
       correct_weaker (list_correct inner bound syms
@@ -76,17 +76,17 @@ module _ (bound : ℕ) (inner : List Term → Read tree.Expr) (inner_c : (m : Li
       (λ s. starts_as L (Unary false) (Bin false ∷ E ∷ []) t m s (rw (syms.list_row, e) refl) syms.list_stays refl)) n l h b)
       (λ z x w c d. exprs_listed d)
 
-  pub args_correct : (n : ℕ) (l : List Term) → length l < n → length l ≤ bound
+  pub args_correct : (n : ℕ) (l : List Lexeme) → length l < n → length l ≤ bound
       → Correct (Args ∷ []) (λ _. []) (λ z x w. IsExprs CloseParen z x.0) l (exprs CloseParen n inner l)
   args_correct = exprs_correct (list_syms refl refl refl refl refl refl)
 
   -- ---- `make`
 
   -- behind `make ( chan Type ,`
-  abbrev IsSized : Leaf → Leaf → Leaf → Leaf → List Term → List Term → tree.Expr → List Term → Type 0
+  abbrev IsSized : Leaf → Leaf → Leaf → Leaf → List Lexeme → List Lexeme → tree.Expr → List Lexeme → Type 0
   IsSized i j k c x z v w = IsPrimary (tok Make i ∷ tok OpenParen j ∷ tok Chan k ∷ (x ++ tok Comma c ∷ z)) v
 
-  capacity_by_correct : (i j k c : Leaf) (x : List Term) (t : tree.TypeExpr) (q : Terminal) (d : Leaf) (l : List Term) → IsType x t
+  capacity_by_correct : (i j k c : Leaf) (x : List Lexeme) (t : tree.TypeExpr) (q : Terminal) (d : Leaf) (l : List Lexeme) → IsType x t
       → length l < bound
       → Correct (MakeMore ∷ []) (λ _. []) (IsSized i j k c x) (tok q d ∷ l) (capacity_by inner t i q (tok q d ∷ l) l)
   unfolding run step
@@ -96,17 +96,17 @@ module _ (bound : ℕ) (inner : List Term → Read tree.Expr) (inner_c : (m : Li
       (λ y v w _ hy. correct_given _ (make_end_correct w) (λ z _ u hz. make_sized i j k c h hy hz)))
       (λ s. starts_as MakeMore (Unary false) (Bin false ∷ MakeEnd ∷ []) (tok q d) l s refl refl refl)
 
-  capacity_correct : (i j k c : Leaf) (x : List Term) (t : tree.TypeExpr) (l : List Term) → IsType x t → length l ≤ bound
+  capacity_correct : (i j k c : Leaf) (x : List Lexeme) (t : tree.TypeExpr) (l : List Lexeme) → IsType x t → length l ≤ bound
       → Correct (MakeMore ∷ []) (λ _. []) (IsSized i j k c x) l (capacity inner t i l)
   unfolding run closes
   capacity_correct i j k c x t [] h b = stops (λ s. refl)
   capacity_correct i j k c x t (d ∷ l) h b = capacity_by_correct i j k c x t d.terminal d.leaf l h (omega arith)
 
   -- behind `make ( chan Type`
-  abbrev IsChan : Leaf → Leaf → Leaf → List Term → List Term → tree.Expr → List Term → Type 0
+  abbrev IsChan : Leaf → Leaf → Leaf → List Lexeme → List Lexeme → tree.Expr → List Lexeme → Type 0
   IsChan i j k x z v w = IsPrimary (tok Make i ∷ tok OpenParen j ∷ tok Chan k ∷ (x ++ z)) v
 
-  sized_by_correct : (i j k : Leaf) (x : List Term) (t : tree.TypeExpr) (q : Terminal) (d : Leaf) (l : List Term) → IsType x t → length l < bound
+  sized_by_correct : (i j k : Leaf) (x : List Lexeme) (t : tree.TypeExpr) (q : Terminal) (d : Leaf) (l : List Lexeme) → IsType x t → length l < bound
       → Correct (MakeSize ∷ []) (λ _. []) (IsChan i j k x) (tok q d ∷ l) (sized_by inner t i q (tok q d ∷ l) l)
   unfolding run step
   sized_by_correct i j k x t CloseParen d l h b = done (tok CloseParen d ∷ []) refl (make_chan i j k h (plain d)) (λ s. refl)
@@ -114,17 +114,17 @@ module _ (bound : ℕ) (inner : List Term → Read tree.Expr) (inner_c : (m : Li
       token_read (capacity_correct i j k d x t l h (omega arith)) (λ s. refl)
   sized_by_correct i j k x t q d l h b = stops (λ s. refl)
 
-  sized_correct : (i j k : Leaf) (x : List Term) (t : tree.TypeExpr) (l : List Term) → IsType x t → length l ≤ bound
+  sized_correct : (i j k : Leaf) (x : List Lexeme) (t : tree.TypeExpr) (l : List Lexeme) → IsType x t → length l ≤ bound
       → Correct (MakeSize ∷ []) (λ _. []) (IsChan i j k x) l (sized inner t i l)
   unfolding run closes
   sized_correct i j k x t [] h b = stops (λ s. refl)
   sized_correct i j k x t (d ∷ l) h b = sized_by_correct i j k x t d.terminal d.leaf l h (omega arith)
 
   -- behind `make ( [ ] Type`
-  abbrev IsSlice : Leaf → Leaf → Leaf → Leaf → List Term → List Term → tree.Expr → List Term → Type 0
+  abbrev IsSlice : Leaf → Leaf → Leaf → Leaf → List Lexeme → List Lexeme → tree.Expr → List Lexeme → Type 0
   IsSlice i j k m x z v w = IsPrimary (tok Make i ∷ tok OpenParen j ∷ tok OpenBracket k ∷ tok CloseBracket m ∷ (x ++ z)) v
 
-  slice_correct : (i j k m : Leaf) (x : List Term) (t : tree.TypeExpr) (l : List Term) → IsType x t → length l ≤ bound
+  slice_correct : (i j k m : Leaf) (x : List Lexeme) (t : tree.TypeExpr) (l : List Lexeme) → IsType x t → length l ≤ bound
       → Correct (T Comma ∷ Unary false ∷ Bin false ∷ MakeEnd ∷ []) (λ _. []) (IsSlice i j k m x) l (make_slice inner i t l)
   slice_correct i j k m x t l h b =
       correct_token_then Comma refl (λ c w d.
@@ -132,11 +132,11 @@ module _ (bound : ℕ) (inner : List Term → Read tree.Expr) (inner_c : (m : Li
       correct_given _ (make_end_correct u) (λ z _ _ hz. is_slice i j k m c h hy hz)))
 
   -- behind `make (`
-  abbrev IsMade : Leaf → Leaf → List Term → tree.Expr → List Term → Type 0
+  abbrev IsMade : Leaf → Leaf → List Lexeme → tree.Expr → List Lexeme → Type 0
   IsMade i j z v w = IsPrimary (tok Make i ∷ tok OpenParen j ∷ z) v
 
-  made_by_correct : (n : ℕ) → bound < n → (i j : Leaf) (q : Terminal) (d : Leaf) (l : List Term) → length l < bound
-      → ((m : List Term) → length m < n → Correct (AType ∷ []) (λ _. []) (λ z t w. IsType z t) m (a_type n m))
+  made_by_correct : (n : ℕ) → bound < n → (i j : Leaf) (q : Terminal) (d : Leaf) (l : List Lexeme) → length l < bound
+      → ((m : List Lexeme) → length m < n → Correct (AType ∷ []) (λ _. []) (λ z t w. IsType z t) m (a_type n m))
       → Correct (MakeType ∷ []) (λ _. []) (IsMade i j) (tok q d ∷ l) (made_by n inner i q (tok q d ∷ l) l)
   unfolding run step
   made_by_correct n big i j OpenBracket d l b type_c =
@@ -148,8 +148,8 @@ module _ (bound : ℕ) (inner : List Term → Read tree.Expr) (inner_c : (m : Li
       sized_correct i j d x t u h (omega (arith, shorter l x u e)))) (λ s. refl)
   made_by_correct n big i j q d l b type_c = stops (λ s. refl)
 
-  pub made_correct : (n : ℕ) → bound < n → (i j : Leaf) (l : List Term) → length l ≤ bound
-      → ((m : List Term) → length m < n → Correct (AType ∷ []) (λ _. []) (λ z t w. IsType z t) m (a_type n m))
+  pub made_correct : (n : ℕ) → bound < n → (i j : Leaf) (l : List Lexeme) → length l ≤ bound
+      → ((m : List Lexeme) → length m < n → Correct (AType ∷ []) (λ _. []) (λ z t w. IsType z t) m (a_type n m))
       → Correct (MakeType ∷ []) (λ _. []) (λ z v w. IsPrimary (tok Make i ∷ tok OpenParen j ∷ z) v) l (made n inner i l)
   unfolding run closes
   made_correct n big i j [] b type_c = stops (λ s. refl)
@@ -157,13 +157,13 @@ module _ (bound : ℕ) (inner : List Term → Read tree.Expr) (inner_c : (m : Li
 
   -- ---- primary expressions
 
-  parens_correct : (i : Leaf) (l : List Term) → length l ≤ bound
+  parens_correct : (i : Leaf) (l : List Lexeme) → length l ≤ bound
       → Correct (Unary false ∷ Bin false ∷ T CloseParen ∷ []) (λ _. []) (λ z v w. IsPrimary (tok OpenParen i ∷ z) v) l (parens inner i l)
   parens_correct i l b =
       correct_then (inner_c l b) (λ x v w c h.
       correct_token_given CloseParen _ refl (λ j w. in_parens i j h))
 
-  pub operand_by_correct : (n : ℕ) → bound < n → (h : Bool) (k : Terminal) (i : Leaf) (l : List Term) → length l ≤ bound → unsigned k ≡ true
+  pub operand_by_correct : (n : ℕ) → bound < n → (h : Bool) (k : Terminal) (i : Leaf) (l : List Lexeme) → length l ≤ bound → unsigned k ≡ true
       → Correct (Unary h ∷ []) (λ _. Post ∷ []) (λ z v w. IsPrimary z v) (tok k i ∷ l) (operand_by n inner k i (tok k i ∷ l) l)
   unfolding run step
   operand_by_correct n big h (Binary op.Add) i l b u = cc
@@ -186,9 +186,9 @@ module _ (bound : ℕ) (inner : List Term → Read tree.Expr) (inner_c : (m : Li
 
   -- what was read so far has the tokens x
   pub post_by_correct : (n : ℕ) → bound < n
-      → (again : tree.Expr → List Term → Read tree.Expr) (v : tree.Expr) (x : List Term) (k : Terminal) (i : Leaf) (l : List Term)
+      → (again : tree.Expr → List Lexeme → Read tree.Expr) (v : tree.Expr) (x : List Lexeme) (k : Terminal) (i : Leaf) (l : List Lexeme)
       → length l ≤ bound → IsPrimary x v
-      → ((u : tree.Expr) (y m : List Term) → IsPrimary y u → length m ≤ length l → Correct (Post ∷ []) (λ _. [])
+      → ((u : tree.Expr) (y m : List Lexeme) → IsPrimary y u → length m ≤ length l → Correct (Post ∷ []) (λ _. [])
       (λ z u w. IsPrimary (y ++ z) u) m (again u m))
       → Correct (Post ∷ []) (λ _. []) (λ z u w. IsPrimary (x ++ z) u) (tok k i ∷ l) (post_by n inner again v k i (tok k i ∷ l) l)
   unfolding run step

@@ -10,9 +10,9 @@ use Rattle.rgo_grammar.specs.Grammar.IsPrimary.{number, text, name, parens, new,
 use Rattle.rgo_grammar.specs.Grammar.IsUnary.{signed, literal, keyed, primary}
 use Rattle.rgo_grammar.specs.Grammar.{IsExpr, level, sign, IsUnary, IsPrimary}
 use Rattle.rgo_grammar.specs.Reading.{Read}
-use Rattle.rgo_grammar.specs.Terms.{Leaf, Term, tok, same}
-use Rattle.rgo_grammar.specs.declared.terminals.Terminal.TheVariants.{Binary, Assign, Name, New, Make, Number, Text, Bang, Ampersand, Arrow, OpenParen, CloseParen, OpenBracket, CloseBracket, OpenBrace, CloseBrace, Comma, Dot, Chan}
-use Rattle.rgo_grammar.specs.declared.terminals.Terminal.{Terminal}
+use Rattle.rgo_lexer.specs.Lexemes.{Leaf, Lexeme, tok, same}
+use Rattle.rgo_lexer.specs.declared.terminals.Terminal.TheVariants.{Binary, Assign, Name, New, Make, Number, Text, Bang, Ampersand, Arrow, OpenParen, CloseParen, OpenBracket, CloseBracket, OpenBrace, CloseBrace, Comma, Dot, Chan}
+use Rattle.rgo_lexer.specs.declared.terminals.Terminal.{Terminal}
 use Rattle.rgo_grammar.proofs.machine.Table.{Sym, Unary, Bin, step}
 use Rattle.rgo_grammar.proofs.machine.Runs.{run, closes}
 use Rattle.rgo_grammar.proofs.reading.Complete.{Opens}
@@ -23,7 +23,7 @@ abbrev pub level_of : Terminal → ℕ
 level_of (Binary o) = level o
 level_of _ = 0
 
-abbrev pub top : List Term → ℕ
+abbrev pub top : List Lexeme → ℕ
 top [] = 0
 top (t ∷ l) = level_of t.terminal
 
@@ -46,13 +46,13 @@ starts New = true
 starts Make = true
 starts _ = false
 
-abbrev pub Starts : List Term → Type 0
-Starts x = (t : Term) × (y : List Term) × (x ≡ t ∷ y) × (starts t.terminal ≡ true)
+abbrev pub Starts : List Lexeme → Type 0
+Starts x = (t : Lexeme) × (y : List Lexeme) × (x ≡ t ∷ y) × (starts t.terminal ≡ true)
 
-pub starts_append : (x z : List Term) → Starts x → Starts (x ++ z)
+pub starts_append : (x z : List Lexeme) → Starts x → Starts (x ++ z)
 starts_append x z (t, y, e, h) = (t, y ++ z, ap (λ w. w ++ z) e, h)
 
-pub starts_some : (x : List Term) → Starts x → 1 ≤ length x
+pub starts_some : (x : List Lexeme) → Starts x → 1 ≤ length x
 starts_some x (t, y, e, h) = rw e (omega arith)
 
 sign_starts : (k : Terminal) (o : UnaryOp) → sign k ≡ Some o → starts k ≡ true
@@ -63,17 +63,17 @@ sign_starts Arrow o h = refl
 sign_starts _ o h = cc
 
 mutual
-  pub expr_starts : {h : Bool} {p : ℕ} {x : List Term} {v : tree.Expr} → IsExpr h p x v → Starts x
+  pub expr_starts : {h : Bool} {p : ℕ} {x : List Lexeme} {v : tree.Expr} → IsExpr h p x v → Starts x
   expr_starts (unary u) = unary_starts u
   expr_starts (binary o i {x} {y} l f g) = starts_append x (tok (Binary o) i ∷ y) (expr_starts f)
 
-  pub unary_starts : {h : Bool} {x : List Term} {v : tree.Expr} → IsUnary h x v → Starts x
+  pub unary_starts : {h : Bool} {x : List Lexeme} {v : tree.Expr} → IsUnary h x v → Starts x
   unary_starts (signed k o i {x} s u) = (tok k i, x, refl, sign_starts k o s)
   unary_starts (literal i j k {y} d) = (tok Ampersand i, tok Name j ∷ tok OpenBrace k ∷ y, refl, refl)
   unary_starts (keyed i j k {y} d) = (tok Ampersand i, tok Name j ∷ tok OpenBrace k ∷ y, refl, refl)
   unary_starts (primary p) = primary_starts p
 
-  pub primary_starts : {x : List Term} {v : tree.Expr} → IsPrimary x v → Starts x
+  pub primary_starts : {x : List Lexeme} {v : tree.Expr} → IsPrimary x v → Starts x
   primary_starts (number n i) = (tok (Number n) i, [], refl, refl)
   primary_starts (text i) = (tok Text i, [], refl, refl)
   primary_starts (name i) = (tok Name i, [], refl, refl)
@@ -100,16 +100,16 @@ pub brace_closes : Closes CloseBrace
 brace_closes CloseBrace h = cc
 brace_closes _ h = refl
 
-pub starts_open : (closer : Terminal) (x : List Term) → Closes closer → Starts x → Opens closer x
+pub starts_open : (closer : Terminal) (x : List Lexeme) → Closes closer → Starts x → Opens closer x
 starts_open closer x c (t, y, e, h) = (t, y, e, c t.terminal h)
 
 -- ---- the machine
 
 -- an expression in brackets is read as it should be at l
-abbrev pub Reads : (List Term → Read tree.Expr) → List Term → Type 0
+abbrev pub Reads : (List Lexeme → Read tree.Expr) → List Lexeme → Type 0
 Reads inner l = Correct (Unary false ∷ Bin false ∷ []) (λ _. []) (λ z v w. IsExpr false 1 z v) l (inner l)
 
-pub operator_run : (h : Bool) (o : BinaryOp) (i : Leaf) (l : List Term) (s : List Sym)
+pub operator_run : (h : Bool) (o : BinaryOp) (i : Leaf) (l : List Lexeme) (s : List Sym)
     → run (tok (Binary o) i ∷ l) (Bin h ∷ s) ≡ run l (Unary h ∷ Bin h ∷ s)
 unfolding run step
 operator_run h op.Add i l s = refl
@@ -119,7 +119,7 @@ operator_run h op.Div i l s = refl
 operator_run h op.Rem i l s = refl
 operator_run h _ i l s = refl
 
-bin_passes : (h : Bool) (k : Terminal) (i : Leaf) (l : List Term) (s : List Sym) → level_of k < 1
+bin_passes : (h : Bool) (k : Terminal) (i : Leaf) (l : List Lexeme) (s : List Sym) → level_of k < 1
     → run (tok k i ∷ l) (Bin h ∷ s) ≡ run (tok k i ∷ l) s
 unfolding run step
 bin_passes h (Binary o) i l s e = absurd (omega (arith, level_some o))
@@ -127,7 +127,7 @@ bin_passes h (Assign assign_op.Plain) i l s e = refl
 bin_passes h _ i l s e = refl
 
 -- where no operator comes next, none is waited for
-pub bin_pops : (h : Bool) (w : List Term) (s : List Sym) → top w < 1 → run w (Bin h ∷ s) ≡ run w s
+pub bin_pops : (h : Bool) (w : List Lexeme) (s : List Sym) → top w < 1 → run w (Bin h ∷ s) ≡ run w s
 unfolding run closes
 bin_pops h [] s e = refl
 bin_pops h (t ∷ w) s e = bin_passes h t.terminal t.leaf w s e

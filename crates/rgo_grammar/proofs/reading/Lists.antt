@@ -1,8 +1,8 @@
 -- Reading lists and groups is correct, where reading an item is.
 use Rattle.std.proofs.Common.{◌≡◌, ℕ, zero, suc, ◌+◌, ◌<◌, ◌≤◌, ◌⊎◌, inl, inr, Bool, true, false, cond, List, [], ◌∷◌, ◌++◌, length, refl, sym, ◌∙◌, append_assoc, arith, append-nil, ◌-◌}
-use Rattle.rgo_grammar.specs.declared.terminals.Terminal.{Terminal}
-use Rattle.rgo_grammar.specs.declared.terminals.Terminal.TheVariants.{OpenParen, CloseParen, Semicolon}
-use Rattle.rgo_grammar.specs.Terms.{Leaf, Term, tok, same, plain}
+use Rattle.rgo_lexer.specs.declared.terminals.Terminal.{Terminal}
+use Rattle.rgo_lexer.specs.declared.terminals.Terminal.TheVariants.{OpenParen, CloseParen, Semicolon}
+use Rattle.rgo_lexer.specs.Lexemes.{Leaf, Lexeme, tok, same, plain}
 use Rattle.rgo_grammar.specs.Grammar.{Listed}
 use Rattle.rgo_grammar.specs.Grammar.Listed.{none, last, more}
 use Rattle.rgo_grammar.specs.Reading.{Read, Done, Failed, At, ◌>>=◌, ended, listed, single, several}
@@ -28,20 +28,20 @@ list_syms p q r n e m =
     record { plain_separator = p; plain_closer = q; list_row = r; list_stays = n; end_row = e; end_stays = m }
 
 module _ {A : Type 0} {separator closer : Terminal} {items : Row} {L E : Sym} (syms : ListSyms separator closer items L E)
-    (item : List Term → Read (List A)) (I : List Term → List A → Type 0) (R : List Term → List A → Leaf → Type 0)
+    (item : List Lexeme → Read (List A)) (I : List Lexeme → List A → Type 0) (R : List Lexeme → List A → Leaf → Type 0)
     (bound : ℕ)
-    (item_c : (t : Term) (l : List Term) → length l < bound → same closer t.terminal ≡ false
+    (item_c : (t : Lexeme) (l : List Lexeme) → length l < bound → same closer t.terminal ≡ false
     → Correct (L ∷ []) (λ _. E ∷ []) (λ z a w. I z a) (t ∷ l) (item (t ∷ l)))
     (r_none : (j : Leaf) → R (tok closer j ∷ []) [] j)
-    (r_last : (z : List Term) (a : List A) (j : Leaf) → I z a → R (z ++ tok closer j ∷ []) a j)
-    (r_more : (z : List Term) (a : List A) (i : Leaf) (y : List Term) (b : List A) (j : Leaf) → I z a → R y b j
+    (r_last : (z : List Lexeme) (a : List A) (j : Leaf) → I z a → R (z ++ tok closer j ∷ []) a j)
+    (r_more : (z : List Lexeme) (a : List A) (i : Leaf) (y : List Lexeme) (b : List A) (j : Leaf) → I z a → R y b j
     → R (z ++ tok separator i ∷ y) (a ++ b) j) where
   -- what was found behind `found`, up to what closes the list
-  abbrev pub AreListed : List A → List Term → List A × Leaf → List Term → Type 0
+  abbrev pub AreListed : List A → List Lexeme → List A × Leaf → List Lexeme → Type 0
   AreListed found z x w = (new : List A) × (x.0 ≡ found ++ new) × R z new x.1
 
-  ended_by : (again : List A → List Term → Read (List A × Leaf)) (found new : List A) (l z : List Term) (k : Terminal) (i : Leaf)
-      (w : List Term) (c s : Bool)
+  ended_by : (again : List A → List Lexeme → Read (List A × Leaf)) (found new : List A) (l z : List Lexeme) (k : Terminal) (i : Leaf)
+      (w : List Lexeme) (c s : Bool)
       → same closer k ≡ c → same separator k ≡ s → l ≡ z ++ tok k i ∷ w → I z new
       → ((f : List A) → same separator k ≡ true → Correct (L ∷ []) (λ _. []) (AreListed f) w (again f w))
       → Correct (E ∷ []) (λ _. []) (λ x b u. AreListed found (z ++ x) b u) (tok k i ∷ w)
@@ -58,18 +58,18 @@ module _ {A : Type 0} {separator closer : Terminal} {items : Row} {L E : Sym} (s
       stops (λ v. refuses E (tok k i) w v (rw (syms.end_row, ce, se) refl) syms.end_stays)
 
   -- behind an item
-  pub ended_correct : (again : List A → List Term → Read (List A × Leaf)) (found new : List A) (l z w : List Term) → l ≡ z ++ w → I z new
-      → ((f : List A) (m : List Term) → length m < length w → Correct (L ∷ []) (λ _. []) (AreListed f) m (again f m))
+  pub ended_correct : (again : List A → List Lexeme → Read (List A × Leaf)) (found new : List A) (l z w : List Lexeme) → l ≡ z ++ w → I z new
+      → ((f : List A) (m : List Lexeme) → length m < length w → Correct (L ∷ []) (λ _. []) (AreListed f) m (again f m))
       → Correct (E ∷ []) (λ _. []) (λ x b u. AreListed found (z ++ x) b u) w (ended separator closer again (found ++ new) w)
   ended_correct again found new l z [] e h ih = stops (λ v. stays E v syms.end_stays)
   ended_correct again found new l z (t ∷ w) e h ih =
       ended_by again found new l z t.terminal t.leaf w (same closer t.terminal) (same separator t.terminal) refl refl e h
       (λ f _. ih f w (omega arith))
 
-  listed_by : (again : List A → List Term → Read (List A × Leaf)) (found : List A) (k : Terminal) (i : Leaf) (l : List Term) (c : Bool)
+  listed_by : (again : List A → List Lexeme → Read (List A × Leaf)) (found : List A) (k : Terminal) (i : Leaf) (l : List Lexeme) (c : Bool)
       → length l < bound
       → same closer k ≡ c
-      → ((f : List A) (m : List Term) → length m < length l + 1 → Correct (L ∷ []) (λ _. []) (AreListed f) m (again f m))
+      → ((f : List A) (m : List Lexeme) → length m < length l + 1 → Correct (L ∷ []) (λ _. []) (AreListed f) m (again f m))
       → Correct (L ∷ []) (λ _. []) (AreListed found) (tok k i ∷ l)
       (cond c (Done (found, i) l) (item (tok k i ∷ l) >>= λ a. ended separator closer again (found ++ a)))
   listed_by again found k i l true b ce ih =
@@ -79,7 +79,7 @@ module _ {A : Type 0} {separator closer : Terminal} {items : Row} {L E : Sym} (s
       correct_bind (item_c (tok k i) l b ce)
       (λ z a w e h. ended_correct again found a (tok k i ∷ l) z w e h (λ f m g. ih f m (omega (arith, shorter (tok k i ∷ l) z w e))))
 
-  pub listed_correct : (n : ℕ) (found : List A) (l : List Term) → length l < n → length l ≤ bound
+  pub listed_correct : (n : ℕ) (found : List A) (l : List Lexeme) → length l < n → length l ≤ bound
       → Correct (L ∷ []) (λ _. []) (AreListed found) l (listed separator closer item n found l)
   unfolding listed
   listed_correct zero found l h b = absurd (omega arith)
@@ -90,23 +90,23 @@ module _ {A : Type 0} {separator closer : Terminal} {items : Row} {L E : Sym} (s
 
 -- ---- items one by one
 
-abbrev IsOne : {A : Type 0} → (List Term → A → Type 0) → List Term → List A → Type 0
+abbrev IsOne : {A : Type 0} → (List Lexeme → A → Type 0) → List Lexeme → List A → Type 0
 IsOne {A} Item z l = (a : A) × (l ≡ a ∷ []) × Item z a
 
-list_last : {A : Type 0} {Item : List Term → A → Type 0} {separator closer : Terminal} (z : List Term) (l : List A) (j : Leaf)
+list_last : {A : Type 0} {Item : List Lexeme → A → Type 0} {separator closer : Terminal} (z : List Lexeme) (l : List A) (j : Leaf)
     → IsOne Item z l → Listed Item separator closer (z ++ tok closer j ∷ []) l
 list_last z l j (a, e, h) = rw e (last j h)
 
-list_more : {A : Type 0} {Item : List Term → A → Type 0} {separator closer : Terminal} (z : List Term) (l : List A) (i : Leaf)
-    (y : List Term) (m : List A) → IsOne Item z l → Listed Item separator closer y m
+list_more : {A : Type 0} {Item : List Lexeme → A → Type 0} {separator closer : Terminal} (z : List Lexeme) (l : List A) (i : Leaf)
+    (y : List Lexeme) (m : List A) → IsOne Item z l → Listed Item separator closer y m
     → Listed Item separator closer (z ++ tok separator i ∷ y) (l ++ m)
 list_more z l i y m (a, e, h) g = rw e (more i h g)
 
-pub list_correct : {A : Type 0} {separator closer : Terminal} {items : Row} {L E : Sym} {Item : List Term → A → Type 0}
-    (item : List Term → Read A) (bound : ℕ) → ListSyms separator closer items L E
-    → ((t : Term) (l : List Term) → length l < bound → same closer t.terminal ≡ false
+pub list_correct : {A : Type 0} {separator closer : Terminal} {items : Row} {L E : Sym} {Item : List Lexeme → A → Type 0}
+    (item : List Lexeme → Read A) (bound : ℕ) → ListSyms separator closer items L E
+    → ((t : Lexeme) (l : List Lexeme) → length l < bound → same closer t.terminal ≡ false
     → Correct (L ∷ []) (λ _. E ∷ []) (λ z a w. Item z a) (t ∷ l) (item (t ∷ l)))
-    → (n : ℕ) (l : List Term) → length l < n → length l ≤ bound
+    → (n : ℕ) (l : List Lexeme) → length l < n → length l ≤ bound
     → Correct (L ∷ []) (λ _. []) (λ z x w. Listed Item separator closer z x.0) l (several separator closer item n [] l)
 unfolding several
 list_correct {separator = separator} {closer = closer} {Item = Item} item bound syms hi n l h b =
@@ -115,10 +115,10 @@ list_correct {separator = separator} {closer = closer} {Item = Item} item bound 
     (λ j. none j) list_last (λ z a i y m j f g. list_more z a i y m f g) n [] l h b) (λ z x w c g. rw g.1 g.2)
 
 -- each item of which begins with one kind of token
-pub token_list : {A : Type 0} {separator closer k : Terminal} {a : List Sym} {L E : Sym} {Item : List Term → A → Type 0}
-    (item : List Term → Read A) (bound : ℕ)
-    → ((l : List Term) → length l ≤ bound → Correct (T k ∷ a) (λ _. []) (λ z v w. Item z v) l (item l))
-    → ListSyms separator closer ((k, a ++ E ∷ []) ∷ []) L E → (n : ℕ) (l : List Term) → length l < n → length l ≤ bound
+pub token_list : {A : Type 0} {separator closer k : Terminal} {a : List Sym} {L E : Sym} {Item : List Lexeme → A → Type 0}
+    (item : List Lexeme → Read A) (bound : ℕ)
+    → ((l : List Lexeme) → length l ≤ bound → Correct (T k ∷ a) (λ _. []) (λ z v w. Item z v) l (item l))
+    → ListSyms separator closer ((k, a ++ E ∷ []) ∷ []) L E → (n : ℕ) (l : List Lexeme) → length l < n → length l ≤ bound
     → Correct (L ∷ []) (λ _. []) (λ z x w. Listed Item separator closer z x.0) l (several separator closer item n [] l)
 token_list {k = k} {a = a} {L = L} {E = E} item bound hi syms n l h b =
     list_correct item bound syms
@@ -127,14 +127,14 @@ token_list {k = k} {a = a} {L = L} {E = E} item bound hi syms n l h b =
 
 -- ---- one item, or a group of them in parentheses
 
-abbrev pub IsGroup : {A : Type 0} → (List Term → A → Type 0) → List Term → List A → Type 0
-IsGroup Item z l = IsOne Item z l ⊎ ((j : Leaf) × (y : List Term) × (z ≡ tok OpenParen j ∷ y) × Listed Item Semicolon CloseParen y l)
+abbrev pub IsGroup : {A : Type 0} → (List Lexeme → A → Type 0) → List Lexeme → List A → Type 0
+IsGroup Item z l = IsOne Item z l ⊎ ((j : Leaf) × (y : List Lexeme) × (z ≡ tok OpenParen j ∷ y) × Listed Item Semicolon CloseParen y l)
 
-module _ {A : Type 0} {k : Terminal} {a : List Sym} {G L E : Sym} {Item : List Term → A → Type 0} (item : List Term → Read A) (bound : ℕ)
-    (item_c : (l : List Term) → length l ≤ bound → Correct (T k ∷ a) (λ _. []) (λ z v w. Item z v) l (item l))
+module _ {A : Type 0} {k : Terminal} {a : List Sym} {G L E : Sym} {Item : List Lexeme → A → Type 0} (item : List Lexeme → Read A) (bound : ℕ)
+    (item_c : (l : List Lexeme) → length l ≤ bound → Correct (T k ∷ a) (λ _. []) (λ z v w. Item z v) l (item l))
     (syms : ListSyms Semicolon CloseParen ((k, a ++ E ∷ []) ∷ []) L E)
     (group_row : row G ≡ (OpenParen, L ∷ []) ∷ (k, a) ∷ []) (group_stays : nullable G ≡ false) where
-  group_by_correct : (n : ℕ) (j : Terminal) (i : Leaf) (m : List Term) → length m < n → length m < bound
+  group_by_correct : (n : ℕ) (j : Terminal) (i : Leaf) (m : List Lexeme) → length m < n → length m < bound
       → Correct (G ∷ []) (λ _. []) (λ z l w. IsGroup Item z l) (tok j i ∷ m) (group_by item n j (tok j i ∷ m) m)
   group_by_correct n OpenParen i m h b =
       token_read (correct_given _ (token_list item bound item_c syms n m h (omega arith)) (λ z x w d. inr (i, z, refl, d)))
@@ -143,7 +143,7 @@ module _ {A : Type 0} {k : Terminal} {a : List Sym} {G L E : Sym} {Item : List T
       same_start (correct_given _ (item_c (tok j i ∷ m) (omega arith)) (λ z v w d. inl (v, refl, d)))
       (λ s. one_start G k a (tok j i) m s (rw group_row refl) group_stays)
 
-  pub group_correct : (n : ℕ) (l : List Term) → length l ≤ n → length l ≤ bound
+  pub group_correct : (n : ℕ) (l : List Lexeme) → length l ≤ n → length l ≤ bound
       → Correct (G ∷ []) (λ _. []) (λ z x w. IsGroup Item z x) l (group item n l)
   group_correct n [] h b = stops (λ s. stays G s group_stays)
   group_correct n (t ∷ l) h b = group_by_correct n t.terminal t.leaf l (omega arith) (omega arith)

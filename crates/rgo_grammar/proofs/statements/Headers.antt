@@ -1,9 +1,9 @@
 -- Reading the headers of `if` and `for`, up to the block or the first `;`, is correct.
 use Rattle.std.proofs.Common.{◌≡◌, ℕ, ◌+◌, ◌≤◌, Bool, true, false, List, [], ◌∷◌, ◌++◌, length, refl, arith, append-nil, ◌-◌}
 use Rattle.rgo_ast.specs.Tree as tree
-use Rattle.rgo_grammar.specs.declared.terminals.Terminal.{Terminal}
-use Rattle.rgo_grammar.specs.declared.terminals.Terminal.TheVariants.{Arrow, Assign, Step, OpenBrace, Semicolon}
-use Rattle.rgo_grammar.specs.Terms.{Leaf, Term, tok, same}
+use Rattle.rgo_lexer.specs.declared.terminals.Terminal.{Terminal}
+use Rattle.rgo_lexer.specs.declared.terminals.Terminal.TheVariants.{Arrow, Assign, Step, OpenBrace, Semicolon}
+use Rattle.rgo_lexer.specs.Lexemes.{Leaf, Lexeme, tok, same}
 use Rattle.rgo_grammar.specs.Grammar.{IsExpr, IsSimple, IsClause}
 use Rattle.rgo_grammar.specs.Grammar.IsSimple.{plain}
 use Rattle.rgo_grammar.specs.Grammar.IsClause.{empty, some}
@@ -28,18 +28,18 @@ abbrev before : Bool → Context
 before true = before_if
 before false = before_for
 
-abbrev pub IsHead : List Term → Head → Type 0
+abbrev pub IsHead : List Lexeme → Head → Type 0
 IsHead z (condition v) = IsExpr true 1 z v
-IsHead z (init s) = (y : List Term) × (j : Leaf) × (z ≡ y ++ tok Semicolon j ∷ []) × IsClause true y s
+IsHead z (init s) = (y : List Lexeme) × (j : Leaf) × (z ≡ y ++ tok Semicolon j ∷ []) × IsClause true y s
 
-abbrev HeadAt : List Term → List Term → Head → List Term → Type 0
+abbrev HeadAt : List Lexeme → List Lexeme → Head → List Lexeme → Type 0
 HeadAt x z h w = IsHead (x ++ z) h
 
-plain_of : {h d : Bool} {x : List Term} {v : tree.Expr} → IsSimple h d x (tree.Plain v) → IsExpr h 1 x v
+plain_of : {h d : Bool} {x : List Lexeme} {v : tree.Expr} → IsSimple h d x (tree.Plain v) → IsExpr h 1 x v
 plain_of (plain e) = e
 
 -- after an expression
-plain_end_by : (b : Bool) (x : List Term) (v : tree.Expr) (k : Terminal) (i : Leaf) (l : List Term) → IsExpr true 1 x v → tails k ≡ false
+plain_end_by : (b : Bool) (x : List Lexeme) (v : tree.Expr) (k : Terminal) (i : Leaf) (l : List Lexeme) → IsExpr true 1 x v → tails k ≡ false
     → Correct (Tail (before b) ∷ []) (after_head b) (HeadAt x) (tok k i ∷ l) (head_end_by (tree.Plain v) k (tok k i ∷ l) l)
 unfolding run step
 plain_end_by true x v OpenBrace i l e g = done [] refl (rw append-nil e) (λ s. refl)
@@ -53,8 +53,8 @@ plain_end_by true x v _ i l e g = stops (λ s. refl)
 plain_end_by false x v _ i l e g = stops (λ s. refl)
 
 -- after another simple statement
-other_end_by : (b : Bool) (x : List Term) (st : tree.Stmt) (k : Terminal) (i : Leaf) (l : List Term)
-    → IsSimple true true x st → ((m : List Term) → head_before_block st m ≡ Failed (At m))
+other_end_by : (b : Bool) (x : List Lexeme) (st : tree.Stmt) (k : Terminal) (i : Leaf) (l : List Lexeme)
+    → IsSimple true true x st → ((m : List Lexeme) → head_before_block st m ≡ Failed (At m))
     → Correct (rest (before b)) (after_head b) (HeadAt x) (tok k i ∷ l) (head_end_by st k (tok k i ∷ l) l)
 unfolding run step
 other_end_by true x st OpenBrace i l e g = rw g (stops (λ s. refl))
@@ -71,18 +71,18 @@ no_end false (tree.Plain v) s = refl
 no_end true _ s = refl
 no_end false _ s = refl
 
-head_end_some : (b : Bool) (x : List Term) (st : tree.Stmt) (t : Term) (l : List Term) → IsSimple true true x st → Left st (t ∷ l)
+head_end_some : (b : Bool) (x : List Lexeme) (st : tree.Stmt) (t : Lexeme) (l : List Lexeme) → IsSimple true true x st → Left st (t ∷ l)
     → Correct (leaves (before b) st) (after_head b) (HeadAt x) (t ∷ l) (head_end_by st t.terminal (t ∷ l) l)
 head_end_some b x (tree.Plain v) t l e g = plain_end_by b x v t.terminal t.leaf l (plain_of e) g
 head_end_some b x st t l e g = other_end_by b x st t.terminal t.leaf l e (λ m. refl)
 
-head_end_correct : (b : Bool) (x : List Term) (st : tree.Stmt) (w : List Term) → IsSimple true true x st → Left st w
+head_end_correct : (b : Bool) (x : List Lexeme) (st : tree.Stmt) (w : List Lexeme) → IsSimple true true x st → Left st w
     → Correct (leaves (before b) st) (after_head b) (HeadAt x) w (head_end_on st w (first_of w))
 head_end_correct b x st [] e g = stops (λ s. no_end b st s)
 head_end_correct b x st (t ∷ w) e g = head_end_some b x st t w e g
 
-module _ (m : ℕ) (value : List Term → Read tree.Expr) (value_c : Values true m value) where
-  if_head_by : (k : Terminal) (i : Leaf) (l : List Term) → length l + 1 ≤ m
+module _ (m : ℕ) (value : List Lexeme → Read tree.Expr) (value_c : Values true m value) where
+  if_head_by : (k : Terminal) (i : Leaf) (l : List Lexeme) → length l + 1 ≤ m
       → Correct (IfHead ∷ []) (after_head true) (λ z h w. IsHead z h) (tok k i ∷ l) (head_by value k (tok k i ∷ l) l)
   unfolding run step
   if_head_by Semicolon i l b = done (tok Semicolon i ∷ []) refl ([], i, refl, empty) (λ s. refl)
@@ -90,12 +90,12 @@ module _ (m : ℕ) (value : List Term → Read tree.Expr) (value_c : Values true
       correct_bind (defining_correct before_if m value value_c IfHead [] refl refl k i l b refl)
       (λ z st w e d. rw append-nil (head_end_correct true z st w d.0 d.1))
 
-  pub if_head_correct : (l : List Term) → length l ≤ m
+  pub if_head_correct : (l : List Lexeme) → length l ≤ m
       → Correct (IfHead ∷ []) (after_head true) (λ z h w. IsHead z h) l (head value l)
   if_head_correct [] b = stops (λ s. stays IfHead s refl)
   if_head_correct (t ∷ l) b = if_head_by t.terminal t.leaf l (omega (arith, b))
 
-  pub for_head_correct : (k : Terminal) (i : Leaf) (l : List Term) → length l + 1 ≤ m → same OpenBrace k ≡ false
+  pub for_head_correct : (k : Terminal) (i : Leaf) (l : List Lexeme) → length l + 1 ≤ m → same OpenBrace k ≡ false
       → Correct (ForHead ∷ []) (after_head false) (λ z h w. IsHead z h) (tok k i ∷ l) (head value (tok k i ∷ l))
   unfolding run step
   for_head_correct OpenBrace i l b f = cc

@@ -2,9 +2,9 @@
 use Rattle.std.proofs.Common.{◌≡◌, ℕ, ◌+◌, ◌<◌, ◌≤◌, false, List, [], ◌∷◌, ◌++◌, length, refl, ap, arith, append-nil, ◌-◌, inl, inr}
 use Rattle.rgo_ast.specs.declared.ops.AssignOp.TheVariants as assign_op
 use Rattle.rgo_ast.specs.Tree as tree
-use Rattle.rgo_grammar.specs.declared.terminals.Terminal.{Terminal}
-use Rattle.rgo_grammar.specs.declared.terminals.Terminal.TheVariants.{Name, Assign, OpenParen, Comma, Var}
-use Rattle.rgo_grammar.specs.Terms.{Leaf, Term, tok}
+use Rattle.rgo_lexer.specs.declared.terminals.Terminal.{Terminal}
+use Rattle.rgo_lexer.specs.declared.terminals.Terminal.TheVariants.{Name, Assign, OpenParen, Comma, Var}
+use Rattle.rgo_lexer.specs.Lexemes.{Leaf, Lexeme, tok}
 use Rattle.rgo_grammar.specs.Grammar.{IsType, IsLocal, IsStmt}
 use Rattle.rgo_grammar.specs.Grammar.IsNames.{one}
 use Rattle.rgo_grammar.specs.Grammar.IsBinding.{binding as of_names}
@@ -22,43 +22,43 @@ use Rattle.rgo_grammar.proofs.reading.Lists.{IsGroup, group_correct, list_syms}
 use Rattle.rgo_grammar.proofs.types.Correct.{type_correct, typed_names_correct}
 use Rattle.rgo_grammar.proofs.statements.Simple.{Values}
 
-abbrev LocalAt : List Term → List Term → tree.LocalVar → List Term → Type 0
+abbrev LocalAt : List Lexeme → List Lexeme → tree.LocalVar → List Lexeme → Type 0
 LocalAt x z v w = IsLocal (x ++ z) v
 
 -- the variables of a statement
-abbrev pub AreVars : List Term → List tree.LocalVar → List Term → Type 0
+abbrev pub AreVars : List Lexeme → List tree.LocalVar → List Lexeme → Type 0
 AreVars z vs w = (i : Leaf) → IsStmt (tok Var i ∷ z) (tree.Var vs i.at)
 
-vars_of : (z : List Term) (vs : List tree.LocalVar) (w : List Term) → IsGroup IsLocal z vs → AreVars z vs w
+vars_of : (z : List Lexeme) (vs : List tree.LocalVar) (w : List Lexeme) → IsGroup IsLocal z vs → AreVars z vs w
 vars_of z vs w (inl (v, e, h)) i = rw e (a_var i h)
 vars_of z vs w (inr (j, y, e, h)) i = rw e (some_vars i j h)
 
 -- one declaration, or a group of them in parentheses
-vars_by_group : (n : ℕ) (value : List Term → Read tree.Expr) (k : Terminal) (l m : List Term)
+vars_by_group : (n : ℕ) (value : List Lexeme → Read tree.Expr) (k : Terminal) (l m : List Lexeme)
     → vars_by n value k l m ≡ group_by (local n value) n k l m
 vars_by_group n value OpenParen l m = refl
 vars_by_group n value _ l m = refl
 
-pub vars_as_group : (n : ℕ) (value : List Term → Read tree.Expr) (l : List Term)
+pub vars_as_group : (n : ℕ) (value : List Lexeme → Read tree.Expr) (l : List Lexeme)
     → vars_on n value l (first_of l) ≡ group (local n value) n l
 vars_as_group n value [] = refl
 vars_as_group n value (t ∷ l) = vars_by_group n value t.terminal (t ∷ l) l
 
-module _ (n m : ℕ) (value : List Term → Read tree.Expr) (value_c : Values false m value) where
-  initial_by_correct : (i : Leaf) (x : List Term) (t : tree.TypeExpr) (k : Terminal) (j : Leaf) (l : List Term) → length l ≤ m → IsType x t
+module _ (n m : ℕ) (value : List Lexeme → Read tree.Expr) (value_c : Values false m value) where
+  initial_by_correct : (i : Leaf) (x : List Lexeme) (t : tree.TypeExpr) (k : Terminal) (j : Leaf) (l : List Lexeme) → length l ≤ m → IsType x t
       → Correct (Initial ∷ []) (λ _. []) (LocalAt (tok Name i ∷ x)) (tok k j ∷ l) (initial_by value i t k j (tok k j ∷ l) l)
   unfolding run step
   initial_by_correct i x t (Assign assign_op.Plain) j l b h =
       token_read (correct_given _ (value_c l b) (λ z v w g. typed i j h g)) (λ s. refl)
   initial_by_correct i x t _ j l b h = done [] refl (rw append-nil (zeroed (of_names (one i) h))) (λ s. refl)
 
-  initial_correct : (i : Leaf) (x : List Term) (t : tree.TypeExpr) (l : List Term) → length l ≤ m → IsType x t
+  initial_correct : (i : Leaf) (x : List Lexeme) (t : tree.TypeExpr) (l : List Lexeme) → length l ≤ m → IsType x t
       → Correct (Initial ∷ []) (λ _. []) (LocalAt (tok Name i ∷ x)) l (initial value i t l (first_of l))
   unfolding run closes
   initial_correct i x t [] b h = done [] refl (rw append-nil (zeroed (of_names (one i) h))) (λ s. refl)
   initial_correct i x t (u ∷ l) b h = initial_by_correct i x t u.terminal u.leaf l (omega (arith, b)) h
 
-  local_by_correct : (i : Leaf) (k : Terminal) (j : Leaf) (l : List Term) → length l + 1 < n → length l + 1 ≤ m
+  local_by_correct : (i : Leaf) (k : Terminal) (j : Leaf) (l : List Lexeme) → length l + 1 < n → length l + 1 ≤ m
       → Correct (LocalRest ∷ []) (λ _. []) (LocalAt (tok Name i ∷ [])) (tok k j ∷ l) (local_by n value i k j (tok k j ∷ l) l)
   unfolding run step
   local_by_correct i Comma j l a b =
@@ -70,18 +70,18 @@ module _ (n m : ℕ) (value : List Term → Read tree.Expr) (value_c : Values fa
       (λ z t w e h. initial_correct i z t w (omega (arith, b, shorter (tok k j ∷ l) z w e)) h))
       (λ s. starts_as LocalRest AType (Initial ∷ []) (tok k j) l s refl refl refl)
 
-  local_on_correct : (i : Leaf) (l : List Term) → length l < n → length l ≤ m
+  local_on_correct : (i : Leaf) (l : List Lexeme) → length l < n → length l ≤ m
       → Correct (LocalRest ∷ []) (λ _. []) (LocalAt (tok Name i ∷ [])) l (local_on n value i l (first_of l))
   unfolding run closes
   local_on_correct i [] a b = stops (λ s. refl)
   local_on_correct i (t ∷ l) a b = local_by_correct i t.terminal t.leaf l (omega (arith, a)) (omega (arith, b))
 
-  local_correct : (l : List Term) → length l < n → length l ≤ m
+  local_correct : (l : List Lexeme) → length l < n → length l ≤ m
       → Correct (T Name ∷ LocalRest ∷ []) (λ _. []) (λ z v w. IsLocal z v) l (local n value l)
   local_correct l a b =
       correct_token_then Name refl (λ i w c. local_on_correct i w (omega (arith, a, ap length c)) (omega (arith, b, ap length c)))
 
-  pub local_vars_correct : (l : List Term) → length l < n → length l ≤ m
+  pub local_vars_correct : (l : List Lexeme) → length l < n → length l ≤ m
       → Correct (Locals ∷ []) (λ _. []) AreVars l (vars_on n value l (first_of l))
   local_vars_correct l a b =
       rw (vars_as_group n value l)

@@ -3,9 +3,9 @@ use Rattle.std.proofs.Common.{◌≡◌, ℕ, ◌+◌, ◌≤◌, Bool, true, fa
 use Rattle.rgo_ast.specs.declared.ops.AssignOp.{AssignOp}
 use Rattle.rgo_ast.specs.declared.ops.AssignOp.TheVariants as assign_op
 use Rattle.rgo_ast.specs.Tree as tree
-use Rattle.rgo_grammar.specs.declared.terminals.Terminal.{Terminal}
-use Rattle.rgo_grammar.specs.declared.terminals.Terminal.TheVariants.{Name, Arrow, Define, Assign, Step}
-use Rattle.rgo_grammar.specs.Terms.{Leaf, Term, tok, same}
+use Rattle.rgo_lexer.specs.declared.terminals.Terminal.{Terminal}
+use Rattle.rgo_lexer.specs.declared.terminals.Terminal.TheVariants.{Name, Arrow, Define, Assign, Step}
+use Rattle.rgo_lexer.specs.Lexemes.{Leaf, Lexeme, tok, same}
 use Rattle.rgo_grammar.specs.Grammar.{IsExpr, IsSimple}
 use Rattle.rgo_grammar.specs.Grammar.IsSimple.{plain, send, step as stepped, assign, define}
 use Rattle.rgo_grammar.specs.Reading.{Read, ◌>>=◌, given, first_of}
@@ -18,17 +18,17 @@ use Rattle.rgo_grammar.proofs.reading.Correct.{Correct, token_read, same_start, 
 use Rattle.rgo_grammar.proofs.reading.Correct.Correct.{done, stops}
 
 -- a stack for a value in place of another, which the machine takes as the same at what comes next
-pub correct_left : {A : Type 0} {from : List Sym} {to via : A → List Sym} {P Q : List Term → A → List Term → Type 0} {l : List Term}
+pub correct_left : {A : Type 0} {from : List Sym} {to via : A → List Sym} {P Q : List Lexeme → A → List Lexeme → Type 0} {l : List Lexeme}
     {m : Read A}
     → Correct from to P l m
-    → ((z : List Term) (a : A) (w : List Term) → P z a w → Q z a w × ((s : List Sym) → run w (to a ++ s) ≡ run w (via a ++ s)))
+    → ((z : List Lexeme) (a : A) (w : List Lexeme) → P z a w → Q z a w × ((s : List Sym) → run w (to a ++ s) ≡ run w (via a ++ s)))
     → Correct from via Q l m
 correct_left (done z {a} {w} c p h) g = let f = g z a w p in done z c f.0 (λ s. h s ∙ f.1 s)
 correct_left (stops h) g = stops h
 
 -- a reader of expressions that is correct on lists up to this length
-abbrev pub Values : Bool → ℕ → (List Term → Read tree.Expr) → Type 0
-Values h m value = (l : List Term) → length l ≤ m → Correct (Unary h ∷ Bin h ∷ []) (λ _. []) (λ z v w. IsExpr h 1 z v) l (value l)
+abbrev pub Values : Bool → ℕ → (List Lexeme → Read tree.Expr) → Type 0
+Values h m value = (l : List Lexeme) → length l ≤ m → Correct (Unary h ∷ Bin h ∷ []) (λ _. []) (λ z v w. IsExpr h 1 z v) l (value l)
 
 -- what continues a simple statement that is an expression so far
 abbrev pub tails : Terminal → Bool
@@ -43,14 +43,14 @@ leaves c (tree.Plain v) = Tail c ∷ []
 leaves c _ = rest c
 
 -- what is known of the tokens after it
-abbrev pub Left : tree.Stmt → List Term → Type 0
+abbrev pub Left : tree.Stmt → List Lexeme → Type 0
 Left (tree.Plain v) w = NotNext tails w
 Left _ w = Unit {0}
 
-abbrev pub AtSimple : Context → Bool → List Term → List Term → tree.Stmt → List Term → Type 0
+abbrev pub AtSimple : Context → Bool → List Lexeme → List Lexeme → tree.Stmt → List Lexeme → Type 0
 AtSimple c d x z s w = IsSimple (header c) d (x ++ z) s × Left s w
 
-assign_run : (c : Context) (o : AssignOp) (i : Leaf) (l : List Term) (s : List Sym)
+assign_run : (c : Context) (o : AssignOp) (i : Leaf) (l : List Lexeme) (s : List Sym)
     → run (tok (Assign o) i ∷ l) (Tail c ∷ s) ≡ run l (Unary (header c) ∷ Bin (header c) ∷ (rest c ++ s))
 unfolding run step
 assign_run c assign_op.Plain i l s = refl
@@ -66,16 +66,16 @@ named_nullable : (c : Context) → nullable (Named c) ≡ nullable (Tail c)
 named_nullable alone = refl
 named_nullable _ = refl
 
-module _ (c : Context) (m : ℕ) (value : List Term → Read tree.Expr) (value_c : Values (header c) m value) where
+module _ (c : Context) (m : ℕ) (value : List Lexeme → Read tree.Expr) (value_c : Values (header c) m value) where
   -- the last expression of a statement that is none
-  part_correct : {Q : List Term → tree.Stmt → List Term → Type 0} {l : List Term} (f : tree.Expr → tree.Stmt) → length l ≤ m
-      → ((z : List Term) (v : tree.Expr) (w : List Term) → IsExpr (header c) 1 z v → Q z (f v) w × (leaves c (f v) ≡ rest c))
+  part_correct : {Q : List Lexeme → tree.Stmt → List Lexeme → Type 0} {l : List Lexeme} (f : tree.Expr → tree.Stmt) → length l ≤ m
+      → ((z : List Lexeme) (v : tree.Expr) (w : List Lexeme) → IsExpr (header c) 1 z v → Q z (f v) w × (leaves c (f v) ≡ rest c))
       → Correct (Unary (header c) ∷ Bin (header c) ∷ rest c) (leaves c) Q l (value l >>= given f)
   part_correct {Q = Q} {l = l} f b g =
       correct_left (correct_given {Q = λ z s w. Q z s w × (leaves c s ≡ rest c)} f (correct_under (rest c) (value_c l b)) g)
       (λ z s w h. (h.0, λ u. rw h.1 refl))
 
-  simple_by_correct : (d : Bool) (x : List Term) (a : tree.Expr) (k : Terminal) (i : Leaf) (l : List Term) → length l ≤ m
+  simple_by_correct : (d : Bool) (x : List Lexeme) (a : tree.Expr) (k : Terminal) (i : Leaf) (l : List Lexeme) → length l ≤ m
       → IsExpr (header c) 1 x a
       → Correct (Tail c ∷ []) (leaves c) (AtSimple c d x) (tok k i ∷ l) (simple_by value a k i (tok k i ∷ l) l)
   unfolding run step
@@ -85,12 +85,12 @@ module _ (c : Context) (m : ℕ) (value : List Term → Read tree.Expr) (value_c
       token_read (part_correct _ b (λ z v w g. ((assign o i e g, tt), refl))) (λ s. assign_run c o i l s)
   simple_by_correct d x a _ i l b e = done [] refl (rw append-nil (plain e), refl) (λ s. refl)
 
-  simple_on_correct : (d : Bool) (x : List Term) (a : tree.Expr) (l : List Term) → length l ≤ m → IsExpr (header c) 1 x a
+  simple_on_correct : (d : Bool) (x : List Lexeme) (a : tree.Expr) (l : List Lexeme) → length l ≤ m → IsExpr (header c) 1 x a
       → Correct (Tail c ∷ []) (leaves c) (AtSimple c d x) l (simple_on value a l (first_of l))
   simple_on_correct d x a [] b e = done [] refl (rw append-nil (plain e), tt) (λ s. refl)
   simple_on_correct d x a (t ∷ l) b e = simple_by_correct d x a t.terminal t.leaf l (omega arith) e
 
-  pub valued_correct : (d : Bool) (l : List Term) → length l ≤ m
+  pub valued_correct : (d : Bool) (l : List Lexeme) → length l ≤ m
       → Correct (Unary (header c) ∷ Bin (header c) ∷ Tail c ∷ []) (leaves c) (AtSimple c d []) l (valued value l)
   valued_correct d l b =
       correct_bind (correct_under (Tail c ∷ []) (value_c l b))
@@ -98,17 +98,17 @@ module _ (c : Context) (m : ℕ) (value : List Term → Read tree.Expr) (value_c
 
   -- A symbol X that begins a simple statement, with u under it, tells a name from other tokens.
   module _ (X : Sym) (u : List Sym) (x_name : next X Name ≡ Some (Named c ∷ u)) (x_stays : nullable X ≡ false) where
-    as_value : (l : List Term) → length l ≤ m
+    as_value : (l : List Lexeme) → length l ≤ m
         → ((s : List Sym) → run l (X ∷ s) ≡ run l (Unary (header c) ∷ Bin (header c) ∷ Tail c ∷ (u ++ s)))
         → Correct (X ∷ []) (λ s. leaves c s ++ u) (AtSimple c true []) l (valued value l)
     as_value l b e = same_start (correct_under u (valued_correct true l b)) e
 
-    name_run : (i : Leaf) (l : List Term) (s : List Sym) → run l (Named c ∷ (u ++ s)) ≡ run l (Post ∷ Bin (header c) ∷ Tail c ∷ (u ++ s))
+    name_run : (i : Leaf) (l : List Lexeme) (s : List Sym) → run l (Named c ∷ (u ++ s)) ≡ run l (Post ∷ Bin (header c) ∷ Tail c ∷ (u ++ s))
         → run (tok Name i ∷ l) (X ∷ s) ≡ run (tok Name i ∷ l) (Unary (header c) ∷ Bin (header c) ∷ Tail c ∷ (u ++ s))
     unfolding run step
     name_run i l s e = takes X Name (Named c ∷ u) i l s x_name ∙ e
 
-    named_by_correct : (i : Leaf) (k : Terminal) (j : Leaf) (l : List Term) → length l + 2 ≤ m
+    named_by_correct : (i : Leaf) (k : Terminal) (j : Leaf) (l : List Lexeme) → length l + 2 ≤ m
         → Correct (X ∷ []) (λ s. leaves c s ++ u) (AtSimple c true []) (tok Name i ∷ tok k j ∷ l)
         (named_by value i k j (tok Name i ∷ tok k j ∷ l) l)
     unfolding run step
@@ -120,14 +120,14 @@ module _ (c : Context) (m : ℕ) (value : List Term → Read tree.Expr) (value_c
         as_value (tok Name i ∷ tok k j ∷ l) (omega (arith, b))
         (λ s. name_run i (tok k j ∷ l) s (after_name (header c) (Named c) (Tail c) (tok k j) l (u ++ s) (named_nullable c) refl))
 
-    named_on_correct : (i : Leaf) (l : List Term) → length l + 1 ≤ m
+    named_on_correct : (i : Leaf) (l : List Lexeme) → length l + 1 ≤ m
         → Correct (X ∷ []) (λ s. leaves c s ++ u) (AtSimple c true []) (tok Name i ∷ l) (named_on value i (tok Name i ∷ l) (first_of l))
     named_on_correct i [] b =
         as_value (tok Name i ∷ []) (omega (arith, b))
         (λ s. name_run i [] s (name_ends (header c) (Named c) (Tail c) (u ++ s) (named_nullable c)))
     named_on_correct i (t ∷ l) b = named_by_correct i t.terminal t.leaf l (omega (arith, b))
 
-    pub defining_correct : (k : Terminal) (i : Leaf) (l : List Term) → length l + 1 ≤ m
+    pub defining_correct : (k : Terminal) (i : Leaf) (l : List Lexeme) → length l + 1 ≤ m
         → next X k ≡ find k (starts_row (header c) (Bin (header c) ∷ Tail c ∷ u) (Named c ∷ u))
         → Correct (X ∷ []) (λ s. leaves c s ++ u) (AtSimple c true []) (tok k i ∷ l) (defining value (tok k i ∷ l))
     defining_correct Name i l b e = named_on_correct i l b
@@ -145,19 +145,19 @@ untailed c (Assign o) h = cc
 untailed c _ h = refl
 
 -- after a statement that is alone nothing
-left_alone : (st : tree.Stmt) (w : List Term) (s : List Sym) → Left st w → run w (leaves alone st ++ s) ≡ run w s
+left_alone : (st : tree.Stmt) (w : List Lexeme) (s : List Sym) → Left st w → run w (leaves alone st ++ s) ≡ run w s
 unfolding run closes
 left_alone (tree.Plain v) [] s h = refl
 left_alone (tree.Plain v) (t ∷ w) s h = passes (Tail alone) t w s (untailed alone t.terminal h) refl
 left_alone _ w s h = refl
 
-pub alone_correct : {X : Sym} {u : List Sym} {d : Bool} {l : List Term} {r : Read tree.Stmt}
+pub alone_correct : {X : Sym} {u : List Sym} {d : Bool} {l : List Lexeme} {r : Read tree.Stmt}
     → Correct (X ∷ []) (λ s. leaves alone s ++ u) (AtSimple alone d []) l r
     → Correct (X ∷ []) (λ _. u) (λ z s w. IsSimple false d z s) l r
 alone_correct {u = u} h = correct_left h (λ z st w g. (g.0, λ s. rw append_assoc (left_alone st w (u ++ s) g.1)))
 
 -- after the last statement of a header a block
-pub left_behind : (st : tree.Stmt) (w : List Term) (s : List Sym) → Left st w → run w (leaves behind_for st ++ s) ≡ run w (Block ∷ s)
+pub left_behind : (st : tree.Stmt) (w : List Lexeme) (s : List Sym) → Left st w → run w (leaves behind_for st ++ s) ≡ run w (Block ∷ s)
 unfolding run closes
 left_behind (tree.Plain v) [] s h = refl
 left_behind (tree.Plain v) (t ∷ w) s h = alike (Tail behind_for) Block t w s (untailed behind_for t.terminal h) refl

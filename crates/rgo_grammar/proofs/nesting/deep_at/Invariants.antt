@@ -1,6 +1,6 @@
 use Rattle.std.proofs.Common.{◌≡◌, ◌≤◌, drop}
 use Rattle.rgo_grammar.specs.Nesting.{deep_among, deep_from}
-use Rattle.rgo_grammar.specs.Seen.{terminals}
+use Rattle.rgo_grammar.specs.Nesting.{terminals}
 use Rattle.rgo_grammar.proofs.nesting.deep_at.Given as goal
 
 abbrev pub invariant-loop-at : goal.invariant-loop-at

@@ -1,5 +1,5 @@
 use Rattle.std.proofs.Common.{◌≡◌, drop}
-use Rattle.rgo_grammar.specs.Terms.{looked_up}
+use Rattle.rgo_lexer.specs.Lexemes.{looked_up}
 use Rattle.rgo_grammar.specs.Seen.{entries}
 use Rattle.rgo_grammar.proofs.terms.looked_up.Given as goal
 

@@ -1,5 +1,5 @@
 use Rattle.std.proofs.Common.{◌≡◌, map, take}
-use Rattle.rgo_grammar.specs.Terms.{term_of}
+use Rattle.rgo_lexer.specs.Lexemes.{term_of}
 use Rattle.rgo_grammar.specs.Seen.{seen_all}
 use Rattle.rgo_grammar.proofs.terms.terms_of.Given as goal
 
