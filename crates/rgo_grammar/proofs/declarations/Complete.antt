@@ -4,7 +4,7 @@ use Rattle.rgo_ast.specs.declared.names.ImportPath.{ImportPath}
 use Rattle.rgo_ast.specs.Tree.{Binding, TypeSpec}
 use Rattle.rgo_ast.specs.Tree as tree
 use Rattle.rgo_lexer.specs.declared.terminals.Terminal.{Terminal}
-use Rattle.rgo_lexer.specs.declared.terminals.Terminal.TheVariants.{Name, Text, OpenParen, CloseParen, OpenBrace, CloseBrace, Comma, Semicolon, Import, Struct}
+use Rattle.rgo_lexer.specs.declared.terminals.Terminal.TheVariants.{Name, Text, OpenParen, CloseParen, OpenBrace, CloseBrace, Comma, Semicolon, Import}
 use Rattle.rgo_lexer.specs.Lexemes.{Leaf, Lexeme, tok, same}
 use Rattle.rgo_grammar.specs.Grammar.{IsPath, IsImport, IsTypeSpec, IsResult, IsBinding, IsType, IsStmts, IsDecl, IsProgram, Listed, Each}
 use Rattle.rgo_grammar.specs.Grammar.Each.{none as no_more, next}
@@ -13,7 +13,8 @@ use Rattle.rgo_grammar.specs.ReadTypes.{a_type, binding}
 use Rattle.rgo_grammar.specs.ReadDecls.{group_by, group, import_path, type_spec, result_on, function, func, decls_on, decls, imports_by, imports_on, imports, program}
 use Rattle.rgo_grammar.specs.Grammar as g
 use Rattle.rgo_grammar.proofs.machine.Table.{rest}
-use Rattle.rgo_grammar.proofs.reading.Complete.{Meets, meets_trans, meets_bind, meets_then, Opens, opens_append, listed_complete}
+use Rattle.rgo_grammar.proofs.reading.Complete.{Meets, meets_trans, meets_bind, meets_then, Opens, listed_complete, not_true}
+use Rattle.rgo_grammar.proofs.reading.Next.{begins_append}
 use Rattle.rgo_grammar.proofs.types.Complete.{type_complete, binding_complete, binding_opens, bindings_complete}
 use Rattle.rgo_grammar.proofs.statements.Complete.{block_complete}
 use Rattle.rgo_grammar.proofs.declarations.Program.{NoImport}
@@ -29,11 +30,12 @@ module _ {A : Type 0} (n : ℕ) (Item : List Lexeme → A → Type 0) (item : Li
   group_alone _ i m e = refl
 
   group_open : (l : List Lexeme) → Opens OpenParen l → group item n l ≡ single (item l)
-  group_open l (t, m, e, h) = rw e (group_alone t.terminal t.leaf m h)
+  group_open [] o = absurd o
+  group_open (t ∷ l) o = group_alone t.terminal t.leaf l (not_true (same OpenParen t.terminal) o)
 
   pub group_one : (x : List Lexeme) (a : A) (l : List Lexeme) → Item x a → Meets (group item n (x ++ l)) (Done (a ∷ []) l)
   group_one x a l h =
-      rw (group_open (x ++ l) (opens_append OpenParen x l (opens OpenParen (refl, refl) x a h)))
+      rw (group_open (x ++ l) (begins_append _ x l (opens OpenParen (refl, refl) x a h)))
       (meets_bind _ (reads x a h l))
 
   pub group_list : (j : Leaf) (y : List Lexeme) (all : List A) (l : List Lexeme) → Listed Item Semicolon CloseParen y all
@@ -47,7 +49,7 @@ module _ {A : Type 0} (n : ℕ) (Item : List Lexeme → A → Type 0) (item : Li
 -- ---- imports
 
 path_opens : (k : Terminal) → (same k Name ≡ false) × (same k Text ≡ false) → (x : List Lexeme) (p : ImportPath) → IsPath x p → Opens k x
-path_opens k e _ _ (g.string i) = (tok Text i, [], refl, e.1)
+path_opens k e _ _ (g.string i) = rw e.1 refl
 
 path_reads : (x : List Lexeme) (p : ImportPath) → IsPath x p → (l : List Lexeme) → Meets (import_path (x ++ l)) (Done p l)
 path_reads _ _ (g.string i) l = inr refl
@@ -87,7 +89,7 @@ imports_complete (next j {x} {y} {a} {all} p e) n (suc m) found l h =
 -- ---- declarations
 
 spec_opens : (k : Terminal) → (same k Name ≡ false) × (same k Text ≡ false) → (x : List Lexeme) (s : TypeSpec) → IsTypeSpec x s → Opens k x
-spec_opens k e _ _ (g.struct i j m {y} d) = (tok Name i, tok Struct j ∷ tok OpenBrace m ∷ y, refl, e.0)
+spec_opens k e _ _ (g.struct i j m {y} d) = rw e.0 refl
 
 spec_reads : (n : ℕ) (x : List Lexeme) (s : TypeSpec) → IsTypeSpec x s → (l : List Lexeme) → Meets (type_spec n (x ++ l)) (Done s l)
 spec_reads n _ _ (g.struct i j k {y} {fs} d) l =

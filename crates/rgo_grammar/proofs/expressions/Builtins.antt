@@ -1,5 +1,5 @@
 -- What is in the grammar is read as its tree: `new ( .. )` and `make ( .. )`.
-use Rattle.std.proofs.Common.{◌≡◌, ℕ, suc, inr, true, false, List, ◌∷◌, ◌++◌, refl, ap, arith, ◌+◌}
+use Rattle.std.proofs.Common.{◌≡◌, ℕ, suc, inr, true, false, List, ◌∷◌, ◌++◌, refl, ap, arith, ◌+◌, []}
 use Rattle.rgo_ast.specs.Tree as tree
 use Rattle.rgo_lexer.specs.declared.terminals.Terminal.{Terminal}
 use Rattle.rgo_lexer.specs.declared.terminals.Terminal.TheVariants.{Name, New, Make, OpenParen, CloseParen, OpenBracket, CloseBracket, Comma, Chan}
@@ -9,8 +9,9 @@ use Rattle.rgo_grammar.specs.Grammar.IsMakeEnd.{plain, comma}
 use Rattle.rgo_grammar.specs.Reading.{Read, Done, ◌>>=◌, given}
 use Rattle.rgo_grammar.specs.ReadExprs.{make_end, capacity, capacity_by, sized, expr, primary, post}
 use Rattle.rgo_grammar.proofs.reading.Complete.{Meets, meets_bind, meets_then}
+use Rattle.rgo_grammar.proofs.reading.Next.{begins_append}
 use Rattle.rgo_grammar.proofs.types.Complete.{type_complete}
-use Rattle.rgo_grammar.proofs.expressions.Starts.{Starts, starts, starts_append}
+use Rattle.rgo_grammar.proofs.expressions.Starts.{Starts, starts}
 use Rattle.rgo_grammar.proofs.expressions.Ends.{EndsExpr, ReadsAs}
 
 make_end_done : {z : List Lexeme} → IsMakeEnd z → (l : List Lexeme) → (j : Leaf) × (make_end (z ++ l) ≡ Done j l)
@@ -65,7 +66,8 @@ capacity_else inner t i _ l m h = refl
 
 capacity_at : (inner : List Lexeme → Read tree.Expr) (t : tree.TypeExpr) (i : Leaf) (l : List Lexeme) → Starts l
     → capacity inner t i l ≡ (inner l >>= λ v w. make_end w >>= given (λ _. tree.MakeChan t (tree.a_capacity v) i.at))
-capacity_at inner t i l (u, y, e, h) = rw e (capacity_else inner t i u.terminal (u ∷ y) y h)
+capacity_at inner t i [] h = absurd h
+capacity_at inner t i (u ∷ l) h = capacity_else inner t i u.terminal (u ∷ l) l h
 
 pub sized_complete : (i j k c : Leaf) {x z : List Lexeme} (y : List Lexeme) {t : tree.TypeExpr} (v : tree.Expr) → IsType x t → Starts y → ReadsAs y v
     → IsMakeEnd z → (n : ℕ) (l : List Lexeme)
@@ -73,5 +75,5 @@ pub sized_complete : (i j k c : Leaf) {x z : List Lexeme} (y : List Lexeme) {t :
     (post n (tree.MakeChan t (tree.a_capacity v) i.at) l)
 unfolding expr
 sized_complete i j k c {x} {z} y {t} v h s f e n l =
-    meets_bind {y = Done (tree.MakeChan t (tree.a_capacity v) i.at) l} _ (meets_then _ (type_complete x t h n (tok Comma c ∷ (y ++ (z ++ l)))) (rw (capacity_at (expr false n 1) t i (y ++ (z ++ l)) (starts_append y (z ++ l) s))
+    meets_bind {y = Done (tree.MakeChan t (tree.a_capacity v) i.at) l} _ (meets_then _ (type_complete x t h n (tok Comma c ∷ (y ++ (z ++ l)))) (rw (capacity_at (expr false n 1) t i (y ++ (z ++ l)) (begins_append _ y (z ++ l) s))
     (ended_value y v (λ u. tree.MakeChan t (tree.a_capacity u) i.at) n l f e)))

@@ -14,14 +14,12 @@ use Rattle.rgo_grammar.specs.Grammar.IsElements.{no_element, last_element, more_
 use Rattle.rgo_grammar.specs.Reading.{Done, several}
 use Rattle.rgo_grammar.specs.ReadExprs.{exprs, exprs_from, element, elements_from, expr, climb, unary, primary, post}
 use Rattle.rgo_grammar.proofs.machine.Table.{closer, header, rest}
-use Rattle.rgo_grammar.proofs.reading.Complete.{Meets, meets_trans, meets_bind, Opens}
-use Rattle.rgo_grammar.proofs.expressions.Starts.{top, expr_starts, starts_open}
+use Rattle.rgo_grammar.proofs.reading.Complete.{Meets, meets_trans, meets_bind}
+use Rattle.rgo_grammar.proofs.reading.Next.{next_also}
+use Rattle.rgo_grammar.proofs.expressions.Starts.{top, expr_starts}
 use Rattle.rgo_grammar.proofs.expressions.Ends.{Unposted, EndsExpr, finished, operated, selected, indexed_at, called_at, parens_at, signed_at, primary_at}
 use Rattle.rgo_grammar.proofs.expressions.Builtins.{new_complete, slice_complete, chan_complete, sized_complete}
 use Rattle.rgo_grammar.proofs.expressions.Items.{Closer, paren_closer, brace_closer, items_none, items_last, items_more, element_at, literal_at, keyed_at}
-
-key_opens : (i c : Leaf) (x : List Lexeme) → Opens CloseBrace (tok Name i ∷ tok Colon c ∷ x)
-key_opens i c x = (tok Name i, tok Colon c ∷ x, refl, refl)
 
 mutual
   unfolding expr several
@@ -99,11 +97,11 @@ mutual
   exprs_found (last {closer} j {x} {v} f) c m n found l =
       let h = finished false m x v (tok closer j ∷ l) (formula_complete f m 1 (tok closer j ∷ l) (omega arith)
       (omega (arith, c.loose)) c.unposted) c.loose in
-      rw append_assoc (items_last closer c.other (expr false m 1) n found v j x l (starts_open closer x c.closes (expr_starts f)) h)
+      rw append_assoc (items_last closer c.other (expr false m 1) n found v j x l (next_also x (expr_starts f) c.closes) h)
   exprs_found (more {closer} j {x} {y} {v} {vs} f d) c m n found l =
       let h = finished false m x v (tok Comma j ∷ (y ++ l)) (formula_complete f m 1 (tok Comma j ∷ (y ++ l)) (omega arith)
       (omega arith) refl) (omega arith) in
-      rw append_assoc (items_more closer c.other (expr false m 1) n found vs v j x y l (starts_open closer x c.closes (expr_starts f)) h
+      rw append_assoc (items_more closer c.other (expr false m 1) n found vs v j x y l (next_also x (expr_starts f) c.closes) h
       (λ k us. exprs_found d c m k us l))
 
   elements_found : {y : List Lexeme} {es : List (Ident × tree.Expr)} → IsElements y es
@@ -114,12 +112,12 @@ mutual
       let h = element_at i c x v m (tok CloseBrace j ∷ l) (λ q w e. finished false q x v w
       (formula_complete f q 1 w (omega arith) (omega (arith, e.0)) e.1) e.0) (omega arith, refl) in
       rw append_assoc (items_last CloseBrace refl (element (expr false m 1)) n found (ident i, v) j (tok Name i ∷ tok Colon c ∷ x) l
-      (key_opens i c x) h)
+      refl h)
   elements_found (more_elements i c j {x} {y} {v} {vs} f d) m n found l =
       let h = element_at i c x v m (tok Comma j ∷ (y ++ l)) (λ q w e. finished false q x v w
       (formula_complete f q 1 w (omega arith) (omega (arith, e.0)) e.1) e.0) (omega arith, refl) in
       rw append_assoc (items_more CloseBrace refl (element (expr false m 1)) n found vs (ident i, v) j (tok Name i ∷ tok Colon c ∷ x) y l
-      (key_opens i c x) h
+      refl h
       (λ k us. elements_found d m k us l))
 
 pub expr_complete : {h : Bool} {x : List Lexeme} {v : tree.Expr} → IsExpr h 1 x v → (n : ℕ) (l : List Lexeme) → EndsExpr l

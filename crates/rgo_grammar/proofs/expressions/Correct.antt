@@ -18,9 +18,9 @@ use Rattle.rgo_grammar.proofs.machine.Table.{Sym, Unary, Bin, Post, Args, step}
 use Rattle.rgo_grammar.proofs.machine.Runs.{run, closes}
 use Rattle.rgo_grammar.proofs.reading.Correct.Correct.{done, stops}
 use Rattle.rgo_grammar.proofs.reading.Correct.{Correct, token_read, correct_bind, correct_given, correct_weaker, correct_then, shorter}
-use Rattle.rgo_grammar.proofs.expressions.Starts.{level_of, top, starts_some, unary_starts, primary_starts, Reads, bin_pops, operator_run}
+use Rattle.rgo_grammar.proofs.expressions.Starts.{level_of, top, starts_some, unary_starts, primary_starts, Reads, bin_pops, operator_run, unsigned}
 use Rattle.rgo_grammar.proofs.expressions.Literals.{literal_correct}
-use Rattle.rgo_grammar.proofs.expressions.Operands.{args_correct as arg_list, unsigned, operand_by_correct, post_by_correct}
+use Rattle.rgo_grammar.proofs.expressions.Operands.{args_correct as arg_list, operand_by_correct, post_by_correct}
 
 -- where no operator comes next, the wait for one is over
 pub correct_popped : {A : Type 0} {h : Bool} {from : List Sym} {P : List Lexeme → A → List Lexeme → Type 0} {l : List Lexeme} {m : Read A}

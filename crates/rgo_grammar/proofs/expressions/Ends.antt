@@ -1,5 +1,5 @@
 -- Where an expression ends, and how what stands in one is read: a part at a time.
-use Rattle.std.proofs.Common.{◌≡◌, ℕ, zero, suc, ◌+◌, ◌<◌, ◌≤◌, inl, inr, Bool, true, false, List, [], ◌∷◌, ◌++◌, Some, refl, ap, arith, ◌-◌}
+use Rattle.std.proofs.Common.{◌≡◌, ℕ, zero, suc, ◌+◌, ◌<◌, ◌≤◌, inl, inr, Bool, true, false, List, [], ◌∷◌, ◌++◌, Some, refl, arith, ◌-◌}
 use Rattle.std.proofs.lemmas.Bool.{le-leb, lt-leb}
 use Rattle.rgo_ast.specs.declared.ops.BinaryOp.{BinaryOp}
 use Rattle.rgo_ast.specs.declared.ops.UnaryOp.{UnaryOp}
@@ -8,16 +8,16 @@ use Rattle.rgo_ast.specs.declared.ops.BinaryOp.TheVariants as op
 use Rattle.rgo_ast.specs.declared.ops.UnaryOp.TheVariants as unary_op
 use Rattle.rgo_ast.specs.Tree as tree
 use Rattle.rgo_lexer.specs.declared.terminals.Terminal.{Terminal}
-use Rattle.rgo_lexer.specs.declared.terminals.Terminal.TheVariants.{Name, New, Make, Number, Text, Binary, Bang, Ampersand, Arrow, OpenParen, CloseParen, OpenBracket, CloseBracket, Comma, Dot, Chan}
+use Rattle.rgo_lexer.specs.declared.terminals.Terminal.TheVariants.{Name, Binary, Bang, Ampersand, Arrow, OpenParen, CloseParen, OpenBracket, CloseBracket, Dot}
 use Rattle.rgo_lexer.specs.Lexemes.{Leaf, Lexeme, tok, ident}
 use Rattle.rgo_grammar.specs.Grammar.{level, sign, IsPrimary}
-use Rattle.rgo_grammar.specs.Grammar.IsPrimary.{number, text, name, parens as in_parens, new, make_slice, make_chan, make_sized, select, index, call}
 use Rattle.rgo_grammar.specs.Reading.{Read, Done}
 use Rattle.rgo_grammar.specs.ReadExprs.{exprs, signed, unary_by, post_by, climb_by, expr, climb, unary, primary, post}
+use Rattle.rgo_grammar.proofs.machine.Table.{both}
 use Rattle.rgo_grammar.proofs.reading.Complete.{Meets, meets_trans, meets_bind, meets_then}
 use Rattle.rgo_grammar.proofs.reading.Correct.Correct.{done}
-use Rattle.rgo_grammar.proofs.expressions.Starts.{level_of, top}
-use Rattle.rgo_grammar.proofs.expressions.Operands.{unsigned}
+use Rattle.rgo_grammar.proofs.reading.Next.{IsNext, NotNext, begins_append, next_also}
+use Rattle.rgo_grammar.proofs.expressions.Starts.{level_of, top, primary_begins, unsigned}
 
 -- what goes on with a primary expression
 abbrev pub posts : Terminal → Bool
@@ -27,8 +27,7 @@ posts OpenParen = true
 posts _ = false
 
 abbrev pub Unposted : List Lexeme → Type 0
-Unposted [] = Unit {0}
-Unposted (t ∷ l) = posts t.terminal ≡ false
+Unposted = NotNext posts
 
 -- nothing comes next that goes on with an expression
 abbrev pub EndsExpr : List Lexeme → Type 0
@@ -134,27 +133,6 @@ signed_at h n k o i v x l e g =
 
 -- ---- without a sign
 
-abbrev Unsigned : List Lexeme → Type 0
-Unsigned x = (t : Lexeme) × (y : List Lexeme) × (x ≡ t ∷ y) × (unsigned t.terminal ≡ true)
-
-unsigned_append : (x z : List Lexeme) → Unsigned x → Unsigned (x ++ z)
-unsigned_append x z (t, y, e, h) = (t, y ++ z, ap (λ w. w ++ z) e, h)
-
-primary_unsigned : {x : List Lexeme} {v : tree.Expr} → IsPrimary x v → Unsigned x
-primary_unsigned (number n i) = (tok (Number n) i, [], refl, refl)
-primary_unsigned (text i) = (tok Text i, [], refl, refl)
-primary_unsigned (name i) = (tok Name i, [], refl, refl)
-primary_unsigned (in_parens i j {x} f) = (tok OpenParen i, x ++ tok CloseParen j ∷ [], refl, refl)
-primary_unsigned (new i j k m) = (tok New i, tok OpenParen j ∷ tok Name k ∷ tok CloseParen m ∷ [], refl, refl)
-primary_unsigned (make_slice i j k m c {x} {y} {z} t f e) =
-    (tok Make i, tok OpenParen j ∷ tok OpenBracket k ∷ tok CloseBracket m ∷ (x ++ tok Comma c ∷ (y ++ z)), refl, refl)
-primary_unsigned (make_chan i j k {x} {z} t e) = (tok Make i, tok OpenParen j ∷ tok Chan k ∷ (x ++ z), refl, refl)
-primary_unsigned (make_sized i j k c {x} {y} {z} t f e) =
-    (tok Make i, tok OpenParen j ∷ tok Chan k ∷ (x ++ tok Comma c ∷ (y ++ z)), refl, refl)
-primary_unsigned (select i j {x} p) = unsigned_append x (tok Dot i ∷ tok Name j ∷ []) (primary_unsigned p)
-primary_unsigned (index i j {x} {y} p f) = unsigned_append x (tok OpenBracket i ∷ (y ++ tok CloseBracket j ∷ [])) (primary_unsigned p)
-primary_unsigned (call i {x} {y} p d) = unsigned_append x (tok OpenParen i ∷ y) (primary_unsigned p)
-
 unsigned_by : (h : Bool) (n : ℕ) (inner again primary : List Lexeme → Read tree.Expr) (k : Terminal) (i : Leaf) (l m : List Lexeme)
     → unsigned k ≡ true
     → unary_by h n inner again primary k i l m ≡ primary l
@@ -165,12 +143,13 @@ unsigned_by h n inner again primary Arrow i l m e = cc
 unsigned_by h n inner again primary Ampersand i l m e = cc
 unsigned_by h n inner again primary _ i l m e = refl
 
-unsigned_at : (h : Bool) (n : ℕ) (l : List Lexeme) → Unsigned l → unary h (suc n) l ≡ primary n l
+unsigned_at : (h : Bool) (n : ℕ) (l : List Lexeme) → IsNext unsigned l → unary h (suc n) l ≡ primary n l
 unfolding expr
-unsigned_at h n l (t, y, e, u) = rw e (unsigned_by h n (expr false n 1) (unary h n) (primary n) t.terminal t.leaf (t ∷ y) y u)
+unsigned_at h n [] u = absurd u
+unsigned_at h n (t ∷ l) u = unsigned_by h n (expr false n 1) (unary h n) (primary n) t.terminal t.leaf (t ∷ l) l u
 
 pub primary_at : (h : Bool) (n : ℕ) {x : List Lexeme} {v : tree.Expr} → IsPrimary x v → (l : List Lexeme) → Unposted l
     → (m : ℕ) × Meets (primary n (x ++ l)) (post m v l) → Meets (unary h (suc n) (x ++ l)) (Done v l)
 primary_at h n {x} {v} p l u g =
-    rw (unsigned_at h n (x ++ l) (unsigned_append x l (primary_unsigned p)))
+    rw (unsigned_at h n (x ++ l) (begins_append _ x l (next_also x (primary_begins p) (λ k e. (both e).1))))
     (meets_trans g.1 (post_done g.0 v l u))

@@ -11,7 +11,8 @@ use Rattle.rgo_grammar.specs.Grammar.IsElements.{no_element, last_element, more_
 use Rattle.rgo_grammar.specs.Reading.{Read, Done, ◌>>=◌, given, listed, single}
 use Rattle.rgo_grammar.specs.ReadExprs.{exprs, element, elements_from, elements, expr, unary}
 use Rattle.rgo_grammar.proofs.machine.Table.{rest}
-use Rattle.rgo_grammar.proofs.reading.Complete.{Meets, meets_trans, meets_bind, Opens, opens_append, listed_none, listed_last, listed_more}
+use Rattle.rgo_grammar.proofs.reading.Complete.{Meets, meets_trans, meets_bind, Opens, listed_none, listed_last, listed_more}
+use Rattle.rgo_grammar.proofs.reading.Next.{begins_append}
 use Rattle.rgo_grammar.proofs.expressions.Starts.{level_of, Closes, paren_closes, brace_closes}
 use Rattle.rgo_grammar.proofs.expressions.Ends.{EndsExpr, ReadsAs, posts}
 use Rattle.rgo_grammar.proofs.expressions.Second.{exprs_unkeyed}
@@ -41,7 +42,7 @@ module _ {A : Type 0} (closer : Terminal) (other : same closer Comma ≡ false) 
       → (j' : Leaf) × Meets (listed Comma closer (λ m. single (item m)) n found (x ++ tok closer j ∷ l)) (Done (found ++ a ∷ [], j') l)
   items_last n found a j x l o h = (
     j,
-    listed_last Comma closer other (λ m. single (item m)) n found (a ∷ []) j x l (opens_append closer x (tok closer j ∷ l) o)
+    listed_last Comma closer other (λ m. single (item m)) n found (a ∷ []) j x l (begins_append _ x (tok closer j ∷ l) o)
         (meets_bind _ h),
   )
 
@@ -51,7 +52,7 @@ module _ {A : Type 0} (closer : Terminal) (other : same closer Comma ≡ false) 
       → (j : Leaf) × Meets (listed Comma closer (λ m. single (item m)) n found (x ++ tok Comma i ∷ (y ++ l))) (Done (found ++ a ∷ all, j) l)
   items_more n found all a i x y l o h again =
       let one = listed_more Comma closer other (λ m. single (item m)) n found (a ∷ []) i x (y ++ l)
-      (opens_append closer x (tok Comma i ∷ (y ++ l)) o)
+      (begins_append _ x (tok Comma i ∷ (y ++ l)) o)
       (meets_bind _ h) in
       let rest = again one.0 (found ++ a ∷ []) in
       let rest' = rw append_assoc at rest.1 in (

@@ -4,6 +4,9 @@ use Rattle.std.proofs.Common.{◌≡◌, ℕ, ◌<◌, ◌≤◌, Bool, true, fa
 use Rattle.rgo_ast.specs.Tree.{exprs_of}
 use Rattle.rgo_ast.specs.Tree as tree
 use Rattle.rgo_ast.specs.declared.ops.BinaryOp.TheVariants as op
+use Rattle.rgo_lexer.specs.Lexemes.{Leaf, Lexeme, tok, ident}
+use Rattle.rgo_lexer.specs.declared.terminals.Terminal.TheVariants.{CloseParen, Comma, Name, New, Make, Number, Text, Binary, Bang, Ampersand, Arrow, OpenParen, OpenBracket, CloseBracket, Dot, Chan}
+use Rattle.rgo_lexer.specs.declared.terminals.Terminal.{Terminal}
 use Rattle.rgo_grammar.specs.Grammar.IsExprs.{none, last, more}
 use Rattle.rgo_grammar.specs.Grammar.IsMakeEnd.{plain, comma}
 use Rattle.rgo_grammar.specs.Grammar.IsPrimary.{new, make_slice as is_slice, make_chan, make_sized, number, text, name, parens as in_parens, select, index, call}
@@ -12,9 +15,6 @@ use Rattle.rgo_grammar.specs.Grammar.{IsPrimary, IsType, IsMakeEnd, Listed, IsEx
 use Rattle.rgo_grammar.specs.ReadExprs.{exprs, make_end, make_end_by, capacity, capacity_by, sized, sized_by, make_slice, made, made_by, new_at, parens, operand_by, post_by}
 use Rattle.rgo_grammar.specs.ReadTypes.{a_type}
 use Rattle.rgo_grammar.specs.Reading.{Read}
-use Rattle.rgo_lexer.specs.Lexemes.{Leaf, Lexeme, tok, ident}
-use Rattle.rgo_lexer.specs.declared.terminals.Terminal.TheVariants.{CloseParen, Comma, Name, New, Make, Number, Text, Binary, Bang, Ampersand, Arrow, OpenParen, OpenBracket, CloseBracket, Dot, Chan}
-use Rattle.rgo_lexer.specs.declared.terminals.Terminal.{Terminal}
 use Rattle.rgo_grammar.proofs.machine.Table.{Sym, Bin, Args, expr_row, T, Unary, Post, step, AType, MakeType, MakeSize, MakeMore, MakeEnd, closer}
 use Rattle.rgo_grammar.proofs.machine.Runs.{run, closes}
 use Rattle.rgo_grammar.proofs.machine.Starts.{starts_as}
@@ -22,16 +22,7 @@ use Rattle.rgo_grammar.proofs.reading.Correct.Correct.{done, stops}
 use Rattle.rgo_grammar.proofs.reading.Correct.{Correct, same_start, correct_weaker, correct_under, token_read, correct_then, correct_token_then, correct_token_given, shorter, correct_given, correct_token}
 use Rattle.rgo_grammar.proofs.reading.Lists.{ListSyms, list_correct, list_syms}
 use Rattle.rgo_grammar.proofs.types.Correct.{type_correct}
-use Rattle.rgo_grammar.proofs.expressions.Starts.{Reads}
-
--- no sign and no `&`
-abbrev pub unsigned : Terminal → Bool
-unsigned (Binary op.Add) = false
-unsigned (Binary op.Sub) = false
-unsigned Bang = false
-unsigned Arrow = false
-unsigned Ampersand = false
-unsigned _ = true
+use Rattle.rgo_grammar.proofs.expressions.Starts.{Reads, unsigned}
 
 -- ---- `new`, and the end of `make`
 

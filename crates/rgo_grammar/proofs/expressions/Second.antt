@@ -1,17 +1,18 @@
 -- What stands second in an expression that begins with a name: `.`, `[`, `(` or an operator.
-use Rattle.std.proofs.Common.{◌≡◌, ℕ, Bool, true, false, List, [], ◌∷◌, ◌++◌, Some, refl, append_assoc, ◌+◌}
+use Rattle.std.proofs.Common.{◌≡◌, ℕ, Bool, false, List, [], ◌∷◌, ◌++◌, Some, refl, append_assoc, ◌+◌}
 use Rattle.rgo_ast.specs.declared.ops.BinaryOp.{BinaryOp}
 use Rattle.rgo_ast.specs.declared.ops.UnaryOp.{UnaryOp}
 use Rattle.rgo_ast.specs.Tree as tree
 use Rattle.rgo_lexer.specs.declared.terminals.Terminal.{Terminal}
 use Rattle.rgo_lexer.specs.declared.terminals.Terminal.TheVariants.{Name, Binary, OpenParen, OpenBracket, CloseBracket, CloseBrace, Comma, Colon, Dot}
-use Rattle.rgo_lexer.specs.Lexemes.{Leaf, Lexeme, tok}
+use Rattle.rgo_lexer.specs.Lexemes.{Leaf, Lexeme, tok, same}
 use Rattle.rgo_grammar.specs.Grammar.{sign, IsExpr, IsUnary, IsPrimary, IsExprs}
 use Rattle.rgo_grammar.specs.Grammar.IsExpr.{unary, binary}
 use Rattle.rgo_grammar.specs.Grammar.IsUnary.{signed, literal, keyed, primary}
 use Rattle.rgo_grammar.specs.Grammar.IsPrimary.{number, text, name, parens, new, make_slice, make_chan, make_sized, select, index, call}
 use Rattle.rgo_grammar.specs.Grammar.IsExprs.{none, last, more}
 use Rattle.rgo_grammar.specs.ReadExprs.{is_keyed}
+use Rattle.rgo_grammar.proofs.reading.Next.{NotNext, next_append}
 use Rattle.rgo_grammar.proofs.expressions.Starts.{Starts, expr_starts, primary_starts}
 
 -- a test on terminals that none passes which may stand there
@@ -21,12 +22,8 @@ pub record Apart (test : Terminal → Bool) : Type 0 where
   pub paren : test OpenParen ≡ false
   pub operator : (o : BinaryOp) → test (Binary o) ≡ false
 
-abbrev pub FirstNot : (Terminal → Bool) → List Lexeme → Type 0
-FirstNot test [] = Unit {0}
-FirstNot test (t ∷ l) = test t.terminal ≡ false
-
 abbrev pub name_then : (Terminal → Bool) → Terminal → List Lexeme → Type 0
-name_then test Name l = FirstNot test l
+name_then test Name l = NotNext test l
 name_then test _ l = Unit {0}
 
 -- where a name comes first, the token behind it does not pass the test
@@ -34,16 +31,12 @@ abbrev pub SecondNot : (Terminal → Bool) → List Lexeme → Type 0
 SecondNot test [] = Unit {0}
 SecondNot test (t ∷ l) = name_then test t.terminal l
 
-first_append : (test : Terminal → Bool) (x z : List Lexeme) → FirstNot test x → FirstNot test z → FirstNot test (x ++ z)
-first_append test [] z h g = g
-first_append test (t ∷ x) z h g = h
-
-name_append : (test : Terminal → Bool) (k : Terminal) (x z : List Lexeme) → name_then test k x → FirstNot test z → name_then test k (x ++ z)
-name_append test Name x z h g = first_append test x z h g
+name_append : (test : Terminal → Bool) (k : Terminal) (x z : List Lexeme) → name_then test k x → NotNext test z → name_then test k (x ++ z)
+name_append test Name x z h g = next_append test x z h g
 name_append test _ x z h g = tt
 
-pub second_append : (test : Terminal → Bool) (x z : List Lexeme) → Starts x → SecondNot test x → FirstNot test z → SecondNot test (x ++ z)
-second_append test [] z (t, y, e, s) h g = cc
+pub second_append : (test : Terminal → Bool) (x z : List Lexeme) → Starts x → SecondNot test x → NotNext test z → SecondNot test (x ++ z)
+second_append test [] z s h g = absurd s
 second_append test (t ∷ x) z s h g = name_append test t.terminal x z h g
 
 signed_second : (test : Terminal → Bool) (k : Terminal) (o : UnaryOp) (l : List Lexeme) → sign k ≡ Some o → name_then test k l
@@ -76,26 +69,22 @@ module _ (test : Terminal → Bool) (apart : Apart test) where
         second_append test x (tok OpenBracket i ∷ (y ++ tok CloseBracket j ∷ [])) (primary_starts p) (primary_second p) apart.bracket
     primary_second (call i {x} {y} p d) = second_append test x (tok OpenParen i ∷ y) (primary_starts p) (primary_second p) apart.paren
 
-abbrev colon : Terminal → Bool
-colon Colon = true
-colon _ = false
-
-colon_apart : Apart colon
+colon_apart : Apart (same Colon)
 colon_apart = record { dot = refl; bracket = refl; paren = refl; operator = λ o. refl }
 
-second_unkeyed : (k : Terminal) (i j : Leaf) (l : List Lexeme) → colon k ≡ false → is_keyed (tok Name i ∷ tok k j ∷ l) ≡ false
+second_unkeyed : (k : Terminal) (i j : Leaf) (l : List Lexeme) → same Colon k ≡ false → is_keyed (tok Name i ∷ tok k j ∷ l) ≡ false
 second_unkeyed Colon i j l e = cc
 second_unkeyed _ i j l e = refl
 
-named_unkeyed : (i : Leaf) (l : List Lexeme) → FirstNot colon l → is_keyed (tok Name i ∷ l) ≡ false
+named_unkeyed : (i : Leaf) (l : List Lexeme) → NotNext (same Colon) l → is_keyed (tok Name i ∷ l) ≡ false
 named_unkeyed i [] h = refl
 named_unkeyed i (t ∷ l) h = second_unkeyed t.terminal i t.leaf l h
 
-first_unkeyed : (k : Terminal) (i : Leaf) (l : List Lexeme) → name_then colon k l → is_keyed (tok k i ∷ l) ≡ false
+first_unkeyed : (k : Terminal) (i : Leaf) (l : List Lexeme) → name_then (same Colon) k l → is_keyed (tok k i ∷ l) ≡ false
 first_unkeyed Name i l h = named_unkeyed i l h
 first_unkeyed _ i l h = refl
 
-unkeyed : (l : List Lexeme) → SecondNot colon l → is_keyed l ≡ false
+unkeyed : (l : List Lexeme) → SecondNot (same Colon) l → is_keyed l ≡ false
 unkeyed [] h = refl
 unkeyed (t ∷ l) h = first_unkeyed t.terminal t.leaf l h
 
@@ -103,8 +92,8 @@ unkeyed (t ∷ l) h = first_unkeyed t.terminal t.leaf l h
 pub exprs_unkeyed : {y : List Lexeme} {vs : List tree.Expr} → IsExprs CloseBrace y vs → (l : List Lexeme) → is_keyed (y ++ l) ≡ false
 exprs_unkeyed (none j) l = refl
 exprs_unkeyed (last j {x} f) l =
-    rw append_assoc (unkeyed (x ++ tok CloseBrace j ∷ l) (second_append colon x (tok CloseBrace j ∷ l) (expr_starts f)
-    (second_not colon colon_apart f) refl))
+    rw append_assoc (unkeyed (x ++ tok CloseBrace j ∷ l) (second_append (same Colon) x (tok CloseBrace j ∷ l) (expr_starts f)
+    (second_not (same Colon) colon_apart f) refl))
 exprs_unkeyed (more j {x} {y} f d) l =
-    rw append_assoc (unkeyed (x ++ tok Comma j ∷ (y ++ l)) (second_append colon x (tok Comma j ∷ (y ++ l)) (expr_starts f)
-    (second_not colon colon_apart f) refl))
+    rw append_assoc (unkeyed (x ++ tok Comma j ∷ (y ++ l)) (second_append (same Colon) x (tok Comma j ∷ (y ++ l)) (expr_starts f)
+    (second_not (same Colon) colon_apart f) refl))

@@ -1,22 +1,22 @@
 -- What an expression begins with, and the machine at the symbols of one.
-use Rattle.std.proofs.Common.{◌≡◌, ℕ, ◌≤◌, Bool, true, false, List, [], ◌∷◌, ◌++◌, length, Some, refl, ap, arith, ◌+◌, ◌<◌}
+use Rattle.std.proofs.Common.{◌≡◌, ℕ, ◌≤◌, Bool, true, false, List, [], ◌∷◌, ◌++◌, length, Some, refl, arith, ◌+◌, ◌<◌, cond, not}
 use Rattle.rgo_ast.specs.declared.ops.BinaryOp.{BinaryOp}
 use Rattle.rgo_ast.specs.declared.ops.UnaryOp.{UnaryOp}
 use Rattle.rgo_ast.specs.Tree as tree
 use Rattle.rgo_ast.specs.declared.ops.AssignOp.TheVariants as assign_op
 use Rattle.rgo_ast.specs.declared.ops.BinaryOp.TheVariants as op
+use Rattle.rgo_lexer.specs.Lexemes.{Leaf, Lexeme, tok, same}
+use Rattle.rgo_lexer.specs.declared.terminals.Terminal.TheVariants.{Binary, Assign, Name, New, Make, Number, Text, Bang, Ampersand, Arrow, OpenParen, CloseParen, OpenBracket, CloseBracket, CloseBrace, Dot}
+use Rattle.rgo_lexer.specs.declared.terminals.Terminal.{Terminal}
 use Rattle.rgo_grammar.specs.Grammar.IsExpr.{unary, binary}
 use Rattle.rgo_grammar.specs.Grammar.IsPrimary.{number, text, name, parens, new, make_slice, make_chan, make_sized, select, index, call}
 use Rattle.rgo_grammar.specs.Grammar.IsUnary.{signed, literal, keyed, primary}
 use Rattle.rgo_grammar.specs.Grammar.{IsExpr, level, sign, IsUnary, IsPrimary}
 use Rattle.rgo_grammar.specs.Reading.{Read}
-use Rattle.rgo_lexer.specs.Lexemes.{Leaf, Lexeme, tok, same}
-use Rattle.rgo_lexer.specs.declared.terminals.Terminal.TheVariants.{Binary, Assign, Name, New, Make, Number, Text, Bang, Ampersand, Arrow, OpenParen, CloseParen, OpenBracket, CloseBracket, OpenBrace, CloseBrace, Comma, Dot, Chan}
-use Rattle.rgo_lexer.specs.declared.terminals.Terminal.{Terminal}
-use Rattle.rgo_grammar.proofs.machine.Table.{Sym, Unary, Bin, step}
+use Rattle.rgo_grammar.proofs.machine.Table.{Sym, Unary, Bin, step, both}
 use Rattle.rgo_grammar.proofs.machine.Runs.{run, closes}
-use Rattle.rgo_grammar.proofs.reading.Complete.{Opens}
 use Rattle.rgo_grammar.proofs.reading.Correct.{Correct}
+use Rattle.rgo_grammar.proofs.reading.Next.{IsNext, begins_append, next_also}
 
 -- how tightly a token binds as a binary operator; 0 for what is none
 abbrev pub level_of : Terminal → ℕ
@@ -47,13 +47,20 @@ starts Make = true
 starts _ = false
 
 abbrev pub Starts : List Lexeme → Type 0
-Starts x = (t : Lexeme) × (y : List Lexeme) × (x ≡ t ∷ y) × (starts t.terminal ≡ true)
-
-pub starts_append : (x z : List Lexeme) → Starts x → Starts (x ++ z)
-starts_append x z (t, y, e, h) = (t, y ++ z, ap (λ w. w ++ z) e, h)
+Starts = IsNext starts
 
 pub starts_some : (x : List Lexeme) → Starts x → 1 ≤ length x
-starts_some x (t, y, e, h) = rw e (omega arith)
+starts_some [] h = absurd h
+starts_some (t ∷ x) h = omega arith
+
+-- no sign and no `&`
+abbrev pub unsigned : Terminal → Bool
+unsigned (Binary op.Add) = false
+unsigned (Binary op.Sub) = false
+unsigned Bang = false
+unsigned Arrow = false
+unsigned Ampersand = false
+unsigned _ = true
 
 sign_starts : (k : Terminal) (o : UnaryOp) → sign k ≡ Some o → starts k ≡ true
 sign_starts (Binary op.Add) o h = refl
@@ -62,35 +69,39 @@ sign_starts Bang o h = refl
 sign_starts Arrow o h = refl
 sign_starts _ o h = cc
 
-mutual
-  pub expr_starts : {h : Bool} {p : ℕ} {x : List Lexeme} {v : tree.Expr} → IsExpr h p x v → Starts x
-  expr_starts (unary u) = unary_starts u
-  expr_starts (binary o i {x} {y} l f g) = starts_append x (tok (Binary o) i ∷ y) (expr_starts f)
+-- what a primary expression begins with
+abbrev pub operands : Terminal → Bool
+operands k = cond (starts k) (unsigned k) false
 
-  pub unary_starts : {h : Bool} {x : List Lexeme} {v : tree.Expr} → IsUnary h x v → Starts x
-  unary_starts (signed k o i {x} s u) = (tok k i, x, refl, sign_starts k o s)
-  unary_starts (literal i j k {y} d) = (tok Ampersand i, tok Name j ∷ tok OpenBrace k ∷ y, refl, refl)
-  unary_starts (keyed i j k {y} d) = (tok Ampersand i, tok Name j ∷ tok OpenBrace k ∷ y, refl, refl)
-  unary_starts (primary p) = primary_starts p
+pub primary_begins : {x : List Lexeme} {v : tree.Expr} → IsPrimary x v → IsNext operands x
+primary_begins (number n i) = refl
+primary_begins (text i) = refl
+primary_begins (name i) = refl
+primary_begins (parens i j f) = refl
+primary_begins (new i j k m) = refl
+primary_begins (make_slice i j k m c t f e) = refl
+primary_begins (make_chan i j k t e) = refl
+primary_begins (make_sized i j k c t f e) = refl
+primary_begins (select i j {x} p) = begins_append _ x (tok Dot i ∷ tok Name j ∷ []) (primary_begins p)
+primary_begins (index i j {x} {y} p f) = begins_append _ x (tok OpenBracket i ∷ (y ++ tok CloseBracket j ∷ [])) (primary_begins p)
+primary_begins (call i {x} {y} p d) = begins_append _ x (tok OpenParen i ∷ y) (primary_begins p)
 
-  pub primary_starts : {x : List Lexeme} {v : tree.Expr} → IsPrimary x v → Starts x
-  primary_starts (number n i) = (tok (Number n) i, [], refl, refl)
-  primary_starts (text i) = (tok Text i, [], refl, refl)
-  primary_starts (name i) = (tok Name i, [], refl, refl)
-  primary_starts (parens i j {x} f) = (tok OpenParen i, x ++ tok CloseParen j ∷ [], refl, refl)
-  primary_starts (new i j k m) = (tok New i, tok OpenParen j ∷ tok Name k ∷ tok CloseParen m ∷ [], refl, refl)
-  primary_starts (make_slice i j k m c {x} {y} {z} t f e) =
-      (tok Make i, tok OpenParen j ∷ tok OpenBracket k ∷ tok CloseBracket m ∷ (x ++ tok Comma c ∷ (y ++ z)), refl, refl)
-  primary_starts (make_chan i j k {x} {z} t e) = (tok Make i, tok OpenParen j ∷ tok Chan k ∷ (x ++ z), refl, refl)
-  primary_starts (make_sized i j k c {x} {y} {z} t f e) =
-      (tok Make i, tok OpenParen j ∷ tok Chan k ∷ (x ++ tok Comma c ∷ (y ++ z)), refl, refl)
-  primary_starts (select i j {x} p) = starts_append x (tok Dot i ∷ tok Name j ∷ []) (primary_starts p)
-  primary_starts (index i j {x} {y} p f) = starts_append x (tok OpenBracket i ∷ (y ++ tok CloseBracket j ∷ [])) (primary_starts p)
-  primary_starts (call i {x} {y} p d) = starts_append x (tok OpenParen i ∷ y) (primary_starts p)
+pub primary_starts : {x : List Lexeme} {v : tree.Expr} → IsPrimary x v → Starts x
+primary_starts {x = x} p = next_also x (primary_begins p) (λ k e. (both e).0)
+
+pub unary_starts : {h : Bool} {x : List Lexeme} {v : tree.Expr} → IsUnary h x v → Starts x
+unary_starts (signed k o i {x} s u) = sign_starts k o s
+unary_starts (literal i j k {y} d) = refl
+unary_starts (keyed i j k {y} d) = refl
+unary_starts (primary p) = primary_starts p
+
+pub expr_starts : {h : Bool} {p : ℕ} {x : List Lexeme} {v : tree.Expr} → IsExpr h p x v → Starts x
+expr_starts (unary u) = unary_starts u
+expr_starts (binary o i {x} {y} l f g) = begins_append _ x (tok (Binary o) i ∷ y) (expr_starts f)
 
 -- nothing that closes a list of expressions begins one
 abbrev pub Closes : Terminal → Type 0
-Closes k = (t : Terminal) → starts t ≡ true → same k t ≡ false
+Closes k = (t : Terminal) → starts t ≡ true → not (same k t) ≡ true
 
 pub paren_closes : Closes CloseParen
 paren_closes CloseParen h = cc
@@ -99,9 +110,6 @@ paren_closes _ h = refl
 pub brace_closes : Closes CloseBrace
 brace_closes CloseBrace h = cc
 brace_closes _ h = refl
-
-pub starts_open : (closer : Terminal) (x : List Lexeme) → Closes closer → Starts x → Opens closer x
-starts_open closer x c (t, y, e, h) = (t, y, e, c t.terminal h)
 
 -- ---- the machine
 

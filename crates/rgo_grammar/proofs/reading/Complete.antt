@@ -1,11 +1,12 @@
 -- That what is in the grammar is read as its tree: how such facts are put together.
-use Rattle.std.proofs.Common.{◌≡◌, ℕ, zero, suc, ◌⊎◌, inl, inr, false, List, [], ◌∷◌, ◌++◌, refl, ◌∙◌, ap, append_assoc, append-nil, ◌+◌, ◌-◌}
+use Rattle.std.proofs.Common.{◌≡◌, ℕ, zero, suc, ◌⊎◌, inl, inr, false, List, [], ◌∷◌, ◌++◌, refl, ◌∙◌, ap, append_assoc, append-nil, ◌+◌, ◌-◌, Bool, true, not}
 use Rattle.rgo_lexer.specs.declared.terminals.Terminal.{Terminal}
 use Rattle.rgo_lexer.specs.Lexemes.{Leaf, Lexeme, tok, same}
 use Rattle.rgo_grammar.specs.Grammar.{Listed}
 use Rattle.rgo_grammar.specs.Grammar.Listed.{none, last, more}
-use Rattle.rgo_grammar.specs.Reading.{Read, Done, Failed, Starving, ◌>>=◌, token, ended, listed, single}
-use Rattle.rgo_grammar.proofs.machine.Table.{same_self, rest}
+use Rattle.rgo_grammar.specs.Reading.{Read, Done, Failed, Starving, ◌>>=◌, ended, listed, single}
+use Rattle.rgo_grammar.proofs.machine.Table.{same_self, rest, closer}
+use Rattle.rgo_grammar.proofs.reading.Next.{IsNext, begins_append}
 
 -- the same, unless the bound on the turns was too small
 abbrev pub Meets : {A : Type 0} → Read A → Read A → Type 0
@@ -30,25 +31,15 @@ pub bind_assoc : {A B C : Type 0} (m : Read A) (f : A → List Lexeme → Read B
 bind_assoc (Done a w) f g = refl
 bind_assoc (Failed s) f g = refl
 
-pub token_done : (k : Terminal) (i : Leaf) (l : List Lexeme) → token k (tok k i ∷ l) ≡ Done i l
-token_done k i l = rw same_self refl
-
 -- a token comes first that does not close
 abbrev pub Opens : Terminal → List Lexeme → Type 0
-Opens closer l = (t : Lexeme) × (m : List Lexeme) × (l ≡ t ∷ m) × (same closer t.terminal ≡ false)
+Opens closer = IsNext (λ k. not (same closer k))
 
-pub opens_append : (closer : Terminal) (x l : List Lexeme) → Opens closer x → Opens closer (x ++ l)
-opens_append closer x l (t, m, e, h) = (t, m ++ l, ap (λ y. y ++ l) e, h)
+pub not_true : (b : Bool) → not b ≡ true → b ≡ false
+not_true true h = cc
+not_true false h = refl
 
 module _ {A : Type 0} (separator closer : Terminal) (other : same closer separator ≡ false) (item : List Lexeme → Read (List A)) where
-  pub ended_last : (again : List A → List Lexeme → Read (List A × Leaf)) (found : List A) (j : Leaf) (l : List Lexeme)
-      → ended separator closer again found (tok closer j ∷ l) ≡ Done (found, j) l
-  ended_last again found j l = rw same_self refl
-
-  pub ended_more : (again : List A → List Lexeme → Read (List A × Leaf)) (found : List A) (i : Leaf) (l : List Lexeme)
-      → ended separator closer again found (tok separator i ∷ l) ≡ again found l
-  ended_more again found i l = rw (other, same_self) refl
-
   pub listed_none : (n : ℕ) (found : List A) (j : Leaf) (l : List Lexeme)
       → Meets (listed separator closer item n found (tok closer j ∷ l)) (Done (found, j) l)
   unfolding listed
@@ -59,7 +50,8 @@ module _ {A : Type 0} (separator closer : Terminal) (other : same closer separat
       → listed separator closer item (suc n) found l
       ≡ (item l >>= λ a. ended separator closer (listed separator closer item n) (found ++ a))
   unfolding listed
-  listed_open n found l (t, m, e, h) = rw (e, h) refl
+  listed_open n found [] o = absurd o
+  listed_open n found (t ∷ l) o = rw (not_true (same closer t.terminal) o) refl
 
   pub listed_last : (n : ℕ) (found a : List A) (j : Leaf) (x l : List Lexeme) → Opens closer (x ++ tok closer j ∷ l)
       → Meets (item (x ++ tok closer j ∷ l)) (Done a (tok closer j ∷ l))
@@ -68,7 +60,7 @@ module _ {A : Type 0} (separator closer : Terminal) (other : same closer separat
   listed_last zero found a j x l o h = inl refl
   listed_last (suc n) found a j x l o h =
       rw (listed_open n found (x ++ tok closer j ∷ l) o)
-      (meets_then _ h (inr (ended_last (listed separator closer item n) (found ++ a) j l)))
+      (meets_then _ h (inr (rw same_self refl)))
 
   pub listed_more : (n : ℕ) (found a : List A) (i : Leaf) (x l : List Lexeme) → Opens closer (x ++ tok separator i ∷ l)
       → Meets (item (x ++ tok separator i ∷ l)) (Done a (tok separator i ∷ l))
@@ -78,7 +70,7 @@ module _ {A : Type 0} (separator closer : Terminal) (other : same closer separat
   listed_more (suc n) found a i x l o h = (
     n,
     rw (listed_open n found (x ++ tok separator i ∷ l) o)
-        (meets_then _ h (inr (ended_more (listed separator closer item n) (found ++ a) i l))),
+        (meets_then _ h (inr (rw (other, same_self) refl))),
   )
 
 -- a list in the grammar is read as its items, where each item is that stands before a separator or what closes the list
@@ -87,21 +79,17 @@ module _ {A : Type 0} (separator closer : Terminal) (other : same closer separat
     (opens : (x : List Lexeme) (a : A) → Item x a → Opens closer x)
     (reads : (x : List Lexeme) (a : A) → Item x a → (k : Terminal) (j : Leaf) (l : List Lexeme) → (k ≡ separator) ⊎ (k ≡ closer)
     → Meets (item (x ++ tok k j ∷ l)) (Done a (tok k j ∷ l))) where
-  single_reads : {x : List Lexeme} {a : A} → Item x a → (k : Terminal) (j : Leaf) (l : List Lexeme) → (k ≡ separator) ⊎ (k ≡ closer)
-      → Meets (single (item (x ++ tok k j ∷ l))) (Done (a ∷ []) (tok k j ∷ l))
-  single_reads {x} {a} h k j l s = meets_bind _ (reads x a h k j l s)
-
   pub listed_complete : {y : List Lexeme} {all : List A} → Listed Item separator closer y all → (n : ℕ) (found : List A) (l : List Lexeme)
       → (j : Leaf) × Meets (listed separator closer (λ m. single (item m)) n found (y ++ l)) (Done (found ++ all, j) l)
   listed_complete (none j) n found l = (j, rw append-nil (listed_none separator closer other (λ m. single (item m)) n found j l))
   listed_complete (last j {x} {a} h) n found l = (
     j,
     rw append_assoc (listed_last separator closer other (λ m. single (item m)) n found (a ∷ []) j x l
-        (opens_append closer x (tok closer j ∷ l) (opens x a h)) (single_reads h closer j l (inr refl))),
+        (begins_append _ x (tok closer j ∷ l) (opens x a h)) (meets_bind _ (reads x a h closer j l (inr refl)))),
   )
   listed_complete (more i {x} {y} {a} {all} h d) n found l =
       let one = listed_more separator closer other (λ m. single (item m)) n found (a ∷ []) i x (y ++ l)
-      (opens_append closer x (tok separator i ∷ (y ++ l)) (opens x a h)) (single_reads h separator i (y ++ l) (inl refl)) in
+      (begins_append _ x (tok separator i ∷ (y ++ l)) (opens x a h)) (meets_bind _ (reads x a h separator i (y ++ l) (inl refl))) in
       let rest = listed_complete d one.0 (found ++ a ∷ []) l in
       let rest' = rw append_assoc at rest.1 in (
         rest.0,

@@ -24,3 +24,7 @@ next_also (t ∷ l) h f = f t.terminal h
 pub next_append : (test : Terminal → Bool) (x z : List Lexeme) → NotNext test x → NotNext test z → NotNext test (x ++ z)
 next_append test [] z h g = g
 next_append test (t ∷ x) z h g = h
+
+pub begins_append : (test : Terminal → Bool) (x z : List Lexeme) → IsNext test x → IsNext test (x ++ z)
+begins_append test [] z h = absurd h
+begins_append test (t ∷ x) z h = h

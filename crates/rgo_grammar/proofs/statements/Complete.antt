@@ -15,7 +15,8 @@ use Rattle.rgo_grammar.specs.ReadExprs.{expr}
 use Rattle.rgo_grammar.specs.ReadStmts.{defining, else_on, return_on, vars_on, stmt, if_stmt, stmts, block}
 use Rattle.rgo_grammar.proofs.machine.Table.{rest}
 use Rattle.rgo_grammar.proofs.reading.Complete.{Meets, meets_trans, meets_bind, listed_none, listed_last, listed_more}
-use Rattle.rgo_grammar.proofs.expressions.Starts.{starts_append, expr_starts}
+use Rattle.rgo_grammar.proofs.reading.Next.{begins_append, next_also}
+use Rattle.rgo_grammar.proofs.expressions.Starts.{expr_starts}
 use Rattle.rgo_grammar.proofs.expressions.Complete.{expr_complete}
 use Rattle.rgo_grammar.proofs.statements.SimpleComplete.{simple_ends, simple_starts, simple_complete}
 use Rattle.rgo_grammar.proofs.statements.LocalsComplete.{one_complete, vars_complete}
@@ -32,12 +33,12 @@ mutual
       meets_bind _ (stmts_found d n n [] l)
   stmt_complete (simple {x} d) (suc n) l h =
       rw (stmt_simple n (x ++ l) (simple_starts d l))
-      (single_done (defining (expr false n 1) (x ++ l)) (simple_complete (expr false n 1) false (reads false n) d l (ends_as_simple l h)))
+      (single_done (defining (expr false n 1) (x ++ l)) (simple_complete (expr false n 1) false (reads false n) d l (next_also l h ends_as_simple)))
   stmt_complete (an_if {x} d) (suc n) l h = rw (stmt_if d n l) (single_done (if_at n (x ++ l)) (if_complete d n l h))
   stmt_complete (a_for {x} d) (suc n) l h = rw (stmt_for d n l) (single_done (for_at n (x ++ l)) (for_complete d n l))
   stmt_complete (go i j k d) (suc n) l h = going_done n i j k d l
   stmt_complete (var i {x} {v} d) (suc n) l h =
-      let vs = one_complete n (expr false n 1) (reads false n) d l (ends_as_local l h) in
+      let vs = one_complete n (expr false n 1) (reads false n) d l (next_also l h ends_as_local) in
       single_done (vars_on n (expr false n 1) (x ++ l) (first_of (x ++ l)) >>= given (λ vs. tree.Var vs i.at))
       (meets_bind _ vs)
   stmt_complete (vars i j {y} {vs} d) (suc n) l h =
@@ -48,8 +49,8 @@ mutual
       single_done (return_on (expr false n 1) i l (first_of l)) (inr (return_done (expr false n 1) i l h))
   stmt_complete (returns i {x} {v} e) (suc n) l h =
       single_done (return_on (expr false n 1) i (x ++ l) (first_of (x ++ l)))
-      (rw (returns_at (expr false n 1) i (x ++ l) (starts_append x l (expr_starts e)))
-      (meets_bind _ (expr_complete e n l (simple_ends l (ends_as_simple l h)))))
+      (rw (returns_at (expr false n 1) i (x ++ l) (begins_append _ x l (expr_starts e)))
+      (meets_bind _ (expr_complete e n l (simple_ends l (next_also l h ends_as_simple)))))
   stmt_complete (broken i) (suc n) l h = inr refl
   stmt_complete (continued i) (suc n) l h = inr refl
 
@@ -57,7 +58,7 @@ mutual
       → Meets (listed Semicolon CloseBrace (stmt n) m found (y ++ l)) (Done (found ++ b, j) l)
   stmts_found (end j) n m found l = rw append-nil (listed_none Semicolon CloseBrace refl (stmt n) m found j l)
   stmts_found (empty i {y} {b} {j} d) n m found l =
-      let one = listed_more Semicolon CloseBrace refl (stmt n) m found [] i [] (y ++ l) (tok Semicolon i, y ++ l, refl, refl)
+      let one = listed_more Semicolon CloseBrace refl (stmt n) m found [] i [] (y ++ l) refl
       (empty_item n i (y ++ l)) in
       let one' = rw append-nil at one.1 in
       meets_trans one' (stmts_found d n one.0 found l)

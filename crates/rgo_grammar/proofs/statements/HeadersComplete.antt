@@ -1,5 +1,5 @@
 -- Headers of `if` and `for` in the grammar are read as such.
-use Rattle.std.proofs.Common.{◌≡◌, inr, true, false, List, ◌∷◌, ◌++◌, Option, Some, None, refl, arith, ◌+◌}
+use Rattle.std.proofs.Common.{◌≡◌, inr, true, false, List, ◌∷◌, ◌++◌, Option, Some, None, refl, arith, ◌+◌, []}
 use Rattle.rgo_ast.specs.Tree as tree
 use Rattle.rgo_lexer.specs.declared.terminals.Terminal.{Terminal}
 use Rattle.rgo_lexer.specs.declared.terminals.Terminal.TheVariants.{OpenBrace, Semicolon}
@@ -11,7 +11,8 @@ use Rattle.rgo_grammar.specs.Grammar.IsCondition.{none as unconditional, some as
 use Rattle.rgo_grammar.specs.Reading.{Read, Done, ◌>>=◌, given, first_of, token}
 use Rattle.rgo_grammar.specs.ReadStmts.{valued, defining, condition, init, head_end_on, head_by, head, condition_by, condition_on, step_by, step_on, looped, for_rest, for_by, for_on}
 use Rattle.rgo_grammar.proofs.reading.Complete.{Meets, meets_bind, meets_then}
-use Rattle.rgo_grammar.proofs.expressions.Starts.{starts, Starts, starts_append, expr_starts}
+use Rattle.rgo_grammar.proofs.reading.Next.{begins_append}
+use Rattle.rgo_grammar.proofs.expressions.Starts.{starts, Starts, expr_starts}
 use Rattle.rgo_grammar.proofs.statements.SimpleComplete.{ReadsExprs, simple_starts, valued_complete, simple_complete}
 
 module _ (value : List Lexeme → Read tree.Expr) where
@@ -21,7 +22,8 @@ module _ (value : List Lexeme → Read tree.Expr) where
   head_kind _ l m h = refl
 
   head_at : (l : List Lexeme) → Starts l → head value l ≡ (defining value l >>= λ s w. head_end_on s w (first_of w))
-  head_at l (t, y, e, h) = rw e (head_kind t.terminal (t ∷ y) y h)
+  head_at [] h = absurd h
+  head_at (t ∷ l) h = head_kind t.terminal (t ∷ l) l h
 
   condition_kind : (k : Terminal) (l m : List Lexeme) → starts k ≡ true
       → condition_by value k l m ≡ (value l >>= λ v w. token Semicolon w >>= given (λ _. Some v))
@@ -30,21 +32,23 @@ module _ (value : List Lexeme → Read tree.Expr) where
 
   condition_at : (l : List Lexeme) → Starts l
       → condition_on value l (first_of l) ≡ (value l >>= λ v w. token Semicolon w >>= given (λ _. Some v))
-  condition_at l (t, y, e, h) = rw e (condition_kind t.terminal (t ∷ y) y h)
+  condition_at [] h = absurd h
+  condition_at (t ∷ l) h = condition_kind t.terminal (t ∷ l) l h
 
   step_kind : (k : Terminal) (l : List Lexeme) → starts k ≡ true → step_by value k l ≡ (valued value l >>= given (λ s. Some s))
   step_kind OpenBrace l h = cc
   step_kind _ l h = refl
 
   step_at : (l : List Lexeme) → Starts l → step_on value l (first_of l) ≡ (valued value l >>= given (λ s. Some s))
-  step_at l (t, y, e, h) = rw e (step_kind t.terminal (t ∷ y) h)
+  step_at [] h = absurd h
+  step_at (t ∷ l) h = step_kind t.terminal (t ∷ l) h
 
   module _ (value_done : ReadsExprs true value) where
     -- a condition before the block
     pub head_condition : {x : List Lexeme} {c : tree.Expr} → IsExpr true 1 x c → (k : Leaf) (l : List Lexeme)
         → Meets (head value (x ++ tok OpenBrace k ∷ l)) (Done (condition c) (tok OpenBrace k ∷ l))
     head_condition {x} {c} e k l =
-        rw (head_at (x ++ tok OpenBrace k ∷ l) (starts_append x (tok OpenBrace k ∷ l) (expr_starts e)))
+        rw (head_at (x ++ tok OpenBrace k ∷ l) (begins_append _ x (tok OpenBrace k ∷ l) (expr_starts e)))
         (meets_bind _ (simple_complete value true value_done (plain e) (tok OpenBrace k ∷ l) refl))
 
     -- what stands before the first `;`
@@ -59,7 +63,7 @@ module _ (value : List Lexeme → Read tree.Expr) where
         → Meets (condition_on value (x ++ tok Semicolon k ∷ l) (first_of (x ++ tok Semicolon k ∷ l))) (Done c l)
     condition_complete unconditional k l = inr refl
     condition_complete (on_condition {x} {v} e) k l =
-        rw (condition_at (x ++ tok Semicolon k ∷ l) (starts_append x (tok Semicolon k ∷ l) (expr_starts e)))
+        rw (condition_at (x ++ tok Semicolon k ∷ l) (begins_append _ x (tok Semicolon k ∷ l) (expr_starts e)))
         (meets_bind _ (value_done x v e (tok Semicolon k ∷ l) (omega arith, refl)))
 
     pub step_complete : {x : List Lexeme} {p : Option tree.Stmt} → IsClause false x p → (m : Leaf) (l : List Lexeme)
@@ -77,7 +81,8 @@ module _ (value : List Lexeme → Read tree.Expr) (value_done : ReadsExprs true 
   for_kind _ l h = refl
 
   for_at : (l : List Lexeme) → Starts l → for_on block value i l (first_of l) ≡ (head value l >>= for_rest block value i)
-  for_at l (t, y, e, h) = rw e (for_kind t.terminal (t ∷ y) h)
+  for_at [] h = absurd h
+  for_at (t ∷ l) h = for_kind t.terminal (t ∷ l) h
 
   for_clause_at : {x : List Lexeme} {s : Option tree.Stmt} → IsClause true x s → (j : Leaf) (l : List Lexeme)
       → for_on block value i (x ++ tok Semicolon j ∷ l) (first_of (x ++ tok Semicolon j ∷ l)) ≡
@@ -90,7 +95,7 @@ module _ (value : List Lexeme → Read tree.Expr) (value_done : ReadsExprs true 
       → Meets (for_on block value i (x ++ tok OpenBrace k ∷ l) (first_of (x ++ tok OpenBrace k ∷ l))) r
   while_complete unconditional k l r g = g
   while_complete (on_condition {x} {v} e) k l r g =
-      rw (for_at (x ++ tok OpenBrace k ∷ l) (starts_append x (tok OpenBrace k ∷ l) (expr_starts e)))
+      rw (for_at (x ++ tok OpenBrace k ∷ l) (begins_append _ x (tok OpenBrace k ∷ l) (expr_starts e)))
       (meets_then _ (head_condition value value_done e k l) g)
 
   pub three_complete : {u v w : List Lexeme} {s p : Option tree.Stmt} {c : Option tree.Expr} → IsClause true u s → IsCondition v c

@@ -13,11 +13,12 @@ use Rattle.rgo_grammar.specs.Reading.{Read, Done, Failed, Starving, ◌>>=◌, g
 use Rattle.rgo_grammar.specs.ReadExprs.{expr, exprs}
 use Rattle.rgo_grammar.specs.ReadStmts.{defining, else_body_on, else_by, else_on, branches, looped, for_on, return_by, return_on, stmt_by, stmts_by, block_by, stmt, if_stmt, stmts, block}
 use Rattle.rgo_grammar.proofs.reading.Complete.{Meets, meets_bind, meets_then, Opens}
-use Rattle.rgo_grammar.proofs.expressions.Starts.{starts, Starts, brace_closes, starts_open}
+use Rattle.rgo_grammar.proofs.reading.Next.{IsNext, next_also}
+use Rattle.rgo_grammar.proofs.expressions.Starts.{starts, Starts, brace_closes}
 use Rattle.rgo_grammar.proofs.expressions.Items.{paren_closer}
 use Rattle.rgo_grammar.proofs.expressions.Complete.{expr_complete, exprs_complete}
-use Rattle.rgo_grammar.proofs.statements.SimpleComplete.{EndsSimple, ReadsExprs, simple_starts}
-use Rattle.rgo_grammar.proofs.statements.LocalsComplete.{EndsLocal}
+use Rattle.rgo_grammar.proofs.statements.SimpleComplete.{ReadsExprs, simple_starts, ends_simple}
+use Rattle.rgo_grammar.proofs.statements.LocalsComplete.{ends_local}
 use Rattle.rgo_grammar.proofs.statements.HeadersComplete.{head_condition, head_clause}
 
 -- what a statement ends before
@@ -27,26 +28,17 @@ ends_stmt CloseBrace = true
 ends_stmt _ = false
 
 abbrev pub EndsStmt : List Lexeme → Type 0
-EndsStmt [] = ⊥
-EndsStmt (t ∷ l) = ends_stmt t.terminal ≡ true
+EndsStmt = IsNext ends_stmt
 
-simple_by : (k : Terminal) (i : Leaf) (l : List Lexeme) → ends_stmt k ≡ true → EndsSimple (tok k i ∷ l)
-simple_by Semicolon i l h = refl
-simple_by CloseBrace i l h = refl
-simple_by _ i l h = cc
+pub ends_as_simple : (k : Terminal) → ends_stmt k ≡ true → ends_simple k ≡ true
+ends_as_simple Semicolon h = refl
+ends_as_simple CloseBrace h = refl
+ends_as_simple _ h = cc
 
-pub ends_as_simple : (l : List Lexeme) → EndsStmt l → EndsSimple l
-ends_as_simple [] h = absurd h
-ends_as_simple (t ∷ l) h = simple_by t.terminal t.leaf l h
-
-local_by : (k : Terminal) (i : Leaf) (l : List Lexeme) → ends_stmt k ≡ true → EndsLocal (tok k i ∷ l)
-local_by Semicolon i l h = refl
-local_by CloseBrace i l h = refl
-local_by _ i l h = cc
-
-pub ends_as_local : (l : List Lexeme) → EndsStmt l → EndsLocal l
-ends_as_local [] h = absurd h
-ends_as_local (t ∷ l) h = local_by t.terminal t.leaf l h
+pub ends_as_local : (k : Terminal) → ends_stmt k ≡ true → ends_local k ≡ true
+ends_as_local Semicolon h = refl
+ends_as_local CloseBrace h = refl
+ends_as_local _ h = cc
 
 -- expressions, by any bound
 pub reads : (h : Bool) (n : ℕ) → ReadsExprs h (expr h n 1)
@@ -89,32 +81,23 @@ simple_kind n block stmts ifs _ i l m h = refl
 
 pub stmt_simple : (n : ℕ) (l : List Lexeme) → Starts l → stmt (suc n) l ≡ single (defining (expr false n 1) l)
 unfolding stmt
-stmt_simple n l (t, y, e, h) = rw e (simple_kind n (block_by (stmt n) n) (stmts_by (stmt n) n) (if_stmt n) t.terminal t.leaf (t ∷ y) y h)
-
-if_opens : {x : List Lexeme} {s : tree.Stmt} → IsIf x s → Opens CloseBrace x
-if_opens (plain i k {x} {y} {z} e d f) = (tok If i, x ++ tok OpenBrace k ∷ (y ++ z), refl, refl)
-if_opens (with i j k {w} {x} {y} {z} c e d f) = (tok If i, w ++ tok Semicolon j ∷ (x ++ tok OpenBrace k ∷ (y ++ z)), refl, refl)
-
-for_opens : {x : List Lexeme} {s : tree.Stmt} → IsFor x s → Opens CloseBrace x
-for_opens (while i k {x} {y} c d) = (tok For i, x ++ tok OpenBrace k ∷ y, refl, refl)
-for_opens (three i j k m {u} {v} {w} {y} s c p d) =
-    (tok For i, u ++ tok Semicolon j ∷ (v ++ tok Semicolon k ∷ (w ++ tok OpenBrace m ∷ y)), refl, refl)
-
-opens_append : (x l : List Lexeme) → Opens CloseBrace x → Opens CloseBrace (x ++ l)
-opens_append x l (t, m, e, h) = (t, m ++ l, rw e refl, h)
+stmt_simple n [] h = absurd h
+stmt_simple n (t ∷ l) h = simple_kind n (block_by (stmt n) n) (stmts_by (stmt n) n) (if_stmt n) t.terminal t.leaf (t ∷ l) l h
 
 pub stmt_opens : {x : List Lexeme} {s : tree.Stmt} → IsStmt x s → (l : List Lexeme) → Opens CloseBrace (x ++ l)
-stmt_opens (a_block i {y} d) l = (tok OpenBrace i, y ++ l, refl, refl)
-stmt_opens (simple {x} h) l = starts_open CloseBrace (x ++ l) brace_closes (simple_starts h l)
-stmt_opens (an_if {x} h) l = opens_append x l (if_opens h)
-stmt_opens (a_for {x} h) l = opens_append x l (for_opens h)
-stmt_opens (go i j k {y} d) l = (tok Go i, tok Name j ∷ tok OpenParen k ∷ (y ++ l), refl, refl)
-stmt_opens (var i {x} h) l = (tok Var i, x ++ l, refl, refl)
-stmt_opens (vars i j {y} d) l = (tok Var i, tok OpenParen j ∷ (y ++ l), refl, refl)
-stmt_opens (returned i) l = (tok Return i, l, refl, refl)
-stmt_opens (returns i {x} e) l = (tok Return i, x ++ l, refl, refl)
-stmt_opens (broken i) l = (tok Break i, l, refl, refl)
-stmt_opens (continued i) l = (tok Continue i, l, refl, refl)
+stmt_opens (a_block i d) l = refl
+stmt_opens (simple {x} h) l = next_also (x ++ l) (simple_starts h l) brace_closes
+stmt_opens (an_if (plain i k e d f)) l = refl
+stmt_opens (an_if (with i j k c e d f)) l = refl
+stmt_opens (a_for (while i k c d)) l = refl
+stmt_opens (a_for (three i j k m s c p d)) l = refl
+stmt_opens (go i j k d) l = refl
+stmt_opens (var i h) l = refl
+stmt_opens (vars i j d) l = refl
+stmt_opens (returned i) l = refl
+stmt_opens (returns i e) l = refl
+stmt_opens (broken i) l = refl
+stmt_opens (continued i) l = refl
 
 -- ---- their parts
 
@@ -140,7 +123,8 @@ returns_kind value i _ l h = refl
 
 pub returns_at : (value : List Lexeme → Read tree.Expr) (i : Leaf) (l : List Lexeme) → Starts l
     → return_on value i l (first_of l) ≡ (value l >>= given (λ v. tree.Return (Some v) i.at))
-returns_at value i l (t, y, e, h) = rw e (returns_kind value i t.terminal (t ∷ y) h)
+returns_at value i [] h = absurd h
+returns_at value i (t ∷ l) h = returns_kind value i t.terminal (t ∷ l) h
 
 else_kind : (block : List Lexeme → Read (List tree.Stmt × Leaf)) (again : Leaf → List Lexeme → Read tree.Stmt) (k : Terminal) (l m : List Lexeme)
     → ends_stmt k ≡ true

@@ -14,6 +14,7 @@ use Rattle.rgo_grammar.specs.Reading.{Read, Done, ◌>>=◌, given, first_of, si
 use Rattle.rgo_grammar.specs.ReadTypes.{a_type, bound}
 use Rattle.rgo_grammar.specs.ReadStmts.{initial_by, initial, local_on, local, vars_on}
 use Rattle.rgo_grammar.proofs.reading.Complete.{Meets, meets_bind, meets_then, Opens, listed_complete}
+use Rattle.rgo_grammar.proofs.reading.Next.{IsNext}
 use Rattle.rgo_grammar.proofs.types.Complete.{type_complete, binding_complete}
 use Rattle.rgo_grammar.proofs.expressions.Ends.{EndsExpr}
 use Rattle.rgo_grammar.proofs.statements.SimpleComplete.{ReadsExprs}
@@ -26,8 +27,7 @@ ends_local CloseBrace = true
 ends_local _ = false
 
 abbrev pub EndsLocal : List Lexeme → Type 0
-EndsLocal [] = ⊥
-EndsLocal (t ∷ l) = ends_local t.terminal ≡ true
+EndsLocal = IsNext ends_local
 
 ends_by : (k : Terminal) (i : Leaf) (l : List Lexeme) → ends_local k ≡ true → EndsExpr (tok k i ∷ l)
 ends_by Semicolon i l h = (omega arith, refl)
@@ -38,13 +38,6 @@ ends_by _ i l h = cc
 local_ends : (l : List Lexeme) → EndsLocal l → EndsExpr l
 local_ends [] h = absurd h
 local_ends (t ∷ l) h = ends_by t.terminal t.leaf l h
-
--- it begins with a name
-local_first : {x : List Lexeme} {v : tree.LocalVar} → IsLocal x v → (i : Leaf) × (y : List Lexeme) × (x ≡ tok Name i ∷ y)
-local_first (zeroed (of_names {y = y} (one_name i) t)) = (i, y, refl)
-local_first (zeroed (of_names {y = y} (more_names i j {x} h) t)) = (i, tok Comma j ∷ (x ++ y), refl)
-local_first (typed i j {x} {y} h e) = (i, x ++ tok (Assign assign_op.Plain) j ∷ y, refl)
-local_first (inferred i j {y} e) = (i, tok (Assign assign_op.Plain) j ∷ y, refl)
 
 module _ (n : ℕ) (value : List Lexeme → Read tree.Expr) (value_done : ReadsExprs false value) where
   initial_end_by : (i : Leaf) (t : tree.TypeExpr) (k : Terminal) (j : Leaf) (l m : List Lexeme) → ends_local k ≡ true
@@ -86,7 +79,10 @@ module _ (n : ℕ) (value : List Lexeme → Read tree.Expr) (value_done : ReadsE
   local_complete (inferred i j {y} {v} g) l e = value_given g (λ u. tree.Inferred (ident i) u j.at) l e
 
   local_opens : (x : List Lexeme) (v : tree.LocalVar) → IsLocal x v → Opens CloseParen x
-  local_opens x v h = let f = local_first h in (tok Name f.0, f.1, f.2, refl)
+  local_opens _ _ (zeroed (of_names (one_name i) t)) = refl
+  local_opens _ _ (zeroed (of_names (more_names i j h) t)) = refl
+  local_opens _ _ (typed i j h e) = refl
+  local_opens _ _ (inferred i j e) = refl
 
   local_reads : (x : List Lexeme) (v : tree.LocalVar) → IsLocal x v → (k : Terminal) (j : Leaf) (l : List Lexeme)
       → (k ≡ Semicolon) ⊎ (k ≡ CloseParen)
@@ -94,14 +90,17 @@ module _ (n : ℕ) (value : List Lexeme → Read tree.Expr) (value_done : ReadsE
   local_reads x v h k j l (inl e) = local_complete h (tok k j ∷ l) (rw e refl)
   local_reads x v h k j l (inr e) = local_complete h (tok k j ∷ l) (rw e refl)
 
-  -- behind `var`
+  -- after `var`
+  one_at : {x : List Lexeme} {v : tree.LocalVar} → IsLocal x v → (l : List Lexeme)
+      → vars_on n value (x ++ l) (first_of (x ++ l)) ≡ single (local n value (x ++ l))
+  one_at (zeroed (of_names (one_name i) t)) l = refl
+  one_at (zeroed (of_names (more_names i j h) t)) l = refl
+  one_at (typed i j h e) l = refl
+  one_at (inferred i j e) l = refl
+
   pub one_complete : {x : List Lexeme} {v : tree.LocalVar} → IsLocal x v → (l : List Lexeme) → EndsLocal l
       → Meets (vars_on n value (x ++ l) (first_of (x ++ l))) (Done (v ∷ []) l)
-  one_complete {x} {v} h l e =
-      rw (one_at h l) (meets_bind _ (local_complete h l e)) where
-        one_at : {x : List Lexeme} {v : tree.LocalVar} → IsLocal x v → (l : List Lexeme)
-            → vars_on n value (x ++ l) (first_of (x ++ l)) ≡ single (local n value (x ++ l))
-        one_at h l = let f = local_first h in rw f.2 refl
+  one_complete h l e = rw (one_at h l) (meets_bind _ (local_complete h l e))
 
   pub vars_complete : (i : Leaf) {y : List Lexeme} {vs : List tree.LocalVar} → Listed IsLocal Semicolon CloseParen y vs → (l : List Lexeme)
       → Meets (vars_on n value (tok OpenParen i ∷ (y ++ l)) (first_of (tok OpenParen i ∷ (y ++ l)))) (Done vs l)

@@ -11,8 +11,9 @@ use Rattle.rgo_grammar.specs.Grammar.IsSimple.{plain, send, step as stepped, ass
 use Rattle.rgo_grammar.specs.Reading.{Read, Done, first_of}
 use Rattle.rgo_grammar.specs.ReadStmts.{simple_by, simple_on, valued, named_by, named_on, defining_by, defining}
 use Rattle.rgo_grammar.proofs.reading.Complete.{Meets, meets_bind, meets_then}
-use Rattle.rgo_grammar.proofs.expressions.Starts.{Starts, starts_append, expr_starts}
-use Rattle.rgo_grammar.proofs.expressions.Second.{Apart, FirstNot, name_then, SecondNot, second_append, second_not}
+use Rattle.rgo_grammar.proofs.reading.Next.{IsNext, NotNext, begins_append, next_other}
+use Rattle.rgo_grammar.proofs.expressions.Starts.{Starts, expr_starts}
+use Rattle.rgo_grammar.proofs.expressions.Second.{Apart, name_then, SecondNot, second_append, second_not}
 use Rattle.rgo_grammar.proofs.expressions.Ends.{EndsExpr}
 
 -- what a simple statement ends before
@@ -23,8 +24,7 @@ ends_simple OpenBrace = true
 ends_simple _ = false
 
 abbrev pub EndsSimple : List Lexeme → Type 0
-EndsSimple [] = ⊥
-EndsSimple (t ∷ l) = ends_simple t.terminal ≡ true
+EndsSimple = IsNext ends_simple
 
 ends_by : (k : Terminal) (i : Leaf) (l : List Lexeme) → ends_simple k ≡ true → EndsExpr (tok k i ∷ l)
 ends_by Semicolon i l h = (omega arith, refl)
@@ -46,23 +46,19 @@ define_apart = record { dot = refl; bracket = refl; paren = refl; operator = λ 
 abbrev Undefined : List Lexeme → Type 0
 Undefined l = SecondNot (same Define) l
 
-expr_undefined : {h : Bool} {x : List Lexeme} {v : tree.Expr} (z : List Lexeme) → IsExpr h 1 x v → FirstNot (same Define) z → Undefined (x ++ z)
+expr_undefined : {h : Bool} {x : List Lexeme} {v : tree.Expr} (z : List Lexeme) → IsExpr h 1 x v → NotNext (same Define) z → Undefined (x ++ z)
 expr_undefined {x = x} z e h = second_append (same Define) x z (expr_starts e) (second_not (same Define) define_apart e) h
 
-ends_undefined_by : (k : Terminal) → ends_simple k ≡ true → same Define k ≡ false
-ends_undefined_by Define h = cc
-ends_undefined_by _ h = refl
-
-ends_undefined : (l : List Lexeme) → EndsSimple l → FirstNot (same Define) l
-ends_undefined [] h = absurd h
-ends_undefined (t ∷ l) h = ends_undefined_by t.terminal h
+ends_undefined : (k : Terminal) → ends_simple k ≡ true → same Define k ≡ false
+ends_undefined Define h = cc
+ends_undefined _ h = refl
 
 pub simple_starts : {h d : Bool} {x : List Lexeme} {s : tree.Stmt} → IsSimple h d x s → (l : List Lexeme) → Starts (x ++ l)
-simple_starts (plain {x} e) l = starts_append x l (expr_starts e)
-simple_starts (send i {x} {y} e g) l = rw append_assoc (starts_append x (tok Arrow i ∷ (y ++ l)) (expr_starts e))
-simple_starts (stepped o i {x} e) l = rw append_assoc (starts_append x (tok (Step o) i ∷ l) (expr_starts e))
-simple_starts (assign o i {x} {y} e g) l = rw append_assoc (starts_append x (tok (Assign o) i ∷ (y ++ l)) (expr_starts e))
-simple_starts (define i j {x} e) l = (tok Name i, tok Define j ∷ (x ++ l), refl, refl)
+simple_starts (plain {x} e) l = begins_append _ x l (expr_starts e)
+simple_starts (send i {x} {y} e g) l = rw append_assoc (begins_append _ x (tok Arrow i ∷ (y ++ l)) (expr_starts e))
+simple_starts (stepped o i {x} e) l = rw append_assoc (begins_append _ x (tok (Step o) i ∷ l) (expr_starts e))
+simple_starts (assign o i {x} {y} e g) l = rw append_assoc (begins_append _ x (tok (Assign o) i ∷ (y ++ l)) (expr_starts e))
+simple_starts (define i j {x} e) l = refl
 
 module _ (value : List Lexeme → Read tree.Expr) where
   simple_end_by : (a : tree.Expr) (k : Terminal) (i : Leaf) (l m : List Lexeme) → ends_simple k ≡ true
@@ -80,7 +76,7 @@ module _ (value : List Lexeme → Read tree.Expr) where
   second_by i Define j l m h = cc
   second_by i _ j l m h = refl
 
-  second_on : (i : Leaf) (l m : List Lexeme) → FirstNot (same Define) m → named_on value i l (first_of m) ≡ valued value l
+  second_on : (i : Leaf) (l m : List Lexeme) → NotNext (same Define) m → named_on value i l (first_of m) ≡ valued value l
   second_on i l [] h = refl
   second_on i l (t ∷ m) h = second_by i t.terminal t.leaf l m h
 
@@ -89,7 +85,8 @@ module _ (value : List Lexeme → Read tree.Expr) where
   undefined_by _ i l m h = refl
 
   undefined_at : (l : List Lexeme) → Starts l → Undefined l → defining value l ≡ valued value l
-  undefined_at l (t, y, e, h) u = let u' = rw e at u in rw e (undefined_by t.terminal t.leaf (t ∷ y) y u')
+  undefined_at [] h u = absurd h
+  undefined_at (t ∷ l) h u = undefined_by t.terminal t.leaf (t ∷ l) l u
 
   module _ (h : Bool) (value_done : ReadsExprs h value) where
     plain_done : {x : List Lexeme} {v : tree.Expr} → IsExpr h 1 x v → (l : List Lexeme) → EndsSimple l
@@ -124,15 +121,15 @@ module _ (value : List Lexeme → Read tree.Expr) where
     pub simple_complete : {x : List Lexeme} {s : tree.Stmt} → IsSimple h true x s → (l : List Lexeme) → EndsSimple l
         → Meets (defining value (x ++ l)) (Done s l)
     simple_complete (plain {x} e) l d =
-        rw (undefined_at (x ++ l) (starts_append x l (expr_starts e)) (expr_undefined l e (ends_undefined l d))) (plain_done e l d)
+        rw (undefined_at (x ++ l) (begins_append _ x l (expr_starts e)) (expr_undefined l e (next_other l d ends_undefined))) (plain_done e l d)
     simple_complete (send i {x} {y} e g) l d =
         let z = tok Arrow i ∷ (y ++ l) in
-        rw (append_assoc, undefined_at (x ++ z) (starts_append x z (expr_starts e)) (expr_undefined z e refl)) (send_done i e g l d)
+        rw (append_assoc, undefined_at (x ++ z) (begins_append _ x z (expr_starts e)) (expr_undefined z e refl)) (send_done i e g l d)
     simple_complete (stepped o i {x} e) l d =
         let z = tok (Step o) i ∷ l in
-        rw (append_assoc, undefined_at (x ++ z) (starts_append x z (expr_starts e)) (expr_undefined z e refl)) (step_done o i e l)
+        rw (append_assoc, undefined_at (x ++ z) (begins_append _ x z (expr_starts e)) (expr_undefined z e refl)) (step_done o i e l)
     simple_complete (assign o i {x} {y} e g) l d =
         let z = tok (Assign o) i ∷ (y ++ l) in
-        rw (append_assoc, undefined_at (x ++ z) (starts_append x z (expr_starts e)) (expr_undefined z e refl)) (assign_done o i e g l d)
+        rw (append_assoc, undefined_at (x ++ z) (begins_append _ x z (expr_starts e)) (expr_undefined z e refl)) (assign_done o i e g l d)
     simple_complete (define i j {x} {v} e) l d =
         meets_bind _ (value_done x v e l (simple_ends l d))

@@ -1,5 +1,5 @@
 -- Names and types of the grammar are read as such.
-use Rattle.std.proofs.Common.{◌≡◌, ℕ, zero, suc, inl, inr, false, List, [], ◌∷◌, ◌++◌, refl, ap, append_assoc, ◌+◌}
+use Rattle.std.proofs.Common.{◌≡◌, ℕ, zero, suc, inl, inr, false, List, [], ◌∷◌, ◌++◌, refl, append_assoc, ◌+◌}
 use Rattle.rgo_ast.specs.declared.names.Ident.{Ident}
 use Rattle.rgo_ast.specs.Tree.{Binding}
 use Rattle.rgo_ast.specs.Tree as tree
@@ -53,13 +53,10 @@ binding_complete _ _ (of_names {x} {y} {ns} {t} h g) n l =
     rw (append_assoc, ← bind_assoc (token Name (x ++ (y ++ l))) (λ i. names n (ident i ∷ [])) (λ ms w. a_type n w >>= given (bound ms)))
     (meets_then _ (names_complete h n [] (y ++ l) (type_starts y t l g)) (meets_bind _ (type_complete y t g n l)))
 
--- names and types begin with a name
-names_open : (closer : Terminal) → same closer Name ≡ false → (x : List Lexeme) (ns : List Ident) → IsNames x ns → Opens closer x
-names_open closer e _ _ (one i) = (tok Name i, [], refl, e)
-names_open closer e _ _ (more i j {x} h) = (tok Name i, tok Comma j ∷ x, refl, e)
-
+-- a binding begins with a name
 pub binding_opens : (closer : Terminal) → same closer Name ≡ false → (x : List Lexeme) (b : Binding) → IsBinding x b → Opens closer x
-binding_opens closer e _ _ (of_names {x} {y} {ns} h g) = let o = names_open closer e x ns h in (o.0, o.1 ++ y, ap (λ m. m ++ y) o.2, o.3)
+binding_opens closer e _ _ (of_names (one i) g) = rw e refl
+binding_opens closer e _ _ (of_names (more i j h) g) = rw e refl
 
 pub bindings_complete : (separator closer : Terminal) → same closer separator ≡ false → same closer Name ≡ false
     → {y : List Lexeme} {bs : List Binding} → Listed IsBinding separator closer y bs → (n : ℕ) (l : List Lexeme)
