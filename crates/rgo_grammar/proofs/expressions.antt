@@ -4,6 +4,5 @@ pub mod Literals
 pub mod Correct
 pub mod Second
 pub mod Ends
-pub mod Builtins
-pub mod Items
+pub mod Parts
 pub mod Complete

@@ -1,12 +1,8 @@
 pub mod Simple
 pub mod Locals
 pub mod Headers
-pub mod Loops
 pub mod Branches
-pub mod Kinds
 pub mod Correct
-pub mod SimpleComplete
-pub mod LocalsComplete
-pub mod HeadersComplete
+pub mod Parts
 pub mod KindsComplete
 pub mod Complete

@@ -9,14 +9,14 @@ use Rattle.rgo_lexer.specs.Lexemes.{Leaf, Lexeme, tok}
 use Rattle.rgo_grammar.specs.Grammar.{IsPath, IsImport, IsTypeSpec, IsResult, IsBinding, IsDecl, Listed}
 use Rattle.rgo_grammar.specs.Reading.{◌>>=◌, given, first_of}
 use Rattle.rgo_grammar.specs.ReadStmts.{block}
-use Rattle.rgo_grammar.specs.ReadDecls.{import_path, import_decl, type_spec, result_by, result_on, function, func, group}
+use Rattle.rgo_grammar.specs.ReadDecls.{import_path, import_decl, type_spec, result_by, function, func, group, result_on}
 use Rattle.rgo_grammar.specs.ReadTypes.{binding}
 use Rattle.rgo_grammar.specs.Grammar as g
 use Rattle.rgo_grammar.proofs.machine.Table.{T, Paths, PathList, Specs, SpecList, Vars, VarList, Fields, AType, Params, Result, Block, step}
-use Rattle.rgo_grammar.proofs.machine.Runs.{run, closes}
+use Rattle.rgo_grammar.proofs.machine.Runs.{run}
 use Rattle.rgo_grammar.proofs.machine.Starts.{starts_as}
-use Rattle.rgo_grammar.proofs.reading.Correct.Correct.{done, stops}
-use Rattle.rgo_grammar.proofs.reading.Correct.{Correct, same_start, correct_bind, correct_given, correct_under, correct_then, correct_token_then, correct_token_given, shorter}
+use Rattle.rgo_grammar.proofs.reading.Correct.Correct.{done}
+use Rattle.rgo_grammar.proofs.reading.Correct.{Correct, same_start, correct_bind, correct_given, correct_under, correct_then, correct_token_then, correct_token_given, shorter, at_token}
 use Rattle.rgo_grammar.proofs.reading.Lists.{IsGroup, group_correct, list_syms}
 use Rattle.rgo_grammar.proofs.types.Correct.{type_correct, bindings_correct, binding_correct}
 use Rattle.rgo_grammar.proofs.statements.Correct.{block_correct}
@@ -78,12 +78,6 @@ result_by_correct n OpenBrace i m h = done [] refl g.none (λ s. refl)
 result_by_correct n k i m h =
     same_start (correct_given _ (correct_under (Block ∷ []) (type_correct n (tok k i ∷ m) (omega arith))) (λ z t w d. g.some d)) (λ s. starts_as Result AType (Block ∷ []) (tok k i) m s refl refl refl)
 
-result_correct : (n : ℕ) (l : List Lexeme) → length l < n
-    → Correct (Result ∷ []) (λ _. Block ∷ []) (λ z r w. IsResult z r) l (result_on n l (first_of l))
-unfolding run closes
-result_correct n [] h = stops (λ s. refl)
-result_correct n (t ∷ l) h = result_by_correct n t.terminal t.leaf l (omega arith)
-
 module _ (n : ℕ) where
   body_correct : (i j k : Leaf) (x y : List Lexeme) (ps : List Binding) (r : Option tree.TypeExpr) (l : List Lexeme) → 4 * length l + 4 ≤ n
       → Listed IsBinding Comma CloseParen x ps → IsResult y r
@@ -97,5 +91,5 @@ module _ (n : ℕ) where
   func_correct i l h =
       correct_token_then Name refl (λ j w c. correct_token_then OpenParen refl (λ k u d.
       correct_then (bindings_correct (list_syms refl refl refl refl refl refl) n u (omega (arith, ap length c, ap length d))) (λ x ps v e p.
-      correct_bind (result_correct n v (omega (arith, ap length c, ap length d, shorter u x v e))) (λ y r v' f q.
+      correct_bind (at_token (λ w. result_on n w (first_of w)) refl refl (λ t n' c'. result_by_correct n t.terminal t.leaf n' (omega (arith, ap length c, ap length d, shorter u x v e, ap length c')))) (λ y r v' f q.
       body_correct i j k x y ps.0 r v' (omega (arith, ap length c, ap length d, shorter u x v e, shorter v y v' f)) p q))))

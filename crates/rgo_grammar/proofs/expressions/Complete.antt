@@ -18,8 +18,7 @@ use Rattle.rgo_grammar.proofs.reading.Complete.{Meets, meets_trans, meets_bind}
 use Rattle.rgo_grammar.proofs.reading.Next.{next_also}
 use Rattle.rgo_grammar.proofs.expressions.Starts.{top, expr_starts}
 use Rattle.rgo_grammar.proofs.expressions.Ends.{Unposted, EndsExpr, finished, operated, selected, indexed_at, called_at, parens_at, signed_at, primary_at}
-use Rattle.rgo_grammar.proofs.expressions.Builtins.{new_complete, slice_complete, chan_complete, sized_complete}
-use Rattle.rgo_grammar.proofs.expressions.Items.{Closer, paren_closer, brace_closer, items_none, items_last, items_more, element_at, literal_at, keyed_at}
+use Rattle.rgo_grammar.proofs.expressions.Parts.{Closer, brace_closer, chan_complete, element_at, items_last, items_more, items_none, keyed_at, literal_at, new_complete, paren_closer, sized_complete, slice_complete}
 
 mutual
   unfolding expr several

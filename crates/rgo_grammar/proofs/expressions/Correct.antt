@@ -143,12 +143,6 @@ pub value_correct : (h : Bool) (n : ℕ) (l : List Lexeme) → 4 * length l + 3 
 value_correct h n l b =
     correct_popped (expr_correct h n 1 l (omega arith) b)
 
--- the same, with what comes next
-pub value_ends : (h : Bool) (n : ℕ) (l : List Lexeme) → 4 * length l + 3 ≤ n
-    → Correct (Unary h ∷ Bin h ∷ []) (λ _. []) (λ z v w. IsExpr h 1 z v × (top w < 1)) l (expr h n 1 l)
-value_ends h n l b =
-    correct_popped (correct_weaker (expr_correct h n 1 l (omega arith) b) (λ z v w c g. (g, g.1)))
-
 -- an argument list behind its `(`
 pub args_correct : (n : ℕ) (l : List Lexeme) → 4 * length l + 3 ≤ n
     → Correct (Args ∷ []) (λ _. []) (λ z x w. IsExprs CloseParen z x.0) l (exprs CloseParen n (expr false n 1) l)

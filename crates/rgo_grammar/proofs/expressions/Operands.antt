@@ -12,14 +12,14 @@ use Rattle.rgo_grammar.specs.Grammar.IsMakeEnd.{plain, comma}
 use Rattle.rgo_grammar.specs.Grammar.IsPrimary.{new, make_slice as is_slice, make_chan, make_sized, number, text, name, parens as in_parens, select, index, call}
 use Rattle.rgo_grammar.specs.Grammar.Listed.{none as none_item, last as last_item, more as next_item}
 use Rattle.rgo_grammar.specs.Grammar.{IsPrimary, IsType, IsMakeEnd, Listed, IsExpr, IsExprs}
-use Rattle.rgo_grammar.specs.ReadExprs.{exprs, make_end, make_end_by, capacity, capacity_by, sized, sized_by, make_slice, made, made_by, new_at, parens, operand_by, post_by}
+use Rattle.rgo_grammar.specs.ReadExprs.{exprs, make_end, make_end_by, capacity_by, sized_by, make_slice, made_by, new_at, parens, operand_by, post_by, made, capacity, sized}
 use Rattle.rgo_grammar.specs.ReadTypes.{a_type}
 use Rattle.rgo_grammar.specs.Reading.{Read}
 use Rattle.rgo_grammar.proofs.machine.Table.{Sym, Bin, Args, expr_row, T, Unary, Post, step, AType, MakeType, MakeSize, MakeMore, MakeEnd, closer}
-use Rattle.rgo_grammar.proofs.machine.Runs.{run, closes}
+use Rattle.rgo_grammar.proofs.machine.Runs.{run}
 use Rattle.rgo_grammar.proofs.machine.Starts.{starts_as}
 use Rattle.rgo_grammar.proofs.reading.Correct.Correct.{done, stops}
-use Rattle.rgo_grammar.proofs.reading.Correct.{Correct, same_start, correct_weaker, correct_under, token_read, correct_then, correct_token_then, correct_token_given, shorter, correct_given, correct_token}
+use Rattle.rgo_grammar.proofs.reading.Correct.{Correct, same_start, correct_weaker, correct_under, token_read, correct_then, correct_token_then, correct_token_given, shorter, correct_given, correct_token, at_token}
 use Rattle.rgo_grammar.proofs.reading.Lists.{ListSyms, list_correct, list_syms}
 use Rattle.rgo_grammar.proofs.types.Correct.{type_correct}
 use Rattle.rgo_grammar.proofs.expressions.Starts.{Reads, unsigned}
@@ -34,10 +34,8 @@ make_end_by_correct Comma i l =
     token_read (correct_weaker (correct_token CloseParen refl) (λ z j w c e. rw e (comma i j))) (λ s. refl)
 make_end_by_correct _ i l = stops (λ s. refl)
 
-pub make_end_correct : (l : List Lexeme) → Correct (MakeEnd ∷ []) (λ _. []) (λ z j w. IsMakeEnd z) l (make_end l)
-unfolding run closes
-make_end_correct [] = stops (λ s. refl)
-make_end_correct (t ∷ l) = make_end_by_correct t.terminal t.leaf l
+make_end_correct : (l : List Lexeme) → Correct (MakeEnd ∷ []) (λ _. []) (λ z j w. IsMakeEnd z) l (make_end l)
+make_end_correct l = at_token make_end refl refl (λ t m c. make_end_by_correct t.terminal t.leaf m)
 
 pub new_correct : (i : Leaf) (l : List Lexeme)
     → Correct (T OpenParen ∷ T Name ∷ T CloseParen ∷ []) (λ _. []) (λ z v w. IsPrimary (tok New i ∷ z) v) l (new_at i l)
@@ -52,9 +50,6 @@ exprs_listed : {closer : Terminal} {z : List Lexeme} {vs : List tree.Expr} → L
 exprs_listed (none_item j) = none j
 exprs_listed (last_item j h) = last j h
 exprs_listed (next_item j h d) = more j h (exprs_listed d)
-
-abbrev pub IsValue : List Lexeme → tree.Expr → List Lexeme → Type 0
-IsValue z v w = IsExpr false 1 z v
 
 -- `inner` reads an expression in brackets, of lists up to a bound
 module _ (bound : ℕ) (inner : List Lexeme → Read tree.Expr) (inner_c : (m : List Lexeme) → length m ≤ bound → Reads inner m) where
@@ -87,12 +82,6 @@ module _ (bound : ℕ) (inner : List Lexeme → Read tree.Expr) (inner_c : (m : 
       (λ y v w _ hy. correct_given _ (make_end_correct w) (λ z _ u hz. make_sized i j k c h hy hz)))
       (λ s. starts_as MakeMore (Unary false) (Bin false ∷ MakeEnd ∷ []) (tok q d) l s refl refl refl)
 
-  capacity_correct : (i j k c : Leaf) (x : List Lexeme) (t : tree.TypeExpr) (l : List Lexeme) → IsType x t → length l ≤ bound
-      → Correct (MakeMore ∷ []) (λ _. []) (IsSized i j k c x) l (capacity inner t i l)
-  unfolding run closes
-  capacity_correct i j k c x t [] h b = stops (λ s. refl)
-  capacity_correct i j k c x t (d ∷ l) h b = capacity_by_correct i j k c x t d.terminal d.leaf l h (omega arith)
-
   -- behind `make ( chan Type`
   abbrev IsChan : Leaf → Leaf → Leaf → List Lexeme → List Lexeme → tree.Expr → List Lexeme → Type 0
   IsChan i j k x z v w = IsPrimary (tok Make i ∷ tok OpenParen j ∷ tok Chan k ∷ (x ++ z)) v
@@ -102,14 +91,8 @@ module _ (bound : ℕ) (inner : List Lexeme → Read tree.Expr) (inner_c : (m : 
   unfolding run step
   sized_by_correct i j k x t CloseParen d l h b = done (tok CloseParen d ∷ []) refl (make_chan i j k h (plain d)) (λ s. refl)
   sized_by_correct i j k x t Comma d l h b =
-      token_read (capacity_correct i j k d x t l h (omega arith)) (λ s. refl)
+      token_read (at_token (capacity inner t i) refl refl (λ u m e. capacity_by_correct i j k d x t u.terminal u.leaf m h (omega (arith, ap length e)))) (λ s. refl)
   sized_by_correct i j k x t q d l h b = stops (λ s. refl)
-
-  sized_correct : (i j k : Leaf) (x : List Lexeme) (t : tree.TypeExpr) (l : List Lexeme) → IsType x t → length l ≤ bound
-      → Correct (MakeSize ∷ []) (λ _. []) (IsChan i j k x) l (sized inner t i l)
-  unfolding run closes
-  sized_correct i j k x t [] h b = stops (λ s. refl)
-  sized_correct i j k x t (d ∷ l) h b = sized_by_correct i j k x t d.terminal d.leaf l h (omega arith)
 
   -- behind `make ( [ ] Type`
   abbrev IsSlice : Leaf → Leaf → Leaf → Leaf → List Lexeme → List Lexeme → tree.Expr → List Lexeme → Type 0
@@ -136,15 +119,8 @@ module _ (bound : ℕ) (inner : List Lexeme → Read tree.Expr) (inner_c : (m : 
       slice_correct i j d m x t u h (omega (arith, ap length c, shorter w x u e))))) (λ s. refl)
   made_by_correct n big i j Chan d l b type_c =
       token_read (correct_then (type_c l (omega arith)) (λ x t u e h.
-      sized_correct i j d x t u h (omega (arith, shorter l x u e)))) (λ s. refl)
+      at_token (sized inner t i) refl refl (λ a m c. sized_by_correct i j d x t a.terminal a.leaf m h (omega (arith, shorter l x u e, ap length c))))) (λ s. refl)
   made_by_correct n big i j q d l b type_c = stops (λ s. refl)
-
-  pub made_correct : (n : ℕ) → bound < n → (i j : Leaf) (l : List Lexeme) → length l ≤ bound
-      → ((m : List Lexeme) → length m < n → Correct (AType ∷ []) (λ _. []) (λ z t w. IsType z t) m (a_type n m))
-      → Correct (MakeType ∷ []) (λ _. []) (λ z v w. IsPrimary (tok Make i ∷ tok OpenParen j ∷ z) v) l (made n inner i l)
-  unfolding run closes
-  made_correct n big i j [] b type_c = stops (λ s. refl)
-  made_correct n big i j (d ∷ l) b type_c = made_by_correct n big i j d.terminal d.leaf l (omega arith) type_c
 
   -- ---- primary expressions
 
@@ -171,7 +147,8 @@ module _ (bound : ℕ) (inner : List Lexeme → Read tree.Expr) (inner_c : (m : 
       token_read (correct_under (Post ∷ []) (new_correct i l)) (λ s. refl)
   operand_by_correct n big h Make i l b u =
       token_read (correct_under (Post ∷ []) (correct_token_then OpenParen refl (λ j w c.
-      made_correct n big i j w (omega (arith, ap length c)) (λ m g. type_correct n m g)))) (λ s. refl)
+      at_token (made n inner i) refl refl (λ t m d. made_by_correct n big i j t.terminal t.leaf m (omega (arith, ap length c, ap length d))
+      (λ v g. type_correct n v g))))) (λ s. refl)
   operand_by_correct n big true k i l b u = stops (λ s. refl)
   operand_by_correct n big false k i l b u = stops (λ s. refl)
 

@@ -5,8 +5,9 @@ use Rattle.rgo_lexer.specs.declared.terminals.Terminal.{Terminal}
 use Rattle.rgo_lexer.specs.declared.terminals.Terminal.TheVariants.{Name, Main, New, Make, Number, Text, Binary, Bang, Ampersand, Arrow, Define, Assign, Step, OpenParen, CloseParen, OpenBracket, CloseBracket, OpenBrace, CloseBrace, Comma, Semicolon, Colon, Dot, Package, Import, TypeWord, Struct, Var, Func, Chan, Go, If, Else, For, Return, Break, Continue, Other}
 use Rattle.rgo_lexer.specs.Lexemes.{Leaf, Lexeme, tok, class, same, plain}
 use Rattle.rgo_grammar.specs.Reading.{Read, Done, Failed, At, ◌>>=◌, given, token}
-use Rattle.rgo_grammar.proofs.machine.Table.{Sym, T, step, same_self}
+use Rattle.rgo_grammar.proofs.machine.Table.{Sym, T, step, same_self, nullable}
 use Rattle.rgo_grammar.proofs.machine.Runs.{Stopped, run, closes, same_class}
+use Rattle.rgo_grammar.proofs.machine.Starts.{stays}
 
 -- Reading from l on, where the stack begins with `from`, in step with the machine: a value that holds of the tokens read, and
 -- the stack that is left for it; or the machine stops at the same token.
@@ -150,3 +151,12 @@ pub correct_token_given : {B : Type 0} (k : Terminal) {Q : List Lexeme → B →
     → plain k ≡ true
     → ((i : Leaf) (w : List Lexeme) → Q (tok k i ∷ []) (f i) w) → Correct (T k ∷ []) (λ _. []) Q l (token k l >>= given f)
 correct_token_given k f p g = correct_given f (correct_token k p) (λ z i w e. rw e (g i w))
+
+-- ---- at the next token, if there is one
+
+pub at_token : {A : Type 0} {X : Sym} {under : List Sym} {to : A → List Sym} {Q : List Lexeme → A → List Lexeme → Type 0} {l : List Lexeme}
+    (read : List Lexeme → Read A) → nullable X ≡ false → read [] ≡ Failed (At [])
+    → ((t : Lexeme) (m : List Lexeme) → l ≡ t ∷ m → Correct (X ∷ under) to Q (t ∷ m) (read (t ∷ m)))
+    → Correct (X ∷ under) to Q l (read l)
+at_token {X = X} {under = under} {l = []} read n e h = rw e (stops (λ s. stays X (under ++ s) n))
+at_token {l = t ∷ m} read n e h = h t m refl

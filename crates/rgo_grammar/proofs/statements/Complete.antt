@@ -12,16 +12,14 @@ use Rattle.rgo_grammar.specs.Grammar.IsElse.{none as no_else, an_if as else_if, 
 use Rattle.rgo_grammar.specs.Grammar.IsFor.{while, three}
 use Rattle.rgo_grammar.specs.Reading.{Done, ◌>>=◌, given, first_of, listed}
 use Rattle.rgo_grammar.specs.ReadExprs.{expr}
-use Rattle.rgo_grammar.specs.ReadStmts.{defining, else_on, return_on, vars_on, stmt, if_stmt, stmts, block}
+use Rattle.rgo_grammar.specs.ReadStmts.{defining, else_on, return_on, vars_on, stmt, if_stmt, block}
 use Rattle.rgo_grammar.proofs.machine.Table.{rest}
 use Rattle.rgo_grammar.proofs.reading.Complete.{Meets, meets_trans, meets_bind, listed_none, listed_last, listed_more}
 use Rattle.rgo_grammar.proofs.reading.Next.{begins_append, next_also}
 use Rattle.rgo_grammar.proofs.expressions.Starts.{expr_starts}
 use Rattle.rgo_grammar.proofs.expressions.Complete.{expr_complete}
-use Rattle.rgo_grammar.proofs.statements.SimpleComplete.{simple_ends, simple_starts, simple_complete}
-use Rattle.rgo_grammar.proofs.statements.LocalsComplete.{one_complete, vars_complete}
-use Rattle.rgo_grammar.proofs.statements.HeadersComplete.{while_complete, three_complete}
-use Rattle.rgo_grammar.proofs.statements.KindsComplete.{EndsStmt, ends_as_simple, ends_as_local, reads, if_at, for_at, stmt_if, stmt_for, stmt_simple, stmt_opens, single_done, return_done, returns_at, else_done, else_if_at, looped_done, going_done, empty_item, plain_done, with_done}
+use Rattle.rgo_grammar.proofs.statements.KindsComplete.{EndsStmt, ends_as_simple, ends_as_local, reads, if_at, for_at, stmt_if, stmt_for, stmt_simple, stmt_opens, single_done, return_done, returns_at, else_done, else_if_at, looped_done, going_done, empty_item, plain_done, with_done, three_complete, while_complete}
+use Rattle.rgo_grammar.proofs.statements.Parts.{one_complete, simple_complete, simple_ends, simple_starts, vars_complete}
 
 mutual
   unfolding stmt
@@ -112,10 +110,6 @@ mutual
       (three_complete (expr true n 1) (reads true n) (block n) i hs hc hp j k m (y ++ l)
       (Done (tree.For (clause_of s) c (clause_of p) (stmts_of b) i.at) l)
       (looped_done n i m y l b o s c p (stmts_found d n n [] l)))
-
-pub stmts_complete : {y : List Lexeme} {b : List tree.Stmt} {j : Leaf} → IsStmts y b j → (n : ℕ) (l : List Lexeme)
-    → Meets (stmts n (y ++ l)) (Done (b, j) l)
-stmts_complete d n l = stmts_found d n n [] l
 
 pub block_complete : {y : List Lexeme} {b : List tree.Stmt} {j : Leaf} → IsStmts y b j → (i : Leaf) (n : ℕ) (l : List Lexeme)
     → Meets (block n (tok OpenBrace i ∷ (y ++ l))) (Done (b, j) l)

@@ -1,5 +1,5 @@
 -- Reading the headers of `if` and `for`, up to the block or the first `;`, is correct.
-use Rattle.std.proofs.Common.{◌≡◌, ℕ, ◌+◌, ◌≤◌, Bool, true, false, List, [], ◌∷◌, ◌++◌, length, refl, arith, append-nil, ◌-◌}
+use Rattle.std.proofs.Common.{◌≡◌, ℕ, ◌+◌, ◌≤◌, Bool, true, false, List, [], ◌∷◌, ◌++◌, length, refl, arith, append-nil, ◌-◌, ap}
 use Rattle.rgo_ast.specs.Tree as tree
 use Rattle.rgo_lexer.specs.declared.terminals.Terminal.{Terminal}
 use Rattle.rgo_lexer.specs.declared.terminals.Terminal.TheVariants.{Arrow, Assign, Step, OpenBrace, Semicolon}
@@ -11,9 +11,8 @@ use Rattle.rgo_grammar.specs.Reading.{Read, Failed, At, first_of}
 use Rattle.rgo_grammar.specs.ReadStmts.{Head, condition, init, head_before_block, head_end_by, head_end_on, head_by, head}
 use Rattle.rgo_grammar.proofs.machine.Table.{Context, before_if, before_for, Sym, Unary, Bin, Tail, Block, IfHead, IfElse, ForHead, Condition, rest, step}
 use Rattle.rgo_grammar.proofs.machine.Runs.{Stopped, run, closes}
-use Rattle.rgo_grammar.proofs.machine.Starts.{stays}
 use Rattle.rgo_grammar.proofs.reading.Correct.Correct.{done, stops}
-use Rattle.rgo_grammar.proofs.reading.Correct.{Correct, correct_bind}
+use Rattle.rgo_grammar.proofs.reading.Correct.{Correct, correct_bind, at_token}
 use Rattle.rgo_grammar.proofs.statements.Simple.{Values, tails, leaves, Left, defining_correct}
 
 -- what is to come after a header that is a condition, and after the first `;` of another: of an `if`, and of a `for`
@@ -92,8 +91,7 @@ module _ (m : ℕ) (value : List Lexeme → Read tree.Expr) (value_c : Values tr
 
   pub if_head_correct : (l : List Lexeme) → length l ≤ m
       → Correct (IfHead ∷ []) (after_head true) (λ z h w. IsHead z h) l (head value l)
-  if_head_correct [] b = stops (λ s. stays IfHead s refl)
-  if_head_correct (t ∷ l) b = if_head_by t.terminal t.leaf l (omega (arith, b))
+  if_head_correct l b = at_token (head value) refl refl (λ t m c. if_head_by t.terminal t.leaf m (omega (arith, b, ap length c)))
 
   pub for_head_correct : (k : Terminal) (i : Leaf) (l : List Lexeme) → length l + 1 ≤ m → same OpenBrace k ≡ false
       → Correct (ForHead ∷ []) (after_head false) (λ z h w. IsHead z h) (tok k i ∷ l) (head value (tok k i ∷ l))

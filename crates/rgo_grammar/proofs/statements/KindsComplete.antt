@@ -1,25 +1,121 @@
--- What tells the statements of the grammar apart, and how each is read where its parts are.
-use Rattle.std.proofs.Common.{◌≡◌, ℕ, zero, suc, inl, inr, Bool, true, false, List, [], ◌∷◌, ◌++◌, Option, Some, None, refl, arith, ◌+◌}
+-- Headers, and the kinds of statements of the grammar: how each is told from the others, and read where its parts are.
+use Rattle.std.proofs.Common.{◌≡◌, inr, true, false, List, ◌∷◌, ◌++◌, Option, Some, None, refl, arith, ◌+◌, [], ℕ, zero, suc, inl, Bool}
 use Rattle.rgo_ast.specs.Tree.{exprs_of, stmts_of, clause_of}
 use Rattle.rgo_ast.specs.Tree as tree
 use Rattle.rgo_lexer.specs.declared.terminals.Terminal.{Terminal}
-use Rattle.rgo_lexer.specs.declared.terminals.Terminal.TheVariants.{Name, OpenParen, CloseParen, OpenBrace, CloseBrace, Semicolon, Var, Go, If, Else, For, Return, Break, Continue}
+use Rattle.rgo_lexer.specs.declared.terminals.Terminal.TheVariants.{OpenBrace, Semicolon, Name, OpenParen, CloseParen, CloseBrace, Var, Go, If, Else, For, Return, Break, Continue}
 use Rattle.rgo_lexer.specs.Lexemes.{Leaf, Lexeme, tok, ident}
-use Rattle.rgo_grammar.specs.Grammar.{IsExpr, IsExprs, IsClause, IsStmt, IsIf, IsFor}
+use Rattle.rgo_grammar.specs.Grammar.{IsExpr, IsClause, IsCondition, IsExprs, IsStmt, IsIf, IsFor}
+use Rattle.rgo_grammar.specs.Grammar.IsSimple.{plain}
+use Rattle.rgo_grammar.specs.Grammar.IsClause.{empty, some as a_clause}
+use Rattle.rgo_grammar.specs.Grammar.IsCondition.{none as unconditional, some as on_condition}
+use Rattle.rgo_grammar.specs.Reading.{Read, Done, ◌>>=◌, given, first_of, token, Failed, Starving, single}
+use Rattle.rgo_grammar.specs.ReadStmts.{valued, defining, condition, init, head_end_on, head_by, head, condition_by, condition_on, step_by, step_on, looped, for_rest, for_by, for_on, else_body_on, else_by, else_on, branches, return_by, return_on, stmt_by, stmts_by, block_by, stmt, if_stmt, stmts, block}
 use Rattle.rgo_grammar.specs.Grammar.IsStmt.{block as a_block, simple, if' as an_if, for' as a_for, go, var, vars, return as returned, returns, break as broken, continue as continued}
 use Rattle.rgo_grammar.specs.Grammar.IsIf.{plain, with}
 use Rattle.rgo_grammar.specs.Grammar.IsFor.{while, three}
-use Rattle.rgo_grammar.specs.Reading.{Read, Done, Failed, Starving, ◌>>=◌, given, first_of, single}
 use Rattle.rgo_grammar.specs.ReadExprs.{expr, exprs}
-use Rattle.rgo_grammar.specs.ReadStmts.{defining, else_body_on, else_by, else_on, branches, looped, for_on, return_by, return_on, stmt_by, stmts_by, block_by, stmt, if_stmt, stmts, block}
 use Rattle.rgo_grammar.proofs.reading.Complete.{Meets, meets_bind, meets_then, Opens}
-use Rattle.rgo_grammar.proofs.reading.Next.{IsNext, next_also}
-use Rattle.rgo_grammar.proofs.expressions.Starts.{starts, Starts, brace_closes}
-use Rattle.rgo_grammar.proofs.expressions.Items.{paren_closer}
+use Rattle.rgo_grammar.proofs.reading.Next.{begins_append, IsNext, next_also}
+use Rattle.rgo_grammar.proofs.expressions.Starts.{starts, Starts, expr_starts, brace_closes}
 use Rattle.rgo_grammar.proofs.expressions.Complete.{expr_complete, exprs_complete}
-use Rattle.rgo_grammar.proofs.statements.SimpleComplete.{ReadsExprs, simple_starts, ends_simple}
-use Rattle.rgo_grammar.proofs.statements.LocalsComplete.{ends_local}
-use Rattle.rgo_grammar.proofs.statements.HeadersComplete.{head_condition, head_clause}
+use Rattle.rgo_grammar.proofs.expressions.Parts.{paren_closer}
+use Rattle.rgo_grammar.proofs.statements.Parts.{ReadsExprs, ends_local, ends_simple, simple_complete, simple_starts, valued_complete}
+
+module _ (value : List Lexeme → Read tree.Expr) where
+  head_kind : (k : Terminal) (l m : List Lexeme) → starts k ≡ true
+      → head_by value k l m ≡ (defining value l >>= λ s w. head_end_on s w (first_of w))
+  head_kind Semicolon l m h = cc
+  head_kind _ l m h = refl
+
+  head_at : (l : List Lexeme) → Starts l → head value l ≡ (defining value l >>= λ s w. head_end_on s w (first_of w))
+  head_at [] h = absurd h
+  head_at (t ∷ l) h = head_kind t.terminal (t ∷ l) l h
+
+  condition_kind : (k : Terminal) (l m : List Lexeme) → starts k ≡ true
+      → condition_by value k l m ≡ (value l >>= λ v w. token Semicolon w >>= given (λ _. Some v))
+  condition_kind Semicolon l m h = cc
+  condition_kind _ l m h = refl
+
+  condition_at : (l : List Lexeme) → Starts l
+      → condition_on value l (first_of l) ≡ (value l >>= λ v w. token Semicolon w >>= given (λ _. Some v))
+  condition_at [] h = absurd h
+  condition_at (t ∷ l) h = condition_kind t.terminal (t ∷ l) l h
+
+  step_kind : (k : Terminal) (l : List Lexeme) → starts k ≡ true → step_by value k l ≡ (valued value l >>= given (λ s. Some s))
+  step_kind OpenBrace l h = cc
+  step_kind _ l h = refl
+
+  step_at : (l : List Lexeme) → Starts l → step_on value l (first_of l) ≡ (valued value l >>= given (λ s. Some s))
+  step_at [] h = absurd h
+  step_at (t ∷ l) h = step_kind t.terminal (t ∷ l) h
+
+  module _ (value_done : ReadsExprs true value) where
+    -- a condition before the block
+    pub head_condition : {x : List Lexeme} {c : tree.Expr} → IsExpr true 1 x c → (k : Leaf) (l : List Lexeme)
+        → Meets (head value (x ++ tok OpenBrace k ∷ l)) (Done (condition c) (tok OpenBrace k ∷ l))
+    head_condition {x} {c} e k l =
+        rw (head_at (x ++ tok OpenBrace k ∷ l) (begins_append _ x (tok OpenBrace k ∷ l) (expr_starts e)))
+        (meets_bind _ (simple_complete value true value_done (plain e) (tok OpenBrace k ∷ l) refl))
+
+    -- what stands before the first `;`
+    pub head_clause : {x : List Lexeme} {s : Option tree.Stmt} → IsClause true x s → (j : Leaf) (l : List Lexeme)
+        → Meets (head value (x ++ tok Semicolon j ∷ l)) (Done (init s) l)
+    head_clause empty j l = inr refl
+    head_clause (a_clause {x} {s} h) j l =
+        rw (head_at (x ++ tok Semicolon j ∷ l) (simple_starts h (tok Semicolon j ∷ l)))
+        (meets_bind _ (simple_complete value true value_done h (tok Semicolon j ∷ l) refl))
+
+    pub condition_complete : {x : List Lexeme} {c : Option tree.Expr} → IsCondition x c → (k : Leaf) (l : List Lexeme)
+        → Meets (condition_on value (x ++ tok Semicolon k ∷ l) (first_of (x ++ tok Semicolon k ∷ l))) (Done c l)
+    condition_complete unconditional k l = inr refl
+    condition_complete (on_condition {x} {v} e) k l =
+        rw (condition_at (x ++ tok Semicolon k ∷ l) (begins_append _ x (tok Semicolon k ∷ l) (expr_starts e)))
+        (meets_bind _ (value_done x v e (tok Semicolon k ∷ l) (omega arith, refl)))
+
+    pub step_complete : {x : List Lexeme} {p : Option tree.Stmt} → IsClause false x p → (m : Leaf) (l : List Lexeme)
+        → Meets (step_on value (x ++ tok OpenBrace m ∷ l) (first_of (x ++ tok OpenBrace m ∷ l))) (Done p (tok OpenBrace m ∷ l))
+    step_complete empty m l = inr refl
+    step_complete (a_clause {x} {s} h) m l =
+        rw (step_at (x ++ tok OpenBrace m ∷ l) (simple_starts h (tok OpenBrace m ∷ l)))
+        (meets_bind _ (valued_complete value true value_done h (tok OpenBrace m ∷ l) refl))
+
+-- ---- `for`, from what stands behind its keyword to its block, which is read as this
+module _ (value : List Lexeme → Read tree.Expr) (value_done : ReadsExprs true value)
+    (block : List Lexeme → Read (List tree.Stmt × Leaf)) (i : Leaf) where
+  for_kind : (k : Terminal) (l : List Lexeme) → starts k ≡ true → for_by block value i k l ≡ (head value l >>= for_rest block value i)
+  for_kind OpenBrace l h = cc
+  for_kind _ l h = refl
+
+  for_head_at : (l : List Lexeme) → Starts l → for_on block value i l (first_of l) ≡ (head value l >>= for_rest block value i)
+  for_head_at [] h = absurd h
+  for_head_at (t ∷ l) h = for_kind t.terminal (t ∷ l) h
+
+  for_clause_at : {x : List Lexeme} {s : Option tree.Stmt} → IsClause true x s → (j : Leaf) (l : List Lexeme)
+      → for_on block value i (x ++ tok Semicolon j ∷ l) (first_of (x ++ tok Semicolon j ∷ l)) ≡
+      (head value (x ++ tok Semicolon j ∷ l) >>= for_rest block value i)
+  for_clause_at empty j l = refl
+  for_clause_at (a_clause {x} h) j l = for_head_at (x ++ tok Semicolon j ∷ l) (simple_starts h (tok Semicolon j ∷ l))
+
+  pub while_complete : {x : List Lexeme} {c : Option tree.Expr} → IsCondition x c → (k : Leaf) (l : List Lexeme) (r : Read tree.Stmt)
+      → Meets (looped block i None c None (tok OpenBrace k ∷ l)) r
+      → Meets (for_on block value i (x ++ tok OpenBrace k ∷ l) (first_of (x ++ tok OpenBrace k ∷ l))) r
+  while_complete unconditional k l r g = g
+  while_complete (on_condition {x} {v} e) k l r g =
+      rw (for_head_at (x ++ tok OpenBrace k ∷ l) (begins_append _ x (tok OpenBrace k ∷ l) (expr_starts e)))
+      (meets_then _ (head_condition value value_done e k l) g)
+
+  pub three_complete : {u v w : List Lexeme} {s p : Option tree.Stmt} {c : Option tree.Expr} → IsClause true u s → IsCondition v c
+      → IsClause false w p
+      → (j k m : Leaf) (l : List Lexeme) (r : Read tree.Stmt)
+      → Meets (looped block i s c p (tok OpenBrace m ∷ l)) r
+      → Meets (for_on block value i (u ++ tok Semicolon j ∷ (v ++ tok Semicolon k ∷ (w ++ tok OpenBrace m ∷ l)))
+      (first_of (u ++ tok Semicolon j ∷ (v ++ tok Semicolon k ∷ (w ++ tok OpenBrace m ∷ l))))) r
+  three_complete {u} {v} {w} {s} {p} {c} hs hc hp j k m l r g =
+      let z = w ++ tok OpenBrace m ∷ l in
+      let y = v ++ tok Semicolon k ∷ z in
+      rw (for_clause_at hs j y)
+      (meets_then _ (head_clause value value_done hs j y) (meets_then _ (condition_complete value value_done hc k z) (meets_then _ (step_complete value value_done hp m l) g)))
 
 -- what a statement ends before
 abbrev pub ends_stmt : Terminal → Bool

@@ -11,13 +11,13 @@ use Rattle.rgo_grammar.specs.Grammar.IsBinding.{binding as of_names}
 use Rattle.rgo_grammar.specs.Grammar.IsLocal.{zero as zeroed, typed, inferred}
 use Rattle.rgo_grammar.specs.Grammar.IsStmt.{var as a_var, vars as some_vars}
 use Rattle.rgo_grammar.specs.Reading.{Read, first_of}
-use Rattle.rgo_grammar.specs.ReadStmts.{initial_by, initial, local_by, local_on, local, vars_by, vars_on}
+use Rattle.rgo_grammar.specs.ReadStmts.{initial_by, initial, local_by, local, vars_by, vars_on, local_on}
 use Rattle.rgo_grammar.specs.ReadDecls.{group_by, group}
 use Rattle.rgo_grammar.proofs.machine.Table.{T, AType, Locals, LocalList, LocalRest, Initial, step}
 use Rattle.rgo_grammar.proofs.machine.Runs.{run, closes}
 use Rattle.rgo_grammar.proofs.machine.Starts.{starts_as}
-use Rattle.rgo_grammar.proofs.reading.Correct.Correct.{done, stops}
-use Rattle.rgo_grammar.proofs.reading.Correct.{Correct, token_read, same_start, correct_given, correct_then, correct_token_then, shorter, correct_weaker}
+use Rattle.rgo_grammar.proofs.reading.Correct.Correct.{done}
+use Rattle.rgo_grammar.proofs.reading.Correct.{Correct, token_read, same_start, correct_given, correct_then, correct_token_then, shorter, correct_weaker, at_token}
 use Rattle.rgo_grammar.proofs.reading.Lists.{IsGroup, group_correct, list_syms}
 use Rattle.rgo_grammar.proofs.types.Correct.{type_correct, typed_names_correct}
 use Rattle.rgo_grammar.proofs.statements.Simple.{Values}
@@ -70,16 +70,11 @@ module _ (n m : ℕ) (value : List Lexeme → Read tree.Expr) (value_c : Values 
       (λ z t w e h. initial_correct i z t w (omega (arith, b, shorter (tok k j ∷ l) z w e)) h))
       (λ s. starts_as LocalRest AType (Initial ∷ []) (tok k j) l s refl refl refl)
 
-  local_on_correct : (i : Leaf) (l : List Lexeme) → length l < n → length l ≤ m
-      → Correct (LocalRest ∷ []) (λ _. []) (LocalAt (tok Name i ∷ [])) l (local_on n value i l (first_of l))
-  unfolding run closes
-  local_on_correct i [] a b = stops (λ s. refl)
-  local_on_correct i (t ∷ l) a b = local_by_correct i t.terminal t.leaf l (omega (arith, a)) (omega (arith, b))
-
   local_correct : (l : List Lexeme) → length l < n → length l ≤ m
       → Correct (T Name ∷ LocalRest ∷ []) (λ _. []) (λ z v w. IsLocal z v) l (local n value l)
   local_correct l a b =
-      correct_token_then Name refl (λ i w c. local_on_correct i w (omega (arith, a, ap length c)) (omega (arith, b, ap length c)))
+      correct_token_then Name refl (λ i w c. at_token (λ w. local_on n value i w (first_of w)) refl refl
+      (λ t m d. local_by_correct i t.terminal t.leaf m (omega (arith, a, ap length c, ap length d)) (omega (arith, b, ap length c, ap length d))))
 
   pub local_vars_correct : (l : List Lexeme) → length l < n → length l ≤ m
       → Correct (Locals ∷ []) (λ _. []) AreVars l (vars_on n value l (first_of l))

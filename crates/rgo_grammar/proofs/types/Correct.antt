@@ -46,10 +46,6 @@ type_correct (suc n) (t ∷ l) h = type_by_correct (a_type n) t.terminal t.leaf 
 
 -- ---- names and their type
 
--- behind names x, more names
-abbrev pub NamesAt : List Lexeme → List Ident → List Lexeme → Type 0
-NamesAt z ns w = IsNames z ns
-
 names_append : (x y : List Lexeme) (j : Leaf) (ns ms : List Ident) → IsNames x ns → IsNames y ms → IsNames (x ++ tok Comma j ∷ y) (ns ++ ms)
 names_append x y j ns ms (one i) g = more i j g
 names_append x y j ns ms (more i k {x = x'} {ns = ns'} h) g = more i k (names_append x' y j ns' ms h g)

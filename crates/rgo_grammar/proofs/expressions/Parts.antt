@@ -1,22 +1,89 @@
--- What is in the grammar is read as its tree: items of lists of expressions and elements, and literals around them.
-use Rattle.std.proofs.Common.{◌≡◌, ℕ, suc, ◌<◌, false, List, [], ◌∷◌, ◌++◌, refl, append_assoc, arith, append-nil, ◌+◌, ◌-◌}
+-- Parts of expressions in the grammar are read as their trees, where expressions are: `new ( .. )` and `make ( .. )`, items of
+-- lists, and the literals around them.
+use Rattle.std.proofs.Common.{◌≡◌, ℕ, suc, inr, true, false, List, ◌∷◌, ◌++◌, refl, ap, arith, ◌+◌, [], ◌<◌, append_assoc, append-nil, ◌-◌}
 use Rattle.rgo_ast.specs.declared.names.Ident.{Ident}
 use Rattle.rgo_ast.specs.Tree.{exprs_of, elements_of}
 use Rattle.rgo_ast.specs.Tree as tree
 use Rattle.rgo_lexer.specs.declared.terminals.Terminal.{Terminal}
-use Rattle.rgo_lexer.specs.declared.terminals.Terminal.TheVariants.{Name, Ampersand, CloseParen, OpenBrace, CloseBrace, Comma, Colon}
+use Rattle.rgo_lexer.specs.declared.terminals.Terminal.TheVariants.{Name, New, Make, OpenParen, CloseParen, OpenBracket, CloseBracket, Comma, Chan, Ampersand, OpenBrace, CloseBrace, Colon}
 use Rattle.rgo_lexer.specs.Lexemes.{Leaf, Lexeme, tok, ident, same}
-use Rattle.rgo_grammar.specs.Grammar.{IsExprs, IsElements}
-use Rattle.rgo_grammar.specs.Grammar.IsElements.{no_element, last_element, more_elements}
+use Rattle.rgo_grammar.specs.Grammar.{IsType, IsMakeEnd, IsExprs, IsElements}
+use Rattle.rgo_grammar.specs.Grammar.IsMakeEnd.{plain, comma}
 use Rattle.rgo_grammar.specs.Reading.{Read, Done, ◌>>=◌, given, listed, single}
-use Rattle.rgo_grammar.specs.ReadExprs.{exprs, element, elements_from, elements, expr, unary}
+use Rattle.rgo_grammar.specs.ReadExprs.{make_end, capacity, capacity_by, sized, expr, primary, post, exprs, element, elements_from, elements, unary}
+use Rattle.rgo_grammar.specs.Grammar.IsElements.{no_element, last_element, more_elements}
 use Rattle.rgo_grammar.proofs.machine.Table.{rest}
-use Rattle.rgo_grammar.proofs.reading.Complete.{Meets, meets_trans, meets_bind, Opens, listed_none, listed_last, listed_more}
+use Rattle.rgo_grammar.proofs.reading.Complete.{Meets, meets_bind, meets_then, meets_trans, Opens, listed_none, listed_last, listed_more}
 use Rattle.rgo_grammar.proofs.reading.Next.{begins_append}
-use Rattle.rgo_grammar.proofs.expressions.Starts.{level_of, Closes, paren_closes, brace_closes}
+use Rattle.rgo_grammar.proofs.types.Complete.{type_complete}
+use Rattle.rgo_grammar.proofs.expressions.Starts.{Starts, starts, level_of, Closes, paren_closes, brace_closes}
 use Rattle.rgo_grammar.proofs.expressions.Ends.{EndsExpr, ReadsAs, posts}
 use Rattle.rgo_grammar.proofs.expressions.Second.{exprs_unkeyed}
 use Rattle.rgo_grammar.proofs.expressions.Literals.{keyed_list}
+
+make_end_done : {z : List Lexeme} → IsMakeEnd z → (l : List Lexeme) → (j : Leaf) × (make_end (z ++ l) ≡ Done j l)
+make_end_done (plain j) l = (j, refl)
+make_end_done (comma i j) l = (j, refl)
+
+make_end_ends : {z : List Lexeme} → IsMakeEnd z → (l : List Lexeme) → EndsExpr (z ++ l)
+make_end_ends (plain j) l = (omega arith, refl)
+make_end_ends (comma i j) l = (omega arith, refl)
+
+-- an expression and the end
+ended_value : (y : List Lexeme) (v : tree.Expr) {z : List Lexeme} (f : tree.Expr → tree.Expr) (n : ℕ) (l : List Lexeme) → ReadsAs y v
+    → IsMakeEnd z
+    → Meets (expr false n 1 (y ++ (z ++ l)) >>= λ u w. make_end w >>= given (λ _. f u)) (Done (f v) l)
+ended_value y v {z} f n l h e =
+    let g = make_end_done e l in
+    meets_then _ (h n (z ++ l) (make_end_ends e l)) (inr (ap (λ r. r >>= given (λ _. f v)) g.1))
+
+pub new_complete : (i j k m : Leaf) (n : ℕ) (l : List Lexeme)
+    → Meets (primary (suc n) (tok New i ∷ tok OpenParen j ∷ tok Name k ∷ tok CloseParen m ∷ l)) (post n (tree.New (ident k) i.at) l)
+unfolding expr
+new_complete i j k m n l = inr refl
+
+-- ---- make ( [ ] Type , Expr [,] )
+
+pub slice_complete : (i j k m c : Leaf) {x z : List Lexeme} (y : List Lexeme) {t : tree.TypeExpr} (v : tree.Expr) → IsType x t → ReadsAs y v
+    → IsMakeEnd z → (n : ℕ) (l : List Lexeme)
+    → Meets (primary (suc n) (tok Make i ∷ tok OpenParen j ∷ tok OpenBracket k ∷ tok CloseBracket m ∷ (x ++ tok Comma c ∷ (y ++ (z ++ l)))))
+    (post n (tree.MakeSlice t v i.at) l)
+unfolding expr
+slice_complete i j k m c {x} {z} y {t} v h f e n l =
+    meets_bind _ (meets_then _ (type_complete x t h n (tok Comma c ∷ (y ++ (z ++ l)))) (ended_value y v (λ u. tree.MakeSlice t u i.at) n l f e))
+
+-- ---- make ( chan Type [ , Expr ] [,] )
+
+sized_end : (inner : List Lexeme → Read tree.Expr) (t : tree.TypeExpr) (i : Leaf) {z : List Lexeme} → IsMakeEnd z → (l : List Lexeme)
+    → sized inner t i (z ++ l) ≡ Done (tree.MakeChan t tree.no_capacity i.at) l
+sized_end inner t i (plain j) l = refl
+sized_end inner t i (comma c j) l = refl
+
+pub chan_complete : (i j k : Leaf) {x z : List Lexeme} {t : tree.TypeExpr} → IsType x t → IsMakeEnd z → (n : ℕ) (l : List Lexeme)
+    → Meets (primary (suc n) (tok Make i ∷ tok OpenParen j ∷ tok Chan k ∷ (x ++ (z ++ l))))
+    (post n (tree.MakeChan t tree.no_capacity i.at) l)
+unfolding expr
+chan_complete i j k {x} {z} {t} h e n l =
+    meets_bind _ (meets_then _ (type_complete x t h n (z ++ l)) (inr (sized_end (expr false n 1) t i e l)))
+
+capacity_else : (inner : List Lexeme → Read tree.Expr) (t : tree.TypeExpr) (i : Leaf) (k : Terminal) (l m : List Lexeme) → starts k ≡ true
+    → capacity_by inner t i k l m ≡ (inner l >>= λ v w. make_end w >>= given (λ _. tree.MakeChan t (tree.a_capacity v) i.at))
+capacity_else inner t i CloseParen l m h = cc
+capacity_else inner t i _ l m h = refl
+
+capacity_at : (inner : List Lexeme → Read tree.Expr) (t : tree.TypeExpr) (i : Leaf) (l : List Lexeme) → Starts l
+    → capacity inner t i l ≡ (inner l >>= λ v w. make_end w >>= given (λ _. tree.MakeChan t (tree.a_capacity v) i.at))
+capacity_at inner t i [] h = absurd h
+capacity_at inner t i (u ∷ l) h = capacity_else inner t i u.terminal (u ∷ l) l h
+
+pub sized_complete : (i j k c : Leaf) {x z : List Lexeme} (y : List Lexeme) {t : tree.TypeExpr} (v : tree.Expr) → IsType x t → Starts y → ReadsAs y v
+    → IsMakeEnd z → (n : ℕ) (l : List Lexeme)
+    → Meets (primary (suc n) (tok Make i ∷ tok OpenParen j ∷ tok Chan k ∷ (x ++ tok Comma c ∷ (y ++ (z ++ l)))))
+    (post n (tree.MakeChan t (tree.a_capacity v) i.at) l)
+unfolding expr
+sized_complete i j k c {x} {z} y {t} v h s f e n l =
+    meets_bind {y = Done (tree.MakeChan t (tree.a_capacity v) i.at) l} _ (meets_then _ (type_complete x t h n (tok Comma c ∷ (y ++ (z ++ l)))) (rw (capacity_at (expr false n 1) t i (y ++ (z ++ l)) (begins_append _ y (z ++ l) s))
+    (ended_value y v (λ u. tree.MakeChan t (tree.a_capacity u) i.at) n l f e)))
 
 -- what may close a list of expressions
 pub record Closer (closer : Terminal) : Type 0 where

@@ -1,17 +1,24 @@
--- Simple statements of the grammar are read as such.
-use Rattle.std.proofs.Common.{◌≡◌, inr, Bool, true, false, List, [], ◌∷◌, ◌++◌, refl, append_assoc, arith, ◌+◌}
+-- Simple statements and declarations of local variables in the grammar are read as their trees, where expressions are.
+use Rattle.std.proofs.Common.{◌≡◌, inr, Bool, true, false, List, [], ◌∷◌, ◌++◌, refl, append_assoc, arith, ◌+◌, ℕ, ◌⊎◌, inl}
 use Rattle.rgo_ast.specs.declared.ops.AssignOp.{AssignOp}
 use Rattle.rgo_ast.specs.declared.ops.StepOp.{StepOp}
 use Rattle.rgo_ast.specs.Tree as tree
+use Rattle.rgo_ast.specs.declared.ops.AssignOp.TheVariants as assign_op
 use Rattle.rgo_lexer.specs.declared.terminals.Terminal.{Terminal}
-use Rattle.rgo_lexer.specs.declared.terminals.Terminal.TheVariants.{Name, Arrow, Define, Assign, Step, OpenBrace, CloseBrace, Semicolon}
-use Rattle.rgo_lexer.specs.Lexemes.{Leaf, Lexeme, tok, same}
-use Rattle.rgo_grammar.specs.Grammar.{IsExpr, IsSimple}
+use Rattle.rgo_lexer.specs.declared.terminals.Terminal.TheVariants.{Name, Arrow, Define, Assign, Step, OpenBrace, CloseBrace, Semicolon, OpenParen, CloseParen, Comma}
+use Rattle.rgo_lexer.specs.Lexemes.{Leaf, Lexeme, tok, same, ident}
+use Rattle.rgo_grammar.specs.Grammar.{IsExpr, IsSimple, IsType, IsLocal, Listed}
 use Rattle.rgo_grammar.specs.Grammar.IsSimple.{plain, send, step as stepped, assign, define}
-use Rattle.rgo_grammar.specs.Reading.{Read, Done, first_of}
-use Rattle.rgo_grammar.specs.ReadStmts.{simple_by, simple_on, valued, named_by, named_on, defining_by, defining}
-use Rattle.rgo_grammar.proofs.reading.Complete.{Meets, meets_bind, meets_then}
+use Rattle.rgo_grammar.specs.Reading.{Read, Done, first_of, ◌>>=◌, given, single, several}
+use Rattle.rgo_grammar.specs.ReadStmts.{simple_by, simple_on, valued, named_by, named_on, defining_by, defining, initial_by, initial, local_on, local, vars_on}
+use Rattle.rgo_grammar.specs.Grammar.IsNames.{one as one_name, more as more_names}
+use Rattle.rgo_grammar.specs.Grammar.IsType.{named, pointer, slice, chan}
+use Rattle.rgo_grammar.specs.Grammar.IsBinding.{binding as of_names}
+use Rattle.rgo_grammar.specs.Grammar.IsLocal.{zero as zeroed, typed, inferred}
+use Rattle.rgo_grammar.specs.ReadTypes.{a_type, bound}
+use Rattle.rgo_grammar.proofs.reading.Complete.{Meets, meets_bind, meets_then, Opens, listed_complete}
 use Rattle.rgo_grammar.proofs.reading.Next.{IsNext, NotNext, begins_append, next_other}
+use Rattle.rgo_grammar.proofs.types.Complete.{type_complete, binding_complete}
 use Rattle.rgo_grammar.proofs.expressions.Starts.{Starts, expr_starts}
 use Rattle.rgo_grammar.proofs.expressions.Second.{Apart, name_then, SecondNot, second_append, second_not}
 use Rattle.rgo_grammar.proofs.expressions.Ends.{EndsExpr}
@@ -133,3 +140,93 @@ module _ (value : List Lexeme → Read tree.Expr) where
         rw (append_assoc, undefined_at (x ++ z) (begins_append _ x z (expr_starts e)) (expr_undefined z e refl)) (assign_done o i e g l d)
     simple_complete (define i j {x} {v} e) l d =
         meets_bind _ (value_done x v e l (simple_ends l d))
+
+-- what such a declaration ends before
+abbrev pub ends_local : Terminal → Bool
+ends_local Semicolon = true
+ends_local CloseParen = true
+ends_local CloseBrace = true
+ends_local _ = false
+
+abbrev pub EndsLocal : List Lexeme → Type 0
+EndsLocal = IsNext ends_local
+
+local_ends_by : (k : Terminal) (i : Leaf) (l : List Lexeme) → ends_local k ≡ true → EndsExpr (tok k i ∷ l)
+local_ends_by Semicolon i l h = (omega arith, refl)
+local_ends_by CloseParen i l h = (omega arith, refl)
+local_ends_by CloseBrace i l h = (omega arith, refl)
+local_ends_by _ i l h = cc
+
+local_ends : (l : List Lexeme) → EndsLocal l → EndsExpr l
+local_ends [] h = absurd h
+local_ends (t ∷ l) h = local_ends_by t.terminal t.leaf l h
+
+module _ (n : ℕ) (value : List Lexeme → Read tree.Expr) (value_done : ReadsExprs false value) where
+  initial_end_by : (i : Leaf) (t : tree.TypeExpr) (k : Terminal) (j : Leaf) (l m : List Lexeme) → ends_local k ≡ true
+      → initial_by value i t k j l m ≡ Done (tree.Zero (bound (ident i ∷ []) t)) l
+  initial_end_by i t (Assign assign_op.Plain) j l m h = cc
+  initial_end_by i t _ j l m h = refl
+
+  initial_end : (i : Leaf) (t : tree.TypeExpr) (l : List Lexeme) → EndsLocal l
+      → initial value i t l (first_of l) ≡ Done (tree.Zero (bound (ident i ∷ []) t)) l
+  initial_end i t [] h = absurd h
+  initial_end i t (u ∷ l) h = initial_end_by i t u.terminal u.leaf (u ∷ l) l h
+
+  type_at : (i : Leaf) {x : List Lexeme} {t : tree.TypeExpr} → IsType x t → (l : List Lexeme)
+      → local_on n value i (x ++ l) (first_of (x ++ l)) ≡ (a_type n (x ++ l) >>= λ t w. initial value i t w (first_of w))
+  type_at i (named j) l = refl
+  type_at i (pointer j k) l = refl
+  type_at i (slice j k h) l = refl
+  type_at i (chan j h) l = refl
+
+  value_given : {x : List Lexeme} {v : tree.Expr} → IsExpr false 1 x v → (f : tree.Expr → tree.LocalVar) (l : List Lexeme) → EndsLocal l
+      → Meets (value (x ++ l) >>= given f) (Done (f v) l)
+  value_given {x} {v} e f l h = meets_bind _ (value_done x v e l (local_ends l h))
+
+  type_then : (i : Leaf) {x : List Lexeme} {t : tree.TypeExpr} → IsType x t → (l : List Lexeme) (r : Read tree.LocalVar)
+      → Meets (initial value i t l (first_of l)) r
+      → Meets (local n value (tok Name i ∷ (x ++ l))) r
+  type_then i {x} {t} h l r g =
+      rw (type_at i h l) (meets_then _ (type_complete x t h n l) g)
+
+  pub local_complete : {x : List Lexeme} {v : tree.LocalVar} → IsLocal x v → (l : List Lexeme) → EndsLocal l
+      → Meets (local n value (x ++ l)) (Done v l)
+  local_complete (zeroed (of_names {t = t} (one_name i) h)) l e =
+      type_then i h l (Done (tree.Zero (bound (ident i ∷ []) t)) l) (inr (initial_end i t l e))
+  local_complete (zeroed (of_names {y = y} {t = t} (more_names i j {x} {ns} g) h)) l e =
+      meets_bind _ (binding_complete (tok Name i ∷ tok Comma j ∷ (x ++ y)) (bound (ident i ∷ ns) t) (of_names (more_names i j g) h) n l)
+  local_complete (typed i j {x} {y} {t} {v} h g) l e =
+      rw append_assoc (type_then i h (tok (Assign assign_op.Plain) j ∷ (y ++ l)) (Done (tree.Typed (ident i) t v j.at) l)
+      (value_given g (λ u. tree.Typed (ident i) t u j.at) l e))
+  local_complete (inferred i j {y} {v} g) l e = value_given g (λ u. tree.Inferred (ident i) u j.at) l e
+
+  local_opens : (x : List Lexeme) (v : tree.LocalVar) → IsLocal x v → Opens CloseParen x
+  local_opens _ _ (zeroed (of_names (one_name i) t)) = refl
+  local_opens _ _ (zeroed (of_names (more_names i j h) t)) = refl
+  local_opens _ _ (typed i j h e) = refl
+  local_opens _ _ (inferred i j e) = refl
+
+  local_reads : (x : List Lexeme) (v : tree.LocalVar) → IsLocal x v → (k : Terminal) (j : Leaf) (l : List Lexeme)
+      → (k ≡ Semicolon) ⊎ (k ≡ CloseParen)
+      → Meets (local n value (x ++ tok k j ∷ l)) (Done v (tok k j ∷ l))
+  local_reads x v h k j l (inl e) = local_complete h (tok k j ∷ l) (rw e refl)
+  local_reads x v h k j l (inr e) = local_complete h (tok k j ∷ l) (rw e refl)
+
+  -- after `var`
+  one_at : {x : List Lexeme} {v : tree.LocalVar} → IsLocal x v → (l : List Lexeme)
+      → vars_on n value (x ++ l) (first_of (x ++ l)) ≡ single (local n value (x ++ l))
+  one_at (zeroed (of_names (one_name i) t)) l = refl
+  one_at (zeroed (of_names (more_names i j h) t)) l = refl
+  one_at (typed i j h e) l = refl
+  one_at (inferred i j e) l = refl
+
+  pub one_complete : {x : List Lexeme} {v : tree.LocalVar} → IsLocal x v → (l : List Lexeme) → EndsLocal l
+      → Meets (vars_on n value (x ++ l) (first_of (x ++ l))) (Done (v ∷ []) l)
+  one_complete h l e = rw (one_at h l) (meets_bind _ (local_complete h l e))
+
+  pub vars_complete : (i : Leaf) {y : List Lexeme} {vs : List tree.LocalVar} → Listed IsLocal Semicolon CloseParen y vs → (l : List Lexeme)
+      → Meets (vars_on n value (tok OpenParen i ∷ (y ++ l)) (first_of (tok OpenParen i ∷ (y ++ l)))) (Done vs l)
+  unfolding several
+  vars_complete i {y} {vs} d l =
+      let h = listed_complete Semicolon CloseParen refl IsLocal (local n value) local_opens local_reads d n [] l in
+      meets_bind _ h.1
