@@ -6,8 +6,8 @@ use Rattle.rgo_lexer.specs.Lexemes.{Lexeme}
 use Rattle.rgo_grammar.specs.Grammar.{IsProgram}
 use Rattle.rgo_grammar.specs.FirstBad.{Begins, IsFirstBad}
 use Rattle.rgo_grammar.specs.Laws.{OneTree, OneOfBoth}
-use Rattle.rgo_grammar.specs.Reading.{Read, Done, Failed, At, Starving}
-use Rattle.rgo_grammar.specs.ReadDecls.{program}
+use Rattle.rgo_grammar.specs.reading.Read.{Read, Done, Failed, At, Starving}
+use Rattle.rgo_grammar.specs.reading.Declarations.{program}
 use Rattle.rgo_grammar.proofs.machine.Table.{Program, fine, leads, next}
 use Rattle.rgo_grammar.proofs.machine.Runs.{Accepted, Stopped, run, Reached, stopped, finish, finish_run}
 use Rattle.rgo_grammar.proofs.reading.Complete.{Meets}

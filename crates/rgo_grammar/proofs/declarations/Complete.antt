@@ -8,9 +8,9 @@ use Rattle.rgo_lexer.specs.declared.terminals.Terminal.TheVariants.{Name, Text, 
 use Rattle.rgo_lexer.specs.Lexemes.{Leaf, Lexeme, tok, same}
 use Rattle.rgo_grammar.specs.Grammar.{IsPath, IsImport, IsTypeSpec, IsResult, IsBinding, IsType, IsStmts, IsDecl, IsProgram, Listed, Each}
 use Rattle.rgo_grammar.specs.Grammar.Each.{none as no_more, next}
-use Rattle.rgo_grammar.specs.Reading.{Read, Done, ◌>>=◌, given, first_of, single, several}
-use Rattle.rgo_grammar.specs.ReadTypes.{a_type, binding}
-use Rattle.rgo_grammar.specs.ReadDecls.{group_by, group, import_path, type_spec, result_on, function, func, decls_on, decls, imports_by, imports_on, imports, program}
+use Rattle.rgo_grammar.specs.reading.Read.{Read, Done, ◌>>=◌, given, first_of, single, several}
+use Rattle.rgo_grammar.specs.reading.Types.{a_type, binding}
+use Rattle.rgo_grammar.specs.reading.Declarations.{group_by, group, import_path, type_spec, result_on, function, func, decls_on, decls, imports_by, imports_on, imports, program}
 use Rattle.rgo_grammar.specs.Grammar as g
 use Rattle.rgo_grammar.proofs.machine.Table.{rest}
 use Rattle.rgo_grammar.proofs.reading.Complete.{Meets, meets_trans, meets_bind, meets_then, Opens, listed_complete, not_true}

@@ -7,10 +7,10 @@ use Rattle.rgo_lexer.specs.declared.terminals.Terminal.{Terminal}
 use Rattle.rgo_lexer.specs.declared.terminals.Terminal.TheVariants.{TypeWord, Var, Name, Text, OpenParen, CloseParen, OpenBrace, Comma, Import, Struct, Func}
 use Rattle.rgo_lexer.specs.Lexemes.{Leaf, Lexeme, tok}
 use Rattle.rgo_grammar.specs.Grammar.{IsPath, IsImport, IsTypeSpec, IsResult, IsBinding, IsDecl, Listed}
-use Rattle.rgo_grammar.specs.Reading.{◌>>=◌, given, first_of}
-use Rattle.rgo_grammar.specs.ReadStmts.{block}
-use Rattle.rgo_grammar.specs.ReadDecls.{import_path, import_decl, type_spec, result_by, function, func, group, result_on}
-use Rattle.rgo_grammar.specs.ReadTypes.{binding}
+use Rattle.rgo_grammar.specs.reading.Read.{◌>>=◌, given, first_of}
+use Rattle.rgo_grammar.specs.reading.Statements.{block}
+use Rattle.rgo_grammar.specs.reading.Declarations.{import_path, import_decl, type_spec, result_by, function, func, group, result_on}
+use Rattle.rgo_grammar.specs.reading.Types.{binding}
 use Rattle.rgo_grammar.specs.Grammar as g
 use Rattle.rgo_grammar.proofs.machine.Table.{T, Paths, PathList, Specs, SpecList, Vars, VarList, Fields, AType, Params, Result, Block, step}
 use Rattle.rgo_grammar.proofs.machine.Runs.{run}

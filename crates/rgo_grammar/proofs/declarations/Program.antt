@@ -5,8 +5,8 @@ use Rattle.rgo_lexer.specs.declared.terminals.Terminal.{Terminal}
 use Rattle.rgo_lexer.specs.declared.terminals.Terminal.TheVariants.{Main, Semicolon, Package, Import, TypeWord, Var, Func}
 use Rattle.rgo_lexer.specs.Lexemes.{same, Leaf, Lexeme, tok}
 use Rattle.rgo_grammar.specs.Grammar.{IsImport, IsDecl, IsProgram, Each}
-use Rattle.rgo_grammar.specs.Reading.{Read, Done, Failed, At, ◌>>=◌, given, token}
-use Rattle.rgo_grammar.specs.ReadDecls.{decl_by, decls, imports_by, imports, head, program}
+use Rattle.rgo_grammar.specs.reading.Read.{Read, Done, Failed, At, ◌>>=◌, given, token}
+use Rattle.rgo_grammar.specs.reading.Declarations.{decl_by, decls, imports_by, imports, head, program}
 use Rattle.rgo_grammar.specs.Grammar as g
 use Rattle.rgo_grammar.proofs.machine.Table.{Sym, T, Program, Imports, Decls, step}
 use Rattle.rgo_grammar.proofs.machine.Runs.{Accepted, Stopped, run, closes}

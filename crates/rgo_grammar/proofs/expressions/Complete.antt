@@ -11,8 +11,8 @@ use Rattle.rgo_grammar.specs.Grammar.IsUnary.{signed, literal, keyed, primary as
 use Rattle.rgo_grammar.specs.Grammar.IsPrimary.{number, text, name, parens, new, make_slice, make_chan, make_sized, select, index, call}
 use Rattle.rgo_grammar.specs.Grammar.IsExprs.{none, last, more}
 use Rattle.rgo_grammar.specs.Grammar.IsElements.{no_element, last_element, more_elements}
-use Rattle.rgo_grammar.specs.Reading.{Done, several}
-use Rattle.rgo_grammar.specs.ReadExprs.{exprs, exprs_from, element, elements_from, expr, climb, unary, primary, post}
+use Rattle.rgo_grammar.specs.reading.Read.{Done, several}
+use Rattle.rgo_grammar.specs.reading.Expressions.{exprs, exprs_from, element, elements_from, expr, climb, unary, primary, post}
 use Rattle.rgo_grammar.proofs.machine.Table.{closer, header, rest}
 use Rattle.rgo_grammar.proofs.reading.Complete.{Meets, meets_trans, meets_bind}
 use Rattle.rgo_grammar.proofs.reading.Next.{next_also}

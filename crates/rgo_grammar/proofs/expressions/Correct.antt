@@ -12,8 +12,8 @@ use Rattle.rgo_lexer.specs.Lexemes.{Leaf, Lexeme, tok}
 use Rattle.rgo_grammar.specs.Grammar.{level, sign, IsExpr, IsUnary, IsPrimary, IsExprs}
 use Rattle.rgo_grammar.specs.Grammar.IsExpr.{unary as of_unary, binary}
 use Rattle.rgo_grammar.specs.Grammar.IsUnary.{signed as with_sign, primary as of_primary}
-use Rattle.rgo_grammar.specs.Reading.{Read, Done, ◌>>=◌}
-use Rattle.rgo_grammar.specs.ReadExprs.{exprs, signed, unary_by, climb_by, expr, climb, unary, primary, post}
+use Rattle.rgo_grammar.specs.reading.Read.{Read, Done, ◌>>=◌}
+use Rattle.rgo_grammar.specs.reading.Expressions.{exprs, signed, unary_by, climb_by, expr, climb, unary, primary, post}
 use Rattle.rgo_grammar.proofs.machine.Table.{Sym, Unary, Bin, Post, Args, step}
 use Rattle.rgo_grammar.proofs.machine.Runs.{run, closes}
 use Rattle.rgo_grammar.proofs.reading.Correct.Correct.{done, stops}

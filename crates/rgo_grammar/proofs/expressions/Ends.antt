@@ -11,8 +11,8 @@ use Rattle.rgo_lexer.specs.declared.terminals.Terminal.{Terminal}
 use Rattle.rgo_lexer.specs.declared.terminals.Terminal.TheVariants.{Name, Binary, Bang, Ampersand, Arrow, OpenParen, CloseParen, OpenBracket, CloseBracket, Dot}
 use Rattle.rgo_lexer.specs.Lexemes.{Leaf, Lexeme, tok, ident}
 use Rattle.rgo_grammar.specs.Grammar.{level, sign, IsPrimary}
-use Rattle.rgo_grammar.specs.Reading.{Read, Done}
-use Rattle.rgo_grammar.specs.ReadExprs.{exprs, signed, unary_by, post_by, climb_by, expr, climb, unary, primary, post}
+use Rattle.rgo_grammar.specs.reading.Read.{Read, Done}
+use Rattle.rgo_grammar.specs.reading.Expressions.{exprs, signed, unary_by, post_by, climb_by, expr, climb, unary, primary, post}
 use Rattle.rgo_grammar.proofs.machine.Table.{both}
 use Rattle.rgo_grammar.proofs.reading.Complete.{Meets, meets_trans, meets_bind, meets_then}
 use Rattle.rgo_grammar.proofs.reading.Correct.Correct.{done}

@@ -10,8 +10,8 @@ use Rattle.rgo_grammar.specs.Grammar.{Listed, IsExpr, IsUnary, IsElements}
 use Rattle.rgo_grammar.specs.Grammar.Listed.{none as none_item, last as last_item, more as next_item}
 use Rattle.rgo_grammar.specs.Grammar.IsUnary.{literal, keyed as with_keys}
 use Rattle.rgo_grammar.specs.Grammar.IsElements.{no_element, last_element, more_elements}
-use Rattle.rgo_grammar.specs.Reading.{Read, ◌>>=◌, given, ended, listed, single, several}
-use Rattle.rgo_grammar.specs.ReadExprs.{element, elements_from, is_keyed, keyed, unkeyed, elements, literal as read_literal}
+use Rattle.rgo_grammar.specs.reading.Read.{Read, ◌>>=◌, given, ended, listed, single, several}
+use Rattle.rgo_grammar.specs.reading.Expressions.{element, elements_from, is_keyed, keyed, unkeyed, elements, literal as read_literal}
 use Rattle.rgo_grammar.proofs.machine.Table.{Sym, T, Unary, Bin, Elems, ElemsMore, KeyedMore, step, ElemsEnd, ElemsNamed, Post, behind, bin_row, find, joined, next, post_row, row}
 use Rattle.rgo_grammar.proofs.machine.Runs.{run, closes}
 use Rattle.rgo_grammar.proofs.machine.Starts.{after_name, alike, name_ends}

@@ -12,9 +12,9 @@ use Rattle.rgo_grammar.specs.Grammar.IsMakeEnd.{plain, comma}
 use Rattle.rgo_grammar.specs.Grammar.IsPrimary.{new, make_slice as is_slice, make_chan, make_sized, number, text, name, parens as in_parens, select, index, call}
 use Rattle.rgo_grammar.specs.Grammar.Listed.{none as none_item, last as last_item, more as next_item}
 use Rattle.rgo_grammar.specs.Grammar.{IsPrimary, IsType, IsMakeEnd, Listed, IsExpr, IsExprs}
-use Rattle.rgo_grammar.specs.ReadExprs.{exprs, make_end, make_end_by, capacity_by, sized_by, make_slice, made_by, new_at, parens, operand_by, post_by, made, capacity, sized}
-use Rattle.rgo_grammar.specs.ReadTypes.{a_type}
-use Rattle.rgo_grammar.specs.Reading.{Read}
+use Rattle.rgo_grammar.specs.reading.Expressions.{exprs, make_end, make_end_by, capacity_by, sized_by, make_slice, made_by, new_at, parens, operand_by, post_by, made, capacity, sized}
+use Rattle.rgo_grammar.specs.reading.Types.{a_type}
+use Rattle.rgo_grammar.specs.reading.Read.{Read}
 use Rattle.rgo_grammar.proofs.machine.Table.{Sym, Bin, Args, expr_row, T, Unary, Post, step, AType, MakeType, MakeSize, MakeMore, MakeEnd, closer}
 use Rattle.rgo_grammar.proofs.machine.Runs.{run}
 use Rattle.rgo_grammar.proofs.machine.Starts.{starts_as}

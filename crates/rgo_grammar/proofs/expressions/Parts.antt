@@ -9,8 +9,8 @@ use Rattle.rgo_lexer.specs.declared.terminals.Terminal.TheVariants.{Name, New, M
 use Rattle.rgo_lexer.specs.Lexemes.{Leaf, Lexeme, tok, ident, same}
 use Rattle.rgo_grammar.specs.Grammar.{IsType, IsMakeEnd, IsExprs, IsElements}
 use Rattle.rgo_grammar.specs.Grammar.IsMakeEnd.{plain, comma}
-use Rattle.rgo_grammar.specs.Reading.{Read, Done, ◌>>=◌, given, listed, single}
-use Rattle.rgo_grammar.specs.ReadExprs.{make_end, capacity, capacity_by, sized, expr, primary, post, exprs, element, elements_from, elements, unary}
+use Rattle.rgo_grammar.specs.reading.Read.{Read, Done, ◌>>=◌, given, listed, single}
+use Rattle.rgo_grammar.specs.reading.Expressions.{make_end, capacity, capacity_by, sized, expr, primary, post, exprs, element, elements_from, elements, unary}
 use Rattle.rgo_grammar.specs.Grammar.IsElements.{no_element, last_element, more_elements}
 use Rattle.rgo_grammar.proofs.machine.Table.{rest}
 use Rattle.rgo_grammar.proofs.reading.Complete.{Meets, meets_bind, meets_then, meets_trans, Opens, listed_none, listed_last, listed_more}

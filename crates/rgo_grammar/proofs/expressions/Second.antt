@@ -11,7 +11,7 @@ use Rattle.rgo_grammar.specs.Grammar.IsExpr.{unary, binary}
 use Rattle.rgo_grammar.specs.Grammar.IsUnary.{signed, literal, keyed, primary}
 use Rattle.rgo_grammar.specs.Grammar.IsPrimary.{number, text, name, parens, new, make_slice, make_chan, make_sized, select, index, call}
 use Rattle.rgo_grammar.specs.Grammar.IsExprs.{none, last, more}
-use Rattle.rgo_grammar.specs.ReadExprs.{is_keyed}
+use Rattle.rgo_grammar.specs.reading.Expressions.{is_keyed}
 use Rattle.rgo_grammar.proofs.reading.Next.{NotNext, next_append}
 use Rattle.rgo_grammar.proofs.expressions.Starts.{Starts, expr_starts, primary_starts}
 

@@ -12,7 +12,7 @@ use Rattle.rgo_grammar.specs.Grammar.IsExpr.{unary, binary}
 use Rattle.rgo_grammar.specs.Grammar.IsPrimary.{number, text, name, parens, new, make_slice, make_chan, make_sized, select, index, call}
 use Rattle.rgo_grammar.specs.Grammar.IsUnary.{signed, literal, keyed, primary}
 use Rattle.rgo_grammar.specs.Grammar.{IsExpr, level, sign, IsUnary, IsPrimary}
-use Rattle.rgo_grammar.specs.Reading.{Read}
+use Rattle.rgo_grammar.specs.reading.Read.{Read}
 use Rattle.rgo_grammar.proofs.machine.Table.{Sym, Unary, Bin, step, both}
 use Rattle.rgo_grammar.proofs.machine.Runs.{run, closes}
 use Rattle.rgo_grammar.proofs.reading.Correct.{Correct}

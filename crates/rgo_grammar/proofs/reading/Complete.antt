@@ -4,7 +4,7 @@ use Rattle.rgo_lexer.specs.declared.terminals.Terminal.{Terminal}
 use Rattle.rgo_lexer.specs.Lexemes.{Leaf, Lexeme, tok, same}
 use Rattle.rgo_grammar.specs.Grammar.{Listed}
 use Rattle.rgo_grammar.specs.Grammar.Listed.{none, last, more}
-use Rattle.rgo_grammar.specs.Reading.{Read, Done, Failed, Starving, ◌>>=◌, ended, listed, single}
+use Rattle.rgo_grammar.specs.reading.Read.{Read, Done, Failed, Starving, ◌>>=◌, ended, listed, single}
 use Rattle.rgo_grammar.proofs.machine.Table.{same_self, rest, closer}
 use Rattle.rgo_grammar.proofs.reading.Next.{IsNext, begins_append}
 

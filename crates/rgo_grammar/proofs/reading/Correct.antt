@@ -4,7 +4,7 @@ use Rattle.std.proofs.Common.{◌≡◌, ℕ, ◌+◌, ◌==◌, ◌||◌, ◌&&
 use Rattle.rgo_lexer.specs.declared.terminals.Terminal.{Terminal}
 use Rattle.rgo_lexer.specs.declared.terminals.Terminal.TheVariants.{Name, Main, New, Make, Number, Text, Binary, Bang, Ampersand, Arrow, Define, Assign, Step, OpenParen, CloseParen, OpenBracket, CloseBracket, OpenBrace, CloseBrace, Comma, Semicolon, Colon, Dot, Package, Import, TypeWord, Struct, Var, Func, Chan, Go, If, Else, For, Return, Break, Continue, Other}
 use Rattle.rgo_lexer.specs.Lexemes.{Leaf, Lexeme, tok, class, same, plain}
-use Rattle.rgo_grammar.specs.Reading.{Read, Done, Failed, At, ◌>>=◌, given, token}
+use Rattle.rgo_grammar.specs.reading.Read.{Read, Done, Failed, At, ◌>>=◌, given, token}
 use Rattle.rgo_grammar.proofs.machine.Table.{Sym, T, step, same_self, nullable}
 use Rattle.rgo_grammar.proofs.machine.Runs.{Stopped, run, closes, same_class}
 use Rattle.rgo_grammar.proofs.machine.Starts.{stays}

@@ -5,8 +5,8 @@ use Rattle.rgo_lexer.specs.declared.terminals.Terminal.TheVariants.{OpenParen, C
 use Rattle.rgo_lexer.specs.Lexemes.{Leaf, Lexeme, tok, same, plain}
 use Rattle.rgo_grammar.specs.Grammar.{Listed}
 use Rattle.rgo_grammar.specs.Grammar.Listed.{none, last, more}
-use Rattle.rgo_grammar.specs.Reading.{Read, Done, Failed, At, ◌>>=◌, ended, listed, single, several}
-use Rattle.rgo_grammar.specs.ReadDecls.{group_by, group}
+use Rattle.rgo_grammar.specs.reading.Read.{Read, Done, Failed, At, ◌>>=◌, ended, listed, single, several}
+use Rattle.rgo_grammar.specs.reading.Declarations.{group_by, group}
 use Rattle.rgo_grammar.proofs.machine.Table.{Sym, T, Row, row, nullable, closer}
 use Rattle.rgo_grammar.proofs.machine.Starts.{takes, refuses, stays, one_start}
 use Rattle.rgo_grammar.proofs.reading.Correct.{Correct, token_read, same_start, correct_bind, correct_given, correct_weaker, correct_under, same_plain, shorter}

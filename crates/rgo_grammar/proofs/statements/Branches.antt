@@ -9,8 +9,8 @@ use Rattle.rgo_grammar.specs.Grammar.{IsSimple, IsClause, IsCondition, IsStmts, 
 use Rattle.rgo_grammar.specs.Grammar.IsClause.{empty, some as a_clause}
 use Rattle.rgo_grammar.specs.Grammar.IsCondition.{none as unconditional, some as on_condition}
 use Rattle.rgo_grammar.specs.Grammar.IsFor.{while, three}
-use Rattle.rgo_grammar.specs.Reading.{Read, first_of, ◌>>=◌}
-use Rattle.rgo_grammar.specs.ReadStmts.{valued, Head, condition, init, condition_by, step_by, looped, for_rest, for_by, for_on, head, else_body_by, else_by, else_on, branches, if_rest, condition_on, step_on, else_body_on}
+use Rattle.rgo_grammar.specs.reading.Read.{Read, first_of, ◌>>=◌}
+use Rattle.rgo_grammar.specs.reading.Statements.{valued, Head, condition, init, condition_by, step_by, looped, for_rest, for_by, for_on, head, else_body_by, else_by, else_on, branches, if_rest, condition_on, step_on, else_body_on}
 use Rattle.rgo_grammar.specs.Grammar.IsIf.{plain, with}
 use Rattle.rgo_grammar.specs.Grammar.IsElse.{none as no_else, an_if, a_block}
 use Rattle.rgo_grammar.proofs.machine.Table.{behind_for, T, Unary, Bin, Tail, Block, IfHead, ForHead, Condition, ForStep, step, IfElse, ElseBody}

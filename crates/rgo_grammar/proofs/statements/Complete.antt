@@ -10,9 +10,9 @@ use Rattle.rgo_grammar.specs.Grammar.IsStmts.{end, empty, last, more}
 use Rattle.rgo_grammar.specs.Grammar.IsIf.{plain, with}
 use Rattle.rgo_grammar.specs.Grammar.IsElse.{none as no_else, an_if as else_if, a_block as else_block}
 use Rattle.rgo_grammar.specs.Grammar.IsFor.{while, three}
-use Rattle.rgo_grammar.specs.Reading.{Done, ◌>>=◌, given, first_of, listed}
-use Rattle.rgo_grammar.specs.ReadExprs.{expr}
-use Rattle.rgo_grammar.specs.ReadStmts.{defining, else_on, return_on, vars_on, stmt, if_stmt, block}
+use Rattle.rgo_grammar.specs.reading.Read.{Done, ◌>>=◌, given, first_of, listed}
+use Rattle.rgo_grammar.specs.reading.Expressions.{expr}
+use Rattle.rgo_grammar.specs.reading.Statements.{defining, else_on, return_on, vars_on, stmt, if_stmt, block}
 use Rattle.rgo_grammar.proofs.machine.Table.{rest}
 use Rattle.rgo_grammar.proofs.reading.Complete.{Meets, meets_trans, meets_bind, listed_none, listed_last, listed_more}
 use Rattle.rgo_grammar.proofs.reading.Next.{begins_append, next_also}

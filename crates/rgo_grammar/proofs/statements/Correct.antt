@@ -7,9 +7,9 @@ use Rattle.rgo_lexer.specs.declared.terminals.Terminal.TheVariants.{Name, OpenPa
 use Rattle.rgo_lexer.specs.Lexemes.{Leaf, Lexeme, tok, same}
 use Rattle.rgo_grammar.specs.Grammar.{IsExprs, IsStmt, IsStmts, IsIf}
 use Rattle.rgo_grammar.specs.Grammar.IsStmt.{block as a_block, simple, if' as an_if, for' as a_for, go, return as returned, returns, break as broken, continue as continued}
-use Rattle.rgo_grammar.specs.Reading.{Read, first_of, single}
-use Rattle.rgo_grammar.specs.ReadExprs.{expr, exprs}
-use Rattle.rgo_grammar.specs.ReadStmts.{going, return_by, return_on, stmt_by, stmts, stmts_by, block_by, stmt, if_stmt, block}
+use Rattle.rgo_grammar.specs.reading.Read.{Read, first_of, single}
+use Rattle.rgo_grammar.specs.reading.Expressions.{expr, exprs}
+use Rattle.rgo_grammar.specs.reading.Statements.{going, return_by, return_on, stmt_by, stmts, stmts_by, block_by, stmt, if_stmt, block}
 use Rattle.rgo_grammar.specs.Grammar.IsStmts.{end, empty, last, more}
 use Rattle.rgo_grammar.proofs.machine.Table.{alone, Sym, T, Args, Stmts, StmtEnd, Value, step, Bin, Unary, next, row, Block, IfHead}
 use Rattle.rgo_grammar.proofs.machine.Runs.{run, closes}

@@ -7,8 +7,8 @@ use Rattle.rgo_lexer.specs.Lexemes.{Leaf, Lexeme, tok, same}
 use Rattle.rgo_grammar.specs.Grammar.{IsExpr, IsSimple, IsClause}
 use Rattle.rgo_grammar.specs.Grammar.IsSimple.{plain}
 use Rattle.rgo_grammar.specs.Grammar.IsClause.{empty, some}
-use Rattle.rgo_grammar.specs.Reading.{Read, Failed, At, first_of}
-use Rattle.rgo_grammar.specs.ReadStmts.{Head, condition, init, head_before_block, head_end_by, head_end_on, head_by, head}
+use Rattle.rgo_grammar.specs.reading.Read.{Read, Failed, At, first_of}
+use Rattle.rgo_grammar.specs.reading.Statements.{Head, condition, init, head_before_block, head_end_by, head_end_on, head_by, head}
 use Rattle.rgo_grammar.proofs.machine.Table.{Context, before_if, before_for, Sym, Unary, Bin, Tail, Block, IfHead, IfElse, ForHead, Condition, rest, step}
 use Rattle.rgo_grammar.proofs.machine.Runs.{Stopped, run, closes}
 use Rattle.rgo_grammar.proofs.reading.Correct.Correct.{done, stops}

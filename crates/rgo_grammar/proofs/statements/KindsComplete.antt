@@ -9,12 +9,12 @@ use Rattle.rgo_grammar.specs.Grammar.{IsExpr, IsClause, IsCondition, IsExprs, Is
 use Rattle.rgo_grammar.specs.Grammar.IsSimple.{plain}
 use Rattle.rgo_grammar.specs.Grammar.IsClause.{empty, some as a_clause}
 use Rattle.rgo_grammar.specs.Grammar.IsCondition.{none as unconditional, some as on_condition}
-use Rattle.rgo_grammar.specs.Reading.{Read, Done, ◌>>=◌, given, first_of, token, Failed, Starving, single}
-use Rattle.rgo_grammar.specs.ReadStmts.{valued, defining, condition, init, head_end_on, head_by, head, condition_by, condition_on, step_by, step_on, looped, for_rest, for_by, for_on, else_body_on, else_by, else_on, branches, return_by, return_on, stmt_by, stmts_by, block_by, stmt, if_stmt, stmts, block}
+use Rattle.rgo_grammar.specs.reading.Read.{Read, Done, ◌>>=◌, given, first_of, token, Failed, Starving, single}
+use Rattle.rgo_grammar.specs.reading.Statements.{valued, defining, condition, init, head_end_on, head_by, head, condition_by, condition_on, step_by, step_on, looped, for_rest, for_by, for_on, else_body_on, else_by, else_on, branches, return_by, return_on, stmt_by, stmts_by, block_by, stmt, if_stmt, stmts, block}
 use Rattle.rgo_grammar.specs.Grammar.IsStmt.{block as a_block, simple, if' as an_if, for' as a_for, go, var, vars, return as returned, returns, break as broken, continue as continued}
 use Rattle.rgo_grammar.specs.Grammar.IsIf.{plain, with}
 use Rattle.rgo_grammar.specs.Grammar.IsFor.{while, three}
-use Rattle.rgo_grammar.specs.ReadExprs.{expr, exprs}
+use Rattle.rgo_grammar.specs.reading.Expressions.{expr, exprs}
 use Rattle.rgo_grammar.proofs.reading.Complete.{Meets, meets_bind, meets_then, Opens}
 use Rattle.rgo_grammar.proofs.reading.Next.{begins_append, IsNext, next_also}
 use Rattle.rgo_grammar.proofs.expressions.Starts.{starts, Starts, expr_starts, brace_closes}

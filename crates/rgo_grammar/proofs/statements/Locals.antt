@@ -10,9 +10,9 @@ use Rattle.rgo_grammar.specs.Grammar.IsNames.{one}
 use Rattle.rgo_grammar.specs.Grammar.IsBinding.{binding as of_names}
 use Rattle.rgo_grammar.specs.Grammar.IsLocal.{zero as zeroed, typed, inferred}
 use Rattle.rgo_grammar.specs.Grammar.IsStmt.{var as a_var, vars as some_vars}
-use Rattle.rgo_grammar.specs.Reading.{Read, first_of}
-use Rattle.rgo_grammar.specs.ReadStmts.{initial_by, initial, local_by, local, vars_by, vars_on, local_on}
-use Rattle.rgo_grammar.specs.ReadDecls.{group_by, group}
+use Rattle.rgo_grammar.specs.reading.Read.{Read, first_of}
+use Rattle.rgo_grammar.specs.reading.Statements.{initial_by, initial, local_by, local, vars_by, vars_on, local_on}
+use Rattle.rgo_grammar.specs.reading.Declarations.{group_by, group}
 use Rattle.rgo_grammar.proofs.machine.Table.{T, AType, Locals, LocalList, LocalRest, Initial, step}
 use Rattle.rgo_grammar.proofs.machine.Runs.{run, closes}
 use Rattle.rgo_grammar.proofs.machine.Starts.{starts_as}

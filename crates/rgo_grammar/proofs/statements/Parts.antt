@@ -9,13 +9,13 @@ use Rattle.rgo_lexer.specs.declared.terminals.Terminal.TheVariants.{Name, Arrow,
 use Rattle.rgo_lexer.specs.Lexemes.{Leaf, Lexeme, tok, same, ident}
 use Rattle.rgo_grammar.specs.Grammar.{IsExpr, IsSimple, IsType, IsLocal, Listed}
 use Rattle.rgo_grammar.specs.Grammar.IsSimple.{plain, send, step as stepped, assign, define}
-use Rattle.rgo_grammar.specs.Reading.{Read, Done, first_of, ◌>>=◌, given, single, several}
-use Rattle.rgo_grammar.specs.ReadStmts.{simple_by, simple_on, valued, named_by, named_on, defining_by, defining, initial_by, initial, local_on, local, vars_on}
+use Rattle.rgo_grammar.specs.reading.Read.{Read, Done, first_of, ◌>>=◌, given, single, several}
+use Rattle.rgo_grammar.specs.reading.Statements.{simple_by, simple_on, valued, named_by, named_on, defining_by, defining, initial_by, initial, local_on, local, vars_on}
 use Rattle.rgo_grammar.specs.Grammar.IsNames.{one as one_name, more as more_names}
 use Rattle.rgo_grammar.specs.Grammar.IsType.{named, pointer, slice, chan}
 use Rattle.rgo_grammar.specs.Grammar.IsBinding.{binding as of_names}
 use Rattle.rgo_grammar.specs.Grammar.IsLocal.{zero as zeroed, typed, inferred}
-use Rattle.rgo_grammar.specs.ReadTypes.{a_type, bound}
+use Rattle.rgo_grammar.specs.reading.Types.{a_type, bound}
 use Rattle.rgo_grammar.proofs.reading.Complete.{Meets, meets_bind, meets_then, Opens, listed_complete}
 use Rattle.rgo_grammar.proofs.reading.Next.{IsNext, NotNext, begins_append, next_other}
 use Rattle.rgo_grammar.proofs.types.Complete.{type_complete, binding_complete}

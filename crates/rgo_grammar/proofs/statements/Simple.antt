@@ -8,8 +8,8 @@ use Rattle.rgo_lexer.specs.declared.terminals.Terminal.TheVariants.{Name, Arrow,
 use Rattle.rgo_lexer.specs.Lexemes.{Leaf, Lexeme, tok, same}
 use Rattle.rgo_grammar.specs.Grammar.{IsExpr, IsSimple}
 use Rattle.rgo_grammar.specs.Grammar.IsSimple.{plain, send, step as stepped, assign, define}
-use Rattle.rgo_grammar.specs.Reading.{Read, ◌>>=◌, given, first_of}
-use Rattle.rgo_grammar.specs.ReadStmts.{simple_by, simple_on, valued, named_by, named_on, defining}
+use Rattle.rgo_grammar.specs.reading.Read.{Read, ◌>>=◌, given, first_of}
+use Rattle.rgo_grammar.specs.reading.Statements.{simple_by, simple_on, valued, named_by, named_on, defining}
 use Rattle.rgo_grammar.proofs.machine.Table.{Context, alone, behind_for, Sym, Unary, Bin, Tail, Named, Post, Block, header, rest, behind, plain_row, row, nullable, find, next, step, after, starts_row}
 use Rattle.rgo_grammar.proofs.machine.Runs.{run, closes}
 use Rattle.rgo_grammar.proofs.machine.Starts.{takes, passes, alike, starts_as, after_name, name_ends}

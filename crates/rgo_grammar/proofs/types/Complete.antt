@@ -10,8 +10,8 @@ use Rattle.rgo_grammar.specs.Grammar.{IsNames, IsType, IsBinding, Listed}
 use Rattle.rgo_grammar.specs.Grammar.IsNames.{one, more}
 use Rattle.rgo_grammar.specs.Grammar.IsType.{named, pointer, slice, chan}
 use Rattle.rgo_grammar.specs.Grammar.IsBinding.{binding as of_names}
-use Rattle.rgo_grammar.specs.Reading.{Done, ◌>>=◌, given, token, several}
-use Rattle.rgo_grammar.specs.ReadTypes.{a_type, names_by, names, bound, binding, bindings}
+use Rattle.rgo_grammar.specs.reading.Read.{Done, ◌>>=◌, given, token, several}
+use Rattle.rgo_grammar.specs.reading.Types.{a_type, names_by, names, bound, binding, bindings}
 use Rattle.rgo_grammar.proofs.reading.Complete.{Meets, meets_bind, meets_then, bind_assoc, Opens, listed_complete}
 use Rattle.rgo_grammar.proofs.types.Correct.{NoComma}
 

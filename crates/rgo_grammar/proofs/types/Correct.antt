@@ -10,8 +10,8 @@ use Rattle.rgo_grammar.specs.Grammar.{IsNames, IsType, IsBinding, Listed}
 use Rattle.rgo_grammar.specs.Grammar.IsNames.{one, more}
 use Rattle.rgo_grammar.specs.Grammar.IsType.{named, pointer, slice, chan}
 use Rattle.rgo_grammar.specs.Grammar.IsBinding.{binding as of_names}
-use Rattle.rgo_grammar.specs.Reading.{Read}
-use Rattle.rgo_grammar.specs.ReadTypes.{type_by, a_type, names_by, names, typed_names, binding, bindings}
+use Rattle.rgo_grammar.specs.reading.Read.{Read}
+use Rattle.rgo_grammar.specs.reading.Types.{type_by, a_type, names_by, names, typed_names, binding, bindings}
 use Rattle.rgo_grammar.proofs.machine.Table.{Sym, T, AType, NamesType, step, closer}
 use Rattle.rgo_grammar.proofs.machine.Runs.{run, closes}
 use Rattle.rgo_grammar.proofs.machine.Starts.{alike}

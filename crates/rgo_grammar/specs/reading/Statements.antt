@@ -9,10 +9,10 @@ use Rattle.rgo_lexer.specs.declared.terminals.Terminal.TheVariants.{CloseParen, 
 use Rattle.rgo_lexer.specs.declared.terminals.Terminal.TheVariants.{Semicolon, Var, Go, If, Else, For, Return, Break}
 use Rattle.rgo_lexer.specs.declared.terminals.Terminal.TheVariants.{Continue}
 use Rattle.rgo_lexer.specs.Lexemes.{Leaf, Lexeme, ident}
-use Rattle.rgo_grammar.specs.Reading.{Read, Done, Failed, At, Starving, ◌>>=◌, given, first_of, token, listed, several}
-use Rattle.rgo_grammar.specs.Reading.{single}
-use Rattle.rgo_grammar.specs.ReadTypes.{a_type, typed_names, bound}
-use Rattle.rgo_grammar.specs.ReadExprs.{expr, exprs}
+use Rattle.rgo_grammar.specs.reading.Read.{Read, Done, Failed, At, Starving, ◌>>=◌, given, first_of, token, listed, several}
+use Rattle.rgo_grammar.specs.reading.Read.{single}
+use Rattle.rgo_grammar.specs.reading.Types.{a_type, typed_names, bound}
+use Rattle.rgo_grammar.specs.reading.Expressions.{expr, exprs}
 
 -- In what follows `value` reads an expression, in the header or not as the statement stands in one.
 

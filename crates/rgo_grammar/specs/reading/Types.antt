@@ -8,7 +8,7 @@ use Rattle.rgo_lexer.specs.declared.terminals.Terminal.{Terminal}
 use Rattle.rgo_lexer.specs.declared.terminals.Terminal.TheVariants.{Name, Binary, OpenBracket, CloseBracket, Comma}
 use Rattle.rgo_lexer.specs.declared.terminals.Terminal.TheVariants.{Chan}
 use Rattle.rgo_lexer.specs.Lexemes.{Leaf, Lexeme, ident}
-use Rattle.rgo_grammar.specs.Reading.{Read, Done, Failed, At, Starving, ◌>>=◌, given, first_of, token, listed, single, several}
+use Rattle.rgo_grammar.specs.reading.Read.{Read, Done, Failed, At, Starving, ◌>>=◌, given, first_of, token, listed, single, several}
 
 abbrev pub type_by : (List Lexeme → Read tree.TypeExpr) → Terminal → Leaf → List Lexeme → List Lexeme → Read tree.TypeExpr
 type_by inner Name i l m = Done (tree.Named (ident i)) m

@@ -15,9 +15,9 @@ use Rattle.rgo_lexer.specs.declared.terminals.Terminal.TheVariants.{OpenBracket,
 use Rattle.rgo_lexer.specs.declared.terminals.Terminal.TheVariants.{Comma, Colon, Dot, Chan}
 use Rattle.rgo_lexer.specs.Lexemes.{Leaf, Lexeme, ident}
 use Rattle.rgo_grammar.specs.Grammar.{level}
-use Rattle.rgo_grammar.specs.Reading.{Read, Done, Failed, At, Starving, ◌>>=◌, given, first_of, token, ended, listed, several}
-use Rattle.rgo_grammar.specs.Reading.{single}
-use Rattle.rgo_grammar.specs.ReadTypes.{a_type}
+use Rattle.rgo_grammar.specs.reading.Read.{Read, Done, Failed, At, Starving, ◌>>=◌, given, first_of, token, ended, listed, several}
+use Rattle.rgo_grammar.specs.reading.Read.{single}
+use Rattle.rgo_grammar.specs.reading.Types.{a_type}
 
 -- [ "," ] ")"
 abbrev pub make_end_by : Terminal → List Lexeme → List Lexeme → Read Leaf

@@ -8,9 +8,9 @@ use Rattle.rgo_lexer.specs.declared.terminals.Terminal.TheVariants.{Name, Main, 
 use Rattle.rgo_lexer.specs.declared.terminals.Terminal.TheVariants.{OpenBrace, CloseBrace, Comma, Semicolon, Package}
 use Rattle.rgo_lexer.specs.declared.terminals.Terminal.TheVariants.{Import, TypeWord, Struct, Var, Func}
 use Rattle.rgo_lexer.specs.Lexemes.{Leaf, Lexeme, ident, path}
-use Rattle.rgo_grammar.specs.Reading.{Read, Done, Failed, At, Starving, ◌>>=◌, given, first_of, token, listed, single, several}
-use Rattle.rgo_grammar.specs.ReadTypes.{a_type, binding, bindings}
-use Rattle.rgo_grammar.specs.ReadStmts.{block}
+use Rattle.rgo_grammar.specs.reading.Read.{Read, Done, Failed, At, Starving, ◌>>=◌, given, first_of, token, listed, single, several}
+use Rattle.rgo_grammar.specs.reading.Types.{a_type, binding, bindings}
+use Rattle.rgo_grammar.specs.reading.Statements.{block}
 
 -- one item, or a group of them in parentheses
 abbrev pub group_by : {A : Type 0} → (List Lexeme → Read A) → ℕ → Terminal → List Lexeme → List Lexeme → Read (List A)
