@@ -1,24 +1,15 @@
--- What is in the grammar is read as its tree, whatever follows that does not go on with it: expressions.
+-- What is in the grammar is read as its tree, whatever follows that does not go on with it:
+-- expressions.
 use Rattle.std.proofs.Common.{ℕ, zero, suc, ◌+◌, ◌≤◌, inl, inr, Bool, false, List, [], ◌∷◌, ◌++◌, refl, append_assoc, arith}
 use Rattle.rgo_ast.specs.declared.names.Ident.{Ident}
 use Rattle.rgo_ast.specs.Tree as tree
-use Rattle.rgo_lexer.specs.declared.terminals.Terminal.{Terminal}
-use Rattle.rgo_lexer.specs.declared.terminals.Terminal.TheVariants.{Name, Binary, OpenParen, OpenBracket, CloseBracket, CloseBrace, Comma, Colon, Dot}
-use Rattle.rgo_lexer.specs.Lexemes.{Leaf, Lexeme, tok, ident}
-use Rattle.rgo_grammar.specs.Grammar.{level, IsExpr, IsUnary, IsPrimary, IsExprs, IsElements}
-use Rattle.rgo_grammar.specs.Grammar.IsExpr.{unary as of_unary, binary}
-use Rattle.rgo_grammar.specs.Grammar.IsUnary.{signed, literal, keyed, primary as of_primary}
-use Rattle.rgo_grammar.specs.Grammar.IsPrimary.{number, text, name, parens, new, make_slice, make_chan, make_sized, select, index, call}
-use Rattle.rgo_grammar.specs.Grammar.IsExprs.{none, last, more}
-use Rattle.rgo_grammar.specs.Grammar.IsElements.{no_element, last_element, more_elements}
-use Rattle.rgo_grammar.specs.reading.Read.{Done, several}
-use Rattle.rgo_grammar.specs.reading.Expressions.{exprs, exprs_from, element, elements_from, expr, climb, unary, primary, post}
-use Rattle.rgo_grammar.proofs.machine.Table.{closer, header, rest}
-use Rattle.rgo_grammar.proofs.reading.Complete.{Meets, meets_trans, meets_bind}
-use Rattle.rgo_grammar.proofs.reading.Next.{next_also}
-use Rattle.rgo_grammar.proofs.expressions.Starts.{top, expr_starts}
-use Rattle.rgo_grammar.proofs.expressions.Ends.{Unposted, EndsExpr, finished, operated, selected, indexed_at, called_at, parens_at, signed_at, primary_at}
-use Rattle.rgo_grammar.proofs.expressions.Parts.{Closer, brace_closer, chan_complete, element_at, items_last, items_more, items_none, keyed_at, literal_at, new_complete, paren_closer, sized_complete, slice_complete}
+use Rattle.rgo_lexer.specs.{declared.terminals.Terminal.{Terminal, TheVariants.{Name, Binary, OpenParen, OpenBracket, CloseBracket, CloseBrace, Comma, Colon, Dot, CloseParen}}, Lexemes.{Leaf, Lexeme, tok, ident}}
+use Rattle.rgo_grammar.specs.Grammar.{level, IsExpr, IsUnary, IsPrimary, IsExprs, IsElements, IsExpr.{unary as of_unary, binary}, IsUnary.{signed, literal, keyed, primary as of_primary}, IsPrimary.{number, text, name, parens, new, make_slice, make_chan, make_sized, select, index, call}, IsExprs.{none, last, more}, IsElements.{no_element, last_element, more_elements}}
+use Rattle.rgo_grammar.specs.reading.{Read.{Done, several}, Expressions.{exprs, exprs_from, element, elements_from, expr, climb, unary, primary, post}}
+use Rattle.rgo_grammar.proofs.machine.Table.{closer, header, rest, both}
+use Rattle.rgo_grammar.proofs.reading.{Complete.{Meets, meets_trans, meets_bind, meets_then}, Next.{next_also, begins_append}}
+use Rattle.rgo_grammar.proofs.types.Complete.{type_complete}
+use Rattle.rgo_grammar.proofs.expressions.{Starts.{top, expr_starts, primary_begins}, Ends.{Unposted, EndsExpr, finished, operated, selected, indexed_at, called_at, post_done, signed_by, unsigned_at}, Parts.{Closer, brace_closer, items_last, items_more, items_none, paren_closer, capacity_at, elements_keyed, ended_value, keyed_here, sized_end}, Second.{exprs_unkeyed}}
 
 mutual
   unfolding expr several
@@ -31,20 +22,36 @@ mutual
   primary_complete (name i) (suc n) l = (n, inr refl)
   primary_complete (parens i j {x} {v} f) (suc n) l = (
     n,
-    rw append_assoc (parens_at i j v x n l (λ m w e. finished false m x v w
-        (formula_complete f m 1 w (omega arith) (omega (arith, e.0)) e.1) e.0)),
+    rw append_assoc
+        (meets_bind _
+        (meets_then _
+        (finished false n x (omega arith, refl)
+        (formula_complete f n 1 (tok CloseParen j ∷ l) (omega arith))) (inr refl))),
   )
-  primary_complete (new i j k m) (suc n) l = (n, new_complete i j k m n l)
+  primary_complete (new i j k m) (suc n) l = (n, inr refl)
   primary_complete (make_slice i j k m c {x} {y} {z} {t} {v} h f e) (suc n) l = (
     n,
-    rw (append_assoc, append_assoc) (slice_complete i j k m c y v h
-        (λ m w e. finished false m y v w (formula_complete f m 1 w (omega arith) (omega (arith, e.0)) e.1) e.0) e n l),
+    rw (append_assoc, append_assoc)
+        (meets_bind _
+        (meets_then _ (type_complete x t h n (tok Comma c ∷ (y ++ (z ++ l))))
+        (ended_value y v (λ u. tree.MakeSlice t u i.at) n l
+        (λ m w g. finished false m y g (formula_complete f m 1 w (omega arith))) e))),
   )
-  primary_complete (make_chan i j k {x} {z} {t} h e) (suc n) l = (n, rw append_assoc (chan_complete i j k h e n l))
+  primary_complete (make_chan i j k {x} {z} {t} h e) (suc n) l = (
+    n,
+    rw append_assoc
+        (meets_bind _
+        (meets_then _ (type_complete x t h n (z ++ l)) (inr (sized_end (expr false n 1) t i e l)))),
+  )
   primary_complete (make_sized i j k c {x} {y} {z} {t} {v} h f e) (suc n) l = (
     n,
-    rw (append_assoc, append_assoc) (sized_complete i j k c y v h (expr_starts f)
-        (λ m w e. finished false m y v w (formula_complete f m 1 w (omega arith) (omega (arith, e.0)) e.1) e.0) e n l),
+    rw (append_assoc, append_assoc)
+        (meets_bind {y = Done (tree.MakeChan t (tree.a_capacity v) i.at) l} _
+        (meets_then _ (type_complete x t h n (tok Comma c ∷ (y ++ (z ++ l))))
+        (rw (capacity_at (expr false n 1) t i (y ++ (z ++ l))
+        (begins_append _ y (z ++ l) (expr_starts f)))
+        (ended_value y v (λ u. tree.MakeChan t (tree.a_capacity u) i.at) n l
+        (λ m w g. finished false m y g (formula_complete f m 1 w (omega arith))) e)))),
   )
   primary_complete (select i j {x} {v} p) (suc n) l =
       let h = primary_complete p (suc n) (tok Dot i ∷ tok Name j ∷ l) in
@@ -54,8 +61,8 @@ mutual
       )
   primary_complete (index i j {x} {y} {v} {w} p f) (suc n) l =
       let h = primary_complete p (suc n) (tok OpenBracket i ∷ (y ++ tok CloseBracket j ∷ l)) in
-      let g = indexed_at i j v w y h.0 l (λ m u e. finished false m y w u
-      (formula_complete f m 1 u (omega arith) (omega (arith, e.0)) e.1) e.0) in (
+      let g = indexed_at i j v w y h.0 l
+      (λ m u e. finished false m y e (formula_complete f m 1 u (omega arith))) in (
         g.0,
         rw (append_assoc, append_assoc) (meets_trans h.1 g.1),
       )
@@ -66,22 +73,32 @@ mutual
         rw append_assoc (meets_trans h.1 g.1),
       )
 
-  unary_complete : {h : Bool} {x : List Lexeme} {v : tree.Expr} → IsUnary h x v → (n : ℕ) (l : List Lexeme) → Unposted l
-      → Meets (unary h n (x ++ l)) (Done v l)
+  unary_complete : {h : Bool} {x : List Lexeme} {v : tree.Expr} → IsUnary h x v
+      → (n : ℕ) (l : List Lexeme) → Unposted l → Meets (unary h n (x ++ l)) (Done v l)
   unary_complete u zero l e = inl refl
-  unary_complete (signed {header} k o i {x} {v} s u) (suc n) l e = signed_at header n k o i v x l s (unary_complete u n l e)
-  unary_complete (literal i j k {y} {vs} d) (suc n) l e = literal_at i j k d n l (λ m q. exprs_found d brace_closer m q [] l)
-  unary_complete (keyed i j k {y} d) (suc n) l e = keyed_at i j k d n l (λ m q. elements_found d m q [] l)
-  unary_complete (of_primary {header} {x} {v} p) (suc n) l e = primary_at header n p l e (primary_complete p n l)
+  unary_complete (signed {header} k o i {x} {v} s u) (suc n) l e =
+      rw (signed_by header n (expr false n 1) (unary header n) (primary n) k o i
+      (tok k i ∷ (x ++ l)) (x ++ l) s) (meets_bind _ (unary_complete u n l e))
+  unary_complete (literal i j k d) (suc n) l e =
+      rw (exprs_unkeyed d l) (meets_bind _ (exprs_found d brace_closer n n [] l).1)
+  unary_complete (keyed i j k {y} {e} {es} d) (suc n) l g =
+      rw (keyed_here n (expr false n 1) i j (y ++ l) (elements_keyed (e ∷ es) d refl l))
+      (meets_bind _ (elements_found d n (suc n) [] l).1)
+  unary_complete (of_primary {header} {x} {v} p) (suc n) l e =
+      let g = primary_complete p n l in
+      rw (unsigned_at header n (x ++ l)
+      (begins_append _ x l (next_also x (primary_begins p) (λ k e. (both e).1))))
+      (meets_trans g.1 (post_done g.0 v l e))
 
-  formula_complete : {h : Bool} {q : ℕ} {x : List Lexeme} {v : tree.Expr} → IsExpr h q x v → (n p : ℕ) (l : List Lexeme) → p ≤ q → top l ≤ q
-      → Unposted l
+  formula_complete : {h : Bool} {q : ℕ} {x : List Lexeme} {v : tree.Expr} → IsExpr h q x v
+      → (n p : ℕ) (l : List Lexeme) → p ≤ q → top l ≤ q → Unposted l
       → (m : ℕ) × Meets (expr h n p (x ++ l)) (climb h m p v l)
   formula_complete f zero p l a t e = (0, inl refl)
   formula_complete (of_unary {header} {x} {v} u) (suc n) p l a t e =
       (n, meets_bind _ (unary_complete u n l e))
   formula_complete (binary {header} o i {x} {y} {a} {b} le f g) (suc n) p l s t e =
-      let first = formula_complete f (suc n) p (tok (Binary o) i ∷ (y ++ l)) (omega arith) (omega arith) refl in
+      let first = formula_complete f (suc n) p (tok (Binary o) i ∷ (y ++ l)) (omega arith)
+      (omega arith) refl in
       let rest = operated header p o i a b y first.0 l (omega arith) (omega arith)
       (λ m. formula_complete g m (level o + 1) l (omega arith) (omega arith) e) in (
         rest.0,
@@ -89,41 +106,51 @@ mutual
       )
 
   -- behind those that were found
-  pub exprs_found : {closer : Terminal} {y : List Lexeme} {vs : List tree.Expr} → IsExprs closer y vs → Closer closer
-      → (m n : ℕ) (found : List tree.Expr) (l : List Lexeme)
-      → (j : Leaf) × Meets (exprs_from closer n (expr false m 1) found (y ++ l)) (Done (found ++ vs, j) l)
-  exprs_found (none {closer} j) c m n found l = items_none closer c.other (expr false m 1) n found j l
+  pub exprs_found : {closer : Terminal} {y : List Lexeme} {vs : List tree.Expr}
+      → IsExprs closer y vs → Closer closer → (m n : ℕ) (found : List tree.Expr) (l : List Lexeme)
+      → (j : Leaf) × Meets (exprs_from closer n (expr false m 1) found (y ++ l))
+      (Done (found ++ vs, j) l)
+  exprs_found (none {closer} j) c m n found l =
+      items_none closer c.other (expr false m 1) n found j l
   exprs_found (last {closer} j {x} {v} f) c m n found l =
-      let h = finished false m x v (tok closer j ∷ l) (formula_complete f m 1 (tok closer j ∷ l) (omega arith)
-      (omega (arith, c.loose)) c.unposted) c.loose in
-      rw append_assoc (items_last closer c.other (expr false m 1) n found v j x l (next_also x (expr_starts f) c.closes) h)
+      let h = finished false m x (c.loose, c.unposted)
+      (formula_complete f m 1 (tok closer j ∷ l) (omega arith)) in
+      rw append_assoc
+      (items_last closer c.other (expr false m 1) n found v j x l
+      (next_also x (expr_starts f) c.closes) h)
   exprs_found (more {closer} j {x} {y} {v} {vs} f d) c m n found l =
-      let h = finished false m x v (tok Comma j ∷ (y ++ l)) (formula_complete f m 1 (tok Comma j ∷ (y ++ l)) (omega arith)
-      (omega arith) refl) (omega arith) in
-      rw append_assoc (items_more closer c.other (expr false m 1) n found vs v j x y l (next_also x (expr_starts f) c.closes) h
-      (λ k us. exprs_found d c m k us l))
+      let h = finished false m x (omega arith, refl)
+      (formula_complete f m 1 (tok Comma j ∷ (y ++ l)) (omega arith)) in
+      rw append_assoc
+      (items_more closer c.other (expr false m 1) n found vs v j x y l
+      (next_also x (expr_starts f) c.closes) h (λ k us. exprs_found d c m k us l))
 
   elements_found : {y : List Lexeme} {es : List (Ident × tree.Expr)} → IsElements y es
       → (m n : ℕ) (found : List (Ident × tree.Expr)) (l : List Lexeme)
-      → (j : Leaf) × Meets (elements_from n (expr false m 1) found (y ++ l)) (Done (found ++ es, j) l)
-  elements_found (no_element j) m n found l = items_none CloseBrace refl (element (expr false m 1)) n found j l
+      → (j : Leaf) × Meets (elements_from n (expr false m 1) found (y ++ l))
+      (Done (found ++ es, j) l)
+  elements_found (no_element j) m n found l =
+      items_none CloseBrace refl (element (expr false m 1)) n found j l
   elements_found (last_element i c j {x} {v} f) m n found l =
-      let h = element_at i c x v m (tok CloseBrace j ∷ l) (λ q w e. finished false q x v w
-      (formula_complete f q 1 w (omega arith) (omega (arith, e.0)) e.1) e.0) (omega arith, refl) in
-      rw append_assoc (items_last CloseBrace refl (element (expr false m 1)) n found (ident i, v) j (tok Name i ∷ tok Colon c ∷ x) l
-      refl h)
+      let h = meets_bind _
+      (finished false m x (omega arith, refl)
+      (formula_complete f m 1 (tok CloseBrace j ∷ l) (omega arith))) in
+      rw append_assoc
+      (items_last CloseBrace refl (element (expr false m 1)) n found (ident i, v) j
+      (tok Name i ∷ tok Colon c ∷ x) l refl h)
   elements_found (more_elements i c j {x} {y} {v} {vs} f d) m n found l =
-      let h = element_at i c x v m (tok Comma j ∷ (y ++ l)) (λ q w e. finished false q x v w
-      (formula_complete f q 1 w (omega arith) (omega (arith, e.0)) e.1) e.0) (omega arith, refl) in
-      rw append_assoc (items_more CloseBrace refl (element (expr false m 1)) n found vs (ident i, v) j (tok Name i ∷ tok Colon c ∷ x) y l
-      refl h
-      (λ k us. elements_found d m k us l))
+      let h = meets_bind _
+      (finished false m x (omega arith, refl)
+      (formula_complete f m 1 (tok Comma j ∷ (y ++ l)) (omega arith))) in
+      rw append_assoc
+      (items_more CloseBrace refl (element (expr false m 1)) n found vs (ident i, v) j
+      (tok Name i ∷ tok Colon c ∷ x) y l refl h (λ k us. elements_found d m k us l))
 
-pub expr_complete : {h : Bool} {x : List Lexeme} {v : tree.Expr} → IsExpr h 1 x v → (n : ℕ) (l : List Lexeme) → EndsExpr l
-    → Meets (expr h n 1 (x ++ l)) (Done v l)
-expr_complete {h} {x} {v} f n l e = finished h n x v l (formula_complete f n 1 l (omega arith) (omega (arith, e.0)) e.1) e.0
+pub expr_complete : {h : Bool} {x : List Lexeme} {v : tree.Expr} → IsExpr h 1 x v
+    → (n : ℕ) (l : List Lexeme) → EndsExpr l → Meets (expr h n 1 (x ++ l)) (Done v l)
+expr_complete {h} {x} f n l e = finished h n x e (formula_complete f n 1 l (omega arith))
 
-pub exprs_complete : {closer : Terminal} {y : List Lexeme} {vs : List tree.Expr} → IsExprs closer y vs → Closer closer
-    → (m n : ℕ) (l : List Lexeme)
+pub exprs_complete : {closer : Terminal} {y : List Lexeme} {vs : List tree.Expr}
+    → IsExprs closer y vs → Closer closer → (m n : ℕ) (l : List Lexeme)
     → (j : Leaf) × Meets (exprs closer n (expr false m 1) (y ++ l)) (Done (vs, j) l)
 exprs_complete d c m n l = exprs_found d c m n [] l

@@ -1,27 +1,18 @@
--- Parts of expressions in the grammar are read as their trees, where expressions are: `new ( .. )` and `make ( .. )`, items of
--- lists, and the literals around them.
+-- Parts of expressions in the grammar are read as their trees, where expressions are: `new ( .. )`
+-- and `make ( .. )`, items of lists, and the literals around them.
 use Rattle.std.proofs.Common.{◌≡◌, ℕ, suc, inr, true, false, List, ◌∷◌, ◌++◌, refl, ap, arith, ◌+◌, [], ◌<◌, append_assoc, append-nil, ◌-◌}
 use Rattle.rgo_ast.specs.declared.names.Ident.{Ident}
-use Rattle.rgo_ast.specs.Tree.{exprs_of, elements_of}
+use Rattle.rgo_ast.specs.Tree.{elements_of}
 use Rattle.rgo_ast.specs.Tree as tree
-use Rattle.rgo_lexer.specs.declared.terminals.Terminal.{Terminal}
-use Rattle.rgo_lexer.specs.declared.terminals.Terminal.TheVariants.{Name, New, Make, OpenParen, CloseParen, OpenBracket, CloseBracket, Comma, Chan, Ampersand, OpenBrace, CloseBrace, Colon}
-use Rattle.rgo_lexer.specs.Lexemes.{Leaf, Lexeme, tok, ident, same}
-use Rattle.rgo_grammar.specs.Grammar.{IsType, IsMakeEnd, IsExprs, IsElements}
-use Rattle.rgo_grammar.specs.Grammar.IsMakeEnd.{plain, comma}
-use Rattle.rgo_grammar.specs.reading.Read.{Read, Done, ◌>>=◌, given, listed, single}
-use Rattle.rgo_grammar.specs.reading.Expressions.{make_end, capacity, capacity_by, sized, expr, primary, post, exprs, element, elements_from, elements, unary}
-use Rattle.rgo_grammar.specs.Grammar.IsElements.{no_element, last_element, more_elements}
+use Rattle.rgo_lexer.specs.{declared.terminals.Terminal.{Terminal, TheVariants.{Name, CloseParen, Comma, CloseBrace, Colon}}, Lexemes.{Leaf, Lexeme, tok, ident, same}}
+use Rattle.rgo_grammar.specs.Grammar.{IsMakeEnd, IsElements, IsMakeEnd.{plain, comma}, IsElements.{no_element, last_element, more_elements}}
+use Rattle.rgo_grammar.specs.reading.{Read.{Reader, Done, ◌>>=◌, given, listed, single}, Expressions.{make_end, capacity, capacity_by, sized, expr, elements_from, elements}}
 use Rattle.rgo_grammar.proofs.machine.Table.{rest}
-use Rattle.rgo_grammar.proofs.reading.Complete.{Meets, meets_bind, meets_then, meets_trans, Opens, listed_none, listed_last, listed_more}
-use Rattle.rgo_grammar.proofs.reading.Next.{begins_append}
-use Rattle.rgo_grammar.proofs.types.Complete.{type_complete}
-use Rattle.rgo_grammar.proofs.expressions.Starts.{Starts, starts, level_of, Closes, paren_closes, brace_closes}
-use Rattle.rgo_grammar.proofs.expressions.Ends.{EndsExpr, ReadsAs, posts}
-use Rattle.rgo_grammar.proofs.expressions.Second.{exprs_unkeyed}
-use Rattle.rgo_grammar.proofs.expressions.Literals.{keyed_list}
+use Rattle.rgo_grammar.proofs.reading.{Complete.{Meets, meets_bind, meets_then, meets_trans, Opens, listed_none, listed_last, listed_more}, Next.{begins_append}}
+use Rattle.rgo_grammar.proofs.expressions.{Starts.{Starts, starts, level_of, Closes, paren_closes, brace_closes}, Ends.{EndsExpr, ReadsAs, posts}, Literals.{keyed_list}}
 
-make_end_done : {z : List Lexeme} → IsMakeEnd z → (l : List Lexeme) → (j : Leaf) × (make_end (z ++ l) ≡ Done j l)
+make_end_done : {z : List Lexeme} → IsMakeEnd z → (l : List Lexeme)
+    → (j : Leaf) × (make_end (z ++ l) ≡ Done j l)
 make_end_done (plain j) l = (j, refl)
 make_end_done (comma i j) l = (j, refl)
 
@@ -30,60 +21,34 @@ make_end_ends (plain j) l = (omega arith, refl)
 make_end_ends (comma i j) l = (omega arith, refl)
 
 -- an expression and the end
-ended_value : (y : List Lexeme) (v : tree.Expr) {z : List Lexeme} (f : tree.Expr → tree.Expr) (n : ℕ) (l : List Lexeme) → ReadsAs y v
-    → IsMakeEnd z
-    → Meets (expr false n 1 (y ++ (z ++ l)) >>= λ u w. make_end w >>= given (λ _. f u)) (Done (f v) l)
+pub ended_value : (y : List Lexeme) (v : tree.Expr) {z : List Lexeme} (f : tree.Expr → tree.Expr)
+    (n : ℕ) (l : List Lexeme) → ReadsAs y v → IsMakeEnd z
+    → Meets (expr false n 1 (y ++ (z ++ l)) >>= λ u w. make_end w >>= given (λ _. f u))
+    (Done (f v) l)
 ended_value y v {z} f n l h e =
     let g = make_end_done e l in
     meets_then _ (h n (z ++ l) (make_end_ends e l)) (inr (ap (λ r. r >>= given (λ _. f v)) g.1))
 
-pub new_complete : (i j k m : Leaf) (n : ℕ) (l : List Lexeme)
-    → Meets (primary (suc n) (tok New i ∷ tok OpenParen j ∷ tok Name k ∷ tok CloseParen m ∷ l)) (post n (tree.New (ident k) i.at) l)
-unfolding expr
-new_complete i j k m n l = inr refl
-
--- ---- make ( [ ] Type , Expr [,] )
-
-pub slice_complete : (i j k m c : Leaf) {x z : List Lexeme} (y : List Lexeme) {t : tree.TypeExpr} (v : tree.Expr) → IsType x t → ReadsAs y v
-    → IsMakeEnd z → (n : ℕ) (l : List Lexeme)
-    → Meets (primary (suc n) (tok Make i ∷ tok OpenParen j ∷ tok OpenBracket k ∷ tok CloseBracket m ∷ (x ++ tok Comma c ∷ (y ++ (z ++ l)))))
-    (post n (tree.MakeSlice t v i.at) l)
-unfolding expr
-slice_complete i j k m c {x} {z} y {t} v h f e n l =
-    meets_bind _ (meets_then _ (type_complete x t h n (tok Comma c ∷ (y ++ (z ++ l)))) (ended_value y v (λ u. tree.MakeSlice t u i.at) n l f e))
-
 -- ---- make ( chan Type [ , Expr ] [,] )
 
-sized_end : (inner : List Lexeme → Read tree.Expr) (t : tree.TypeExpr) (i : Leaf) {z : List Lexeme} → IsMakeEnd z → (l : List Lexeme)
+pub sized_end : (inner : Reader tree.Expr) (t : tree.TypeExpr) (i : Leaf) {z : List Lexeme}
+    → IsMakeEnd z → (l : List Lexeme)
     → sized inner t i (z ++ l) ≡ Done (tree.MakeChan t tree.no_capacity i.at) l
 sized_end inner t i (plain j) l = refl
 sized_end inner t i (comma c j) l = refl
 
-pub chan_complete : (i j k : Leaf) {x z : List Lexeme} {t : tree.TypeExpr} → IsType x t → IsMakeEnd z → (n : ℕ) (l : List Lexeme)
-    → Meets (primary (suc n) (tok Make i ∷ tok OpenParen j ∷ tok Chan k ∷ (x ++ (z ++ l))))
-    (post n (tree.MakeChan t tree.no_capacity i.at) l)
-unfolding expr
-chan_complete i j k {x} {z} {t} h e n l =
-    meets_bind _ (meets_then _ (type_complete x t h n (z ++ l)) (inr (sized_end (expr false n 1) t i e l)))
-
-capacity_else : (inner : List Lexeme → Read tree.Expr) (t : tree.TypeExpr) (i : Leaf) (k : Terminal) (l m : List Lexeme) → starts k ≡ true
-    → capacity_by inner t i k l m ≡ (inner l >>= λ v w. make_end w >>= given (λ _. tree.MakeChan t (tree.a_capacity v) i.at))
+capacity_else : (inner : Reader tree.Expr) (t : tree.TypeExpr) (i : Leaf) (k : Terminal)
+    (l m : List Lexeme) → starts k ≡ true
+    → capacity_by inner t i k l m
+    ≡ (inner l >>= λ v w. make_end w >>= given (λ _. tree.MakeChan t (tree.a_capacity v) i.at))
 capacity_else inner t i CloseParen l m h = cc
 capacity_else inner t i _ l m h = refl
 
-capacity_at : (inner : List Lexeme → Read tree.Expr) (t : tree.TypeExpr) (i : Leaf) (l : List Lexeme) → Starts l
-    → capacity inner t i l ≡ (inner l >>= λ v w. make_end w >>= given (λ _. tree.MakeChan t (tree.a_capacity v) i.at))
+pub capacity_at : (inner : Reader tree.Expr) (t : tree.TypeExpr) (i : Leaf) (l : List Lexeme)
+    → Starts l → capacity inner t i l
+    ≡ (inner l >>= λ v w. make_end w >>= given (λ _. tree.MakeChan t (tree.a_capacity v) i.at))
 capacity_at inner t i [] h = absurd h
 capacity_at inner t i (u ∷ l) h = capacity_else inner t i u.terminal (u ∷ l) l h
-
-pub sized_complete : (i j k c : Leaf) {x z : List Lexeme} (y : List Lexeme) {t : tree.TypeExpr} (v : tree.Expr) → IsType x t → Starts y → ReadsAs y v
-    → IsMakeEnd z → (n : ℕ) (l : List Lexeme)
-    → Meets (primary (suc n) (tok Make i ∷ tok OpenParen j ∷ tok Chan k ∷ (x ++ tok Comma c ∷ (y ++ (z ++ l)))))
-    (post n (tree.MakeChan t (tree.a_capacity v) i.at) l)
-unfolding expr
-sized_complete i j k c {x} {z} y {t} v h s f e n l =
-    meets_bind {y = Done (tree.MakeChan t (tree.a_capacity v) i.at) l} _ (meets_then _ (type_complete x t h n (tok Comma c ∷ (y ++ (z ++ l)))) (rw (capacity_at (expr false n 1) t i (y ++ (z ++ l)) (begins_append _ y (z ++ l) s))
-    (ended_value y v (λ u. tree.MakeChan t (tree.a_capacity u) i.at) n l f e)))
 
 -- what may close a list of expressions
 pub record Closer (closer : Terminal) : Type 0 where
@@ -99,66 +64,56 @@ pub brace_closer : Closer CloseBrace
 brace_closer = record { closes = brace_closes; other = refl; loose = omega arith; unposted = refl }
 
 -- items of a list
-module _ {A : Type 0} (closer : Terminal) (other : same closer Comma ≡ false) (item : List Lexeme → Read A) where
-  pub items_none : (n : ℕ) (found : List A) (j : Leaf) (l : List Lexeme)
-      → (j' : Leaf) × Meets (listed Comma closer (λ m. single (item m)) n found (tok closer j ∷ l)) (Done (found ++ [], j') l)
-  items_none n found j l = (j, rw append-nil (listed_none Comma closer other (λ m. single (item m)) n found j l))
+module _ {A : Type 0} (closer : Terminal) (other : same closer Comma ≡ false) (item : Reader A)
+  where
+    pub items_none : (n : ℕ) (found : List A) (j : Leaf) (l : List Lexeme)
+        → (j' : Leaf) × Meets (listed Comma closer (λ m. single (item m)) n found (tok closer j ∷ l))
+        (Done (found ++ [], j') l)
+    items_none n found j l =
+        (j, rw append-nil (listed_none Comma closer other (λ m. single (item m)) n found j l))
 
-  pub items_last : (n : ℕ) (found : List A) (a : A) (j : Leaf) (x l : List Lexeme) → Opens closer x
-      → Meets (item (x ++ tok closer j ∷ l)) (Done a (tok closer j ∷ l))
-      → (j' : Leaf) × Meets (listed Comma closer (λ m. single (item m)) n found (x ++ tok closer j ∷ l)) (Done (found ++ a ∷ [], j') l)
-  items_last n found a j x l o h = (
-    j,
-    listed_last Comma closer other (λ m. single (item m)) n found (a ∷ []) j x l (begins_append _ x (tok closer j ∷ l) o)
-        (meets_bind _ h),
-  )
+    pub items_last : (n : ℕ) (found : List A) (a : A) (j : Leaf) (x l : List Lexeme) → Opens closer x
+        → Meets (item (x ++ tok closer j ∷ l)) (Done a (tok closer j ∷ l))
+        → (j' : Leaf) × Meets
+        (listed Comma closer (λ m. single (item m)) n found (x ++ tok closer j ∷ l))
+        (Done (found ++ a ∷ [], j') l)
+    items_last n found a j x l o h = (
+      j,
+      listed_last Comma closer other (λ m. single (item m)) n found (a ∷ []) j x l
+          (begins_append _ x (tok closer j ∷ l) o) (meets_bind _ h),
+    )
 
-  pub items_more : (n : ℕ) (found all : List A) (a : A) (i : Leaf) (x y l : List Lexeme) → Opens closer x
-      → Meets (item (x ++ tok Comma i ∷ (y ++ l))) (Done a (tok Comma i ∷ (y ++ l)))
-      → ((m : ℕ) (f : List A) → (j : Leaf) × Meets (listed Comma closer (λ m. single (item m)) m f (y ++ l)) (Done (f ++ all, j) l))
-      → (j : Leaf) × Meets (listed Comma closer (λ m. single (item m)) n found (x ++ tok Comma i ∷ (y ++ l))) (Done (found ++ a ∷ all, j) l)
-  items_more n found all a i x y l o h again =
-      let one = listed_more Comma closer other (λ m. single (item m)) n found (a ∷ []) i x (y ++ l)
-      (begins_append _ x (tok Comma i ∷ (y ++ l)) o)
-      (meets_bind _ h) in
-      let rest = again one.0 (found ++ a ∷ []) in
-      let rest' = rw append_assoc at rest.1 in (
-        rest.0,
-        meets_trans one.1 rest',
-      )
+    pub items_more : (n : ℕ) (found all : List A) (a : A) (i : Leaf) (x y l : List Lexeme)
+        → Opens closer x
+        → Meets (item (x ++ tok Comma i ∷ (y ++ l))) (Done a (tok Comma i ∷ (y ++ l)))
+        → ((m : ℕ) (f : List A)
+        → (j : Leaf) × Meets (listed Comma closer (λ m. single (item m)) m f (y ++ l))
+        (Done (f ++ all, j) l))
+        → (j : Leaf) × Meets
+        (listed Comma closer (λ m. single (item m)) n found (x ++ tok Comma i ∷ (y ++ l)))
+        (Done (found ++ a ∷ all, j) l)
+    items_more n found all a i x y l o h again =
+        let one = listed_more Comma closer other (λ m. single (item m)) n found (a ∷ []) i x (y ++ l)
+        (begins_append _ x (tok Comma i ∷ (y ++ l)) o) (meets_bind _ h) in
+        let rest = again one.0 (found ++ a ∷ []) in
+        let rest' = rw append_assoc at rest.1 in (
+          rest.0,
+          meets_trans one.1 rest',
+        )
 
-pub element_at : (i c : Leaf) (x : List Lexeme) (v : tree.Expr) (n : ℕ) (l : List Lexeme) → ReadsAs x v → EndsExpr l
-    → Meets (element (expr false n 1) (tok Name i ∷ tok Colon c ∷ (x ++ l))) (Done (ident i, v) l)
-element_at i c x v n l h e = meets_bind _ (h n l e)
-
-elements_keyed : {y : List Lexeme} {e : Ident × tree.Expr} {es : List (Ident × tree.Expr)} (t : List (Ident × tree.Expr)) → IsElements y t
-    → t ≡ e ∷ es → (l : List Lexeme)
+pub elements_keyed : {y : List Lexeme} {e : Ident × tree.Expr} {es : List (Ident × tree.Expr)}
+    (t : List (Ident × tree.Expr)) → IsElements y t → t ≡ e ∷ es → (l : List Lexeme)
     → (i c : Leaf) × (m : List Lexeme) × (y ++ l ≡ tok Name i ∷ tok Colon c ∷ m)
 elements_keyed t (no_element j) q l = cc
-elements_keyed t (last_element i c j {x} {v} h) q l = (i, c, (x ++ tok CloseBrace j ∷ []) ++ l, refl)
-elements_keyed t (more_elements i c j {x} {y} {v} {vs} h d) q l = (i, c, (x ++ tok Comma j ∷ y) ++ l, refl)
+elements_keyed t (last_element i c j {x} {v} h) q l =
+    (i, c, (x ++ tok CloseBrace j ∷ []) ++ l, refl)
+elements_keyed t (more_elements i c j {x} {y} {v} {vs} h d) q l =
+    (i, c, (x ++ tok Comma j ∷ y) ++ l, refl)
 
-keyed_here : (n : ℕ) (inner : List Lexeme → Read tree.Expr) (i j : Leaf) (l : List Lexeme)
+pub keyed_here : (n : ℕ) (inner : Reader tree.Expr) (i j : Leaf) (l : List Lexeme)
     → ((a c : Leaf) × (m : List Lexeme) × (l ≡ tok Name a ∷ tok Colon c ∷ m))
-    → elements n inner i j l ≡ (elements_from (suc n) inner [] l >>= given (λ x. tree.Keyed (ident j) (elements_of x.0) i.at))
-keyed_here n inner i j l (a, c, m, e) = rw e (keyed_list n inner i j (tok Name a) (tok Colon c ∷ m) refl)
-
-pub literal_at : (i j k : Leaf) {y : List Lexeme} {vs : List tree.Expr} → IsExprs CloseBrace y vs → (n : ℕ) (l : List Lexeme)
-    → ((m k : ℕ) → (j : Leaf) × Meets (exprs CloseBrace k (expr false m 1) (y ++ l)) (Done (vs, j) l))
-    → Meets (unary false (suc n) (tok Ampersand i ∷ tok Name j ∷ tok OpenBrace k ∷ (y ++ l)))
-    (Done (tree.Literal (ident j) (exprs_of vs) i.at) l)
-unfolding expr
-literal_at i j k {y} {vs} d n l h =
-    let g = h n n in
-    rw (exprs_unkeyed d l) (meets_bind _ g.1)
-
-pub keyed_at : (i j k : Leaf) {y : List Lexeme} {e : Ident × tree.Expr} {es : List (Ident × tree.Expr)} → IsElements y (e ∷ es)
-    → (n : ℕ) (l : List Lexeme)
-    → ((m k : ℕ) → (j : Leaf) × Meets (elements_from k (expr false m 1) [] (y ++ l)) (Done (e ∷ es, j) l))
-    → Meets (unary false (suc n) (tok Ampersand i ∷ tok Name j ∷ tok OpenBrace k ∷ (y ++ l)))
-    (Done (tree.Keyed (ident j) (elements_of (e ∷ es)) i.at) l)
-unfolding expr
-keyed_at i j k {y} {e} {es} d n l h =
-    let g = h n (suc n) in
-    rw (keyed_here n (expr false n 1) i j (y ++ l) (elements_keyed (e ∷ es) d refl l))
-    (meets_bind _ g.1)
+    → elements n inner i j l
+    ≡ (elements_from (suc n) inner [] l >>= given
+    (λ x. tree.Keyed (ident j) (elements_of x.0) i.at))
+keyed_here n inner i j l (a, c, m, e) =
+    rw e (keyed_list n inner i j (tok Name a) (tok Colon c ∷ m) refl)

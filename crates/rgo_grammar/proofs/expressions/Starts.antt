@@ -1,22 +1,14 @@
 -- What an expression begins with, and the machine at the symbols of one.
 use Rattle.std.proofs.Common.{◌≡◌, ℕ, ◌≤◌, Bool, true, false, List, [], ◌∷◌, ◌++◌, length, Some, refl, arith, ◌+◌, ◌<◌, cond, not}
-use Rattle.rgo_ast.specs.declared.ops.BinaryOp.{BinaryOp}
-use Rattle.rgo_ast.specs.declared.ops.UnaryOp.{UnaryOp}
+use Rattle.rgo_ast.specs.declared.ops.{BinaryOp.{BinaryOp}, UnaryOp.{UnaryOp}}
 use Rattle.rgo_ast.specs.Tree as tree
 use Rattle.rgo_ast.specs.declared.ops.AssignOp.TheVariants as assign_op
 use Rattle.rgo_ast.specs.declared.ops.BinaryOp.TheVariants as op
-use Rattle.rgo_lexer.specs.Lexemes.{Leaf, Lexeme, tok, same}
-use Rattle.rgo_lexer.specs.declared.terminals.Terminal.TheVariants.{Binary, Assign, Name, New, Make, Number, Text, Bang, Ampersand, Arrow, OpenParen, CloseParen, OpenBracket, CloseBracket, CloseBrace, Dot}
-use Rattle.rgo_lexer.specs.declared.terminals.Terminal.{Terminal}
-use Rattle.rgo_grammar.specs.Grammar.IsExpr.{unary, binary}
-use Rattle.rgo_grammar.specs.Grammar.IsPrimary.{number, text, name, parens, new, make_slice, make_chan, make_sized, select, index, call}
-use Rattle.rgo_grammar.specs.Grammar.IsUnary.{signed, literal, keyed, primary}
-use Rattle.rgo_grammar.specs.Grammar.{IsExpr, level, sign, IsUnary, IsPrimary}
-use Rattle.rgo_grammar.specs.reading.Read.{Read}
-use Rattle.rgo_grammar.proofs.machine.Table.{Sym, Unary, Bin, step, both}
-use Rattle.rgo_grammar.proofs.machine.Runs.{run, closes}
-use Rattle.rgo_grammar.proofs.reading.Correct.{Correct}
-use Rattle.rgo_grammar.proofs.reading.Next.{IsNext, begins_append, next_also}
+use Rattle.rgo_lexer.specs.{Lexemes.{Leaf, Lexeme, tok, same}, declared.terminals.Terminal.{Terminal, TheVariants.{Binary, Assign, Name, New, Make, Number, Text, Bang, Ampersand, Arrow, OpenParen, CloseParen, OpenBracket, CloseBracket, CloseBrace, Dot}}}
+use Rattle.rgo_grammar.specs.Grammar.{IsExpr.{unary, binary}, IsPrimary.{number, text, name, parens, new, make_slice, make_chan, make_sized, select, index, call}, IsUnary.{signed, literal, keyed, primary}, IsExpr, level, sign, IsUnary, IsPrimary}
+use Rattle.rgo_grammar.specs.reading.Read.{Reader}
+use Rattle.rgo_grammar.proofs.machine.{Table.{Sym, Unary, Bin, step, both}, Runs.{run, closes}}
+use Rattle.rgo_grammar.proofs.reading.{Correct.{Empties}, Next.{IsNext, begins_append, next_also}}
 
 -- how tightly a token binds as a binary operator; 0 for what is none
 abbrev pub level_of : Terminal → ℕ
@@ -82,8 +74,10 @@ primary_begins (new i j k m) = refl
 primary_begins (make_slice i j k m c t f e) = refl
 primary_begins (make_chan i j k t e) = refl
 primary_begins (make_sized i j k c t f e) = refl
-primary_begins (select i j {x} p) = begins_append _ x (tok Dot i ∷ tok Name j ∷ []) (primary_begins p)
-primary_begins (index i j {x} {y} p f) = begins_append _ x (tok OpenBracket i ∷ (y ++ tok CloseBracket j ∷ [])) (primary_begins p)
+primary_begins (select i j {x} p) =
+    begins_append _ x (tok Dot i ∷ tok Name j ∷ []) (primary_begins p)
+primary_begins (index i j {x} {y} p f) =
+    begins_append _ x (tok OpenBracket i ∷ (y ++ tok CloseBracket j ∷ [])) (primary_begins p)
 primary_begins (call i {x} {y} p d) = begins_append _ x (tok OpenParen i ∷ y) (primary_begins p)
 
 pub primary_starts : {x : List Lexeme} {v : tree.Expr} → IsPrimary x v → Starts x
@@ -114,8 +108,8 @@ brace_closes _ h = refl
 -- ---- the machine
 
 -- an expression in brackets is read as it should be at l
-abbrev pub Reads : (List Lexeme → Read tree.Expr) → List Lexeme → Type 0
-Reads inner l = Correct (Unary false ∷ Bin false ∷ []) (λ _. []) (λ z v w. IsExpr false 1 z v) l (inner l)
+abbrev pub Reads : Reader tree.Expr → List Lexeme → Type 0
+Reads inner l = Empties (Unary false ∷ Bin false ∷ []) (IsExpr false 1) l (inner l)
 
 pub operator_run : (h : Bool) (o : BinaryOp) (i : Leaf) (l : List Lexeme) (s : List Sym)
     → run (tok (Binary o) i ∷ l) (Bin h ∷ s) ≡ run l (Unary h ∷ Bin h ∷ s)

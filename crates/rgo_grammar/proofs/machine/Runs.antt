@@ -1,8 +1,8 @@
--- The machine: a stack that was reached can be emptied by some text, and a token that it does not take begins nothing.
+-- The machine: a stack that was reached can be emptied by some text, and a token that it does not
+-- take begins nothing.
 use Rattle.std.proofs.Common.{◌≡◌, Bool, true, false, ◌&&◌, cond, not, List, [], ◌∷◌, ◌++◌, Option, Some, None, refl, ◌∙◌, ap, append_assoc, inl, inr, ◌⊎◌, nat_eq, ◌+◌, ◌-◌}
 use Rattle.std.proofs.lemmas.Bool.{eqb-true}
-use Rattle.rgo_lexer.specs.declared.terminals.Terminal.{Terminal}
-use Rattle.rgo_lexer.specs.Lexemes.{Leaf, Lexeme, tok, class, subclass, same}
+use Rattle.rgo_lexer.specs.{declared.terminals.Terminal.{Terminal}, Lexemes.{Leaf, Lexeme, tok, class, subclass, same}}
 use Rattle.rgo_grammar.proofs.machine.Table.{Sym, Row, row, nullable, word, opens, closer, find, next, entered, step, closes_first, leads, fine, all_entries, go_on, after, all_nullable, entries_fine, skips, settled, both, join}
 
 unfoldable pub closes : List Sym → Bool
@@ -17,7 +17,8 @@ abbrev pub advance : (List Sym → Run) → Run → Option (List Sym) → Run
 advance go stop (Some s) = go s
 advance go stop None = stop
 
--- a list of tokens from a stack on: taken whole, or up to the first token that the machine does not take
+-- a list of tokens from a stack on: taken whole, or up to the first token that the machine does not
+-- take
 unfoldable pub run : List Lexeme → List Sym → Run
 run [] s = cond (closes s) Accepted (Stopped [])
 run (t ∷ l) s = advance (run l) (Stopped (t ∷ l)) (step s t.terminal)
@@ -39,49 +40,54 @@ classes_same true b e = refl
 classes_same false b e = cc
 
 pub same_class : (j k : Terminal) → same j k ≡ true → class j ≡ class k
-same_class j k e = eqb-true (class j) (class k) (classes_same (nat_eq (class j) (class k)) (nat_eq (subclass j) (subclass k)) e)
+same_class j k e =
+    eqb-true (class j) (class k)
+    (classes_same (nat_eq (class j) (class k)) (nat_eq (subclass j) (subclass k)) e)
 
 closer_same : (j k : Terminal) → same j k ≡ true → closer k ≡ closer j
 closer_same j k e = rw (same_class j k e) refl
 
-found_at : (p : Terminal → List Sym → Bool) (k j : Terminal) (b : List Sym) (r : Row) (a : List Sym) (v : Bool) → same j k ≡ v
-    → p j b ≡ true
+found_at : (p : Terminal → List Sym → Bool) (k j : Terminal) (b : List Sym) (r : Row) (a : List Sym)
+    (v : Bool) → same j k ≡ v → p j b ≡ true
     → (find k r ≡ Some a → (i : Terminal) × (same i k ≡ true) × (p i a ≡ true))
     → cond v (Some b) (find k r) ≡ Some a → (i : Terminal) × (same i k ≡ true) × (p i a ≡ true)
 found_at p k j b r a true d h ih e = let f : b ≡ a = cc in (j, d, rw (← f) h)
 found_at p k j b r a false d h ih e = ih e
 
-all_found : (p : Terminal → List Sym → Bool) (k : Terminal) (r : Row) (a : List Sym) → all_entries p r ≡ true → find k r ≡ Some a
+all_found : (p : Terminal → List Sym → Bool) (k : Terminal) (r : Row) (a : List Sym)
+    → all_entries p r ≡ true → find k r ≡ Some a
     → (i : Terminal) × (same i k ≡ true) × (p i a ≡ true)
 all_found p k [] a h e = cc
 all_found p k ((j, b) ∷ r) a h e =
     let hs = both h in
     found_at p k j b r a (same j k) refl hs.0 (λ d. all_found p k r a hs.1 d) e
 
-leads_append : (b s : List Sym) (o : Bool) → leads b o ≡ true → cond o (leads s true) true ≡ true → leads (b ++ s) true ≡ true
+leads_append : (b s : List Sym) (o : Bool) → leads b o ≡ true → cond o (leads s true) true ≡ true
+    → leads (b ++ s) true ≡ true
 unfolding leads
 leads_append [] s true h e = e
 leads_append [] s false h e = cc
 leads_append (y ∷ b) s o h e =
-    elim (nullable y) as
-    (λ v. cond v (leads b o) (closes_first (word y)) ≡ true → cond v (leads (b ++ s) true) (closes_first (word y)) ≡ true)
+    elim (nullable y) as (λ v. cond v (leads b o) (closes_first (word y)) ≡ true
+    → cond v (leads (b ++ s) true) (closes_first (word y)) ≡ true)
     [ true ↦ λ d. leads_append b s o d e | false ↦ λ d. d ] h
 
-opens_append : (v : Bool) (b s : List Sym) (o : Bool) → cond v (leads b o) true ≡ true → cond o (leads s true) true ≡ true
-    → cond v (leads (b ++ s) true) true ≡ true
+opens_append : (v : Bool) (b s : List Sym) (o : Bool) → cond v (leads b o) true ≡ true
+    → cond o (leads s true) true ≡ true → cond v (leads (b ++ s) true) true ≡ true
 opens_append true b s o h e = leads_append b s o h e
 opens_append false b s o h e = refl
 
-fine_append : (a s : List Sym) (o : Bool) → fine a o ≡ true → cond o (leads s true) true ≡ true → fine s true ≡ true
-    → fine (a ++ s) true ≡ true
+fine_append : (a s : List Sym) (o : Bool) → fine a o ≡ true → cond o (leads s true) true ≡ true
+    → fine s true ≡ true → fine (a ++ s) true ≡ true
 unfolding fine
 fine_append [] s o h e f = f
 fine_append (y ∷ b) s o h e f =
     let hs = both h in
-    join (cond (opens y) (leads (b ++ s) true) true) (fine (b ++ s) true) (opens_append (opens y) b s o hs.0 e) (fine_append b s o hs.1 e f)
+    join (cond (opens y) (leads (b ++ s) true) true) (fine (b ++ s) true)
+    (opens_append (opens y) b s o hs.0 e) (fine_append b s o hs.1 e f)
 
-step_fine_by : (x : Sym) (s : List Sym) (k : Terminal) (r : List Sym) (n : Option (List Sym)) → next x k ≡ n → fine (x ∷ s) true ≡ true
-    → (step s k ≡ Some r → fine r true ≡ true)
+step_fine_by : (x : Sym) (s : List Sym) (k : Terminal) (r : List Sym) (n : Option (List Sym))
+    → next x k ≡ n → fine (x ∷ s) true ≡ true → (step s k ≡ Some r → fine r true ≡ true)
     → entered n s (cond (nullable x) (step s k) None) ≡ Some r → fine r true ≡ true
 unfolding fine
 step_fine_by x s k r (Some a) ne f ih e =
@@ -91,9 +97,11 @@ step_fine_by x s k r (Some a) ne f ih e =
     let er : a ++ s ≡ r = cc in
     rw (← er) g
 step_fine_by x s k r None ne f ih e =
-    elim (nullable x) as (λ v. cond v (step s k) None ≡ Some r → fine r true ≡ true) [ true ↦ ih | false ↦ λ d. cc ] e
+    elim (nullable x) as (λ v. cond v (step s k) None ≡ Some r → fine r true ≡ true)
+    [ true ↦ ih | false ↦ λ d. cc ] e
 
-step_fine : (s : List Sym) (k : Terminal) (r : List Sym) → fine s true ≡ true → step s k ≡ Some r → fine r true ≡ true
+step_fine : (s : List Sym) (k : Terminal) (r : List Sym) → fine s true ≡ true → step s k ≡ Some r
+    → fine r true ≡ true
 unfolding step fine
 step_fine [] k r f e = cc
 step_fine (x ∷ s) k r f e =
@@ -105,7 +113,8 @@ abbrev pub Closed : List Lexeme → Type 0
 Closed [] = Unit {0}
 Closed (t ∷ l) = closer t.terminal ≡ true
 
-next_none_by : (x : Sym) (k : Terminal) (n : Option (List Sym)) → nullable x ≡ true → closer k ≡ true → next x k ≡ n → n ≡ None
+next_none_by : (x : Sym) (k : Terminal) (n : Option (List Sym)) → nullable x ≡ true
+    → closer k ≡ true → next x k ≡ n → n ≡ None
 next_none_by x k None h c e = refl
 next_none_by x k (Some a) h c e =
     let found = all_found (λ k a. not (closer k)) k (row x) a (skips x h).passes_closers e in
@@ -117,49 +126,58 @@ next_none : (x : Sym) (k : Terminal) → nullable x ≡ true → closer k ≡ tr
 next_none x k h c = next_none_by x k (next x k) h c refl
 
 -- what may be left out is left out before a token that ends what stands before it
-pop : (x : Sym) (s : List Sym) (l : List Lexeme) → nullable x ≡ true → Closed l → run l (x ∷ s) ≡ run l s
+pop : (x : Sym) (s : List Sym) (l : List Lexeme) → nullable x ≡ true → Closed l
+    → run l (x ∷ s) ≡ run l s
 unfolding run closes step
 pop x s [] h c = rw h refl
 pop x s (t ∷ l) h c = rw (next_none x t.terminal h c, h) refl
 
-pops : (a s : List Sym) (l : List Lexeme) → all_nullable a ≡ true → Closed l → run l (a ++ s) ≡ run l s
+pops : (a s : List Sym) (l : List Lexeme) → all_nullable a ≡ true → Closed l
+    → run l (a ++ s) ≡ run l s
 unfolding all_nullable
 pops [] s l h c = refl
 pops (x ∷ a) s l h c =
     let hs = both h in
     pop x (a ++ s) l hs.0 c ∙ pops a s l hs.1 c
 
-step_append_by : (a s b : List Sym) (x : Sym) (k : Terminal) (n : Option (List Sym)) → (step a k ≡ Some b → step (a ++ s) k ≡ Some (b ++ s))
+step_append_by : (a s b : List Sym) (x : Sym) (k : Terminal) (n : Option (List Sym))
+    → (step a k ≡ Some b → step (a ++ s) k ≡ Some (b ++ s))
     → entered n a (cond (nullable x) (step a k) None) ≡ Some b
     → entered n (a ++ s) (cond (nullable x) (step (a ++ s) k) None) ≡ Some (b ++ s)
 step_append_by a s b x k (Some c) ih e = let f : c ++ a ≡ b = cc in rw (← f, append_assoc) refl
 step_append_by a s b x k None ih e =
-    elim (nullable x) as (λ v. cond v (step a k) None ≡ Some b → cond v (step (a ++ s) k) None ≡ Some (b ++ s))
+    elim (nullable x) as (λ v. cond v (step a k) None ≡ Some b
+    → cond v (step (a ++ s) k) None ≡ Some (b ++ s))
     [ true ↦ ih | false ↦ λ d. cc ] e
 
-step_append : (a s b : List Sym) (k : Terminal) → step a k ≡ Some b → step (a ++ s) k ≡ Some (b ++ s)
+step_append : (a s b : List Sym) (k : Terminal) → step a k ≡ Some b
+    → step (a ++ s) k ≡ Some (b ++ s)
 unfolding step
 step_append [] s b k e = cc
 step_append (x ∷ a) s b k e = step_append_by a s b x k (next x k) (step_append a s b k) e
 
-after_run_by : (k : Terminal) (ks : List Terminal) (a s b : List Sym) (l : List Lexeme) (o : Option (List Sym)) → step a k ≡ o
+after_run_by : (k : Terminal) (ks : List Terminal) (a s b : List Sym) (l : List Lexeme)
+    (o : Option (List Sym)) → step a k ≡ o
     → ((c : List Sym) → after ks c ≡ Some b → run (toks ks ++ l) (c ++ s) ≡ run l (b ++ s))
     → go_on o (after ks) ≡ Some b → run (toks (k ∷ ks) ++ l) (a ++ s) ≡ run l (b ++ s)
 unfolding run toks
 after_run_by k ks a s b l (Some c) st ih e = rw (step_append a s c k st) (ih c e)
 after_run_by k ks a s b l None st ih e = cc
 
-after_run : (ks : List Terminal) (a s b : List Sym) (l : List Lexeme) → after ks a ≡ Some b → run (toks ks ++ l) (a ++ s) ≡ run l (b ++ s)
+after_run : (ks : List Terminal) (a s b : List Sym) (l : List Lexeme) → after ks a ≡ Some b
+    → run (toks ks ++ l) (a ++ s) ≡ run l (b ++ s)
 unfolding after toks
 after_run [] a s b l e = let f : a ≡ b = cc in rw f refl
-after_run (k ∷ ks) a s b l e = after_run_by k ks a s b l (step a k) refl (λ c d. after_run ks c s b l d) e
+after_run (k ∷ ks) a s b l e =
+    after_run_by k ks a s b l (step a k) refl (λ c d. after_run ks c s b l d) e
 
 first_word : (ks : List Terminal) (l : List Lexeme) → closes_first ks ≡ true → Closed (toks ks ++ l)
 unfolding toks
 first_word [] l h = cc
 first_word (k ∷ ks) l h = h
 
-first_in : (x : Sym) (s : List Sym) (v : Bool) → nullable x ≡ v → cond v (leads s true) (closes_first (word x)) ≡ true
+first_in : (x : Sym) (s : List Sym) (v : Bool) → nullable x ≡ v
+    → cond v (leads s true) (closes_first (word x)) ≡ true
     → (leads s true ≡ true → Closed (finish s)) → Closed (toks (word x) ++ finish s)
 unfolding toks
 first_in x s true n h ih = rw (skips x n).no_word (ih h)
@@ -174,22 +192,27 @@ ended : run [] [] ≡ Accepted
 unfolding run closes
 ended = refl
 
-unless : (v : Bool) (s : List Sym) → v ≡ true → cond v (leads s true) true ≡ true → leads s true ≡ true
+unless : (v : Bool) (s : List Sym) → v ≡ true → cond v (leads s true) true ≡ true
+    → leads s true ≡ true
 unless true s e h = h
 unless false s e h = cc
 
-settle_by : (a s : List Sym) (o : Bool) → cond o (leads s true) true ≡ true → all_nullable a ≡ true → (a ≡ []) ⊎ (o ≡ true)
-    → run (finish s) (a ++ s) ≡ run (finish s) s
+settle_by : (a s : List Sym) (o : Bool) → cond o (leads s true) true ≡ true → all_nullable a ≡ true
+    → (a ≡ []) ⊎ (o ≡ true) → run (finish s) (a ++ s) ≡ run (finish s) s
 settle_by a s o l n (inl e) = rw e refl
 settle_by a s o l n (inr e) = pops a s (finish s) n (closed_finish s (unless o s e l))
 
-finish_by : (x : Sym) (s : List Sym) (v : Bool) → nullable x ≡ v → cond (opens x) (leads s true) true ≡ true → run (finish s) s ≡ Accepted
+finish_by : (x : Sym) (s : List Sym) (v : Bool) → nullable x ≡ v
+    → cond (opens x) (leads s true) true ≡ true → run (finish s) s ≡ Accepted
     → run (toks (word x) ++ finish s) (x ∷ s) ≡ Accepted
 unfolding toks
-finish_by x s true n o h = rw (skips x n).no_word (pop x s (finish s) n (closed_finish s (unless (opens x) s (skips x n).is_open o)) ∙ h)
+finish_by x s true n o h =
+    rw (skips x n).no_word
+    (pop x s (finish s) n (closed_finish s (unless (opens x) s (skips x n).is_open o)) ∙ h)
 finish_by x s false n o h =
     let w = settled x n in
-    after_run (word x) (x ∷ []) s w.stack (finish s) w.reached ∙ settle_by w.stack s (opens x) o w.may_end w.is_open ∙ h
+    after_run (word x) (x ∷ []) s w.stack (finish s) w.reached ∙ settle_by w.stack s (opens x) o
+    w.may_end w.is_open ∙ h
 
 -- a stack of this kind can be emptied
 pub finish_run : (s : List Sym) → fine s true ≡ true → run (finish s) s ≡ Accepted
@@ -209,8 +232,8 @@ pub record Reached (l : List Lexeme) (s : List Sym) (r : List Lexeme) : Type 0 w
   pub stuck : (t : Lexeme) (r' w : List Lexeme) → r ≡ t ∷ r' → run (t ∷ w) stack ≡ Stopped (t ∷ w)
   pub is_open : r ≡ [] → run [] stack ≡ Stopped []
 
-at_end : (s : List Sym) (r : List Lexeme) (v : Bool) → closes s ≡ v → fine s true ≡ true → cond v Accepted (Stopped []) ≡ Stopped r
-    → Reached [] s r
+at_end : (s : List Sym) (r : List Lexeme) (v : Bool) → closes s ≡ v → fine s true ≡ true
+    → cond v Accepted (Stopped []) ≡ Stopped r → Reached [] s r
 unfolding run
 at_end s r true c f e = cc
 at_end s r false c f e =
@@ -225,7 +248,8 @@ at_end s r false c f e =
       is_open = λ g. rw c refl;
     }
 
-stopped_by : (t : Lexeme) (l : List Lexeme) (s : List Sym) (r : List Lexeme) (n : Option (List Sym)) → step s t.terminal ≡ n → fine s true ≡ true
+stopped_by : (t : Lexeme) (l : List Lexeme) (s : List Sym) (r : List Lexeme) (n : Option (List Sym))
+    → step s t.terminal ≡ n → fine s true ≡ true
     → ((q : List Sym) → fine q true ≡ true → run l q ≡ Stopped r → Reached l q r)
     → advance (run l) (Stopped (t ∷ l)) n ≡ Stopped r → Reached (t ∷ l) s r
 unfolding run
@@ -252,7 +276,9 @@ stopped_by t l s r None st f ih e =
       is_open = λ g. cc;
     }
 
-pub stopped : (l : List Lexeme) (s : List Sym) (r : List Lexeme) → fine s true ≡ true → run l s ≡ Stopped r → Reached l s r
+pub stopped : (l : List Lexeme) (s : List Sym) (r : List Lexeme) → fine s true ≡ true
+    → run l s ≡ Stopped r → Reached l s r
 unfolding run
 stopped [] s r f e = at_end s r (closes s) refl f e
-stopped (t ∷ l) s r f e = stopped_by t l s r (step s t.terminal) refl f (λ q g d. stopped l q r g d) e
+stopped (t ∷ l) s r f e =
+    stopped_by t l s r (step s t.terminal) refl f (λ q g d. stopped l q r g d) e

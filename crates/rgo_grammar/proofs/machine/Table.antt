@@ -1,12 +1,11 @@
--- The grammar as a table of a machine that reads a token at a time, with a stack of what is still to come.
+-- The grammar as a table of a machine that reads a token at a time, with a stack of what is still
+-- to come.
 use Rattle.std.proofs.Common.{◌≡◌, Bool, true, false, cond, not, List, [], ◌∷◌, ◌++◌, Option, Some, None, refl, inl, inr, ◌⊎◌, ◌==◌, ◌||◌, ◌&&◌, nat_le, ◌+◌, ◌-◌}
 use Rattle.std.proofs.lemmas.Bool.{eq-eqb}
 use Rattle.rgo_ast.specs.declared.ops.BinaryOp.TheVariants as op
 use Rattle.rgo_ast.specs.declared.ops.AssignOp.TheVariants as assign_op
 use Rattle.rgo_ast.specs.declared.ops.StepOp.TheVariants as step_op
-use Rattle.rgo_lexer.specs.declared.terminals.Terminal.{Terminal}
-use Rattle.rgo_lexer.specs.declared.terminals.Terminal.TheVariants.{Name, Main, New, Make, Number, Text, Binary, Bang, Ampersand, Arrow, Define, Assign, Step, OpenParen, CloseParen, OpenBracket, CloseBracket, OpenBrace, CloseBrace, Comma, Semicolon, Colon, Dot, Package, Import, TypeWord, Struct, Var, Func, Chan, Go, If, Else, For, Return, Break, Continue}
-use Rattle.rgo_lexer.specs.Lexemes.{class, subclass, same}
+use Rattle.rgo_lexer.specs.{declared.terminals.Terminal.{Terminal, TheVariants.{Name, Main, New, Make, Number, Text, Binary, Bang, Ampersand, Arrow, Define, Assign, Step, OpenParen, CloseParen, OpenBracket, CloseBracket, OpenBrace, CloseBrace, Comma, Semicolon, Colon, Dot, Package, Import, TypeWord, Struct, Var, Func, Chan, Go, If, Else, For, Return, Break, Continue}}, Lexemes.{class, subclass, same}}
 
 -- where a simple statement stands
 pub data Context : Type 0 where
@@ -49,7 +48,8 @@ rest behind_for = Block ∷ []
 -- what may stand behind one that is an expression
 abbrev pub plain_row : Context → Row
 plain_row alone = []
-plain_row before_if = (OpenBrace, Stmts ∷ IfElse ∷ []) ∷ (Semicolon, Unary true ∷ Bin true ∷ Block ∷ IfElse ∷ []) ∷ []
+plain_row before_if =
+    (OpenBrace, Stmts ∷ IfElse ∷ []) ∷ (Semicolon, Unary true ∷ Bin true ∷ Block ∷ IfElse ∷ []) ∷ []
 plain_row before_for = (OpenBrace, Stmts ∷ []) ∷ (Semicolon, Condition ∷ []) ∷ []
 plain_row behind_for = (OpenBrace, Stmts ∷ []) ∷ []
 
@@ -67,8 +67,8 @@ post_row =
 
 abbrev pub bin_row : Bool → Row
 bin_row h =
-    (Binary op.Add, Unary h ∷ Bin h ∷ []) ∷ (Binary op.Sub, Unary h ∷ Bin h ∷ []) ∷ (Binary op.Mul, Unary h ∷ Bin h ∷ [])
-    ∷ (Binary op.Div, Unary h ∷ Bin h ∷ []) ∷ []
+    (Binary op.Add, Unary h ∷ Bin h ∷ []) ∷ (Binary op.Sub, Unary h ∷ Bin h ∷ [])
+    ∷ (Binary op.Mul, Unary h ∷ Bin h ∷ []) ∷ (Binary op.Div, Unary h ∷ Bin h ∷ []) ∷ []
 
 abbrev pub literal_row : Bool → Row
 literal_row true = []
@@ -77,11 +77,11 @@ literal_row false = (Ampersand, T Name ∷ T OpenBrace ∷ Elems ∷ []) ∷ []
 -- what an expression begins with but names
 abbrev pub unnamed_row : Bool → Row
 unnamed_row h =
-    (Binary op.Add, Unary h ∷ []) ∷ (Binary op.Sub, Unary h ∷ []) ∷ (Bang, Unary h ∷ []) ∷ (Arrow, Unary h ∷ [])
-    ∷ (Number 0, Post ∷ []) ∷ (Text, Post ∷ [])
+    (Binary op.Add, Unary h ∷ []) ∷ (Binary op.Sub, Unary h ∷ []) ∷ (Bang, Unary h ∷ [])
+    ∷ (Arrow, Unary h ∷ []) ∷ (Number 0, Post ∷ []) ∷ (Text, Post ∷ [])
     ∷ (OpenParen, Unary false ∷ Bin false ∷ T CloseParen ∷ Post ∷ [])
-    ∷ (New, T OpenParen ∷ T Name ∷ T CloseParen ∷ Post ∷ []) ∷ (Make, T OpenParen ∷ MakeType ∷ Post ∷ [])
-    ∷ literal_row h
+    ∷ (New, T OpenParen ∷ T Name ∷ T CloseParen ∷ Post ∷ [])
+    ∷ (Make, T OpenParen ∷ MakeType ∷ Post ∷ []) ∷ literal_row h
 
 -- an expression and what is to come behind it, with what is to come behind a name that begins it
 abbrev pub starts_row : Bool → List Sym → List Sym → Row
@@ -92,12 +92,14 @@ expr_row h after = starts_row h after (Post ∷ after)
 
 abbrev pub named_row : Context → Row
 named_row c =
-    (Define, Unary (header c) ∷ Bin (header c) ∷ rest c)
-    ∷ joined (behind post_row (Bin (header c) ∷ Tail c ∷ []))
+    (Define, Unary (header c) ∷ Bin (header c) ∷ rest c) ∷ joined
+    (behind post_row (Bin (header c) ∷ Tail c ∷ []))
     (joined (behind (bin_row (header c)) (Tail c ∷ [])) (tail_row c))
 
 abbrev pub type_row : Row
-type_row = (Name, []) ∷ (Binary op.Mul, T Name ∷ []) ∷ (OpenBracket, T CloseBracket ∷ AType ∷ []) ∷ (Chan, AType ∷ []) ∷ []
+type_row =
+    (Name, []) ∷ (Binary op.Mul, T Name ∷ []) ∷ (OpenBracket, T CloseBracket ∷ AType ∷ [])
+    ∷ (Chan, AType ∷ []) ∷ []
 
 abbrev pub decls_row : Row
 decls_row =
@@ -107,9 +109,9 @@ decls_row =
 abbrev pub stmt_row : Row
 stmt_row =
     (OpenBrace, Stmts ∷ StmtEnd ∷ []) ∷ (If, IfHead ∷ StmtEnd ∷ []) ∷ (For, ForHead ∷ StmtEnd ∷ [])
-    ∷ (Go, T Name ∷ T OpenParen ∷ Args ∷ StmtEnd ∷ []) ∷ (Var, Locals ∷ StmtEnd ∷ []) ∷ (Return, Value ∷ StmtEnd ∷ [])
-    ∷ (Break, StmtEnd ∷ []) ∷ (Continue, StmtEnd ∷ [])
-    ∷ starts_row false (Bin false ∷ Tail alone ∷ StmtEnd ∷ []) (Named alone ∷ StmtEnd ∷ [])
+    ∷ (Go, T Name ∷ T OpenParen ∷ Args ∷ StmtEnd ∷ []) ∷ (Var, Locals ∷ StmtEnd ∷ [])
+    ∷ (Return, Value ∷ StmtEnd ∷ []) ∷ (Break, StmtEnd ∷ []) ∷ (Continue, StmtEnd ∷ []) ∷ starts_row
+    false (Bin false ∷ Tail alone ∷ StmtEnd ∷ []) (Named alone ∷ StmtEnd ∷ [])
 
 abbrev pub row : Sym → Row
 row (T k) = (k, []) ∷ []
@@ -142,19 +144,25 @@ row StmtEnd = (CloseBrace, []) ∷ (Semicolon, Stmts ∷ []) ∷ []
 row Locals = (OpenParen, LocalList ∷ []) ∷ (Name, LocalRest ∷ []) ∷ []
 row LocalList = (CloseParen, []) ∷ (Name, LocalRest ∷ LocalSep ∷ []) ∷ []
 row LocalSep = (CloseParen, []) ∷ (Semicolon, LocalList ∷ []) ∷ []
-row LocalRest = (Comma, T Name ∷ NamesType ∷ []) ∷ (Assign assign_op.Plain, Unary false ∷ Bin false ∷ []) ∷ behind type_row (Initial ∷ [])
+row LocalRest =
+    (Comma, T Name ∷ NamesType ∷ []) ∷ (Assign assign_op.Plain, Unary false ∷ Bin false ∷ [])
+    ∷ behind type_row (Initial ∷ [])
 row Initial = (Assign assign_op.Plain, Unary false ∷ Bin false ∷ []) ∷ []
 row Value = expr_row false (Bin false ∷ [])
 row IfHead =
-    (Semicolon, Unary true ∷ Bin true ∷ Block ∷ IfElse ∷ []) ∷ starts_row true (Bin true ∷ Tail before_if ∷ []) (Named before_if ∷ [])
+    (Semicolon, Unary true ∷ Bin true ∷ Block ∷ IfElse ∷ []) ∷ starts_row true
+    (Bin true ∷ Tail before_if ∷ []) (Named before_if ∷ [])
 row IfElse = (Else, ElseBody ∷ []) ∷ []
 row ElseBody = (OpenBrace, Stmts ∷ []) ∷ (If, IfHead ∷ []) ∷ []
 row ForHead =
-    (OpenBrace, Stmts ∷ []) ∷ (Semicolon, Condition ∷ []) ∷ starts_row true (Bin true ∷ Tail before_for ∷ []) (Named before_for ∷ [])
+    (OpenBrace, Stmts ∷ []) ∷ (Semicolon, Condition ∷ []) ∷ starts_row true
+    (Bin true ∷ Tail before_for ∷ []) (Named before_for ∷ [])
 row Condition = (Semicolon, ForStep ∷ []) ∷ expr_row true (Bin true ∷ T Semicolon ∷ ForStep ∷ [])
 row ForStep = (OpenBrace, Stmts ∷ []) ∷ expr_row true (Bin true ∷ Tail behind_for ∷ [])
 row Post = post_row
-row MakeType = (OpenBracket, T CloseBracket ∷ AType ∷ T Comma ∷ Unary false ∷ Bin false ∷ MakeEnd ∷ []) ∷ (Chan, AType ∷ MakeSize ∷ []) ∷ []
+row MakeType =
+    (OpenBracket, T CloseBracket ∷ AType ∷ T Comma ∷ Unary false ∷ Bin false ∷ MakeEnd ∷ [])
+    ∷ (Chan, AType ∷ MakeSize ∷ []) ∷ []
 row MakeSize = (CloseParen, []) ∷ (Comma, MakeMore ∷ []) ∷ []
 row MakeMore = (CloseParen, []) ∷ expr_row false (Bin false ∷ MakeEnd ∷ [])
 row MakeEnd = (CloseParen, []) ∷ (Comma, T CloseParen ∷ []) ∷ []
@@ -162,9 +170,10 @@ row Args = (CloseParen, []) ∷ expr_row false (Bin false ∷ ArgsEnd ∷ [])
 row ArgsEnd = (CloseParen, []) ∷ (Comma, Args ∷ []) ∷ []
 row Elems = (CloseBrace, []) ∷ starts_row false (Bin false ∷ ElemsEnd ∷ []) (ElemsNamed ∷ [])
 row ElemsNamed =
-    (Colon, Unary false ∷ Bin false ∷ KeyedEnd ∷ [])
-    ∷ joined (behind post_row (Bin false ∷ ElemsEnd ∷ []))
-    (joined (behind (bin_row false) (ElemsEnd ∷ [])) ((CloseBrace, []) ∷ (Comma, ElemsMore ∷ []) ∷ []))
+    (Colon, Unary false ∷ Bin false ∷ KeyedEnd ∷ []) ∷ joined
+    (behind post_row (Bin false ∷ ElemsEnd ∷ []))
+    (joined (behind (bin_row false) (ElemsEnd ∷ []))
+    ((CloseBrace, []) ∷ (Comma, ElemsMore ∷ []) ∷ []))
 row ElemsEnd = (CloseBrace, []) ∷ (Comma, ElemsMore ∷ []) ∷ []
 row ElemsMore = (CloseBrace, []) ∷ expr_row false (Bin false ∷ ElemsEnd ∷ [])
 row KeyedEnd = (CloseBrace, []) ∷ (Comma, KeyedMore ∷ []) ∷ []
@@ -293,9 +302,11 @@ empty (x ∷ l) = false
 
 -- a symbol that may be left out: no closer begins it, and nothing is its short text
 abbrev skipped : Sym → Bool
-skipped x = cond (all_entries (λ k a. not (closer k)) (row x)) (cond (empty (word x)) (opens x) false) false
+skipped x =
+    cond (all_entries (λ k a. not (closer k)) (row x)) (cond (empty (word x)) (opens x) false) false
 
--- another: after its short text only what may be left out remains on the stack, and nothing unless it may go on
+-- another: after its short text only what may be left out remains on the stack, and nothing unless
+-- it may go on
 abbrev settles : Sym → Option (List Sym) → Bool
 settles x None = false
 settles x (Some s) = cond (all_nullable s) (cond (empty s) true (opens x)) false
@@ -352,7 +363,8 @@ skips x n =
     let h : skips_or_settles x ≡ true = (both (checked x)).1 in
     let h' : skipped x ≡ true = rw n at h in
     let k = both h' in
-    let w = both k.1 in record { passes_closers = k.0; no_word = no_item (word x) w.0; is_open = w.1 }
+    let w = both k.1 in record
+    { passes_closers = k.0; no_word = no_item (word x) w.0; is_open = w.1 }
 
 -- what holds of another: the stack after its short text
 pub record Settles (x : Sym) : Type 0 where
@@ -365,10 +377,12 @@ empty_or : (s : List Sym) (b : Bool) → cond (empty s) true b ≡ true → (s �
 empty_or [] b e = inl refl
 empty_or (x ∷ s) b e = inr e
 
-settled_by : (x : Sym) (o : Option (List Sym)) → after (word x) (x ∷ []) ≡ o → settles x o ≡ true → Settles x
+settled_by : (x : Sym) (o : Option (List Sym)) → after (word x) (x ∷ []) ≡ o → settles x o ≡ true
+    → Settles x
 settled_by x None a e = cc
 settled_by x (Some s) a e =
-    let h = both e in record { stack = s; reached = a; may_end = h.0; is_open = empty_or s (opens x) h.1 }
+    let h = both e in record
+    { stack = s; reached = a; may_end = h.0; is_open = empty_or s (opens x) h.1 }
 
 pub settled : (x : Sym) → nullable x ≡ false → Settles x
 settled x n =

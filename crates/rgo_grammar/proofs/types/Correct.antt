@@ -3,29 +3,18 @@ use Rattle.std.proofs.Common.{◌≡◌, ℕ, zero, suc, ◌<◌, ◌≤◌, Lis
 use Rattle.rgo_ast.specs.declared.names.Ident.{Ident}
 use Rattle.rgo_ast.specs.declared.ops.BinaryOp.TheVariants as op
 use Rattle.rgo_ast.specs.Tree as tree
-use Rattle.rgo_lexer.specs.declared.terminals.Terminal.{Terminal}
-use Rattle.rgo_lexer.specs.declared.terminals.Terminal.TheVariants.{Name, Binary, OpenBracket, CloseBracket, Comma, Chan}
-use Rattle.rgo_lexer.specs.Lexemes.{Leaf, Lexeme, tok, ident, same}
-use Rattle.rgo_grammar.specs.Grammar.{IsNames, IsType, IsBinding, Listed}
-use Rattle.rgo_grammar.specs.Grammar.IsNames.{one, more}
-use Rattle.rgo_grammar.specs.Grammar.IsType.{named, pointer, slice, chan}
-use Rattle.rgo_grammar.specs.Grammar.IsBinding.{binding as of_names}
-use Rattle.rgo_grammar.specs.reading.Read.{Read}
-use Rattle.rgo_grammar.specs.reading.Types.{type_by, a_type, names_by, names, typed_names, binding, bindings}
-use Rattle.rgo_grammar.proofs.machine.Table.{Sym, T, AType, NamesType, step, closer}
-use Rattle.rgo_grammar.proofs.machine.Runs.{run, closes}
-use Rattle.rgo_grammar.proofs.machine.Starts.{alike}
-use Rattle.rgo_grammar.proofs.reading.Correct.Correct.{done, stops}
-use Rattle.rgo_grammar.proofs.reading.Lists.{ListSyms, token_list}
-use Rattle.rgo_grammar.proofs.reading.Correct.{Correct, token_read, same_start, correct_bind, correct_given, correct_weaker, correct_token_then, correct_token_given, shorter}
-use Rattle.rgo_grammar.proofs.reading.Next.{NotNext}
+use Rattle.rgo_lexer.specs.{declared.terminals.Terminal.{Terminal, TheVariants.{Name, Binary, OpenBracket, CloseBracket, Comma, Chan}}, Lexemes.{Leaf, Lexeme, tok, ident, same}}
+use Rattle.rgo_grammar.specs.Grammar.{IsNames, IsType, IsBinding, Listed, IsNames.{one, more}, IsType.{named, pointer, slice, chan}, IsBinding.{binding as of_names}}
+use Rattle.rgo_grammar.specs.reading.{Read.{Reader}, Types.{type_by, a_type, names_by, names, typed_names, binding, bindings}}
+use Rattle.rgo_grammar.proofs.machine.{Table.{Sym, T, AType, NamesType, step, closer}, Runs.{run, closes}, Starts.{alike}}
+use Rattle.rgo_grammar.proofs.reading.{Lists.{ListSyms, token_list}, Correct.{Correct, token_read, same_start, correct_bind, correct_given, correct_weaker, correct_token_then, correct_token_given, shorter, Empties, Correct.{done, stops}}, Next.{NotNext}}
 
 -- ---- types
 
 abbrev pub ATypeAt : List Lexeme → tree.TypeExpr → List Lexeme → Type 0
 ATypeAt z t w = IsType z t
 
-type_by_correct : (inner : List Lexeme → Read tree.TypeExpr) (k : Terminal) (i : Leaf) (m : List Lexeme)
+type_by_correct : (inner : Reader tree.TypeExpr) (k : Terminal) (i : Leaf) (m : List Lexeme)
     → ((w : List Lexeme) → length w ≤ length m → Correct (AType ∷ []) (λ _. []) ATypeAt w (inner w))
     → Correct (AType ∷ []) (λ _. []) ATypeAt (tok k i ∷ m) (type_by inner k i (tok k i ∷ m) m)
 unfolding run step
@@ -33,22 +22,28 @@ type_by_correct inner Name i m hi = done (tok Name i ∷ []) refl (named i) (λ 
 type_by_correct inner (Binary op.Mul) i m hi =
     token_read (correct_token_given Name _ refl (λ j w. pointer i j)) (λ s. refl)
 type_by_correct inner OpenBracket i m hi =
-    token_read (correct_token_then CloseBracket refl (λ j w c. correct_given _ (hi w (omega (arith, ap length c))) (λ x t u h. slice i j h))) (λ s. refl)
+    token_read (correct_token_then CloseBracket refl
+    (λ j w c. correct_given _ (hi w (omega (arith, ap length c))) (λ x t u h. slice i j h)))
+    (λ s. refl)
 type_by_correct inner Chan i m hi =
     token_read (correct_given _ (hi m (omega arith)) (λ x t u h. chan i h)) (λ s. refl)
 type_by_correct inner _ i m hi = stops (λ s. refl)
 
-pub type_correct : (n : ℕ) (l : List Lexeme) → length l < n → Correct (AType ∷ []) (λ _. []) (λ z t w. IsType z t) l (a_type n l)
+pub type_correct : (n : ℕ) (l : List Lexeme) → length l < n
+    → Empties (AType ∷ []) IsType l (a_type n l)
 unfolding a_type run closes
 type_correct zero l h = absurd (omega arith)
 type_correct (suc n) [] h = stops (λ s. refl)
-type_correct (suc n) (t ∷ l) h = type_by_correct (a_type n) t.terminal t.leaf l (λ w g. type_correct n w (omega arith))
+type_correct (suc n) (t ∷ l) h =
+    type_by_correct (a_type n) t.terminal t.leaf l (λ w g. type_correct n w (omega arith))
 
 -- ---- names and their type
 
-names_append : (x y : List Lexeme) (j : Leaf) (ns ms : List Ident) → IsNames x ns → IsNames y ms → IsNames (x ++ tok Comma j ∷ y) (ns ++ ms)
+names_append : (x y : List Lexeme) (j : Leaf) (ns ms : List Ident) → IsNames x ns → IsNames y ms
+    → IsNames (x ++ tok Comma j ∷ y) (ns ++ ms)
 names_append x y j ns ms (one i) g = more i j g
-names_append x y j ns ms (more i k {x = x'} {ns = ns'} h) g = more i k (names_append x' y j ns' ms h g)
+names_append x y j ns ms (more i k {x = x'} {ns = ns'} h) g =
+    more i k (names_append x' y j ns' ms h g)
 
 -- no `,` comes next
 abbrev pub NoComma : List Lexeme → Type 0
@@ -58,22 +53,26 @@ NoComma = NotNext (same Comma)
 abbrev AreNames : List Lexeme → List Lexeme → List Ident → List Lexeme → Type 0
 AreNames x z ns w = IsNames (x ++ z) ns × NoComma w
 
-names_by_correct : (again : List Ident → List Lexeme → Read (List Ident)) (found : List Ident) (x : List Lexeme) (k : Terminal) (i : Leaf)
-    (m : List Lexeme)
-    → IsNames x found
+names_by_correct : (again : List Ident → Reader (List Ident)) (found : List Ident) (x : List Lexeme)
+    (k : Terminal) (i : Leaf) (m : List Lexeme) → IsNames x found
     → ((ns : List Ident) (y w : List Lexeme) → length w < length m → IsNames y ns
     → Correct (NamesType ∷ []) (λ _. NamesType ∷ []) (AreNames y) w (again ns w))
-    → Correct (NamesType ∷ []) (λ _. NamesType ∷ []) (AreNames x) (tok k i ∷ m) (names_by again found k (tok k i ∷ m) m)
+    → Correct (NamesType ∷ []) (λ _. NamesType ∷ []) (AreNames x) (tok k i ∷ m)
+    (names_by again found k (tok k i ∷ m) m)
 unfolding run step
 names_by_correct again found x Comma i m f hi =
     token_read (correct_token_then Name refl (λ j w c. correct_more j w c)) (λ s. refl)
   where
     correct_more : (j : Leaf) (w : List Lexeme) → m ≡ tok Name j ∷ w
-        → Correct (NamesType ∷ []) (λ _. NamesType ∷ []) (λ z ns u. AreNames x (tok Comma i ∷ tok Name j ∷ z) ns u) w
+        → Correct (NamesType ∷ []) (λ _. NamesType ∷ [])
+        (λ z ns u. AreNames x (tok Comma i ∷ tok Name j ∷ z) ns u) w
         (again (found ++ ident j ∷ []) w)
     correct_more j w c =
-        correct_weaker (hi (found ++ ident j ∷ []) (x ++ tok Comma i ∷ tok Name j ∷ []) w (omega (arith, ap length c))
-        (names_append x (tok Name j ∷ []) i found (ident j ∷ []) f (one j))) (λ z ns u d g. let h = g.0 in (rw append_assoc at h, g.1))
+        correct_weaker
+        (hi (found ++ ident j ∷ []) (x ++ tok Comma i ∷ tok Name j ∷ []) w
+        (omega (arith, ap length c))
+        (names_append x (tok Name j ∷ []) i found (ident j ∷ []) f (one j)))
+        (λ z ns u d g. let h = g.0 in (rw append_assoc at h, g.1))
 names_by_correct again found x k i m f hi = done [] refl (rw append-nil f, refl) (λ s. refl)
 
 names_correct : (n : ℕ) (found : List Ident) (x l : List Lexeme) → length l < n → IsNames x found
@@ -82,7 +81,8 @@ unfolding names
 names_correct zero found x l h f = absurd (omega arith)
 names_correct (suc n) found x [] h f = done [] refl (rw append-nil f, tt) (λ s. refl)
 names_correct (suc n) found x (t ∷ l) h f =
-    names_by_correct (names n) found x t.terminal t.leaf l f (λ ns y w g e. names_correct n ns y w (omega arith) e)
+    names_by_correct (names n) found x t.terminal t.leaf l f
+    (λ ns y w g e. names_correct n ns y w (omega arith) e)
 
 -- behind the last name stands a type
 names_end : (w : List Lexeme) (s : List Sym) → NoComma w → run w (NamesType ∷ s) ≡ run w (AType ∷ s)
@@ -92,22 +92,29 @@ names_end (t ∷ w) s h = alike NamesType AType t w s (rw h refl) refl
 
 -- behind names x, their type
 typed_from : (n : ℕ) (found : List Ident) (x l : List Lexeme) → length l < n → IsNames x found
-    → Correct (NamesType ∷ []) (λ _. []) (λ z b w. IsBinding (x ++ z) b) l (typed_names n found l)
+    → Empties (NamesType ∷ []) (λ z b. IsBinding (x ++ z) b) l (typed_names n found l)
 typed_from n found x l h f =
-    correct_bind (names_correct n found x l h f) (λ z ns w c g. same_start (correct_given _ (type_correct n w (omega (arith, shorter l z w c))) (λ y t u d. rw (← append_assoc) (of_names g.0 d))) (λ s. names_end w s g.1))
+    correct_bind (names_correct n found x l h f)
+    (λ z ns w c g. same_start
+    (correct_given _ (type_correct n w (omega (arith, shorter l z w c)))
+    (λ y t u d. rw (← append_assoc) (of_names g.0 d))) (λ s. names_end w s g.1))
 
 pub typed_names_correct : (n : ℕ) (l : List Lexeme) → length l < n → (i : Leaf)
-    → Correct (NamesType ∷ []) (λ _. []) (λ z b w. IsBinding (tok Name i ∷ z) b) l (typed_names n (ident i ∷ []) l)
+    → Empties (NamesType ∷ []) (λ z b. IsBinding (tok Name i ∷ z) b) l
+    (typed_names n (ident i ∷ []) l)
 typed_names_correct n l h i = typed_from n (ident i ∷ []) (tok Name i ∷ []) l h (one i)
 
 pub binding_correct : (n : ℕ) (l : List Lexeme) → length l < n
-    → Correct (T Name ∷ NamesType ∷ []) (λ _. []) (λ z b w. IsBinding z b) l (binding n l)
+    → Empties (T Name ∷ NamesType ∷ []) IsBinding l (binding n l)
 binding_correct n l h =
     correct_token_then Name refl (λ i w c. typed_names_correct n w (omega (arith, ap length c)) i)
 
 -- a list of bindings, by its symbols
-pub bindings_correct : {separator closer : Terminal} {L E : Sym} → ListSyms separator closer ((Name, NamesType ∷ E ∷ []) ∷ []) L E
-    → (n : ℕ) (l : List Lexeme) → length l < n
-    → Correct (L ∷ []) (λ _. []) (λ z x w. Listed IsBinding separator closer z x.0) l (bindings separator closer n l)
+pub bindings_correct : {separator closer : Terminal} {L E : Sym}
+    → ListSyms separator closer ((Name, NamesType ∷ E ∷ []) ∷ []) L E → (n : ℕ) (l : List Lexeme)
+    → length l < n
+    → Empties (L ∷ []) (λ z x. Listed IsBinding separator closer z x.0) l
+    (bindings separator closer n l)
 bindings_correct syms n l h =
-    token_list (binding n) (length l) (λ m b. binding_correct n m (omega (arith, b, h))) syms n l h (omega arith)
+    token_list (binding n) (length l) (λ m b. binding_correct n m (omega (arith, b, h))) syms n l h
+    (omega arith)

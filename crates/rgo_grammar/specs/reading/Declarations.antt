@@ -8,20 +8,20 @@ use Rattle.rgo_lexer.specs.declared.terminals.Terminal.TheVariants.{Name, Main, 
 use Rattle.rgo_lexer.specs.declared.terminals.Terminal.TheVariants.{OpenBrace, CloseBrace, Comma, Semicolon, Package}
 use Rattle.rgo_lexer.specs.declared.terminals.Terminal.TheVariants.{Import, TypeWord, Struct, Var, Func}
 use Rattle.rgo_lexer.specs.Lexemes.{Leaf, Lexeme, ident, path}
-use Rattle.rgo_grammar.specs.reading.Read.{Read, Done, Failed, At, Starving, ◌>>=◌, given, first_of, token, listed, single, several}
+use Rattle.rgo_grammar.specs.reading.Read.{Reader, Read, Done, Failed, At, Starving, ◌>>=◌, given, first_of, token, listed, single, several}
 use Rattle.rgo_grammar.specs.reading.Types.{a_type, binding, bindings}
 use Rattle.rgo_grammar.specs.reading.Statements.{block}
 
 -- one item, or a group of them in parentheses
-abbrev pub group_by : {A : Type 0} → (List Lexeme → Read A) → ℕ → Terminal → List Lexeme → List Lexeme → Read (List A)
+abbrev pub group_by : {A : Type 0} → Reader A → ℕ → Terminal → List Lexeme → List Lexeme → Read (List A)
 group_by item n OpenParen l m = several Semicolon CloseParen item n [] m >>= given (λ x. x.0)
 group_by item n _ l m = single (item l)
 
-abbrev pub group_on : {A : Type 0} → (List Lexeme → Read A) → ℕ → List Lexeme → Option (Lexeme × List Lexeme) → Read (List A)
+abbrev pub group_on : {A : Type 0} → Reader A → ℕ → List Lexeme → Option (Lexeme × List Lexeme) → Read (List A)
 group_on item n l None = Failed (At l)
 group_on item n l (Some x) = group_by item n x.0.terminal l x.1
 
-abbrev pub group : {A : Type 0} → (List Lexeme → Read A) → ℕ → List Lexeme → Read (List A)
+abbrev pub group : {A : Type 0} → Reader A → ℕ → List Lexeme → Read (List A)
 group item n l = group_on item n l (first_of l)
 
 abbrev pub import_path : List Lexeme → Read ImportPath
@@ -66,7 +66,7 @@ abbrev pub decl_on : ℕ → List Lexeme → Option (Lexeme × List Lexeme) → 
 decl_on n l None = Failed (At l)
 decl_on n l (Some x) = decl_by n x.0.terminal x.0.leaf l x.1
 
-abbrev pub decls_on : ℕ → (List tree.Decl → List Lexeme → Read (List tree.Decl)) → List tree.Decl → List Lexeme
+abbrev pub decls_on : ℕ → (List tree.Decl → Reader (List tree.Decl)) → List tree.Decl → List Lexeme
     → Option (Lexeme × List Lexeme) → Read (List tree.Decl)
 decls_on n again found l None = Done found l
 decls_on n again found l (Some x) =
@@ -77,12 +77,12 @@ unfoldable pub decls : ℕ → ℕ → List tree.Decl → List Lexeme → Read (
 decls n zero found l = Failed Starving
 decls n (suc m) found l = decls_on n (decls n m) found l (first_of l)
 
-abbrev pub imports_by : ℕ → (List tree.Import → List Lexeme → Read (List tree.Import)) → List tree.Import → Terminal
+abbrev pub imports_by : ℕ → (List tree.Import → Reader (List tree.Import)) → List tree.Import → Terminal
     → Leaf → List Lexeme → List Lexeme → Read (List tree.Import)
 imports_by n again found Import i l m = import_decl n i m >>= λ d w. token Semicolon w >>= λ _. again (found ++ d ∷ [])
 imports_by n again found _ i l m = Done found l
 
-abbrev pub imports_on : ℕ → (List tree.Import → List Lexeme → Read (List tree.Import)) → List tree.Import → List Lexeme
+abbrev pub imports_on : ℕ → (List tree.Import → Reader (List tree.Import)) → List tree.Import → List Lexeme
     → Option (Lexeme × List Lexeme) → Read (List tree.Import)
 imports_on n again found l None = Done found l
 imports_on n again found l (Some x) = imports_by n again found x.0.terminal x.0.leaf l x.1

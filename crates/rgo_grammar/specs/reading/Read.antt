@@ -14,8 +14,12 @@ pub data Read (A : Type 0) : Type 0 where
   Done : A → List Lexeme → Read A
   Failed : Stop → Read A
 
+-- a function that reads a value from the front of a list
+abbrev pub Reader : Type 0 → Type 0
+Reader A = List Lexeme → Read A
+
 infixl 10 ◌>>=◌
-abbrev pub ◌>>=◌ : {A B : Type 0} → Read A → (A → List Lexeme → Read B) → Read B
+abbrev pub ◌>>=◌ : {A B : Type 0} → Read A → (A → Reader B) → Read B
 (Done a w) >>= f = f a w
 (Failed s) >>= f = Failed s
 
@@ -36,19 +40,19 @@ abbrev pub token : Terminal → List Lexeme → Read Leaf
 token k l = token_on k l (first_of l)
 
 -- behind an item of a list: what closes the list, or a separator and the list from there on
-abbrev pub ended_on : {A : Type 0} → Terminal → Terminal → (List A → List Lexeme → Read (List A × Leaf))
+abbrev pub ended_on : {A : Type 0} → Terminal → Terminal → (List A → Reader (List A × Leaf))
     → List A → List Lexeme → Option (Lexeme × List Lexeme) → Read (List A × Leaf)
 ended_on separator closer again found l None = Failed (At l)
 ended_on separator closer again found l (Some x) =
     if same closer x.0.terminal then Done (found, x.0.leaf) x.1
     else (if same separator x.0.terminal then again found x.1 else Failed (At l))
 
-abbrev pub ended : {A : Type 0} → Terminal → Terminal → (List A → List Lexeme → Read (List A × Leaf))
+abbrev pub ended : {A : Type 0} → Terminal → Terminal → (List A → Reader (List A × Leaf))
     → List A → List Lexeme → Read (List A × Leaf)
 ended separator closer again found l = ended_on separator closer again found l (first_of l)
 
-abbrev pub listed_on : {A : Type 0} → Terminal → Terminal → (List Lexeme → Read (List A))
-    → (List A → List Lexeme → Read (List A × Leaf)) → List A → List Lexeme → Option (Lexeme × List Lexeme)
+abbrev pub listed_on : {A : Type 0} → Terminal → Terminal → Reader (List A)
+    → (List A → Reader (List A × Leaf)) → List A → List Lexeme → Option (Lexeme × List Lexeme)
     → Read (List A × Leaf)
 listed_on separator closer item again found l None = Failed (At l)
 listed_on separator closer item again found l (Some x) =
@@ -56,7 +60,7 @@ listed_on separator closer item again found l (Some x) =
     else (item l >>= λ a. ended separator closer again (found ++ a))
 
 -- items up to what closes them, behind those that were found
-unfoldable pub listed : {A : Type 0} → Terminal → Terminal → (List Lexeme → Read (List A)) → ℕ → List A → List Lexeme
+unfoldable pub listed : {A : Type 0} → Terminal → Terminal → Reader (List A) → ℕ → List A → List Lexeme
     → Read (List A × Leaf)
 listed separator closer item zero found l = Failed Starving
 listed separator closer item (suc n) found l =
@@ -66,5 +70,5 @@ abbrev pub single : {A : Type 0} → Read A → Read (List A)
 single m = m >>= given (λ a. a ∷ [])
 
 -- items that are read one by one, up to what closes them, behind those that were found
-unfoldable pub several : {A : Type 0} → Terminal → Terminal → (List Lexeme → Read A) → ℕ → List A → List Lexeme → Read (List A × Leaf)
+unfoldable pub several : {A : Type 0} → Terminal → Terminal → Reader A → ℕ → List A → List Lexeme → Read (List A × Leaf)
 several separator closer item n found l = listed separator closer (λ m. single (item m)) n found l

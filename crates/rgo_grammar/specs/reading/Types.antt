@@ -8,16 +8,16 @@ use Rattle.rgo_lexer.specs.declared.terminals.Terminal.{Terminal}
 use Rattle.rgo_lexer.specs.declared.terminals.Terminal.TheVariants.{Name, Binary, OpenBracket, CloseBracket, Comma}
 use Rattle.rgo_lexer.specs.declared.terminals.Terminal.TheVariants.{Chan}
 use Rattle.rgo_lexer.specs.Lexemes.{Leaf, Lexeme, ident}
-use Rattle.rgo_grammar.specs.reading.Read.{Read, Done, Failed, At, Starving, ◌>>=◌, given, first_of, token, listed, single, several}
+use Rattle.rgo_grammar.specs.reading.Read.{Reader, Read, Done, Failed, At, Starving, ◌>>=◌, given, first_of, token, listed, single, several}
 
-abbrev pub type_by : (List Lexeme → Read tree.TypeExpr) → Terminal → Leaf → List Lexeme → List Lexeme → Read tree.TypeExpr
+abbrev pub type_by : Reader tree.TypeExpr → Terminal → Leaf → List Lexeme → List Lexeme → Read tree.TypeExpr
 type_by inner Name i l m = Done (tree.Named (ident i)) m
 type_by inner (Binary op.Mul) i l m = token Name m >>= given (λ j. tree.Pointer (ident j) i.at)
 type_by inner OpenBracket i l m = token CloseBracket m >>= λ _ w. inner w >>= given (λ t. tree.Slice t i.at)
 type_by inner Chan i l m = inner m >>= given (λ t. tree.Chan t i.at)
 type_by inner _ i l m = Failed (At l)
 
-abbrev pub type_on : (List Lexeme → Read tree.TypeExpr) → List Lexeme → Option (Lexeme × List Lexeme) → Read tree.TypeExpr
+abbrev pub type_on : Reader tree.TypeExpr → List Lexeme → Option (Lexeme × List Lexeme) → Read tree.TypeExpr
 type_on inner l None = Failed (At l)
 type_on inner l (Some x) = type_by inner x.0.terminal x.0.leaf l x.1
 
@@ -25,12 +25,12 @@ unfoldable pub a_type : ℕ → List Lexeme → Read tree.TypeExpr
 a_type zero l = Failed Starving
 a_type (suc n) l = type_on (a_type n) l (first_of l)
 
-abbrev pub names_by : (List Ident → List Lexeme → Read (List Ident)) → List Ident → Terminal → List Lexeme → List Lexeme
+abbrev pub names_by : (List Ident → Reader (List Ident)) → List Ident → Terminal → List Lexeme → List Lexeme
     → Read (List Ident)
 names_by again found Comma l m = token Name m >>= λ j. again (found ++ ident j ∷ [])
 names_by again found _ l m = Done found l
 
-abbrev pub names_on : (List Ident → List Lexeme → Read (List Ident)) → List Ident → List Lexeme → Option (Lexeme × List Lexeme)
+abbrev pub names_on : (List Ident → Reader (List Ident)) → List Ident → List Lexeme → Option (Lexeme × List Lexeme)
     → Read (List Ident)
 names_on again found l None = Done found l
 names_on again found l (Some x) = names_by again found x.0.terminal l x.1
