@@ -1,5 +1,5 @@
--- A list of tokens has at most one first bad token, and none where it is a program.
-use Rattle.std.proofs.Common.{◌≡◌, ℕ, ◌+◌, ◌≤◌, ◌<◌, ◌⊎◌, inl, inr, List, [], ◌++◌, length, take, drop, subst, append_assoc, append-nil, arith, ◌-◌}
+-- A list of lexemes has at most one first bad lexeme, and none if it is a program.
+use Rattle.std.proofs.Common.{◌≡◌, ℕ, ◌+◌, ◌≤◌, ◌<◌, ◌⊎◌, inl, inr, List, [], ◌++◌, length, take, drop, subst, append_assoc, append-nil, arith}
 use Rattle.std.proofs.lemmas.List.{take-take, take-append-drop}
 use Rattle.std.proofs.lemmas.Bool.{cases_order, cases_lt}
 use Rattle.rgo_ast.specs.Tree.{Import, Decl}
@@ -15,14 +15,12 @@ front_begins k l b = (drop k l ++ b.0, b.1, b.2, rw (← append_assoc, take-appe
 less_begins : (k j : ℕ) (l : List Lexeme) → k ≤ j → Begins (take j l) → Begins (take k l)
 less_begins k j l h b = subst Begins (take-take k j l h) (front_begins k (take j l) b)
 
-whole_begins : (l : List Lexeme) (imports : List Import) (decls : List Decl)
-    → IsProgram l imports decls → Begins l
+whole_begins : (l : List Lexeme) (imports : List Import) (decls : List Decl) → IsProgram l imports decls → Begins l
 whole_begins l imports decls p = ([], imports, decls, rw append-nil p)
 
--- one of them stands first
+-- no list has two: one of them would come first
 no_second : (l : List Lexeme) (k j : ℕ) → k < j → IsFirstBad l k → IsFirstBad l j → ⊥
-no_second l k j h f g =
-    f.next (omega (arith, g.within)) (less_begins (k + 1) j l (omega arith) g.before)
+no_second l k j h f g = f.next (omega (arith, g.within)) (less_begins (k + 1) j l (omega arith) g.before)
 
 pub one_refusal : OneRefusal
 one_refusal l k j f g = by_order (cases_order k j) where
