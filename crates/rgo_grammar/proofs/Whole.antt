@@ -1,5 +1,5 @@
--- Where reading fails is the first token with which no program goes on, and what it gives is the
--- one tree.
+-- From reading to the laws: reading fails at the first bad token, and what it returns is the one
+-- tree.
 use Rattle.std.proofs.Common.{◌≡◌, ℕ, suc, ◌+◌, ◌-◌, ◌*◌, ◌<◌, ◌≤◌, ◌⊎◌, inl, inr, true, List, [], ◌∷◌, ◌++◌, length, take, refl, ◌∙◌, ap, append_assoc, arith, length-append, add-one}
 use Rattle.std.proofs.Math.Seq.{take-append_seam}
 use Rattle.rgo_ast.specs.Tree.{Import, Decl}
@@ -12,7 +12,7 @@ use Rattle.rgo_grammar.proofs.machine.{Table.{Program, fine, leads, next}, Runs.
 use Rattle.rgo_grammar.proofs.reading.Complete.{Meets}
 use Rattle.rgo_grammar.proofs.declarations.{Program.Closed.{accepts, rejects}, Program.{Closed, program_correct}, Complete.{program_complete}}
 
--- the turns that a list of tokens takes at most
+-- enough turns for a list of tokens
 abbrev pub turns : List Lexeme → ℕ
 turns l = 4 * length l + 4
 
@@ -90,8 +90,7 @@ first_bad_at l r e at =
       within = omega (arith, length-append at.before r);
       before = begun;
       next = λ h b. ends_by r refl h b;
-      all =
-          λ h is ds p. let yes =
+      all = λ h is ds p. let yes =
           read_again (at.before ++ r) is ds p in let no = rw at.cut at e in cc;
     })
   where

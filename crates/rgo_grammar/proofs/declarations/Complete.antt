@@ -55,7 +55,7 @@ path_reads : (x : List Lexeme) (p : ImportPath) → IsPath x p → (l : List Lex
     → Meets (import_path (x ++ l)) (Done p l)
 path_reads _ _ (g.string i) l = inr refl
 
--- behind the keyword
+-- after the keyword
 import_complete : {x : List Lexeme} {d : tree.Import} → IsImport x d
     → (n : ℕ) (found : List tree.Import) (again : List tree.Import → Reader (List tree.Import))
     (j : Leaf) (l : List Lexeme)
@@ -143,7 +143,7 @@ module _ (n : ℕ) where
       meets_then _ h.1
       (meets_then _ (result_complete q n m (z ++ l)) (meets_bind _ (block_complete s m n l)))
 
-  -- with the `;` behind it
+  -- with the `;` after it
   decl_complete : {x : List Lexeme} {d : tree.Decl} → IsDecl x d
       → (found : List tree.Decl) (again : List tree.Decl → Reader (List tree.Decl)) (j : Leaf)
       (l : List Lexeme)

@@ -72,7 +72,7 @@ headed h (rejects f) = rejects f
 module _ (n : ℕ) where
   -- ---- declarations
 
-  -- a declaration and what stands behind it, where the machine has its symbols on the stack
+  -- a declaration and what follows it, where the machine has its symbols on the stack
   decl_then : {B : Type 0} {from : List Sym} {k : Terminal} {i : Leaf} {m : List Lexeme}
       {r : Read tree.Decl} {again : tree.Decl → Reader B} {Q : List Lexeme → B → Type 0}
       → Empties from (λ z d. IsDecl (tok k i ∷ z) d) m r
@@ -87,37 +87,37 @@ module _ (n : ℕ) where
       (λ u j v o q. rw q
       (f (tok k i ∷ z) d j v (omega (arith, shorter m z w c, shorter w u v o, ap length q)) p)))) e
 
-  abbrev Behind : List tree.Decl → List Lexeme → List tree.Decl → Type 0
-  Behind found z ds = (new : List tree.Decl) × (ds ≡ found ++ new) × Each IsDecl z new
+  abbrev DeclsAfter : List tree.Decl → List Lexeme → List tree.Decl → Type 0
+  DeclsAfter found z ds = (new : List tree.Decl) × (ds ≡ found ++ new) × Each IsDecl z new
 
-  behind_one : (found : List tree.Decl) {x : List Lexeme} {d : tree.Decl} (j : Leaf)
+  after_one : (found : List tree.Decl) {x : List Lexeme} {d : tree.Decl} (j : Leaf)
       {w : List Lexeme} {r : Read (List tree.Decl)} → IsDecl x d
-      → Closed (Decls ∷ []) (Behind (found ++ d ∷ [])) w r
-      → Closed (Decls ∷ []) (λ y ds. Behind found (x ++ tok Semicolon j ∷ y) ds) w r
-  behind_one found {d = d} j p (accepts (new, f, q) a) =
+      → Closed (Decls ∷ []) (DeclsAfter (found ++ d ∷ [])) w r
+      → Closed (Decls ∷ []) (λ y ds. DeclsAfter found (x ++ tok Semicolon j ∷ y) ds) w r
+  after_one found {d = d} j p (accepts (new, f, q) a) =
       accepts (d ∷ new, f ∙ append_assoc found (d ∷ []) new, g.next j p q) a
-  behind_one found j p (rejects h) = rejects h
+  after_one found j p (rejects h) = rejects h
 
   decls_by_correct : (again : List tree.Decl → Reader (List tree.Decl)) (found : List tree.Decl)
       (k : Terminal) (i : Leaf) (m : List Lexeme) → 4 * length m + 4 ≤ n
       → ((ds : List tree.Decl) (w : List Lexeme) → length w ≤ length m
-      → Closed (Decls ∷ []) (Behind ds) w (again ds w))
-      → Closed (Decls ∷ []) (Behind found) (tok k i ∷ m)
+      → Closed (Decls ∷ []) (DeclsAfter ds) w (again ds w))
+      → Closed (Decls ∷ []) (DeclsAfter found) (tok k i ∷ m)
       (decl_by n k i (tok k i ∷ m) m >>= λ d w. token Semicolon w >>= λ _. again (found ++ d ∷ []))
   unfolding run step
   decls_by_correct again found TypeWord i m h hi =
       decl_then (types_correct n i m (omega arith)) refl
-      (λ x d j w o p. behind_one found j p (hi (found ++ d ∷ []) w (omega arith)))
+      (λ x d j w o p. after_one found j p (hi (found ++ d ∷ []) w (omega arith)))
   decls_by_correct again found Var i m h hi =
       decl_then (vars_correct n i m (omega arith)) refl
-      (λ x d j w o p. behind_one found j p (hi (found ++ d ∷ []) w (omega arith)))
+      (λ x d j w o p. after_one found j p (hi (found ++ d ∷ []) w (omega arith)))
   decls_by_correct again found Func i m h hi =
       decl_then (func_correct n i m h) refl
-      (λ x d j w o p. behind_one found j p (hi (found ++ d ∷ []) w (omega arith)))
+      (λ x d j w o p. after_one found j p (hi (found ++ d ∷ []) w (omega arith)))
   decls_by_correct again found k i m h hi = rejects refl
 
   decls_correct : (m : ℕ) (found : List tree.Decl) (l : List Lexeme) → length l < m
-      → 4 * length l + 4 ≤ n → Closed (Decls ∷ []) (Behind found) l (decls n m found l)
+      → 4 * length l + 4 ≤ n → Closed (Decls ∷ []) (DeclsAfter found) l (decls n m found l)
   unfolding decls run closes
   decls_correct zero found l h b = absurd (omega arith)
   decls_correct (suc m) found [] h b = accepts ([], sym (append-nil found), g.none) refl
@@ -127,15 +127,15 @@ module _ (n : ℕ) where
 
   -- ---- imports
 
-  abbrev BehindImports : List tree.Import → List Lexeme → List tree.Import → List Lexeme → Type 0
-  BehindImports found z ds w =
+  abbrev ImportsAfter : List tree.Import → List Lexeme → List tree.Import → List Lexeme → Type 0
+  ImportsAfter found z ds w =
       ((new : List tree.Import) × (ds ≡ found ++ new) × Each IsImport z new) × NoImport w
 
   imports_by_correct : (again : List tree.Import → Reader (List tree.Import))
       (found : List tree.Import) (k : Terminal) (i : Leaf) (m : List Lexeme) → length m ≤ n
       → ((ds : List tree.Import) (w : List Lexeme) → length w ≤ length m
-      → Correct (Imports ∷ []) (λ _. Imports ∷ []) (BehindImports ds) w (again ds w))
-      → Correct (Imports ∷ []) (λ _. Imports ∷ []) (BehindImports found) (tok k i ∷ m)
+      → Correct (Imports ∷ []) (λ _. Imports ∷ []) (ImportsAfter ds) w (again ds w))
+      → Correct (Imports ∷ []) (λ _. Imports ∷ []) (ImportsAfter found) (tok k i ∷ m)
       (imports_by n again found k i (tok k i ∷ m) m)
   unfolding run step
   imports_by_correct again found Import i m h hi =
@@ -151,7 +151,7 @@ module _ (n : ℕ) where
 
   imports_correct : (m : ℕ) (found : List tree.Import) (l : List Lexeme) → length l < m
       → length l ≤ n
-      → Correct (Imports ∷ []) (λ _. Imports ∷ []) (BehindImports found) l (imports n m found l)
+      → Correct (Imports ∷ []) (λ _. Imports ∷ []) (ImportsAfter found) l (imports n m found l)
   unfolding imports
   imports_correct zero found l h b = absurd (omega arith)
   imports_correct (suc m) found [] h b =

@@ -1,5 +1,4 @@
--- What is in the grammar is read as its tree, whatever follows that does not go on with it:
--- expressions.
+-- Expressions of the grammar are read as their trees, before whatever does not continue them.
 use Rattle.std.proofs.Common.{ℕ, zero, suc, ◌+◌, ◌≤◌, inl, inr, Bool, false, List, [], ◌∷◌, ◌++◌, refl, append_assoc, arith}
 use Rattle.rgo_ast.specs.declared.names.Ident.{Ident}
 use Rattle.rgo_ast.specs.Tree as tree
@@ -105,7 +104,7 @@ mutual
         rw append_assoc (meets_trans first.1 rest.1),
       )
 
-  -- behind those that were found
+  -- after those that were found
   pub exprs_found : {closer : Terminal} {y : List Lexeme} {vs : List tree.Expr}
       → IsExprs closer y vs → Closer closer → (m n : ℕ) (found : List tree.Expr) (l : List Lexeme)
       → (j : Leaf) × Meets (exprs_from closer n (expr false m 1) found (y ++ l))

@@ -1,5 +1,4 @@
--- What is owed of reading expressions: what is read is in the grammar, the machine goes the same
--- way, and the turns are enough.
+-- Reading expressions is correct.
 use Rattle.std.proofs.Common.{◌≡◌, ℕ, zero, suc, ◌+◌, ◌*◌, ◌<◌, ◌≤◌, nat_le, Bool, true, false, cond, List, [], ◌∷◌, ◌++◌, length, Some, refl, ◌∙◌, append_assoc, arith, append-nil, ◌-◌}
 use Rattle.std.proofs.lemmas.Bool.{leb-true, leb-false}
 use Rattle.rgo_ast.specs.declared.ops.{BinaryOp.{BinaryOp}, UnaryOp.{UnaryOp}}
@@ -54,7 +53,7 @@ unary_by_correct false n inner again primary Ampersand i l b hi ha hp =
 unary_by_correct h n inner again primary k i l b hi ha hp =
     correct_weaker (hp refl) (λ z v w c p. of_primary p)
 
--- what was read and what binds so tightly next
+-- what was read, and that no operator comes next that binds at least as tightly
 abbrev IsExprAt : Bool → ℕ → List Lexeme → List Lexeme → tree.Expr → List Lexeme → Type 0
 IsExprAt h least x z v w = IsExpr h least (x ++ z) v × (top w < least)
 
@@ -154,12 +153,12 @@ mutual
       (post n) v x t.terminal t.leaf l (omega arith) p
       (λ u y m q g. post_correct n u y m q (omega arith))
 
--- an expression with no operator behind it
+-- an expression that no operator follows
 pub value_correct : (h : Bool) (n : ℕ) (l : List Lexeme) → 4 * length l + 3 ≤ n
     → Empties (Unary h ∷ Bin h ∷ []) (IsExpr h 1) l (expr h n 1 l)
 value_correct h n l b = correct_popped (expr_correct h n 1 l (omega arith) b)
 
--- an argument list behind its `(`
+-- an argument list after its `(`
 pub args_correct : (n : ℕ) (l : List Lexeme) → 4 * length l + 3 ≤ n
     → Empties (Args ∷ []) (λ z x. IsExprs CloseParen z x.0) l
     (exprs CloseParen n (expr false n 1) l)

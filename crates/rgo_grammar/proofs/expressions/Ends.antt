@@ -1,4 +1,5 @@
--- Where an expression ends, and how what stands in one is read: a part at a time.
+-- Where an expression ends, and how one is read that a token follows: operators, selections,
+-- indexes, calls, signs.
 use Rattle.std.proofs.Common.{◌≡◌, ℕ, zero, suc, ◌+◌, ◌<◌, ◌≤◌, inl, inr, Bool, true, false, List, [], ◌∷◌, ◌++◌, Some, refl, arith, ◌-◌}
 use Rattle.std.proofs.lemmas.Bool.{le-leb, lt-leb}
 use Rattle.rgo_ast.specs.declared.ops.{BinaryOp.{BinaryOp}, UnaryOp.{UnaryOp}}
@@ -12,7 +13,7 @@ use Rattle.rgo_grammar.specs.reading.{Read.{Reader, Done}, Expressions.{exprs, s
 use Rattle.rgo_grammar.proofs.reading.{Complete.{Meets, meets_trans, meets_bind, meets_then}, Correct.Correct.{done}, Next.{IsNext, NotNext}}
 use Rattle.rgo_grammar.proofs.expressions.Starts.{level_of, top, unsigned}
 
--- what goes on with a primary expression
+-- what continues a primary expression
 abbrev pub posts : Terminal → Bool
 posts Dot = true
 posts OpenBracket = true
@@ -22,7 +23,7 @@ posts _ = false
 abbrev pub Unposted : List Lexeme → Type 0
 Unposted = NotNext posts
 
--- nothing comes next that goes on with an expression
+-- nothing comes next that continues an expression
 abbrev pub EndsExpr : List Lexeme → Type 0
 EndsExpr l = (top l < 1) × Unposted l
 
@@ -81,7 +82,7 @@ operated h p o i a b y (suc m) l e t g =
       rw (le-leb p (level o) e) (meets_bind _ done),
     )
 
--- ---- what stands behind a primary expression
+-- ---- what follows a primary expression
 
 pub selected : (i j : Leaf) (v : tree.Expr) (n : ℕ) (l : List Lexeme)
     → (m : ℕ) × Meets (post n v (tok Dot i ∷ tok Name j ∷ l)) (post m (tree.Select v (ident j)) l)

@@ -1,4 +1,4 @@
--- What is owed of reading literals, with their elements.
+-- Reading literals and their elements is correct, where reading expressions in brackets is.
 use Rattle.std.proofs.Common.{◌≡◌, ℕ, suc, ◌+◌, ◌<◌, ◌≤◌, true, false, cond, List, [], ◌∷◌, ◌++◌, length, refl, sym, ◌∙◌, ap, arith}
 use Rattle.rgo_ast.specs.declared.names.Ident.{Ident}
 use Rattle.rgo_ast.specs.Tree.{elements_of}
@@ -6,7 +6,7 @@ use Rattle.rgo_ast.specs.Tree as tree
 use Rattle.rgo_lexer.specs.{declared.terminals.Terminal.{Terminal, TheVariants.{Name, Ampersand, OpenBrace, CloseBrace, Comma, Colon}}, Lexemes.{Leaf, Lexeme, tok, ident, same}}
 use Rattle.rgo_grammar.specs.Grammar.{Listed, IsExpr, IsUnary, IsElements, Listed.{none as none_item, last as last_item, more as next_item}, IsUnary.{literal, keyed as with_keys}, IsElements.{no_element, last_element, more_elements}}
 use Rattle.rgo_grammar.specs.reading.{Read.{Reader, ◌>>=◌, given, ended, listed, single, several}, Expressions.{element, elements_from, is_keyed, keyed, unkeyed, elements, literal as read_literal}}
-use Rattle.rgo_grammar.proofs.machine.{Table.{Sym, T, Unary, Bin, Elems, ElemsMore, KeyedMore, step, ElemsEnd, ElemsNamed, Post, behind, bin_row, find, joined, next, post_row, row}, Runs.{run, closes}, Starts.{after_name, alike, name_ends}}
+use Rattle.rgo_grammar.proofs.machine.{Table.{Sym, T, Unary, Bin, Elems, ElemsMore, KeyedMore, step, ElemsEnd, ElemsNamed, Post, then_all, bin_row, find, joined, next, post_row, row}, Runs.{run, closes}, Starts.{after_name, alike, name_ends}}
 use Rattle.rgo_grammar.proofs.reading.{Correct.{Correct, same_start, correct_given, correct_weaker, correct_token_then, Empties}, Complete.{bind_assoc}, Lists.{list_syms, token_list}}
 use Rattle.rgo_grammar.proofs.expressions.{Starts.{Reads}, Operands.{exprs_correct}}
 
@@ -19,8 +19,8 @@ after_elems_name (t ∷ l) s i e =
     after_name false ElemsNamed ElemsEnd t l s refl (by_terminal t.terminal t.leaf e) where
       by_terminal : (k : Terminal) (j : Leaf) → is_keyed (tok Name i ∷ tok k j ∷ l) ≡ false
           → next ElemsNamed k ≡ find k
-          (joined (behind post_row (Bin false ∷ ElemsEnd ∷ []))
-          (joined (behind (bin_row false) (ElemsEnd ∷ [])) (row ElemsEnd)))
+          (joined (then_all post_row (Bin false ∷ ElemsEnd ∷ []))
+          (joined (then_all (bin_row false) (ElemsEnd ∷ [])) (row ElemsEnd)))
       by_terminal Colon j e = cc
       by_terminal _ j e = refl
 
@@ -99,7 +99,7 @@ key_run : (i c : Leaf) (m : List Lexeme) (s : List Sym)
 unfolding run step
 key_run i c m s = refl
 
--- what is read behind `& name {` with keys is a list of them
+-- what is read after `& name {` with keys is a list of elements
 pub keyed_list : (n : ℕ) (inner : Reader tree.Expr) (i j : Leaf) (t : Lexeme) (l : List Lexeme)
     → same CloseBrace t.terminal ≡ false
     → keyed n inner i j (t ∷ l)
@@ -126,7 +126,7 @@ module _ (bound : ℕ) (inner : Reader tree.Expr)
       (λ c u d'. correct_given _ (inner_c u (omega (arith, ap length d, ap length d')))
       (λ z v w h. (i, c, z, refl, refl, h))))
 
-  -- behind `& name {`
+  -- after `& name {`
   abbrev IsRest : Leaf → Leaf → Leaf → List Lexeme → tree.Expr → List Lexeme → Type 0
   IsRest i j k z v w = IsUnary false (tok Ampersand i ∷ tok Name j ∷ tok OpenBrace k ∷ z) v
 

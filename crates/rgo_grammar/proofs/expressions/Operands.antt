@@ -62,7 +62,7 @@ module _ (bound : ℕ) (inner : Reader tree.Expr)
 
   -- ---- `make`
 
-  -- behind `make ( chan Type ,`
+  -- after `make ( chan Type ,`
   abbrev IsSized : Leaf → Leaf → Leaf → Leaf → List Lexeme → List Lexeme → tree.Expr → List Lexeme
       → Type 0
   IsSized i j k c x z v w =
@@ -81,7 +81,7 @@ module _ (bound : ℕ) (inner : Reader tree.Expr)
       (λ s. starts_as MakeMore (Unary false) (Bin false ∷ MakeEnd ∷ []) (tok q d) l s refl refl
       refl)
 
-  -- behind `make ( chan Type`
+  -- after `make ( chan Type`
   abbrev IsChan : Leaf → Leaf → Leaf → List Lexeme → List Lexeme → tree.Expr → List Lexeme → Type 0
   IsChan i j k x z v w = IsPrimary (tok Make i ∷ tok OpenParen j ∷ tok Chan k ∷ (x ++ z)) v
 
@@ -98,7 +98,7 @@ module _ (bound : ℕ) (inner : Reader tree.Expr)
       (λ s. refl)
   sized_by_correct i j k x t q d l h b = stops (λ s. refl)
 
-  -- behind `make ( [ ] Type`
+  -- after `make ( [ ] Type`
   abbrev IsSlice : Leaf → Leaf → Leaf → Leaf → List Lexeme → List Lexeme → tree.Expr → List Lexeme
       → Type 0
   IsSlice i j k m x z v w =
@@ -113,7 +113,7 @@ module _ (bound : ℕ) (inner : Reader tree.Expr)
       (λ c w d. correct_then (inner_c w (omega (arith, ap length d)))
       (λ y v u _ hy. correct_given _ (make_end_correct u) (λ z _ _ hz. is_slice i j k m c h hy hz)))
 
-  -- behind `make (`
+  -- after `make (`
   abbrev IsMade : Leaf → Leaf → List Lexeme → tree.Expr → List Lexeme → Type 0
   IsMade i j z v w = IsPrimary (tok Make i ∷ tok OpenParen j ∷ z) v
 

@@ -67,13 +67,14 @@ brace_closer = record { closes = brace_closes; other = refl; loose = omega arith
 module _ {A : Type 0} (closer : Terminal) (other : same closer Comma ≡ false) (item : Reader A)
   where
     pub items_none : (n : ℕ) (found : List A) (j : Leaf) (l : List Lexeme)
-        → (j' : Leaf) × Meets (listed Comma closer (λ m. single (item m)) n found (tok closer j ∷ l))
+        → (j' : Leaf) × Meets
+        (listed Comma closer (λ m. single (item m)) n found (tok closer j ∷ l))
         (Done (found ++ [], j') l)
     items_none n found j l =
         (j, rw append-nil (listed_none Comma closer other (λ m. single (item m)) n found j l))
 
-    pub items_last : (n : ℕ) (found : List A) (a : A) (j : Leaf) (x l : List Lexeme) → Opens closer x
-        → Meets (item (x ++ tok closer j ∷ l)) (Done a (tok closer j ∷ l))
+    pub items_last : (n : ℕ) (found : List A) (a : A) (j : Leaf) (x l : List Lexeme)
+        → Opens closer x → Meets (item (x ++ tok closer j ∷ l)) (Done a (tok closer j ∷ l))
         → (j' : Leaf) × Meets
         (listed Comma closer (λ m. single (item m)) n found (x ++ tok closer j ∷ l))
         (Done (found ++ a ∷ [], j') l)
@@ -93,8 +94,8 @@ module _ {A : Type 0} (closer : Terminal) (other : same closer Comma ≡ false) 
         (listed Comma closer (λ m. single (item m)) n found (x ++ tok Comma i ∷ (y ++ l)))
         (Done (found ++ a ∷ all, j) l)
     items_more n found all a i x y l o h again =
-        let one = listed_more Comma closer other (λ m. single (item m)) n found (a ∷ []) i x (y ++ l)
-        (begins_append _ x (tok Comma i ∷ (y ++ l)) o) (meets_bind _ h) in
+        let one = listed_more Comma closer other (λ m. single (item m)) n found (a ∷ []) i x
+        (y ++ l) (begins_append _ x (tok Comma i ∷ (y ++ l)) o) (meets_bind _ h) in
         let rest = again one.0 (found ++ a ∷ []) in
         let rest' = rw append_assoc at rest.1 in (
           rest.0,

@@ -1,4 +1,4 @@
--- What stands second in an expression that begins with a name: `.`, `[`, `(` or an operator.
+-- The second token of an expression that begins with a name: `.`, `[`, `(` or an operator.
 use Rattle.std.proofs.Common.{◌≡◌, ℕ, Bool, false, List, [], ◌∷◌, ◌++◌, Some, refl, append_assoc, ◌+◌}
 use Rattle.rgo_ast.specs.declared.ops.{BinaryOp.{BinaryOp}, UnaryOp.{UnaryOp}}
 use Rattle.rgo_ast.specs.Tree as tree
@@ -8,7 +8,7 @@ use Rattle.rgo_grammar.specs.reading.Expressions.{is_keyed}
 use Rattle.rgo_grammar.proofs.reading.Next.{NotNext, next_append}
 use Rattle.rgo_grammar.proofs.expressions.Starts.{Starts, expr_starts, primary_starts}
 
--- a test on terminals that none passes which may stand there
+-- a test that none of these passes
 pub record Apart (test : Terminal → Bool) : Type 0 where
   pub dot : test Dot ≡ false
   pub bracket : test OpenBracket ≡ false
@@ -19,7 +19,7 @@ abbrev pub name_then : (Terminal → Bool) → Terminal → List Lexeme → Type
 name_then test Name l = NotNext test l
 name_then test _ l = Unit {0}
 
--- where a name comes first, the token behind it does not pass the test
+-- where a name comes first, the token after it does not pass the test
 abbrev pub SecondNot : (Terminal → Bool) → List Lexeme → Type 0
 SecondNot test [] = Unit {0}
 SecondNot test (t ∷ l) = name_then test t.terminal l

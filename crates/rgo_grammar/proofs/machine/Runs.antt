@@ -1,9 +1,9 @@
--- The machine: a stack that was reached can be emptied by some text, and a token that it does not
--- take begins nothing.
+-- The machine over lists of tokens: each stack that it reaches can be emptied by some text, and
+-- where it stops, it stops whatever follows.
 use Rattle.std.proofs.Common.{◌≡◌, Bool, true, false, ◌&&◌, cond, not, List, [], ◌∷◌, ◌++◌, Option, Some, None, refl, ◌∙◌, ap, append_assoc, inl, inr, ◌⊎◌, nat_eq, ◌+◌, ◌-◌}
 use Rattle.std.proofs.lemmas.Bool.{eqb-true}
 use Rattle.rgo_lexer.specs.{declared.terminals.Terminal.{Terminal}, Lexemes.{Leaf, Lexeme, tok, class, subclass, same}}
-use Rattle.rgo_grammar.proofs.machine.Table.{Sym, Row, row, nullable, word, opens, closer, find, next, entered, step, closes_first, leads, fine, all_entries, go_on, after, all_nullable, entries_fine, skips, settled, both, join}
+use Rattle.rgo_grammar.proofs.machine.Table.{Sym, Row, row, nullable, word, opens, closer, find, next, entered, step, closes_first, leads, fine, all_entries, and_then, after, all_nullable, entries_fine, skips, settled, both, join}
 
 unfoldable pub closes : List Sym → Bool
 closes [] = true
@@ -17,8 +17,8 @@ abbrev pub advance : (List Sym → Run) → Run → Option (List Sym) → Run
 advance go stop (Some s) = go s
 advance go stop None = stop
 
--- a list of tokens from a stack on: taken whole, or up to the first token that the machine does not
--- take
+-- a list of tokens from a stack: all are taken, or those before the first one that the machine does
+-- not take
 unfoldable pub run : List Lexeme → List Sym → Run
 run [] s = cond (closes s) Accepted (Stopped [])
 run (t ∷ l) s = advance (run l) (Stopped (t ∷ l)) (step s t.terminal)
@@ -108,7 +108,7 @@ step_fine (x ∷ s) k r f e =
     let fs = both f in
     step_fine_by x s k r (next x k) refl f (λ d. step_fine s k r fs.1 d) e
 
--- nothing is left, or what is left begins with a token that ends what stands before it
+-- nothing is left, or what is left begins with a closer
 abbrev pub Closed : List Lexeme → Type 0
 Closed [] = Unit {0}
 Closed (t ∷ l) = closer t.terminal ≡ true
@@ -125,7 +125,7 @@ next_none_by x k (Some a) h c e =
 next_none : (x : Sym) (k : Terminal) → nullable x ≡ true → closer k ≡ true → next x k ≡ None
 next_none x k h c = next_none_by x k (next x k) h c refl
 
--- what may be left out is left out before a token that ends what stands before it
+-- what may be left out is left out before a closer
 pop : (x : Sym) (s : List Sym) (l : List Lexeme) → nullable x ≡ true → Closed l
     → run l (x ∷ s) ≡ run l s
 unfolding run closes step
@@ -159,7 +159,7 @@ step_append (x ∷ a) s b k e = step_append_by a s b x k (next x k) (step_append
 after_run_by : (k : Terminal) (ks : List Terminal) (a s b : List Sym) (l : List Lexeme)
     (o : Option (List Sym)) → step a k ≡ o
     → ((c : List Sym) → after ks c ≡ Some b → run (toks ks ++ l) (c ++ s) ≡ run l (b ++ s))
-    → go_on o (after ks) ≡ Some b → run (toks (k ∷ ks) ++ l) (a ++ s) ≡ run l (b ++ s)
+    → and_then o (after ks) ≡ Some b → run (toks (k ∷ ks) ++ l) (a ++ s) ≡ run l (b ++ s)
 unfolding run toks
 after_run_by k ks a s b l (Some c) st ih e = rw (step_append a s c k st) (ih c e)
 after_run_by k ks a s b l None st ih e = cc
@@ -214,7 +214,7 @@ finish_by x s false n o h =
     after_run (word x) (x ∷ []) s w.stack (finish s) w.reached ∙ settle_by w.stack s (opens x) o
     w.may_end w.is_open ∙ h
 
--- a stack of this kind can be emptied
+-- such a stack can be emptied
 pub finish_run : (s : List Sym) → fine s true ≡ true → run (finish s) s ≡ Accepted
 unfolding fine finish
 finish_run [] f = ended
@@ -230,7 +230,6 @@ pub record Reached (l : List Lexeme) (s : List Sym) (r : List Lexeme) : Type 0 w
   pub leads_here : (w : List Lexeme) → run (before ++ w) s ≡ run w stack
   pub is_fine : fine stack true ≡ true
   pub stuck : (t : Lexeme) (r' w : List Lexeme) → r ≡ t ∷ r' → run (t ∷ w) stack ≡ Stopped (t ∷ w)
-  pub is_open : r ≡ [] → run [] stack ≡ Stopped []
 
 at_end : (s : List Sym) (r : List Lexeme) (v : Bool) → closes s ≡ v → fine s true ≡ true
     → cond v Accepted (Stopped []) ≡ Stopped r → Reached [] s r
@@ -245,7 +244,6 @@ at_end s r false c f e =
       leads_here = λ w. refl;
       is_fine = f;
       stuck = λ t r' w g. cc;
-      is_open = λ g. rw c refl;
     }
 
 stopped_by : (t : Lexeme) (l : List Lexeme) (s : List Sym) (r : List Lexeme) (n : Option (List Sym))
@@ -262,7 +260,6 @@ stopped_by t l s r (Some q) st f ih e =
       leads_here = λ w. rw st (at.leads_here w);
       is_fine = at.is_fine;
       stuck = at.stuck;
-      is_open = at.is_open;
     }
 stopped_by t l s r None st f ih e =
     let f' : t ∷ l ≡ r = cc in
@@ -273,7 +270,6 @@ stopped_by t l s r None st f ih e =
       leads_here = λ w. refl;
       is_fine = f;
       stuck = λ t' r' w g. let h : t' ≡ t = cc in rw (h, st) refl;
-      is_open = λ g. cc;
     }
 
 pub stopped : (l : List Lexeme) (s : List Sym) (r : List Lexeme) → fine s true ≡ true

@@ -1,5 +1,6 @@
--- The grammar as a table of a machine that reads a token at a time, with a stack of what is still
--- to come.
+-- The grammar as the table of a machine that takes one token at a time, with a stack of what is
+-- still to come: for each symbol of the stack a row, which tells for each token what takes the
+-- place of the symbol.
 use Rattle.std.proofs.Common.{◌≡◌, Bool, true, false, cond, not, List, [], ◌∷◌, ◌++◌, Option, Some, None, refl, inl, inr, ◌⊎◌, ◌==◌, ◌||◌, ◌&&◌, nat_le, ◌+◌, ◌-◌}
 use Rattle.std.proofs.lemmas.Bool.{eq-eqb}
 use Rattle.rgo_ast.specs.declared.ops.BinaryOp.TheVariants as op
@@ -7,9 +8,10 @@ use Rattle.rgo_ast.specs.declared.ops.AssignOp.TheVariants as assign_op
 use Rattle.rgo_ast.specs.declared.ops.StepOp.TheVariants as step_op
 use Rattle.rgo_lexer.specs.{declared.terminals.Terminal.{Terminal, TheVariants.{Name, Main, New, Make, Number, Text, Binary, Bang, Ampersand, Arrow, Define, Assign, Step, OpenParen, CloseParen, OpenBracket, CloseBracket, OpenBrace, CloseBrace, Comma, Semicolon, Colon, Dot, Package, Import, TypeWord, Struct, Var, Func, Chan, Go, If, Else, For, Return, Break, Continue}}, Lexemes.{class, subclass, same}}
 
--- where a simple statement stands
+-- where a simple statement is: alone, in the header of an `if` or `for`, or after the second `;` of
+-- a `for`
 pub data Context : Type 0 where
-  alone before_if before_for behind_for : Context
+  alone before_if before_for for_post : Context
 
 pub data Sym : Type 0 where
   T : Terminal → Sym
@@ -17,16 +19,17 @@ pub data Sym : Type 0 where
   Tail Named : Context → Sym
   Program Imports Decls Paths PathList PathSep Specs SpecList SpecSep Vars VarList VarSep : Sym
   Fields FieldSep NamesType AType Params ParamSep Result Block Stmts StmtEnd Locals LocalList : Sym
-  LocalSep LocalRest Initial Value IfHead IfElse ElseBody ForHead Condition ForStep Post MakeType : Sym
-  MakeSize MakeMore MakeEnd Args ArgsEnd Elems ElemsNamed ElemsEnd ElemsMore KeyedEnd KeyedMore : Sym
+  LocalSep LocalRest Initial Value IfHead IfElse ElseBody ForHead Condition ForStep Post : Sym
+  MakeType MakeSize MakeMore MakeEnd Args ArgsEnd Elems ElemsNamed ElemsEnd ElemsMore : Sym
+  KeyedEnd KeyedMore : Sym
 
 abbrev pub Row : Type 0
 Row = List (Terminal × List Sym)
 
--- what is to come behind each token
-abbrev pub behind : Row → List Sym → Row
-behind [] after = []
-behind ((k, a) ∷ r) after = (k, a ++ after) ∷ behind r after
+-- each entry followed by more
+abbrev pub then_all : Row → List Sym → Row
+then_all [] after = []
+then_all ((k, a) ∷ r) after = (k, a ++ after) ∷ then_all r after
 
 abbrev pub joined : Row → Row → Row
 joined [] s = s
@@ -36,22 +39,22 @@ abbrev pub header : Context → Bool
 header alone = false
 header before_if = true
 header before_for = true
-header behind_for = true
+header for_post = true
 
--- what is to come behind a simple statement that is no expression
+-- what follows a simple statement that is no expression
 abbrev pub rest : Context → List Sym
 rest alone = []
 rest before_if = T Semicolon ∷ Unary true ∷ Bin true ∷ Block ∷ IfElse ∷ []
 rest before_for = T Semicolon ∷ Condition ∷ []
-rest behind_for = Block ∷ []
+rest for_post = Block ∷ []
 
--- what may stand behind one that is an expression
+-- what may follow one that is an expression
 abbrev pub plain_row : Context → Row
 plain_row alone = []
 plain_row before_if =
     (OpenBrace, Stmts ∷ IfElse ∷ []) ∷ (Semicolon, Unary true ∷ Bin true ∷ Block ∷ IfElse ∷ []) ∷ []
 plain_row before_for = (OpenBrace, Stmts ∷ []) ∷ (Semicolon, Condition ∷ []) ∷ []
-plain_row behind_for = (OpenBrace, Stmts ∷ []) ∷ []
+plain_row for_post = (OpenBrace, Stmts ∷ []) ∷ []
 
 abbrev pub tail_row : Context → Row
 tail_row c =
@@ -83,9 +86,9 @@ unnamed_row h =
     ∷ (New, T OpenParen ∷ T Name ∷ T CloseParen ∷ Post ∷ [])
     ∷ (Make, T OpenParen ∷ MakeType ∷ Post ∷ []) ∷ literal_row h
 
--- an expression and what is to come behind it, with what is to come behind a name that begins it
+-- an expression and what follows it, with what follows a name that begins it
 abbrev pub starts_row : Bool → List Sym → List Sym → Row
-starts_row h after named = (Name, named) ∷ behind (unnamed_row h) after
+starts_row h after named = (Name, named) ∷ then_all (unnamed_row h) after
 
 abbrev pub expr_row : Bool → List Sym → Row
 expr_row h after = starts_row h after (Post ∷ after)
@@ -93,8 +96,8 @@ expr_row h after = starts_row h after (Post ∷ after)
 abbrev pub named_row : Context → Row
 named_row c =
     (Define, Unary (header c) ∷ Bin (header c) ∷ rest c) ∷ joined
-    (behind post_row (Bin (header c) ∷ Tail c ∷ []))
-    (joined (behind (bin_row (header c)) (Tail c ∷ [])) (tail_row c))
+    (then_all post_row (Bin (header c) ∷ Tail c ∷ []))
+    (joined (then_all (bin_row (header c)) (Tail c ∷ [])) (tail_row c))
 
 abbrev pub type_row : Row
 type_row =
@@ -137,7 +140,7 @@ row NamesType = (Comma, T Name ∷ NamesType ∷ []) ∷ type_row
 row AType = type_row
 row Params = (CloseParen, []) ∷ (Name, NamesType ∷ ParamSep ∷ []) ∷ []
 row ParamSep = (CloseParen, []) ∷ (Comma, Params ∷ []) ∷ []
-row Result = (OpenBrace, Stmts ∷ []) ∷ behind type_row (Block ∷ [])
+row Result = (OpenBrace, Stmts ∷ []) ∷ then_all type_row (Block ∷ [])
 row Block = (OpenBrace, Stmts ∷ []) ∷ []
 row Stmts = (CloseBrace, []) ∷ (Semicolon, Stmts ∷ []) ∷ stmt_row
 row StmtEnd = (CloseBrace, []) ∷ (Semicolon, Stmts ∷ []) ∷ []
@@ -146,7 +149,7 @@ row LocalList = (CloseParen, []) ∷ (Name, LocalRest ∷ LocalSep ∷ []) ∷ [
 row LocalSep = (CloseParen, []) ∷ (Semicolon, LocalList ∷ []) ∷ []
 row LocalRest =
     (Comma, T Name ∷ NamesType ∷ []) ∷ (Assign assign_op.Plain, Unary false ∷ Bin false ∷ [])
-    ∷ behind type_row (Initial ∷ [])
+    ∷ then_all type_row (Initial ∷ [])
 row Initial = (Assign assign_op.Plain, Unary false ∷ Bin false ∷ []) ∷ []
 row Value = expr_row false (Bin false ∷ [])
 row IfHead =
@@ -158,7 +161,7 @@ row ForHead =
     (OpenBrace, Stmts ∷ []) ∷ (Semicolon, Condition ∷ []) ∷ starts_row true
     (Bin true ∷ Tail before_for ∷ []) (Named before_for ∷ [])
 row Condition = (Semicolon, ForStep ∷ []) ∷ expr_row true (Bin true ∷ T Semicolon ∷ ForStep ∷ [])
-row ForStep = (OpenBrace, Stmts ∷ []) ∷ expr_row true (Bin true ∷ Tail behind_for ∷ [])
+row ForStep = (OpenBrace, Stmts ∷ []) ∷ expr_row true (Bin true ∷ Tail for_post ∷ [])
 row Post = post_row
 row MakeType =
     (OpenBracket, T CloseBracket ∷ AType ∷ T Comma ∷ Unary false ∷ Bin false ∷ MakeEnd ∷ [])
@@ -171,8 +174,8 @@ row ArgsEnd = (CloseParen, []) ∷ (Comma, Args ∷ []) ∷ []
 row Elems = (CloseBrace, []) ∷ starts_row false (Bin false ∷ ElemsEnd ∷ []) (ElemsNamed ∷ [])
 row ElemsNamed =
     (Colon, Unary false ∷ Bin false ∷ KeyedEnd ∷ []) ∷ joined
-    (behind post_row (Bin false ∷ ElemsEnd ∷ []))
-    (joined (behind (bin_row false) (ElemsEnd ∷ []))
+    (then_all post_row (Bin false ∷ ElemsEnd ∷ []))
+    (joined (then_all (bin_row false) (ElemsEnd ∷ []))
     ((CloseBrace, []) ∷ (Comma, ElemsMore ∷ []) ∷ []))
 row ElemsEnd = (CloseBrace, []) ∷ (Comma, ElemsMore ∷ []) ∷ []
 row ElemsMore = (CloseBrace, []) ∷ expr_row false (Bin false ∷ ElemsEnd ∷ [])
@@ -224,7 +227,7 @@ word MakeType = Chan ∷ Name ∷ CloseParen ∷ []
 word ElemsNamed = CloseBrace ∷ []
 word x = one_token (row x)
 
--- what may go on at its end
+-- what may continue at its end
 abbrev pub opens : Sym → Bool
 opens (Unary h) = true
 opens (Bin h) = true
@@ -245,7 +248,7 @@ opens Locals = true
 opens LocalRest = true
 opens _ = false
 
--- tokens that end what stands before them: `)`, `]`, `{`, `}`, `,`, `;` and `:`
+-- closers, the tokens that end what comes before them: `)`, `]`, `{`, `}`, `,`, `;` and `:`
 abbrev pub closer : Terminal → Bool
 closer k = class k == 14 || (nat_le 16 (class k) && nat_le (class k) 21)
 
@@ -260,7 +263,7 @@ abbrev pub entered : Option (List Sym) → List Sym → Option (List Sym) → Op
 entered (Some a) s other = Some (a ++ s)
 entered None s other = other
 
--- the stack behind a token
+-- the stack after a token
 unfoldable pub step : List Sym → Terminal → Option (List Sym)
 step [] k = None
 step (x ∷ s) k = entered (next x k) s (cond (nullable x) (step s k) None)
@@ -273,7 +276,7 @@ unfoldable pub leads : List Sym → Bool → Bool
 leads [] o = o
 leads (x ∷ s) o = cond (nullable x) (leads s o) (closes_first (word x))
 
--- behind each symbol that may go on stands one whose shortest text begins with a closer
+-- each symbol that may continue at its end is followed by one whose short text begins with a closer
 unfoldable pub fine : List Sym → Bool → Bool
 fine [] o = true
 fine (x ∷ s) o = cond (cond (opens x) (leads s o) true) (fine s o) false
@@ -282,13 +285,13 @@ abbrev pub all_entries : (Terminal → List Sym → Bool) → Row → Bool
 all_entries p [] = true
 all_entries p ((k, a) ∷ r) = cond (p k a) (all_entries p r) false
 
-abbrev pub go_on : Option (List Sym) → (List Sym → Option (List Sym)) → Option (List Sym)
-go_on (Some r) f = f r
-go_on None f = None
+abbrev pub and_then : Option (List Sym) → (List Sym → Option (List Sym)) → Option (List Sym)
+and_then (Some r) f = f r
+and_then None f = None
 
 unfoldable pub after : List Terminal → List Sym → Option (List Sym)
 after [] s = Some s
-after (k ∷ ks) s = go_on (step s k) (after ks)
+after (k ∷ ks) s = and_then (step s k) (after ks)
 
 unfoldable pub all_nullable : List Sym → Bool
 all_nullable [] = true
@@ -306,7 +309,7 @@ skipped x =
     cond (all_entries (λ k a. not (closer k)) (row x)) (cond (empty (word x)) (opens x) false) false
 
 -- another: after its short text only what may be left out remains on the stack, and nothing unless
--- it may go on
+-- it may continue
 abbrev settles : Sym → Option (List Sym) → Bool
 settles x None = false
 settles x (Some s) = cond (all_nullable s) (cond (empty s) true (opens x)) false
@@ -330,11 +333,11 @@ checked (Bin false) = refl
 checked (Tail alone) = refl
 checked (Tail before_if) = refl
 checked (Tail before_for) = refl
-checked (Tail behind_for) = refl
+checked (Tail for_post) = refl
 checked (Named alone) = refl
 checked (Named before_if) = refl
 checked (Named before_for) = refl
-checked (Named behind_for) = refl
+checked (Named for_post) = refl
 checked _ = refl
 
 pub both : {a b : Bool} → cond a b false ≡ true → (a ≡ true) × (b ≡ true)

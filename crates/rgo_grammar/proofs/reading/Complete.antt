@@ -1,4 +1,5 @@
--- That what is in the grammar is read as its tree: how such facts are put together.
+-- What is proved of the grammar: what it derives is read as its tree. And how such facts are put
+-- together.
 use Rattle.std.proofs.Common.{◌≡◌, ℕ, zero, suc, ◌⊎◌, inl, inr, false, List, [], ◌∷◌, ◌++◌, refl, ◌∙◌, ap, append_assoc, append-nil, ◌+◌, ◌-◌, Bool, true, not}
 use Rattle.rgo_lexer.specs.{declared.terminals.Terminal.{Terminal}, Lexemes.{Leaf, Lexeme, tok, same}}
 use Rattle.rgo_grammar.specs.Grammar.{Listed, Listed.{none, last, more}}
@@ -20,7 +21,7 @@ pub meets_bind : {A B : Type 0} {x y : Read A} (f : A → Reader B) → Meets x 
 meets_bind f (inl e) = inl (ap (λ u. u >>= f) e)
 meets_bind f (inr e) = inr (ap (λ u. u >>= f) e)
 
--- what is read first, and then what is read behind it
+-- what is read first, and then what is read after it
 pub meets_then : {A B : Type 0} {x : Read A} {a : A} {w : List Lexeme} (f : A → Reader B)
     {z : Read B} → Meets x (Done a w) → Meets (f a w) z → Meets (x >>= f) z
 meets_then f h g = meets_trans (meets_bind f h) g
@@ -76,7 +77,7 @@ module _ {A : Type 0} (separator closer : Terminal) (other : same closer separat
         (meets_then _ h (inr (rw (other, same_self) refl))),
   )
 
--- a list in the grammar is read as its items, where each item is that stands before a separator or
+-- a list in the grammar is read as its items, if each item is that is followed by a separator or by
 -- what closes the list
 module _ {A : Type 0} (separator closer : Terminal) (other : same closer separator ≡ false)
     (Item : List Lexeme → A → Type 0)

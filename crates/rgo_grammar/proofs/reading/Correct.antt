@@ -1,6 +1,5 @@
--- What is owed of a reading function: what it reads is in the grammar, the machine goes the way
--- that it goes, to the same rest or to the same token that it does not take, and its turns are
--- enough. With the ways to put such facts together.
+-- What is proved of each reading function: what it reads is in the grammar; the machine takes the
+-- same tokens, or stops at the same one; its turns are enough. And how such facts are put together.
 use Rattle.std.proofs.Common.{◌≡◌, ℕ, ◌+◌, ◌==◌, ◌||◌, ◌&&◌, nat_le, Bool, true, false, cond, get_or, List, [], ◌∷◌, ◌++◌, length, refl, sym, ◌∙◌, ap, append_assoc, arith, length-append, ◌-◌}
 use Rattle.rgo_lexer.specs.{declared.terminals.Terminal.{Terminal, TheVariants.{Name, Main, New, Make, Number, Text, Binary, Bang, Ampersand, Arrow, Define, Assign, Step, OpenParen, CloseParen, OpenBracket, CloseBracket, OpenBrace, CloseBrace, Comma, Semicolon, Colon, Dot, Package, Import, TypeWord, Struct, Var, Func, Chan, Go, If, Else, For, Return, Break, Continue, Other}}, Lexemes.{Leaf, Lexeme, tok, class, same, plain}}
 use Rattle.rgo_grammar.specs.reading.Read.{Reader, Read, Done, Failed, At, ◌>>=◌, given, token}
@@ -22,7 +21,7 @@ abbrev pub Empties : {A : Type 0} → List Sym → (List Lexeme → A → Type 0
     → Type 0
 Empties from P l r = Correct from (λ _. []) (λ z a w. P z a) l r
 
--- behind tokens z that lead from a stack to another
+-- after tokens z that lead from one stack to another
 pub correct_after : {A : Type 0} {from via : List Sym} {to : A → List Sym}
     {Q : List Lexeme → A → List Lexeme → Type 0} (z : List Lexeme) {l w : List Lexeme} {r : Read A}
     → l ≡ z ++ w → Correct via to (λ x a u. Q (z ++ x) a u) w r

@@ -41,7 +41,7 @@ module _ {A : Type 0} {separator closer : Terminal} {items : Row} {L E : Sym}
     (r_more : (z : List Lexeme) (a : List A) (i : Leaf) (y : List Lexeme) (b : List A) (j : Leaf)
     → I z a → R y b j
     → R (z ++ tok separator i ∷ y) (a ++ b) j) where
-  -- what was found behind `found`, up to what closes the list
+  -- what was found after `found`, up to what closes the list
   abbrev pub AreListed : List A → List Lexeme → List A × Leaf → List Lexeme → Type 0
   AreListed found z x w = (new : List A) × (x.0 ≡ found ++ new) × R z new x.1
 
@@ -66,7 +66,7 @@ module _ {A : Type 0} {separator closer : Terminal} {items : Row} {L E : Sym}
   ended_by again found new l z k i w false false ce se e h ih =
       stops (λ v. refuses E (tok k i) w v (rw (syms.end_row, ce, se) refl) syms.end_stays)
 
-  -- behind an item
+  -- after an item
   pub ended_correct : (again : List A → Reader (List A × Leaf)) (found new : List A)
       (l z w : List Lexeme) → l ≡ z ++ w → I z new
       → ((f : List A) (m : List Lexeme) → length m < length w

@@ -5,9 +5,9 @@ use Rattle.rgo_ast.specs.Tree as tree
 use Rattle.rgo_lexer.specs.{declared.terminals.Terminal.{Terminal, TheVariants.{OpenBrace, Semicolon, If, For, Else}}, Lexemes.{Leaf, Lexeme, tok}}
 use Rattle.rgo_grammar.specs.Grammar.{IsSimple, IsClause, IsCondition, IsStmts, IsIf, IsFor, IsExpr, IsElse, IsClause.{empty, some as a_clause}, IsCondition.{none as unconditional, some as on_condition}, IsFor.{while, three}, IsIf.{plain, with}, IsElse.{none as no_else, an_if, a_block}}
 use Rattle.rgo_grammar.specs.reading.{Read.{Reader, first_of, ◌>>=◌}, Statements.{valued, Head, condition, init, condition_by, step_by, looped, for_rest, for_by, for_on, head, else_body_by, else_by, else_on, branches, if_rest, condition_on, step_on, else_body_on}}
-use Rattle.rgo_grammar.proofs.machine.{Table.{behind_for, T, Unary, Bin, Tail, Block, IfHead, ForHead, Condition, ForStep, step, IfElse, ElseBody}, Runs.{run, closes}, Starts.{starts_as, alike}}
+use Rattle.rgo_grammar.proofs.machine.{Table.{for_post, T, Unary, Bin, Tail, Block, IfHead, ForHead, Condition, ForStep, step, IfElse, ElseBody}, Runs.{run, closes}, Starts.{starts_as, alike}}
 use Rattle.rgo_grammar.proofs.reading.Correct.{Correct, same_start, correct_bind, correct_given, correct_under, correct_then, correct_token_given, shorter, token_read, correct_weaker, at_token, Empties, Correct.{done}}
-use Rattle.rgo_grammar.proofs.statements.{Simple.{Values, valued_correct, correct_left, left_behind}, Headers.{IsHead, after_head, for_head_correct, if_head_correct}}
+use Rattle.rgo_grammar.proofs.statements.{Simple.{Values, valued_correct, correct_left, left_before_block}, Headers.{IsHead, after_head, for_head_correct, if_head_correct}}
 
 abbrev pub IsBlock : List Lexeme → List tree.Stmt × Leaf → List Lexeme → Type 0
 IsBlock z x w = (i : Leaf) × (y : List Lexeme) × (z ≡ tok OpenBrace i ∷ y) × IsStmts y x.0 x.1
@@ -17,7 +17,7 @@ abbrev pub Blocks : ℕ → Reader (List tree.Stmt × Leaf) → Type 0
 Blocks m block =
     (l : List Lexeme) → length l ≤ m → Correct (Block ∷ []) (λ _. []) IsBlock l (block l)
 
--- and one of what stands behind `if`, on lists that are shorter
+-- and a reader of what follows `if`, on shorter lists
 abbrev pub Ifs : ℕ → (Leaf → Reader tree.Stmt) → Type 0
 Ifs m again =
     (i : Leaf) (l : List Lexeme) → length l + 1 ≤ m
@@ -44,11 +44,11 @@ module _ (m : ℕ) (value : Reader tree.Expr) (value_c : Values true m value) wh
       refl refl refl)
 
   step_valued : (l : List Lexeme) → length l ≤ m
-      → Correct (Unary true ∷ Bin true ∷ Tail behind_for ∷ []) (λ _. Block ∷ [])
+      → Correct (Unary true ∷ Bin true ∷ Tail for_post ∷ []) (λ _. Block ∷ [])
       (λ z s w. IsSimple true false z s) l (valued value l)
   step_valued l b =
-      correct_left (valued_correct behind_for m value value_c false l b)
-      (λ z st w g. (g.0, λ s. left_behind st w s g.1))
+      correct_left (valued_correct for_post m value value_c false l b)
+      (λ z st w g. (g.0, λ s. left_before_block st w s g.1))
 
   step_by_correct : (k : Terminal) (i : Leaf) (l : List Lexeme) → length l + 1 ≤ m
       → Correct (ForStep ∷ []) (λ _. Block ∷ []) (λ z p w. IsClause false z p) (tok k i ∷ l)
@@ -58,7 +58,7 @@ module _ (m : ℕ) (value : Reader tree.Expr) (value_c : Values true m value) wh
   step_by_correct k i l b =
       same_start (correct_given _ (step_valued (tok k i ∷ l) (omega (arith, b)))
       (λ z s w h. a_clause h))
-      (λ s. starts_as ForStep (Unary true) (Bin true ∷ Tail behind_for ∷ []) (tok k i) l s refl refl
+      (λ s. starts_as ForStep (Unary true) (Bin true ∷ Tail for_post ∷ []) (tok k i) l s refl refl
       refl)
 
 -- ---- `for`

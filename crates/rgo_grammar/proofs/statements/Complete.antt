@@ -1,14 +1,13 @@
 -- Statements and blocks of the grammar are read as such.
-use Rattle.std.proofs.Common.{ℕ, zero, suc, inl, inr, true, false, List, [], ◌∷◌, ◌++◌, Option, refl, append_assoc, append-nil, ◌+◌, ◌-◌}
-use Rattle.rgo_ast.specs.Tree.{stmts_of, clause_of}
+use Rattle.std.proofs.Common.{ℕ, zero, suc, inl, inr, true, false, List, [], ◌∷◌, ◌++◌, Option, refl, append_assoc, append-nil, ◌+◌, ◌-◌, arith}
 use Rattle.rgo_ast.specs.Tree as tree
 use Rattle.rgo_lexer.specs.{declared.terminals.Terminal.TheVariants.{OpenParen, OpenBrace, CloseBrace, Semicolon}, Lexemes.{Leaf, Lexeme, tok}}
-use Rattle.rgo_grammar.specs.Grammar.{IsStmt, IsStmts, IsIf, IsElse, IsFor, IsStmt.{block as a_block, simple, if' as an_if, for' as a_for, go, var, vars, return as returned, returns, break as broken, continue as continued}, IsStmts.{end, empty, last, more}, IsIf.{plain, with}, IsElse.{none as no_else, an_if as else_if, a_block as else_block}, IsFor.{while, three}}
+use Rattle.rgo_grammar.specs.Grammar.{IsCondition.{none as unconditional, some as on_condition}, IsStmt, IsStmts, IsIf, IsElse, IsFor, IsStmt.{block as a_block, simple, if' as an_if, for' as a_for, go, var, vars, return as returned, returns, break as broken, continue as continued}, IsStmts.{end, empty, last, more}, IsIf.{plain, with}, IsElse.{none as no_else, an_if as else_if, a_block as else_block}, IsFor.{while, three}}
 use Rattle.rgo_grammar.specs.reading.{Read.{Done, first_of, listed}, Expressions.{expr}, Statements.{else_on, stmt, if_stmt, block}}
 use Rattle.rgo_grammar.proofs.machine.Table.{rest}
-use Rattle.rgo_grammar.proofs.reading.{Complete.{Meets, meets_trans, meets_bind, listed_none, listed_last, listed_more}, Next.{begins_append, next_also}}
+use Rattle.rgo_grammar.proofs.reading.{Complete.{Meets, meets_trans, meets_bind, listed_none, listed_last, listed_more, meets_then}, Next.{begins_append, next_also}}
 use Rattle.rgo_grammar.proofs.expressions.{Starts.{expr_starts}, Complete.{expr_complete, exprs_complete}, Parts.{paren_closer}}
-use Rattle.rgo_grammar.proofs.statements.{KindsComplete.{EndsStmt, ends_as_simple, ends_as_local, reads, if_at, for_at, stmt_if, stmt_for, stmt_simple, stmt_opens, return_done, returns_at, else_done, else_if_at, empty_item, plain_done, with_done, three_complete, while_complete}, Parts.{one_complete, simple_complete, simple_ends, simple_starts, vars_complete}}
+use Rattle.rgo_grammar.proofs.statements.{KindsComplete.{EndsStmt, ends_as_simple, ends_as_local, reads, if_at, for_at, stmt_if, stmt_for, stmt_simple, stmt_opens, return_done, returns_at, else_done, else_if_at, empty_item, condition_complete, for_clause_at, for_head_at, head_clause, head_condition, step_complete}, Parts.{one_complete, simple_complete, simple_ends, simple_starts, vars_complete}}
 
 mutual
   unfolding stmt
@@ -65,15 +64,19 @@ mutual
       → EndsStmt l → Meets (if_at n (x ++ l)) (Done s l)
   if_complete (plain i k e d f) zero l h = inl refl
   if_complete (with i j k c e d f) zero l h = inl refl
-  if_complete (plain i k {x} {y} {z} {b = b} {e = o} {end = j} e d f) (suc n) l h =
+  if_complete (plain i k {x} {y} {z} e d f) (suc n) l h =
       rw (append_assoc x (tok OpenBrace k ∷ (y ++ z)) l, append_assoc y z l)
-      (plain_done n i k y z l b j o (stmts_found d n n [] (z ++ l)) (else_complete f n l h) e)
-  if_complete (with i j k {w} {x} {y} {z} {b = b} {e = o} {end = m} c e d f) (suc n) l h =
+      (meets_then _ (head_condition (expr true n 1) (reads true n) e k (y ++ (z ++ l)))
+      (meets_then _ (stmts_found d n n [] (z ++ l)) (meets_bind _ (else_complete f n l h))))
+  if_complete (with i j k {w} {x} {y} {z} c e d f) (suc n) l h =
       rw (
         append_assoc w (tok Semicolon j ∷ (x ++ tok OpenBrace k ∷ (y ++ z))) l,
         append_assoc x (tok OpenBrace k ∷ (y ++ z)) l,
         append_assoc y z l,
-      ) (with_done n i k y z l b m o (stmts_found d n n [] (z ++ l)) (else_complete f n l h) j c e)
+      ) (meets_then _
+      (head_clause (expr true n 1) (reads true n) c j (x ++ tok OpenBrace k ∷ (y ++ (z ++ l))))
+      (meets_then _ (expr_complete e n (tok OpenBrace k ∷ (y ++ (z ++ l))) (omega arith, refl))
+      (meets_then _ (stmts_found d n n [] (z ++ l)) (meets_bind _ (else_complete f n l h)))))
 
   else_complete : {z : List Lexeme} {e : Option tree.Stmt} → IsElse z e → (n : ℕ) (l : List Lexeme)
       → EndsStmt l → Meets (else_on (block n) (if_stmt n) (z ++ l) (first_of (z ++ l))) (Done e l)
@@ -84,19 +87,27 @@ mutual
 
   for_complete : {x : List Lexeme} {s : tree.Stmt} → IsFor x s → (n : ℕ) (l : List Lexeme)
       → Meets (for_at n (x ++ l)) (Done s l)
-  for_complete (while i k {x} {y} {c} {b} {end = j} g d) n l =
-      rw (append_assoc x (tok OpenBrace k ∷ y) l)
-      (while_complete (expr true n 1) (reads true n) (block n) i g k (y ++ l)
-      (Done (tree.For tree.no_clause c tree.no_clause (stmts_of b) i.at) l)
+  for_complete (while i k unconditional d) n l = meets_bind _ (stmts_found d n n [] l)
+  for_complete (while i k {y = y} (on_condition {x} e) d) n l =
+      let z = tok OpenBrace k ∷ (y ++ l) in
+      rw (
+        append_assoc x (tok OpenBrace k ∷ y) l,
+        for_head_at (expr true n 1) (reads true n) (block n) i (x ++ z)
+            (begins_append _ x z (expr_starts e)),
+      ) (meets_then _ (head_condition (expr true n 1) (reads true n) e k (y ++ l))
       (meets_bind _ (stmts_found d n n [] l)))
-  for_complete (three i j k m {u} {v} {w} {y} {s} {p} {c} {b} {end = o} hs hc hp d) n l =
+  for_complete (three i j k m {u} {v} {w} {y} hs hc hp d) n l =
+      let z = w ++ tok OpenBrace m ∷ (y ++ l) in
+      let value = expr true n 1 in
       rw (
         append_assoc u (tok Semicolon j ∷ (v ++ tok Semicolon k ∷ (w ++ tok OpenBrace m ∷ y))) l,
         append_assoc v (tok Semicolon k ∷ (w ++ tok OpenBrace m ∷ y)) l,
         append_assoc w (tok OpenBrace m ∷ y) l,
-      ) (three_complete (expr true n 1) (reads true n) (block n) i hs hc hp j k m (y ++ l)
-      (Done (tree.For (clause_of s) c (clause_of p) (stmts_of b) i.at) l)
-      (meets_bind _ (stmts_found d n n [] l)))
+        for_clause_at value (reads true n) (block n) i hs j (v ++ tok Semicolon k ∷ z),
+      ) (meets_then _ (head_clause value (reads true n) hs j (v ++ tok Semicolon k ∷ z))
+      (meets_then _ (condition_complete value (reads true n) hc k z)
+      (meets_then _ (step_complete value (reads true n) hp m (y ++ l))
+      (meets_bind _ (stmts_found d n n [] l)))))
 
 pub block_complete : {y : List Lexeme} {b : List tree.Stmt} {j : Leaf} → IsStmts y b j
     → (i : Leaf) (n : ℕ) (l : List Lexeme)

@@ -5,12 +5,12 @@ use Rattle.rgo_ast.specs.Tree as tree
 use Rattle.rgo_lexer.specs.{declared.terminals.Terminal.{Terminal, TheVariants.{Name, OpenParen, CloseParen, OpenBrace, CloseBrace, Semicolon, Var, Go, If, For, Return, Break, Continue}}, Lexemes.{Leaf, Lexeme, tok, same}}
 use Rattle.rgo_grammar.specs.Grammar.{IsExprs, IsStmt, IsStmts, IsIf, IsStmt.{block as a_block, simple, if' as an_if, for' as a_for, go, return as returned, returns, break as broken, continue as continued}, IsStmts.{end, empty, last, more}}
 use Rattle.rgo_grammar.specs.reading.{Read.{Reader, Read, first_of, single}, Expressions.{expr, exprs}, Statements.{going, return_by, return_on, stmt_by, stmts, stmts_by, block_by, stmt, if_stmt, block}}
-use Rattle.rgo_grammar.proofs.machine.{Table.{alone, Sym, T, Args, Stmts, StmtEnd, Value, step, Bin, Unary, next, row, Block, IfHead}, Runs.{run, closes}, Starts.{entered_behind, one_start}}
+use Rattle.rgo_grammar.proofs.machine.{Table.{alone, Sym, T, Args, Stmts, StmtEnd, Value, step, Bin, Unary, next, row, Block, IfHead}, Runs.{run, closes}, Starts.{entered_then, one_start}}
 use Rattle.rgo_grammar.proofs.reading.{Correct.{Correct, token_read, same_start, correct_given, correct_weaker, correct_under, correct_token_then, Empties, Correct.{done, stops}}, Lists.{listed_correct, list_syms}}
 use Rattle.rgo_grammar.proofs.expressions.Correct.{value_correct, args_correct}
 use Rattle.rgo_grammar.proofs.statements.{Simple.{Values, alone_correct, defining_correct}, Locals.{local_vars_correct}, Branches.{if_correct, Blocks, Ifs, IsBlock, for_on_correct}}
 
--- what stands before a `;` or `}`: nothing or a statement
+-- what comes before a `;` or `}`: nothing or a statement
 abbrev pub IsItem : List Lexeme → List tree.Stmt → Type 0
 IsItem z ss = ((z ≡ []) × (ss ≡ [])) ⊎ ((s : tree.Stmt) × (ss ≡ s ∷ []) × IsStmt z s)
 
@@ -31,12 +31,12 @@ keyword_correct h e =
     token_read (correct_given _ (correct_under (StmtEnd ∷ []) h) (λ z s w g. inr (s, refl, g)))
     (λ s. rw append_assoc (e s))
 
--- what begins no value must end the statement
+-- after `return`: where no statement ends here, a value must come
 return_run : (t : Lexeme) (l : List Lexeme) (s : List Sym) → next StmtEnd t.terminal ≡ None
     → run (t ∷ l) (Value ∷ StmtEnd ∷ s) ≡ run (t ∷ l) (Unary false ∷ Bin false ∷ StmtEnd ∷ s)
 unfolding run step
 return_run t l s e =
-    rw (e, entered_behind t.terminal (row (Unary false)) (Bin false ∷ []) (StmtEnd ∷ s)) refl
+    rw (e, entered_then t.terminal (row (Unary false)) (Bin false ∷ []) (StmtEnd ∷ s)) refl
 
 module _ (n m : ℕ) (small : m + 2 < n) (value_c : (h : Bool) → Values h (m + 1) (expr h n 1))
     (exprs_c : (l : List Lexeme) → length l ≤ m
@@ -167,7 +167,7 @@ mutual
       (λ u m d c. stmt_correct n u m (omega arith) c)) (if_stmt n)
       (λ i w g. if_stmt_correct n i w (omega arith)) t.terminal t.leaf l (omega arith) e
 
-  -- behind `if`
+  -- after `if`
   pub if_stmt_correct : (n : ℕ) (i : Leaf) (l : List Lexeme) → 4 * length l + 4 ≤ n
       → Empties (IfHead ∷ []) (λ z s. IsIf (tok If i ∷ z) s) l (if_stmt n i l)
   if_stmt_correct zero i l b = absurd (omega arith)

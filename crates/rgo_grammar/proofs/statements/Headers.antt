@@ -8,15 +8,15 @@ use Rattle.rgo_grammar.proofs.machine.{Table.{Context, before_if, before_for, Sy
 use Rattle.rgo_grammar.proofs.reading.Correct.{Correct, correct_bind, at_token, Correct.{done, stops}}
 use Rattle.rgo_grammar.proofs.statements.Simple.{Values, tails, leaves, Left, defining_correct}
 
--- what is to come after a header that is a condition, and after the first `;` of another: of an
--- `if`, and of a `for`
+-- what follows a header that is a condition, and what follows the first `;` of another: `true` for
+-- `if`
 abbrev pub after_head : Bool → Head → List Sym
 after_head true (condition v) = Block ∷ IfElse ∷ []
 after_head true (init s) = Unary true ∷ Bin true ∷ Block ∷ IfElse ∷ []
 after_head false (condition v) = Block ∷ []
 after_head false (init s) = Condition ∷ []
 
--- where the first statement of a header stands
+-- the place of the first statement of a header: `true` for `if`
 abbrev before : Bool → Context
 before true = before_if
 before false = before_for

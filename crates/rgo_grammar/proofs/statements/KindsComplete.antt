@@ -1,12 +1,10 @@
--- Headers, and the kinds of statements of the grammar: how each is told from the others, and read
--- where its parts are.
+-- Headers and the kinds of statements in the grammar: how reading tells each from the others.
 use Rattle.std.proofs.Common.{◌≡◌, inr, true, false, List, ◌∷◌, ◌++◌, Option, Some, None, refl, arith, ◌+◌, [], ℕ, zero, suc, inl, Bool}
-use Rattle.rgo_ast.specs.Tree.{stmts_of, clause_of}
 use Rattle.rgo_ast.specs.Tree as tree
 use Rattle.rgo_lexer.specs.{declared.terminals.Terminal.{Terminal, TheVariants.{OpenBrace, Semicolon, CloseBrace, Var, Go, If, Else, For, Return, Break, Continue}}, Lexemes.{Leaf, Lexeme, tok}}
 use Rattle.rgo_grammar.specs.Grammar.{IsExpr, IsClause, IsCondition, IsStmt, IsIf, IsFor, IsSimple.{plain}, IsClause.{empty, some as a_clause}, IsCondition.{none as unconditional, some as on_condition}, IsStmt.{block as a_block, simple, if' as an_if, for' as a_for, go, var, vars, return as returned, returns, break as broken, continue as continued}, IsIf.{plain, with}, IsFor.{while, three}}
-use Rattle.rgo_grammar.specs.reading.{Read.{Reader, Read, Done, ◌>>=◌, given, first_of, token, Failed, Starving, single}, Statements.{valued, defining, condition, init, head_end_on, head_by, head, condition_by, condition_on, step_by, step_on, looped, for_rest, for_by, for_on, else_body_on, else_by, else_on, branches, return_by, return_on, stmt_by, stmts_by, block_by, stmt, if_stmt, stmts, block}, Expressions.{expr}}
-use Rattle.rgo_grammar.proofs.reading.{Complete.{Meets, meets_bind, meets_then, Opens}, Next.{begins_append, IsNext, next_also}}
+use Rattle.rgo_grammar.specs.reading.{Read.{Reader, Read, Done, ◌>>=◌, given, first_of, token, Failed, Starving, single}, Statements.{valued, defining, condition, init, head_end_on, head_by, head, condition_by, condition_on, step_by, step_on, for_rest, for_by, for_on, else_body_on, else_by, else_on, return_by, return_on, stmt_by, stmts_by, block_by, stmt, if_stmt, stmts, block}, Expressions.{expr}}
+use Rattle.rgo_grammar.proofs.reading.{Complete.{Meets, meets_bind, Opens}, Next.{begins_append, IsNext, next_also}}
 use Rattle.rgo_grammar.proofs.expressions.{Starts.{starts, Starts, expr_starts, brace_closes}, Complete.{expr_complete}}
 use Rattle.rgo_grammar.proofs.statements.Parts.{ReadsExprs, ends_local, ends_simple, simple_complete, simple_starts, valued_complete}
 
@@ -52,7 +50,7 @@ module _ (value : Reader tree.Expr) where
         (begins_append _ x (tok OpenBrace k ∷ l) (expr_starts e)))
         (meets_bind _ (simple_complete value true value_done (plain e) (tok OpenBrace k ∷ l) refl))
 
-    -- what stands before the first `;`
+    -- what comes before the first `;`
     pub head_clause : {x : List Lexeme} {s : Option tree.Stmt} → IsClause true x s
         → (j : Leaf) (l : List Lexeme)
         → Meets (head value (x ++ tok Semicolon j ∷ l)) (Done (init s) l)
@@ -80,7 +78,7 @@ module _ (value : Reader tree.Expr) where
         rw (step_at (x ++ tok OpenBrace m ∷ l) (simple_starts h (tok OpenBrace m ∷ l)))
         (meets_bind _ (valued_complete value true value_done h (tok OpenBrace m ∷ l) refl))
 
--- ---- `for`, from what stands behind its keyword to its block, which is read as this
+-- ---- `for`, after its keyword
 module _ (value : Reader tree.Expr) (value_done : ReadsExprs true value)
     (block : Reader (List tree.Stmt × Leaf)) (i : Leaf) where
   for_kind : (k : Terminal) (l : List Lexeme) → starts k ≡ true
@@ -88,44 +86,18 @@ module _ (value : Reader tree.Expr) (value_done : ReadsExprs true value)
   for_kind OpenBrace l h = cc
   for_kind _ l h = refl
 
-  for_head_at : (l : List Lexeme) → Starts l
+  pub for_head_at : (l : List Lexeme) → Starts l
       → for_on block value i l (first_of l) ≡ (head value l >>= for_rest block value i)
   for_head_at [] h = absurd h
   for_head_at (t ∷ l) h = for_kind t.terminal (t ∷ l) h
 
-  for_clause_at : {x : List Lexeme} {s : Option tree.Stmt} → IsClause true x s
+  pub for_clause_at : {x : List Lexeme} {s : Option tree.Stmt} → IsClause true x s
       → (j : Leaf) (l : List Lexeme)
       → for_on block value i (x ++ tok Semicolon j ∷ l) (first_of (x ++ tok Semicolon j ∷ l))
       ≡ (head value (x ++ tok Semicolon j ∷ l) >>= for_rest block value i)
   for_clause_at empty j l = refl
   for_clause_at (a_clause {x} h) j l =
       for_head_at (x ++ tok Semicolon j ∷ l) (simple_starts h (tok Semicolon j ∷ l))
-
-  pub while_complete : {x : List Lexeme} {c : Option tree.Expr} → IsCondition x c
-      → (k : Leaf) (l : List Lexeme) (r : Read tree.Stmt)
-      → Meets (looped block i None c None (tok OpenBrace k ∷ l)) r
-      → Meets (for_on block value i (x ++ tok OpenBrace k ∷ l)
-      (first_of (x ++ tok OpenBrace k ∷ l))) r
-  while_complete unconditional k l r g = g
-  while_complete (on_condition {x} {v} e) k l r g =
-      rw (for_head_at (x ++ tok OpenBrace k ∷ l)
-      (begins_append _ x (tok OpenBrace k ∷ l) (expr_starts e)))
-      (meets_then _ (head_condition value value_done e k l) g)
-
-  pub three_complete : {u v w : List Lexeme} {s p : Option tree.Stmt} {c : Option tree.Expr}
-      → IsClause true u s → IsCondition v c → IsClause false w p
-      → (j k m : Leaf) (l : List Lexeme) (r : Read tree.Stmt)
-      → Meets (looped block i s c p (tok OpenBrace m ∷ l)) r
-      → Meets (for_on block value i
-      (u ++ tok Semicolon j ∷ (v ++ tok Semicolon k ∷ (w ++ tok OpenBrace m ∷ l)))
-      (first_of (u ++ tok Semicolon j ∷ (v ++ tok Semicolon k ∷ (w ++ tok OpenBrace m ∷ l))))) r
-  three_complete {u} {v} {w} {s} {p} {c} hs hc hp j k m l r g =
-      let z = w ++ tok OpenBrace m ∷ l in
-      let y = v ++ tok Semicolon k ∷ z in
-      rw (for_clause_at hs j y)
-      (meets_then _ (head_clause value value_done hs j y)
-      (meets_then _ (condition_complete value value_done hc k z)
-      (meets_then _ (step_complete value value_done hp m l) g)))
 
 -- what a statement ends before
 abbrev pub ends_stmt : Terminal → Bool
@@ -150,7 +122,7 @@ ends_as_local _ h = cc
 pub reads : (h : Bool) (n : ℕ) → ReadsExprs h (expr h n 1)
 reads h n x v e l d = expr_complete e n l d
 
--- ---- what tells statements apart: their first tokens
+-- ---- statements are told apart by their first tokens
 
 -- an `if` or `for` from its keyword on
 abbrev pub if_at : ℕ → List Lexeme → Read tree.Stmt
@@ -251,35 +223,6 @@ pub else_if_at : {x : List Lexeme} {s : tree.Stmt} → IsIf x s → (n : ℕ) (l
     ≡ (if_at n (x ++ l) >>= given (λ s. Some s))
 else_if_at (plain i k e d f) n l = refl
 else_if_at (with i j k c e d f) n l = refl
-
-module _ (n : ℕ) (i k : Leaf) (y z l : List Lexeme) (b : List tree.Stmt) (close : Leaf)
-    (e : Option tree.Stmt)
-    (body : Meets (stmts n (y ++ (z ++ l))) (Done (b, close) (z ++ l)))
-    (otherwise : Meets (else_on (block n) (if_stmt n) (z ++ l) (first_of (z ++ l))) (Done e l))
-  where
-    branches_done : (s : Option tree.Stmt) (c : tree.Expr)
-        → Meets (branches (block n) (if_stmt n) i s c (tok OpenBrace k ∷ (y ++ (z ++ l))))
-        (Done (tree.If (clause_of s) c (stmts_of b) (clause_of e) i.at) l)
-    branches_done s c = meets_then _ body (meets_bind _ otherwise)
-
-    pub plain_done : {x : List Lexeme} {c : tree.Expr} → IsExpr true 1 x c
-        → Meets (if_stmt (suc n) i (x ++ tok OpenBrace k ∷ (y ++ (z ++ l))))
-        (Done (tree.If tree.no_clause c (stmts_of b) (clause_of e) i.at) l)
-    unfolding stmt
-    plain_done {x} {c} d =
-        meets_then _ (head_condition (expr true n 1) (reads true n) d k (y ++ (z ++ l)))
-        (branches_done None c)
-
-    pub with_done : (j : Leaf) {w x : List Lexeme} {s : Option tree.Stmt} {c : tree.Expr}
-        → IsClause true w s → IsExpr true 1 x c
-        → Meets (if_stmt (suc n) i (w ++ tok Semicolon j ∷ (x ++ tok OpenBrace k ∷ (y ++ (z ++ l)))))
-        (Done (tree.If (clause_of s) c (stmts_of b) (clause_of e) i.at) l)
-    unfolding stmt
-    with_done j {w} {x} {s} {c} g d =
-        let u = x ++ tok OpenBrace k ∷ (y ++ (z ++ l)) in
-        meets_then _ (head_clause (expr true n 1) (reads true n) g j u)
-        (meets_then _ (expr_complete d n (tok OpenBrace k ∷ (y ++ (z ++ l))) (omega arith, refl))
-        (branches_done s c))
 
 pub empty_item : (n : ℕ) (i : Leaf) (l : List Lexeme)
     → Meets (stmt n (tok Semicolon i ∷ l)) (Done [] (tok Semicolon i ∷ l))

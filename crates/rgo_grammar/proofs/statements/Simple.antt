@@ -6,7 +6,7 @@ use Rattle.rgo_ast.specs.Tree as tree
 use Rattle.rgo_lexer.specs.{declared.terminals.Terminal.{Terminal, TheVariants.{Name, Arrow, Define, Assign, Step}}, Lexemes.{Leaf, Lexeme, tok, same}}
 use Rattle.rgo_grammar.specs.Grammar.{IsExpr, IsSimple, IsSimple.{plain, send, step as stepped, assign, define}}
 use Rattle.rgo_grammar.specs.reading.{Read.{Reader, Read, ◌>>=◌, given, first_of}, Statements.{simple_by, simple_on, valued, named_by, named_on, defining}}
-use Rattle.rgo_grammar.proofs.machine.{Table.{Context, alone, behind_for, Sym, Unary, Bin, Tail, Named, Post, Block, header, rest, behind, plain_row, row, nullable, find, next, step, after, starts_row}, Runs.{run, closes}, Starts.{takes, passes, alike, starts_as, after_name, name_ends}}
+use Rattle.rgo_grammar.proofs.machine.{Table.{Context, alone, for_post, Sym, Unary, Bin, Tail, Named, Post, Block, header, rest, then_all, plain_row, row, nullable, find, next, step, after, starts_row}, Runs.{run, closes}, Starts.{takes, passes, alike, starts_as, after_name, name_ends}}
 use Rattle.rgo_grammar.proofs.reading.{Next.{NotNext}, Correct.{Correct, token_read, same_start, correct_after, correct_bind, correct_given, correct_under, shorter, Empties, Correct.{done, stops}}}
 
 -- a stack for a value in place of another, which the machine takes as the same at what comes next
@@ -52,7 +52,7 @@ assign_run c _ i l s = refl
 
 -- what begins an expression, but for names
 starts_other : (h : Bool) (k : Terminal) (after named : List Sym) → same Name k ≡ false
-    → find k (starts_row h after named) ≡ find k (behind (row (Unary h)) after)
+    → find k (starts_row h after named) ≡ find k (then_all (row (Unary h)) after)
 starts_other true k after named e = rw e refl
 starts_other false k after named e = rw e refl
 
@@ -87,11 +87,12 @@ module _ (c : Context) (m : ℕ) (value : Reader tree.Expr) (value_c : Values (h
         (λ s. assign_run c o i l s)
     simple_by_correct d x a _ i l b e = done [] refl (rw append-nil (plain e), refl) (λ s. refl)
 
-    simple_on_correct : (d : Bool) (x : List Lexeme) (a : tree.Expr) (l : List Lexeme) → length l ≤ m
-        → IsExpr (header c) 1 x a
+    simple_on_correct : (d : Bool) (x : List Lexeme) (a : tree.Expr) (l : List Lexeme)
+        → length l ≤ m → IsExpr (header c) 1 x a
         → Correct (Tail c ∷ []) (leaves c) (AtSimple c d x) l (simple_on value a l (first_of l))
     simple_on_correct d x a [] b e = done [] refl (rw append-nil (plain e), tt) (λ s. refl)
-    simple_on_correct d x a (t ∷ l) b e = simple_by_correct d x a t.terminal t.leaf l (omega arith) e
+    simple_on_correct d x a (t ∷ l) b e =
+        simple_by_correct d x a t.terminal t.leaf l (omega arith) e
 
     pub valued_correct : (d : Bool) (l : List Lexeme) → length l ≤ m
         → Correct (Unary (header c) ∷ Bin (header c) ∷ Tail c ∷ []) (leaves c) (AtSimple c d []) l
@@ -100,7 +101,7 @@ module _ (c : Context) (m : ℕ) (value : Reader tree.Expr) (value_c : Values (h
         correct_bind (correct_under (Tail c ∷ []) (value_c l b))
         (λ z a w e h. simple_on_correct d z a w (omega (arith, shorter l z w e)) h)
 
-    -- A symbol X that begins a simple statement, with u under it, tells a name from other tokens.
+    -- a symbol X that begins a simple statement, with u under it
     module _ (X : Sym) (u : List Sym) (x_name : next X Name ≡ Some (Named c ∷ u))
         (x_stays : nullable X ≡ false) where
       as_value : (l : List Lexeme) → length l ≤ m
@@ -135,7 +136,8 @@ module _ (c : Context) (m : ℕ) (value : Reader tree.Expr) (value_c : Values (h
           (named_on value i (tok Name i ∷ l) (first_of l))
       named_on_correct i [] b =
           as_value (tok Name i ∷ []) (omega (arith, b))
-          (λ s. name_run i [] s (name_ends (header c) (Named c) (Tail c) (u ++ s) (named_nullable c)))
+          (λ s. name_run i [] s
+          (name_ends (header c) (Named c) (Tail c) (u ++ s) (named_nullable c)))
       named_on_correct i (t ∷ l) b = named_by_correct i t.terminal t.leaf l (omega (arith, b))
 
       pub defining_correct : (k : Terminal) (i : Leaf) (l : List Lexeme) → length l + 1 ≤ m
@@ -172,10 +174,10 @@ alone_correct {u = u} h =
     correct_left h (λ z st w g. (g.0, λ s. rw append_assoc (left_alone st w (u ++ s) g.1)))
 
 -- after the last statement of a header a block
-pub left_behind : (st : tree.Stmt) (w : List Lexeme) (s : List Sym) → Left st w
-    → run w (leaves behind_for st ++ s) ≡ run w (Block ∷ s)
+pub left_before_block : (st : tree.Stmt) (w : List Lexeme) (s : List Sym) → Left st w
+    → run w (leaves for_post st ++ s) ≡ run w (Block ∷ s)
 unfolding run closes
-left_behind (tree.Plain v) [] s h = refl
-left_behind (tree.Plain v) (t ∷ w) s h =
-    alike (Tail behind_for) Block t w s (untailed behind_for t.terminal h) refl
-left_behind _ w s h = refl
+left_before_block (tree.Plain v) [] s h = refl
+left_before_block (tree.Plain v) (t ∷ w) s h =
+    alike (Tail for_post) Block t w s (untailed for_post t.terminal h) refl
+left_before_block _ w s h = refl

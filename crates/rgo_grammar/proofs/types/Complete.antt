@@ -53,8 +53,7 @@ binding_complete _ _ (of_names {x} {y} {ns} {t} h g) n l =
       append_assoc,
       ← bind_assoc (token Name (x ++ (y ++ l))) (λ i. names n (ident i ∷ []))
           (λ ms w. a_type n w >>= given (bound ms)),
-    )
-    (meets_then _ (names_complete h n [] (y ++ l) (type_starts y t l g))
+    ) (meets_then _ (names_complete h n [] (y ++ l) (type_starts y t l g))
     (meets_bind _ (type_complete y t g n l)))
 
 -- a binding begins with a name

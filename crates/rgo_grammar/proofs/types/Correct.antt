@@ -49,7 +49,7 @@ names_append x y j ns ms (more i k {x = x'} {ns = ns'} h) g =
 abbrev pub NoComma : List Lexeme → Type 0
 NoComma = NotNext (same Comma)
 
--- the names behind those of x
+-- the names after those of x
 abbrev AreNames : List Lexeme → List Lexeme → List Ident → List Lexeme → Type 0
 AreNames x z ns w = IsNames (x ++ z) ns × NoComma w
 
@@ -84,13 +84,13 @@ names_correct (suc n) found x (t ∷ l) h f =
     names_by_correct (names n) found x t.terminal t.leaf l f
     (λ ns y w g e. names_correct n ns y w (omega arith) e)
 
--- behind the last name stands a type
+-- the last name is followed by a type
 names_end : (w : List Lexeme) (s : List Sym) → NoComma w → run w (NamesType ∷ s) ≡ run w (AType ∷ s)
 unfolding run closes
 names_end [] s h = refl
 names_end (t ∷ w) s h = alike NamesType AType t w s (rw h refl) refl
 
--- behind names x, their type
+-- after names x, their type
 typed_from : (n : ℕ) (found : List Ident) (x l : List Lexeme) → length l < n → IsNames x found
     → Empties (NamesType ∷ []) (λ z b. IsBinding (x ++ z) b) l (typed_names n found l)
 typed_from n found x l h f =

@@ -1,15 +1,14 @@
--- Reading from left to right, as functions on lists of tokens: what the parser's functions give, and what the grammar
--- is proved to be. Of the public clauses here only that of `first` speaks of it.
+-- Reading functions: what one returns, one function after another, one token, lists.
 use Rattle.std.specs.Prelude.{ℕ, zero, suc, if◌then◌else◌, List, [], ◌∷◌, ◌++◌, Option, Some, None}
-use Rattle.rgo_lexer.specs.declared.terminals.Terminal.{Terminal}
-use Rattle.rgo_lexer.specs.Lexemes.{Leaf, Lexeme, same}
+use Rattle.rgo_lexer.specs.{declared.terminals.Terminal.{Terminal}, Lexemes.{Leaf, Lexeme, same}}
 
--- why nothing was read: the tokens from the first on that is not allowed, or the bound on the turns was too small
+-- why nothing was read: the tokens from the first one that is not allowed, or a bound on the turns
+-- that was too small
 pub data Stop : Type 0 where
   At : List Lexeme → Stop
   Starving : Stop
 
--- a value and the tokens behind it, or none
+-- a value and the tokens after it, or none
 pub data Read (A : Type 0) : Type 0 where
   Done : A → List Lexeme → Read A
   Failed : Stop → Read A
@@ -39,16 +38,16 @@ token_on k l (Some x) = if same k x.0.terminal then Done x.0.leaf x.1 else Faile
 abbrev pub token : Terminal → List Lexeme → Read Leaf
 token k l = token_on k l (first_of l)
 
--- behind an item of a list: what closes the list, or a separator and the list from there on
+-- after an item of a list: what closes the list, or a separator and the rest of the list
 abbrev pub ended_on : {A : Type 0} → Terminal → Terminal → (List A → Reader (List A × Leaf))
     → List A → List Lexeme → Option (Lexeme × List Lexeme) → Read (List A × Leaf)
 ended_on separator closer again found l None = Failed (At l)
 ended_on separator closer again found l (Some x) =
-    if same closer x.0.terminal then Done (found, x.0.leaf) x.1
-    else (if same separator x.0.terminal then again found x.1 else Failed (At l))
+    if same closer x.0.terminal then Done (found, x.0.leaf) x.1 else
+    (if same separator x.0.terminal then again found x.1 else Failed (At l))
 
-abbrev pub ended : {A : Type 0} → Terminal → Terminal → (List A → Reader (List A × Leaf))
-    → List A → List Lexeme → Read (List A × Leaf)
+abbrev pub ended : {A : Type 0} → Terminal → Terminal → (List A → Reader (List A × Leaf)) → List A
+    → List Lexeme → Read (List A × Leaf)
 ended separator closer again found l = ended_on separator closer again found l (first_of l)
 
 abbrev pub listed_on : {A : Type 0} → Terminal → Terminal → Reader (List A)
@@ -56,12 +55,12 @@ abbrev pub listed_on : {A : Type 0} → Terminal → Terminal → Reader (List A
     → Read (List A × Leaf)
 listed_on separator closer item again found l None = Failed (At l)
 listed_on separator closer item again found l (Some x) =
-    if same closer x.0.terminal then Done (found, x.0.leaf) x.1
-    else (item l >>= λ a. ended separator closer again (found ++ a))
+    if same closer x.0.terminal then Done (found, x.0.leaf) x.1 else
+    (item l >>= λ a. ended separator closer again (found ++ a))
 
--- items up to what closes them, behind those that were found
-unfoldable pub listed : {A : Type 0} → Terminal → Terminal → Reader (List A) → ℕ → List A → List Lexeme
-    → Read (List A × Leaf)
+-- items up to what closes them, after those that were found
+unfoldable pub listed : {A : Type 0} → Terminal → Terminal → Reader (List A) → ℕ → List A
+    → List Lexeme → Read (List A × Leaf)
 listed separator closer item zero found l = Failed Starving
 listed separator closer item (suc n) found l =
     listed_on separator closer item (listed separator closer item n) found l (first_of l)
@@ -69,6 +68,7 @@ listed separator closer item (suc n) found l =
 abbrev pub single : {A : Type 0} → Read A → Read (List A)
 single m = m >>= given (λ a. a ∷ [])
 
--- items that are read one by one, up to what closes them, behind those that were found
-unfoldable pub several : {A : Type 0} → Terminal → Terminal → Reader A → ℕ → List A → List Lexeme → Read (List A × Leaf)
+-- items that are read one by one, up to what closes them, after those that were found
+unfoldable pub several : {A : Type 0} → Terminal → Terminal → Reader A → ℕ → List A → List Lexeme
+    → Read (List A × Leaf)
 several separator closer item n found l = listed separator closer (λ m. single (item m)) n found l

@@ -3,20 +3,12 @@ use Rattle.std.specs.Prelude.{ℕ, zero, suc, true, false, List, [], ◌∷◌, 
 use Rattle.rgo_ast.specs.declared.ops.AssignOp.TheVariants as assign_op
 use Rattle.rgo_ast.specs.Tree as tree
 use Rattle.rgo_ast.specs.Tree.{exprs_of, stmts_of, clause_of}
-use Rattle.rgo_lexer.specs.declared.terminals.Terminal.{Terminal}
-use Rattle.rgo_lexer.specs.declared.terminals.Terminal.TheVariants.{Name, Arrow, Define, Assign, Step, OpenParen}
-use Rattle.rgo_lexer.specs.declared.terminals.Terminal.TheVariants.{CloseParen, OpenBrace, CloseBrace, Comma}
-use Rattle.rgo_lexer.specs.declared.terminals.Terminal.TheVariants.{Semicolon, Var, Go, If, Else, For, Return, Break}
-use Rattle.rgo_lexer.specs.declared.terminals.Terminal.TheVariants.{Continue}
-use Rattle.rgo_lexer.specs.Lexemes.{Leaf, Lexeme, ident}
-use Rattle.rgo_grammar.specs.reading.Read.{Reader, Read, Done, Failed, At, Starving, ◌>>=◌, given, first_of, token, listed, several}
-use Rattle.rgo_grammar.specs.reading.Read.{Reader, single}
-use Rattle.rgo_grammar.specs.reading.Types.{a_type, typed_names, bound}
-use Rattle.rgo_grammar.specs.reading.Expressions.{expr, exprs}
+use Rattle.rgo_lexer.specs.{declared.terminals.Terminal.{Terminal, TheVariants.{Name, Arrow, Define, Assign, Step, OpenParen}}, declared.terminals.Terminal.TheVariants.{CloseParen, OpenBrace, CloseBrace, Comma}, declared.terminals.Terminal.TheVariants.{Semicolon, Var, Go, If, Else, For, Return, Break}, declared.terminals.Terminal.TheVariants.{Continue}, Lexemes.{Leaf, Lexeme, ident}}
+use Rattle.rgo_grammar.specs.reading.{Read.{Reader, Read, Done, Failed, At, Starving, ◌>>=◌, given, first_of, token, listed, several}, Read.{Reader, single}, Types.{a_type, typed_names, bound}, Expressions.{expr, exprs}}
 
--- In what follows `value` reads an expression, in the header or not as the statement stands in one.
+-- Below, `value` reads an expression: one of a header where the statement is in a header.
 
--- what stands behind the first expression of a simple statement
+-- what follows the first expression of a simple statement
 abbrev pub simple_by : Reader tree.Expr → tree.Expr → Terminal → Leaf → List Lexeme → List Lexeme
     → Read tree.Stmt
 simple_by value a Arrow i l m = value m >>= given (λ b. tree.Send a b i.at)
@@ -24,7 +16,8 @@ simple_by value a (Step o) i l m = Done (tree.Step o a i.at) m
 simple_by value a (Assign o) i l m = value m >>= given (λ b. tree.Assign o a b i.at)
 simple_by value a _ i l m = Done (tree.Plain a) l
 
-abbrev pub simple_on : Reader tree.Expr → tree.Expr → List Lexeme → Option (Lexeme × List Lexeme) → Read tree.Stmt
+abbrev pub simple_on : Reader tree.Expr → tree.Expr → List Lexeme → Option (Lexeme × List Lexeme)
+    → Read tree.Stmt
 simple_on value a l None = Done (tree.Plain a) l
 simple_on value a l (Some x) = simple_by value a x.0.terminal x.0.leaf l x.1
 
@@ -32,20 +25,24 @@ simple_on value a l (Some x) = simple_by value a x.0.terminal x.0.leaf l x.1
 abbrev pub valued : Reader tree.Expr → List Lexeme → Read tree.Stmt
 valued value l = value l >>= λ a w. simple_on value a w (first_of w)
 
--- behind a name that begins a statement
-abbrev pub named_by : Reader tree.Expr → Leaf → Terminal → Leaf → List Lexeme → List Lexeme → Read tree.Stmt
+-- after a name that begins a statement
+abbrev pub named_by : Reader tree.Expr → Leaf → Terminal → Leaf → List Lexeme → List Lexeme
+    → Read tree.Stmt
 named_by value i Define j l m = value m >>= given (λ v. tree.Define (ident i) v j.at)
 named_by value i _ j l m = valued value l
 
-abbrev pub named_on : Reader tree.Expr → Leaf → List Lexeme → Option (Lexeme × List Lexeme) → Read tree.Stmt
+abbrev pub named_on : Reader tree.Expr → Leaf → List Lexeme → Option (Lexeme × List Lexeme)
+    → Read tree.Stmt
 named_on value i l None = valued value l
 named_on value i l (Some x) = named_by value i x.0.terminal x.0.leaf l x.1
 
-abbrev pub defining_by : Reader tree.Expr → Terminal → Leaf → List Lexeme → List Lexeme → Read tree.Stmt
+abbrev pub defining_by : Reader tree.Expr → Terminal → Leaf → List Lexeme → List Lexeme
+    → Read tree.Stmt
 defining_by value Name i l m = named_on value i l (first_of m)
 defining_by value _ i l m = valued value l
 
-abbrev pub defining_on : Reader tree.Expr → List Lexeme → Option (Lexeme × List Lexeme) → Read tree.Stmt
+abbrev pub defining_on : Reader tree.Expr → List Lexeme → Option (Lexeme × List Lexeme)
+    → Read tree.Stmt
 defining_on value l None = Failed (At l)
 defining_on value l (Some x) = defining_by value x.0.terminal x.0.leaf l x.1
 
@@ -53,22 +50,24 @@ defining_on value l (Some x) = defining_by value x.0.terminal x.0.leaf l x.1
 abbrev pub defining : Reader tree.Expr → List Lexeme → Read tree.Stmt
 defining value l = defining_on value l (first_of l)
 
--- behind the name of a local variable that is alone, and its type
-abbrev pub initial_by : Reader tree.Expr → Leaf → tree.TypeExpr → Terminal → Leaf → List Lexeme → List Lexeme
-    → Read tree.LocalVar
-initial_by value i t (Assign assign_op.Plain) j l m = value m >>= given (λ v. tree.Typed (ident i) t v j.at)
+-- after the name of a single local variable and its type
+abbrev pub initial_by : Reader tree.Expr → Leaf → tree.TypeExpr → Terminal → Leaf → List Lexeme
+    → List Lexeme → Read tree.LocalVar
+initial_by value i t (Assign assign_op.Plain) j l m =
+    value m >>= given (λ v. tree.Typed (ident i) t v j.at)
 initial_by value i t _ j l m = Done (tree.Zero (bound (ident i ∷ []) t)) l
 
-abbrev pub initial : Reader tree.Expr → Leaf → tree.TypeExpr → List Lexeme → Option (Lexeme × List Lexeme)
-    → Read tree.LocalVar
+abbrev pub initial : Reader tree.Expr → Leaf → tree.TypeExpr → List Lexeme
+    → Option (Lexeme × List Lexeme) → Read tree.LocalVar
 initial value i t l None = Done (tree.Zero (bound (ident i ∷ []) t)) l
 initial value i t l (Some x) = initial_by value i t x.0.terminal x.0.leaf l x.1
 
--- behind the first name of a declaration of local variables
+-- after the first name of a declaration of local variables
 abbrev pub local_by : ℕ → Reader tree.Expr → Leaf → Terminal → Leaf → List Lexeme → List Lexeme
     → Read tree.LocalVar
 local_by n value i Comma j l m = typed_names n (ident i ∷ []) l >>= given tree.Zero
-local_by n value i (Assign assign_op.Plain) j l m = value m >>= given (λ v. tree.Inferred (ident i) v j.at)
+local_by n value i (Assign assign_op.Plain) j l m =
+    value m >>= given (λ v. tree.Inferred (ident i) v j.at)
 local_by n value i _ j l m = a_type n l >>= λ t w. initial value i t w (first_of w)
 
 abbrev pub local_on : ℕ → Reader tree.Expr → Leaf → List Lexeme → Option (Lexeme × List Lexeme)
@@ -79,9 +78,11 @@ local_on n value i l (Some x) = local_by n value i x.0.terminal x.0.leaf l x.1
 abbrev pub local : ℕ → Reader tree.Expr → List Lexeme → Read tree.LocalVar
 local n value l = token Name l >>= λ i w. local_on n value i w (first_of w)
 
--- behind `var`
-abbrev pub vars_by : ℕ → Reader tree.Expr → Terminal → List Lexeme → List Lexeme → Read (List tree.LocalVar)
-vars_by n value OpenParen l m = several Semicolon CloseParen (local n value) n [] m >>= given (λ x. x.0)
+-- after `var`
+abbrev pub vars_by : ℕ → Reader tree.Expr → Terminal → List Lexeme → List Lexeme
+    → Read (List tree.LocalVar)
+vars_by n value OpenParen l m =
+    several Semicolon CloseParen (local n value) n [] m >>= given (λ x. x.0)
 vars_by n value _ l m = single (local n value l)
 
 abbrev pub vars_on : ℕ → Reader tree.Expr → List Lexeme → Option (Lexeme × List Lexeme)
@@ -92,24 +93,25 @@ vars_on n value l (Some x) = vars_by n value x.0.terminal l x.1
 abbrev pub vars : ℕ → Reader tree.Expr → Leaf → List Lexeme → Read tree.Stmt
 vars n value i l = vars_on n value l (first_of l) >>= given (λ vs. tree.Var vs i.at)
 
--- behind `return`
+-- after `return`
 abbrev pub return_by : Reader tree.Expr → Leaf → Terminal → List Lexeme → Read tree.Stmt
 return_by value i Semicolon l = Done (tree.Return None i.at) l
 return_by value i CloseBrace l = Done (tree.Return None i.at) l
 return_by value i _ l = value l >>= given (λ v. tree.Return (Some v) i.at)
 
-abbrev pub return_on : Reader tree.Expr → Leaf → List Lexeme → Option (Lexeme × List Lexeme) → Read tree.Stmt
+abbrev pub return_on : Reader tree.Expr → Leaf → List Lexeme → Option (Lexeme × List Lexeme)
+    → Read tree.Stmt
 return_on value i l None = Failed (At l)
 return_on value i l (Some x) = return_by value i x.0.terminal l
 
--- behind `go`
+-- after `go`
 abbrev pub going : ℕ → Reader tree.Expr → Leaf → List Lexeme → Read tree.Stmt
 going n value i l =
-    token Name l >>= λ j w. token OpenParen w >>= λ _ u. exprs CloseParen n value u
-    >>= given (λ x. tree.Go (ident j) (exprs_of x.0) i.at)
+    token Name l >>= λ j w. token OpenParen w >>= λ _ u. exprs CloseParen n value u >>= given
+    (λ x. tree.Go (ident j) (exprs_of x.0) i.at)
 
--- The header of an `if` or `for`, up to its block or its first `;`: a simple statement before a `;`, or an expression
--- before a block.
+-- The header of an `if` or `for`, up to its block or its first `;`: a simple statement before a
+-- `;`, or an expression before a block.
 pub data Head : Type 0 where
   condition : tree.Expr → Head
   init : Option tree.Stmt → Head
@@ -138,9 +140,9 @@ head_on value l (Some x) = head_by value x.0.terminal l x.1
 abbrev pub head : Reader tree.Expr → List Lexeme → Read Head
 head value l = head_on value l (first_of l)
 
--- In what follows `block` reads a block from its `{` on.
+-- Below, `block` reads a block from its `{` on.
 
--- `else` and what stands behind it; `again` reads an `if` behind its keyword
+-- `else` and what follows it; `again` reads an `if` after its keyword
 abbrev pub else_body_by : Reader (List tree.Stmt × Leaf) → (Leaf → Reader tree.Stmt) → Terminal
     → Leaf → List Lexeme → List Lexeme → Read (Option tree.Stmt)
 else_body_by block again If i l m = again i m >>= given (λ s. Some s)
@@ -165,20 +167,22 @@ else_on block again l (Some x) = else_by block again x.0.terminal l x.1
 abbrev pub branches : Reader (List tree.Stmt × Leaf) → (Leaf → Reader tree.Stmt) → Leaf
     → Option tree.Stmt → tree.Expr → List Lexeme → Read tree.Stmt
 branches block again i s c l =
-    block l >>= λ b w. else_on block again w (first_of w)
-    >>= given (λ e. tree.If (clause_of s) c (stmts_of b.0) (clause_of e) i.at)
+    block l >>= λ b w. else_on block again w (first_of w) >>= given
+    (λ e. tree.If (clause_of s) c (stmts_of b.0) (clause_of e) i.at)
 
-abbrev pub if_rest : Reader (List tree.Stmt × Leaf) → (Leaf → Reader tree.Stmt)
-    → Reader tree.Expr → Leaf → Head → List Lexeme → Read tree.Stmt
+abbrev pub if_rest : Reader (List tree.Stmt × Leaf) → (Leaf → Reader tree.Stmt) → Reader tree.Expr
+    → Leaf → Head → List Lexeme → Read tree.Stmt
 if_rest block again value i (condition c) l = branches block again i None c l
 if_rest block again value i (init s) l = value l >>= branches block again i s
 
--- the condition of a `for` and the `;` behind it
-abbrev pub condition_by : Reader tree.Expr → Terminal → List Lexeme → List Lexeme → Read (Option tree.Expr)
+-- the condition of a `for` and the `;` after it
+abbrev pub condition_by : Reader tree.Expr → Terminal → List Lexeme → List Lexeme
+    → Read (Option tree.Expr)
 condition_by value Semicolon l m = Done None m
 condition_by value _ l m = value l >>= λ v w. token Semicolon w >>= given (λ _. Some v)
 
-abbrev pub condition_on : Reader tree.Expr → List Lexeme → Option (Lexeme × List Lexeme) → Read (Option tree.Expr)
+abbrev pub condition_on : Reader tree.Expr → List Lexeme → Option (Lexeme × List Lexeme)
+    → Read (Option tree.Expr)
 condition_on value l None = Failed (At l)
 condition_on value l (Some x) = condition_by value x.0.terminal l x.1
 
@@ -187,19 +191,22 @@ abbrev pub step_by : Reader tree.Expr → Terminal → List Lexeme → Read (Opt
 step_by value OpenBrace l = Done None l
 step_by value _ l = valued value l >>= given (λ s. Some s)
 
-abbrev pub step_on : Reader tree.Expr → List Lexeme → Option (Lexeme × List Lexeme) → Read (Option tree.Stmt)
+abbrev pub step_on : Reader tree.Expr → List Lexeme → Option (Lexeme × List Lexeme)
+    → Read (Option tree.Stmt)
 step_on value l None = Failed (At l)
 step_on value l (Some x) = step_by value x.0.terminal l
 
 abbrev pub looped : Reader (List tree.Stmt × Leaf) → Leaf → Option tree.Stmt → Option tree.Expr
     → Option tree.Stmt → List Lexeme → Read tree.Stmt
-looped block i s c p l = block l >>= given (λ b. tree.For (clause_of s) c (clause_of p) (stmts_of b.0) i.at)
+looped block i s c p l =
+    block l >>= given (λ b. tree.For (clause_of s) c (clause_of p) (stmts_of b.0) i.at)
 
-abbrev pub for_rest : Reader (List tree.Stmt × Leaf) → Reader tree.Expr → Leaf → Head
-    → List Lexeme → Read tree.Stmt
+abbrev pub for_rest : Reader (List tree.Stmt × Leaf) → Reader tree.Expr → Leaf → Head → List Lexeme
+    → Read tree.Stmt
 for_rest block value i (condition c) l = looped block i None (Some c) None l
 for_rest block value i (init s) l =
-    condition_on value l (first_of l) >>= λ c w. step_on value w (first_of w) >>= λ p. looped block i s c p
+    condition_on value l (first_of l) >>= λ c w. step_on value w (first_of w) >>= λ p. looped block
+    i s c p
 
 abbrev pub for_by : Reader (List tree.Stmt × Leaf) → Reader tree.Expr → Leaf → Terminal
     → List Lexeme → Read tree.Stmt
@@ -211,10 +218,12 @@ abbrev pub for_on : Reader (List tree.Stmt × Leaf) → Reader tree.Expr → Lea
 for_on block value i l None = Failed (At l)
 for_on block value i l (Some x) = for_by block value i x.0.terminal l
 
--- A statement, as a list: an empty one leaves nothing.
+-- A statement, as a list: the empty statement is an empty list.
 abbrev pub stmt_by : ℕ → Reader (List tree.Stmt × Leaf) → Reader (List tree.Stmt × Leaf)
-    → (Leaf → Reader tree.Stmt) → Terminal → Leaf → List Lexeme → List Lexeme → Read (List tree.Stmt)
-stmt_by n block stmts ifs OpenBrace i l m = stmts m >>= given (λ b. tree.Block (stmts_of b.0) i.at ∷ [])
+    → (Leaf → Reader tree.Stmt) → Terminal → Leaf → List Lexeme → List Lexeme
+    → Read (List tree.Stmt)
+stmt_by n block stmts ifs OpenBrace i l m =
+    stmts m >>= given (λ b. tree.Block (stmts_of b.0) i.at ∷ [])
 stmt_by n block stmts ifs If i l m = single (ifs i m)
 stmt_by n block stmts ifs For i l m = single (for_on block (expr true n 1) i m (first_of m))
 stmt_by n block stmts ifs Go i l m = single (going n (expr false n 1) i m)
@@ -226,7 +235,8 @@ stmt_by n block stmts ifs Semicolon i l m = Done [] l
 stmt_by n block stmts ifs _ i l m = single (defining (expr false n 1) l)
 
 abbrev pub stmt_on : ℕ → Reader (List tree.Stmt × Leaf) → Reader (List tree.Stmt × Leaf)
-    → (Leaf → Reader tree.Stmt) → List Lexeme → Option (Lexeme × List Lexeme) → Read (List tree.Stmt)
+    → (Leaf → Reader tree.Stmt) → List Lexeme → Option (Lexeme × List Lexeme)
+    → Read (List tree.Stmt)
 stmt_on n block stmts ifs l None = Failed (At l)
 stmt_on n block stmts ifs l (Some x) = stmt_by n block stmts ifs x.0.terminal x.0.leaf l x.1
 
@@ -242,10 +252,11 @@ unfoldable mutual
   stmt zero l = Failed Starving
   stmt (suc n) l = stmt_on n (block_by (stmt n) n) (stmts_by (stmt n) n) (if_stmt n) l (first_of l)
 
-  -- behind `if`
+  -- after `if`
   pub if_stmt : ℕ → Leaf → List Lexeme → Read tree.Stmt
   if_stmt zero i l = Failed Starving
-  if_stmt (suc n) i l = head (expr true n 1) l >>= if_rest (block_by (stmt n) n) (if_stmt n) (expr true n 1) i
+  if_stmt (suc n) i l =
+      head (expr true n 1) l >>= if_rest (block_by (stmt n) n) (if_stmt n) (expr true n 1) i
 
 abbrev pub stmts : ℕ → List Lexeme → Read (List tree.Stmt × Leaf)
 stmts n l = stmts_by (stmt n) n l
