@@ -323,30 +323,58 @@ abbrev pub no_main : Node → Bool
 no_main (node.TextEnd has_main) = not has_main
 no_main _ = false
 
--- each rule with its test, in the order of their numbers
-abbrev pub rules : List (Rule × (Node → Bool))
+-- whether the node breaks the rule
+abbrev pub breaks : Rule → Node → Bool
+breaks rule.BadImport n = bad_import n
+breaks rule.Redeclared n = redeclared n
+breaks rule.ReservedName n = reserved_name n
+breaks rule.NoSuchName n = no_such_name n
+breaks rule.NotType n = not_type n
+breaks rule.StructByValue n = struct_by_value n
+breaks rule.PointerBase n = pointer_base n
+breaks rule.NotValue n = not_value n
+breaks rule.StringPlace n = string_place n
+breaks rule.Mismatch n = mismatch n
+breaks rule.SliceCompare n = slice_compare n
+breaks rule.BareNil n = bare_nil n
+breaks rule.NotAssignable n = not_assignable n
+breaks rule.NotPlace n = not_place n
+breaks rule.NoSuchField n = no_such_field n
+breaks rule.NotIndexable n = not_indexable n
+breaks rule.NotCall n = not_call n
+breaks rule.ArgCount n = arg_count n
+breaks rule.NoResult n = no_result n
+breaks rule.NotStatement n = not_statement n
+breaks rule.GoTarget n = go_target n
+breaks rule.NotChannel n = not_channel n
+breaks rule.NotBool n = not_bool n
+breaks rule.NotInt n = not_int n
+breaks rule.ConstRange n = const_range n
+breaks rule.ConstZeroDivisor n = const_zero_divisor n
+breaks rule.ConstIndex n = const_index n
+breaks rule.ConstSize n = const_size n
+breaks rule.LiteralFields n = literal_fields n
+breaks rule.PrintType n = print_type n
+breaks rule.ReturnCount n = return_count n
+breaks rule.MissingReturn n = missing_return n
+breaks rule.LoopOutside n = loop_outside n
+breaks rule.NoMain n = no_main n
+
+-- all rules, in the order of their numbers
+abbrev pub rules : List Rule
 rules =
-    (rule.BadImport, bad_import) ∷ (rule.Redeclared, redeclared)
-    ∷ (rule.ReservedName, reserved_name) ∷ (rule.NoSuchName, no_such_name)
-    ∷ (rule.NotType, not_type) ∷ (rule.StructByValue, struct_by_value)
-    ∷ (rule.PointerBase, pointer_base) ∷ (rule.NotValue, not_value)
-    ∷ (rule.StringPlace, string_place) ∷ (rule.Mismatch, mismatch)
-    ∷ (rule.SliceCompare, slice_compare) ∷ (rule.BareNil, bare_nil)
-    ∷ (rule.NotAssignable, not_assignable) ∷ (rule.NotPlace, not_place)
-    ∷ (rule.NoSuchField, no_such_field) ∷ (rule.NotIndexable, not_indexable)
-    ∷ (rule.NotCall, not_call) ∷ (rule.ArgCount, arg_count) ∷ (rule.NoResult, no_result)
-    ∷ (rule.NotStatement, not_statement) ∷ (rule.GoTarget, go_target)
-    ∷ (rule.NotChannel, not_channel) ∷ (rule.NotBool, not_bool) ∷ (rule.NotInt, not_int)
-    ∷ (rule.ConstRange, const_range) ∷ (rule.ConstZeroDivisor, const_zero_divisor)
-    ∷ (rule.ConstIndex, const_index) ∷ (rule.ConstSize, const_size)
-    ∷ (rule.LiteralFields, literal_fields) ∷ (rule.PrintType, print_type)
-    ∷ (rule.ReturnCount, return_count) ∷ (rule.MissingReturn, missing_return)
-    ∷ (rule.LoopOutside, loop_outside) ∷ (rule.NoMain, no_main) ∷ []
+    rule.BadImport ∷ rule.Redeclared ∷ rule.ReservedName ∷ rule.NoSuchName ∷ rule.NotType
+    ∷ rule.StructByValue ∷ rule.PointerBase ∷ rule.NotValue ∷ rule.StringPlace ∷ rule.Mismatch
+    ∷ rule.SliceCompare ∷ rule.BareNil ∷ rule.NotAssignable ∷ rule.NotPlace ∷ rule.NoSuchField
+    ∷ rule.NotIndexable ∷ rule.NotCall ∷ rule.ArgCount ∷ rule.NoResult ∷ rule.NotStatement
+    ∷ rule.GoTarget ∷ rule.NotChannel ∷ rule.NotBool ∷ rule.NotInt ∷ rule.ConstRange
+    ∷ rule.ConstZeroDivisor ∷ rule.ConstIndex ∷ rule.ConstSize ∷ rule.LiteralFields
+    ∷ rule.PrintType ∷ rule.ReturnCount ∷ rule.MissingReturn ∷ rule.LoopOutside ∷ rule.NoMain ∷ []
 
 -- the first of these rules that the node breaks
-abbrev pub first_broken : List (Rule × (Node → Bool)) → Node → Option Rule
+abbrev pub first_broken : List Rule → Node → Option Rule
 first_broken [] n = None
-first_broken (r ∷ rs) n = if r.1 n then Some r.0 else first_broken rs n
+first_broken (r ∷ rs) n = if breaks r n then Some r else first_broken rs n
 
 -- the first rule that the node breaks
 unfoldable pub broken : Node → Option Rule
