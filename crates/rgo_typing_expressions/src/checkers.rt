@@ -45,7 +45,7 @@ impl<'p, 'a> Checker<'p, 'a> {
         globals: &'p Package<'a>,
         scope: Scope<'a>,
     ) -> Checker<'p, 'a>
-        ensures { result ≡ record { globals = globals.now; scope = scope } }
+        ensures { result ≡ record { globals = globals.now; scope = scope.entry } }
     {
         Checker {
             alloc,
