@@ -1,4 +1,3 @@
-pub mod Keys
 pub mod Lists
 pub mod Numbers
 pub mod Typed
