@@ -1,6 +1,3 @@
-pub mod Faults
-pub mod FieldLists
-pub mod Keys
 pub mod Lists
 pub mod Numbers
 pub mod Typed

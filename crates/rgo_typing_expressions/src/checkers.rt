@@ -14,9 +14,9 @@ use std::marker::Model;
 /// Where an expression or a statement is checked: in a package, at a point of a function.
 #[derive(Drop)]
 pub struct Checker<'p, 'a> {
-    pub alloc: Global,
-    pub globals: &'p Package<'a>,
-    pub scope: Scope<'a>,
+    alloc: Global,
+    globals: &'p Package<'a>,
+    scope: Scope<'a>,
 }
 
 impl<'p, 'a> Model for Checker<'p, 'a> {
@@ -37,6 +37,40 @@ impl<'p, 'a> Checker<'p, 'a> {
             globals,
             scope: Scope::new(alloc),
         }
+    }
+
+    /// A checker of a package at a point with these local variables in scope.
+    pub fn with_scope(
+        alloc: Global,
+        globals: &'p Package<'a>,
+        scope: Scope<'a>,
+    ) -> Checker<'p, 'a>
+        ensures { result ≡ record { globals = globals.now; scope = scope.entry } }
+    {
+        Checker {
+            alloc,
+            globals,
+            scope,
+        }
+    }
+
+    /// The allocator of the trees that checks make.
+    pub fn alloc(&self) -> Global {
+        self.alloc
+    }
+
+    /// What the package declares.
+    pub fn globals(&self) -> &'p Package<'a>
+        ensures { result.now ≡ self.now.globals }
+    {
+        self.globals
+    }
+
+    /// The local variables.
+    pub fn scope(&self) -> &Scope<'a>
+        ensures { result.now ≡ self.now.scope }
+    {
+        &self.scope
     }
 
     /// What a name means: a local variable, else what the package declares, else what each program

@@ -74,7 +74,7 @@ impl<'p, 'a> Checker<'p, 'a> {
         ensures { ChecksTo result (checking.nodes self.now role (expr_of e.now))
             (types.type_of self.now (expr_of e.now)) (terms.term_of self.now (expr_of e.now)) }
     {
-        let alloc = self.alloc;
+        let alloc = self.alloc();
         match e {
             Expr::Number(value, at) => number(alloc, *value, *at),
             Expr::Text(_, at) => text(alloc, role, *at),
@@ -98,7 +98,7 @@ impl<'p, 'a> Checker<'p, 'a> {
             }
             Expr::Select(inner, field) => {
                 let inner = self.check_expr(Role::Value, inner)?;
-                select(alloc, self.globals, inner, field.name.bytes(), field.at)
+                select(alloc, self.globals(), inner, field.name.bytes(), field.at)
             }
             Expr::Index(slice, position, at) => {
                 let slice = self.check_expr(Role::Value, slice)?;
@@ -108,9 +108,9 @@ impl<'p, 'a> Checker<'p, 'a> {
             Expr::Call(f, args, at) => {
                 self.check_callee(f)?;
                 let callee = self.resolve_callee(f);
-                let wanted = params_of(self.globals, callee);
+                let wanted = params_of(self.globals(), callee);
                 let args = self.check_all(self.args_role(f), wanted, args)?;
-                call(alloc, self.globals, role, callee, args, *at)
+                call(alloc, self.globals(), role, callee, args, *at)
             }
             Expr::Unary(op, inner, at) => {
                 let inner = self.check_expr(Role::Value, inner)?;
@@ -123,13 +123,13 @@ impl<'p, 'a> Checker<'p, 'a> {
             }
             Expr::Literal(x, values, at) => {
                 let found = self.check_base(x)?;
-                let wanted = kinds_of(self.globals, found);
+                let wanted = kinds_of(self.globals(), found);
                 let values = self.check_all(Role::Value, wanted, values)?;
-                literal(alloc, self.globals, found, values, *at)
+                literal(alloc, self.globals(), found, values, *at)
             }
             Expr::Keyed(x, elements, at) => {
                 let found = self.check_base(x)?;
-                let fields = find_named(alloc, self.globals, found, elements)?;
+                let fields = find_named(alloc, self.globals(), found, elements)?;
                 let values = self.check_elements(&fields.kinds, elements)?;
                 keyed(alloc, found, elements, fields, values, *at)
             }
@@ -201,11 +201,11 @@ impl<'p, 'a> Checker<'p, 'a> {
             (types.types_of self.now (ast.exprs_of (map expr_of all.now)))
             (terms.all_terms self.now (map kind_of wanted.now) (ast.exprs_of (map expr_of all.now))) }
     {
-        let mut terms = Vec::new(self.alloc);
-        let mut shapes = Vec::new(self.alloc);
+        let mut terms = Vec::new(self.alloc());
+        let mut shapes = Vec::new(self.alloc());
         for e in all {
             let checked = self.check_expr(role, e)?;
-            let term = wanted_term(self.alloc, wanted, shapes.len(), checked.term)?;
+            let term = wanted_term(self.alloc(), wanted, shapes.len(), checked.term)?;
             terms.push(term)?;
             shapes.push(checked.shape)?;
         }
@@ -226,11 +226,11 @@ impl<'p, 'a> Checker<'p, 'a> {
             (terms.element_terms self.now (map optional_kind_of known.now)
             (ast.elements_of (map element_of elements.now))) }
     {
-        let mut terms = Vec::new(self.alloc);
-        let mut shapes = Vec::new(self.alloc);
+        let mut terms = Vec::new(self.alloc());
+        let mut shapes = Vec::new(self.alloc());
         for element in elements {
             let checked = self.check_expr(Role::Value, &element.value)?;
-            let term = known_term(self.alloc, known, shapes.len(), checked.term)?;
+            let term = known_term(self.alloc(), known, shapes.len(), checked.term)?;
             terms.push(term)?;
             shapes.push(checked.shape)?;
         }

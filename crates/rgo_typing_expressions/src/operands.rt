@@ -64,14 +64,14 @@ impl<'p, 'a> Checker<'p, 'a> {
         ensures { IfOk result (λ e. Matches e
             (types.shape_of_meaning self.now meaning) (terms.name_term self.now meaning at)) }
     {
-        let alloc = self.alloc;
+        let alloc = self.alloc();
         match meaning {
             Some(Meaning::Local(number)) => Ok(Checked {
                 term: Term::Local(number),
-                shape: Shape::Value(self.scope.local(number)),
+                shape: Shape::Value(self.scope().local(number)),
             }),
             Some(Meaning::Global(number)) => {
-                let kind = self.globals.variable(number);
+                let kind = self.globals().variable(number);
                 Ok(Checked {
                     term: atom(alloc, Action::Get(number), kind.to_type(alloc)?, at),
                     shape: Shape::Value(kind),

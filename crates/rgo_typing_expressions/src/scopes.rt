@@ -5,6 +5,7 @@ ghost use Rattle.rgo_typing_rules.specs.Views.{kind_of};
 ghost use Rattle.rgo_scopes.specs.Blocks.{found, found_in};
 ghost use Rattle.rgo_typing_expressions.specs.Scopes.{local_at, with_local, inside, outside, no_locals};
 
+use crate::packages::Fields;
 use rgo_scopes::Scopes;
 use rgo_typed::Base;
 use rgo_typing_rules::Kind;
@@ -92,6 +93,17 @@ impl<'a> Scope<'a> {
         ensures err { OnErr result (self.new ≡ self.old) }
     {
         self.locals.enter()
+    }
+
+    /// The local variables as the fields of a struct, or the parameters of a function.
+    pub fn into_fields(self) -> Fields<'a>
+        ensures { result ≡ record { numbers = self.entry.locals; types = self.entry.types } }
+    {
+        let Scope { locals, kinds } = self;
+        Fields {
+            numbers: locals,
+            kinds,
+        }
     }
 
     /// Ends the innermost block.

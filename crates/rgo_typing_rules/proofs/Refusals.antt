@@ -26,4 +26,9 @@ refuses_first (Refused r) l m refuses = first_of_both l m ∙ ap (λ o. earlier 
 pub none_first : (l m : List Site) → first_refusal l ≡ None → first_refusal (l ++ m) ≡ first_refusal m
 none_first l m none = first_of_both l m ∙ ap (λ o. earlier o (first_refusal m)) none
 
+-- a refusal among the other nodes is then that of all
+pub refuses_after : (e : TypeError) (l m : List Site) → first_refusal l ≡ None → Refuses e (first_refusal m) → Refuses e (first_refusal (l ++ m))
+refuses_after NoMemory l m none refuses = tt
+refuses_after (Refused r) l m none refuses = none_first l m none ∙ refuses
+
 pub ruleset refusals = (first_of_both)
