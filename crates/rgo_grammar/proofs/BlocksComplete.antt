@@ -2,8 +2,8 @@
 use Rattle.std.proofs.Common.{ℕ, zero, suc, inl, inr, true, false, List, [], ◌∷◌, ◌++◌, Option, Some, None, refl, append_assoc, append-nil}
 use Rattle.rgo_ast.specs.Tree as tree
 use Rattle.rgo_ast.specs.Tree.{exprs_of, stmts_of, clause_of}
-use Rattle.rgo_grammar.specs.declared.terminals.Terminal.TheVariants.{OpenParen, OpenBrace, CloseBrace, Semicolon}
-use Rattle.rgo_grammar.specs.Terms.{Leaf, Term, tok}
+use Rattle.rgo_lexer.specs.declared.terminals.Terminal.TheVariants.{OpenParen, OpenBrace, CloseBrace, Semicolon}
+use Rattle.rgo_lexer.specs.Lexemes.{Leaf, Lexeme, tok}
 use Rattle.rgo_grammar.specs.Grammar.{IsStmt, IsStmts, IsIf, IsElse, IsFor}
 use Rattle.rgo_grammar.specs.Grammar.IsStmt.{block as a_block, simple, if' as an_if, for' as a_for, go, var, vars, return as returned, returns, break as broken, continue as continued}
 use Rattle.rgo_grammar.specs.Grammar.IsStmts.{end, empty, last, more}
@@ -24,7 +24,7 @@ use Rattle.rgo_grammar.proofs.StmtsComplete.{EndsStmt, ends_as_simple, ends_as_l
 mutual
   unfolding stmt
 
-  pub stmt_complete : {x : List Term} {s : tree.Stmt} → IsStmt x s → (n : ℕ) (l : List Term) → EndsStmt l
+  pub stmt_complete : {x : List Lexeme} {s : tree.Stmt} → IsStmt x s → (n : ℕ) (l : List Lexeme) → EndsStmt l
       → Meets (stmt n (x ++ l)) (Done (s ∷ []) l)
   stmt_complete d zero l h = inl refl
   stmt_complete (a_block i {y} {b} {end = j} d) (suc n) l h =
@@ -54,7 +54,7 @@ mutual
   stmt_complete (broken i) (suc n) l h = inr refl
   stmt_complete (continued i) (suc n) l h = inr refl
 
-  pub stmts_found : {y : List Term} {b : List tree.Stmt} {j : Leaf} → IsStmts y b j → (n m : ℕ) (found : List tree.Stmt) (l : List Term)
+  pub stmts_found : {y : List Lexeme} {b : List tree.Stmt} {j : Leaf} → IsStmts y b j → (n m : ℕ) (found : List tree.Stmt) (l : List Lexeme)
       → Meets (listed Semicolon CloseBrace (stmt n) m found (y ++ l)) (Done (found ++ b, j) l)
   stmts_found (end j) n m found l = rw append-nil (listed_none Semicolon CloseBrace refl (stmt n) m found j l)
   stmts_found (empty i {y} {b} {j} d) n m found l =
@@ -77,7 +77,7 @@ mutual
       (listed Semicolon CloseBrace (stmt n) one.0 (found ++ s ∷ []) (y ++ l))
       (Done (found ++ s ∷ b, j) l) one.1 rest')
 
-  if_complete : {x : List Term} {s : tree.Stmt} → IsIf x s → (n : ℕ) (l : List Term) → EndsStmt l → Meets (if_at n (x ++ l)) (Done s l)
+  if_complete : {x : List Lexeme} {s : tree.Stmt} → IsIf x s → (n : ℕ) (l : List Lexeme) → EndsStmt l → Meets (if_at n (x ++ l)) (Done s l)
   if_complete (plain i k e d f) zero l h = inl refl
   if_complete (with i j k c e d f) zero l h = inl refl
   if_complete (plain i k {x} {y} {z} {b = b} {e = o} {end = j} e d f) (suc n) l h =
@@ -92,7 +92,7 @@ mutual
       )
       (with_done n i k y z l b m o (stmts_found d n n [] (z ++ l)) (else_complete f n l h) j c e)
 
-  else_complete : {z : List Term} {e : Option tree.Stmt} → IsElse z e → (n : ℕ) (l : List Term) → EndsStmt l
+  else_complete : {z : List Lexeme} {e : Option tree.Stmt} → IsElse z e → (n : ℕ) (l : List Lexeme) → EndsStmt l
       → Meets (else_on (block n) (if_stmt n) (z ++ l) (first_of (z ++ l))) (Done e l)
   else_complete no_else n l h = inr (else_done (block n) (if_stmt n) l h)
   else_complete (else_if i {x} {s} d) n l h =
@@ -100,7 +100,7 @@ mutual
   else_complete (else_block i k {y} {b} {end = j} d) n l h =
       meets_bind (stmts n (y ++ l)) (Done (b, j) l) (given (λ x. Some (tree.Block (stmts_of x.0) k.at))) (stmts_found d n n [] l)
 
-  for_complete : {x : List Term} {s : tree.Stmt} → IsFor x s → (n : ℕ) (l : List Term) → Meets (for_at n (x ++ l)) (Done s l)
+  for_complete : {x : List Lexeme} {s : tree.Stmt} → IsFor x s → (n : ℕ) (l : List Lexeme) → Meets (for_at n (x ++ l)) (Done s l)
   for_complete (while i k {x} {y} {c} {b} {end = j} g d) n l =
       rw (append_assoc x (tok OpenBrace k ∷ y) l)
       (while_complete (expr true n 1) (reads true n) (block n) i g k (y ++ l)
@@ -117,10 +117,10 @@ mutual
       (Done (tree.For (clause_of s) c (clause_of p) (stmts_of b) i.at) l)
       (looped_done n i m y l b o s c p (stmts_found d n n [] l)))
 
-pub stmts_complete : {y : List Term} {b : List tree.Stmt} {j : Leaf} → IsStmts y b j → (n : ℕ) (l : List Term)
+pub stmts_complete : {y : List Lexeme} {b : List tree.Stmt} {j : Leaf} → IsStmts y b j → (n : ℕ) (l : List Lexeme)
     → Meets (stmts n (y ++ l)) (Done (b, j) l)
 stmts_complete d n l = stmts_found d n n [] l
 
-pub block_complete : {y : List Term} {b : List tree.Stmt} {j : Leaf} → IsStmts y b j → (i : Leaf) (n : ℕ) (l : List Term)
+pub block_complete : {y : List Lexeme} {b : List tree.Stmt} {j : Leaf} → IsStmts y b j → (i : Leaf) (n : ℕ) (l : List Lexeme)
     → Meets (block n (tok OpenBrace i ∷ (y ++ l))) (Done (b, j) l)
 block_complete d i n l = stmts_found d n n [] l

@@ -1,7 +1,7 @@
 -- That what is in the grammar is read as its tree: how such facts are put together.
 use Rattle.std.proofs.Common.{◌≡◌, ℕ, zero, suc, ◌⊎◌, inl, inr, false, List, [], ◌∷◌, ◌++◌, refl, ◌∙◌, ap, append_assoc, append-nil}
-use Rattle.rgo_grammar.specs.declared.terminals.Terminal.{Terminal}
-use Rattle.rgo_grammar.specs.Terms.{Leaf, Term, tok, same}
+use Rattle.rgo_lexer.specs.declared.terminals.Terminal.{Terminal}
+use Rattle.rgo_lexer.specs.Lexemes.{Leaf, Lexeme, tok, same}
 use Rattle.rgo_grammar.specs.Grammar.{Listed}
 use Rattle.rgo_grammar.specs.Grammar.Listed.{none, last, more}
 use Rattle.rgo_grammar.specs.Reading.{Read, Done, Failed, Starving, ◌>>=◌, given, token, ended, listed, single}
@@ -16,52 +16,52 @@ meets_trans x y z (inl e) g = inl e
 meets_trans x y z (inr e) (inl g) = inl (e ∙ g)
 meets_trans x y z (inr e) (inr g) = inr (e ∙ g)
 
-pub meets_bind : {A B : Type 0} (x y : Read A) (f : A → List Term → Read B) → Meets x y → Meets (x >>= f) (y >>= f)
+pub meets_bind : {A B : Type 0} (x y : Read A) (f : A → List Lexeme → Read B) → Meets x y → Meets (x >>= f) (y >>= f)
 meets_bind x y f (inl e) = inl (ap (λ u. u >>= f) e)
 meets_bind x y f (inr e) = inr (ap (λ u. u >>= f) e)
 
 -- what is read first, and then what is read behind it
-pub meets_then : {A B : Type 0} (x : Read A) (a : A) (w : List Term) (f : A → List Term → Read B) (z : Read B)
+pub meets_then : {A B : Type 0} (x : Read A) (a : A) (w : List Lexeme) (f : A → List Lexeme → Read B) (z : Read B)
     → Meets x (Done a w) → Meets (f a w) z → Meets (x >>= f) z
 meets_then x a w f z h g = meets_trans (x >>= f) (f a w) z (meets_bind x (Done a w) f h) g
 
-pub bind_assoc : {A B C : Type 0} (m : Read A) (f : A → List Term → Read B) (g : B → List Term → Read C)
+pub bind_assoc : {A B C : Type 0} (m : Read A) (f : A → List Lexeme → Read B) (g : B → List Lexeme → Read C)
     → ((m >>= f) >>= g) ≡ (m >>= λ a w. f a w >>= g)
 bind_assoc (Done a w) f g = refl
 bind_assoc (Failed s) f g = refl
 
-pub token_done : (k : Terminal) (i : Leaf) (l : List Term) → token k (tok k i ∷ l) ≡ Done i l
+pub token_done : (k : Terminal) (i : Leaf) (l : List Lexeme) → token k (tok k i ∷ l) ≡ Done i l
 token_done k i l = rw same_self refl
 
 -- a token comes first that does not close
-abbrev pub Opens : Terminal → List Term → Type 0
-Opens closer l = (t : Term) × (m : List Term) × (l ≡ t ∷ m) × (same closer t.terminal ≡ false)
+abbrev pub Opens : Terminal → List Lexeme → Type 0
+Opens closer l = (t : Lexeme) × (m : List Lexeme) × (l ≡ t ∷ m) × (same closer t.terminal ≡ false)
 
-pub opens_append : (closer : Terminal) (x l : List Term) → Opens closer x → Opens closer (x ++ l)
+pub opens_append : (closer : Terminal) (x l : List Lexeme) → Opens closer x → Opens closer (x ++ l)
 opens_append closer x l (t, m, e, h) = (t, m ++ l, ap (λ y. y ++ l) e, h)
 
-module _ {A : Type 0} (separator closer : Terminal) (other : same closer separator ≡ false) (item : List Term → Read (List A)) where
-  pub ended_last : (again : List A → List Term → Read (List A × Leaf)) (found : List A) (j : Leaf) (l : List Term)
+module _ {A : Type 0} (separator closer : Terminal) (other : same closer separator ≡ false) (item : List Lexeme → Read (List A)) where
+  pub ended_last : (again : List A → List Lexeme → Read (List A × Leaf)) (found : List A) (j : Leaf) (l : List Lexeme)
       → ended separator closer again found (tok closer j ∷ l) ≡ Done (found, j) l
   ended_last again found j l = rw same_self refl
 
-  pub ended_more : (again : List A → List Term → Read (List A × Leaf)) (found : List A) (i : Leaf) (l : List Term)
+  pub ended_more : (again : List A → List Lexeme → Read (List A × Leaf)) (found : List A) (i : Leaf) (l : List Lexeme)
       → ended separator closer again found (tok separator i ∷ l) ≡ again found l
   ended_more again found i l = rw (other, same_self) refl
 
-  pub listed_none : (n : ℕ) (found : List A) (j : Leaf) (l : List Term)
+  pub listed_none : (n : ℕ) (found : List A) (j : Leaf) (l : List Lexeme)
       → Meets (listed separator closer item n found (tok closer j ∷ l)) (Done (found, j) l)
   unfolding listed
   listed_none zero found j l = inl refl
   listed_none (suc n) found j l = inr (rw same_self refl)
 
-  listed_open : (n : ℕ) (found : List A) (l : List Term) → Opens closer l
+  listed_open : (n : ℕ) (found : List A) (l : List Lexeme) → Opens closer l
       → listed separator closer item (suc n) found l
       ≡ (item l >>= λ a. ended separator closer (listed separator closer item n) (found ++ a))
   unfolding listed
   listed_open n found l (t, m, e, h) = rw (e, h) refl
 
-  pub listed_last : (n : ℕ) (found a : List A) (j : Leaf) (x l : List Term) → Opens closer (x ++ tok closer j ∷ l)
+  pub listed_last : (n : ℕ) (found a : List A) (j : Leaf) (x l : List Lexeme) → Opens closer (x ++ tok closer j ∷ l)
       → Meets (item (x ++ tok closer j ∷ l)) (Done a (tok closer j ∷ l))
       → Meets (listed separator closer item n found (x ++ tok closer j ∷ l)) (Done (found ++ a, j) l)
   unfolding listed
@@ -72,7 +72,7 @@ module _ {A : Type 0} (separator closer : Terminal) (other : same closer separat
       (λ b. ended separator closer (listed separator closer item n) (found ++ b)) (Done (found ++ a, j) l) h
       (inr (ended_last (listed separator closer item n) (found ++ a) j l)))
 
-  pub listed_more : (n : ℕ) (found a : List A) (i : Leaf) (x l : List Term) → Opens closer (x ++ tok separator i ∷ l)
+  pub listed_more : (n : ℕ) (found a : List A) (i : Leaf) (x l : List Lexeme) → Opens closer (x ++ tok separator i ∷ l)
       → Meets (item (x ++ tok separator i ∷ l)) (Done a (tok separator i ∷ l))
       → (m : ℕ) × Meets (listed separator closer item n found (x ++ tok separator i ∷ l)) (listed separator closer item m (found ++ a) l)
   unfolding listed
@@ -87,16 +87,16 @@ module _ {A : Type 0} (separator closer : Terminal) (other : same closer separat
   )
 
 -- a list in the grammar is read as its items, where each item is that stands before a separator or what closes the list
-module _ {A : Type 0} (separator closer : Terminal) (other : same closer separator ≡ false) (Item : List Term → A → Type 0)
-    (item : List Term → Read A)
-    (opens : (x : List Term) (a : A) → Item x a → Opens closer x)
-    (reads : (x : List Term) (a : A) → Item x a → (k : Terminal) (j : Leaf) (l : List Term) → (k ≡ separator) ⊎ (k ≡ closer)
+module _ {A : Type 0} (separator closer : Terminal) (other : same closer separator ≡ false) (Item : List Lexeme → A → Type 0)
+    (item : List Lexeme → Read A)
+    (opens : (x : List Lexeme) (a : A) → Item x a → Opens closer x)
+    (reads : (x : List Lexeme) (a : A) → Item x a → (k : Terminal) (j : Leaf) (l : List Lexeme) → (k ≡ separator) ⊎ (k ≡ closer)
     → Meets (item (x ++ tok k j ∷ l)) (Done a (tok k j ∷ l))) where
-  single_reads : {x : List Term} {a : A} → Item x a → (k : Terminal) (j : Leaf) (l : List Term) → (k ≡ separator) ⊎ (k ≡ closer)
+  single_reads : {x : List Lexeme} {a : A} → Item x a → (k : Terminal) (j : Leaf) (l : List Lexeme) → (k ≡ separator) ⊎ (k ≡ closer)
       → Meets (single (item (x ++ tok k j ∷ l))) (Done (a ∷ []) (tok k j ∷ l))
   single_reads {x} {a} h k j l s = meets_bind (item (x ++ tok k j ∷ l)) (Done a (tok k j ∷ l)) (given (λ b. b ∷ [])) (reads x a h k j l s)
 
-  pub listed_complete : {y : List Term} {all : List A} → Listed Item separator closer y all → (n : ℕ) (found : List A) (l : List Term)
+  pub listed_complete : {y : List Lexeme} {all : List A} → Listed Item separator closer y all → (n : ℕ) (found : List A) (l : List Lexeme)
       → (j : Leaf) × Meets (listed separator closer (λ m. single (item m)) n found (y ++ l)) (Done (found ++ all, j) l)
   listed_complete (none j) n found l = (j, rw append-nil (listed_none separator closer other (λ m. single (item m)) n found j l))
   listed_complete (last j {x} {a} h) n found l = (

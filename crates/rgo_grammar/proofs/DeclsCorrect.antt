@@ -3,9 +3,9 @@ use Rattle.std.proofs.Common.{◌≡◌, ℕ, ◌+◌, ◌*◌, ◌<◌, ◌≤�
 use Rattle.rgo_ast.specs.declared.names.ImportPath.{ImportPath}
 use Rattle.rgo_ast.specs.Tree as tree
 use Rattle.rgo_ast.specs.Tree.{Binding, TypeSpec, Function}
-use Rattle.rgo_grammar.specs.declared.terminals.Terminal.{Terminal}
-use Rattle.rgo_grammar.specs.declared.terminals.Terminal.TheVariants.{Name, Text, OpenParen, CloseParen, OpenBrace, CloseBrace, Comma, Semicolon, Import, Struct, Func}
-use Rattle.rgo_grammar.specs.Terms.{Leaf, Term, tok, path, same}
+use Rattle.rgo_lexer.specs.declared.terminals.Terminal.{Terminal}
+use Rattle.rgo_lexer.specs.declared.terminals.Terminal.TheVariants.{Name, Text, OpenParen, CloseParen, OpenBrace, CloseBrace, Comma, Semicolon, Import, Struct, Func}
+use Rattle.rgo_lexer.specs.Lexemes.{Leaf, Lexeme, tok, path, same}
 use Rattle.rgo_grammar.specs.Grammar as g
 use Rattle.rgo_grammar.specs.Grammar.{IsPath, IsImport, IsTypeSpec, IsResult, IsBinding, IsType, IsStmts, IsDecl, IsProgram, Listed, Each}
 use Rattle.rgo_grammar.specs.Reading.{◌>>=◌, given, first_of, token}
@@ -86,7 +86,7 @@ param_list =
 
 -- ---- imports
 
-path_correct : (l : List Term) → Correct (T Text ∷ []) (λ _. []) (λ z p w. IsPath z p) l (import_path l)
+path_correct : (l : List Lexeme) → Correct (T Text ∷ []) (λ _. []) (λ z p w. IsPath z p) l (import_path l)
 path_correct l = correct_token_given Text (λ z p w. IsPath z p) l path refl (λ i w. g.string i)
 
 path_group : GroupSyms Paths PathList PathSep (T Text ∷ [])
@@ -98,17 +98,17 @@ path_group = record {
   ends = λ s. refl;
   starts = λ t m s e. one_start PathList Text (PathSep ∷ []) t m s (rw e refl) refl;
 } where
-  alone : (k : Terminal) (i : Leaf) (m : List Term) (s : List Sym) → is_open k ≡ false
+  alone : (k : Terminal) (i : Leaf) (m : List Lexeme) (s : List Sym) → is_open k ≡ false
       → run (tok k i ∷ m) (Paths ∷ s) ≡ run (tok k i ∷ m) (T Text ∷ s)
   alone OpenParen i m s e = cc
   alone _ i m s e = refl
 
-import_of : (z : List Term) (i : Leaf) (ps : List ImportPath) → IsGroup IsPath z ps
+import_of : (z : List Lexeme) (i : Leaf) (ps : List ImportPath) → IsGroup IsPath z ps
     → IsImport (tok Import i ∷ z) (record { paths = ps; at = i.at })
 import_of z i ps (inl (p, e, h)) = rw e (g.one i h)
 import_of z i ps (inr (j, y, e, h)) = rw e (g.group i j h)
 
-pub import_correct : (n : ℕ) (i : Leaf) (l : List Term) → length l ≤ n
+pub import_correct : (n : ℕ) (i : Leaf) (l : List Lexeme) → length l ≤ n
     → Correct (Paths ∷ []) (λ _. []) (λ z d w. IsImport (tok Import i ∷ z) d) l (import_decl n i l)
 import_correct n i l h =
     correct_given (Paths ∷ []) [] (λ z ps w. IsGroup IsPath z ps) (λ z d w. IsImport (tok Import i ∷ z) d) l (group import_path n l)
@@ -119,7 +119,7 @@ import_correct n i l h =
 
 -- ---- types
 
-pub spec_correct : (n : ℕ) (l : List Term) → length l ≤ n + 1
+pub spec_correct : (n : ℕ) (l : List Lexeme) → length l ≤ n + 1
     → Correct (T Name ∷ T Struct ∷ T OpenBrace ∷ Fields ∷ []) (λ _. []) (λ z t w. IsTypeSpec z t) l (type_spec n l)
 spec_correct n l h =
     correct_token_then Name (T Struct ∷ T OpenBrace ∷ Fields ∷ []) (λ _. []) (λ z t w. IsTypeSpec z t) l
@@ -134,7 +134,7 @@ spec_correct n l h =
     (bindings_correct Semicolon CloseBrace Fields FieldSep field_list fields n v (omega (arith, ap length c, ap length d, ap length e)))
     (λ z x w f. g.struct i j k f))))
   where
-    fields : (t : Term) (l : List Term) (s : List Sym) → same CloseBrace t.terminal ≡ false
+    fields : (t : Lexeme) (l : List Lexeme) (s : List Sym) → same CloseBrace t.terminal ≡ false
         → run (t ∷ l) (Fields ∷ s) ≡ run (t ∷ l) (T Name ∷ NamesType ∷ FieldSep ∷ s)
     fields t l s e = one_start Fields Name (NamesType ∷ FieldSep ∷ []) t l s (rw e refl) refl
 
@@ -147,7 +147,7 @@ spec_group = record {
   ends = λ s. refl;
   starts = λ t m s e. one_start SpecList Name (T Struct ∷ T OpenBrace ∷ Fields ∷ SpecSep ∷ []) t m s (rw e refl) refl;
 } where
-  alone : (k : Terminal) (i : Leaf) (m : List Term) (s : List Sym) → is_open k ≡ false
+  alone : (k : Terminal) (i : Leaf) (m : List Lexeme) (s : List Sym) → is_open k ≡ false
       → run (tok k i ∷ m) (Specs ∷ s) ≡ run (tok k i ∷ m) (T Name ∷ T Struct ∷ T OpenBrace ∷ Fields ∷ s)
   alone OpenParen i m s e = cc
   alone _ i m s e = refl
@@ -163,7 +163,7 @@ var_group = record {
   ends = λ s. refl;
   starts = λ t m s e. one_start VarList Name (NamesType ∷ VarSep ∷ []) t m s (rw e refl) refl;
 } where
-  alone : (k : Terminal) (i : Leaf) (m : List Term) (s : List Sym) → is_open k ≡ false
+  alone : (k : Terminal) (i : Leaf) (m : List Lexeme) (s : List Sym) → is_open k ≡ false
       → run (tok k i ∷ m) (Vars ∷ s) ≡ run (tok k i ∷ m) (T Name ∷ NamesType ∷ s)
   alone OpenParen i m s e = cc
   alone _ i m s e = refl
@@ -174,12 +174,12 @@ abbrev is_brace : Terminal → Bool
 is_brace OpenBrace = true
 is_brace _ = false
 
-typed_result : (k : Terminal) (i : Leaf) (m : List Term) (s : List Sym) → is_brace k ≡ false
+typed_result : (k : Terminal) (i : Leaf) (m : List Lexeme) (s : List Sym) → is_brace k ≡ false
     → run (tok k i ∷ m) (Result ∷ s) ≡ run (tok k i ∷ m) (AType ∷ Block ∷ s)
 typed_result OpenBrace i m s e = cc
 typed_result k i m s e = behind_start Result AType (Block ∷ []) (tok k i) m s refl refl refl
 
-result_by_correct : (n : ℕ) (k : Terminal) (i : Leaf) (m : List Term) → length m + 1 < n
+result_by_correct : (n : ℕ) (k : Terminal) (i : Leaf) (m : List Lexeme) → length m + 1 < n
     → Correct (Result ∷ []) (λ _. Block ∷ []) (λ z r w. IsResult z r) (tok k i ∷ m) (result_by n k (tok k i ∷ m))
 unfolding run step
 result_by_correct n OpenBrace i m h = ([], refl, g.none, λ s. refl)
@@ -193,14 +193,14 @@ result_by_correct n k i m h =
     (type_correct n (tok k i ∷ m) (omega arith)))
     (λ z t w d. g.some d))
 
-result_correct : (n : ℕ) (l : List Term) → length l < n
+result_correct : (n : ℕ) (l : List Lexeme) → length l < n
     → Correct (Result ∷ []) (λ _. Block ∷ []) (λ z r w. IsResult z r) l (result_on n l (first_of l))
 unfolding run closes
 result_correct n [] h = λ s. refl
 result_correct n (t ∷ l) h = result_by_correct n t.terminal t.leaf l (omega arith)
 
 module _ (n : ℕ) where
-  body_correct : (i j k : Leaf) (x y : List Term) (ps : List Binding) (r : Option tree.TypeExpr) (l : List Term) → 4 * length l + 4 ≤ n
+  body_correct : (i j k : Leaf) (x y : List Lexeme) (ps : List Binding) (r : Option tree.TypeExpr) (l : List Lexeme) → 4 * length l + 4 ≤ n
       → Listed IsBinding Comma CloseParen x ps → IsResult y r
       → Correct (Block ∷ []) (λ _. []) (λ z d w. IsDecl (tok Func i ∷ tok Name j ∷ tok OpenParen k ∷ (x ++ (y ++ z))) d) l
       (block n l >>= given (λ b. function i j ps r b.0 b.1))
@@ -209,7 +209,7 @@ module _ (n : ℕ) where
       (λ z d w. IsDecl (tok Func i ∷ tok Name j ∷ tok OpenParen k ∷ (x ++ (y ++ z))) d) l (block n l)
       (λ b. function i j ps r b.0 b.1) (block_correct n l h) (λ z b w d. rw d.2 (g.func i j k d.0 b.1 p q d.3))
 
-  pub func_correct : (i : Leaf) (l : List Term) → 4 * length l + 4 ≤ n
+  pub func_correct : (i : Leaf) (l : List Lexeme) → 4 * length l + 4 ≤ n
       → Correct (T Name ∷ T OpenParen ∷ Params ∷ Result ∷ []) (λ _. []) (λ z d w. IsDecl (tok Func i ∷ z) d) l (func n i l)
   func_correct i l h =
       correct_token_then Name (T OpenParen ∷ Params ∷ Result ∷ []) (λ _. []) (λ z d w. IsDecl (tok Func i ∷ z) d) l
@@ -228,6 +228,6 @@ module _ (n : ℕ) where
       (result_correct n v (omega (arith, ap length c, ap length d, shorter u x v e)))
       (λ y r v' f q. body_correct i j k x y ps.0 r v' (omega (arith, ap length c, ap length d, shorter u x v e, shorter v y v' f)) p q))))
     where
-      params : (t : Term) (l : List Term) (s : List Sym) → same CloseParen t.terminal ≡ false
+      params : (t : Lexeme) (l : List Lexeme) (s : List Sym) → same CloseParen t.terminal ≡ false
           → run (t ∷ l) (Params ∷ s) ≡ run (t ∷ l) (T Name ∷ NamesType ∷ ParamSep ∷ s)
       params t l s e = one_start Params Name (NamesType ∷ ParamSep ∷ []) t l s (rw e refl) refl

@@ -3,9 +3,9 @@ use Rattle.std.proofs.Common.{ℕ, zero, suc, ◌+◌, ◌≤◌, inl, inr, Bool
 use Rattle.rgo_ast.specs.declared.names.Ident.{Ident}
 use Rattle.rgo_ast.specs.Tree as tree
 use Rattle.rgo_ast.specs.Tree.{exprs_of}
-use Rattle.rgo_grammar.specs.declared.terminals.Terminal.{Terminal}
-use Rattle.rgo_grammar.specs.declared.terminals.Terminal.TheVariants.{Name, Binary, OpenParen, OpenBracket, CloseBracket, CloseBrace, Comma, Colon, Dot}
-use Rattle.rgo_grammar.specs.Terms.{Leaf, Term, tok, ident}
+use Rattle.rgo_lexer.specs.declared.terminals.Terminal.{Terminal}
+use Rattle.rgo_lexer.specs.declared.terminals.Terminal.TheVariants.{Name, Binary, OpenParen, OpenBracket, CloseBracket, CloseBrace, Comma, Colon, Dot}
+use Rattle.rgo_lexer.specs.Lexemes.{Leaf, Lexeme, tok, ident}
 use Rattle.rgo_grammar.specs.Grammar.{level, IsExpr, IsUnary, IsPrimary, IsExprs, IsElements}
 use Rattle.rgo_grammar.specs.Grammar.IsExpr.{unary as of_unary, binary}
 use Rattle.rgo_grammar.specs.Grammar.IsUnary.{signed, literal, keyed, primary as of_primary}
@@ -20,13 +20,13 @@ use Rattle.rgo_grammar.proofs.ExprsEnds.{Unposted, EndsExpr, finished, operated,
 use Rattle.rgo_grammar.proofs.ExprsBuiltins.{new_complete, slice_complete, chan_complete, sized_complete}
 use Rattle.rgo_grammar.proofs.ExprsItems.{Closer, paren_closer, brace_closer, items_none, items_last, items_more, element_at, literal_at, keyed_at}
 
-key_opens : (i c : Leaf) (x : List Term) → Opens CloseBrace (tok Name i ∷ tok Colon c ∷ x)
+key_opens : (i c : Leaf) (x : List Lexeme) → Opens CloseBrace (tok Name i ∷ tok Colon c ∷ x)
 key_opens i c x = (tok Name i, tok Colon c ∷ x, refl, refl)
 
 mutual
   unfolding expr several
 
-  primary_complete : {x : List Term} {v : tree.Expr} → IsPrimary x v → (n : ℕ) (l : List Term)
+  primary_complete : {x : List Lexeme} {v : tree.Expr} → IsPrimary x v → (n : ℕ) (l : List Lexeme)
       → (m : ℕ) × Meets (primary n (x ++ l)) (post m v l)
   primary_complete p zero l = (0, inl refl)
   primary_complete (number v i) (suc n) l = (n, inr refl)
@@ -72,7 +72,7 @@ mutual
             (post g.0 (tree.Called v (exprs_of vs) i.at) l) h.1 g.1),
       )
 
-  unary_complete : {h : Bool} {x : List Term} {v : tree.Expr} → IsUnary h x v → (n : ℕ) (l : List Term) → Unposted l
+  unary_complete : {h : Bool} {x : List Lexeme} {v : tree.Expr} → IsUnary h x v → (n : ℕ) (l : List Lexeme) → Unposted l
       → Meets (unary h n (x ++ l)) (Done v l)
   unary_complete u zero l e = inl refl
   unary_complete (signed {header} k o i {x} {v} s u) (suc n) l e = signed_at header n k o i v x l s (unary_complete u n l e)
@@ -80,7 +80,7 @@ mutual
   unary_complete (keyed i j k {y} d) (suc n) l e = keyed_at i j k d n l (λ m q. elements_found d m q [] l)
   unary_complete (of_primary {header} {x} {v} p) (suc n) l e = primary_at header n p l e (primary_complete p n l)
 
-  formula_complete : {h : Bool} {q : ℕ} {x : List Term} {v : tree.Expr} → IsExpr h q x v → (n p : ℕ) (l : List Term) → p ≤ q → top l ≤ q
+  formula_complete : {h : Bool} {q : ℕ} {x : List Lexeme} {v : tree.Expr} → IsExpr h q x v → (n p : ℕ) (l : List Lexeme) → p ≤ q → top l ≤ q
       → Unposted l
       → (m : ℕ) × Meets (expr h n p (x ++ l)) (climb h m p v l)
   formula_complete f zero p l a t e = (0, inl refl)
@@ -97,8 +97,8 @@ mutual
       )
 
   -- behind those that were found
-  pub exprs_found : {closer : Terminal} {y : List Term} {vs : List tree.Expr} → IsExprs closer y vs → Closer closer
-      → (m n : ℕ) (found : List tree.Expr) (l : List Term)
+  pub exprs_found : {closer : Terminal} {y : List Lexeme} {vs : List tree.Expr} → IsExprs closer y vs → Closer closer
+      → (m n : ℕ) (found : List tree.Expr) (l : List Lexeme)
       → (j : Leaf) × Meets (exprs_from closer n (expr false m 1) found (y ++ l)) (Done (found ++ vs, j) l)
   exprs_found (none {closer} j) c m n found l = items_none closer c.other (expr false m 1) n found j l
   exprs_found (last {closer} j {x} {v} f) c m n found l =
@@ -111,8 +111,8 @@ mutual
       rw append_assoc (items_more closer c.other (expr false m 1) n found vs v j x y l (starts_open closer x c.closes (expr_starts f)) h
       (λ k us. exprs_found d c m k us l))
 
-  elements_found : {y : List Term} {es : List (Ident × tree.Expr)} → IsElements y es
-      → (m n : ℕ) (found : List (Ident × tree.Expr)) (l : List Term)
+  elements_found : {y : List Lexeme} {es : List (Ident × tree.Expr)} → IsElements y es
+      → (m n : ℕ) (found : List (Ident × tree.Expr)) (l : List Lexeme)
       → (j : Leaf) × Meets (elements_from n (expr false m 1) found (y ++ l)) (Done (found ++ es, j) l)
   elements_found (no_element j) m n found l = items_none CloseBrace refl (element (expr false m 1)) n found j l
   elements_found (last_element i c j {x} {v} f) m n found l =
@@ -127,11 +127,11 @@ mutual
       (key_opens i c x) h
       (λ k us. elements_found d m k us l))
 
-pub expr_complete : {h : Bool} {x : List Term} {v : tree.Expr} → IsExpr h 1 x v → (n : ℕ) (l : List Term) → EndsExpr l
+pub expr_complete : {h : Bool} {x : List Lexeme} {v : tree.Expr} → IsExpr h 1 x v → (n : ℕ) (l : List Lexeme) → EndsExpr l
     → Meets (expr h n 1 (x ++ l)) (Done v l)
 expr_complete {h} {x} {v} f n l e = finished h n x v l (formula_complete f n 1 l (omega arith) (omega (arith, e.0)) e.1) e.0
 
-pub exprs_complete : {closer : Terminal} {y : List Term} {vs : List tree.Expr} → IsExprs closer y vs → Closer closer
-    → (m n : ℕ) (l : List Term)
+pub exprs_complete : {closer : Terminal} {y : List Lexeme} {vs : List tree.Expr} → IsExprs closer y vs → Closer closer
+    → (m n : ℕ) (l : List Lexeme)
     → (j : Leaf) × Meets (exprs closer n (expr false m 1) (y ++ l)) (Done (vs, j) l)
 exprs_complete d c m n l = exprs_found d c m n [] l

@@ -6,9 +6,9 @@ use Rattle.rgo_ast.specs.declared.ops.BinaryOp.TheVariants as op
 use Rattle.rgo_ast.specs.declared.ops.UnaryOp.{UnaryOp}
 use Rattle.rgo_ast.specs.declared.ops.UnaryOp.TheVariants as unary_op
 use Rattle.rgo_ast.specs.Tree as tree
-use Rattle.rgo_grammar.specs.declared.terminals.Terminal.{Terminal}
-use Rattle.rgo_grammar.specs.declared.terminals.Terminal.TheVariants.{Name, Binary, Bang, Ampersand, Arrow, CloseParen, OpenBrace}
-use Rattle.rgo_grammar.specs.Terms.{Leaf, Term, tok}
+use Rattle.rgo_lexer.specs.declared.terminals.Terminal.{Terminal}
+use Rattle.rgo_lexer.specs.declared.terminals.Terminal.TheVariants.{Name, Binary, Bang, Ampersand, Arrow, CloseParen, OpenBrace}
+use Rattle.rgo_lexer.specs.Lexemes.{Leaf, Lexeme, tok}
 use Rattle.rgo_grammar.specs.Grammar.{level, sign, IsExpr, IsUnary, IsPrimary, IsExprs}
 use Rattle.rgo_grammar.specs.Grammar.IsExpr.{unary as of_unary, binary}
 use Rattle.rgo_grammar.specs.Grammar.IsUnary.{signed as with_sign, primary as of_primary}
@@ -24,16 +24,16 @@ use Rattle.rgo_grammar.proofs.ExprsLiteral.{literal_correct}
 use Rattle.rgo_grammar.proofs.ExprsOperand.{unsigned, operand_by_correct, post_by_correct}
 
 -- where no operator comes next, the wait for one is over
-pub correct_popped : {A : Type 0} (h : Bool) (from : List Sym) (P : List Term → A → List Term → Type 0) (l : List Term) (m : Read A)
+pub correct_popped : {A : Type 0} (h : Bool) (from : List Sym) (P : List Lexeme → A → List Lexeme → Type 0) (l : List Lexeme) (m : Read A)
     → Correct from (λ _. Bin h ∷ []) (λ z v w. P z v w × (top w < 1)) l m → Correct from (λ _. []) P l m
 correct_popped h from P l (Done a w) g = (g.0, g.1, g.2.0, λ s. g.3 s ∙ bin_pops h w s g.2.1)
 correct_popped h from P l (Failed (At w)) g = g
 correct_popped h from P l (Failed Starving) g = g
 
-abbrev IsUnaryAt : Bool → List Term → tree.Expr → List Term → Type 0
+abbrev IsUnaryAt : Bool → List Lexeme → tree.Expr → List Lexeme → Type 0
 IsUnaryAt h z v w = IsUnary h z v
 
-signed_correct : (h : Bool) (again : List Term → Read tree.Expr) (k : Terminal) (o : UnaryOp) (i : Leaf) (l : List Term) → sign k ≡ Some o
+signed_correct : (h : Bool) (again : List Lexeme → Read tree.Expr) (k : Terminal) (o : UnaryOp) (i : Leaf) (l : List Lexeme) → sign k ≡ Some o
     → ((s : List Sym) → run (tok k i ∷ l) (Unary h ∷ s) ≡ run l (Unary h ∷ s))
     → Correct (Unary h ∷ []) (λ _. []) (IsUnaryAt h) l (again l)
     → Correct (Unary h ∷ []) (λ _. []) (IsUnaryAt h) (tok k i ∷ l) (signed again o i l)
@@ -42,9 +42,9 @@ signed_correct h again k o i l e r g =
     (correct_given (Unary h ∷ []) [] (IsUnaryAt h) (λ z v w. IsUnary h (tok k i ∷ z) v) l (again l) (λ v. tree.Unary o v i.at) g
     (λ z v w u. with_sign k o i e u))
 
-unary_by_correct : (h : Bool) (n : ℕ) (inner again primary : List Term → Read tree.Expr) (k : Terminal) (i : Leaf) (l : List Term)
+unary_by_correct : (h : Bool) (n : ℕ) (inner again primary : List Lexeme → Read tree.Expr) (k : Terminal) (i : Leaf) (l : List Lexeme)
     → length l < n
-    → ((m : List Term) → length m ≤ length l → Reads inner m)
+    → ((m : List Lexeme) → length m ≤ length l → Reads inner m)
     → Correct (Unary h ∷ []) (λ _. []) (IsUnaryAt h) l (again l)
     → (unsigned k ≡ true → Correct (Unary h ∷ []) (λ _. []) (λ z v w. IsPrimary z v) (tok k i ∷ l) (primary (tok k i ∷ l)))
     → Correct (Unary h ∷ []) (λ _. []) (IsUnaryAt h) (tok k i ∷ l) (unary_by h n inner again primary k i (tok k i ∷ l) l)
@@ -65,14 +65,14 @@ unary_by_correct h n inner again primary k i l b hi ha hp =
     (λ z v w c p. of_primary p)
 
 -- what was read and what binds so tightly next
-abbrev IsExprAt : Bool → ℕ → List Term → List Term → tree.Expr → List Term → Type 0
+abbrev IsExprAt : Bool → ℕ → List Lexeme → List Lexeme → tree.Expr → List Lexeme → Type 0
 IsExprAt h least x z v w = IsExpr h least (x ++ z) v × (top w < least)
 
-operator_correct : (h : Bool) (right : ℕ → List Term → Read tree.Expr) (again : tree.Expr → List Term → Read tree.Expr) (least : ℕ)
-    (a : tree.Expr) (x : List Term)
-    (o : BinaryOp) (i : Leaf) (l : List Term) → least ≤ level o
+operator_correct : (h : Bool) (right : ℕ → List Lexeme → Read tree.Expr) (again : tree.Expr → List Lexeme → Read tree.Expr) (least : ℕ)
+    (a : tree.Expr) (x : List Lexeme)
+    (o : BinaryOp) (i : Leaf) (l : List Lexeme) → least ≤ level o
     → Correct (Unary h ∷ Bin h ∷ []) (λ _. Bin h ∷ []) (IsExprAt h (level o + 1) []) l (right (level o + 1) l)
-    → ((b : tree.Expr) (y m : List Term) → IsExpr h least y b → IsExpr h (top m) y b → length m ≤ length l
+    → ((b : tree.Expr) (y m : List Lexeme) → IsExpr h least y b → IsExpr h (top m) y b → length m ≤ length l
     → Correct (Bin h ∷ []) (λ _. Bin h ∷ []) (IsExprAt h least y) m (again b m))
     → IsExpr h (level o) x a
     → Correct (Bin h ∷ []) (λ _. Bin h ∷ []) (IsExprAt h least x) (tok (Binary o) i ∷ l)
@@ -90,11 +90,11 @@ operator_correct h right again least a x o i l le hr ha f =
     (omega (arith, shorter l y w c)))
     (λ z v u d e. (rw append_assoc at e.0, e.1))))
 
-climb_by_correct : (h : Bool) (right : ℕ → List Term → Read tree.Expr) (again : tree.Expr → List Term → Read tree.Expr) (least : ℕ)
-    (a : tree.Expr) (x : List Term)
-    (k : Terminal) (i : Leaf) (l : List Term) → 1 ≤ least → IsExpr h least x a → IsExpr h (level_of k) x a
+climb_by_correct : (h : Bool) (right : ℕ → List Lexeme → Read tree.Expr) (again : tree.Expr → List Lexeme → Read tree.Expr) (least : ℕ)
+    (a : tree.Expr) (x : List Lexeme)
+    (k : Terminal) (i : Leaf) (l : List Lexeme) → 1 ≤ least → IsExpr h least x a → IsExpr h (level_of k) x a
     → ((p : ℕ) → 1 ≤ p → Correct (Unary h ∷ Bin h ∷ []) (λ _. Bin h ∷ []) (IsExprAt h p []) l (right p l))
-    → ((b : tree.Expr) (y m : List Term) → IsExpr h least y b → IsExpr h (top m) y b → length m ≤ length l
+    → ((b : tree.Expr) (y m : List Lexeme) → IsExpr h least y b → IsExpr h (top m) y b → length m ≤ length l
     → Correct (Bin h ∷ []) (λ _. Bin h ∷ []) (IsExprAt h least y) m (again b m))
     → Correct (Bin h ∷ []) (λ _. Bin h ∷ []) (IsExprAt h least x) (tok k i ∷ l) (climb_by right again least a k i (tok k i ∷ l) l)
 climb_by_correct h right again least a x (Binary o) i l one f g hr ha =
@@ -109,7 +109,7 @@ climb_by_correct h right again least a x k i l one f g hr ha = ([], refl, (rw ap
 mutual
   unfolding expr run closes
 
-  pub expr_correct : (h : Bool) (n least : ℕ) (l : List Term) → 1 ≤ least → 4 * length l + 3 ≤ n
+  pub expr_correct : (h : Bool) (n least : ℕ) (l : List Lexeme) → 1 ≤ least → 4 * length l + 3 ≤ n
       → Correct (Unary h ∷ Bin h ∷ []) (λ _. Bin h ∷ []) (λ z v w. IsExpr h least z v × (top w < least)) l (expr h n least l)
   expr_correct h zero least l one b = absurd (omega arith)
   expr_correct h (suc n) least l one b =
@@ -117,7 +117,7 @@ mutual
       (unary_correct h n l (omega arith)) (λ x a w c u.
       climb_correct h n least a x w one (of_unary u) (of_unary u) (omega (arith, shorter l x w c, starts_some x (unary_starts u))))
 
-  pub climb_correct : (h : Bool) (n least : ℕ) (a : tree.Expr) (x l : List Term) → 1 ≤ least → IsExpr h least x a → IsExpr h (top l) x a
+  pub climb_correct : (h : Bool) (n least : ℕ) (a : tree.Expr) (x l : List Lexeme) → 1 ≤ least → IsExpr h least x a → IsExpr h (top l) x a
       → 4 * length l + 1 ≤ n
       → Correct (Bin h ∷ []) (λ _. Bin h ∷ []) (λ z v w. IsExpr h least (x ++ z) v × (top w < least)) l (climb h n least a l)
   climb_correct h zero least a x l one f g b = absurd (omega arith)
@@ -126,7 +126,7 @@ mutual
       climb_by_correct h (expr h n) (climb h n least) least a x t.terminal t.leaf l one f g (λ p q. expr_correct h n p l q (omega arith))
       (λ c y m d e s. climb_correct h n least c y m one d e (omega arith))
 
-  pub unary_correct : (h : Bool) (n : ℕ) (l : List Term) → 4 * length l + 2 ≤ n
+  pub unary_correct : (h : Bool) (n : ℕ) (l : List Lexeme) → 4 * length l + 2 ≤ n
       → Correct (Unary h ∷ []) (λ _. []) (λ z v w. IsUnary h z v) l (unary h n l)
   unary_correct h zero l b = absurd (omega arith)
   unary_correct h (suc n) [] b = λ s. refl
@@ -136,7 +136,7 @@ mutual
       (expr_correct false n 1 m (omega arith) (omega arith)))
       (unary_correct h n l (omega arith)) (λ u. primary_correct h n t l u (omega arith))
 
-  pub primary_correct : (h : Bool) (n : ℕ) (t : Term) (l : List Term) → unsigned t.terminal ≡ true → 4 * length l + 5 ≤ n
+  pub primary_correct : (h : Bool) (n : ℕ) (t : Lexeme) (l : List Lexeme) → unsigned t.terminal ≡ true → 4 * length l + 5 ≤ n
       → Correct (Unary h ∷ []) (λ _. []) (λ z v w. IsPrimary z v) (t ∷ l) (primary n (t ∷ l))
   primary_correct h zero t l u b = absurd (omega arith)
   primary_correct h (suc n) t l u b =
@@ -149,7 +149,7 @@ mutual
       (λ x v w c p. post_correct n v x w p (omega (arith, shorter (t ∷ l) x w c, starts_some x (primary_starts p))))
 
   -- what was read so far has the tokens x
-  pub post_correct : (n : ℕ) (v : tree.Expr) (x l : List Term) → IsPrimary x v → 4 * length l + 1 ≤ n
+  pub post_correct : (n : ℕ) (v : tree.Expr) (x l : List Lexeme) → IsPrimary x v → 4 * length l + 1 ≤ n
       → Correct (Post ∷ []) (λ _. []) (λ z u w. IsPrimary (x ++ z) u) l (post n v l)
   post_correct zero v x l p b = absurd (omega arith)
   post_correct (suc n) v x [] p b = ([], refl, rw append-nil p, λ s. refl)
@@ -160,13 +160,13 @@ mutual
       n (omega arith) (post n) v x t.terminal t.leaf l (omega arith) p (λ u y m q g. post_correct n u y m q (omega arith))
 
 -- an expression with no operator behind it
-pub value_correct : (h : Bool) (n : ℕ) (l : List Term) → 4 * length l + 3 ≤ n
+pub value_correct : (h : Bool) (n : ℕ) (l : List Lexeme) → 4 * length l + 3 ≤ n
     → Correct (Unary h ∷ Bin h ∷ []) (λ _. []) (λ z v w. IsExpr h 1 z v) l (expr h n 1 l)
 value_correct h n l b =
     correct_popped h (Unary h ∷ Bin h ∷ []) (λ z v w. IsExpr h 1 z v) l (expr h n 1 l) (expr_correct h n 1 l (omega arith) b)
 
 -- the same, with what comes next
-pub value_ends : (h : Bool) (n : ℕ) (l : List Term) → 4 * length l + 3 ≤ n
+pub value_ends : (h : Bool) (n : ℕ) (l : List Lexeme) → 4 * length l + 3 ≤ n
     → Correct (Unary h ∷ Bin h ∷ []) (λ _. []) (λ z v w. IsExpr h 1 z v × (top w < 1)) l (expr h n 1 l)
 value_ends h n l b =
     correct_popped h (Unary h ∷ Bin h ∷ []) (λ z v w. IsExpr h 1 z v × (top w < 1)) l (expr h n 1 l)
@@ -175,7 +175,7 @@ value_ends h n l b =
     (expr_correct h n 1 l (omega arith) b) (λ z v w c g. (g, g.1)))
 
 -- an argument list behind its `(`
-pub args_correct : (n : ℕ) (l : List Term) → 4 * length l + 3 ≤ n
+pub args_correct : (n : ℕ) (l : List Lexeme) → 4 * length l + 3 ≤ n
     → Correct (Args ∷ []) (λ _. []) (λ z x w. IsExprs CloseParen z x.0) l (exprs CloseParen n (expr false n 1) l)
 args_correct n l b =
     exprs_correct (length l) (expr false n 1) (λ m g. value_correct false n m (omega arith)) n l (omega arith) (omega arith)

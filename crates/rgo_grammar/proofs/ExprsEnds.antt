@@ -7,9 +7,9 @@ use Rattle.rgo_ast.specs.declared.ops.UnaryOp.{UnaryOp}
 use Rattle.rgo_ast.specs.declared.ops.UnaryOp.TheVariants as unary_op
 use Rattle.rgo_ast.specs.Tree as tree
 use Rattle.rgo_ast.specs.Tree.{exprs_of}
-use Rattle.rgo_grammar.specs.declared.terminals.Terminal.{Terminal}
-use Rattle.rgo_grammar.specs.declared.terminals.Terminal.TheVariants.{Name, New, Make, Number, Text, Binary, Bang, Ampersand, Arrow, OpenParen, CloseParen, OpenBracket, CloseBracket, Comma, Dot, Chan}
-use Rattle.rgo_grammar.specs.Terms.{Leaf, Term, tok, ident}
+use Rattle.rgo_lexer.specs.declared.terminals.Terminal.{Terminal}
+use Rattle.rgo_lexer.specs.declared.terminals.Terminal.TheVariants.{Name, New, Make, Number, Text, Binary, Bang, Ampersand, Arrow, OpenParen, CloseParen, OpenBracket, CloseBracket, Comma, Dot, Chan}
+use Rattle.rgo_lexer.specs.Lexemes.{Leaf, Lexeme, tok, ident}
 use Rattle.rgo_grammar.specs.Grammar.{level, sign, IsPrimary}
 use Rattle.rgo_grammar.specs.Grammar.IsPrimary.{number, text, name, parens as in_parens, new, make_slice, make_chan, make_sized, select, index, call}
 use Rattle.rgo_grammar.specs.Reading.{Read, Done, ◌>>=◌, given, token}
@@ -25,50 +25,50 @@ posts OpenBracket = true
 posts OpenParen = true
 posts _ = false
 
-abbrev pub Unposted : List Term → Type 0
+abbrev pub Unposted : List Lexeme → Type 0
 Unposted [] = Unit {0}
 Unposted (t ∷ l) = posts t.terminal ≡ false
 
 -- nothing comes next that goes on with an expression
-abbrev pub EndsExpr : List Term → Type 0
+abbrev pub EndsExpr : List Lexeme → Type 0
 EndsExpr l = (top l < 1) × Unposted l
 
 -- x is read as v, in brackets
-abbrev pub ReadsAs : List Term → tree.Expr → Type 0
-ReadsAs x v = (n : ℕ) (l : List Term) → EndsExpr l → Meets (expr false n 1 (x ++ l)) (Done v l)
+abbrev pub ReadsAs : List Lexeme → tree.Expr → Type 0
+ReadsAs x v = (n : ℕ) (l : List Lexeme) → EndsExpr l → Meets (expr false n 1 (x ++ l)) (Done v l)
 
-post_done_by : (n : ℕ) (inner : List Term → Read tree.Expr) (again : tree.Expr → List Term → Read tree.Expr) (v : tree.Expr) (k : Terminal)
-    (i : Leaf) (l m : List Term)
+post_done_by : (n : ℕ) (inner : List Lexeme → Read tree.Expr) (again : tree.Expr → List Lexeme → Read tree.Expr) (v : tree.Expr) (k : Terminal)
+    (i : Leaf) (l m : List Lexeme)
     → posts k ≡ false → post_by n inner again v k i l m ≡ Done v l
 post_done_by n inner again v Dot i l m h = cc
 post_done_by n inner again v OpenBracket i l m h = cc
 post_done_by n inner again v OpenParen i l m h = cc
 post_done_by n inner again v _ i l m h = refl
 
-pub post_done : (n : ℕ) (v : tree.Expr) (l : List Term) → Unposted l → Meets (post n v l) (Done v l)
+pub post_done : (n : ℕ) (v : tree.Expr) (l : List Lexeme) → Unposted l → Meets (post n v l) (Done v l)
 unfolding expr
 post_done zero v l h = inl refl
 post_done (suc n) v [] h = inr refl
 post_done (suc n) v (t ∷ l) h = inr (post_done_by n (expr false n 1) (post n) v t.terminal t.leaf (t ∷ l) l h)
 
-climb_done_by : (right : ℕ → List Term → Read tree.Expr) (again : tree.Expr → List Term → Read tree.Expr) (p : ℕ) (v : tree.Expr)
-    (k : Terminal) (i : Leaf) (l m : List Term)
+climb_done_by : (right : ℕ → List Lexeme → Read tree.Expr) (again : tree.Expr → List Lexeme → Read tree.Expr) (p : ℕ) (v : tree.Expr)
+    (k : Terminal) (i : Leaf) (l m : List Lexeme)
     → level_of k < p → climb_by right again p v k i l m ≡ Done v l
 climb_done_by right again p v (Binary o) i l m h = rw (lt-leb p (level o) h) refl
 climb_done_by right again p v _ i l m h = refl
 
-pub climb_done : (h : Bool) (n p : ℕ) (v : tree.Expr) (l : List Term) → top l < p → Meets (climb h n p v l) (Done v l)
+pub climb_done : (h : Bool) (n p : ℕ) (v : tree.Expr) (l : List Lexeme) → top l < p → Meets (climb h n p v l) (Done v l)
 unfolding expr
 climb_done h zero p v l e = inl refl
 climb_done h (suc n) p v [] e = inr refl
 climb_done h (suc n) p v (t ∷ l) e = inr (climb_done_by (expr h n) (climb h n p) p v t.terminal t.leaf (t ∷ l) l e)
 
-pub finished : (h : Bool) (n : ℕ) (x : List Term) (v : tree.Expr) (l : List Term) → (m : ℕ) × Meets (expr h n 1 (x ++ l)) (climb h m 1 v l)
+pub finished : (h : Bool) (n : ℕ) (x : List Lexeme) (v : tree.Expr) (l : List Lexeme) → (m : ℕ) × Meets (expr h n 1 (x ++ l)) (climb h m 1 v l)
     → top l < 1
     → Meets (expr h n 1 (x ++ l)) (Done v l)
 finished h n x v l g e = meets_trans (expr h n 1 (x ++ l)) (climb h g.0 1 v l) (Done v l) g.1 (climb_done h g.0 1 v l e)
 
-pub operated : (h : Bool) (p : ℕ) (o : BinaryOp) (i : Leaf) (a b : tree.Expr) (y : List Term) (m : ℕ) (l : List Term) → p ≤ level o
+pub operated : (h : Bool) (p : ℕ) (o : BinaryOp) (i : Leaf) (a b : tree.Expr) (y : List Lexeme) (m : ℕ) (l : List Lexeme) → p ≤ level o
     → top l < level o + 1
     → ((n : ℕ) → (m' : ℕ) × Meets (expr h n (level o + 1) (y ++ l)) (climb h m' (level o + 1) b l))
     → (m' : ℕ) × Meets (climb h m p a (tok (Binary o) i ∷ (y ++ l))) (climb h m' p (tree.Binary o a b i.at) l)
@@ -85,13 +85,13 @@ operated h p o i a b y (suc m) l e t g =
 
 -- ---- what stands behind a primary expression
 
-pub selected : (i j : Leaf) (v : tree.Expr) (n : ℕ) (l : List Term)
+pub selected : (i j : Leaf) (v : tree.Expr) (n : ℕ) (l : List Lexeme)
     → (m : ℕ) × Meets (post n v (tok Dot i ∷ tok Name j ∷ l)) (post m (tree.Select v (ident j)) l)
 unfolding expr
 selected i j v zero l = (0, inl refl)
 selected i j v (suc n) l = (n, inr refl)
 
-pub indexed_at : (i j : Leaf) (v w : tree.Expr) (y : List Term) (n : ℕ) (l : List Term) → ReadsAs y w
+pub indexed_at : (i j : Leaf) (v w : tree.Expr) (y : List Lexeme) (n : ℕ) (l : List Lexeme) → ReadsAs y w
     → (m : ℕ) × Meets (post n v (tok OpenBracket i ∷ (y ++ tok CloseBracket j ∷ l))) (post m (tree.Index v w i.at) l)
 unfolding expr
 indexed_at i j v w y zero l h = (0, inl refl)
@@ -102,7 +102,7 @@ indexed_at i j v w y (suc n) l h = (
       (post n (tree.Index v w i.at) l) (h n (tok CloseBracket j ∷ l) (omega arith, refl)) (inr refl),
 )
 
-pub called_at : (i : Leaf) (v : tree.Expr) (y : List Term) (vs : List tree.Expr) (n : ℕ) (l : List Term)
+pub called_at : (i : Leaf) (v : tree.Expr) (y : List Lexeme) (vs : List tree.Expr) (n : ℕ) (l : List Lexeme)
     → ((m k : ℕ) → (j : Leaf) × Meets (exprs CloseParen k (expr false m 1) (y ++ l)) (Done (vs, j) l))
     → (m : ℕ) × Meets (post n v (tok OpenParen i ∷ (y ++ l))) (post m (tree.Called v (exprs_of vs) i.at) l)
 unfolding expr
@@ -111,7 +111,7 @@ called_at i v y vs (suc n) l h =
     let g = h n n in
     (n, meets_bind (exprs CloseParen n (expr false n 1) (y ++ l)) (Done (vs, g.0) l) (λ x. post n (tree.Called v (exprs_of x.0) i.at)) g.1)
 
-pub parens_at : (i j : Leaf) (v : tree.Expr) (x : List Term) (n : ℕ) (l : List Term) → ReadsAs x v
+pub parens_at : (i j : Leaf) (v : tree.Expr) (x : List Lexeme) (n : ℕ) (l : List Lexeme) → ReadsAs x v
     → Meets (primary (suc n) (tok OpenParen i ∷ (x ++ tok CloseParen j ∷ l))) (post n (tree.Paren v i.at) l)
 unfolding expr
 parens_at i j v x n l h =
@@ -122,7 +122,7 @@ parens_at i j v x n l h =
 
 -- ---- signs
 
-signed_by : (h : Bool) (n : ℕ) (inner again primary : List Term → Read tree.Expr) (k : Terminal) (o : UnaryOp) (i : Leaf) (l m : List Term)
+signed_by : (h : Bool) (n : ℕ) (inner again primary : List Lexeme → Read tree.Expr) (k : Terminal) (o : UnaryOp) (i : Leaf) (l m : List Lexeme)
     → sign k ≡ Some o
     → unary_by h n inner again primary k i l m ≡ signed again o i m
 signed_by h n inner again primary (Binary op.Add) o i l m e = let f : o ≡ unary_op.Plus = cc in rw f refl
@@ -131,7 +131,7 @@ signed_by h n inner again primary Bang o i l m e = let f : o ≡ unary_op.Not = 
 signed_by h n inner again primary Arrow o i l m e = let f : o ≡ unary_op.Receive = cc in rw f refl
 signed_by h n inner again primary _ o i l m e = cc
 
-pub signed_at : (h : Bool) (n : ℕ) (k : Terminal) (o : UnaryOp) (i : Leaf) (v : tree.Expr) (x l : List Term) → sign k ≡ Some o
+pub signed_at : (h : Bool) (n : ℕ) (k : Terminal) (o : UnaryOp) (i : Leaf) (v : tree.Expr) (x l : List Lexeme) → sign k ≡ Some o
     → Meets (unary h n (x ++ l)) (Done v l) → Meets (unary h (suc n) (tok k i ∷ (x ++ l))) (Done (tree.Unary o v i.at) l)
 unfolding expr
 signed_at h n k o i v x l e g =
@@ -140,13 +140,13 @@ signed_at h n k o i v x l e g =
 
 -- ---- without a sign
 
-abbrev Unsigned : List Term → Type 0
-Unsigned x = (t : Term) × (y : List Term) × (x ≡ t ∷ y) × (unsigned t.terminal ≡ true)
+abbrev Unsigned : List Lexeme → Type 0
+Unsigned x = (t : Lexeme) × (y : List Lexeme) × (x ≡ t ∷ y) × (unsigned t.terminal ≡ true)
 
-unsigned_append : (x z : List Term) → Unsigned x → Unsigned (x ++ z)
+unsigned_append : (x z : List Lexeme) → Unsigned x → Unsigned (x ++ z)
 unsigned_append x z (t, y, e, h) = (t, y ++ z, ap (λ w. w ++ z) e, h)
 
-primary_unsigned : {x : List Term} {v : tree.Expr} → IsPrimary x v → Unsigned x
+primary_unsigned : {x : List Lexeme} {v : tree.Expr} → IsPrimary x v → Unsigned x
 primary_unsigned (number n i) = (tok (Number n) i, [], refl, refl)
 primary_unsigned (text i) = (tok Text i, [], refl, refl)
 primary_unsigned (name i) = (tok Name i, [], refl, refl)
@@ -161,7 +161,7 @@ primary_unsigned (select i j {x} p) = unsigned_append x (tok Dot i ∷ tok Name 
 primary_unsigned (index i j {x} {y} p f) = unsigned_append x (tok OpenBracket i ∷ (y ++ tok CloseBracket j ∷ [])) (primary_unsigned p)
 primary_unsigned (call i {x} {y} p d) = unsigned_append x (tok OpenParen i ∷ y) (primary_unsigned p)
 
-unsigned_by : (h : Bool) (n : ℕ) (inner again primary : List Term → Read tree.Expr) (k : Terminal) (i : Leaf) (l m : List Term)
+unsigned_by : (h : Bool) (n : ℕ) (inner again primary : List Lexeme → Read tree.Expr) (k : Terminal) (i : Leaf) (l m : List Lexeme)
     → unsigned k ≡ true
     → unary_by h n inner again primary k i l m ≡ primary l
 unsigned_by h n inner again primary (Binary op.Add) i l m e = cc
@@ -171,11 +171,11 @@ unsigned_by h n inner again primary Arrow i l m e = cc
 unsigned_by h n inner again primary Ampersand i l m e = cc
 unsigned_by h n inner again primary _ i l m e = refl
 
-unsigned_at : (h : Bool) (n : ℕ) (l : List Term) → Unsigned l → unary h (suc n) l ≡ primary n l
+unsigned_at : (h : Bool) (n : ℕ) (l : List Lexeme) → Unsigned l → unary h (suc n) l ≡ primary n l
 unfolding expr
 unsigned_at h n l (t, y, e, u) = rw e (unsigned_by h n (expr false n 1) (unary h n) (primary n) t.terminal t.leaf (t ∷ y) y u)
 
-pub primary_at : (h : Bool) (n : ℕ) {x : List Term} {v : tree.Expr} → IsPrimary x v → (l : List Term) → Unposted l
+pub primary_at : (h : Bool) (n : ℕ) {x : List Lexeme} {v : tree.Expr} → IsPrimary x v → (l : List Lexeme) → Unposted l
     → (m : ℕ) × Meets (primary n (x ++ l)) (post m v l) → Meets (unary h (suc n) (x ++ l)) (Done v l)
 primary_at h n {x} {v} p l u g =
     rw (unsigned_at h n (x ++ l) (unsigned_append x l (primary_unsigned p)))

@@ -4,9 +4,9 @@ use Rattle.rgo_ast.specs.declared.ops.BinaryOp.TheVariants as op
 use Rattle.rgo_ast.specs.declared.names.Ident.{Ident}
 use Rattle.rgo_ast.specs.Tree as tree
 use Rattle.rgo_ast.specs.Tree.{exprs_of, elements_of}
-use Rattle.rgo_grammar.specs.declared.terminals.Terminal.{Terminal}
-use Rattle.rgo_grammar.specs.declared.terminals.Terminal.TheVariants.{Name, Binary, Ampersand, OpenBrace, CloseBrace, Comma, Colon}
-use Rattle.rgo_grammar.specs.Terms.{Leaf, Term, tok, ident, same}
+use Rattle.rgo_lexer.specs.declared.terminals.Terminal.{Terminal}
+use Rattle.rgo_lexer.specs.declared.terminals.Terminal.TheVariants.{Name, Binary, Ampersand, OpenBrace, CloseBrace, Comma, Colon}
+use Rattle.rgo_lexer.specs.Lexemes.{Leaf, Lexeme, tok, ident, same}
 use Rattle.rgo_grammar.specs.Grammar.{Listed, IsExpr, IsUnary, IsExprs, IsElements}
 use Rattle.rgo_grammar.specs.Grammar.Listed.{none as none_item, last as last_item, more as next_item}
 use Rattle.rgo_grammar.specs.Grammar.IsUnary.{literal, keyed as with_keys}
@@ -23,7 +23,7 @@ use Rattle.rgo_grammar.proofs.ExprsLists.{IsValue, elems_correct}
 
 -- ---- where no key comes first
 
-unkeyed_second : (k : Terminal) (i j : Leaf) (l : List Term) (s : List Sym) → is_keyed (tok Name i ∷ tok k j ∷ l) ≡ false
+unkeyed_second : (k : Terminal) (i j : Leaf) (l : List Lexeme) (s : List Sym) → is_keyed (tok Name i ∷ tok k j ∷ l) ≡ false
     → run (tok Name i ∷ tok k j ∷ l) (Elems ∷ s) ≡ run (tok Name i ∷ tok k j ∷ l) (ElemsMore ∷ s)
 unfolding run step
 unkeyed_second Colon i j l s e = cc
@@ -32,13 +32,13 @@ unkeyed_second (Binary op.Sub) i j l s e = refl
 unkeyed_second (Binary op.Mul) i j l s e = refl
 unkeyed_second _ i j l s e = refl
 
-unkeyed_named : (i : Leaf) (l : List Term) (s : List Sym) → is_keyed (tok Name i ∷ l) ≡ false
+unkeyed_named : (i : Leaf) (l : List Lexeme) (s : List Sym) → is_keyed (tok Name i ∷ l) ≡ false
     → run (tok Name i ∷ l) (Elems ∷ s) ≡ run (tok Name i ∷ l) (ElemsMore ∷ s)
 unfolding run step closes
 unkeyed_named i [] s e = refl
 unkeyed_named i (t ∷ l) s e = unkeyed_second t.terminal i t.leaf l s e
 
-unkeyed_first : (k : Terminal) (i : Leaf) (l : List Term) (s : List Sym) → is_keyed (tok k i ∷ l) ≡ false
+unkeyed_first : (k : Terminal) (i : Leaf) (l : List Lexeme) (s : List Sym) → is_keyed (tok k i ∷ l) ≡ false
     → run (tok k i ∷ l) (Elems ∷ s) ≡ run (tok k i ∷ l) (ElemsMore ∷ s)
 unfolding run step
 unkeyed_first Name i l s e = unkeyed_named i l s e
@@ -46,7 +46,7 @@ unkeyed_first (Binary op.Add) i l s e = refl
 unkeyed_first (Binary op.Sub) i l s e = refl
 unkeyed_first _ i l s e = refl
 
-unkeyed_run : (l : List Term) (s : List Sym) → is_keyed l ≡ false → run l (Elems ∷ s) ≡ run l (ElemsMore ∷ s)
+unkeyed_run : (l : List Lexeme) (s : List Sym) → is_keyed l ≡ false → run l (Elems ∷ s) ≡ run l (ElemsMore ∷ s)
 unfolding run closes
 unkeyed_run [] s e = refl
 unkeyed_run (t ∷ l) s e = unkeyed_first t.terminal t.leaf l s e
@@ -66,13 +66,13 @@ keyed_syms =
       end_stays = refl;
     }
 
-abbrev pub IsElement : List Term → Ident × tree.Expr → Type 0
-IsElement z e = (i c : Leaf) × (x : List Term) × (z ≡ tok Name i ∷ tok Colon c ∷ x) × (e.0 ≡ ident i) × IsExpr false 1 x e.1
+abbrev pub IsElement : List Lexeme → Ident × tree.Expr → Type 0
+IsElement z e = (i c : Leaf) × (x : List Lexeme) × (z ≡ tok Name i ∷ tok Colon c ∷ x) × (e.0 ≡ ident i) × IsExpr false 1 x e.1
 
-abbrev AnElement : List Term → Ident × tree.Expr → List Term → Type 0
+abbrev AnElement : List Lexeme → Ident × tree.Expr → List Lexeme → Type 0
 AnElement z e w = IsElement z e
 
-elements_listed : {z : List Term} {es : List (Ident × tree.Expr)} → Listed IsElement Comma CloseBrace z es → IsElements z es
+elements_listed : {z : List Lexeme} {es : List (Ident × tree.Expr)} → Listed IsElement Comma CloseBrace z es → IsElements z es
 elements_listed (none_item j) = no_element j
 elements_listed (last_item j {x} {a} (i, c, y, p, q, h)) = rw (p, q) (last_element i c j h)
 elements_listed (next_item j {x} {y} {a} {all} (i, c, x', p, q, h) d) = rw (p, q) (more_elements i c j h (elements_listed d))
@@ -80,48 +80,48 @@ elements_listed (next_item j {x} {y} {a} {all} (i, c, x', p, q, h) d) = rw (p, q
 abbrev NotEmpty : List (Ident × tree.Expr) → Type 0
 NotEmpty es = (f : Ident × tree.Expr) × (fs : List (Ident × tree.Expr)) × (es ≡ f ∷ fs)
 
-some_elements : {z : List Term} {es : List (Ident × tree.Expr)} → IsElements z es → (t : Term) (m w : List Term) → t.terminal ≡ Name
+some_elements : {z : List Lexeme} {es : List (Ident × tree.Expr)} → IsElements z es → (t : Lexeme) (m w : List Lexeme) → t.terminal ≡ Name
     → t ∷ m ≡ z ++ w → NotEmpty es
 some_elements (no_element j) t m w h e = cc
 some_elements (last_element k c j {x} {v} g) t m w h e = ((ident k, v), [], refl)
 some_elements (more_elements k c j {x} {y} {v} {vs} g d) t m w h e = ((ident k, v), vs, refl)
 
-keyed_rest : (i j k : Leaf) (z : List Term) (es : List (Ident × tree.Expr)) → IsElements z es → NotEmpty es
+keyed_rest : (i j k : Leaf) (z : List Lexeme) (es : List (Ident × tree.Expr)) → IsElements z es → NotEmpty es
     → IsUnary false (tok Ampersand i ∷ tok Name j ∷ tok OpenBrace k ∷ z) (tree.Keyed (ident j) (elements_of es) i.at)
 keyed_rest i j k z es d (f, fs, e) = rw e (with_keys i j k (rw e at d))
 
-keyed_second : (k : Terminal) (i j : Leaf) (l : List Term) → is_keyed (tok Name i ∷ tok k j ∷ l) ≡ true → k ≡ Colon
+keyed_second : (k : Terminal) (i j : Leaf) (l : List Lexeme) → is_keyed (tok Name i ∷ tok k j ∷ l) ≡ true → k ≡ Colon
 keyed_second Colon i j l e = refl
 keyed_second _ i j l e = cc
 
-abbrev HasKey : List Term → Type 0
-HasKey l = (i c : Leaf) × (m : List Term) × (l ≡ tok Name i ∷ tok Colon c ∷ m)
+abbrev HasKey : List Lexeme → Type 0
+HasKey l = (i c : Leaf) × (m : List Lexeme) × (l ≡ tok Name i ∷ tok Colon c ∷ m)
 
-keyed_named : (i : Leaf) (l : List Term) → is_keyed (tok Name i ∷ l) ≡ true → HasKey (tok Name i ∷ l)
+keyed_named : (i : Leaf) (l : List Lexeme) → is_keyed (tok Name i ∷ l) ≡ true → HasKey (tok Name i ∷ l)
 keyed_named i [] e = cc
 keyed_named i (t ∷ l) e = let k : t.terminal ≡ Colon = keyed_second t.terminal i t.leaf l e in (i, t.leaf, l, rw (← k) refl)
 
-keyed_first : (k : Terminal) (i : Leaf) (l : List Term) → is_keyed (tok k i ∷ l) ≡ true → HasKey (tok k i ∷ l)
+keyed_first : (k : Terminal) (i : Leaf) (l : List Lexeme) → is_keyed (tok k i ∷ l) ≡ true → HasKey (tok k i ∷ l)
 keyed_first Name i l e = keyed_named i l e
 keyed_first _ i l e = cc
 
-has_key : (l : List Term) → is_keyed l ≡ true → HasKey l
+has_key : (l : List Lexeme) → is_keyed l ≡ true → HasKey l
 has_key [] e = cc
 has_key (t ∷ l) e = keyed_first t.terminal t.leaf l e
 
-key_first : (k : Terminal) (i : Leaf) (l : List Term) (s : List Sym) → same CloseBrace k ≡ false
+key_first : (k : Terminal) (i : Leaf) (l : List Lexeme) (s : List Sym) → same CloseBrace k ≡ false
     → run (tok k i ∷ l) (KeyedMore ∷ s) ≡ run (tok k i ∷ l) (T Name ∷ T Colon ∷ Unary false ∷ Bin false ∷ KeyedEnd ∷ s)
 unfolding run step
 key_first CloseBrace i l s e = cc
 key_first _ i l s e = refl
 
-key_run : (i c : Leaf) (m : List Term) (s : List Sym)
+key_run : (i c : Leaf) (m : List Lexeme) (s : List Sym)
     → run (tok Name i ∷ tok Colon c ∷ m) (Elems ∷ s) ≡ run (tok Name i ∷ tok Colon c ∷ m) (KeyedMore ∷ s)
 unfolding run step
 key_run i c m s = refl
 
 -- what is read behind `& name {` with keys is a list of them
-pub keyed_list : (n : ℕ) (inner : List Term → Read tree.Expr) (i j : Leaf) (t : Term) (l : List Term) → same CloseBrace t.terminal ≡ false
+pub keyed_list : (n : ℕ) (inner : List Lexeme → Read tree.Expr) (i j : Leaf) (t : Lexeme) (l : List Lexeme) → same CloseBrace t.terminal ≡ false
     → keyed n inner i j (t ∷ l) ≡ (elements_from (suc n) inner [] (t ∷ l) >>= given (λ x. tree.Keyed (ident j) (elements_of x.0) i.at))
 unfolding listed several
 keyed_list n inner i j t l e =
@@ -130,8 +130,8 @@ keyed_list n inner i j t l e =
     ∙ bind_assoc (element inner (t ∷ l)) (given (λ a. a ∷ []))
     (λ a w. ended Comma CloseBrace (elements_from n inner) a w >>= given (λ x. tree.Keyed (ident j) (elements_of x.0) i.at))))
 
-module _ (bound : ℕ) (inner : List Term → Read tree.Expr) (inner_c : (m : List Term) → length m ≤ bound → Reads inner m) where
-  element_correct : (t : Term) (l : List Term) → length l < bound → same CloseBrace t.terminal ≡ false
+module _ (bound : ℕ) (inner : List Lexeme → Read tree.Expr) (inner_c : (m : List Lexeme) → length m ≤ bound → Reads inner m) where
+  element_correct : (t : Lexeme) (l : List Lexeme) → length l < bound → same CloseBrace t.terminal ≡ false
       → Correct (KeyedMore ∷ []) (λ _. KeyedEnd ∷ []) AnElement (t ∷ l) (element inner (t ∷ l))
   element_correct t l b e =
       correct_from (KeyedMore ∷ []) (T Name ∷ T Colon ∷ Unary false ∷ Bin false ∷ KeyedEnd ∷ []) (λ _. KeyedEnd ∷ []) AnElement [] (t ∷ l)
@@ -148,17 +148,17 @@ module _ (bound : ℕ) (inner : List Term → Read tree.Expr) (inner_c : (m : Li
       (λ z v w h. (i, c, z, refl, refl, h)))))
 
   -- behind `& name {`
-  abbrev IsRest : Leaf → Leaf → Leaf → List Term → tree.Expr → List Term → Type 0
+  abbrev IsRest : Leaf → Leaf → Leaf → List Lexeme → tree.Expr → List Lexeme → Type 0
   IsRest i j k z v w = IsUnary false (tok Ampersand i ∷ tok Name j ∷ tok OpenBrace k ∷ z) v
 
-  keyed_correct : (n : ℕ) (i j k : Leaf) (l : List Term) → length l < n → length l ≤ bound → is_keyed l ≡ true
+  keyed_correct : (n : ℕ) (i j k : Leaf) (l : List Lexeme) → length l < n → length l ≤ bound → is_keyed l ≡ true
       → Correct (Elems ∷ []) (λ _. []) (IsRest i j k) l (keyed n inner i j l)
   unfolding several
   keyed_correct n i j k l h b e =
       let (a, c, m, p) = has_key l e in
       rw p (with_key a c m (omega (arith, ap length p)) (omega (arith, ap length p)))
     where
-      with_key : (a c : Leaf) (m : List Term) → length m + 2 < n → length m + 2 ≤ bound
+      with_key : (a c : Leaf) (m : List Lexeme) → length m + 2 < n → length m + 2 ≤ bound
           → Correct (Elems ∷ []) (λ _. []) (IsRest i j k) (tok Name a ∷ tok Colon c ∷ m) (keyed n inner i j (tok Name a ∷ tok Colon c ∷ m))
       with_key a c m g b' =
           rw (keyed_list n inner i j (tok Name a) (tok Colon c ∷ m) refl)
@@ -175,7 +175,7 @@ module _ (bound : ℕ) (inner : List Term → Read tree.Expr) (inner_c : (m : Li
           (λ z x w p d. let d' = elements_listed d in (d', some_elements d' (tok Name a) (tok Colon c ∷ m) w refl p)))
           (λ z x w d. keyed_rest i j k z x.0 d.0 d.1))
 
-  unkeyed_correct : (n : ℕ) (i j k : Leaf) (l : List Term) → length l < n → length l ≤ bound → is_keyed l ≡ false
+  unkeyed_correct : (n : ℕ) (i j k : Leaf) (l : List Lexeme) → length l < n → length l ≤ bound → is_keyed l ≡ false
       → Correct (Elems ∷ []) (λ _. []) (IsRest i j k) l (unkeyed n inner i j l)
   unkeyed_correct n i j k l h b e =
       correct_from (Elems ∷ []) (ElemsMore ∷ []) (λ _. []) (IsRest i j k) [] l l (unkeyed n inner i j l) refl (λ s. unkeyed_run l s e)
@@ -183,14 +183,14 @@ module _ (bound : ℕ) (inner : List Term → Read tree.Expr) (inner_c : (m : Li
       (λ x. tree.Literal (ident j) (exprs_of x.0) i.at)
       (elems_correct bound inner inner_c n l h b) (λ z x w d. literal i j k d))
 
-  elements_correct : (n : ℕ) (i j k : Leaf) (l : List Term) → length l < n → length l ≤ bound
+  elements_correct : (n : ℕ) (i j k : Leaf) (l : List Lexeme) → length l < n → length l ≤ bound
       → Correct (Elems ∷ []) (λ _. []) (IsRest i j k) l (elements n inner i j l)
   elements_correct n i j k l h b =
       elim (is_keyed l) as (λ v. is_keyed l ≡ v → Correct (Elems ∷ []) (λ _. []) (IsRest i j k) l
       (cond v (keyed n inner i j l) (unkeyed n inner i j l)))
       [ true ↦ λ e. keyed_correct n i j k l h b e | false ↦ λ e. unkeyed_correct n i j k l h b e ] refl
 
-  pub literal_correct : (n : ℕ) (i : Leaf) (l : List Term) → length l < n → length l ≤ bound
+  pub literal_correct : (n : ℕ) (i : Leaf) (l : List Lexeme) → length l < n → length l ≤ bound
       → Correct (T Name ∷ T OpenBrace ∷ Elems ∷ []) (λ _. []) (λ z v w. IsUnary false (tok Ampersand i ∷ z) v) l (read_literal n inner i l)
   literal_correct n i l h b =
       correct_token_then Name (T OpenBrace ∷ Elems ∷ []) (λ _. []) (λ z v w. IsUnary false (tok Ampersand i ∷ z) v) l

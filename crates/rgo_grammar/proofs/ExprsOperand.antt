@@ -3,9 +3,9 @@ use Rattle.std.proofs.Common.{◌≡◌, ℕ, ◌<◌, ◌≤◌, Bool, true, fa
 use Rattle.rgo_ast.specs.declared.ops.BinaryOp.TheVariants as op
 use Rattle.rgo_ast.specs.Tree as tree
 use Rattle.rgo_ast.specs.Tree.{exprs_of}
-use Rattle.rgo_grammar.specs.declared.terminals.Terminal.{Terminal}
-use Rattle.rgo_grammar.specs.declared.terminals.Terminal.TheVariants.{Name, New, Make, Number, Text, Binary, Bang, Ampersand, Arrow, OpenParen, CloseParen, OpenBracket, CloseBracket, Dot}
-use Rattle.rgo_grammar.specs.Terms.{Leaf, Term, tok, ident}
+use Rattle.rgo_lexer.specs.declared.terminals.Terminal.{Terminal}
+use Rattle.rgo_lexer.specs.declared.terminals.Terminal.TheVariants.{Name, New, Make, Number, Text, Binary, Bang, Ampersand, Arrow, OpenParen, CloseParen, OpenBracket, CloseBracket, Dot}
+use Rattle.rgo_lexer.specs.Lexemes.{Leaf, Lexeme, tok, ident}
 use Rattle.rgo_grammar.specs.Grammar.{IsPrimary, IsExprs}
 use Rattle.rgo_grammar.specs.Grammar.IsPrimary.{number, text, name, parens as in_parens, select, index, call}
 use Rattle.rgo_grammar.specs.Reading.{Read, ◌>>=◌, given, token}
@@ -28,7 +28,7 @@ unsigned Arrow = false
 unsigned Ampersand = false
 unsigned _ = true
 
-unary_stops : (h : Bool) (k : Terminal) (i : Leaf) (l : List Term) (s : List Sym) → starts k ≡ false
+unary_stops : (h : Bool) (k : Terminal) (i : Leaf) (l : List Lexeme) (s : List Sym) → starts k ≡ false
     → run (tok k i ∷ l) (Unary h ∷ s) ≡ Stopped (tok k i ∷ l)
 unfolding run step
 unary_stops true (Binary op.Add) i l s e = cc
@@ -56,12 +56,12 @@ unary_stops false New i l s e = cc
 unary_stops false Make i l s e = cc
 unary_stops false _ i l s e = refl
 
-abbrev Primary : List Term → tree.Expr → List Term → Type 0
+abbrev Primary : List Lexeme → tree.Expr → List Lexeme → Type 0
 Primary z v w = IsPrimary z v
 
 -- `inner` reads an expression in brackets, of lists up to a bound
-module _ (bound : ℕ) (inner : List Term → Read tree.Expr) (inner_c : (m : List Term) → length m ≤ bound → Reads inner m) where
-  parens_correct : (i : Leaf) (l : List Term) → length l ≤ bound
+module _ (bound : ℕ) (inner : List Lexeme → Read tree.Expr) (inner_c : (m : List Lexeme) → length m ≤ bound → Reads inner m) where
+  parens_correct : (i : Leaf) (l : List Lexeme) → length l ≤ bound
       → Correct (Unary false ∷ Bin false ∷ T CloseParen ∷ []) (λ _. []) (λ z v w. IsPrimary (tok OpenParen i ∷ z) v) l (parens inner i l)
   parens_correct i l b =
       correct_then (Unary false ∷ Bin false ∷ []) (T CloseParen ∷ []) (λ _. []) IsValue (λ z v w. IsPrimary (tok OpenParen i ∷ z) v) l
@@ -70,7 +70,7 @@ module _ (bound : ℕ) (inner : List Term → Read tree.Expr) (inner_c : (m : Li
       correct_token_given CloseParen (λ z u w. IsPrimary (tok OpenParen i ∷ (x ++ z)) u) w (λ _. tree.Paren v i.at) refl
       (λ j w. in_parens i j h))
 
-  pub operand_by_correct : (n : ℕ) → bound < n → (h : Bool) (k : Terminal) (i : Leaf) (l : List Term) → length l ≤ bound → unsigned k ≡ true
+  pub operand_by_correct : (n : ℕ) → bound < n → (h : Bool) (k : Terminal) (i : Leaf) (l : List Lexeme) → length l ≤ bound → unsigned k ≡ true
       → Correct (Unary h ∷ []) (λ _. Post ∷ []) (λ z v w. IsPrimary z v) (tok k i ∷ l) (operand_by n inner k i (tok k i ∷ l) l)
   unfolding run step
   operand_by_correct n big h (Binary op.Add) i l b u = cc
@@ -105,9 +105,9 @@ module _ (bound : ℕ) (inner : List Term → Read tree.Expr) (inner_c : (m : Li
 
   -- what was read so far has the tokens x
   pub post_by_correct : (n : ℕ) → bound < n
-      → (again : tree.Expr → List Term → Read tree.Expr) (v : tree.Expr) (x : List Term) (k : Terminal) (i : Leaf) (l : List Term)
+      → (again : tree.Expr → List Lexeme → Read tree.Expr) (v : tree.Expr) (x : List Lexeme) (k : Terminal) (i : Leaf) (l : List Lexeme)
       → length l ≤ bound → IsPrimary x v
-      → ((u : tree.Expr) (y m : List Term) → IsPrimary y u → length m ≤ length l → Correct (Post ∷ []) (λ _. [])
+      → ((u : tree.Expr) (y m : List Lexeme) → IsPrimary y u → length m ≤ length l → Correct (Post ∷ []) (λ _. [])
       (λ z u w. IsPrimary (y ++ z) u) m (again u m))
       → Correct (Post ∷ []) (λ _. []) (λ z u w. IsPrimary (x ++ z) u) (tok k i ∷ l) (post_by n inner again v k i (tok k i ∷ l) l)
   unfolding run step

@@ -3,9 +3,9 @@ use Rattle.std.proofs.Common.{◌≡◌, ℕ, Bool, true, false, List, [], ◌�
 use Rattle.rgo_ast.specs.declared.ops.BinaryOp.{BinaryOp}
 use Rattle.rgo_ast.specs.declared.ops.UnaryOp.{UnaryOp}
 use Rattle.rgo_ast.specs.Tree as tree
-use Rattle.rgo_grammar.specs.declared.terminals.Terminal.{Terminal}
-use Rattle.rgo_grammar.specs.declared.terminals.Terminal.TheVariants.{Name, Binary, OpenParen, OpenBracket, CloseBracket, CloseBrace, Comma, Colon, Dot}
-use Rattle.rgo_grammar.specs.Terms.{Leaf, Term, tok}
+use Rattle.rgo_lexer.specs.declared.terminals.Terminal.{Terminal}
+use Rattle.rgo_lexer.specs.declared.terminals.Terminal.TheVariants.{Name, Binary, OpenParen, OpenBracket, CloseBracket, CloseBrace, Comma, Colon, Dot}
+use Rattle.rgo_lexer.specs.Lexemes.{Leaf, Lexeme, tok}
 use Rattle.rgo_grammar.specs.Grammar.{sign, IsExpr, IsUnary, IsPrimary, IsExprs}
 use Rattle.rgo_grammar.specs.Grammar.IsExpr.{unary, binary}
 use Rattle.rgo_grammar.specs.Grammar.IsUnary.{signed, literal, keyed, primary}
@@ -21,48 +21,48 @@ pub record Apart (test : Terminal → Bool) : Type 0 where
   pub paren : test OpenParen ≡ false
   pub operator : (o : BinaryOp) → test (Binary o) ≡ false
 
-abbrev pub FirstNot : (Terminal → Bool) → List Term → Type 0
+abbrev pub FirstNot : (Terminal → Bool) → List Lexeme → Type 0
 FirstNot test [] = Unit {0}
 FirstNot test (t ∷ l) = test t.terminal ≡ false
 
-abbrev pub name_then : (Terminal → Bool) → Terminal → List Term → Type 0
+abbrev pub name_then : (Terminal → Bool) → Terminal → List Lexeme → Type 0
 name_then test Name l = FirstNot test l
 name_then test _ l = Unit {0}
 
 -- where a name comes first, the token behind it does not pass the test
-abbrev pub SecondNot : (Terminal → Bool) → List Term → Type 0
+abbrev pub SecondNot : (Terminal → Bool) → List Lexeme → Type 0
 SecondNot test [] = Unit {0}
 SecondNot test (t ∷ l) = name_then test t.terminal l
 
-first_append : (test : Terminal → Bool) (x z : List Term) → FirstNot test x → FirstNot test z → FirstNot test (x ++ z)
+first_append : (test : Terminal → Bool) (x z : List Lexeme) → FirstNot test x → FirstNot test z → FirstNot test (x ++ z)
 first_append test [] z h g = g
 first_append test (t ∷ x) z h g = h
 
-name_append : (test : Terminal → Bool) (k : Terminal) (x z : List Term) → name_then test k x → FirstNot test z → name_then test k (x ++ z)
+name_append : (test : Terminal → Bool) (k : Terminal) (x z : List Lexeme) → name_then test k x → FirstNot test z → name_then test k (x ++ z)
 name_append test Name x z h g = first_append test x z h g
 name_append test _ x z h g = tt
 
-pub second_append : (test : Terminal → Bool) (x z : List Term) → Starts x → SecondNot test x → FirstNot test z → SecondNot test (x ++ z)
+pub second_append : (test : Terminal → Bool) (x z : List Lexeme) → Starts x → SecondNot test x → FirstNot test z → SecondNot test (x ++ z)
 second_append test [] z (t, y, e, s) h g = cc
 second_append test (t ∷ x) z s h g = name_append test t.terminal x z h g
 
-signed_second : (test : Terminal → Bool) (k : Terminal) (o : UnaryOp) (l : List Term) → sign k ≡ Some o → name_then test k l
+signed_second : (test : Terminal → Bool) (k : Terminal) (o : UnaryOp) (l : List Lexeme) → sign k ≡ Some o → name_then test k l
 signed_second test Name o l e = cc
 signed_second test _ o l e = tt
 
 module _ (test : Terminal → Bool) (apart : Apart test) where
   mutual
-    pub second_not : {h : Bool} {p : ℕ} {x : List Term} {v : tree.Expr} → IsExpr h p x v → SecondNot test x
+    pub second_not : {h : Bool} {p : ℕ} {x : List Lexeme} {v : tree.Expr} → IsExpr h p x v → SecondNot test x
     second_not (unary u) = unary_second u
     second_not (binary o i {x} {y} l f g) = second_append test x (tok (Binary o) i ∷ y) (expr_starts f) (second_not f) (apart.operator o)
 
-    unary_second : {h : Bool} {x : List Term} {v : tree.Expr} → IsUnary h x v → SecondNot test x
+    unary_second : {h : Bool} {x : List Lexeme} {v : tree.Expr} → IsUnary h x v → SecondNot test x
     unary_second (signed k o i {x} s u) = signed_second test k o x s
     unary_second (literal i j k d) = tt
     unary_second (keyed i j k d) = tt
     unary_second (primary p) = primary_second p
 
-    primary_second : {x : List Term} {v : tree.Expr} → IsPrimary x v → SecondNot test x
+    primary_second : {x : List Lexeme} {v : tree.Expr} → IsPrimary x v → SecondNot test x
     primary_second (number n i) = tt
     primary_second (text i) = tt
     primary_second (name i) = tt
@@ -83,24 +83,24 @@ colon _ = false
 colon_apart : Apart colon
 colon_apart = record { dot = refl; bracket = refl; paren = refl; operator = λ o. refl }
 
-second_unkeyed : (k : Terminal) (i j : Leaf) (l : List Term) → colon k ≡ false → is_keyed (tok Name i ∷ tok k j ∷ l) ≡ false
+second_unkeyed : (k : Terminal) (i j : Leaf) (l : List Lexeme) → colon k ≡ false → is_keyed (tok Name i ∷ tok k j ∷ l) ≡ false
 second_unkeyed Colon i j l e = cc
 second_unkeyed _ i j l e = refl
 
-named_unkeyed : (i : Leaf) (l : List Term) → FirstNot colon l → is_keyed (tok Name i ∷ l) ≡ false
+named_unkeyed : (i : Leaf) (l : List Lexeme) → FirstNot colon l → is_keyed (tok Name i ∷ l) ≡ false
 named_unkeyed i [] h = refl
 named_unkeyed i (t ∷ l) h = second_unkeyed t.terminal i t.leaf l h
 
-first_unkeyed : (k : Terminal) (i : Leaf) (l : List Term) → name_then colon k l → is_keyed (tok k i ∷ l) ≡ false
+first_unkeyed : (k : Terminal) (i : Leaf) (l : List Lexeme) → name_then colon k l → is_keyed (tok k i ∷ l) ≡ false
 first_unkeyed Name i l h = named_unkeyed i l h
 first_unkeyed _ i l h = refl
 
-unkeyed : (l : List Term) → SecondNot colon l → is_keyed l ≡ false
+unkeyed : (l : List Lexeme) → SecondNot colon l → is_keyed l ≡ false
 unkeyed [] h = refl
 unkeyed (t ∷ l) h = first_unkeyed t.terminal t.leaf l h
 
 -- no key comes first in a list of expressions
-pub exprs_unkeyed : {y : List Term} {vs : List tree.Expr} → IsExprs CloseBrace y vs → (l : List Term) → is_keyed (y ++ l) ≡ false
+pub exprs_unkeyed : {y : List Lexeme} {vs : List tree.Expr} → IsExprs CloseBrace y vs → (l : List Lexeme) → is_keyed (y ++ l) ≡ false
 exprs_unkeyed (none j) l = refl
 exprs_unkeyed (last j {x} f) l =
     rw append_assoc (unkeyed (x ++ tok CloseBrace j ∷ l) (second_append colon x (tok CloseBrace j ∷ l) (expr_starts f)

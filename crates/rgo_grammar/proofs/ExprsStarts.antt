@@ -4,9 +4,9 @@ use Rattle.rgo_ast.specs.declared.ops.BinaryOp.{BinaryOp}
 use Rattle.rgo_ast.specs.declared.ops.BinaryOp.TheVariants as op
 use Rattle.rgo_ast.specs.declared.ops.UnaryOp.{UnaryOp}
 use Rattle.rgo_ast.specs.Tree as tree
-use Rattle.rgo_grammar.specs.declared.terminals.Terminal.{Terminal}
-use Rattle.rgo_grammar.specs.declared.terminals.Terminal.TheVariants.{Name, New, Make, Number, Text, Binary, Bang, Ampersand, Arrow, OpenParen, CloseParen, OpenBracket, CloseBracket, OpenBrace, CloseBrace, Comma, Dot, Chan}
-use Rattle.rgo_grammar.specs.Terms.{Term, tok, same}
+use Rattle.rgo_lexer.specs.declared.terminals.Terminal.{Terminal}
+use Rattle.rgo_lexer.specs.declared.terminals.Terminal.TheVariants.{Name, New, Make, Number, Text, Binary, Bang, Ampersand, Arrow, OpenParen, CloseParen, OpenBracket, CloseBracket, OpenBrace, CloseBrace, Comma, Dot, Chan}
+use Rattle.rgo_lexer.specs.Lexemes.{Lexeme, tok, same}
 use Rattle.rgo_grammar.specs.Grammar.{level, sign, IsExpr, IsUnary, IsPrimary}
 use Rattle.rgo_grammar.specs.Grammar.IsExpr.{unary, binary}
 use Rattle.rgo_grammar.specs.Grammar.IsUnary.{signed, literal, keyed, primary}
@@ -18,7 +18,7 @@ abbrev pub level_of : Terminal → ℕ
 level_of (Binary o) = level o
 level_of _ = 0
 
-abbrev pub top : List Term → ℕ
+abbrev pub top : List Lexeme → ℕ
 top [] = 0
 top (t ∷ l) = level_of t.terminal
 
@@ -51,13 +51,13 @@ starts New = true
 starts Make = true
 starts _ = false
 
-abbrev pub Starts : List Term → Type 0
-Starts x = (t : Term) × (y : List Term) × (x ≡ t ∷ y) × (starts t.terminal ≡ true)
+abbrev pub Starts : List Lexeme → Type 0
+Starts x = (t : Lexeme) × (y : List Lexeme) × (x ≡ t ∷ y) × (starts t.terminal ≡ true)
 
-pub starts_append : (x z : List Term) → Starts x → Starts (x ++ z)
+pub starts_append : (x z : List Lexeme) → Starts x → Starts (x ++ z)
 starts_append x z (t, y, e, h) = (t, y ++ z, ap (λ w. w ++ z) e, h)
 
-pub starts_some : (x : List Term) → Starts x → 1 ≤ length x
+pub starts_some : (x : List Lexeme) → Starts x → 1 ≤ length x
 starts_some x (t, y, e, h) = rw e (omega arith)
 
 sign_starts : (k : Terminal) (o : UnaryOp) → sign k ≡ Some o → starts k ≡ true
@@ -68,17 +68,17 @@ sign_starts Arrow o h = refl
 sign_starts _ o h = cc
 
 mutual
-  pub expr_starts : {h : Bool} {p : ℕ} {x : List Term} {v : tree.Expr} → IsExpr h p x v → Starts x
+  pub expr_starts : {h : Bool} {p : ℕ} {x : List Lexeme} {v : tree.Expr} → IsExpr h p x v → Starts x
   expr_starts (unary u) = unary_starts u
   expr_starts (binary o i {x} {y} l f g) = starts_append x (tok (Binary o) i ∷ y) (expr_starts f)
 
-  pub unary_starts : {h : Bool} {x : List Term} {v : tree.Expr} → IsUnary h x v → Starts x
+  pub unary_starts : {h : Bool} {x : List Lexeme} {v : tree.Expr} → IsUnary h x v → Starts x
   unary_starts (signed k o i {x} s u) = (tok k i, x, refl, sign_starts k o s)
   unary_starts (literal i j k {y} d) = (tok Ampersand i, tok Name j ∷ tok OpenBrace k ∷ y, refl, refl)
   unary_starts (keyed i j k {y} d) = (tok Ampersand i, tok Name j ∷ tok OpenBrace k ∷ y, refl, refl)
   unary_starts (primary p) = primary_starts p
 
-  pub primary_starts : {x : List Term} {v : tree.Expr} → IsPrimary x v → Starts x
+  pub primary_starts : {x : List Lexeme} {v : tree.Expr} → IsPrimary x v → Starts x
   primary_starts (number n i) = (tok (Number n) i, [], refl, refl)
   primary_starts (text i) = (tok Text i, [], refl, refl)
   primary_starts (name i) = (tok Name i, [], refl, refl)
@@ -105,5 +105,5 @@ pub brace_closes : Closes CloseBrace
 brace_closes CloseBrace h = cc
 brace_closes _ h = refl
 
-pub starts_open : (closer : Terminal) (x : List Term) → Closes closer → Starts x → Opens closer x
+pub starts_open : (closer : Terminal) (x : List Lexeme) → Closes closer → Starts x → Opens closer x
 starts_open closer x c (t, y, e, h) = (t, y, e, c t.terminal h)

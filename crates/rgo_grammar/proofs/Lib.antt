@@ -35,5 +35,4 @@ pub mod ProgramCorrect
 pub mod DeclsComplete
 pub mod Whole
 pub mod OneReading
-pub mod TermsLemmas
 pub mod DeepLemmas

@@ -1,8 +1,8 @@
 -- The machine: a stack that was reached can be emptied by some text, and a token that it does not take begins nothing.
 use Rattle.std.proofs.Common.{◌≡◌, Bool, true, false, ◌&&◌, cond, not, List, [], ◌∷◌, ◌++◌, Option, Some, None, refl, ◌∙◌, ap, append_assoc, inl, inr, ◌⊎◌, nat_eq}
 use Rattle.std.proofs.lemmas.Bool.{eqb-true}
-use Rattle.rgo_grammar.specs.declared.terminals.Terminal.{Terminal}
-use Rattle.rgo_grammar.specs.Terms.{Leaf, Term, tok, class, subclass, same}
+use Rattle.rgo_lexer.specs.declared.terminals.Terminal.{Terminal}
+use Rattle.rgo_lexer.specs.Lexemes.{Leaf, Lexeme, tok, class, subclass, same}
 use Rattle.rgo_grammar.proofs.Table.{Sym, Row, row, nullable, word, opens, settled, closer, find, next, entered, step, closes_first, leads, fine, all_entries, go_on, after, all_nullable, entries_fine, passes_closers, word_nullable, words_settle, settles_open, nullable_opens}
 
 unfoldable pub closes : List Sym → Bool
@@ -11,26 +11,26 @@ closes (x ∷ s) = nullable x && closes s
 
 pub data Run : Type 0 where
   Accepted : Run
-  Stopped : List Term → Run
+  Stopped : List Lexeme → Run
 
 abbrev pub advance : (List Sym → Run) → Run → Option (List Sym) → Run
 advance go stop (Some s) = go s
 advance go stop None = stop
 
 -- a list of tokens from a stack on: taken whole, or up to the first token that the machine does not take
-unfoldable pub run : List Term → List Sym → Run
+unfoldable pub run : List Lexeme → List Sym → Run
 run [] s = cond (closes s) Accepted (Stopped [])
 run (t ∷ l) s = advance (run l) (Stopped (t ∷ l)) (step s t.terminal)
 
 abbrev pub nowhere : Leaf
 nowhere = record { at = 0; word = [] }
 
-unfoldable pub toks : List Terminal → List Term
+unfoldable pub toks : List Terminal → List Lexeme
 toks [] = []
 toks (k ∷ ks) = tok k nowhere ∷ toks ks
 
 -- a text that empties a stack
-unfoldable pub finish : List Sym → List Term
+unfoldable pub finish : List Sym → List Lexeme
 finish [] = []
 finish (x ∷ s) = toks (word x) ++ finish s
 
@@ -109,7 +109,7 @@ step_fine (x ∷ s) k r f e =
     step_fine_by x s k r (next x k) refl f (λ d. step_fine s k r fs.1 d) e
 
 -- nothing is left, or what is left begins with a token that ends what stands before it
-abbrev pub Closed : List Term → Type 0
+abbrev pub Closed : List Lexeme → Type 0
 Closed [] = Unit {0}
 Closed (t ∷ l) = closer t.terminal ≡ true
 
@@ -125,12 +125,12 @@ next_none : (x : Sym) (k : Terminal) → nullable x ≡ true → closer k ≡ tr
 next_none x k h c = next_none_by x k (next x k) h c refl
 
 -- what may be left out is left out before a token that ends what stands before it
-pop : (x : Sym) (s : List Sym) (l : List Term) → nullable x ≡ true → Closed l → run l (x ∷ s) ≡ run l s
+pop : (x : Sym) (s : List Sym) (l : List Lexeme) → nullable x ≡ true → Closed l → run l (x ∷ s) ≡ run l s
 unfolding run closes step
 pop x s [] h c = rw h refl
 pop x s (t ∷ l) h c = rw (next_none x t.terminal h c, h) refl
 
-pops : (a s : List Sym) (l : List Term) → all_nullable a ≡ true → Closed l → run l (a ++ s) ≡ run l s
+pops : (a s : List Sym) (l : List Lexeme) → all_nullable a ≡ true → Closed l → run l (a ++ s) ≡ run l s
 unfolding all_nullable
 pops [] s l h c = refl
 pops (x ∷ a) s l h c =
@@ -150,19 +150,19 @@ unfolding step
 step_append [] s b k e = cc
 step_append (x ∷ a) s b k e = step_append_by a s b x k (next x k) (step_append a s b k) e
 
-after_run_by : (k : Terminal) (ks : List Terminal) (a s b : List Sym) (l : List Term) (o : Option (List Sym)) → step a k ≡ o
+after_run_by : (k : Terminal) (ks : List Terminal) (a s b : List Sym) (l : List Lexeme) (o : Option (List Sym)) → step a k ≡ o
     → ((c : List Sym) → after ks c ≡ Some b → run (toks ks ++ l) (c ++ s) ≡ run l (b ++ s))
     → go_on o (after ks) ≡ Some b → run (toks (k ∷ ks) ++ l) (a ++ s) ≡ run l (b ++ s)
 unfolding run toks
 after_run_by k ks a s b l (Some c) st ih e = rw (step_append a s c k st) (ih c e)
 after_run_by k ks a s b l None st ih e = cc
 
-after_run : (ks : List Terminal) (a s b : List Sym) (l : List Term) → after ks a ≡ Some b → run (toks ks ++ l) (a ++ s) ≡ run l (b ++ s)
+after_run : (ks : List Terminal) (a s b : List Sym) (l : List Lexeme) → after ks a ≡ Some b → run (toks ks ++ l) (a ++ s) ≡ run l (b ++ s)
 unfolding after toks
 after_run [] a s b l e = let f : a ≡ b = cc in rw f refl
 after_run (k ∷ ks) a s b l e = after_run_by k ks a s b l (step a k) refl (λ c d. after_run ks c s b l d) e
 
-first_word : (ks : List Terminal) (l : List Term) → closes_first ks ≡ true → Closed (toks ks ++ l)
+first_word : (ks : List Terminal) (l : List Lexeme) → closes_first ks ≡ true → Closed (toks ks ++ l)
 unfolding toks
 first_word [] l h = cc
 first_word (k ∷ ks) l h = h
@@ -209,16 +209,16 @@ finish_run (x ∷ s) f =
     finish_by x s (nullable x) refl fs.0 (finish_run s fs.1)
 
 -- a list at which the machine stops: the stack that the tokens before it lead to
-pub record Reached (l : List Term) (s : List Sym) (r : List Term) : Type 0 where
-  pub before : List Term
+pub record Reached (l : List Lexeme) (s : List Sym) (r : List Lexeme) : Type 0 where
+  pub before : List Lexeme
   pub stack : List Sym
   pub cut : l ≡ before ++ r
-  pub leads_here : (w : List Term) → run (before ++ w) s ≡ run w stack
+  pub leads_here : (w : List Lexeme) → run (before ++ w) s ≡ run w stack
   pub is_fine : fine stack true ≡ true
-  pub stuck : (t : Term) (r' w : List Term) → r ≡ t ∷ r' → run (t ∷ w) stack ≡ Stopped (t ∷ w)
+  pub stuck : (t : Lexeme) (r' w : List Lexeme) → r ≡ t ∷ r' → run (t ∷ w) stack ≡ Stopped (t ∷ w)
   pub is_open : r ≡ [] → run [] stack ≡ Stopped []
 
-at_end : (s : List Sym) (r : List Term) (v : Bool) → closes s ≡ v → fine s true ≡ true → cond v Accepted (Stopped []) ≡ Stopped r
+at_end : (s : List Sym) (r : List Lexeme) (v : Bool) → closes s ≡ v → fine s true ≡ true → cond v Accepted (Stopped []) ≡ Stopped r
     → Reached [] s r
 unfolding run
 at_end s r true c f e = cc
@@ -234,7 +234,7 @@ at_end s r false c f e =
       is_open = λ g. rw c refl;
     }
 
-stopped_by : (t : Term) (l : List Term) (s : List Sym) (r : List Term) (n : Option (List Sym)) → step s t.terminal ≡ n → fine s true ≡ true
+stopped_by : (t : Lexeme) (l : List Lexeme) (s : List Sym) (r : List Lexeme) (n : Option (List Sym)) → step s t.terminal ≡ n → fine s true ≡ true
     → ((q : List Sym) → fine q true ≡ true → run l q ≡ Stopped r → Reached l q r)
     → advance (run l) (Stopped (t ∷ l)) n ≡ Stopped r → Reached (t ∷ l) s r
 unfolding run
@@ -261,7 +261,7 @@ stopped_by t l s r None st f ih e =
       is_open = λ g. cc;
     }
 
-pub stopped : (l : List Term) (s : List Sym) (r : List Term) → fine s true ≡ true → run l s ≡ Stopped r → Reached l s r
+pub stopped : (l : List Lexeme) (s : List Sym) (r : List Lexeme) → fine s true ≡ true → run l s ≡ Stopped r → Reached l s r
 unfolding run
 stopped [] s r f e = at_end s r (closes s) refl f e
 stopped (t ∷ l) s r f e = stopped_by t l s r (step s t.terminal) refl f (λ q g d. stopped l q r g d) e

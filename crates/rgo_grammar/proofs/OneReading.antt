@@ -3,23 +3,23 @@ use Rattle.std.proofs.Common.{◌≡◌, ℕ, ◌+◌, ◌≤◌, ◌<◌, ◌�
 use Rattle.std.proofs.lemmas.List.{take-take, take-append-drop}
 use Rattle.std.proofs.lemmas.Bool.{cases_order, cases_lt}
 use Rattle.rgo_ast.specs.Tree.{Import, Decl}
-use Rattle.rgo_grammar.specs.Terms.{Term}
+use Rattle.rgo_lexer.specs.Lexemes.{Lexeme}
 use Rattle.rgo_grammar.specs.Grammar.{IsProgram}
 use Rattle.rgo_grammar.specs.FirstBad.{Begins, IsFirstBad}
 use Rattle.rgo_grammar.specs.Laws.{OneRefusal, NeverBoth}
 
 -- a program begins with each of its fronts
-front_begins : (k : ℕ) (l : List Term) → Begins l → Begins (take k l)
+front_begins : (k : ℕ) (l : List Lexeme) → Begins l → Begins (take k l)
 front_begins k l b = (drop k l ++ b.0, b.1, b.2, rw (← append_assoc, take-append-drop) b.3)
 
-less_begins : (k j : ℕ) (l : List Term) → k ≤ j → Begins (take j l) → Begins (take k l)
+less_begins : (k j : ℕ) (l : List Lexeme) → k ≤ j → Begins (take j l) → Begins (take k l)
 less_begins k j l h b = subst Begins (take-take k j l h) (front_begins k (take j l) b)
 
-whole_begins : (l : List Term) (imports : List Import) (decls : List Decl) → IsProgram l imports decls → Begins l
+whole_begins : (l : List Lexeme) (imports : List Import) (decls : List Decl) → IsProgram l imports decls → Begins l
 whole_begins l imports decls p = ([], imports, decls, rw append-nil p)
 
 -- one of them stands first
-no_second : (l : List Term) (k j : ℕ) → k < j → IsFirstBad l k → IsFirstBad l j → ⊥
+no_second : (l : List Lexeme) (k j : ℕ) → k < j → IsFirstBad l k → IsFirstBad l j → ⊥
 no_second l k j h f g = f.next (omega (arith, g.within)) (less_begins (k + 1) j l (omega arith) g.before)
 
 pub one_refusal : OneRefusal

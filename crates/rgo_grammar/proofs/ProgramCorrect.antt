@@ -2,9 +2,9 @@
 use Rattle.std.proofs.Common.{◌≡◌, ℕ, zero, suc, ◌+◌, ◌*◌, ◌<◌, ◌≤◌, inl, inr, Bool, true, false, List, [], ◌∷◌, ◌++◌, length, refl, sym, ◌∙◌, ap, append_assoc, append-nil, arith}
 use Rattle.rgo_ast.specs.Tree as tree
 use Rattle.rgo_ast.specs.Tree.{Binding, TypeSpec}
-use Rattle.rgo_grammar.specs.declared.terminals.Terminal.{Terminal}
-use Rattle.rgo_grammar.specs.declared.terminals.Terminal.TheVariants.{Name, Main, OpenParen, OpenBrace, Semicolon, Package, Import, TypeWord, Struct, Var, Func}
-use Rattle.rgo_grammar.specs.Terms.{Leaf, Term, tok}
+use Rattle.rgo_lexer.specs.declared.terminals.Terminal.{Terminal}
+use Rattle.rgo_lexer.specs.declared.terminals.Terminal.TheVariants.{Name, Main, OpenParen, OpenBrace, Semicolon, Package, Import, TypeWord, Struct, Var, Func}
+use Rattle.rgo_lexer.specs.Lexemes.{Leaf, Lexeme, tok}
 use Rattle.rgo_grammar.specs.Grammar as g
 use Rattle.rgo_grammar.specs.Grammar.{IsImport, IsTypeSpec, IsBinding, IsDecl, IsProgram, Each}
 use Rattle.rgo_grammar.specs.Reading.{Read, Done, Failed, At, Starving, ◌>>=◌, given, token}
@@ -18,29 +18,29 @@ use Rattle.rgo_grammar.proofs.GroupsCorrect.{IsGroup, group_correct}
 use Rattle.rgo_grammar.proofs.DeclsCorrect.{import_correct, spec_correct, spec_group, var_group, func_correct}
 
 -- what is owed of what reads to the end
-abbrev pub Closed : {A : Type 0} → List Sym → (List Term → A → Type 0) → List Term → Read A → Type 0
+abbrev pub Closed : {A : Type 0} → List Sym → (List Lexeme → A → Type 0) → List Lexeme → Read A → Type 0
 Closed from P l (Done a w) = (w ≡ []) × P l a × (run l from ≡ Accepted)
 Closed from P l (Failed (At w)) = run l from ≡ Stopped w
 Closed from P l (Failed Starving) = ⊥
 
-closed_from : {A : Type 0} (from via : List Sym) (Q : List Term → A → Type 0) (z l w : List Term) (r : Read A) → l ≡ z ++ w
+closed_from : {A : Type 0} (from via : List Sym) (Q : List Lexeme → A → Type 0) (z l w : List Lexeme) (r : Read A) → l ≡ z ++ w
     → run l from ≡ run w via
     → Closed via (λ x a. Q (z ++ x) a) w r → Closed from Q l r
 closed_from from via Q z l w (Done a u) c e h = (h.0, rw c h.1, e ∙ h.2)
 closed_from from via Q z l w (Failed (At u)) c e h = e ∙ h
 closed_from from via Q z l w (Failed Starving) c e h = h
 
-closed_bind : {A B : Type 0} (from via : List Sym) (P : List Term → A → List Term → Type 0) (Q : List Term → B → Type 0) (l : List Term)
-    (m : Read A) (f : A → List Term → Read B)
+closed_bind : {A B : Type 0} (from via : List Sym) (P : List Lexeme → A → List Lexeme → Type 0) (Q : List Lexeme → B → Type 0) (l : List Lexeme)
+    (m : Read A) (f : A → List Lexeme → Read B)
     → Correct from (λ _. via) P l m
-    → ((z : List Term) (a : A) (w : List Term) → l ≡ z ++ w → P z a w → Closed via (λ x b. Q (z ++ x) b) w (f a w))
+    → ((z : List Lexeme) (a : A) (w : List Lexeme) → l ≡ z ++ w → P z a w → Closed via (λ x b. Q (z ++ x) b) w (f a w))
     → Closed from Q l (m >>= f)
 closed_bind from via P Q l (Done a w) f h k =
     closed_from from via Q h.0 l w (f a w) h.1 (let e = h.3 [] in rw (append-nil from, append-nil via) at e) (k h.0 a w h.1 h.2)
 closed_bind from via P Q l (Failed (At w)) f h k = let e = h [] in rw (append-nil from) at e
 closed_bind from via P Q l (Failed Starving) f h k = h
 
-closed_given : {A B : Type 0} (from : List Sym) (P : List Term → A → Type 0) (Q : List Term → B → Type 0) (l : List Term) (m : Read A)
+closed_given : {A B : Type 0} (from : List Sym) (P : List Lexeme → A → Type 0) (Q : List Lexeme → B → Type 0) (l : List Lexeme) (m : Read A)
     (f : A → B)
     → Closed from P l m → ((a : A) → P l a → Q l (f a)) → Closed from Q l (m >>= given f)
 closed_given from P Q l (Done a w) f h k = (h.0, k a h.1, h.2)
@@ -51,21 +51,21 @@ abbrev pub is_import : Terminal → Bool
 is_import Import = true
 is_import _ = false
 
-abbrev pub NoImport : List Term → Type 0
+abbrev pub NoImport : List Lexeme → Type 0
 NoImport [] = Unit {0}
 NoImport (t ∷ l) = is_import t.terminal ≡ false
 
 -- ---- the head
 
-abbrev pub IsHead : List Term → Type 0
+abbrev pub IsHead : List Lexeme → Type 0
 IsHead z = (i j k : Leaf) × (z ≡ tok Package i ∷ tok Main j ∷ tok Semicolon k ∷ [])
 
-package_start : (l : List Term) (s : List Sym) → run l (Program ∷ s) ≡ run l (T Package ∷ T Main ∷ T Semicolon ∷ Imports ∷ s)
+package_start : (l : List Lexeme) (s : List Sym) → run l (Program ∷ s) ≡ run l (T Package ∷ T Main ∷ T Semicolon ∷ Imports ∷ s)
 unfolding run step closes
 package_start [] s = refl
 package_start (t ∷ l) s = one_start Program Package (T Main ∷ T Semicolon ∷ Imports ∷ []) t l s refl refl
 
-head_correct : (l : List Term) → Correct (Program ∷ []) (λ _. Imports ∷ []) (λ z _ w. IsHead z) l (head l)
+head_correct : (l : List Lexeme) → Correct (Program ∷ []) (λ _. Imports ∷ []) (λ z _ w. IsHead z) l (head l)
 head_correct l =
     correct_from (Program ∷ []) (T Package ∷ T Main ∷ T Semicolon ∷ Imports ∷ []) (λ _. Imports ∷ []) (λ z _ w. IsHead z) [] l l
     (head l) refl (λ s. package_start l s)
@@ -78,10 +78,10 @@ head_correct l =
     (correct_under (T Semicolon ∷ []) (λ _. []) (Imports ∷ []) (IsToken Semicolon) u (token Semicolon u) (correct_token Semicolon u refl))
     (λ z k w e q. (i, j, k, rw q refl)))))
 
-abbrev Parts : List Term → List tree.Import × List tree.Decl → Type 0
-Parts z x = (i : List Term) × (d : List Term) × (z ≡ i ++ d) × Each IsImport i x.0 × Each IsDecl d x.1
+abbrev Parts : List Lexeme → List tree.Import × List tree.Decl → Type 0
+Parts z x = (i : List Lexeme) × (d : List Lexeme) × (z ≡ i ++ d) × Each IsImport i x.0 × Each IsDecl d x.1
 
-headed : (z w : List Term) → IsHead z → (r : Read (List tree.Import × List tree.Decl)) → Closed (Imports ∷ []) Parts w r
+headed : (z w : List Lexeme) → IsHead z → (r : Read (List tree.Import × List tree.Decl)) → Closed (Imports ∷ []) Parts w r
     → Closed (Imports ∷ []) (λ y x. IsProgram (z ++ y) x.0 x.1) w r
 headed z w (i, j, k, e) (Done x u) (a, (is, ds, c, p, q), d) = (a, rw (e, c) (g.program i j k p q), d)
 headed z w h (Failed (At u)) f = f
@@ -90,15 +90,15 @@ headed z w h (Failed Starving) f = f
 module _ (n : ℕ) where
   -- ---- declarations
 
-  types_of : (z : List Term) (i : Leaf) (ss : List TypeSpec) → IsGroup IsTypeSpec z ss → IsDecl (tok TypeWord i ∷ z) (tree.Types ss i.at)
+  types_of : (z : List Lexeme) (i : Leaf) (ss : List TypeSpec) → IsGroup IsTypeSpec z ss → IsDecl (tok TypeWord i ∷ z) (tree.Types ss i.at)
   types_of z i ss (inl (s, e, h)) = rw e (g.type i h)
   types_of z i ss (inr (j, y, e, h)) = rw e (g.types i j h)
 
-  vars_of : (z : List Term) (i : Leaf) (bs : List Binding) → IsGroup IsBinding z bs → IsDecl (tok Var i ∷ z) (tree.Vars bs i.at)
+  vars_of : (z : List Lexeme) (i : Leaf) (bs : List Binding) → IsGroup IsBinding z bs → IsDecl (tok Var i ∷ z) (tree.Vars bs i.at)
   vars_of z i bs (inl (b, e, h)) = rw e (g.var i h)
   vars_of z i bs (inr (j, y, e, h)) = rw e (g.vars i j h)
 
-  type_decl : (i : Leaf) (m : List Term) → length m ≤ n
+  type_decl : (i : Leaf) (m : List Lexeme) → length m ≤ n
       → Correct (Specs ∷ []) (λ _. []) (λ z d w. IsDecl (tok TypeWord i ∷ z) d) m
       (group (type_spec n) n m >>= given (λ ss. tree.Types ss i.at))
   type_decl i m h =
@@ -108,7 +108,7 @@ module _ (n : ℕ) where
       (λ l e. spec_correct n l (omega arith)) n m h (omega arith))
       (λ z ss w d. types_of z i ss d)
 
-  var_decl : (i : Leaf) (m : List Term) → length m < n
+  var_decl : (i : Leaf) (m : List Lexeme) → length m < n
       → Correct (Vars ∷ []) (λ _. []) (λ z d w. IsDecl (tok Var i ∷ z) d) m (group (binding n) n m >>= given (λ bs. tree.Vars bs i.at))
   var_decl i m h =
       correct_given (Vars ∷ []) [] (λ z bs w. IsGroup IsBinding z bs) (λ z d w. IsDecl (tok Var i ∷ z) d) m
@@ -118,11 +118,11 @@ module _ (n : ℕ) where
       (λ z bs w d. vars_of z i bs d)
 
   -- a declaration and what stands behind it, where the machine has its symbols on the stack
-  decl_then : {B : Type 0} (from : List Sym) (k : Terminal) (i : Leaf) (m : List Term) (r : Read tree.Decl)
-      (again : tree.Decl → List Term → Read B) (Q : List Term → B → Type 0)
+  decl_then : {B : Type 0} (from : List Sym) (k : Terminal) (i : Leaf) (m : List Lexeme) (r : Read tree.Decl)
+      (again : tree.Decl → List Lexeme → Read B) (Q : List Lexeme → B → Type 0)
       → run (tok k i ∷ m) (Decls ∷ []) ≡ run m (from ++ T Semicolon ∷ Decls ∷ [])
       → Correct from (λ _. []) (λ z d w. IsDecl (tok k i ∷ z) d) m r
-      → ((x : List Term) (d : tree.Decl) (j : Leaf) (w : List Term) → length w < length m → IsDecl x d
+      → ((x : List Lexeme) (d : tree.Decl) (j : Leaf) (w : List Lexeme) → length w < length m → IsDecl x d
       → Closed (Decls ∷ []) (λ y b. Q (x ++ tok Semicolon j ∷ y) b) w (again d w))
       → Closed (Decls ∷ []) Q (tok k i ∷ m) (r >>= λ d w. token Semicolon w >>= λ _. again d)
   decl_then {B} from k i m r again Q e h f =
@@ -136,18 +136,18 @@ module _ (n : ℕ) where
       (correct_under (T Semicolon ∷ []) (λ _. []) (Decls ∷ []) (IsToken Semicolon) w (token Semicolon w) (correct_token Semicolon w refl))
       (λ u j v o q. rw q (f (tok k i ∷ z) d j v (omega (arith, shorter m z w c, shorter w u v o, ap length q)) p))))
 
-  abbrev Behind : List tree.Decl → List Term → List tree.Decl → Type 0
+  abbrev Behind : List tree.Decl → List Lexeme → List tree.Decl → Type 0
   Behind found z ds = (new : List tree.Decl) × (ds ≡ found ++ new) × Each IsDecl z new
 
-  behind_one : (found : List tree.Decl) (x : List Term) (d : tree.Decl) (j : Leaf) (w : List Term) (r : Read (List tree.Decl)) → IsDecl x d
+  behind_one : (found : List tree.Decl) (x : List Lexeme) (d : tree.Decl) (j : Leaf) (w : List Lexeme) (r : Read (List tree.Decl)) → IsDecl x d
       → Closed (Decls ∷ []) (Behind (found ++ d ∷ [])) w r → Closed (Decls ∷ []) (λ y ds. Behind found (x ++ tok Semicolon j ∷ y) ds) w r
   behind_one found x d j w (Done ds u) p (e, (new, f, q), a) = (e, (d ∷ new, f ∙ append_assoc found (d ∷ []) new, g.next j p q), a)
   behind_one found x d j w (Failed (At u)) p h = h
   behind_one found x d j w (Failed Starving) p h = h
 
-  decls_by_correct : (again : List tree.Decl → List Term → Read (List tree.Decl)) (found : List tree.Decl) (k : Terminal) (i : Leaf)
-      (m : List Term) → 4 * length m + 4 ≤ n
-      → ((ds : List tree.Decl) (w : List Term) → length w ≤ length m → Closed (Decls ∷ []) (Behind ds) w (again ds w))
+  decls_by_correct : (again : List tree.Decl → List Lexeme → Read (List tree.Decl)) (found : List tree.Decl) (k : Terminal) (i : Leaf)
+      (m : List Lexeme) → 4 * length m + 4 ≤ n
+      → ((ds : List tree.Decl) (w : List Lexeme) → length w ≤ length m → Closed (Decls ∷ []) (Behind ds) w (again ds w))
       → Closed (Decls ∷ []) (Behind found) (tok k i ∷ m)
       (decl_by n k i (tok k i ∷ m) m >>= λ d w. token Semicolon w >>= λ _. again (found ++ d ∷ []))
   unfolding run step
@@ -166,7 +166,7 @@ module _ (n : ℕ) where
       (func_correct n i m h) (λ x d j w o p. behind_one found x d j w (again (found ++ d ∷ []) w) p (hi (found ++ d ∷ []) w (omega arith)))
   decls_by_correct again found k i m h hi = refl
 
-  decls_correct : (m : ℕ) (found : List tree.Decl) (l : List Term) → length l < m → 4 * length l + 4 ≤ n
+  decls_correct : (m : ℕ) (found : List tree.Decl) (l : List Lexeme) → length l < m → 4 * length l + 4 ≤ n
       → Closed (Decls ∷ []) (Behind found) l (decls n m found l)
   unfolding decls run closes
   decls_correct zero found l h b = absurd (omega arith)
@@ -176,12 +176,12 @@ module _ (n : ℕ) where
 
   -- ---- imports
 
-  abbrev BehindImports : List tree.Import → List Term → List tree.Import → List Term → Type 0
+  abbrev BehindImports : List tree.Import → List Lexeme → List tree.Import → List Lexeme → Type 0
   BehindImports found z ds w = ((new : List tree.Import) × (ds ≡ found ++ new) × Each IsImport z new) × NoImport w
 
-  imports_by_correct : (again : List tree.Import → List Term → Read (List tree.Import)) (found : List tree.Import) (k : Terminal) (i : Leaf)
-      (m : List Term) → length m ≤ n
-      → ((ds : List tree.Import) (w : List Term) → length w ≤ length m
+  imports_by_correct : (again : List tree.Import → List Lexeme → Read (List tree.Import)) (found : List tree.Import) (k : Terminal) (i : Leaf)
+      (m : List Lexeme) → length m ≤ n
+      → ((ds : List tree.Import) (w : List Lexeme) → length w ≤ length m
       → Correct (Imports ∷ []) (λ _. Imports ∷ []) (BehindImports ds) w (again ds w))
       → Correct (Imports ∷ []) (λ _. Imports ∷ []) (BehindImports found) (tok k i ∷ m) (imports_by n again found k i (tok k i ∷ m) m)
   unfolding run step
@@ -200,7 +200,7 @@ module _ (n : ℕ) where
       (λ y ds v e q. ((d ∷ q.0.0, q.0.1 ∙ append_assoc found (d ∷ []) q.0.0, g.next j p q.0.2), q.1)))))
   imports_by_correct again found k i m h hi = ([], refl, (([], sym (append-nil found), g.none), refl), λ s. refl)
 
-  imports_correct : (m : ℕ) (found : List tree.Import) (l : List Term) → length l < m → length l ≤ n
+  imports_correct : (m : ℕ) (found : List tree.Import) (l : List Lexeme) → length l < m → length l ≤ n
       → Correct (Imports ∷ []) (λ _. Imports ∷ []) (BehindImports found) l (imports n m found l)
   unfolding imports
   imports_correct zero found l h b = absurd (omega arith)
@@ -211,18 +211,18 @@ module _ (n : ℕ) where
 
   -- ---- the program
 
-  imports_end_by : (k : Terminal) (i : Leaf) (w : List Term) → is_import k ≡ false
+  imports_end_by : (k : Terminal) (i : Leaf) (w : List Lexeme) → is_import k ≡ false
       → run (tok k i ∷ w) (Imports ∷ []) ≡ run (tok k i ∷ w) (Decls ∷ [])
   unfolding run step
   imports_end_by Import i w e = cc
   imports_end_by _ i w e = refl
 
-  imports_end : (w : List Term) → NoImport w → run w (Imports ∷ []) ≡ run w (Decls ∷ [])
+  imports_end : (w : List Lexeme) → NoImport w → run w (Imports ∷ []) ≡ run w (Decls ∷ [])
   unfolding run closes
   imports_end [] e = refl
   imports_end (t ∷ w) e = imports_end_by t.terminal t.leaf w e
 
-  body_correct : (l : List Term) → 4 * length l + 4 ≤ n
+  body_correct : (l : List Lexeme) → 4 * length l + 4 ≤ n
       → Closed (Imports ∷ []) Parts l (imports n n [] l >>= λ is u. decls n n [] u >>= given (λ ds. (is, ds)))
   body_correct l h =
       closed_bind (Imports ∷ []) (Imports ∷ []) (BehindImports []) Parts l (imports n n [] l)
@@ -234,7 +234,7 @@ module _ (n : ℕ) where
       (decls_correct n [] w (omega (arith, shorter l z w c)) (omega (arith, shorter l z w c)))
       (λ ds q. (z, w, refl, rw p.0.1 p.0.2, rw q.1 q.2))))
 
-  pub program_correct : (l : List Term) → 4 * length l + 4 ≤ n → Closed (Program ∷ []) (λ z x. IsProgram z x.0 x.1) l (program n l)
+  pub program_correct : (l : List Lexeme) → 4 * length l + 4 ≤ n → Closed (Program ∷ []) (λ z x. IsProgram z x.0 x.1) l (program n l)
   program_correct l h =
       closed_bind (Program ∷ []) (Imports ∷ []) (λ z _ w. IsHead z) (λ z x. IsProgram z x.0 x.1) l (head l)
       (λ _ w. imports n n [] w >>= λ is u. decls n n [] u >>= given (λ ds. (is, ds)))

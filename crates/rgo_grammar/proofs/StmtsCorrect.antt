@@ -3,9 +3,9 @@ use Rattle.std.proofs.Common.{◌≡◌, ℕ, ◌+◌, ◌<◌, ◌≤◌, ◌�
 use Rattle.rgo_ast.specs.declared.ops.BinaryOp.TheVariants as op
 use Rattle.rgo_ast.specs.Tree as tree
 use Rattle.rgo_ast.specs.Tree.{exprs_of, stmts_of}
-use Rattle.rgo_grammar.specs.declared.terminals.Terminal.{Terminal}
-use Rattle.rgo_grammar.specs.declared.terminals.Terminal.TheVariants.{Name, Binary, OpenParen, CloseParen, OpenBrace, CloseBrace, Semicolon, Var, Go, If, For, Return, Break, Continue}
-use Rattle.rgo_grammar.specs.Terms.{Leaf, Term, tok, ident, same}
+use Rattle.rgo_lexer.specs.declared.terminals.Terminal.{Terminal}
+use Rattle.rgo_lexer.specs.declared.terminals.Terminal.TheVariants.{Name, Binary, OpenParen, CloseParen, OpenBrace, CloseBrace, Semicolon, Var, Go, If, For, Return, Break, Continue}
+use Rattle.rgo_lexer.specs.Lexemes.{Leaf, Lexeme, tok, ident, same}
 use Rattle.rgo_grammar.specs.Grammar.{IsExpr, IsExprs, IsSimple, IsStmt, IsStmts, IsIf, IsFor}
 use Rattle.rgo_grammar.specs.Grammar.IsStmt.{block as a_block, simple, if' as an_if, for' as a_for, go, return as returned, returns, break as broken, continue as continued}
 use Rattle.rgo_grammar.specs.Reading.{Read, ◌>>=◌, given, first_of, token, single}
@@ -20,18 +20,18 @@ use Rattle.rgo_grammar.proofs.StmtsLocals.{AreVars, vars_on_correct}
 use Rattle.rgo_grammar.proofs.StmtsLoops.{Blocks, Ifs, for_on_correct}
 
 -- what stands before a `;` or `}`: nothing or a statement
-abbrev pub IsItem : List Term → List tree.Stmt → Type 0
+abbrev pub IsItem : List Lexeme → List tree.Stmt → Type 0
 IsItem z ss = ((z ≡ []) × (ss ≡ [])) ⊎ ((s : tree.Stmt) × (ss ≡ s ∷ []) × IsStmt z s)
 
-abbrev pub ItemAt : List Term → List tree.Stmt → List Term → Type 0
+abbrev pub ItemAt : List Lexeme → List tree.Stmt → List Lexeme → Type 0
 ItemAt z ss w = IsItem z ss
 
 -- a reader of statements up to their `}` that is correct on lists up to this length
-abbrev pub Lists : ℕ → (List Term → Read (List tree.Stmt × Leaf)) → Type 0
-Lists m stmts = (l : List Term) → length l ≤ m → Correct (Stmts ∷ []) (λ _. []) (λ z x w. IsStmts z x.0 x.1) l (stmts l)
+abbrev pub Lists : ℕ → (List Lexeme → Read (List tree.Stmt × Leaf)) → Type 0
+Lists m stmts = (l : List Lexeme) → length l ≤ m → Correct (Stmts ∷ []) (λ _. []) (λ z x w. IsStmts z x.0 x.1) l (stmts l)
 
 -- a statement that begins with this token
-keyword_correct : (k : Terminal) (i : Leaf) (l : List Term) (a : List Sym) (r : Read tree.Stmt)
+keyword_correct : (k : Terminal) (i : Leaf) (l : List Lexeme) (a : List Sym) (r : Read tree.Stmt)
     → ((s : List Sym) → run (tok k i ∷ l) (Stmts ∷ s) ≡ run l (a ++ (StmtEnd ∷ s)))
     → Correct a (λ _. []) (λ z s w. IsStmt (tok k i ∷ z) s) l r
     → Correct (Stmts ∷ []) (λ _. StmtEnd ∷ []) ItemAt (tok k i ∷ l) (single r)
@@ -43,7 +43,7 @@ keyword_correct k i l a r e h =
     (correct_under a (λ _. []) (StmtEnd ∷ []) (λ z s w. IsStmt (tok k i ∷ z) s) l r h)
     (λ z s w g. inr (s, refl, g)))
 
-return_run : (k : Terminal) (i : Leaf) (l : List Term) (s : List Sym) → same Semicolon k ≡ false → same CloseBrace k ≡ false
+return_run : (k : Terminal) (i : Leaf) (l : List Lexeme) (s : List Sym) → same Semicolon k ≡ false → same CloseBrace k ≡ false
     → run (tok k i ∷ l) (Value ∷ StmtEnd ∷ s) ≡ run (tok k i ∷ l) (Unary false ∷ Bin false ∷ StmtEnd ∷ s)
 unfolding run step
 return_run Semicolon i l s g h = cc
@@ -65,7 +65,7 @@ keyword Break = true
 keyword Continue = true
 keyword _ = false
 
-simple_run : (k : Terminal) (i : Leaf) (l : List Term) (s : List Sym) → keyword k ≡ false → same Name k ≡ false
+simple_run : (k : Terminal) (i : Leaf) (l : List Lexeme) (s : List Sym) → keyword k ≡ false → same Name k ≡ false
     → run (tok k i ∷ l) (Stmts ∷ s) ≡ run (tok k i ∷ l) (Unary false ∷ Bin false ∷ Tail alone ∷ StmtEnd ∷ s)
 unfolding run step
 simple_run Name i l s g h = cc
@@ -84,9 +84,9 @@ simple_run (Binary op.Sub) i l s g h = refl
 simple_run _ i l s g h = refl
 
 module _ (n m : ℕ) (small : m + 2 < n) (value_c : (h : Bool) → Values h (m + 1) (expr h n 1))
-    (exprs_c : (l : List Term) → length l ≤ m
+    (exprs_c : (l : List Lexeme) → length l ≤ m
     → Correct (Args ∷ []) (λ _. []) (λ z x w. IsExprs CloseParen z x.0) l (exprs CloseParen n (expr false n 1) l)) where
-  going_correct : (i : Leaf) (l : List Term) → length l ≤ m
+  going_correct : (i : Leaf) (l : List Lexeme) → length l ≤ m
       → Correct (T Name ∷ T OpenParen ∷ Args ∷ []) (λ _. []) (λ z s w. IsStmt (tok Go i ∷ z) s) l (going n (expr false n 1) i l)
   going_correct i l b =
       correct_token_then Name (T OpenParen ∷ Args ∷ []) (λ _. []) (λ z s w. IsStmt (tok Go i ∷ z) s) l
@@ -100,7 +100,7 @@ module _ (n m : ℕ) (small : m + 2 < n) (value_c : (h : Bool) → Values h (m +
       (exprs_c u (omega (arith, b, ap length c, ap length d)))
       (λ z x w h. go i j k h)))
 
-  return_by_correct : (i : Leaf) (k : Terminal) (j : Leaf) (l : List Term) → length l ≤ m
+  return_by_correct : (i : Leaf) (k : Terminal) (j : Leaf) (l : List Lexeme) → length l ≤ m
       → Correct (Value ∷ StmtEnd ∷ []) (λ _. StmtEnd ∷ []) (λ z s w. IsStmt (tok Return i ∷ z) s) (tok k j ∷ l)
       (return_by (expr false n 1) i k (tok k j ∷ l))
   unfolding run step
@@ -119,14 +119,14 @@ module _ (n m : ℕ) (small : m + 2 < n) (value_c : (h : Bool) → Values h (m +
       (value_c false (tok k j ∷ l) (omega (arith, b))))
       (λ z v w h. returns i h))
 
-  return_on_correct : (i : Leaf) (l : List Term) → length l ≤ m
+  return_on_correct : (i : Leaf) (l : List Lexeme) → length l ≤ m
       → Correct (Value ∷ StmtEnd ∷ []) (λ _. StmtEnd ∷ []) (λ z s w. IsStmt (tok Return i ∷ z) s) l
       (return_on (expr false n 1) i l (first_of l))
   unfolding run closes
   return_on_correct i [] b = λ s. refl
   return_on_correct i (t ∷ l) b = return_by_correct i t.terminal t.leaf l (omega (arith, b))
 
-  simple_correct : (k : Terminal) (i : Leaf) (l : List Term) → length l ≤ m → keyword k ≡ false
+  simple_correct : (k : Terminal) (i : Leaf) (l : List Lexeme) → length l ≤ m → keyword k ≡ false
       → Correct (Stmts ∷ []) (λ _. StmtEnd ∷ []) ItemAt (tok k i ∷ l) (single (defining (expr false n 1) (tok k i ∷ l)))
   unfolding run step
   simple_correct k i l b e =
@@ -137,10 +137,10 @@ module _ (n m : ℕ) (small : m + 2 < n) (value_c : (h : Bool) → Values h (m +
       (λ g s. simple_run k i l s e g)))
       (λ z s w h. inr (s, refl, simple h))
 
-  module _ (block : List Term → Read (List tree.Stmt × Leaf)) (block_c : Blocks m block) (stmts : List Term → Read (List tree.Stmt × Leaf))
+  module _ (block : List Lexeme → Read (List tree.Stmt × Leaf)) (block_c : Blocks m block) (stmts : List Lexeme → Read (List tree.Stmt × Leaf))
       (stmts_c : Lists m stmts)
-      (ifs : Leaf → List Term → Read tree.Stmt) (ifs_c : Ifs (m + 1) ifs) where
-    block_stmt : (i : Leaf) (l : List Term) → length l ≤ m
+      (ifs : Leaf → List Lexeme → Read tree.Stmt) (ifs_c : Ifs (m + 1) ifs) where
+    block_stmt : (i : Leaf) (l : List Lexeme) → length l ≤ m
         → Correct (Stmts ∷ []) (λ _. StmtEnd ∷ []) ItemAt (tok OpenBrace i ∷ l)
         (stmts l >>= given (λ b. tree.Block (stmts_of b.0) i.at ∷ []))
     unfolding run step
@@ -153,7 +153,7 @@ module _ (n m : ℕ) (small : m + 2 < n) (value_c : (h : Bool) → Values h (m +
         (correct_under (Stmts ∷ []) (λ _. []) (StmtEnd ∷ []) (λ z x w. IsStmts z x.0 x.1) l (stmts l) (stmts_c l b))
         (λ z x w h. inr (tree.Block (stmts_of x.0) i.at, refl, a_block i h)))
 
-    return_stmt : (i : Leaf) (l : List Term) → length l ≤ m
+    return_stmt : (i : Leaf) (l : List Lexeme) → length l ≤ m
         → Correct (Stmts ∷ []) (λ _. StmtEnd ∷ []) ItemAt (tok Return i ∷ l) (single (return_on (expr false n 1) i l (first_of l)))
     unfolding run step
     return_stmt i l b =
@@ -163,7 +163,7 @@ module _ (n m : ℕ) (small : m + 2 < n) (value_c : (h : Bool) → Values h (m +
         (λ z ss w. IsItem (tok Return i ∷ z) ss) l
         (return_on (expr false n 1) i l (first_of l)) (λ s. s ∷ []) (return_on_correct i l b) (λ z s w h. inr (s, refl, h)))
 
-    pub stmt_by_correct : (k : Terminal) (i : Leaf) (l : List Term) → length l ≤ m → same CloseBrace k ≡ false
+    pub stmt_by_correct : (k : Terminal) (i : Leaf) (l : List Lexeme) → length l ≤ m → same CloseBrace k ≡ false
         → Correct (Stmts ∷ []) (λ _. StmtEnd ∷ []) ItemAt (tok k i ∷ l) (stmt_by n block stmts ifs k i (tok k i ∷ l) l)
     unfolding run step
     stmt_by_correct OpenBrace i l b e = block_stmt i l b

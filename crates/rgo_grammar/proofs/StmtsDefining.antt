@@ -5,9 +5,9 @@ use Rattle.rgo_ast.specs.declared.ops.BinaryOp.TheVariants as op
 use Rattle.rgo_ast.specs.declared.ops.AssignOp.{AssignOp}
 use Rattle.rgo_ast.specs.declared.ops.AssignOp.TheVariants as assign_op
 use Rattle.rgo_ast.specs.Tree as tree
-use Rattle.rgo_grammar.specs.declared.terminals.Terminal.{Terminal}
-use Rattle.rgo_grammar.specs.declared.terminals.Terminal.TheVariants.{Name, Binary, Arrow, Define, Assign, Step}
-use Rattle.rgo_grammar.specs.Terms.{Leaf, Term, tok, ident, same}
+use Rattle.rgo_lexer.specs.declared.terminals.Terminal.{Terminal}
+use Rattle.rgo_lexer.specs.declared.terminals.Terminal.TheVariants.{Name, Binary, Arrow, Define, Assign, Step}
+use Rattle.rgo_lexer.specs.Lexemes.{Leaf, Lexeme, tok, ident, same}
 use Rattle.rgo_grammar.specs.Grammar.{IsSimple}
 use Rattle.rgo_grammar.specs.Grammar.IsSimple.{define}
 use Rattle.rgo_grammar.specs.Reading.{Read, ◌>>=◌, given, first_of}
@@ -21,7 +21,7 @@ abbrev pub is_define : Terminal → Bool
 is_define Define = true
 is_define _ = false
 
-named_binary : (c : Context) (o : BinaryOp) (j : Leaf) (l : List Term) (s : List Sym)
+named_binary : (c : Context) (o : BinaryOp) (j : Leaf) (l : List Lexeme) (s : List Sym)
     → run (tok (Binary o) j ∷ l) (Named c ∷ s) ≡ run (tok (Binary o) j ∷ l) (Post ∷ Bin (header c) ∷ Tail c ∷ s)
 unfolding run step
 named_binary alone op.Add j l s = refl
@@ -41,7 +41,7 @@ named_binary behind_for op.Sub j l s = refl
 named_binary behind_for op.Mul j l s = refl
 named_binary behind_for _ j l s = refl
 
-named_assign : (c : Context) (o : AssignOp) (j : Leaf) (l : List Term) (s : List Sym)
+named_assign : (c : Context) (o : AssignOp) (j : Leaf) (l : List Lexeme) (s : List Sym)
     → run (tok (Assign o) j ∷ l) (Named c ∷ s) ≡ run (tok (Assign o) j ∷ l) (Post ∷ Bin (header c) ∷ Tail c ∷ s)
 unfolding run step
 named_assign alone assign_op.Plain j l s = refl
@@ -54,7 +54,7 @@ named_assign behind_for assign_op.Plain j l s = refl
 named_assign behind_for _ j l s = refl
 
 -- what may come behind a name that begins a statement comes behind the name as an expression, but for `:=`
-named_run : (c : Context) (k : Terminal) (j : Leaf) (l : List Term) (s : List Sym) → is_define k ≡ false
+named_run : (c : Context) (k : Terminal) (j : Leaf) (l : List Lexeme) (s : List Sym) → is_define k ≡ false
     → run (tok k j ∷ l) (Named c ∷ s) ≡ run (tok k j ∷ l) (Post ∷ Bin (header c) ∷ Tail c ∷ s)
 unfolding run step
 named_run c Define j l s h = cc
@@ -73,15 +73,15 @@ named_end before_for s = refl
 named_end behind_for s = refl
 
 -- A symbol that begins a simple statement, with what lies under it: at a name, and at other tokens that begin one or are refused.
-module _ (c : Context) (m : ℕ) (value : List Term → Read tree.Expr) (value_c : Values (header c) m value)
+module _ (c : Context) (m : ℕ) (value : List Lexeme → Read tree.Expr) (value_c : Values (header c) m value)
     (X : Sym) (u : List Sym)
-    (x_name : (i : Leaf) (l : List Term) (s : List Sym) → run (tok Name i ∷ l) (X ∷ s) ≡ run l (Named c ∷ (u ++ s))) where
-  name_run : (i : Leaf) (l : List Term) (s : List Sym) → run l (Named c ∷ (u ++ s)) ≡ run l (Post ∷ Bin (header c) ∷ Tail c ∷ (u ++ s))
+    (x_name : (i : Leaf) (l : List Lexeme) (s : List Sym) → run (tok Name i ∷ l) (X ∷ s) ≡ run l (Named c ∷ (u ++ s))) where
+  name_run : (i : Leaf) (l : List Lexeme) (s : List Sym) → run l (Named c ∷ (u ++ s)) ≡ run l (Post ∷ Bin (header c) ∷ Tail c ∷ (u ++ s))
       → run (tok Name i ∷ l) (X ∷ s) ≡ run (tok Name i ∷ l) (Unary (header c) ∷ Bin (header c) ∷ Tail c ∷ (u ++ s))
   unfolding run step
   name_run i l s e = x_name i l s ∙ e
 
-  as_value : (l : List Term) → length l ≤ m
+  as_value : (l : List Lexeme) → length l ≤ m
       → ((s : List Sym) → run l (X ∷ s) ≡ run l (Unary (header c) ∷ Bin (header c) ∷ Tail c ∷ (u ++ s)))
       → Correct (X ∷ []) (λ s. leaves c s ++ u) (AtSimple c true []) l (valued value l)
   as_value l b e =
@@ -90,7 +90,7 @@ module _ (c : Context) (m : ℕ) (value : List Term → Read tree.Expr) (value_c
       (correct_under (Unary (header c) ∷ Bin (header c) ∷ Tail c ∷ []) (leaves c) u (AtSimple c true []) l (valued value l)
       (valued_correct c m value value_c true l b))
 
-  define_correct : (i j : Leaf) (l : List Term) → length l ≤ m
+  define_correct : (i j : Leaf) (l : List Lexeme) → length l ≤ m
       → Correct (X ∷ []) (λ s. leaves c s ++ u) (AtSimple c true []) (tok Name i ∷ tok Define j ∷ l)
       (value l >>= given (λ v. tree.Define (ident i) v j.at))
   unfolding run step
@@ -109,19 +109,19 @@ module _ (c : Context) (m : ℕ) (value : List Term → Read tree.Expr) (value_c
       (λ v. tree.Define (ident i) v j.at) b
       (λ z v w g. ((define i j g, tt), refl)))))
 
-  named_by_correct : (i : Leaf) (k : Terminal) (j : Leaf) (l : List Term) → length l + 2 ≤ m
+  named_by_correct : (i : Leaf) (k : Terminal) (j : Leaf) (l : List Lexeme) → length l + 2 ≤ m
       → Correct (X ∷ []) (λ s. leaves c s ++ u) (AtSimple c true []) (tok Name i ∷ tok k j ∷ l)
       (named_by value i k j (tok Name i ∷ tok k j ∷ l) l)
   named_by_correct i Define j l b = define_correct i j l (omega (arith, b))
   named_by_correct i k j l b =
       as_value (tok Name i ∷ tok k j ∷ l) (omega (arith, b)) (λ s. name_run i (tok k j ∷ l) s (named_run c k j l (u ++ s) refl))
 
-  named_on_correct : (i : Leaf) (l : List Term) → length l + 1 ≤ m
+  named_on_correct : (i : Leaf) (l : List Lexeme) → length l + 1 ≤ m
       → Correct (X ∷ []) (λ s. leaves c s ++ u) (AtSimple c true []) (tok Name i ∷ l) (named_on value i (tok Name i ∷ l) (first_of l))
   named_on_correct i [] b = as_value (tok Name i ∷ []) (omega (arith, b)) (λ s. name_run i [] s (named_end c (u ++ s)))
   named_on_correct i (t ∷ l) b = named_by_correct i t.terminal t.leaf l (omega (arith, b))
 
-  pub defining_by_correct : (k : Terminal) (i : Leaf) (l : List Term) → length l + 1 ≤ m
+  pub defining_by_correct : (k : Terminal) (i : Leaf) (l : List Lexeme) → length l + 1 ≤ m
       → (same Name k ≡ false → (s : List Sym)
       → run (tok k i ∷ l) (X ∷ s) ≡ run (tok k i ∷ l) (Unary (header c) ∷ Bin (header c) ∷ Tail c ∷ (u ++ s)))
       → Correct (X ∷ []) (λ s. leaves c s ++ u) (AtSimple c true []) (tok k i ∷ l) (defining value (tok k i ∷ l))
@@ -129,7 +129,7 @@ module _ (c : Context) (m : ℕ) (value : List Term → Read tree.Expr) (value_c
   defining_by_correct k i l b e = as_value (tok k i ∷ l) (omega (arith, b)) (e refl)
 
 -- before what does not go on with it, the rest of a statement that is alone is left out
-untailed_by : (k : Terminal) (i : Leaf) (l : List Term) (s : List Sym) → tails k ≡ false
+untailed_by : (k : Terminal) (i : Leaf) (l : List Lexeme) (s : List Sym) → tails k ≡ false
     → run (tok k i ∷ l) (Tail alone ∷ s) ≡ run (tok k i ∷ l) s
 unfolding run step
 untailed_by Arrow i l s h = cc
@@ -137,24 +137,24 @@ untailed_by (Step o) i l s h = cc
 untailed_by (Assign o) i l s h = cc
 untailed_by _ i l s h = refl
 
-untailed : (w : List Term) (s : List Sym) → Untailed w → run w (Tail alone ∷ s) ≡ run w s
+untailed : (w : List Lexeme) (s : List Sym) → Untailed w → run w (Tail alone ∷ s) ≡ run w s
 unfolding run closes
 untailed [] s h = refl
 untailed (t ∷ w) s h = untailed_by t.terminal t.leaf w s h
 
-left_alone : (st : tree.Stmt) (w : List Term) (s : List Sym) → Left st w → run w (leaves alone st ++ s) ≡ run w s
+left_alone : (st : tree.Stmt) (w : List Lexeme) (s : List Sym) → Left st w → run w (leaves alone st ++ s) ≡ run w s
 left_alone (tree.Plain v) w s h = untailed w s h
 left_alone _ w s h = refl
 
 -- a statement that is alone leaves what lies under it
-pub alone_correct : (X : Sym) (u : List Sym) (d : Bool) (l : List Term) (r : Read tree.Stmt)
+pub alone_correct : (X : Sym) (u : List Sym) (d : Bool) (l : List Lexeme) (r : Read tree.Stmt)
     → Correct (X ∷ []) (λ s. leaves alone s ++ u) (AtSimple alone d []) l r
     → Correct (X ∷ []) (λ _. u) (λ z s w. IsSimple false d z s) l r
 alone_correct X u d l r h =
     correct_left (X ∷ []) (λ s. leaves alone s ++ u) (λ _. u) (AtSimple alone d []) (λ z s w. IsSimple false d z s) l r h
     (λ z st w g. (g.0, λ s. rw append_assoc (left_alone st w (u ++ s) g.1)))
 
-left_behind_by : (k : Terminal) (i : Leaf) (l : List Term) (s : List Sym) → tails k ≡ false
+left_behind_by : (k : Terminal) (i : Leaf) (l : List Lexeme) (s : List Sym) → tails k ≡ false
     → run (tok k i ∷ l) (Tail behind_for ∷ s) ≡ run (tok k i ∷ l) (Block ∷ s)
 unfolding run step
 left_behind_by Arrow i l s h = cc
@@ -162,12 +162,12 @@ left_behind_by (Step o) i l s h = cc
 left_behind_by (Assign o) i l s h = cc
 left_behind_by _ i l s h = refl
 
-untailed_behind : (w : List Term) (s : List Sym) → Untailed w → run w (Tail behind_for ∷ s) ≡ run w (Block ∷ s)
+untailed_behind : (w : List Lexeme) (s : List Sym) → Untailed w → run w (Tail behind_for ∷ s) ≡ run w (Block ∷ s)
 unfolding run closes
 untailed_behind [] s h = refl
 untailed_behind (t ∷ w) s h = left_behind_by t.terminal t.leaf w s h
 
 -- behind the last statement of a header stands a block
-pub left_behind : (st : tree.Stmt) (w : List Term) (s : List Sym) → Left st w → run w (leaves behind_for st ++ s) ≡ run w (Block ∷ s)
+pub left_behind : (st : tree.Stmt) (w : List Lexeme) (s : List Sym) → Left st w → run w (leaves behind_for st ++ s) ≡ run w (Block ∷ s)
 left_behind (tree.Plain v) w s h = untailed_behind w s h
 left_behind _ w s h = refl

@@ -3,9 +3,9 @@ use Rattle.std.proofs.Common.{◌≡◌, ℕ, ◌+◌, ◌<◌, ◌≤◌, Bool,
 use Rattle.rgo_ast.specs.declared.ops.BinaryOp.TheVariants as op
 use Rattle.rgo_ast.specs.declared.ops.AssignOp.TheVariants as assign_op
 use Rattle.rgo_ast.specs.Tree as tree
-use Rattle.rgo_grammar.specs.declared.terminals.Terminal.{Terminal}
-use Rattle.rgo_grammar.specs.declared.terminals.Terminal.TheVariants.{Name, Binary, Assign, OpenParen, CloseParen, Comma, Semicolon, Var}
-use Rattle.rgo_grammar.specs.Terms.{Leaf, Term, tok, ident, same}
+use Rattle.rgo_lexer.specs.declared.terminals.Terminal.{Terminal}
+use Rattle.rgo_lexer.specs.declared.terminals.Terminal.TheVariants.{Name, Binary, Assign, OpenParen, CloseParen, Comma, Semicolon, Var}
+use Rattle.rgo_lexer.specs.Lexemes.{Leaf, Lexeme, tok, ident, same}
 use Rattle.rgo_grammar.specs.Grammar.{IsType, IsBinding, IsExpr, IsLocal, IsStmt, Listed}
 use Rattle.rgo_grammar.specs.Grammar.IsNames.{one}
 use Rattle.rgo_grammar.specs.Grammar.IsBinding.{binding as of_names}
@@ -25,7 +25,7 @@ goes_on Comma = true
 goes_on (Assign assign_op.Plain) = true
 goes_on _ = false
 
-type_run : (k : Terminal) (j : Leaf) (l : List Term) (s : List Sym) → goes_on k ≡ false
+type_run : (k : Terminal) (j : Leaf) (l : List Lexeme) (s : List Sym) → goes_on k ≡ false
     → run (tok k j ∷ l) (LocalRest ∷ s) ≡ run (tok k j ∷ l) (AType ∷ Initial ∷ s)
 unfolding run step
 type_run Comma j l s h = cc
@@ -33,13 +33,13 @@ type_run (Assign assign_op.Plain) j l s h = cc
 type_run (Binary op.Mul) j l s h = refl
 type_run _ j l s h = refl
 
-list_run : (k : Terminal) (j : Leaf) (l : List Term) (s : List Sym) → same CloseParen k ≡ false
+list_run : (k : Terminal) (j : Leaf) (l : List Lexeme) (s : List Sym) → same CloseParen k ≡ false
     → run (tok k j ∷ l) (LocalList ∷ s) ≡ run (tok k j ∷ l) (T Name ∷ LocalRest ∷ LocalSep ∷ s)
 unfolding run step
 list_run CloseParen j l s h = cc
 list_run _ j l s h = refl
 
-one_run : (k : Terminal) (j : Leaf) (l : List Term) (s : List Sym) → same OpenParen k ≡ false
+one_run : (k : Terminal) (j : Leaf) (l : List Lexeme) (s : List Sym) → same OpenParen k ≡ false
     → run (tok k j ∷ l) (Locals ∷ s) ≡ run (tok k j ∷ l) (T Name ∷ LocalRest ∷ s)
 unfolding run step
 one_run OpenParen j l s h = cc
@@ -56,21 +56,21 @@ local_syms = record {
   end_stays = refl;
 }
 
-abbrev LocalAt : List Term → List Term → tree.LocalVar → List Term → Type 0
+abbrev LocalAt : List Lexeme → List Lexeme → tree.LocalVar → List Lexeme → Type 0
 LocalAt x z v w = IsLocal (x ++ z) v
 
 -- the variables of a statement
-abbrev pub AreVars : List Term → List tree.LocalVar → List Term → Type 0
+abbrev pub AreVars : List Lexeme → List tree.LocalVar → List Lexeme → Type 0
 AreVars z vs w = (i : Leaf) → IsStmt (tok Var i ∷ z) (tree.Var vs i.at)
 
-module _ (n m : ℕ) (value : List Term → Read tree.Expr) (value_c : Values false m value) where
-  local_value : (x : List Term) (l : List Term) (f : tree.Expr → tree.LocalVar) → length l ≤ m
-      → ((z : List Term) (v : tree.Expr) (w : List Term) → IsExpr false 1 z v → IsLocal (x ++ z) (f v))
+module _ (n m : ℕ) (value : List Lexeme → Read tree.Expr) (value_c : Values false m value) where
+  local_value : (x : List Lexeme) (l : List Lexeme) (f : tree.Expr → tree.LocalVar) → length l ≤ m
+      → ((z : List Lexeme) (v : tree.Expr) (w : List Lexeme) → IsExpr false 1 z v → IsLocal (x ++ z) (f v))
       → Correct (Unary false ∷ Bin false ∷ []) (λ _. []) (LocalAt x) l (value l >>= given f)
   local_value x l f b g =
       correct_given (Unary false ∷ Bin false ∷ []) [] (λ z v w. IsExpr false 1 z v) (LocalAt x) l (value l) f (value_c l b) g
 
-  initial_by_correct : (i : Leaf) (x : List Term) (t : tree.TypeExpr) (k : Terminal) (j : Leaf) (l : List Term) → length l ≤ m → IsType x t
+  initial_by_correct : (i : Leaf) (x : List Lexeme) (t : tree.TypeExpr) (k : Terminal) (j : Leaf) (l : List Lexeme) → length l ≤ m → IsType x t
       → Correct (Initial ∷ []) (λ _. []) (LocalAt (tok Name i ∷ x)) (tok k j ∷ l) (initial_by value i t k j (tok k j ∷ l) l)
   unfolding run step
   initial_by_correct i x t (Assign assign_op.Plain) j l b h =
@@ -81,13 +81,13 @@ module _ (n m : ℕ) (value : List Term → Read tree.Expr) (value_c : Values fa
       l (value l) (λ v. tree.Typed (ident i) t v j.at) (value_c l b) (λ z v w g. typed i j h g))
   initial_by_correct i x t _ j l b h = ([], refl, rw append-nil (zeroed (of_names (one i) h)), λ s. refl)
 
-  initial_correct : (i : Leaf) (x : List Term) (t : tree.TypeExpr) (l : List Term) → length l ≤ m → IsType x t
+  initial_correct : (i : Leaf) (x : List Lexeme) (t : tree.TypeExpr) (l : List Lexeme) → length l ≤ m → IsType x t
       → Correct (Initial ∷ []) (λ _. []) (LocalAt (tok Name i ∷ x)) l (initial value i t l (first_of l))
   unfolding run closes
   initial_correct i x t [] b h = ([], refl, rw append-nil (zeroed (of_names (one i) h)), λ s. refl)
   initial_correct i x t (u ∷ l) b h = initial_by_correct i x t u.terminal u.leaf l (omega (arith, b)) h
 
-  local_type : (i : Leaf) (l : List Term) → length l < n → length l ≤ m
+  local_type : (i : Leaf) (l : List Lexeme) → length l < n → length l ≤ m
       → Correct (AType ∷ Initial ∷ []) (λ _. []) (LocalAt (tok Name i ∷ [])) l (a_type n l >>= λ t w. initial value i t w (first_of w))
   local_type i l a b =
       correct_then (AType ∷ []) (Initial ∷ []) (λ _. []) (λ z t w. IsType z t) (LocalAt (tok Name i ∷ [])) l (a_type n l)
@@ -95,7 +95,7 @@ module _ (n m : ℕ) (value : List Term → Read tree.Expr) (value_c : Values fa
       (type_correct n l a)
       (λ z t w e h. initial_correct i z t w (omega (arith, shorter l z w e)) h)
 
-  local_by_correct : (i : Leaf) (k : Terminal) (j : Leaf) (l : List Term) → length l + 1 < n → length l + 1 ≤ m
+  local_by_correct : (i : Leaf) (k : Terminal) (j : Leaf) (l : List Lexeme) → length l + 1 < n → length l + 1 ≤ m
       → Correct (LocalRest ∷ []) (λ _. []) (LocalAt (tok Name i ∷ [])) (tok k j ∷ l) (local_by n value i k j (tok k j ∷ l) l)
   unfolding run step
   local_by_correct i Comma j l a b =
@@ -115,19 +115,19 @@ module _ (n m : ℕ) (value : List Term → Read tree.Expr) (value_c : Values fa
       (a_type n (tok k j ∷ l) >>= λ t w. initial value i t w (first_of w)) refl (λ s. type_run k j l s refl)
       (local_type i (tok k j ∷ l) (omega (arith, a)) (omega (arith, b)))
 
-  local_on_correct : (i : Leaf) (l : List Term) → length l < n → length l ≤ m
+  local_on_correct : (i : Leaf) (l : List Lexeme) → length l < n → length l ≤ m
       → Correct (LocalRest ∷ []) (λ _. []) (LocalAt (tok Name i ∷ [])) l (local_on n value i l (first_of l))
   unfolding run closes
   local_on_correct i [] a b = λ s. refl
   local_on_correct i (t ∷ l) a b = local_by_correct i t.terminal t.leaf l (omega (arith, a)) (omega (arith, b))
 
-  local_correct : (l : List Term) → length l < n → length l ≤ m
+  local_correct : (l : List Lexeme) → length l < n → length l ≤ m
       → Correct (T Name ∷ LocalRest ∷ []) (λ _. []) (λ z v w. IsLocal z v) l (local n value l)
   local_correct l a b =
       correct_token_then Name (LocalRest ∷ []) (λ _. []) (λ z v w. IsLocal z v) l (λ i w. local_on n value i w (first_of w)) refl
       (λ i w c. local_on_correct i w (omega (arith, a, ap length c)) (omega (arith, b, ap length c)))
 
-  local_list : (l : List Term) → length l < n → length l ≤ m
+  local_list : (l : List Lexeme) → length l < n → length l ≤ m
       → Correct (LocalList ∷ []) (λ _. []) (λ z x w. Listed IsLocal Semicolon CloseParen z x.0) l
       (listed Semicolon CloseParen (λ w. single (local n value w)) n [] l)
   local_list l a b =
@@ -139,7 +139,7 @@ module _ (n m : ℕ) (value : List Term → Read tree.Expr) (value_c : Values fa
       (local_correct (t ∷ w) (omega (arith, a, g)) (omega (arith, b, g)))))
       n l a (omega arith)
 
-  vars_by_correct : (k : Terminal) (i : Leaf) (l : List Term) → length l + 1 < n → length l + 1 ≤ m
+  vars_by_correct : (k : Terminal) (i : Leaf) (l : List Lexeme) → length l + 1 < n → length l + 1 ≤ m
       → Correct (Locals ∷ []) (λ _. []) AreVars (tok k i ∷ l) (vars_by n value k (tok k i ∷ l) l)
   unfolding run step several
   vars_by_correct OpenParen i l a b =
@@ -156,7 +156,7 @@ module _ (n m : ℕ) (value : List Term → Read tree.Expr) (value_c : Values fa
       (correct_given (T Name ∷ LocalRest ∷ []) [] (λ z v w. IsLocal z v) AreVars (tok k i ∷ l) (local n value (tok k i ∷ l)) (λ v. v ∷ [])
       (local_correct (tok k i ∷ l) (omega (arith, a)) (omega (arith, b))) (λ z v w h. λ j. a_var j h))
 
-  pub vars_on_correct : (l : List Term) → length l < n → length l ≤ m
+  pub vars_on_correct : (l : List Lexeme) → length l < n → length l ≤ m
       → Correct (Locals ∷ []) (λ _. []) AreVars l (vars_on n value l (first_of l))
   unfolding run closes
   vars_on_correct [] a b = λ s. refl

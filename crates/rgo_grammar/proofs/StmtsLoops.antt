@@ -3,9 +3,9 @@ use Rattle.std.proofs.Common.{◌≡◌, ℕ, ◌+◌, ◌≤◌, true, false, L
 use Rattle.rgo_ast.specs.declared.ops.BinaryOp.TheVariants as op
 use Rattle.rgo_ast.specs.Tree as tree
 use Rattle.rgo_ast.specs.Tree.{stmts_of, clause_of}
-use Rattle.rgo_grammar.specs.declared.terminals.Terminal.{Terminal}
-use Rattle.rgo_grammar.specs.declared.terminals.Terminal.TheVariants.{Binary, OpenBrace, Semicolon, If, For}
-use Rattle.rgo_grammar.specs.Terms.{Leaf, Term, tok, same}
+use Rattle.rgo_lexer.specs.declared.terminals.Terminal.{Terminal}
+use Rattle.rgo_lexer.specs.declared.terminals.Terminal.TheVariants.{Binary, OpenBrace, Semicolon, If, For}
+use Rattle.rgo_lexer.specs.Lexemes.{Leaf, Lexeme, tok, same}
 use Rattle.rgo_grammar.specs.Grammar.{IsExpr, IsSimple, IsClause, IsCondition, IsStmts, IsIf, IsFor}
 use Rattle.rgo_grammar.specs.Grammar.IsClause.{empty, some as a_clause}
 use Rattle.rgo_grammar.specs.Grammar.IsCondition.{none as unconditional, some as on_condition}
@@ -19,20 +19,20 @@ use Rattle.rgo_grammar.proofs.StmtsSimple.{Values, AtSimple, leaves, valued_corr
 use Rattle.rgo_grammar.proofs.StmtsDefining.{left_behind}
 use Rattle.rgo_grammar.proofs.StmtsHeads.{IsHead, behind_head, for_head_correct}
 
-abbrev pub IsBlock : List Term → List tree.Stmt × Leaf → List Term → Type 0
-IsBlock z x w = (i : Leaf) × (y : List Term) × (z ≡ tok OpenBrace i ∷ y) × IsStmts y x.0 x.1
+abbrev pub IsBlock : List Lexeme → List tree.Stmt × Leaf → List Lexeme → Type 0
+IsBlock z x w = (i : Leaf) × (y : List Lexeme) × (z ≡ tok OpenBrace i ∷ y) × IsStmts y x.0 x.1
 
 -- a reader of blocks that is correct on lists up to this length
-abbrev pub Blocks : ℕ → (List Term → Read (List tree.Stmt × Leaf)) → Type 0
-Blocks m block = (l : List Term) → length l ≤ m → Correct (Block ∷ []) (λ _. []) IsBlock l (block l)
+abbrev pub Blocks : ℕ → (List Lexeme → Read (List tree.Stmt × Leaf)) → Type 0
+Blocks m block = (l : List Lexeme) → length l ≤ m → Correct (Block ∷ []) (λ _. []) IsBlock l (block l)
 
 -- and one of what stands behind `if`, on lists that are shorter
-abbrev pub Ifs : ℕ → (Leaf → List Term → Read tree.Stmt) → Type 0
-Ifs m again = (i : Leaf) (l : List Term) → length l + 1 ≤ m → Correct (IfHead ∷ []) (λ _. []) (λ z s w. IsIf (tok If i ∷ z) s) l (again i l)
+abbrev pub Ifs : ℕ → (Leaf → List Lexeme → Read tree.Stmt) → Type 0
+Ifs m again = (i : Leaf) (l : List Lexeme) → length l + 1 ≤ m → Correct (IfHead ∷ []) (λ _. []) (λ z s w. IsIf (tok If i ∷ z) s) l (again i l)
 
 -- ---- the second part of the header of a `for`
 
-condition_run : (k : Terminal) (i : Leaf) (l : List Term) (s : List Sym) → same Semicolon k ≡ false
+condition_run : (k : Terminal) (i : Leaf) (l : List Lexeme) (s : List Sym) → same Semicolon k ≡ false
     → run (tok k i ∷ l) (Condition ∷ s) ≡ run (tok k i ∷ l) (Unary true ∷ Bin true ∷ T Semicolon ∷ ForStep ∷ s)
 unfolding run step
 condition_run Semicolon i l s h = cc
@@ -40,7 +40,7 @@ condition_run (Binary op.Add) i l s h = refl
 condition_run (Binary op.Sub) i l s h = refl
 condition_run _ i l s h = refl
 
-step_run : (k : Terminal) (i : Leaf) (l : List Term) (s : List Sym) → same OpenBrace k ≡ false
+step_run : (k : Terminal) (i : Leaf) (l : List Lexeme) (s : List Sym) → same OpenBrace k ≡ false
     → run (tok k i ∷ l) (ForStep ∷ s) ≡ run (tok k i ∷ l) (Unary true ∷ Bin true ∷ Tail behind_for ∷ s)
 unfolding run step
 step_run OpenBrace i l s h = cc
@@ -48,11 +48,11 @@ step_run (Binary op.Add) i l s h = refl
 step_run (Binary op.Sub) i l s h = refl
 step_run _ i l s h = refl
 
-abbrev IsConditionEnd : List Term → Option tree.Expr → List Term → Type 0
-IsConditionEnd z c w = (y : List Term) × (k : Leaf) × (z ≡ y ++ tok Semicolon k ∷ []) × IsCondition y c
+abbrev IsConditionEnd : List Lexeme → Option tree.Expr → List Lexeme → Type 0
+IsConditionEnd z c w = (y : List Lexeme) × (k : Leaf) × (z ≡ y ++ tok Semicolon k ∷ []) × IsCondition y c
 
-module _ (m : ℕ) (value : List Term → Read tree.Expr) (value_c : Values true m value) where
-  condition_by_correct : (k : Terminal) (i : Leaf) (l : List Term) → length l + 1 ≤ m
+module _ (m : ℕ) (value : List Lexeme → Read tree.Expr) (value_c : Values true m value) where
+  condition_by_correct : (k : Terminal) (i : Leaf) (l : List Lexeme) → length l + 1 ≤ m
       → Correct (Condition ∷ []) (λ _. ForStep ∷ []) IsConditionEnd (tok k i ∷ l) (condition_by value k (tok k i ∷ l) l)
   unfolding run step
   condition_by_correct Semicolon i l b = (tok Semicolon i ∷ [], refl, ([], i, refl, unconditional), λ s. refl)
@@ -67,20 +67,20 @@ module _ (m : ℕ) (value : List Term → Read tree.Expr) (value_c : Values true
       (token Semicolon w >>= given (λ _. Some v))
       (correct_token_given Semicolon (λ x c u. IsConditionEnd (z ++ x) c u) w (λ _. Some v) refl (λ j u. (z, j, refl, on_condition h)))))
 
-  condition_on_correct : (l : List Term) → length l ≤ m
+  condition_on_correct : (l : List Lexeme) → length l ≤ m
       → Correct (Condition ∷ []) (λ _. ForStep ∷ []) IsConditionEnd l (condition_on value l (first_of l))
   unfolding run closes
   condition_on_correct [] b = λ s. refl
   condition_on_correct (t ∷ l) b = condition_by_correct t.terminal t.leaf l (omega (arith, b))
 
-  step_valued : (l : List Term) → length l ≤ m
+  step_valued : (l : List Lexeme) → length l ≤ m
       → Correct (Unary true ∷ Bin true ∷ Tail behind_for ∷ []) (λ _. Block ∷ []) (λ z s w. IsSimple true false z s) l (valued value l)
   step_valued l b =
       correct_left (Unary true ∷ Bin true ∷ Tail behind_for ∷ []) (leaves behind_for) (λ _. Block ∷ []) (AtSimple behind_for false [])
       (λ z s w. IsSimple true false z s) l (valued value l) (valued_correct behind_for m value value_c false l b)
       (λ z st w g. (g.0, λ s. left_behind st w s g.1))
 
-  step_by_correct : (k : Terminal) (i : Leaf) (l : List Term) → length l + 1 ≤ m
+  step_by_correct : (k : Terminal) (i : Leaf) (l : List Lexeme) → length l + 1 ≤ m
       → Correct (ForStep ∷ []) (λ _. Block ∷ []) (λ z p w. IsClause false z p) (tok k i ∷ l) (step_by value k (tok k i ∷ l))
   unfolding run step
   step_by_correct OpenBrace i l b = ([], refl, empty, λ s. refl)
@@ -92,7 +92,7 @@ module _ (m : ℕ) (value : List Term → Read tree.Expr) (value_c : Values true
       (λ z p w. IsClause false z p) (tok k i ∷ l)
       (valued value (tok k i ∷ l)) (λ s. Some s) (step_valued (tok k i ∷ l) (omega (arith, b))) (λ z s w h. a_clause h))
 
-  step_on_correct : (l : List Term) → length l ≤ m
+  step_on_correct : (l : List Lexeme) → length l ≤ m
       → Correct (ForStep ∷ []) (λ _. Block ∷ []) (λ z p w. IsClause false z p) l (step_on value l (first_of l))
   unfolding run closes
   step_on_correct [] b = λ s. refl
@@ -100,30 +100,30 @@ module _ (m : ℕ) (value : List Term → Read tree.Expr) (value_c : Values true
 
 -- ---- `for`
 
-abbrev ForAt : Leaf → List Term → List Term → tree.Stmt → List Term → Type 0
+abbrev ForAt : Leaf → List Lexeme → List Lexeme → tree.Stmt → List Lexeme → Type 0
 ForAt i x z s w = IsFor (tok For i ∷ (x ++ z)) s
 
-three_of : (i j k : Leaf) {x u z v y : List Term} {s p : Option tree.Stmt} {c : Option tree.Expr} {b : List tree.Stmt} {end : Leaf}
-    (w : List Term) (m : Leaf)
+three_of : (i j k : Leaf) {x u z v y : List Lexeme} {s p : Option tree.Stmt} {c : Option tree.Expr} {b : List tree.Stmt} {end : Leaf}
+    (w : List Lexeme) (m : Leaf)
     → x ≡ u ++ tok Semicolon j ∷ [] → z ≡ v ++ tok Semicolon k ∷ []
     → IsClause true u s → IsCondition v c → IsClause false w p → IsStmts y b end
     → IsFor (tok For i ∷ (x ++ (z ++ (w ++ tok OpenBrace m ∷ y)))) (tree.For (clause_of s) c (clause_of p) (stmts_of b) i.at)
 three_of i j k {u = u} {v = v} {y = y} w m e f hs hc hp hb =
     rw (e, f, append_assoc u (tok Semicolon j ∷ []), append_assoc v (tok Semicolon k ∷ [])) (three i j k m hs hc hp hb)
 
-module _ (m : ℕ) (value : List Term → Read tree.Expr) (value_c : Values true m value)
-    (block : List Term → Read (List tree.Stmt × Leaf)) (block_c : Blocks m block) where
-  looped_correct : (Q : List Term → tree.Stmt → List Term → Type 0) (i : Leaf) (l : List Term) (s : Option tree.Stmt)
+module _ (m : ℕ) (value : List Lexeme → Read tree.Expr) (value_c : Values true m value)
+    (block : List Lexeme → Read (List tree.Stmt × Leaf)) (block_c : Blocks m block) where
+  looped_correct : (Q : List Lexeme → tree.Stmt → List Lexeme → Type 0) (i : Leaf) (l : List Lexeme) (s : Option tree.Stmt)
       (c : Option tree.Expr) (p : Option tree.Stmt)
       → length l ≤ m
-      → ((k : Leaf) (y : List Term) (b : List tree.Stmt) (end : Leaf) (w : List Term) → IsStmts y b end
+      → ((k : Leaf) (y : List Lexeme) (b : List tree.Stmt) (end : Leaf) (w : List Lexeme) → IsStmts y b end
       → Q (tok OpenBrace k ∷ y) (tree.For (clause_of s) c (clause_of p) (stmts_of b) i.at) w)
       → Correct (Block ∷ []) (λ _. []) Q l (looped block i s c p l)
   looped_correct Q i l s c p b g =
       correct_given (Block ∷ []) [] IsBlock Q l (block l) (λ x. tree.For (clause_of s) c (clause_of p) (stmts_of x.0) i.at) (block_c l b)
       (λ z x w h. rw h.2 (g h.0 h.1 x.0 x.1 w h.3))
 
-  for_rest_correct : (i : Leaf) (x : List Term) (h : Head) (l : List Term) → length l ≤ m → IsHead x h
+  for_rest_correct : (i : Leaf) (x : List Lexeme) (h : Head) (l : List Lexeme) → length l ≤ m → IsHead x h
       → Correct (behind_head before_for h) (λ _. []) (ForAt i x) l (for_rest block value i h l)
   for_rest_correct i x (condition c) l b h =
       looped_correct (ForAt i x) i l None (Some c) None b (λ k y bs end w d. while i k (on_condition h) d)
@@ -137,7 +137,7 @@ module _ (m : ℕ) (value : List Term → Read tree.Expr) (value_c : Values true
       (omega (arith, b, shorter l z w ec, shorter w y o eo))
       (λ n q bs end r d. three_of i j k y n e ez hs hc hp d)))
 
-  for_by_correct : (i : Leaf) (k : Terminal) (j : Leaf) (l : List Term) → length l + 1 ≤ m
+  for_by_correct : (i : Leaf) (k : Terminal) (j : Leaf) (l : List Lexeme) → length l + 1 ≤ m
       → Correct (ForHead ∷ []) (λ _. []) (ForAt i []) (tok k j ∷ l) (for_by block value i k (tok k j ∷ l))
   unfolding run step
   for_by_correct i OpenBrace j l b =
@@ -150,7 +150,7 @@ module _ (m : ℕ) (value : List Term → Read tree.Expr) (value_c : Values true
       (for_head_correct m value value_c k j l b refl)
       (λ z h w e d. for_rest_correct i z h w (omega (arith, b, shorter (tok k j ∷ l) z w e)) d)
 
-  pub for_on_correct : (i : Leaf) (l : List Term) → length l ≤ m
+  pub for_on_correct : (i : Leaf) (l : List Lexeme) → length l ≤ m
       → Correct (ForHead ∷ []) (λ _. []) (λ z s w. IsFor (tok For i ∷ z) s) l (for_on block value i l (first_of l))
   unfolding run closes
   for_on_correct i [] b = λ s. refl

@@ -3,9 +3,9 @@ use Rattle.std.proofs.Common.{◌≡◌, ℕ, zero, suc, inl, inr, false, List, 
 use Rattle.rgo_ast.specs.declared.names.Ident.{Ident}
 use Rattle.rgo_ast.specs.Tree as tree
 use Rattle.rgo_ast.specs.Tree.{Binding}
-use Rattle.rgo_grammar.specs.declared.terminals.Terminal.{Terminal}
-use Rattle.rgo_grammar.specs.declared.terminals.Terminal.TheVariants.{Name, Comma}
-use Rattle.rgo_grammar.specs.Terms.{Leaf, Term, tok, ident, same}
+use Rattle.rgo_lexer.specs.declared.terminals.Terminal.{Terminal}
+use Rattle.rgo_lexer.specs.declared.terminals.Terminal.TheVariants.{Name, Comma}
+use Rattle.rgo_lexer.specs.Lexemes.{Leaf, Lexeme, tok, ident, same}
 use Rattle.rgo_grammar.specs.Grammar.{IsNames, IsType, IsBinding, Listed}
 use Rattle.rgo_grammar.specs.Grammar.IsNames.{one, more}
 use Rattle.rgo_grammar.specs.Grammar.IsType.{named, pointer, slice, chan}
@@ -15,7 +15,7 @@ use Rattle.rgo_grammar.specs.ReadTypes.{a_type, names_by, names, bound, binding,
 use Rattle.rgo_grammar.proofs.TypesCorrect.{is_comma, NoComma}
 use Rattle.rgo_grammar.proofs.Complete.{Meets, meets_bind, meets_then, bind_assoc, Opens, listed_complete}
 
-pub type_complete : (x : List Term) (t : tree.TypeExpr) → IsType x t → (n : ℕ) (l : List Term) → Meets (a_type n (x ++ l)) (Done t l)
+pub type_complete : (x : List Lexeme) (t : tree.TypeExpr) → IsType x t → (n : ℕ) (l : List Lexeme) → Meets (a_type n (x ++ l)) (Done t l)
 unfolding a_type
 type_complete x t h zero l = inl refl
 type_complete _ _ (named i) (suc n) l = inr refl
@@ -25,7 +25,7 @@ type_complete _ _ (slice i j {x} {t} h) (suc n) l =
 type_complete _ _ (chan i {x} {t} h) (suc n) l =
     meets_bind (a_type n (x ++ l)) (Done t l) (given (λ u. tree.Chan u i.at)) (type_complete x t h n l)
 
-names_end : (n : ℕ) (found : List Ident) (l : List Term) → NoComma l → Meets (names n found l) (Done found l)
+names_end : (n : ℕ) (found : List Ident) (l : List Lexeme) → NoComma l → Meets (names n found l) (Done found l)
 unfolding names
 names_end zero found l h = inl refl
 names_end (suc n) found [] h = inr refl
@@ -34,7 +34,7 @@ names_end (suc n) found (t ∷ l) h = inr (by_terminal t.terminal t.leaf h) wher
   by_terminal Comma i g = cc
   by_terminal _ i g = refl
 
-names_complete : {x : List Term} {ns : List Ident} → IsNames x ns → (n : ℕ) (found : List Ident) (l : List Term) → NoComma l
+names_complete : {x : List Lexeme} {ns : List Ident} → IsNames x ns → (n : ℕ) (found : List Ident) (l : List Lexeme) → NoComma l
     → Meets (token Name (x ++ l) >>= λ i. names n (found ++ ident i ∷ [])) (Done (found ++ ns) l)
 unfolding names
 names_complete (one i) n found l h = names_end n (found ++ ident i ∷ []) l h
@@ -42,13 +42,13 @@ names_complete (more i j {x} {ns} g) zero found l h = inl refl
 names_complete (more i j {x} {ns} g) (suc n) found l h =
     let d = names_complete g n (found ++ ident i ∷ []) l h in rw (append_assoc found (ident i ∷ []) ns) at d
 
-type_starts : (x : List Term) (t : tree.TypeExpr) (l : List Term) → IsType x t → NoComma (x ++ l)
+type_starts : (x : List Lexeme) (t : tree.TypeExpr) (l : List Lexeme) → IsType x t → NoComma (x ++ l)
 type_starts _ _ l (named i) = refl
 type_starts _ _ l (pointer i j) = refl
 type_starts _ _ l (slice i j h) = refl
 type_starts _ _ l (chan i h) = refl
 
-pub binding_complete : (x : List Term) (b : Binding) → IsBinding x b → (n : ℕ) (l : List Term) → Meets (binding n (x ++ l)) (Done b l)
+pub binding_complete : (x : List Lexeme) (b : Binding) → IsBinding x b → (n : ℕ) (l : List Lexeme) → Meets (binding n (x ++ l)) (Done b l)
 binding_complete _ _ (of_names {x} {y} {ns} {t} h g) n l =
     rw (append_assoc, ← bind_assoc (token Name (x ++ (y ++ l))) (λ i. names n (ident i ∷ [])) (λ ms w. a_type n w >>= given (bound ms)))
     (meets_then (token Name (x ++ (y ++ l)) >>= λ i. names n (ident i ∷ [])) ns (y ++ l) (λ ms w. a_type n w >>= given (bound ms))
@@ -57,15 +57,15 @@ binding_complete _ _ (of_names {x} {y} {ns} {t} h g) n l =
     (meets_bind (a_type n (y ++ l)) (Done t l) (given (bound ns)) (type_complete y t g n l)))
 
 -- names and types begin with a name
-names_open : (closer : Terminal) → same closer Name ≡ false → (x : List Term) (ns : List Ident) → IsNames x ns → Opens closer x
+names_open : (closer : Terminal) → same closer Name ≡ false → (x : List Lexeme) (ns : List Ident) → IsNames x ns → Opens closer x
 names_open closer e _ _ (one i) = (tok Name i, [], refl, e)
 names_open closer e _ _ (more i j {x} h) = (tok Name i, tok Comma j ∷ x, refl, e)
 
-pub binding_opens : (closer : Terminal) → same closer Name ≡ false → (x : List Term) (b : Binding) → IsBinding x b → Opens closer x
+pub binding_opens : (closer : Terminal) → same closer Name ≡ false → (x : List Lexeme) (b : Binding) → IsBinding x b → Opens closer x
 binding_opens closer e _ _ (of_names {x} {y} {ns} h g) = let o = names_open closer e x ns h in (o.0, o.1 ++ y, ap (λ m. m ++ y) o.2, o.3)
 
 pub bindings_complete : (separator closer : Terminal) → same closer separator ≡ false → same closer Name ≡ false
-    → {y : List Term} {bs : List Binding} → Listed IsBinding separator closer y bs → (n : ℕ) (l : List Term)
+    → {y : List Lexeme} {bs : List Binding} → Listed IsBinding separator closer y bs → (n : ℕ) (l : List Lexeme)
     → (j : Leaf) × Meets (bindings separator closer n (y ++ l)) (Done (bs, j) l)
 unfolding several
 bindings_complete separator closer other name d n l =

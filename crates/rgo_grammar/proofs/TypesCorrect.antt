@@ -4,9 +4,9 @@ use Rattle.rgo_ast.specs.declared.ops.BinaryOp.TheVariants as op
 use Rattle.rgo_ast.specs.declared.names.Ident.{Ident}
 use Rattle.rgo_ast.specs.Tree as tree
 use Rattle.rgo_ast.specs.Tree.{Binding}
-use Rattle.rgo_grammar.specs.declared.terminals.Terminal.{Terminal}
-use Rattle.rgo_grammar.specs.declared.terminals.Terminal.TheVariants.{Name, Binary, OpenBracket, CloseBracket, Comma, Chan}
-use Rattle.rgo_grammar.specs.Terms.{Leaf, Term, tok, ident, same}
+use Rattle.rgo_lexer.specs.declared.terminals.Terminal.{Terminal}
+use Rattle.rgo_lexer.specs.declared.terminals.Terminal.TheVariants.{Name, Binary, OpenBracket, CloseBracket, Comma, Chan}
+use Rattle.rgo_lexer.specs.Lexemes.{Leaf, Lexeme, tok, ident, same}
 use Rattle.rgo_grammar.specs.Grammar.{IsNames, IsType, IsBinding, Listed}
 use Rattle.rgo_grammar.specs.Grammar.IsNames.{one, more}
 use Rattle.rgo_grammar.specs.Grammar.Listed.{none as none_item, last, more as next_item}
@@ -20,11 +20,11 @@ use Rattle.rgo_grammar.proofs.Correct.{Correct, correct_from, correct_bind, corr
 
 -- ---- types
 
-abbrev pub ATypeAt : List Term → tree.TypeExpr → List Term → Type 0
+abbrev pub ATypeAt : List Lexeme → tree.TypeExpr → List Lexeme → Type 0
 ATypeAt z t w = IsType z t
 
-type_by_correct : (inner : List Term → Read tree.TypeExpr) (k : Terminal) (i : Leaf) (m : List Term)
-    → ((w : List Term) → length w ≤ length m → Correct (AType ∷ []) (λ _. []) ATypeAt w (inner w))
+type_by_correct : (inner : List Lexeme → Read tree.TypeExpr) (k : Terminal) (i : Leaf) (m : List Lexeme)
+    → ((w : List Lexeme) → length w ≤ length m → Correct (AType ∷ []) (λ _. []) ATypeAt w (inner w))
     → Correct (AType ∷ []) (λ _. []) ATypeAt (tok k i ∷ m) (type_by inner k i (tok k i ∷ m) m)
 unfolding run step
 type_by_correct inner Name i m hi = (tok Name i ∷ [], refl, named i, λ s. refl)
@@ -48,7 +48,7 @@ type_by_correct inner Chan i m hi =
     (λ x t u h. chan i h))
 type_by_correct inner _ i m hi = λ s. refl
 
-pub type_correct : (n : ℕ) (l : List Term) → length l < n → Correct (AType ∷ []) (λ _. []) (λ z t w. IsType z t) l (a_type n l)
+pub type_correct : (n : ℕ) (l : List Lexeme) → length l < n → Correct (AType ∷ []) (λ _. []) (λ z t w. IsType z t) l (a_type n l)
 unfolding a_type run closes
 type_correct zero l h = absurd (omega arith)
 type_correct (suc n) [] h = λ s. refl
@@ -57,10 +57,10 @@ type_correct (suc n) (t ∷ l) h = type_by_correct (a_type n) t.terminal t.leaf 
 -- ---- names and their type
 
 -- behind names x, more names
-abbrev pub NamesAt : List Term → List Ident → List Term → Type 0
+abbrev pub NamesAt : List Lexeme → List Ident → List Lexeme → Type 0
 NamesAt z ns w = IsNames z ns
 
-names_append : (x y : List Term) (j : Leaf) (ns ms : List Ident) → IsNames x ns → IsNames y ms → IsNames (x ++ tok Comma j ∷ y) (ns ++ ms)
+names_append : (x y : List Lexeme) (j : Leaf) (ns ms : List Ident) → IsNames x ns → IsNames y ms → IsNames (x ++ tok Comma j ∷ y) (ns ++ ms)
 names_append x y j ns ms (one i) g = more i j g
 names_append x y j ns ms (more i k {x = x'} {ns = ns'} h) g = more i k (names_append x' y j ns' ms h g)
 
@@ -69,18 +69,18 @@ is_comma Comma = true
 is_comma _ = false
 
 -- no `,` comes next
-abbrev pub NoComma : List Term → Type 0
+abbrev pub NoComma : List Lexeme → Type 0
 NoComma [] = Unit {0}
 NoComma (t ∷ l) = is_comma t.terminal ≡ false
 
 -- the names behind those of x
-abbrev AreNames : List Term → List Term → List Ident → List Term → Type 0
+abbrev AreNames : List Lexeme → List Lexeme → List Ident → List Lexeme → Type 0
 AreNames x z ns w = IsNames (x ++ z) ns × NoComma w
 
-names_by_correct : (again : List Ident → List Term → Read (List Ident)) (found : List Ident) (x : List Term) (k : Terminal) (i : Leaf)
-    (m : List Term)
+names_by_correct : (again : List Ident → List Lexeme → Read (List Ident)) (found : List Ident) (x : List Lexeme) (k : Terminal) (i : Leaf)
+    (m : List Lexeme)
     → IsNames x found
-    → ((ns : List Ident) (y w : List Term) → length w < length m → IsNames y ns
+    → ((ns : List Ident) (y w : List Lexeme) → length w < length m → IsNames y ns
     → Correct (NamesType ∷ []) (λ _. NamesType ∷ []) (AreNames y) w (again ns w))
     → Correct (NamesType ∷ []) (λ _. NamesType ∷ []) (AreNames x) (tok k i ∷ m) (names_by again found k (tok k i ∷ m) m)
 unfolding run step
@@ -91,7 +91,7 @@ names_by_correct again found x Comma i m f hi =
     (λ j. again (found ++ ident j ∷ [])) refl
     (λ j w c. correct_more j w c))
   where
-    correct_more : (j : Leaf) (w : List Term) → m ≡ tok Name j ∷ w
+    correct_more : (j : Leaf) (w : List Lexeme) → m ≡ tok Name j ∷ w
         → Correct (NamesType ∷ []) (λ _. NamesType ∷ []) (λ z ns u. AreNames x (tok Comma i ∷ tok Name j ∷ z) ns u) w
         (again (found ++ ident j ∷ []) w)
     correct_more j w c =
@@ -102,7 +102,7 @@ names_by_correct again found x Comma i m f hi =
         (λ z ns u d g. let h = g.0 in (rw append_assoc at h, g.1))
 names_by_correct again found x k i m f hi = ([], refl, (rw append-nil f, refl), λ s. refl)
 
-names_correct : (n : ℕ) (found : List Ident) (x l : List Term) → length l < n → IsNames x found
+names_correct : (n : ℕ) (found : List Ident) (x l : List Lexeme) → length l < n → IsNames x found
     → Correct (NamesType ∷ []) (λ _. NamesType ∷ []) (AreNames x) l (names n found l)
 unfolding names
 names_correct zero found x l h f = absurd (omega arith)
@@ -118,13 +118,13 @@ not_comma k h =
     ] refl
 
 -- behind the last name stands a type
-names_end : (w : List Term) (s : List Sym) → NoComma w → run w (NamesType ∷ s) ≡ run w (AType ∷ s)
+names_end : (w : List Lexeme) (s : List Sym) → NoComma w → run w (NamesType ∷ s) ≡ run w (AType ∷ s)
 unfolding run step closes
 names_end [] s h = refl
 names_end (t ∷ w) s h = rw (not_comma t.terminal h) refl
 
 -- behind names x, their type
-typed_from : (n : ℕ) (found : List Ident) (x l : List Term) → length l < n → IsNames x found
+typed_from : (n : ℕ) (found : List Ident) (x l : List Lexeme) → length l < n → IsNames x found
     → Correct (NamesType ∷ []) (λ _. []) (λ z b w. IsBinding (x ++ z) b) l (typed_names n found l)
 typed_from n found x l h f =
     correct_bind (NamesType ∷ []) (λ _. NamesType ∷ []) (λ _. []) (AreNames x) (λ z b w. IsBinding (x ++ z) b) l (names n found l)
@@ -136,11 +136,11 @@ typed_from n found x l h f =
     (type_correct n w (omega (arith, shorter l z w c)))
     (λ y t u d. rw (← append_assoc) (of_names g.0 d))))
 
-pub typed_names_correct : (n : ℕ) (l : List Term) → length l < n → (i : Leaf)
+pub typed_names_correct : (n : ℕ) (l : List Lexeme) → length l < n → (i : Leaf)
     → Correct (NamesType ∷ []) (λ _. []) (λ z b w. IsBinding (tok Name i ∷ z) b) l (typed_names n (ident i ∷ []) l)
 typed_names_correct n l h i = typed_from n (ident i ∷ []) (tok Name i ∷ []) l h (one i)
 
-pub binding_correct : (n : ℕ) (l : List Term) → length l < n
+pub binding_correct : (n : ℕ) (l : List Lexeme) → length l < n
     → Correct (T Name ∷ NamesType ∷ []) (λ _. []) (λ z b w. IsBinding z b) l (binding n l)
 binding_correct n l h =
     correct_token_then Name (NamesType ∷ []) (λ _. []) (λ z b w. IsBinding z b) l (λ i. typed_names n (ident i ∷ [])) refl
@@ -148,27 +148,27 @@ binding_correct n l h =
 
 -- ---- a list of items of the grammar
 
-abbrev pub IsOne : {A : Type 0} → (List Term → A → Type 0) → List Term → List A → Type 0
+abbrev pub IsOne : {A : Type 0} → (List Lexeme → A → Type 0) → List Lexeme → List A → Type 0
 IsOne {A} Item z l = (a : A) × (l ≡ a ∷ []) × Item z a
 
-abbrev IsList : {A : Type 0} → (List Term → A → Type 0) → Terminal → Terminal → List Term → List A → Leaf → Type 0
+abbrev IsList : {A : Type 0} → (List Lexeme → A → Type 0) → Terminal → Terminal → List Lexeme → List A → Leaf → Type 0
 IsList Item separator closer z l j = Listed Item separator closer z l
 
-list_last : {A : Type 0} (Item : List Term → A → Type 0) (separator closer : Terminal) (z : List Term) (l : List A) (j : Leaf)
+list_last : {A : Type 0} (Item : List Lexeme → A → Type 0) (separator closer : Terminal) (z : List Lexeme) (l : List A) (j : Leaf)
     → IsOne Item z l
     → Listed Item separator closer (z ++ tok closer j ∷ []) l
 list_last Item separator closer z l j (a, e, h) = rw e (last j h)
 
-list_more : {A : Type 0} (Item : List Term → A → Type 0) (separator closer : Terminal) (z : List Term) (l : List A) (i : Leaf)
-    (y : List Term) (m : List A)
+list_more : {A : Type 0} (Item : List Lexeme → A → Type 0) (separator closer : Terminal) (z : List Lexeme) (l : List A) (i : Leaf)
+    (y : List Lexeme) (m : List A)
     → IsOne Item z l → Listed Item separator closer y m → Listed Item separator closer (z ++ tok separator i ∷ y) (l ++ m)
 list_more Item separator closer z l i y m (a, e, h) g = rw e (next_item i h g)
 
 pub list_correct : {A : Type 0} (separator closer : Terminal) (L E : Sym) → ListSyms separator closer L E
-    → (Item : List Term → A → Type 0) (item : List Term → Read A) (bound : ℕ)
-    → ((t : Term) (l : List Term) → length l < bound → same closer t.terminal ≡ false
+    → (Item : List Lexeme → A → Type 0) (item : List Lexeme → Read A) (bound : ℕ)
+    → ((t : Lexeme) (l : List Lexeme) → length l < bound → same closer t.terminal ≡ false
     → Correct (L ∷ []) (λ _. E ∷ []) (λ z a w. Item z a) (t ∷ l) (item (t ∷ l)))
-    → (n : ℕ) (l : List Term) → length l < n → length l ≤ bound
+    → (n : ℕ) (l : List Lexeme) → length l < n → length l ≤ bound
     → Correct (L ∷ []) (λ _. []) (λ z x w. Listed Item separator closer z x.0) l (listed separator closer (λ m. single (item m)) n [] l)
 list_correct {A = A} separator closer L E syms Item item bound hi n l h b =
     correct_weaker (L ∷ []) (λ _. [])
@@ -179,7 +179,7 @@ list_correct {A = A} separator closer L E syms Item item bound hi n l h b =
     (list_last Item separator closer) more_listed n [] l h b)
     (λ z x w c g. rw g.1 g.2)
   where
-    singles : (t : Term) (m : List Term) → length m < bound → same closer t.terminal ≡ false
+    singles : (t : Lexeme) (m : List Lexeme) → length m < bound → same closer t.terminal ≡ false
         → Correct (L ∷ []) (λ _. E ∷ []) (λ z a w. IsOne Item z a) (t ∷ m) (single (item (t ∷ m)))
     singles t m g e =
         correct_given (L ∷ []) (E ∷ []) (λ z a w. Item z a) (λ z a w. IsOne Item z a) (t ∷ m) (item (t ∷ m)) (λ a. a ∷ []) (hi t m g e)
@@ -188,16 +188,16 @@ list_correct {A = A} separator closer L E syms Item item bound hi n l h b =
     none_listed : (j : Leaf) → IsList Item separator closer (tok closer j ∷ []) [] j
     none_listed j = none_item j
 
-    more_listed : (z : List Term) (a : List A) (i : Leaf) (y : List Term) (b : List A) (j : Leaf) → IsOne Item z a
+    more_listed : (z : List Lexeme) (a : List A) (i : Leaf) (y : List Lexeme) (b : List A) (j : Leaf) → IsOne Item z a
         → IsList Item separator closer y b j
         → IsList Item separator closer (z ++ tok separator i ∷ y) (a ++ b) j
     more_listed z a i y b j f g = list_more Item separator closer z a i y b f g
 
 -- a list of bindings, by its symbols
 pub bindings_correct : (separator closer : Terminal) (L E : Sym) → ListSyms separator closer L E
-    → ((t : Term) (l : List Term) (s : List Sym) → same closer t.terminal ≡ false
+    → ((t : Lexeme) (l : List Lexeme) (s : List Sym) → same closer t.terminal ≡ false
     → run (t ∷ l) (L ∷ s) ≡ run (t ∷ l) (T Name ∷ NamesType ∷ E ∷ s))
-    → (n : ℕ) (l : List Term) → length l < n
+    → (n : ℕ) (l : List Lexeme) → length l < n
     → Correct (L ∷ []) (λ _. []) (λ z x w. Listed IsBinding separator closer z x.0) l (bindings separator closer n l)
 unfolding several
 bindings_correct separator closer L E syms starts n l h =

@@ -2,7 +2,7 @@
 use Rattle.std.proofs.Common.{◌≡◌, ℕ, suc, ◌+◌, ◌-◌, ◌*◌, ◌<◌, ◌≤◌, ◌⊎◌, inl, inr, true, List, [], ◌∷◌, ◌++◌, length, length-append, take, refl, ◌∙◌, ap, subst, append_assoc, add-one, arith}
 use Rattle.std.proofs.Math.Seq.{take-append_seam}
 use Rattle.rgo_ast.specs.Tree.{Import, Decl}
-use Rattle.rgo_grammar.specs.Terms.{Term}
+use Rattle.rgo_lexer.specs.Lexemes.{Lexeme}
 use Rattle.rgo_grammar.specs.Grammar.{IsProgram}
 use Rattle.rgo_grammar.specs.FirstBad.{Begins, IsFirstBad}
 use Rattle.rgo_grammar.specs.Laws.{OneTree, OneOfBoth}
@@ -15,50 +15,50 @@ use Rattle.rgo_grammar.proofs.ProgramCorrect.{Closed, program_correct}
 use Rattle.rgo_grammar.proofs.DeclsComplete.{program_complete}
 
 -- the turns that a list of tokens takes at most
-abbrev pub turns : List Term → ℕ
+abbrev pub turns : List Lexeme → ℕ
 turns l = 4 * length l + 4
 
-abbrev pub read : List Term → Read (List Import × List Decl)
+abbrev pub read : List Lexeme → Read (List Import × List Decl)
 read l = program (turns l) l
 
-abbrev pub IsRead : List Term → List Import × List Decl → Type 0
+abbrev pub IsRead : List Lexeme → List Import × List Decl → Type 0
 IsRead l x = IsProgram l x.0 x.1
 
 start_fine : fine (Program ∷ []) true ≡ true
 unfolding fine leads
 start_fine = refl
 
-closed : (l : List Term) → Closed (Program ∷ []) IsRead l (read l)
+closed : (l : List Lexeme) → Closed (Program ∷ []) IsRead l (read l)
 closed l = program_correct (turns l) l (omega arith)
 
-pub never_starved : (l : List Term) → read l ≡ Failed Starving → ⊥
+pub never_starved : (l : List Lexeme) → read l ≡ Failed Starving → ⊥
 never_starved l e = let P : Read (List Import × List Decl) → Type 0 = λ r. Closed (Program ∷ []) IsRead l r in subst P e (closed l)
 
 -- a program is read as its tree
-pub read_again : (l : List Term) (is : List Import) (ds : List Decl) → IsProgram l is ds → read l ≡ Done (is, ds) []
+pub read_again : (l : List Lexeme) (is : List Import) (ds : List Decl) → IsProgram l is ds → read l ≡ Done (is, ds) []
 read_again l is ds h = by_cases (program_complete (turns l) h) where
   by_cases : Meets (read l) (Done (is, ds) []) → read l ≡ Done (is, ds) []
   by_cases (inl e) = absurd (never_starved l e)
   by_cases (inr e) = e
 
-parsed_by : (l : List Term) (x : List Import × List Decl) (w : List Term) (r : Read (List Import × List Decl))
+parsed_by : (l : List Lexeme) (x : List Import × List Decl) (w : List Lexeme) (r : Read (List Import × List Decl))
     → Closed (Program ∷ []) IsRead l r → r ≡ Done x w
     → (w ≡ []) × IsRead l x × (run l (Program ∷ []) ≡ Accepted)
 parsed_by l x w r h e = let P : Read (List Import × List Decl) → Type 0 = λ r. Closed (Program ∷ []) IsRead l r in subst P e h
 
-pub parsed : (l : List Term) (x : List Import × List Decl) (w : List Term) → read l ≡ Done x w → IsProgram l x.0 x.1
+pub parsed : (l : List Lexeme) (x : List Import × List Decl) (w : List Lexeme) → read l ≡ Done x w → IsProgram l x.0 x.1
 parsed l x w e = (parsed_by l x w (read l) (closed l) e).1
 
-takes : (l : List Term) (is : List Import) (ds : List Decl) → IsProgram l is ds → run l (Program ∷ []) ≡ Accepted
+takes : (l : List Lexeme) (is : List Import) (ds : List Decl) → IsProgram l is ds → run l (Program ∷ []) ≡ Accepted
 takes l is ds h = (parsed_by l (is, ds) [] (read l) (closed l) (read_again l is ds h)).2
 
-accepted_by : (l : List Term) (r : Read (List Import × List Decl)) → Closed (Program ∷ []) IsRead l r → run l (Program ∷ []) ≡ Accepted
+accepted_by : (l : List Lexeme) (r : Read (List Import × List Decl)) → Closed (Program ∷ []) IsRead l r → run l (Program ∷ []) ≡ Accepted
     → (is : List Import) × (ds : List Decl) × IsProgram l is ds
 accepted_by l (Done x w) h a = (x.0, x.1, h.1)
 accepted_by l (Failed (At w)) h a = cc
 accepted_by l (Failed Starving) h a = absurd h
 
-accepted : (l : List Term) → run l (Program ∷ []) ≡ Accepted → (is : List Import) × (ds : List Decl) × IsProgram l is ds
+accepted : (l : List Lexeme) → run l (Program ∷ []) ≡ Accepted → (is : List Import) × (ds : List Decl) × IsProgram l is ds
 accepted l a = accepted_by l (read l) (closed l) a
 
 same_pair : (x y : List Import × List Decl) → x ≡ y → (x.0 ≡ y.0) × (x.1 ≡ y.1)
@@ -67,11 +67,11 @@ same_pair x y e = (ap (λ z. z.0) e, ap (λ z. z.1) e)
 pub one_tree : OneTree
 one_tree l is js ds es f g = let e = read_again l is ds f in let d = read_again l js es g in same_pair (is, ds) (js, es) cc
 
-take_front_more : (x y : List Term) (t : Term) → take (suc (length x)) (x ++ t ∷ y) ≡ x ++ t ∷ []
+take_front_more : (x y : List Lexeme) (t : Lexeme) → take (suc (length x)) (x ++ t ∷ y) ≡ x ++ t ∷ []
 take_front_more [] y t = refl
 take_front_more (u ∷ x) y t = ap (λ m. u ∷ m) (take_front_more x y t)
 
-first_bad_at : (l r : List Term) → read l ≡ Failed (At r) → Reached l (Program ∷ []) r → IsFirstBad l (length l - length r)
+first_bad_at : (l r : List Lexeme) → read l ≡ Failed (At r) → Reached l (Program ∷ []) r → IsFirstBad l (length l - length r)
 first_bad_at l r e at =
     let k : length l - length r ≡ length at.before = omega (arith, ap length at.cut, length-append at.before r) in
     rw (k, at.cut) (record {
@@ -85,7 +85,7 @@ first_bad_at l r e at =
     begun = let p = accepted (at.before ++ finish at.stack) (at.leads_here (finish at.stack) ∙ finish_run at.stack at.is_fine) in
         (finish at.stack, p.0, p.1, rw take-append_seam p.2)
 
-    ends_by : (q : List Term) → r ≡ q → length at.before < length (at.before ++ r) → Begins (take (length at.before + 1) (at.before ++ r))
+    ends_by : (q : List Lexeme) → r ≡ q → length at.before < length (at.before ++ r) → Begins (take (length at.before + 1) (at.before ++ r))
         → ⊥
     ends_by [] g h b = omega (arith, length-append at.before r, ap length g)
     ends_by (t ∷ q) g h b =
@@ -95,17 +95,17 @@ first_bad_at l r e at =
         let no = at.leads_here (t ∷ b.0) ∙ at.stuck t q b.0 g in
         cc
 
-stopped_at : (l r : List Term) (x : Read (List Import × List Decl)) → Closed (Program ∷ []) IsRead l x → x ≡ Failed (At r)
+stopped_at : (l r : List Lexeme) (x : Read (List Import × List Decl)) → Closed (Program ∷ []) IsRead l x → x ≡ Failed (At r)
     → run l (Program ∷ []) ≡ Stopped r
 stopped_at l r x h e = let P : Read (List Import × List Decl) → Type 0 = λ r. Closed (Program ∷ []) IsRead l r in subst P e h
 
-reached : (l r : List Term) → read l ≡ Failed (At r) → Reached l (Program ∷ []) r
+reached : (l r : List Lexeme) → read l ≡ Failed (At r) → Reached l (Program ∷ []) r
 reached l r e = stopped l (Program ∷ []) r start_fine (stopped_at l r (read l) (closed l) e)
 
-pub first_bad : (l r : List Term) → read l ≡ Failed (At r) → IsFirstBad l (length l - length r)
+pub first_bad : (l r : List Lexeme) → read l ≡ Failed (At r) → IsFirstBad l (length l - length r)
 first_bad l r e = first_bad_at l r e (reached l r e)
 
-pub rest_within : (l r : List Term) → read l ≡ Failed (At r) → length r ≤ length l
+pub rest_within : (l r : List Lexeme) → read l ≡ Failed (At r) → length r ≤ length l
 rest_within l r e = let at = reached l r e in omega (arith, ap length at.cut, length-append at.before r)
 
 pub one_of_both : OneOfBoth

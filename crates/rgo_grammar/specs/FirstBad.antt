@@ -1,15 +1,15 @@
 -- The first token with which no program goes on.
 use Rattle.std.specs.Prelude.{◌≡◌, ℕ, ◌+◌, ◌<◌, ◌≤◌, List, ◌++◌, length, take}
 use Rattle.rgo_ast.specs.Tree.{Import, Decl}
-use Rattle.rgo_grammar.specs.Terms.{Term}
+use Rattle.rgo_lexer.specs.Lexemes.{Lexeme}
 use Rattle.rgo_grammar.specs.Grammar.{IsProgram}
 
 -- some program begins so
-abbrev pub Begins : List Term → Type 0
-Begins l = (w : List Term) × (imports : List Import) × (decls : List Decl) × IsProgram (l ++ w) imports decls
+abbrev pub Begins : List Lexeme → Type 0
+Begins l = (w : List Lexeme) × (imports : List Import) × (decls : List Decl) × IsProgram (l ++ w) imports decls
 
 -- The first k tokens begin a program and the first k + 1 do not; or they are all, and no program.
-pub record IsFirstBad (l : List Term) (k : ℕ) : Type 0 where
+pub record IsFirstBad (l : List Lexeme) (k : ℕ) : Type 0 where
   pub within : k ≤ length l
   pub before : Begins (take k l)
   pub next : k < length l → Begins (take (k + 1) l) → ⊥

@@ -1,24 +1,24 @@
 -- What holds of every list of tokens, whatever reads it: it is a program of one tree, or has one first bad token.
 use Rattle.std.specs.Prelude.{◌≡◌, ℕ, ◌⊎◌, List}
 use Rattle.rgo_ast.specs.Tree.{Import, Decl}
-use Rattle.rgo_grammar.specs.Terms.{Term}
+use Rattle.rgo_lexer.specs.Lexemes.{Lexeme}
 use Rattle.rgo_grammar.specs.Grammar.{IsProgram}
 use Rattle.rgo_grammar.specs.FirstBad.{IsFirstBad}
 
 -- the grammar has no two trees of one list
 abbrev pub OneTree : Type 0
-OneTree = (l : List Term) (imports imports' : List Import) (decls decls' : List Decl)
+OneTree = (l : List Lexeme) (imports imports' : List Import) (decls decls' : List Decl)
     → IsProgram l imports decls → IsProgram l imports' decls' → (imports ≡ imports') × (decls ≡ decls')
 
 abbrev pub OneRefusal : Type 0
-OneRefusal = (l : List Term) (k j : ℕ) → IsFirstBad l k → IsFirstBad l j → k ≡ j
+OneRefusal = (l : List Lexeme) (k j : ℕ) → IsFirstBad l k → IsFirstBad l j → k ≡ j
 
 -- no list is a program and has a first bad token
 abbrev pub NeverBoth : Type 0
-NeverBoth = (l : List Term) (imports : List Import) (decls : List Decl) (k : ℕ)
+NeverBoth = (l : List Lexeme) (imports : List Import) (decls : List Decl) (k : ℕ)
     → IsProgram l imports decls → IsFirstBad l k → ⊥
 
 -- each list is the one or has the other
 abbrev pub OneOfBoth : Type 0
-OneOfBoth = (l : List Term)
+OneOfBoth = (l : List Lexeme)
     → ((imports : List Import) × (decls : List Decl) × IsProgram l imports decls) ⊎ ((k : ℕ) × IsFirstBad l k)

@@ -1,4 +1,3 @@
-pub mod Terms
 pub mod Grammar
 pub mod Reading
 pub mod ReadTypes
@@ -7,5 +6,4 @@ pub mod ReadStmts
 pub mod ReadDecls
 pub mod FirstBad
 pub mod Nesting
-pub mod Seen
 pub mod Laws

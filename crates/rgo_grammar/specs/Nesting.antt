@@ -1,16 +1,16 @@
--- How deep a list of tokens nests, by their terminals alone. A level that is open has whether a bracket began it, its joints
--- since its last `;` or `,`, and its `else` since its last `;` behind a `}`.
+-- How deeply a list of lexemes nests, by their terminals alone. An open level counts the bracket that
+-- began it, its joints since its last `;` or `,`, and its `else` since its last `;` after a `}`.
 use Rattle.std.specs.Prelude.{ℕ, ◌+◌, ◌≤◌, nat_lt, if◌then◌else◌, List, [], ◌∷◌, Option, Some, None, map, sum_by}
-use Rattle.rgo_grammar.specs.declared.terminals.Terminal.{Terminal}
-use Rattle.rgo_grammar.specs.declared.terminals.Terminal.TheVariants.{Binary, Bang, Ampersand, Arrow, OpenParen, CloseParen, OpenBracket, CloseBracket, OpenBrace, CloseBrace, Comma, Semicolon, Dot, Chan, Else, Other}
+use Rattle.rgo_lexer.specs.declared.terminals.Terminal.{Terminal}
+use Rattle.rgo_lexer.specs.declared.terminals.Terminal.TheVariants.{Binary, Bang, Ampersand, Arrow, OpenParen, CloseParen, OpenBracket, CloseBracket, OpenBrace, CloseBrace, Comma, Semicolon, Dot, Chan, Else, Other}
 use Rattle.rgo_grammar.specs.declared.nesting.Level.{Level}
-use Rattle.rgo_grammar.specs.Terms.{Term}
+use Rattle.rgo_lexer.specs.Lexemes.{Lexeme}
 
 -- the text itself
 abbrev pub outermost : Level
 outermost = record { brackets = 0; joints = 0; elses = 0 }
 
--- in a bracket
+-- the inside of a bracket
 abbrev pub inner : Level
 inner = record { brackets = 1; joints = 0; elses = 0 }
 
@@ -39,13 +39,13 @@ separated v = record { brackets = v.brackets; joints = 0; elses = v.elses }
 abbrev pub ended : Level → Level
 ended v = record { brackets = v.brackets; joints = 0; elses = 0 }
 
--- by the terminal before the `;`
-abbrev pub behind_semicolon : Terminal → Level → Level
-behind_semicolon CloseBrace v = ended v
-behind_semicolon _ v = separated v
+-- a level after a `;`, by the terminal before the `;`
+abbrev pub after_semicolon : Terminal → Level → Level
+after_semicolon CloseBrace v = ended v
+after_semicolon _ v = separated v
 
--- The levels behind a terminal, by the one before it. Joints are binary and unary operators, `.`, `chan`, and what closes
--- parentheses and brackets, in the level outside them.
+-- The levels after a terminal, by the one before it. Joints are binary and unary operators, `.`,
+-- `chan`, and what closes parentheses and brackets, in the level outside them.
 abbrev pub levels_after : Terminal → Terminal → List Level → List Level
 levels_after before OpenParen s = inner ∷ s
 levels_after before OpenBracket s = inner ∷ s
@@ -61,13 +61,13 @@ levels_after before Dot s = at_innermost joined s
 levels_after before Chan s = at_innermost joined s
 levels_after before Else s = at_innermost branched s
 levels_after before Comma s = at_innermost separated s
-levels_after before Semicolon s = at_innermost (behind_semicolon before) s
+levels_after before Semicolon s = at_innermost (after_semicolon before) s
 levels_after before _ s = s
 
 abbrev pub nesting : List Level → ℕ
 nesting s = sum_by weight s
 
--- the first of some terminals, counted from k, behind which the nesting is above the limit
+-- the first of some terminals, counted from k, after which the nesting is above the limit
 unfoldable pub deep_from : ℕ → Terminal → List Level → ℕ → List Terminal → Option ℕ
 deep_from limit before s k [] = None
 deep_from limit before s k (t ∷ l) =
@@ -77,11 +77,14 @@ deep_from limit before s k (t ∷ l) =
 abbrev pub deep_among : ℕ → List Terminal → Option ℕ
 deep_among limit l = deep_from limit Other (outermost ∷ []) 0 l
 
--- the first token behind which the tokens nest deeper than the limit
-abbrev pub deep_at : ℕ → List Term → Option ℕ
-deep_at limit l = deep_among limit (map (λ t. t.terminal) l)
+abbrev pub terminals : List Lexeme → List Terminal
+terminals l = map (λ t. t.terminal) l
 
--- no token before the k-th nests too deep
+-- the first lexeme after which the lexemes nest deeper than the limit
+abbrev pub deep_at : ℕ → List Lexeme → Option ℕ
+deep_at limit l = deep_among limit (terminals l)
+
+-- no lexeme before the k-th nests too deep
 abbrev pub NotBefore : Option ℕ → ℕ → Type 0
 NotBefore None k = Unit {0}
 NotBefore (Some d) k = k ≤ d

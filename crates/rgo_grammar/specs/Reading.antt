@@ -1,54 +1,54 @@
 -- Reading from left to right, as functions on lists of tokens: what the parser's functions give, and what the grammar
 -- is proved to be. Of the public clauses here only that of `first` speaks of it.
 use Rattle.std.specs.Prelude.{ℕ, zero, suc, if◌then◌else◌, List, [], ◌∷◌, ◌++◌, Option, Some, None}
-use Rattle.rgo_grammar.specs.declared.terminals.Terminal.{Terminal}
-use Rattle.rgo_grammar.specs.Terms.{Leaf, Term, same}
+use Rattle.rgo_lexer.specs.declared.terminals.Terminal.{Terminal}
+use Rattle.rgo_lexer.specs.Lexemes.{Leaf, Lexeme, same}
 
 -- why nothing was read: the tokens from the first on that is not allowed, or the bound on the turns was too small
 pub data Stop : Type 0 where
-  At : List Term → Stop
+  At : List Lexeme → Stop
   Starving : Stop
 
 -- a value and the tokens behind it, or none
 pub data Read (A : Type 0) : Type 0 where
-  Done : A → List Term → Read A
+  Done : A → List Lexeme → Read A
   Failed : Stop → Read A
 
 infixl 10 ◌>>=◌
-abbrev pub ◌>>=◌ : {A B : Type 0} → Read A → (A → List Term → Read B) → Read B
+abbrev pub ◌>>=◌ : {A B : Type 0} → Read A → (A → List Lexeme → Read B) → Read B
 (Done a w) >>= f = f a w
 (Failed s) >>= f = Failed s
 
 -- what was read, made into something
-abbrev pub given : {A B : Type 0} → (A → B) → A → List Term → Read B
+abbrev pub given : {A B : Type 0} → (A → B) → A → List Lexeme → Read B
 given f a w = Done (f a) w
 
-abbrev pub first_of : List Term → Option (Term × List Term)
+abbrev pub first_of : List Lexeme → Option (Lexeme × List Lexeme)
 first_of [] = None
 first_of (t ∷ l) = Some (t, l)
 
 -- one token
-abbrev pub token_on : Terminal → List Term → Option (Term × List Term) → Read Leaf
+abbrev pub token_on : Terminal → List Lexeme → Option (Lexeme × List Lexeme) → Read Leaf
 token_on k l None = Failed (At l)
 token_on k l (Some x) = if same k x.0.terminal then Done x.0.leaf x.1 else Failed (At l)
 
-abbrev pub token : Terminal → List Term → Read Leaf
+abbrev pub token : Terminal → List Lexeme → Read Leaf
 token k l = token_on k l (first_of l)
 
 -- behind an item of a list: what closes the list, or a separator and the list from there on
-abbrev pub ended_on : {A : Type 0} → Terminal → Terminal → (List A → List Term → Read (List A × Leaf))
-    → List A → List Term → Option (Term × List Term) → Read (List A × Leaf)
+abbrev pub ended_on : {A : Type 0} → Terminal → Terminal → (List A → List Lexeme → Read (List A × Leaf))
+    → List A → List Lexeme → Option (Lexeme × List Lexeme) → Read (List A × Leaf)
 ended_on separator closer again found l None = Failed (At l)
 ended_on separator closer again found l (Some x) =
     if same closer x.0.terminal then Done (found, x.0.leaf) x.1
     else (if same separator x.0.terminal then again found x.1 else Failed (At l))
 
-abbrev pub ended : {A : Type 0} → Terminal → Terminal → (List A → List Term → Read (List A × Leaf))
-    → List A → List Term → Read (List A × Leaf)
+abbrev pub ended : {A : Type 0} → Terminal → Terminal → (List A → List Lexeme → Read (List A × Leaf))
+    → List A → List Lexeme → Read (List A × Leaf)
 ended separator closer again found l = ended_on separator closer again found l (first_of l)
 
-abbrev pub listed_on : {A : Type 0} → Terminal → Terminal → (List Term → Read (List A))
-    → (List A → List Term → Read (List A × Leaf)) → List A → List Term → Option (Term × List Term)
+abbrev pub listed_on : {A : Type 0} → Terminal → Terminal → (List Lexeme → Read (List A))
+    → (List A → List Lexeme → Read (List A × Leaf)) → List A → List Lexeme → Option (Lexeme × List Lexeme)
     → Read (List A × Leaf)
 listed_on separator closer item again found l None = Failed (At l)
 listed_on separator closer item again found l (Some x) =
@@ -56,7 +56,7 @@ listed_on separator closer item again found l (Some x) =
     else (item l >>= λ a. ended separator closer again (found ++ a))
 
 -- items up to what closes them, behind those that were found
-unfoldable pub listed : {A : Type 0} → Terminal → Terminal → (List Term → Read (List A)) → ℕ → List A → List Term
+unfoldable pub listed : {A : Type 0} → Terminal → Terminal → (List Lexeme → Read (List A)) → ℕ → List A → List Lexeme
     → Read (List A × Leaf)
 listed separator closer item zero found l = Failed Starving
 listed separator closer item (suc n) found l =
@@ -66,5 +66,5 @@ abbrev pub single : {A : Type 0} → Read A → Read (List A)
 single m = m >>= given (λ a. a ∷ [])
 
 -- items that are read one by one, up to what closes them, behind those that were found
-unfoldable pub several : {A : Type 0} → Terminal → Terminal → (List Term → Read A) → ℕ → List A → List Term → Read (List A × Leaf)
+unfoldable pub several : {A : Type 0} → Terminal → Terminal → (List Lexeme → Read A) → ℕ → List A → List Lexeme → Read (List A × Leaf)
 several separator closer item n found l = listed separator closer (λ m. single (item m)) n found l

@@ -1,8 +1,8 @@
-//! What holds of every list of tokens, whatever reads it.
+//! Laws of the grammar: what the definitions say of every list of lexemes.
 
 ghost use Rattle.rgo_grammar.specs.Laws.{OneTree, OneRefusal, NeverBoth, OneOfBoth};
 
-/// A list of tokens is a program of one tree, or has one first token with which no program goes on.
+/// A list of lexemes is a program with one tree, or has one first lexeme that continues no program.
 pub fn one_reading()
     ensures tree { OneTree }
     ensures refusal { OneRefusal }

@@ -1,12 +1,11 @@
-//! The grammar: which lists of tokens are programs, as which tree, and where others go wrong first.
+//! The grammar: which lists of lexemes are programs, as which tree, and where others go wrong first.
+//!
+//! The code is `deep_at`, the check of nesting before the parser runs. The rest is definitions, and
+//! laws about them: a list of lexemes is one program, or has one first bad lexeme.
 #![tactic(auto)]
 
 mod laws;
 mod nesting;
-mod terminals;
-mod terms;
 
 pub use laws::one_reading;
 pub use nesting::{Level, deep_at};
-pub use terminals::Terminal;
-pub use terms::{Item, Term, first, terms_of};

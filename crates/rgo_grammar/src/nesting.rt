@@ -1,22 +1,22 @@
-//! How deep tokens nest.
+//! How deeply lexemes nest.
 
 ghost use Rattle.std.specs.Prelude.{◌≡◌, ◌<◌, ◌^◌, ◌∷◌, [], IfOk};
-ghost use Rattle.rgo_grammar.specs.Nesting.{nesting, weight, outermost, inner, at_innermost, outside, joined, branched, separated, ended, behind_semicolon, levels_after, deep_among};
-ghost use Rattle.rgo_grammar.specs.Seen.{terminals};
+ghost use Rattle.rgo_grammar.specs.Nesting.{nesting, weight, outermost, inner, at_innermost, outside};
+ghost use Rattle.rgo_grammar.specs.Nesting.{joined, branched, separated, ended, after_semicolon};
+ghost use Rattle.rgo_grammar.specs.Nesting.{levels_after, deep_at};
 
-use crate::terminals::Terminal;
-use crate::terms::Term;
+use rgo_lexer::{Lexeme, Terminal};
 use std::alloc::{AllocError, AllocFailed, Global};
 use std::collections::VecDeque;
 
-/// A level that is open: the text itself, or what stands in a bracket.
+/// An open level: the text itself, or the inside of a bracket.
 #[derive(Clone, Copy)]
 pub struct Level {
-    /// 1 where a bracket began it.
+    /// 1 if a bracket began it, else 0.
     pub brackets: usize,
-    /// Operators and the like since its last `;` or `,`.
+    /// The number of operators and the like since its last `;` or `,`.
     pub joints: usize,
-    /// How many `else` since its last `;` behind a `}`.
+    /// The number of `else` since its last `;` after a `}`.
     pub elses: usize,
 }
 
@@ -29,7 +29,7 @@ impl Level {
     }
 }
 
-// The levels that are open, the innermost first, with the sum of their weights.
+// The open levels, the innermost first, with the sum of their weights.
 #[derive(Drop)]
 struct Nesting {
     levels: VecDeque<Level>,
@@ -114,10 +114,11 @@ impl Nesting {
         }
     }
 
-    // Goes on by a terminal, behind another.
+    // Continues with a terminal, after another.
     fn pass(&mut self, before: Terminal, terminal: Terminal) -> Result<(), AllocError>
         requires { self.old.total < 2 ^ 63 }
-        ensures { IfOk result (λ _. self.new.levels.items ≡ levels_after before terminal self.old.levels.items) }
+        ensures { IfOk result (λ _. self.new.levels.items
+            ≡ levels_after before terminal self.old.levels.items) }
     {
         match terminal {
             Terminal::OpenParen | Terminal::OpenBracket | Terminal::OpenBrace => self.open()?,
@@ -144,20 +145,24 @@ impl Nesting {
     }
 }
 
-/// The first token, counted from 0, behind which the tokens nest deeper than the limit, if there is one. The error is want of
-/// memory.
-pub fn deep_at(alloc: Global, limit: usize, terms: &[Term]) -> Result<Option<usize>, AllocError>
+/// The number of the first lexeme, counted from 0, after which the lexemes nest deeper than the
+/// limit, if there is one. An error says that memory ran out.
+pub fn deep_at<'a>(
+    alloc: Global,
+    limit: usize,
+    lexemes: &[Lexeme<'a>],
+) -> Result<Option<usize>, AllocError>
     requires { limit < 2 ^ 32 }
-    ensures { IfOk result (λ at. at ≡ deep_among limit (terminals terms.now)) }
+    ensures { IfOk result (λ at. at ≡ deep_at limit lexemes.now) }
 {
     let mut nesting = Nesting::new(alloc)?;
     let mut before = Terminal::Other;
-    for (at, term) in terms.iter().enumerate() {
-        nesting.pass(before, term.terminal)?;
+    for (at, lexeme) in lexemes.iter().enumerate() {
+        nesting.pass(before, lexeme.terminal)?;
         if nesting.total > limit {
             return Ok(Some(at));
         }
-        before = term.terminal;
+        before = lexeme.terminal;
     }
     Ok(None)
 }

@@ -8,7 +8,7 @@ use Rattle.rgo_lexer.specs.Bytes.{begins_with}
 use Rattle.rgo_lexer.specs.Comments.{first_close, is_newline, begins_line_comment, begins_comment, acts_as, closed_at, comment_at}
 use Rattle.rgo_lexer.specs.Front.{FitsIn, IsWidthIn}
 use Rattle.rgo_lexer.specs.declared.front.Front.TheVariants.{Blank, Newline, Piece}
-use Rattle.rgo_lexer.specs.declared.tokens.TokenKind.{TokenKind}
+use Rattle.rgo_lexer.specs.declared.terminals.Terminal.{Terminal}
 use Rattle.rgo_lexer.proofs.Begins.{begins_with-length, begins_with-whole}
 
 first_close-within : (text : List ℕ) → IfSome (first_close text) (λ k. k + 2 ≤ length text)
@@ -54,23 +54,23 @@ comment_fits b rest e = by_test (begins_line_comment (b ∷ rest)) refl e
     by_test true line e = line_fits b rest line
     by_test false line e = general_fits (b ∷ rest) e
 
-acts_no_piece : (newline : Bool) (n m : ℕ) (kind : TokenKind) → cond newline (Newline n) (Blank n) ≡ Piece kind m → ⊥
-acts_no_piece true n m kind e = cc
-acts_no_piece false n m kind e = cc
+acts_no_piece : (newline : Bool) (n m : ℕ) (terminal : Terminal) → cond newline (Newline n) (Blank n) ≡ Piece terminal m → ⊥
+acts_no_piece true n m terminal e = cc
+acts_no_piece false n m terminal e = cc
 
-closed_no_piece : (text : List ℕ) (o : Option ℕ) (m : ℕ) (kind : TokenKind) → closed_at text o ≡ Piece kind m → ⊥
-closed_no_piece text None m kind e = cc
-closed_no_piece text (Some k) m kind e = acts_no_piece (list_any is_newline (take (k + 4) text)) (k + 4) m kind e
+closed_no_piece : (text : List ℕ) (o : Option ℕ) (m : ℕ) (terminal : Terminal) → closed_at text o ≡ Piece terminal m → ⊥
+closed_no_piece text None m terminal e = cc
+closed_no_piece text (Some k) m terminal e = acts_no_piece (list_any is_newline (take (k + 4) text)) (k + 4) m terminal e
 
-pub comment_no_piece : (text : List ℕ) (kind : TokenKind) (m : ℕ) → comment_at text ≡ Piece kind m → ⊥
+pub comment_no_piece : (text : List ℕ) (terminal : Terminal) (m : ℕ) → comment_at text ≡ Piece terminal m → ⊥
 unfolding comment_at
-comment_no_piece text kind m e = by_test (begins_line_comment text) e
+comment_no_piece text terminal m e = by_test (begins_line_comment text) e
   where
-    by_test : (v : Bool) → cond v (Blank (position_or_len is_newline text)) (closed_at text (first_close (drop 2 text))) ≡ Piece kind m → ⊥
+    by_test : (v : Bool) → cond v (Blank (position_or_len is_newline text)) (closed_at text (first_close (drop 2 text))) ≡ Piece terminal m → ⊥
     by_test true e = cc
-    by_test false e = closed_no_piece text (first_close (drop 2 text)) m kind e
+    by_test false e = closed_no_piece text (first_close (drop 2 text)) m terminal e
 
--- where a front of the text begins with a comment, so does the text
+-- if a front of the text begins with a comment, so does the text
 pub begins_comment-whole : (text : List ℕ) (n : ℕ) → begins_comment (take n text) ≡ true → begins_comment text ≡ true
 begins_comment-whole text n e =
     ⊎_elim (λ line. or_left (begins_line_comment text) (begins_with text (codes "/*")) (begins_with-whole (codes "//") text n line))

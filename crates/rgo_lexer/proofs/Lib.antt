@@ -11,8 +11,7 @@ pub mod OperatorLemmas
 pub mod OperatorForms
 pub mod Fronts
 pub mod NumberLemmas
-pub mod Going
-pub mod Standing
+pub mod Progress
+pub mod Placing
 pub mod OneReading
 pub mod Order
-pub mod Spellings

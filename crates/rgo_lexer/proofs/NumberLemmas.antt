@@ -1,38 +1,38 @@
--- Digits behind a number make it no smaller, and are read one by one.
+-- Digits after a number make it no smaller, and are read one by one.
 use Rattle.std.proofs.Common.{◌≡◌, ℕ, ◌+◌, ◌*◌, ◌<◌, ◌≤◌, Bool, true, false, cond, List, [], ◌∷◌, get_or, drop, length, None, refl, ◌∙◌, arith}
 use Rattle.std.specs.Prelude.{fold, filter}
 use Rattle.std.specs.Char.{is_digit, digit_value}
 use Rattle.std.proofs.Math.Nat.{mul-le-mul_left}
 use Rattle.std.proofs.lemmas.Bool.Decides.{nat_tests}
 use Rattle.std.proofs.lemmas.List.{at_drop_more}
-use Rattle.rgo_lexer.specs.Numbers.{value_behind, if_fits}
+use Rattle.rgo_lexer.specs.Numbers.{value_after, if_fits}
 
--- the value behind a number, by whether the first byte is a digit
+-- the value after a number, by whether the first byte is a digit
 abbrev value_by : ℕ → ℕ → ℕ → List ℕ → Bool → ℕ
 value_by base n b l v = fold (λ m c. m * base + digit_value c) n (cond v (b ∷ filter (λ c. is_digit c base) l) (filter (λ c. is_digit c base) l))
 
 grown : (base n d : ℕ) → 1 ≤ base → n ≤ n * base + d
 grown base n d h = omega (arith, mul-le-mul_left n h)
 
-pub value_behind-le : (base : ℕ) → 1 ≤ base → (n : ℕ) (l : List ℕ) → n ≤ value_behind base n l
-value_behind-le base h n [] = omega arith
-value_behind-le base h n (b ∷ l) =
-    let ih : n ≤ value_behind base n l = value_behind-le base h n l in
-    let ih' : n * base + digit_value b ≤ value_behind base (n * base + digit_value b) l = value_behind-le base h (n * base + digit_value b) l in
+pub value_after-le : (base : ℕ) → 1 ≤ base → (n : ℕ) (l : List ℕ) → n ≤ value_after base n l
+value_after-le base h n [] = omega arith
+value_after-le base h n (b ∷ l) =
+    let ih : n ≤ value_after base n l = value_after-le base h n l in
+    let ih' : n * base + digit_value b ≤ value_after base (n * base + digit_value b) l = value_after-le base h (n * base + digit_value b) l in
     let g : n ≤ n * base + digit_value b = grown base n (digit_value b) h in
     elim (is_digit b base) as (λ v. n ≤ value_by base n b l v) [ true ↦ omega arith | false ↦ ih ]
 
-pub value_behind-cons : (base n b : ℕ) (l : List ℕ) → value_behind base n (b ∷ l) ≡ value_behind base (value_behind base n (b ∷ [])) l
-value_behind-cons base n b l = elim (is_digit b base) as (λ v. value_by base n b l v ≡ value_behind base (value_by base n b [] v) l) [ true ↦ refl | false ↦ refl ]
+pub value_after-cons : (base n b : ℕ) (l : List ℕ) → value_after base n (b ∷ l) ≡ value_after base (value_after base n (b ∷ [])) l
+value_after-cons base n b l = elim (is_digit b base) as (λ v. value_by base n b l v ≡ value_after base (value_by base n b [] v) l) [ true ↦ refl | false ↦ refl ]
 
 pub too_large : (m n : ℕ) → None ≡ if_fits m → m ≤ n → None ≡ if_fits n
 too_large m n e h = grind (arith, nat_tests)
 
 -- where one byte more makes the number too large, so do all
-pub value_behind-too_large : (base n : ℕ) (digits : List ℕ) (i total : ℕ) → 1 ≤ base → i < length digits → None ≡ if_fits (value_behind base n (get_or digits i 0 ∷ []))
-    → value_behind base n (drop i digits) ≡ total → None ≡ if_fits total
-value_behind-too_large base n digits i total h lt none e =
-    let m = value_behind base n (get_or digits i 0 ∷ []) in
-    let rest : value_behind base n (drop i digits) ≡ value_behind base m (drop (i + 1) digits) = at_drop_more (value_behind base n) digits i 0 lt ∙ value_behind-cons base n (get_or digits i 0) (drop (i + 1) digits) in
-    let le : m ≤ value_behind base m (drop (i + 1) digits) = value_behind-le base h m (drop (i + 1) digits) in
+pub value_after-too_large : (base n : ℕ) (digits : List ℕ) (i total : ℕ) → 1 ≤ base → i < length digits → None ≡ if_fits (value_after base n (get_or digits i 0 ∷ []))
+    → value_after base n (drop i digits) ≡ total → None ≡ if_fits total
+value_after-too_large base n digits i total h lt none e =
+    let m = value_after base n (get_or digits i 0 ∷ []) in
+    let rest : value_after base n (drop i digits) ≡ value_after base m (drop (i + 1) digits) = at_drop_more (value_after base n) digits i 0 lt ∙ value_after-cons base n (get_or digits i 0) (drop (i + 1) digits) in
+    let le : m ≤ value_after base m (drop (i + 1) digits) = value_after-le base h m (drop (i + 1) digits) in
     too_large m total none (omega arith)

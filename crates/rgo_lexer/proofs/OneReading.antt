@@ -1,21 +1,21 @@
--- A text has one list of tokens, or else one refusal.
+-- A text has one list of lexemes, or else one refusal.
 use Rattle.std.proofs.Common.{◌≡◌, ℕ, zero, suc, ◌+◌, ◌≤◌, ◌⊎◌, inl, inr, List, ◌∷◌, ◌++◌, length, take, drop, Option, Some, None, refl, sym, ap, subst, ◌∙◌, arith}
 use Rattle.std.specs.Str.{IsUtf8}
 use Rattle.std.proofs.lemmas.List.{length-drop}
 use Rattle.rgo_lexer.specs.Front.{front_of}
-use Rattle.rgo_lexer.specs.Semicolons.{token, open_behind, inserted}
-use Rattle.rgo_lexer.specs.Tokens.{TokensFrom, Tokens, start_of}
-use Rattle.rgo_lexer.specs.Tokens.TokensFrom.{finish, blank, newline, piece}
+use Rattle.rgo_lexer.specs.Lexemes.{Lexeme, leaf, tok}
+use Rattle.rgo_lexer.specs.Semicolons.{ending_after, inserted}
+use Rattle.rgo_lexer.specs.Lexing.{LexesFrom, LexesAs, start_of, with_package_name}
+use Rattle.rgo_lexer.specs.Lexing.LexesFrom.{finish, blank, newline, piece}
 use Rattle.rgo_lexer.specs.Refusals.{RefusesFrom, Refuses, width, refusal, bad_utf8}
 use Rattle.rgo_lexer.specs.Refusals.RefusesFrom.{here, later}
-use Rattle.rgo_lexer.specs.Laws.{NeverBoth, OneOfBoth, OneList, OneRefusal, Standing}
+use Rattle.rgo_lexer.specs.Laws.{NeverBoth, OneOfBoth, OneList, OneRefusal}
 use Rattle.rgo_lexer.specs.declared.front.Front.{Front}
 use Rattle.rgo_lexer.specs.declared.front.Front.TheVariants.{End, Blank, Newline, Piece, Refused}
-use Rattle.rgo_lexer.specs.declared.tokens.TokenKind.{TokenKind}
-use Rattle.rgo_lexer.specs.declared.tokens.Token.{Token}
-use Rattle.rgo_lexer.specs.declared.tokens.LexRefusal.{LexRefusal}
+use Rattle.rgo_lexer.specs.declared.refusals.LexRefusal.{LexRefusal}
+use Rattle.rgo_lexer.specs.declared.terminals.Terminal.{Terminal}
 use Rattle.rgo_lexer.proofs.Utf8.{cases_utf8}
-use Rattle.rgo_lexer.proofs.Standing.{of_tokens, passed_fits}
+use Rattle.rgo_lexer.proofs.Placing.{passed_fits}
 
 same_width : (rest : List ℕ) (front : Front) (n m : ℕ) → front_of rest ≡ front → width front ≡ Some m → width (front_of rest) ≡ Some n → n ≡ m
 same_width rest front n m e w v = let v' = rw e at v in cc
@@ -23,7 +23,7 @@ same_width rest front n m e w v = let v' = rw e at v in cc
 moved : (at n m : ℕ) (rest : List ℕ) (r : LexRefusal) → n ≡ m → RefusesFrom (at + n) (drop n rest) r → RefusesFrom (at + m) (drop m rest) r
 moved at n m rest r e t = let P : ℕ → Type 0 = λ k. RefusesFrom (at + k) (drop k rest) r in subst P e t
 
-never_both_from : {at : ℕ} {ending : Option ℕ} {rest : List ℕ} {tokens : List Token} (r : LexRefusal) → TokensFrom at ending rest tokens → RefusesFrom at rest r → ⊥
+never_both_from : {at : ℕ} {ending : Option ℕ} {rest : List ℕ} {lexemes : List Lexeme} (r : LexRefusal) → LexesFrom at ending rest lexemes → RefusesFrom at rest r → ⊥
 never_both_from r (finish e) (here kind offset d) = cc
 never_both_from r (finish e) (later n w t) = let w' = rw e at w in cc
 never_both_from r (blank m e u) (here kind offset d) = cc
@@ -34,43 +34,43 @@ never_both_from r (piece k m e u) (here kind offset d) = cc
 never_both_from {at} {ending} {rest} r (piece k m e u) (later n w t) = never_both_from r u (moved at n m rest r (same_width rest (Piece k m) n m e refl w) t)
 
 pub never_both : NeverBoth
-never_both text tokens r t (inl u) = never_both_from r t.1 u.1
-never_both text tokens r t (inr u) = u.0 t.0
+never_both text lexemes r t (inl u) = never_both_from r t.2 u.1
+never_both text lexemes r t (inr u) = u.0 t.0
 
--- two lists behind widths that are the same
-same_behind : (at : ℕ) (ending : Option ℕ) (rest : List ℕ) (tokens others : List Token) (n m : ℕ) → n ≡ m → (TokensFrom (at + n) ending (drop n rest) others → tokens ≡ others)
-    → TokensFrom (at + m) ending (drop m rest) others → tokens ≡ others
-same_behind at ending rest tokens others n m e ih u = let P : ℕ → Type 0 = λ k. TokensFrom (at + k) ending (drop k rest) others in ih (subst P (sym e) u)
+-- two lists after equal widths
+same_after : (at : ℕ) (ending : Option ℕ) (rest : List ℕ) (lexemes others : List Lexeme) (n m : ℕ) → n ≡ m → (LexesFrom (at + n) ending (drop n rest) others → lexemes ≡ others)
+    → LexesFrom (at + m) ending (drop m rest) others → lexemes ≡ others
+same_after at ending rest lexemes others n m e ih u = let P : ℕ → Type 0 = λ k. LexesFrom (at + k) ending (drop k rest) others in ih (subst P (sym e) u)
 
-same_piece : (at : ℕ) (rest : List ℕ) (tokens others : List Token) (k j : TokenKind) (n m : ℕ) → k ≡ j → n ≡ m
-    → (TokensFrom (at + n) (open_behind k (take n rest) (at + n)) (drop n rest) others → tokens ≡ others) → TokensFrom (at + m) (open_behind j (take m rest) (at + m)) (drop m rest) others
-    → ◌≡◌ {A = List Token} (token k at (at + n) ∷ tokens) (token j at (at + m) ∷ others)
-same_piece at rest tokens others k j n m e d ih u =
-    let P : TokenKind → ℕ → Type 0 = λ x y. TokensFrom (at + y) (open_behind x (take y rest) (at + y)) (drop y rest) others in
-    let f : tokens ≡ others = ih (subst (λ x. P x n) (sym e) (subst (P j) (sym d) u)) in
+same_piece : (at : ℕ) (rest : List ℕ) (lexemes others : List Lexeme) (k j : Terminal) (n m : ℕ) → k ≡ j → n ≡ m
+    → (LexesFrom (at + n) (ending_after k (take n rest) (at + n)) (drop n rest) others → lexemes ≡ others) → LexesFrom (at + m) (ending_after j (take m rest) (at + m)) (drop m rest) others
+    → ◌≡◌ {A = List Lexeme} (tok k (leaf at (take n rest)) ∷ lexemes) (tok j (leaf at (take m rest)) ∷ others)
+same_piece at rest lexemes others k j n m e d ih u =
+    let P : Terminal → ℕ → Type 0 = λ x y. LexesFrom (at + y) (ending_after x (take y rest) (at + y)) (drop y rest) others in
+    let f : lexemes ≡ others = ih (subst (λ x. P x n) (sym e) (subst (P j) (sym d) u)) in
     rw (e, d, f) refl
 
-one_list_from : {at : ℕ} {ending : Option ℕ} {rest : List ℕ} {tokens : List Token} (others : List Token) → TokensFrom at ending rest tokens → TokensFrom at ending rest others → tokens ≡ others
+one_list_from : {at : ℕ} {ending : Option ℕ} {rest : List ℕ} {lexemes : List Lexeme} (others : List Lexeme) → LexesFrom at ending rest lexemes → LexesFrom at ending rest others → lexemes ≡ others
 one_list_from others (finish e) (finish d) = refl
 one_list_from others (finish e) (blank m d u) = cc
 one_list_from others (finish e) (newline m d u) = cc
 one_list_from others (finish e) (piece j m d u) = cc
 one_list_from others (blank n e t) (finish d) = cc
-one_list_from others (blank {at} {open' = ending} {rest} {tokens} n e t) (blank m d u) = same_behind at ending rest tokens others n m (cc) (λ v. one_list_from others t v) u
+one_list_from others (blank {at} {ending = ending} {rest} {lexemes} n e t) (blank m d u) = same_after at ending rest lexemes others n m (cc) (λ v. one_list_from others t v) u
 one_list_from others (blank n e t) (newline m d u) = cc
 one_list_from others (blank n e t) (piece j m d u) = cc
 one_list_from others (newline n e t) (finish d) = cc
 one_list_from others (newline n e t) (blank m d u) = cc
-one_list_from others (newline {at} {open' = ending} {rest} {tokens} n e t) (newline {tokens = more} m d u) =
-    ap (λ x. inserted ending ++ x) (same_behind at None rest tokens more n m (cc) (λ v. one_list_from more t v) u)
+one_list_from others (newline {at} {ending = ending} {rest} {lexemes} n e t) (newline {lexemes = more} m d u) =
+    ap (λ x. inserted ending ++ x) (same_after at None rest lexemes more n m (cc) (λ v. one_list_from more t v) u)
 one_list_from others (newline n e t) (piece j m d u) = cc
 one_list_from others (piece k n e t) (finish d) = cc
 one_list_from others (piece k n e t) (blank m d u) = cc
 one_list_from others (piece k n e t) (newline m d u) = cc
-one_list_from others (piece {at} {rest = rest} {tokens = tokens} k n e t) (piece {tokens = more} j m d u) = same_piece at rest tokens more k j n m (cc) (cc) (λ v. one_list_from more t v) u
+one_list_from others (piece {at} {rest = rest} {lexemes = lexemes} k n e t) (piece {lexemes = more} j m d u) = same_piece at rest lexemes more k j n m (cc) (cc) (λ v. one_list_from more t v) u
 
 pub one_list : OneList
-one_list text tokens others t u = one_list_from others t.1 u.1
+one_list text lexemes others t u = t.3 ∙ ap with_package_name (one_list_from u.1 t.2 u.2) ∙ sym u.3
 
 one_refusal_from : {at : ℕ} {rest : List ℕ} {r : LexRefusal} (other : LexRefusal) → RefusesFrom at rest r → RefusesFrom at rest other → r ≡ other
 one_refusal_from other (here {at} kind offset e) (here kind' offset' d) =
@@ -86,20 +86,20 @@ one_refusal text r other (inr t) (inl u) = absurd (t.0 u.0)
 one_refusal text r other (inr t) (inr u) = t.1 ∙ sym u.1
 
 Either : ℕ → Option ℕ → List ℕ → Type 0
-Either at ending rest = ((tokens : List Token) × TokensFrom at ending rest tokens) ⊎ ((r : LexRefusal) × RefusesFrom at rest r)
+Either at ending rest = ((lexemes : List Lexeme) × LexesFrom at ending rest lexemes) ⊎ ((r : LexRefusal) × RefusesFrom at rest r)
 
--- one step, with what the text goes on with
+-- one step, and what follows it
 either_at : (at : ℕ) (ending : Option ℕ) (rest : List ℕ) (front : Front) → front_of rest ≡ front
     → ((n : ℕ) → width front ≡ Some n → (o : Option ℕ) → Either (at + n) o (drop n rest)) → Either at ending rest
 unfolding Either
 either_at at ending rest End e more = inl (inserted ending, finish e)
 either_at at ending rest (Blank n) e more = elim (more n refl ending) [ inl p ↦ inl (p.0, blank n e p.1) | inr p ↦ inr (p.0, later n (ap width e) p.1) ]
 either_at at ending rest (Newline n) e more = elim (more n refl None) [ inl p ↦ inl (inserted ending ++ p.0, newline n e p.1) | inr p ↦ inr (p.0, later n (ap width e) p.1) ]
-either_at at ending rest (Piece kind n) e more =
-    elim (more n refl (open_behind kind (take n rest) (at + n))) [ inl p ↦ inl (token kind at (at + n) ∷ p.0, piece kind n e p.1) | inr p ↦ inr (p.0, later n (ap width e) p.1) ]
+either_at at ending rest (Piece terminal n) e more =
+    elim (more n refl (ending_after terminal (take n rest) (at + n))) [ inl p ↦ inl (tok terminal (leaf at (take n rest)) ∷ p.0, piece terminal n e p.1) | inr p ↦ inr (p.0, later n (ap width e) p.1) ]
 either_at at ending rest (Refused kind offset) e more = inr (refusal kind (at + offset), here kind offset e)
 
--- by the length of what is left
+-- by the length of the rest
 either : (bound at : ℕ) (ending : Option ℕ) (rest : List ℕ) → length rest ≤ bound → Either at ending rest
 either zero at ending rest le =
     either_at at ending rest (front_of rest) refl (λ n e o. absurd (let w = passed_fits rest n e in omega (arith, w.some, w.within)))
@@ -111,13 +111,10 @@ pub one_of_both : OneOfBoth
 unfolding Either
 one_of_both text = by_case (cases_utf8 text)
   where
-    read : IsUtf8 text → Either (start_of text) None (drop (start_of text) text) → ((tokens : List Token) × Tokens text tokens) ⊎ ((r : LexRefusal) × Refuses text r)
-    read u (inl t) = inl (t.0, (u, t.1))
+    read : IsUtf8 text → Either (start_of text) None (drop (start_of text) text) → ((lexemes : List Lexeme) × LexesAs text lexemes) ⊎ ((r : LexRefusal) × Refuses text r)
+    read u (inl t) = inl (with_package_name t.0, (u, t.0, t.1, refl))
     read u (inr t) = inr (t.0, inl (u, t.1))
 
-    by_case : IsUtf8 text ⊎ (¬ (IsUtf8 text)) → ((tokens : List Token) × Tokens text tokens) ⊎ ((r : LexRefusal) × Refuses text r)
+    by_case : IsUtf8 text ⊎ (¬ (IsUtf8 text)) → ((lexemes : List Lexeme) × LexesAs text lexemes) ⊎ ((r : LexRefusal) × Refuses text r)
     by_case (inl u) = read u (either (length text) (start_of text) None (drop (start_of text) text) (omega (arith, length-drop (start_of text) text)))
     by_case (inr u) = inr (bad_utf8 text, inr (u, refl))
-
-pub standing : Standing
-standing text tokens t = of_tokens text tokens t

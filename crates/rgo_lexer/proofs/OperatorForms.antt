@@ -1,73 +1,53 @@
 -- The operator at the front of a text: it fits, by itself it is the same operator, and it is the longest.
-use Rattle.std.proofs.Common.{◌≡◌, ℕ, ◌<◌, ◌≤◌, Bool, true, false, cond, List, [], ◌∷◌, ◌++◌, length, take, refl, ap, ◌∙◌, arith, Contains}
-use Rattle.std.specs.Prelude.{◌==◌}
-use Rattle.std.proofs.lemmas.Bool.{ne_eqb}
-use Rattle.std.proofs.lemmas.Bool.Decides.{nat_tests}
-use Rattle.std.proofs.lemmas.List.{length-take}
-use Rattle.rgo_lexer.specs.Bytes.{begins_with, bad_byte}
-use Rattle.rgo_lexer.specs.Operators.{operator_at, operator_len, operators, longest_front}
+use Rattle.std.proofs.Common.{◌≡◌, ℕ, zero, suc, ◌<◌, ◌≤◌, true, List, [], ◌∷◌, length, take, Option, Some, None, refl, ap, ◌∙◌, arith, Contains}
+use Rattle.std.specs.Prelude.{nat_lt}
+use Rattle.rgo_lexer.specs.Operators.{operator_at, operator_entry, operator_front, operators, longest_front}
 use Rattle.rgo_lexer.specs.Front.{FitsIn}
+use Rattle.rgo_lexer.specs.Laws.{IsLongestOperator}
 use Rattle.rgo_lexer.specs.declared.front.Front.TheVariants.{Piece}
-use Rattle.rgo_lexer.specs.declared.tokens.TokenKind.{TokenKind}
-use Rattle.rgo_lexer.specs.declared.tokens.TokenKind.TheVariants.{Operator}
-use Rattle.rgo_lexer.proofs.Begins.{begins_with-length, begins_with-whole, begins_with-front, begins_with-from}
-use Rattle.rgo_lexer.proofs.OperatorLemmas.{longest-at_most, longest-more, longest-contains, longest-among}
+use Rattle.rgo_lexer.specs.declared.terminals.Terminal.{Terminal}
+use Rattle.rgo_lexer.proofs.Begins.{begins_with-from}
+use Rattle.rgo_lexer.proofs.OperatorLemmas.{Covers, IsAtMost, found_among, found_longest, found-take, passes}
 
-operator_len-le : (text : List ℕ) → operator_len text ≤ length text
-unfolding operator_len
-operator_len-le text = longest-at_most (begins_with text) operators (length text) (λ t e. begins_with-length t text e)
+-- no operator is empty
+some : (text : List ℕ) (n : ℕ) (k : Terminal) → Contains operators (take n text, k) → 0 < n
+some text zero k c = let long : nat_lt 0 0 ≡ true = passes (λ e. nat_lt 0 (length e.0)) operators ([], k) refl c in cc
+some text (suc n) k c = omega arith
 
-positive : (n : ℕ) → (n == 0) ≡ false → 0 < n
-positive n e = grind (arith, nat_tests)
-
-pub operator_fits : (b : ℕ) (rest : List ℕ) → FitsIn (b ∷ rest) (operator_at (b ∷ rest))
-unfolding operator_at
-operator_fits b rest = by_test (operator_len (b ∷ rest) == 0) refl
-  where
-    by_test : (v : Bool) → (operator_len (b ∷ rest) == 0) ≡ v → FitsIn (b ∷ rest) (cond v bad_byte (Piece Operator (operator_len (b ∷ rest))))
-    by_test true e = omega arith
-    by_test false e = record { some = positive (operator_len (b ∷ rest)) e; within = operator_len-le (b ∷ rest) }
+front_fits : (text : List ℕ) (o : Option (ℕ × Terminal)) → 0 < length text → ((n : ℕ) (k : Terminal) → o ≡ Some (n, k) → Contains operators (take n text, k) × (n ≤ length text)) → FitsIn text (operator_front o)
+front_fits text None h found = h
+front_fits text (Some f) h found =
+    let found = found f.0 f.1 refl in
+    record { some = some text f.0 f.1 found.0; within = found.1 }
 
 pub operator_fits_in : (text : List ℕ) → 0 < length text → FitsIn text (operator_at text)
-operator_fits_in [] h = absurd (omega (arith, h))
-operator_fits_in (b ∷ rest) h = operator_fits b rest
+unfolding operator_at operator_entry
+operator_fits_in text h = front_fits text (longest_front operators text) h (found_among operators text)
 
--- a token by its width
-piece_is : (n : ℕ) (kind : TokenKind) (m : ℕ) → cond (n == 0) bad_byte (Piece Operator n) ≡ Piece kind m → (n ≡ m) × (0 < m) × (Operator ≡ kind)
-piece_is n kind m e = by_test (n == 0) refl e
-  where
-    by_test : (v : Bool) → (n == 0) ≡ v → cond v bad_byte (Piece Operator n) ≡ Piece kind m → (n ≡ m) × (0 < m) × (Operator ≡ kind)
-    by_test true t e = cc
-    by_test false t e = let same : n ≡ m = cc in let some : 0 < n = positive n t in (same, omega arith, cc)
+pub operator_fits : (b : ℕ) (rest : List ℕ) → FitsIn (b ∷ rest) (operator_at (b ∷ rest))
+operator_fits b rest = operator_fits_in (b ∷ rest) (omega arith)
 
-is_piece : (n m : ℕ) → n ≡ m → 0 < m → cond (n == 0) bad_byte (Piece Operator n) ≡ Piece Operator m
-is_piece n m e h = let t : (n == 0) ≡ false = ne_eqb n 0 (λ z. omega arith) in rw t (ap (Piece Operator) e)
+piece_is : (o : Option (ℕ × Terminal)) (k : Terminal) (n : ℕ) → operator_front o ≡ Piece k n → o ≡ Some (n, k)
+piece_is None k n e = cc
+piece_is (Some f) k n e = let same : f.1 ≡ k = cc in let width : f.0 ≡ n = cc in rw (← same, ← width) refl
 
-operator_len-take : (text : List ℕ) (n : ℕ) → operator_len text ≡ n → operator_len (take n text) ≡ n
-unfolding operator_len
-operator_len-take text n e =
-    let more : longest_front operators (take n text) ≤ longest_front operators text =
-    longest-more (begins_with (take n text)) (begins_with text) operators n (longest-at_most (begins_with (take n text)) operators n (λ t b. omega (arith, begins_with-length t (take n text) b, length-take n text))) (λ t b le. begins_with-whole t text n b) in
-    let less : longest_front operators text ≤ longest_front operators (take n text) =
-    longest-more (begins_with text) (begins_with (take n text)) operators n (omega arith) (λ t b le. begins_with-front t text n le b) in
-    omega arith
+at_most : (o : Option (ℕ × Terminal)) (n : ℕ) (k : Terminal) → o ≡ Some (n, k) → IsAtMost n o
+at_most o n k e = rw e (omega arith)
 
-pub operator_piece : (text : List ℕ) (kind : TokenKind) (n : ℕ) → operator_at text ≡ Piece kind n → (operator_len text ≡ n) × (0 < n) × (Operator ≡ kind)
-unfolding operator_at
-operator_piece text kind n e = piece_is (operator_len text) kind n e
+pub operator_stable : (text : List ℕ) (k : Terminal) (n : ℕ) → operator_at text ≡ Piece k n → operator_at (take n text) ≡ Piece k n
+unfolding operator_at operator_entry
+operator_stable text k n e =
+    let found = piece_is (longest_front operators text) k n e in
+    ap operator_front (found-take operators text n (at_most (longest_front operators text) n k found)) ∙ e
 
-pub operator_stable : (text : List ℕ) (kind : TokenKind) (n : ℕ) → operator_at text ≡ Piece kind n → operator_at (take n text) ≡ Piece kind n
-unfolding operator_at
-operator_stable text kind n e =
-    let piece = piece_is (operator_len text) kind n e in
-    is_piece (operator_len (take n text)) n (operator_len-take text n piece.0) piece.1 ∙ ap (λ k. Piece k n) piece.2
+covers_at_most : (m n : ℕ) (k : Terminal) (o : Option (ℕ × Terminal)) → o ≡ Some (n, k) → Covers m o → m ≤ n
+covers_at_most m n k o e c = rw e at c
 
--- the bytes of an operator are one of the operators
-pub operator_among : (text : List ℕ) (n : ℕ) → operator_len text ≡ n → 0 < n → Contains operators (take n text)
-unfolding operator_len
-operator_among text n e some = longest-among text operators n e some
-
--- and no longer one begins the text
-pub operator_longest : (text operator rest : List ℕ) → Contains operators operator → text ≡ operator ++ rest → length operator ≤ operator_len text
-unfolding operator_len
-operator_longest text operator rest c e = longest-contains (begins_with text) operators operator c (begins_with-from operator rest text e)
+pub operator_longest : (text : List ℕ) (k : Terminal) (n : ℕ) → operator_at text ≡ Piece k n → IsLongestOperator text k n
+unfolding operator_at operator_entry
+operator_longest text k n e =
+    let found = piece_is (longest_front operators text) k n e in
+    record {
+      among = (found_among operators text n k found).0;
+      longest = λ operator rest c d. covers_at_most (length operator.0) n k (longest_front operators text) found (found_longest operators text operator c (begins_with-from operator.0 rest text d));
+    }

@@ -1,14 +1,13 @@
 -- The word at the front of a text: it fits, and by itself it is the same word.
-use Rattle.std.proofs.Common.{◌≡◌, ℕ, Bool, true, false, cond, List, ◌∷◌, take, refl, ap, ◌∙◌, arith}
+use Rattle.std.proofs.Common.{◌≡◌, ℕ, true, List, ◌∷◌, take, refl, ap, ◌∙◌, arith}
 use Rattle.std.proofs.lemmas.Bool.{or_left}
 use Rattle.std.proofs.lemmas.List.{take-take}
 use Rattle.std.proofs.lemmas.List.Sums.{prefix_len-le-length}
 use Rattle.rgo_lexer.specs.Bytes.{is_letter, is_digit, is_word_byte}
-use Rattle.rgo_lexer.specs.Words.{run_of, word_at, is_keyword}
+use Rattle.rgo_lexer.specs.Words.{run_of, word_at}
 use Rattle.rgo_lexer.specs.Front.{FitsIn, IsWidthIn}
 use Rattle.rgo_lexer.specs.declared.front.Front.TheVariants.{Piece}
-use Rattle.rgo_lexer.specs.declared.tokens.TokenKind.{TokenKind}
-use Rattle.rgo_lexer.specs.declared.tokens.TokenKind.TheVariants.{Word, Keyword, Operator}
+use Rattle.rgo_lexer.specs.declared.terminals.Terminal.{Terminal}
 use Rattle.rgo_lexer.proofs.Runs.{prefix_len-take, prefix_len_some}
 
 pub run_fits : (b : ℕ) (rest : List ℕ) → is_word_byte b ≡ true → IsWidthIn (b ∷ rest) (run_of (b ∷ rest))
@@ -29,14 +28,6 @@ again : (text : List ℕ) → word_at (take (run_of text) text) ≡ word_at text
 unfolding word_at
 again text = rw (twice text, run_again text) refl
 
-pub word_stable : (text : List ℕ) (kind : TokenKind) (n : ℕ) → word_at text ≡ Piece kind n → word_at (take n text) ≡ Piece kind n
+pub word_stable : (text : List ℕ) (terminal : Terminal) (n : ℕ) → word_at text ≡ Piece terminal n → word_at (take n text) ≡ Piece terminal n
 unfolding word_at
-word_stable text kind n e = let width : n ≡ run_of text = cc in rw width (again text ∙ e ∙ ap (Piece kind) width)
-
-no_operator : (b : Bool) (m n : ℕ) → Piece (cond b Keyword Word) m ≡ Piece Operator n → ⊥
-no_operator true m n e = cc
-no_operator false m n e = cc
-
-pub word_no_operator : (text : List ℕ) (n : ℕ) → word_at text ≡ Piece Operator n → ⊥
-unfolding word_at
-word_no_operator text n e = no_operator (is_keyword (take (run_of text) text)) (run_of text) n e
+word_stable text terminal n e = let width : n ≡ run_of text = cc in rw width (again text ∙ e ∙ ap (Piece terminal) width)

@@ -1,8 +1,9 @@
--- The kinds of byte that the forms of separators and tokens are made of.
+-- The kinds of byte that separators and tokens consist of.
 use Rattle.std.specs.Prelude.{ℕ, Bool, ◌||◌, ◌&&◌, nat_le, ◌==◌, List, length, take}
 use Rattle.std.specs.Str.{bytes_eq}
 use Rattle.rgo_lexer.specs.declared.front.Front.{Front}
 use Rattle.rgo_lexer.specs.declared.front.Front.TheVariants.{Refused}
+use Rattle.rgo_lexer.specs.declared.refusals.LexicalKind.TheVariants.{BadByte}
 
 -- space, tab and carriage return
 abbrev pub is_blank : ℕ → Bool
@@ -22,6 +23,6 @@ is_word_byte b = is_letter b || is_digit b
 abbrev pub begins_with : List ℕ → List ℕ → Bool
 begins_with text front = bytes_eq front (take (length front) text)
 
--- the first byte of what stands there has no place
+-- a byte that begins neither a separator nor a token
 abbrev pub bad_byte : Front
-bad_byte = Refused 2 0
+bad_byte = Refused BadByte 0

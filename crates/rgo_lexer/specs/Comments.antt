@@ -1,9 +1,10 @@
--- Comments at the front of a text: to the end of the line, or to the first `*/`.
+-- Comments: to the end of the line, or to the first `*/`.
 use Rattle.std.specs.Prelude.{ℕ, suc, ◌+◌, Bool, if◌then◌else◌, ◌||◌, ◌==◌, List, [], ◌∷◌, take, drop, codes, Option, Some, None, option_map}
 use Rattle.std.specs.List.{list_any, position_or_len}
 use Rattle.rgo_lexer.specs.Bytes.{begins_with}
 use Rattle.rgo_lexer.specs.declared.front.Front.{Front}
 use Rattle.rgo_lexer.specs.declared.front.Front.TheVariants.{Blank, Newline, Refused}
+use Rattle.rgo_lexer.specs.declared.refusals.LexicalKind.TheVariants.{OpenComment}
 
 -- where the first `*/` of a text begins, if it has one
 abbrev pub first_close : List ℕ → Option ℕ
@@ -20,15 +21,15 @@ begins_comment text = begins_line_comment text || begins_with text (codes "/*")
 abbrev pub is_newline : ℕ → Bool
 is_newline b = b == 10
 
--- a comment acts as a newline where it has one in it, else as a space
+-- a comment acts as a newline if it contains one, else as a space
 abbrev pub acts_as : List ℕ → ℕ → Front
 acts_as text n = if list_any is_newline (take n text) then Newline n else Blank n
 
 -- a comment without its `*/`, refused at its first byte
 abbrev pub open_comment : Front
-open_comment = Refused 6 0
+open_comment = Refused OpenComment 0
 
--- a general comment, by where the first `*/` behind its `/*` begins
+-- a general comment, by where the first `*/` after its `/*` begins
 abbrev pub closed_at : List ℕ → Option ℕ → Front
 closed_at text None = open_comment
 closed_at text (Some k) = acts_as text (k + 4)

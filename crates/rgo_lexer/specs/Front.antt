@@ -1,4 +1,4 @@
--- What stands at the front of a text: a separator, a comment, a token, or what none may be.
+-- What a text begins with: a separator, a comment, a token, or what is refused.
 use Rattle.std.specs.Prelude.{◌≡◌, ℕ, ◌<◌, ◌≤◌, ◌==◌, if◌then◌else◌, List, [], ◌∷◌, length}
 use Rattle.rgo_lexer.specs.Bytes.{is_blank, is_letter, is_digit}
 use Rattle.rgo_lexer.specs.Words.{word_at}
@@ -21,15 +21,15 @@ front_of (b ∷ rest) =
     else (if begins_comment (b ∷ rest) then comment_at (b ∷ rest)
     else operator_at (b ∷ rest))))))
 
--- n bytes, one at least, are the front of a text
+-- n bytes, at least one, are a front of a text
 pub record IsWidthIn (text : List ℕ) (n : ℕ) : Type 0 where
   pub some : 0 < n
   pub within : n ≤ length text
 
--- what stands at the front is a part of the text, and a refused byte is in it
+-- a separator or a token is part of the text, and so is a refused byte
 abbrev pub FitsIn : List ℕ → Front → Type 0
 FitsIn text End = text ≡ []
 FitsIn text (Blank n) = IsWidthIn text n
 FitsIn text (Newline n) = IsWidthIn text n
-FitsIn text (Piece kind n) = IsWidthIn text n
+FitsIn text (Piece terminal n) = IsWidthIn text n
 FitsIn text (Refused kind offset) = offset < length text

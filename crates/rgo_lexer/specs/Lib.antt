@@ -1,3 +1,4 @@
+pub mod LexicalKinds
 pub mod Bytes
 pub mod Words
 pub mod Numbers
@@ -5,7 +6,8 @@ pub mod Strings
 pub mod Comments
 pub mod Operators
 pub mod Front
+pub mod Lexemes
 pub mod Semicolons
-pub mod Tokens
+pub mod Lexing
 pub mod Refusals
 pub mod Laws

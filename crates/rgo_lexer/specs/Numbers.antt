@@ -1,12 +1,13 @@
--- Integer literals: their forms, at the front of a text, and their values.
-use Rattle.std.specs.Prelude.{ℕ, ◌+◌, ◌*◌, Bool, true, false, ◌||◌, ◌&&◌, ◌==◌, nat_le, nat_lt, if◌then◌else◌, List, [], ◌∷◌, length, take, drop, codes, fold, filter, Option, Some, None, is_some}
+-- Integer literals: their forms and their values.
+use Rattle.std.specs.Prelude.{ℕ, ◌+◌, ◌*◌, Bool, true, false, ◌||◌, ◌&&◌, ◌==◌, nat_le, nat_lt, if◌then◌else◌, List, [], ◌∷◌, length, take, drop, codes, fold, filter, Option, Some, None}
 use Rattle.std.specs.Char.{is_digit, digit_value}
 use Rattle.std.specs.Int.{is_in_range}
 use Rattle.rgo_lexer.specs.Bytes.{begins_with}
 use Rattle.rgo_lexer.specs.Words.{run_of}
-use Rattle.rgo_lexer.specs.declared.tokens.TokenKind.TheVariants.{Number}
+use Rattle.rgo_lexer.specs.declared.terminals.Terminal.TheVariants.{Number}
 use Rattle.rgo_lexer.specs.declared.front.Front.{Front}
 use Rattle.rgo_lexer.specs.declared.front.Front.TheVariants.{Piece, Refused}
+use Rattle.rgo_lexer.specs.declared.refusals.LexicalKind.TheVariants.{BadNumber}
 
 -- the text begins with a digit in this base
 abbrev pub begins_with_digit : ℕ → List ℕ → Bool
@@ -14,50 +15,55 @@ begins_with_digit base [] = false
 begins_with_digit base (b ∷ l) = is_digit b base
 
 -- a digit, or a `_` before one
-abbrev pub may_stand : ℕ → ℕ → List ℕ → Bool
-may_stand base b behind = is_digit b base || (b == 95 && begins_with_digit base behind)
+abbrev pub may_occur : ℕ → ℕ → List ℕ → Bool
+may_occur base b after = is_digit b base || (b == 95 && begins_with_digit base after)
 
 -- digits in a base, each perhaps with one `_` before it
 abbrev pub are_digits : ℕ → List ℕ → Bool
 are_digits base [] = true
-are_digits base (b ∷ l) = may_stand base b l && are_digits base l
+are_digits base (b ∷ l) = may_occur base b l && are_digits base l
 
--- `0`, or a digit 1 to 9 and digits behind it
+-- `0`, or a digit 1 to 9 followed by digits
 abbrev pub is_decimal : List ℕ → Bool
 is_decimal [] = false
 is_decimal (b ∷ l) = (b == 48 && length l == 0) || (is_in_range 49 57 b && are_digits 10 l)
 
--- `0x` or `0X`, and one or more digits in base 16 behind it
+-- `0x` or `0X`, followed by one or more digits in base 16
 abbrev pub is_hexadecimal : List ℕ → Bool
 is_hexadecimal word =
     (begins_with word (codes "0x") || begins_with word (codes "0X"))
     && nat_lt 2 (length word)
     && are_digits 16 (drop 2 word)
 
--- what the digits of a text write in a base behind a number
-abbrev pub value_behind : ℕ → ℕ → List ℕ → ℕ
-value_behind base number text =
+-- what a number and the digits of a text after it write in a base
+abbrev pub value_after : ℕ → ℕ → List ℕ → ℕ
+value_after base number text =
     fold (λ n b. n * base + digit_value b) number (filter (λ b. is_digit b base) text)
 
 -- what the digits of a text write in a base; a `_` counts for nothing
 abbrev pub value_of : ℕ → List ℕ → ℕ
-value_of base text = value_behind base 0 text
+value_of base text = value_after base 0 text
 
--- the number itself, where it is not too large
+-- the number itself, if it is not too large
 abbrev pub if_fits : ℕ → Option ℕ
 if_fits n = if nat_le n 9223372036854775807 then Some n else None
 
--- the number that a word writes, where it is one in form and not too large
+-- the number that a word writes, if it is a literal and not too large
 unfoldable pub number_of : List ℕ → Option ℕ
 number_of word =
     if is_decimal word then if_fits (value_of 10 word)
     else (if is_hexadecimal word then if_fits (value_of 16 (drop 2 word)) else None)
 
--- a literal out of form or too large, refused at its first byte
+-- a literal that is malformed or too large, refused at its first byte
 abbrev pub bad_number : Front
-bad_number = Refused 3 0
+bad_number = Refused BadNumber 0
 
--- the number at the front of a text that begins with a digit: as many bytes as may stand in a word
+-- a literal of n bytes, by its number
+abbrev pub number_front : ℕ → Option ℕ → Front
+number_front n None = bad_number
+number_front n (Some value) = Piece (Number value) n
+
+-- the number at the front of a text that begins with a digit: all bytes at the front that may occur
+-- in a word
 unfoldable pub number_at : List ℕ → Front
-number_at text =
-    if is_some (number_of (take (run_of text) text)) then Piece Number (run_of text) else bad_number
+number_at text = number_front (run_of text) (number_of (take (run_of text) text))

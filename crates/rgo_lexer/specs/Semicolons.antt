@@ -1,35 +1,36 @@
--- The `;` that the end of a line inserts behind its last token.
-use Rattle.std.specs.Prelude.{ℕ, Bool, true, List, [], ◌∷◌, Option, None, Some, if◌then◌else◌, codes}
-use Rattle.std.specs.List.{list_any}
+-- The `;` that the end of a line inserts after its last token.
+use Rattle.std.specs.Prelude.{ℕ, Bool, true, false, List, [], ◌∷◌, Option, None, Some, if◌then◌else◌, codes}
 use Rattle.std.specs.Str.{bytes_eq}
-use Rattle.rgo_lexer.specs.declared.tokens.TokenKind.{TokenKind}
-use Rattle.rgo_lexer.specs.declared.tokens.TokenKind.TheVariants.{Word, Keyword, Number, Text, Operator}
-use Rattle.rgo_lexer.specs.declared.tokens.Token.{Token}
+use Rattle.rgo_lexer.specs.Lexemes.{Lexeme, leaf, tok}
+use Rattle.rgo_lexer.specs.declared.terminals.Terminal.{Terminal}
+use Rattle.rgo_lexer.specs.declared.terminals.Terminal.TheVariants.{Name, Main, New, Make, Number, Text, Step}
+use Rattle.rgo_lexer.specs.declared.terminals.Terminal.TheVariants.{CloseParen, CloseBracket, CloseBrace, Semicolon}
+use Rattle.rgo_lexer.specs.declared.terminals.Terminal.TheVariants.{Return, Break, Continue, Other}
 
-abbrev pub token : TokenKind → ℕ → ℕ → Token
-token kind start end = record { kind = kind; span = record { start = start; end = end } }
-
--- the keywords behind which a statement may end
-abbrev pub ending_keywords : List (List ℕ)
-ending_keywords = codes "break" ∷ codes "continue" ∷ codes "fallthrough" ∷ codes "return" ∷ []
-
--- the operators behind which a statement may end
-abbrev pub ending_operators : List (List ℕ)
-ending_operators = codes "++" ∷ codes "--" ∷ codes ")" ∷ codes "]" ∷ codes "}" ∷ []
-
--- a statement may end behind such a token
-unfoldable pub may_end : TokenKind → List ℕ → Bool
-may_end Word word = true
-may_end Number word = true
+-- A statement may end after names, literals, `++`, `--`, closing brackets, and the keywords
+-- `break`, `continue`, `fallthrough` and `return`.
+unfoldable pub may_end : Terminal → List ℕ → Bool
+may_end Name word = true
+may_end Main word = true
+may_end New word = true
+may_end Make word = true
+may_end (Number n) word = true
 may_end Text word = true
-may_end Keyword word = list_any (λ k. bytes_eq k word) ending_keywords
-may_end Operator word = list_any (λ k. bytes_eq k word) ending_operators
+may_end (Step o) word = true
+may_end CloseParen word = true
+may_end CloseBracket word = true
+may_end CloseBrace word = true
+may_end Return word = true
+may_end Break word = true
+may_end Continue word = true
+may_end Other word = bytes_eq word (codes "fallthrough")
+may_end _ word = false
 
--- where a token ends, if a statement may end behind it
-abbrev pub open_behind : TokenKind → List ℕ → ℕ → Option ℕ
-open_behind kind word end = if may_end kind word then Some end else None
+-- where a token ends, if a statement may end after it
+abbrev pub ending_after : Terminal → List ℕ → ℕ → Option ℕ
+ending_after terminal word end = if may_end terminal word then Some end else None
 
--- the `;` that the end of a line inserts behind its last token
-abbrev pub inserted : Option ℕ → List Token
+-- the `;` that the end of a line inserts where its last token ended
+abbrev pub inserted : Option ℕ → List Lexeme
 inserted None = []
-inserted (Some end) = token Operator end end ∷ []
+inserted (Some end) = tok Semicolon (leaf end []) ∷ []

@@ -1,9 +1,10 @@
--- String literals: the items between their quotes, at the front of a text, and their values.
+-- String literals: the items between their quotes, and their values.
 use Rattle.std.specs.Prelude.{◌≡◌, ℕ, ◌+◌, Bool, not, ◌||◌, ◌==◌, if◌then◌else◌, List, [], ◌∷◌, length, take, drop, map, slice_index, Option, Some, None, is_some, unwrap_or}
 use Rattle.std.specs.List.{concat}
-use Rattle.rgo_lexer.specs.declared.tokens.TokenKind.TheVariants.{Text}
+use Rattle.rgo_lexer.specs.declared.terminals.Terminal.TheVariants.{Text}
 use Rattle.rgo_lexer.specs.declared.front.Front.{Front}
 use Rattle.rgo_lexer.specs.declared.front.Front.TheVariants.{Piece, Refused}
+use Rattle.rgo_lexer.specs.declared.refusals.LexicalKind.TheVariants.{OpenString, BadEscape}
 
 -- the byte that an escape's letter stands for: one of a b f n r t v \ "
 abbrev pub escaped : ℕ → Option ℕ
@@ -23,15 +24,15 @@ escaped letter =
 abbrev pub is_plain : ℕ → Bool
 is_plain b = not (b == 34 || b == 92 || b == 10)
 
--- The items at the front of a text, as far as they go: each a plain byte, or a backslash and an
--- escape's letter.
+-- The items at the front of a text, up to the first byte that begins none: each is a plain byte, or
+-- a backslash and an escape's letter.
 abbrev mutual
   pub items : List ℕ → List (List ℕ)
   items [] = []
   items (b ∷ text) =
       if is_plain b then (b ∷ []) ∷ items text else (if b == 92 then escape_items text else [])
 
-  -- the same behind a backslash
+  -- the same after a backslash
   pub escape_items : List ℕ → List (List ℕ)
   escape_items [] = []
   escape_items (letter ∷ text) =
@@ -53,20 +54,20 @@ BeginsWithItem text (Some item) =
 unfoldable pub string_of : List ℕ → List ℕ
 string_of literal = map item_value (items (drop 1 literal))
 
--- how many bytes the items have
+-- the number of bytes of the items
 unfoldable pub items_len : List ℕ → ℕ
 items_len text = length (concat (items text))
 
 -- a string without its closing quote, refused at its first byte
 abbrev pub open_string : Front
-open_string = Refused 5 0
+open_string = Refused OpenString 0
 
--- a backslash with no escape's letter behind it, refused at the backslash
+-- a backslash that no escape's letter follows, refused at the backslash
 abbrev pub bad_escape : ℕ → Front
-bad_escape offset = Refused 4 offset
+bad_escape offset = Refused BadEscape offset
 
--- What a string is whose items have n bytes, by what stands behind them: nothing, a quote, a
--- newline, or a backslash that begins no item.
+-- What a string is whose items have n bytes, by what follows them: nothing, a quote, a newline, or
+-- a backslash that begins no item.
 abbrev pub string_before : ℕ → List ℕ → Front
 string_before n [] = open_string
 string_before n (b ∷ rest) =

@@ -1,28 +1,47 @@
--- Words at the front of a text: identifiers and keywords.
-use Rattle.std.specs.Prelude.{ℕ, Bool, if◌then◌else◌, List, [], ◌∷◌, take, codes}
-use Rattle.std.specs.List.{list_any, prefix_len}
+-- Words: names and keywords.
+use Rattle.std.specs.Prelude.{ℕ, if◌then◌else◌, List, [], ◌∷◌, map, take, codes}
+use Rattle.std.specs.List.{prefix_len}
 use Rattle.std.specs.Str.{bytes_eq}
+use denote.Ref.{Bor}
 use Rattle.rgo_lexer.specs.Bytes.{is_word_byte}
 use Rattle.rgo_lexer.specs.declared.front.Front.{Front}
 use Rattle.rgo_lexer.specs.declared.front.Front.TheVariants.{Piece}
-use Rattle.rgo_lexer.specs.declared.tokens.TokenKind.TheVariants.{Word, Keyword}
+use Rattle.rgo_lexer.specs.declared.terminals.Terminal.{Terminal}
+use Rattle.rgo_lexer.specs.declared.terminals.Terminal.TheVariants.{Name, New, Make, Package, Import, TypeWord}
+use Rattle.rgo_lexer.specs.declared.terminals.Terminal.TheVariants.{Struct, Var, Func, Chan, Go, If, Else, For}
+use Rattle.rgo_lexer.specs.declared.terminals.Terminal.TheVariants.{Return, Break, Continue, Other}
 
--- Go's keywords
-abbrev pub keywords : List (List ℕ)
-keywords =
-    codes "break" ∷ codes "case" ∷ codes "chan" ∷ codes "const" ∷ codes "continue" ∷
-    codes "default" ∷ codes "defer" ∷ codes "else" ∷ codes "fallthrough" ∷ codes "for" ∷
-    codes "func" ∷ codes "go" ∷ codes "goto" ∷ codes "if" ∷ codes "import" ∷ codes "interface" ∷
-    codes "map" ∷ codes "package" ∷ codes "range" ∷ codes "return" ∷ codes "select" ∷
-    codes "struct" ∷ codes "switch" ∷ codes "type" ∷ codes "var" ∷ []
+-- a table of words with their terminals, as the code has it
+abbrev pub entries : List (Bor (List ℕ) × Terminal) → List (List ℕ × Terminal)
+entries table = map (λ e. (e.0.now, e.1)) table
 
-unfoldable pub is_keyword : List ℕ → Bool
-is_keyword word = list_any (λ k. bytes_eq k word) keywords
+-- the terminal of a word in a table, or the default
+abbrev pub looked_up : List (List ℕ × Terminal) → Terminal → List ℕ → Terminal
+looked_up [] default word = default
+looked_up (e ∷ table) default word = if bytes_eq word e.0 then e.1 else looked_up table default word
 
--- how many bytes at the front may stand in a word
+-- the words that are not names: Go's keywords, `new` and `make`
+abbrev pub words : List (List ℕ × Terminal)
+words =
+    (codes "break", Break) ∷ (codes "case", Other) ∷ (codes "chan", Chan)
+    ∷ (codes "const", Other) ∷ (codes "continue", Continue) ∷ (codes "default", Other)
+    ∷ (codes "defer", Other) ∷ (codes "else", Else) ∷ (codes "fallthrough", Other)
+    ∷ (codes "for", For) ∷ (codes "func", Func) ∷ (codes "go", Go) ∷ (codes "goto", Other)
+    ∷ (codes "if", If) ∷ (codes "import", Import) ∷ (codes "interface", Other)
+    ∷ (codes "map", Other) ∷ (codes "package", Package) ∷ (codes "range", Other)
+    ∷ (codes "return", Return) ∷ (codes "select", Other) ∷ (codes "struct", Struct)
+    ∷ (codes "switch", Other) ∷ (codes "type", TypeWord) ∷ (codes "var", Var)
+    ∷ (codes "new", New) ∷ (codes "make", Make) ∷ []
+
+-- the terminal of a word; any other word is a name
+unfoldable pub word_terminal : List ℕ → Terminal
+word_terminal word = looked_up words Name word
+
+-- the number of bytes at the front that may occur in a word
 abbrev pub run_of : List ℕ → ℕ
 run_of text = prefix_len is_word_byte text
 
--- the word at the front of a text that begins with a letter: as many bytes as may stand in one
+-- the word at the front of a text that begins with a letter: all bytes at the front that may occur
+-- in one
 unfoldable pub word_at : List ℕ → Front
-word_at text = Piece (if is_keyword (take (run_of text) text) then Keyword else Word) (run_of text)
+word_at text = Piece (word_terminal (take (run_of text) text)) (run_of text)

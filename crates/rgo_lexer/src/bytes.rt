@@ -1,4 +1,4 @@
-//! The kinds of byte that the forms of separators and tokens are made of.
+//! The kinds of byte that separators and tokens consist of.
 
 ghost use Rattle.std.specs.Prelude.{◌≡◌, ◌≤◌, length};
 ghost use Rattle.std.specs.List.{prefix_len};
@@ -25,14 +25,14 @@ pub(crate) fn is_letter(b: u8) -> bool
     b.is_ascii_alphabetic() || b == b'_'
 }
 
-/// Whether the byte may stand in a word.
+/// Whether the byte may occur in a word.
 pub(crate) fn is_word_byte(b: u8) -> bool
     ensures { result ≡ bytes.is_word_byte b }
 {
     is_letter(b) || is_digit(b)
 }
 
-/// How many bytes at the front may stand in a word.
+/// The number of bytes at the front that may occur in a word.
 pub(crate) fn run_len(text: &[u8]) -> usize
     ensures value { result ≡ prefix_len bytes.is_word_byte text.now }
     ensures within { result ≤ length text.now }

@@ -1,4 +1,4 @@
-//! Comments at the front of a text.
+//! Comments.
 
 ghost use Rattle.std.specs.Prelude.{◌≡◌, ◌≤◌, ◌+◌, ◌<◌, length, IfSome};
 ghost use Rattle.std.specs.List.{position_or_len};
@@ -6,9 +6,9 @@ ghost use Rattle.rgo_lexer.specs.Comments.{is_newline, first_close, acts_as, com
 ghost use Rattle.rgo_lexer.specs.Comments.{begins_line_comment, begins_comment};
 
 use crate::front::Front;
-use crate::tokens::OPEN_COMMENT;
+use crate::refusals::LexicalKind;
 
-/// Where the first `*/` begins.
+// Where the first `*/` begins.
 fn first_close(text: &[u8]) -> Option<usize>
     ensures place { result ≡ first_close text.now }
     ensures within { IfSome result (λ at. at + 2 ≤ length text.now) }
@@ -21,7 +21,7 @@ fn first_close(text: &[u8]) -> Option<usize>
     None
 }
 
-/// How many bytes stand before the first newline.
+// The number of bytes before the first newline.
 fn line_len(text: &[u8]) -> usize
     ensures value { result ≡ position_or_len is_newline text.now }
     ensures within { result ≤ length text.now }
@@ -29,21 +29,21 @@ fn line_len(text: &[u8]) -> usize
     text.iter().take_while(|b| **b != b'\n').count()
 }
 
-/// Whether a comment to the end of the line stands at the front.
+// Whether the text begins with a comment to the end of the line.
 fn begins_line_comment(text: &[u8]) -> bool
     ensures { result ≡ begins_line_comment text.now }
 {
     text.starts_with(b"//")
 }
 
-/// Whether a comment stands at the front (The Go Programming Language Specification, "Comments").
+/// Whether the text begins with a comment (The Go Programming Language Specification, "Comments").
 pub(crate) fn begins_comment(text: &[u8]) -> bool
     ensures { result ≡ begins_comment text.now }
 {
     begins_line_comment(text) || text.starts_with(b"/*")
 }
 
-/// A general comment of that length: it acts as a newline where it has one in it, else as a space.
+// A general comment of that length: it acts as a newline if it contains one, else as a space.
 fn acts_as(text: &[u8], len: usize) -> Front
     requires { len ≤ length text.now }
     ensures { result ≡ acts_as text.now len }
@@ -66,6 +66,6 @@ pub(crate) fn comment(text: &[u8]) -> Front
     }
     match first_close(&text[2..]) {
         Some(at) => acts_as(text, at + 4),
-        None => Front::Refused(OPEN_COMMENT, 0),
+        None => Front::Refused(LexicalKind::OpenComment, 0),
     }
 }

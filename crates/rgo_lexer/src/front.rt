@@ -1,4 +1,4 @@
-//! What stands at the front of a text: a separator, a comment, a token, or what none may be.
+//! What a text begins with: a separator, a comment, a token, or what is refused.
 
 ghost use Rattle.std.specs.Prelude.{◌≡◌};
 ghost use Rattle.rgo_lexer.specs.Front.{front_of, FitsIn};
@@ -7,11 +7,12 @@ use crate::bytes::{is_blank, is_digit, is_letter};
 use crate::comments::{begins_comment, comment};
 use crate::numbers::number;
 use crate::operators::operator;
+use crate::refusals::LexicalKind;
 use crate::strings::string;
-use crate::tokens::TokenKind;
+use crate::terminals::Terminal;
 use crate::words::word;
 
-/// What stands at the front of a text; widths and offsets are in bytes.
+/// The front of a text; widths and offsets are in bytes.
 #[derive(Clone, Copy, Debug, PartialEq, Eq)]
 pub enum Front {
     /// Nothing: the text is over.
@@ -20,13 +21,13 @@ pub enum Front {
     Blank(usize),
     /// A separator of that width that ends a line.
     Newline(usize),
-    /// A token of that kind and width.
-    Piece(TokenKind, usize),
-    /// What is refused: the kind of refusal, and how far from the front its byte stands.
-    Refused(u8, usize),
+    /// A token of that width.
+    Piece(Terminal, usize),
+    /// What is refused: its kind, and the offset of the refused byte.
+    Refused(LexicalKind, usize),
 }
 
-/// What stands at the front of the text, the longest that its form allows.
+/// The front of the text, the longest that its form allows.
 #[tactic(auto, using(crate::proofs::Fronts::fits), unfolding(crate::specs::Front::front_of))]
 pub(crate) fn read_front(text: &[u8]) -> Front
     ensures value { result ≡ front_of text.now }

@@ -1,46 +1,50 @@
-//! A text cut into its tokens.
+//! The lexer's loop over a text.
 
 ghost use Rattle.std.specs.Prelude.{◌≡◌, ◌≤◌, None, All, IfErr, IfOk, drop, length};
-ghost use Rattle.rgo_lexer.specs.Tokens.{start_of, Tokens, TokensFrom, IsTokenOf};
+ghost use Rattle.rgo_lexer.specs.Lexing.{start_of, LexesAs, LexesFrom, with_package_name, IsLexemeOf};
 ghost use Rattle.rgo_lexer.specs.Refusals.{Fails, FailsFrom, IsPlacedIn};
 
 use crate::front::{Front, read_front};
-use crate::semicolons::{insert_semicolon, open_behind};
-use crate::tokens::{BAD_UTF8, LexError, LexRefusal, Span, Token};
+use crate::lexemes::Lexeme;
+use crate::refusals::{LexError, LexRefusal, LexicalKind};
+use crate::semicolons::{ending_after, insert_semicolon};
+use crate::terminals::Terminal;
 use std::alloc::Global;
 
 /// The byte order mark in UTF-8.
 const BYTE_ORDER_MARK: &[u8] = b"\xEF\xBB\xBF";
 
-/// The tokens of the text from the byte `start` on.
-fn tokens_from(alloc: Global, text: &[u8], start: usize) -> Result<Vec<Token>, LexError>
+// The lexemes of the text from the byte `start` on.
+fn lexemes_from<'a>(
+    alloc: Global,
+    text: &'a [u8],
+    start: usize,
+) -> Result<Vec<Lexeme<'a>>, LexError>
     requires { start ≤ length text.now }
-    ensures ok { IfOk result (λ tokens. TokensFrom start None (drop start text.now) tokens.items) }
+    ensures ok { IfOk result (λ lexemes. LexesFrom start None (drop start text.now) lexemes.items) }
     ensures refused { IfErr result (FailsFrom start (drop start text.now)) }
 {
-    let mut tokens = Vec::new(alloc);
+    let mut lexemes = Vec::new(alloc);
     let mut ending = None;
     let mut at = start;
     'pieces: loop {
         match read_front(&text[at..]) {
             Front::End => {
-                insert_semicolon(&mut tokens, ending)?;
-                return Ok(tokens);
+                insert_semicolon(&mut lexemes, ending)?;
+                return Ok(lexemes);
             }
             Front::Blank(width) => at += width,
             Front::Newline(width) => {
-                insert_semicolon(&mut tokens, ending)?;
+                insert_semicolon(&mut lexemes, ending)?;
                 ending = None;
                 at += width;
             }
-            Front::Piece(kind, width) => {
-                let span = Span {
-                    start: at,
-                    end: at + width,
-                };
-                tokens.push(Token { kind, span })?;
-                ending = open_behind(kind, &text[span.start..span.end], span.end);
-                at = span.end;
+            Front::Piece(terminal, width) => {
+                let end = at + width;
+                let word = &text[at..end];
+                lexemes.push(Lexeme { terminal, at, word })?;
+                ending = ending_after(terminal, word, end);
+                at = end;
             }
             Front::Refused(kind, offset) => {
                 return Err(LexError::Refused(LexRefusal {
@@ -52,7 +56,7 @@ fn tokens_from(alloc: Global, text: &[u8], start: usize) -> Result<Vec<Token>, L
     }
 }
 
-/// Where a text begins: behind a byte order mark at its very front.
+// Where a text begins: after a byte order mark at its very front.
 fn start_of(text: &[u8]) -> usize
     ensures value { result ≡ start_of text.now }
     ensures within { result ≤ length text.now }
@@ -64,21 +68,39 @@ fn start_of(text: &[u8]) -> usize
     }
 }
 
-/// The tokens of the text, in their order, the inserted `;` among them (The Go Programming Language
-/// Specification, "Lexical elements").
+// Where the second lexeme is the word `main`, makes it the package's name.
+fn name_package<'a>(lexemes: &mut Vec<Lexeme<'a>>)
+    ensures { lexemes.new.items ≡ with_package_name lexemes.old.items }
+{
+    if let [_, second, ..] = lexemes.as_mut_slice() {
+        if second.word == b"main".as_slice() {
+            second.terminal = Terminal::Main;
+        }
+    }
+}
+
+/// The lexemes of the text, in their order, the inserted `;` among them (The Go Programming
+/// Language Specification, "Lexical elements").
 ///
-/// An error says that memory ran out, or what is wrong first with a text that has no tokens.
-#[tactic(auto, using(crate::proofs::Standing::placed))]
-pub fn lex(alloc: Global, text: &[u8]) -> Result<Vec<Token>, LexError>
-    ensures ok { IfOk result (λ tokens. Tokens text.now tokens.items) }
+/// An error is the refusal of the text, which then has no lexemes, or says that memory ran out.
+#[tactic(auto, using(crate::proofs::Placing::placed))]
+pub fn lex<'a>(alloc: Global, text: &'a [u8]) -> Result<Vec<Lexeme<'a>>, LexError>
+    ensures ok { IfOk result (λ lexemes. LexesAs text.now lexemes.items) }
     ensures refused { IfErr result (Fails text.now) }
-    ensures standing { IfOk result (λ tokens. All (IsTokenOf text.now) tokens.items) }
+    ensures of_text { IfOk result (λ lexemes. All (IsLexemeOf text.now) lexemes.items) }
     ensures placed { IfErr result (IsPlacedIn text.now) }
 {
     match str::from_utf8(text) {
-        Ok(_) => tokens_from(alloc, text, start_of(text)),
+        Ok(_) => match lexemes_from(alloc, text, start_of(text)) {
+            Ok(lexemes) => {
+                let mut lexemes = lexemes;
+                name_package(&mut lexemes);
+                Ok(lexemes)
+            }
+            Err(error) => Err(error),
+        },
         Err(error) => Err(LexError::Refused(LexRefusal {
-            kind: BAD_UTF8,
+            kind: LexicalKind::BadUtf8,
             at: error.valid_up_to(),
         })),
     }

@@ -1,18 +1,19 @@
-//! Integer literals: at the front of a text, and their values.
+//! Integer literals and their values.
 
 ghost use Rattle.std.specs.Prelude.{◌≡◌, ◌≤◌, ◌+◌, ◌*◌, ◌^◌, ◌<◌, [], ◌∷◌};
-ghost use Rattle.rgo_lexer.specs.Numbers.{begins_with_digit, may_stand, are_digits};
+ghost use Rattle.rgo_lexer.specs.Numbers.{begins_with_digit, may_occur, are_digits};
 ghost use Rattle.rgo_lexer.specs.Numbers.{is_decimal, is_hexadecimal};
-ghost use Rattle.rgo_lexer.specs.Numbers.{value_behind, value_of, if_fits, number_of, number_at};
+ghost use Rattle.rgo_lexer.specs.Numbers.{value_after, value_of, if_fits, number_of, number_at};
 
 use crate::bytes::run_len;
 use crate::front::Front;
-use crate::tokens::{BAD_NUMBER, TokenKind};
+use crate::refusals::LexicalKind;
+use crate::terminals::Terminal;
 
-/// The greatest `int`.
+// The greatest `int`.
 const GREATEST: u64 = i64::MAX as u64;
 
-/// Whether the text begins with a digit in the base.
+// Whether the text begins with a digit in the base.
 fn begins_with_digit(text: &[u8], base: u32) -> bool
     requires low { 2 ≤ base }
     requires high { base ≤ 36 }
@@ -24,30 +25,30 @@ fn begins_with_digit(text: &[u8], base: u32) -> bool
     }
 }
 
-/// Whether the byte is a digit, or a `_` before one.
-fn may_stand(b: u8, behind: &[u8], base: u32) -> bool
+// Whether the byte is a digit, or a `_` before one.
+fn may_occur(b: u8, after: &[u8], base: u32) -> bool
     requires low { 2 ≤ base }
     requires high { base ≤ 36 }
-    ensures { result ≡ may_stand base b behind.now }
+    ensures { result ≡ may_occur base b after.now }
 {
-    char::from(b).is_digit(base) || b == b'_' && begins_with_digit(behind, base)
+    char::from(b).is_digit(base) || b == b'_' && begins_with_digit(after, base)
 }
 
-/// Whether these are digits, each perhaps with one `_` before it.
+// Whether these are digits, each perhaps with one `_` before it.
 fn are_digits(bytes: &[u8], base: u32) -> bool
     requires low { 2 ≤ base }
     requires high { base ≤ 36 }
     ensures { result ≡ are_digits base bytes.now }
 {
     for (i, b) in bytes.iter().enumerate() {
-        if !may_stand(*b, &bytes[i + 1..], base) {
+        if !may_occur(*b, &bytes[i + 1..], base) {
             return false;
         }
     }
     true
 }
 
-/// Whether the word is a decimal literal.
+// Whether the word is a decimal literal.
 fn is_decimal(word: &[u8]) -> bool
     ensures { result ≡ is_decimal word.now }
 {
@@ -58,7 +59,7 @@ fn is_decimal(word: &[u8]) -> bool
     }
 }
 
-/// Whether the word is a literal in base 16.
+// Whether the word is a literal in base 16.
 fn is_hexadecimal(word: &[u8]) -> bool
     ensures { result ≡ is_hexadecimal word.now }
 {
@@ -67,7 +68,7 @@ fn is_hexadecimal(word: &[u8]) -> bool
         && are_digits(&word[2..], 16)
 }
 
-/// The number with one digit more behind it, where that is not too large.
+// The number with one more digit appended, if that is not too large.
 fn with_digit(number: u64, digit: u32, base: u32) -> Option<u64>
     ensures { result ≡ if_fits (number * base + digit) }
 {
@@ -81,12 +82,12 @@ fn with_digit(number: u64, digit: u32, base: u32) -> Option<u64>
     }
 }
 
-/// The number with one byte more behind it; a `_` changes nothing.
+// The number with one more byte appended; a `_` changes nothing.
 fn with_byte(number: u64, b: u8, base: u32) -> Option<u64>
     requires low { 2 ≤ base }
     requires high { base ≤ 36 }
     requires fits { number < 2 ^ 63 }
-    ensures { result ≡ if_fits (value_behind base number (b ∷ [])) }
+    ensures { result ≡ if_fits (value_after base number (b ∷ [])) }
 {
     match char::from(b).to_digit(base) {
         Some(digit) => with_digit(number, digit, base),
@@ -94,7 +95,7 @@ fn with_byte(number: u64, b: u8, base: u32) -> Option<u64>
     }
 }
 
-/// What the digits write, where that is not too large.
+// The number that the digits write, if that is not too large.
 fn value_of(digits: &[u8], base: u32) -> Option<u64>
     requires low { 2 ≤ base }
     requires high { base ≤ 36 }
@@ -107,14 +108,12 @@ fn value_of(digits: &[u8], base: u32) -> Option<u64>
     Some(number)
 }
 
-/// The number that an integer literal writes (The Go Programming Language Specification, "Integer
-/// literals"): of the decimal literals and those in base 16 with `0x` or `0X`, each digit perhaps
-/// with a `_` before it.
-///
-/// None where the word is no such literal, or its number is above 9223372036854775807, the greatest
-/// `int`.
+// The number that an integer literal writes (The Go Programming Language Specification, "Integer
+// literals"): a decimal literal, or one in base 16 with `0x` or `0X`, each digit perhaps with a `_`
+// before it. None if the word is no such literal, or its number is above 9223372036854775807, the
+// greatest `int`.
 #[tactic(auto, unfolding(crate::specs::Numbers::number_of))]
-pub fn number_value(word: &[u8]) -> Option<u64>
+fn number_value(word: &[u8]) -> Option<u64>
     ensures { result ≡ number_of word.now }
 {
     if is_decimal(word) {
@@ -133,7 +132,7 @@ pub(crate) fn number(text: &[u8]) -> Front
 {
     let len = run_len(text);
     match number_value(&text[..len]) {
-        Some(_) => Front::Piece(TokenKind::Number, len),
-        None => Front::Refused(BAD_NUMBER, 0),
+        Some(value) => Front::Piece(Terminal::Number(value), len),
+        None => Front::Refused(LexicalKind::BadNumber, 0),
     }
 }

@@ -1,38 +1,86 @@
-//! Operators and punctuation at the front of a text.
+//! Operators and punctuation.
 
-ghost use Rattle.std.specs.Prelude.{◌≡◌, ◌≤◌, length, map, IsTrue};
-ghost use Rattle.rgo_lexer.specs.Operators.{longer_first, longest_front, operator_len, operator_at};
+ghost use Rattle.std.specs.Prelude.{◌≡◌, IsTrue};
+ghost use Rattle.rgo_lexer.specs.Operators.{longer_first, longest_front, operator_entry, operator_at};
+ghost use Rattle.rgo_lexer.specs.Words.{entries};
 
 use crate::front::Front;
-use crate::tokens::{BAD_BYTE, TokenKind};
+use crate::refusals::LexicalKind;
+use crate::terminals::Terminal;
+use rgo_ast::{AssignOp, BinaryOp, StepOp};
 
 // The Go Programming Language Specification, "Operators and punctuation"; the longer ones first.
-const OPERATORS: [&[u8]; 48] = [
-    b"<<=", b">>=", b"&^=", b"...", b"<<", b">>", b"&^", b"+=", b"-=", b"*=", b"/=", b"%=", b"&=",
-    b"|=", b"^=", b"&&", b"||", b"<-", b"++", b"--", b"==", b"!=", b"<=", b">=", b":=", b"+", b"-",
-    b"*", b"/", b"%", b"&", b"|", b"^", b"<", b">", b"=", b"!", b"~", b"(", b")", b"[", b"]", b"{",
-    b"}", b",", b";", b".", b":",
+const OPERATORS: [(&[u8], Terminal); 48] = [
+    (b"<<=", Terminal::Other),
+    (b">>=", Terminal::Other),
+    (b"&^=", Terminal::Other),
+    (b"...", Terminal::Other),
+    (b"<<", Terminal::Other),
+    (b">>", Terminal::Other),
+    (b"&^", Terminal::Other),
+    (b"+=", Terminal::Assign(AssignOp::Add)),
+    (b"-=", Terminal::Assign(AssignOp::Sub)),
+    (b"*=", Terminal::Assign(AssignOp::Mul)),
+    (b"/=", Terminal::Assign(AssignOp::Div)),
+    (b"%=", Terminal::Assign(AssignOp::Rem)),
+    (b"&=", Terminal::Other),
+    (b"|=", Terminal::Other),
+    (b"^=", Terminal::Other),
+    (b"&&", Terminal::Binary(BinaryOp::And)),
+    (b"||", Terminal::Binary(BinaryOp::Or)),
+    (b"<-", Terminal::Arrow),
+    (b"++", Terminal::Step(StepOp::Increment)),
+    (b"--", Terminal::Step(StepOp::Decrement)),
+    (b"==", Terminal::Binary(BinaryOp::Eq)),
+    (b"!=", Terminal::Binary(BinaryOp::Ne)),
+    (b"<=", Terminal::Binary(BinaryOp::Le)),
+    (b">=", Terminal::Binary(BinaryOp::Ge)),
+    (b":=", Terminal::Define),
+    (b"+", Terminal::Binary(BinaryOp::Add)),
+    (b"-", Terminal::Binary(BinaryOp::Sub)),
+    (b"*", Terminal::Binary(BinaryOp::Mul)),
+    (b"/", Terminal::Binary(BinaryOp::Div)),
+    (b"%", Terminal::Binary(BinaryOp::Rem)),
+    (b"&", Terminal::Ampersand),
+    (b"|", Terminal::Other),
+    (b"^", Terminal::Other),
+    (b"<", Terminal::Binary(BinaryOp::Lt)),
+    (b">", Terminal::Binary(BinaryOp::Gt)),
+    (b"=", Terminal::Assign(AssignOp::Plain)),
+    (b"!", Terminal::Bang),
+    (b"~", Terminal::Other),
+    (b"(", Terminal::OpenParen),
+    (b")", Terminal::CloseParen),
+    (b"[", Terminal::OpenBracket),
+    (b"]", Terminal::CloseBracket),
+    (b"{", Terminal::OpenBrace),
+    (b"}", Terminal::CloseBrace),
+    (b",", Terminal::Comma),
+    (b";", Terminal::Semicolon),
+    (b".", Terminal::Dot),
+    (b":", Terminal::Colon),
 ];
 
-/// The length of the first text in the table that the text begins with: of the longest one.
-fn first_len(table: &[&[u8]], text: &[u8]) -> usize
-    requires { IsTrue (longer_first (map (λ t. t.now) table.now)) }
-    ensures { result ≡ longest_front (map (λ t. t.now) table.now) text.now }
+// Of the words in a table, the first that the text begins with: its width and its terminal. In such
+// a table it is the longest.
+fn longest_front(table: &[(&[u8], Terminal)], text: &[u8]) -> Option<(usize, Terminal)>
+    requires { IsTrue (longer_first (entries table.now)) }
+    ensures { result ≡ longest_front (entries table.now) text.now }
 {
-    for operator in table {
-        if text.starts_with(operator) {
-            return operator.len();
+    for entry in table {
+        if text.starts_with(entry.0) {
+            return Some((entry.0.len(), entry.1));
         }
     }
-    0
+    None
 }
 
-/// The length of the longest operator that the text begins with, 0 where there is none.
-#[tactic(auto, unfolding(crate::specs::Operators::operator_len))]
-fn operator_len(text: &[u8]) -> usize
-    ensures { result ≡ operator_len text.now }
+// The longest operator that the text begins with: its width and its terminal.
+#[tactic(auto, unfolding(crate::specs::Operators::operator_entry))]
+fn operator_entry(text: &[u8]) -> Option<(usize, Terminal)>
+    ensures { result ≡ operator_entry text.now }
 {
-    first_len(&OPERATORS, text)
+    longest_front(&OPERATORS, text)
 }
 
 /// The operator at the front of a text that begins with no other form.
@@ -40,8 +88,8 @@ fn operator_len(text: &[u8]) -> usize
 pub(crate) fn operator(text: &[u8]) -> Front
     ensures { result ≡ operator_at text.now }
 {
-    match operator_len(text) {
-        0 => Front::Refused(BAD_BYTE, 0),
-        len => Front::Piece(TokenKind::Operator, len),
+    match operator_entry(text) {
+        Some((width, terminal)) => Front::Piece(terminal, width),
+        None => Front::Refused(LexicalKind::BadByte, 0),
     }
 }

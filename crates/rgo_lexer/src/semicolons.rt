@@ -1,43 +1,64 @@
-//! The `;` that a line's end inserts (The Go Programming Language Specification, "Semicolons").
+//! The `;` that the end of a line inserts (The Go Programming Language Specification,
+//! "Semicolons").
 
 ghost use Rattle.std.specs.Prelude.{◌≡◌, ◌++◌, IfErr, OnOk};
 ghost use Rattle.rgo_lexer.specs.Semicolons as semicolons;
 ghost use Rattle.rgo_lexer.specs.Semicolons.{inserted};
-ghost use Rattle.rgo_lexer.specs.declared.tokens.LexError.TheVariants.{NoMemory};
+ghost use Rattle.rgo_lexer.specs.declared.refusals.LexError.TheVariants.{NoMemory};
 
-use crate::tokens::{LexError, Span, Token, TokenKind};
+use crate::lexemes::Lexeme;
+use crate::refusals::LexError;
+use crate::terminals::Terminal;
 
-/// Whether a statement may end behind a token of that kind and those bytes.
+// Whether a statement may end after a token.
 #[tactic(auto, unfolding(crate::specs::Semicolons::may_end))]
-fn may_end(kind: TokenKind, word: &[u8]) -> bool
-    ensures { result ≡ semicolons.may_end kind word.now }
+fn may_end(terminal: Terminal, word: &[u8]) -> bool
+    ensures { result ≡ semicolons.may_end terminal word.now }
 {
-    match kind {
-        TokenKind::Word | TokenKind::Number | TokenKind::Text => true,
-        TokenKind::Keyword => matches!(word, b"break" | b"continue" | b"fallthrough" | b"return"),
-        TokenKind::Operator => matches!(word, b"++" | b"--" | b")" | b"]" | b"}"),
+    match terminal {
+        Terminal::Name
+        | Terminal::Main
+        | Terminal::New
+        | Terminal::Make
+        | Terminal::Number(_)
+        | Terminal::Text
+        | Terminal::Step(_)
+        | Terminal::CloseParen
+        | Terminal::CloseBracket
+        | Terminal::CloseBrace
+        | Terminal::Return
+        | Terminal::Break
+        | Terminal::Continue => true,
+        Terminal::Other => word == b"fallthrough".as_slice(),
+        _ => false,
     }
 }
 
 /// The place `end` where a token ends, if a statement may end there.
-pub(crate) fn open_behind(kind: TokenKind, word: &[u8], end: usize) -> Option<usize>
-    ensures { result ≡ semicolons.open_behind kind word.now end }
+pub(crate) fn ending_after(terminal: Terminal, word: &[u8], end: usize) -> Option<usize>
+    ensures { result ≡ semicolons.ending_after terminal word.now end }
 {
-    if may_end(kind, word) { Some(end) } else { None }
+    if may_end(terminal, word) {
+        Some(end)
+    } else {
+        None
+    }
 }
 
-/// Ends a line, of which the last token ended at `ending`, if a `;` may be inserted there.
-pub(crate) fn insert_semicolon(
-    tokens: &mut Vec<Token>,
+/// At the end of a line, appends a `;` at the place `ending` where the last token ended, if a
+/// statement may end there.
+pub(crate) fn insert_semicolon<'a>(
+    lexemes: &mut Vec<Lexeme<'a>>,
     ending: Option<usize>,
 ) -> Result<(), LexError>
-    ensures ok { OnOk result (tokens.new.items ≡ tokens.old.items ++ inserted ending) }
+    ensures ok { OnOk result (lexemes.new.items ≡ lexemes.old.items ++ inserted ending) }
     ensures memory { IfErr result (λ e. e ≡ NoMemory) }
 {
-    if let Some(end) = ending {
-        tokens.push(Token {
-            kind: TokenKind::Operator,
-            span: Span { start: end, end },
+    if let Some(at) = ending {
+        lexemes.push(Lexeme {
+            terminal: Terminal::Semicolon,
+            at,
+            word: b"",
         })?;
     }
     Ok(())

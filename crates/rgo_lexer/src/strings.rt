@@ -1,16 +1,16 @@
-//! String literals: at the front of a text, and their values.
+//! String literals and their values.
 
 ghost use Rattle.std.specs.Prelude.{◌≡◌, ◌≤◌, ◌+◌, ◌<◌, ◌^◌, length, map, IfOk, IfSome};
 ghost use Rattle.rgo_lexer.specs.Strings.{escaped, is_plain, BeginsWithItem, items, items_len};
 ghost use Rattle.rgo_lexer.specs.Strings.{item_value, string_of, string_at, string_before};
-ghost use Rattle.rgo_lexer.specs.Tokens.{bytes_in, IsTextIn};
 
 use crate::front::Front;
-use crate::tokens::{BAD_ESCAPE, OPEN_STRING, Span, TokenKind};
+use crate::refusals::LexicalKind;
+use crate::terminals::Terminal;
 use std::alloc::{AllocError, Global};
 
-/// The byte that an escape's letter stands for (The Go Programming Language Specification, "Rune
-/// literals").
+// The byte that an escape's letter stands for (The Go Programming Language Specification, "Rune
+// literals").
 fn escaped(letter: u8) -> Option<u8>
     ensures { result ≡ escaped letter }
 {
@@ -28,14 +28,14 @@ fn escaped(letter: u8) -> Option<u8>
     }
 }
 
-/// Whether the byte stands for itself in a string.
+// Whether the byte stands for itself in a string.
 fn is_plain(b: u8) -> bool
     ensures { result ≡ is_plain b }
 {
     !matches!(b, b'"' | b'\\' | b'\n')
 }
 
-/// The item at the front of a string's inside: its width, and the byte that it stands for.
+// The item at the front of a string's inside: its width, and the byte that it stands for.
 fn item(text: &[u8]) -> Option<(usize, u8)>
     ensures value { BeginsWithItem text.now result }
     ensures within { IfSome result (λ item. (0 < item.0) × (item.0 ≤ length text.now)) }
@@ -52,7 +52,7 @@ fn item(text: &[u8]) -> Option<(usize, u8)>
     Some((2, byte))
 }
 
-/// How many bytes the items at the front have.
+// The number of bytes of the items at the front.
 fn items_len(text: &[u8]) -> usize
     ensures value { result ≡ items_len text.now }
     ensures within { result ≤ length text.now }
@@ -64,18 +64,18 @@ fn items_len(text: &[u8]) -> usize
     at
 }
 
-/// A string whose items have `len` bytes, by what stands behind them.
-fn string_before(len: usize, behind: &[u8]) -> Front
+// A string whose items have `len` bytes, by what follows them.
+fn string_before(len: usize, after: &[u8]) -> Front
     requires { len < 2 ^ 63 }
-    ensures { result ≡ string_before len behind.now }
+    ensures { result ≡ string_before len after.now }
 {
-    match behind.split_first() {
-        None => Front::Refused(OPEN_STRING, 0),
-        Some((b'"', _)) => Front::Piece(TokenKind::Text, len + 2),
+    match after.split_first() {
+        None => Front::Refused(LexicalKind::OpenString, 0),
+        Some((b'"', _)) => Front::Piece(Terminal::Text, len + 2),
         Some((first, rest)) => if *first == b'\n' || rest.is_empty() {
-            Front::Refused(OPEN_STRING, 0)
+            Front::Refused(LexicalKind::OpenString, 0)
         } else {
-            Front::Refused(BAD_ESCAPE, len + 1)
+            Front::Refused(LexicalKind::BadEscape, len + 1)
         },
     }
 }
@@ -90,7 +90,7 @@ pub(crate) fn string(text: &[u8]) -> Front
     string_before(len, &text[len + 1..])
 }
 
-/// The bytes that the items at the front stand for.
+// The bytes that the items at the front stand for.
 fn item_values(alloc: Global, text: &[u8]) -> Result<Vec<u8>, AllocError>
     ensures { IfOk result (λ values. values.items ≡ map item_value (items text.now)) }
 {
@@ -103,7 +103,8 @@ fn item_values(alloc: Global, text: &[u8]) -> Result<Vec<u8>, AllocError>
     Ok(values)
 }
 
-/// The bytes that a string literal stands for.
+/// The bytes that a string literal stands for (The Go Programming Language Specification, "String
+/// literals").
 #[tactic(auto, unfolding(crate::specs::Strings::string_of))]
 pub fn unquoted(alloc: Global, literal: &[u8]) -> Result<Vec<u8>, AllocError>
     ensures { IfOk result (λ value. value.items ≡ string_of literal.now) }
@@ -112,13 +113,4 @@ pub fn unquoted(alloc: Global, literal: &[u8]) -> Result<Vec<u8>, AllocError>
         Some((_, inside)) => item_values(alloc, inside),
         None => Ok(Vec::new(alloc)),
     }
-}
-
-/// The bytes that the string literal at the span stands for (The Go Programming Language
-/// Specification, "String literals").
-pub fn string_value(alloc: Global, text: &[u8], span: Span) -> Result<Vec<u8>, AllocError>
-    requires { IsTextIn text.now span }
-    ensures { IfOk result (λ value. value.items ≡ string_of (bytes_in text.now span)) }
-{
-    unquoted(alloc, &text[span.start..span.end])
 }

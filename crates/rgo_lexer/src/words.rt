@@ -1,47 +1,63 @@
-//! Words at the front of a text: identifiers and keywords.
+//! Words: names and keywords.
 
 ghost use Rattle.std.specs.Prelude.{◌≡◌};
 ghost use Rattle.rgo_lexer.specs.Words as words;
+ghost use Rattle.rgo_lexer.specs.Words.{entries, looked_up, word_terminal};
 
 use crate::bytes::run_len;
 use crate::front::Front;
-use crate::tokens::TokenKind;
+use crate::terminals::Terminal;
 
-// The Go Programming Language Specification, "Keywords".
-const KEYWORDS: [&[u8]; 25] = [
-    b"break",
-    b"case",
-    b"chan",
-    b"const",
-    b"continue",
-    b"default",
-    b"defer",
-    b"else",
-    b"fallthrough",
-    b"for",
-    b"func",
-    b"go",
-    b"goto",
-    b"if",
-    b"import",
-    b"interface",
-    b"map",
-    b"package",
-    b"range",
-    b"return",
-    b"select",
-    b"struct",
-    b"switch",
-    b"type",
-    b"var",
+// The words that are not names: the keywords (The Go Programming Language Specification,
+// "Keywords"), and the two functions whose first operand is a type.
+const WORDS: [(&[u8], Terminal); 27] = [
+    (b"break", Terminal::Break),
+    (b"case", Terminal::Other),
+    (b"chan", Terminal::Chan),
+    (b"const", Terminal::Other),
+    (b"continue", Terminal::Continue),
+    (b"default", Terminal::Other),
+    (b"defer", Terminal::Other),
+    (b"else", Terminal::Else),
+    (b"fallthrough", Terminal::Other),
+    (b"for", Terminal::For),
+    (b"func", Terminal::Func),
+    (b"go", Terminal::Go),
+    (b"goto", Terminal::Other),
+    (b"if", Terminal::If),
+    (b"import", Terminal::Import),
+    (b"interface", Terminal::Other),
+    (b"map", Terminal::Other),
+    (b"package", Terminal::Package),
+    (b"range", Terminal::Other),
+    (b"return", Terminal::Return),
+    (b"select", Terminal::Other),
+    (b"struct", Terminal::Struct),
+    (b"switch", Terminal::Other),
+    (b"type", Terminal::TypeWord),
+    (b"var", Terminal::Var),
+    (b"new", Terminal::New),
+    (b"make", Terminal::Make),
 ];
 
-/// Whether the word is one of Go's keywords.
-#[tactic(auto, unfolding(crate::specs::Words::is_keyword))]
-fn is_keyword(word: &[u8]) -> bool
-    ensures { result ≡ words.is_keyword word.now }
+// The terminal of a word in a table, or the default.
+fn looked_up(table: &[(&[u8], Terminal)], default: Terminal, word: &[u8]) -> Terminal
+    ensures { result ≡ looked_up (entries table.now) default word.now }
 {
-    KEYWORDS.contains(&word)
+    for entry in table {
+        if word == entry.0 {
+            return entry.1;
+        }
+    }
+    default
+}
+
+// The terminal of a word.
+#[tactic(auto, unfolding(crate::specs::Words::word_terminal))]
+fn word_terminal(word: &[u8]) -> Terminal
+    ensures { result ≡ word_terminal word.now }
+{
+    looked_up(&WORDS, Terminal::Name, word)
 }
 
 /// The word at the front of a text that begins with a letter.
@@ -50,10 +66,5 @@ pub(crate) fn word(text: &[u8]) -> Front
     ensures { result ≡ words.word_at text.now }
 {
     let width = run_len(text);
-    let kind = if is_keyword(&text[..width]) {
-        TokenKind::Keyword
-    } else {
-        TokenKind::Word
-    };
-    Front::Piece(kind, width)
+    Front::Piece(word_terminal(&text[..width]), width)
 }

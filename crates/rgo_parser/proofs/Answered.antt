@@ -3,7 +3,7 @@ use Rattle.std.proofs.Common.{◌≡◌, ℕ, ◌+◌, ◌<◌, ◌≤◌, ◌�
 use Rattle.std.proofs.lemmas.Bool.{cases_lt}
 use Rattle.rgo_lexer.specs.declared.tokens.Token.{Token}
 use Rattle.rgo_ast.specs.Tree.{Import, Decl, Program}
-use Rattle.rgo_grammar.specs.Terms.{Term, terms}
+use Rattle.rgo_lexer.specs.Lexemes.{Lexeme, terms}
 use Rattle.rgo_grammar.specs.Grammar.{IsProgram}
 use Rattle.rgo_grammar.specs.FirstBad.{IsFirstBad}
 use Rattle.rgo_grammar.specs.Nesting.{deep_at, NotBefore}
@@ -28,7 +28,7 @@ one_tree text tokens p q h g =
     same_made p.imports q.imports p.decls q.decls p.end q.end e.0 e.1 (h.ended ∙ sym g.ended)
 
 -- a token with which no program goes on is not behind one that nests too deep
-not_both : (l : List Term) (k d : ℕ) → IsSyntax l k → IsTooDeep l d → ⊥
+not_both : (l : List Lexeme) (k d : ℕ) → IsSyntax l k → IsTooDeep l d → ⊥
 not_both l k d h g =
     let before : k ≤ d = subst (λ o. NotBefore o k) g.deep h.shallow in
     h.bad.next (omega (arith, before, deep_within l d g.deep)) (less_begins (k + 1) (d + 1) l (omega (arith, before)) g.begun)

@@ -2,8 +2,8 @@
 use Rattle.std.proofs.Common.{◌≡◌, ℕ, ◌+◌, ◌-◌, ◌*◌, ◌≤◌, List, length, ap, ◌∙◌, arith}
 use Rattle.std.proofs.lemmas.List.{length-map}
 use Rattle.rgo_ast.specs.Tree.{Import, Decl}
-use Rattle.rgo_grammar.specs.declared.terms.Term.{Term as CodeTerm}
-use Rattle.rgo_grammar.specs.Terms.{Term}
+use Rattle.rgo_grammar.specs.declared.terms.Lexeme.{Lexeme as CodeTerm}
+use Rattle.rgo_lexer.specs.Lexemes.{Lexeme}
 use Rattle.rgo_grammar.specs.Grammar.{IsProgram}
 use Rattle.rgo_grammar.specs.FirstBad.{IsFirstBad}
 use Rattle.rgo_grammar.specs.Reading.{Done, Failed, At, Starving}
@@ -14,7 +14,7 @@ use Rattle.rgo_grammar.proofs.Whole.{read, parsed, first_bad, rest_within, never
 turns : (text : List ℕ) (terms : List CodeTerm) → read (seen_all text terms) ≡ program (4 * length terms + 4) (seen_all text terms)
 turns text terms = ap (λ n. program (4 * n + 4) (seen_all text terms)) (length-map terms (seen text))
 
-pub parsed_as : (text : List ℕ) (terms : List CodeTerm) (imports : List Import) (decls : List Decl) (w : List Term)
+pub parsed_as : (text : List ℕ) (terms : List CodeTerm) (imports : List Import) (decls : List Decl) (w : List Lexeme)
     → program (4 * length terms + 4) (seen_all text terms) ≡ Done (imports, decls) w → IsProgram (seen_all text terms) imports decls
 parsed_as text terms imports decls w e = parsed (seen_all text terms) (imports, decls) w (turns text terms ∙ e)
 

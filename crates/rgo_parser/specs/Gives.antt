@@ -1,7 +1,7 @@
 -- What a reader answered is what reading gives, unless memory ran out.
 use Rattle.std.specs.Prelude.{◌≡◌, ◌≢◌, ℕ, List, [], Option, Some, None, Result, Ok, Err}
 use Rattle.rgo_ast.specs.declared.names.Ident.{Ident}
-use Rattle.rgo_grammar.specs.Terms.{Leaf, Term}
+use Rattle.rgo_lexer.specs.Lexemes.{Leaf, Lexeme}
 use Rattle.rgo_grammar.specs.Reading.{Read, Done, Failed, Stop, At, Starving}
 use Rattle.rgo_grammar.specs.declared.terms.Item.{Item}
 use Rattle.rgo_grammar.specs.Seen.{item_of, seen_all}
@@ -13,7 +13,7 @@ stop_of text fault.NoMemory = Starving
 stop_of text (fault.Syntax rest) = At (seen_all text rest.now)
 stop_of text fault.Starved = Starving
 
-abbrev pub Gives : {X A : Type 0} → List ℕ → (X → A × List Term) → Result X Fault → Read A → Type 0
+abbrev pub Gives : {X A : Type 0} → List ℕ → (X → A × List Lexeme) → Result X Fault → Read A → Type 0
 Gives text view (Ok x) read = read ≡ Done (view x).0 (view x).1
 Gives text view (Err e) read = e ≢ fault.NoMemory → read ≡ Failed (stop_of text e)
 

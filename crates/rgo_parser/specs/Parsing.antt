@@ -3,7 +3,7 @@
 use Rattle.std.specs.Prelude.{◌≡◌, ℕ, ◌+◌, List, length, take, None, Some}
 use Rattle.rgo_lexer.specs.declared.tokens.Token.{Token}
 use Rattle.rgo_ast.specs.Tree.{Program}
-use Rattle.rgo_grammar.specs.Terms.{Term, terms}
+use Rattle.rgo_lexer.specs.Lexemes.{Lexeme, terms}
 use Rattle.rgo_grammar.specs.Grammar.{IsProgram}
 use Rattle.rgo_grammar.specs.FirstBad.{Begins, IsFirstBad}
 use Rattle.rgo_grammar.specs.Nesting.{deep_at, NotBefore}
@@ -25,12 +25,12 @@ pub record IsParsed (text : List ℕ) (tokens : List Token) (program : Program) 
   pub shallow : deep_at limit (terms text tokens) ≡ None
 
 -- no program goes on with the k-th, and none before it nests too deep
-pub record IsSyntax (l : List Term) (k : ℕ) : Type 0 where
+pub record IsSyntax (l : List Lexeme) (k : ℕ) : Type 0 where
   pub bad : IsFirstBad l k
   pub shallow : NotBefore (deep_at limit l) k
 
 -- the k-th is the first that nests too deep, and a program begins with those up to it
-pub record IsTooDeep (l : List Term) (k : ℕ) : Type 0 where
+pub record IsTooDeep (l : List Lexeme) (k : ℕ) : Type 0 where
   pub deep : deep_at limit l ≡ Some k
   pub begun : Begins (take (k + 1) l)
 
@@ -44,6 +44,6 @@ Fails text tokens error.NoMemory = Unit {0}
 Fails text tokens (error.Refused r) = Refuses text tokens r
 
 -- why a list has no tree: no program goes on with its k-th, unless memory ran out
-abbrev pub StopsAt : List Term → Stopped → Type 0
+abbrev pub StopsAt : List Lexeme → Stopped → Type 0
 StopsAt l stopped.NoMemory = Unit {0}
 StopsAt l (stopped.At k) = IsFirstBad l k

@@ -8,7 +8,7 @@ ghost use Rattle.rgo_grammar.specs.Reading.{first_of, several};
 ghost use Rattle.rgo_grammar.specs.ReadTypes as type_reading;
 ghost use Rattle.rgo_grammar.specs.ReadDecls as reading;
 ghost use Rattle.rgo_grammar.specs.Seen.{item_of, seen_all};
-ghost use Rattle.rgo_grammar.specs.declared.terminals.Terminal.TheVariants as terminal;
+ghost use Rattle.rgo_lexer.specs.declared.terminals.Terminal.TheVariants as terminal;
 ghost use Rattle.rgo_parser.specs.Gives.{Gives};
 
 use crate::lists::{Listed, separated};
@@ -16,12 +16,12 @@ use crate::reads::{Fault, Reads, name, token};
 use crate::statements::block;
 use crate::types::{binding, bindings, ty};
 use rgo_ast::{Binding, Decl, Function, Import, ImportPath, Name, TypeExpr, TypeSpec};
-use rgo_grammar::{Term, Terminal, first};
+use rgo_grammar::{Lexeme, Terminal, first};
 use rgo_lexer::unquoted;
 use std::alloc::Global;
 
 // The path of an import.
-fn import_path<'a>(alloc: Global, text: &'a [u8], tokens: &'a [Term]) -> Reads<'a, ImportPath>
+fn import_path<'a>(alloc: Global, text: &'a [u8], tokens: &'a [Lexeme]) -> Reads<'a, ImportPath>
     ensures { Gives text.now (λ x. (x.0, seen_all text.now x.1.now)) result (reading.import_path (seen_all text.now tokens.now)) }
 {
     let (item, rest) = token(text, Terminal::Text, tokens)?;
@@ -37,7 +37,7 @@ fn import_paths<'a>(
     alloc: Global,
     text: &'a [u8],
     turns: usize,
-    tokens: &'a [Term],
+    tokens: &'a [Lexeme],
 ) -> Listed<'a, ImportPath>
     ensures { Gives text.now (λ x. ((x.0.0.items, (item_of x.0.1).leaf), seen_all text.now x.1.now)) result
         (several terminal.Semicolon terminal.CloseParen reading.import_path turns [] (seen_all text.now tokens.now)) }
@@ -67,7 +67,7 @@ fn import_group<'a>(
     alloc: Global,
     text: &'a [u8],
     turns: usize,
-    tokens: &'a [Term],
+    tokens: &'a [Lexeme],
 ) -> Reads<'a, Vec<ImportPath>>
     ensures { Gives text.now (λ x. (x.0.items, seen_all text.now x.1.now)) result
         (reading.group reading.import_path turns (seen_all text.now tokens.now)) }
@@ -91,7 +91,7 @@ pub(crate) fn import<'a>(
     text: &'a [u8],
     turns: usize,
     at: usize,
-    tokens: &'a [Term],
+    tokens: &'a [Lexeme],
 ) -> Reads<'a, Import>
     ensures { Gives text.now (λ x. (import_of x.0, seen_all text.now x.1.now)) result
         (reading.import_decl turns (record { at = at; word = [] }) (seen_all text.now tokens.now)) }
@@ -105,7 +105,7 @@ fn type_spec<'a>(
     alloc: Global,
     text: &'a [u8],
     turns: usize,
-    tokens: &'a [Term],
+    tokens: &'a [Lexeme],
 ) -> Reads<'a, TypeSpec>
     ensures { Gives text.now (λ x. (type_spec_of x.0, seen_all text.now x.1.now)) result
         (reading.type_spec turns (seen_all text.now tokens.now)) }
@@ -129,7 +129,7 @@ fn type_specs<'a>(
     alloc: Global,
     text: &'a [u8],
     turns: usize,
-    tokens: &'a [Term],
+    tokens: &'a [Lexeme],
 ) -> Listed<'a, TypeSpec>
     ensures { Gives text.now (λ x. ((map type_spec_of x.0.0.items, (item_of x.0.1).leaf), seen_all text.now x.1.now)) result
         (several terminal.Semicolon terminal.CloseParen (reading.type_spec turns) turns [] (seen_all text.now tokens.now)) }
@@ -159,7 +159,7 @@ fn type_group<'a>(
     alloc: Global,
     text: &'a [u8],
     turns: usize,
-    tokens: &'a [Term],
+    tokens: &'a [Lexeme],
 ) -> Reads<'a, Vec<TypeSpec>>
     ensures { Gives text.now (λ x. (map type_spec_of x.0.items, seen_all text.now x.1.now)) result
         (reading.group (reading.type_spec turns) turns (seen_all text.now tokens.now)) }
@@ -182,7 +182,7 @@ fn var_group<'a>(
     alloc: Global,
     text: &'a [u8],
     turns: usize,
-    tokens: &'a [Term],
+    tokens: &'a [Lexeme],
 ) -> Reads<'a, Vec<Binding>>
     ensures { Gives text.now (λ x. (map binding_of x.0.items, seen_all text.now x.1.now)) result
         (reading.group (type_reading.binding turns) turns (seen_all text.now tokens.now)) }
@@ -212,7 +212,7 @@ fn result_type<'a>(
     alloc: Global,
     text: &'a [u8],
     turns: usize,
-    tokens: &'a [Term],
+    tokens: &'a [Lexeme],
 ) -> Reads<'a, Option<TypeExpr>>
     ensures { Gives text.now (λ x. (option_map type_expr_of x.0, seen_all text.now x.1.now)) result
         (reading.result_on turns (seen_all text.now tokens.now) (first_of (seen_all text.now tokens.now))) }
@@ -233,7 +233,7 @@ fn func<'a>(
     text: &'a [u8],
     turns: usize,
     at: usize,
-    tokens: &'a [Term],
+    tokens: &'a [Lexeme],
 ) -> Reads<'a, Function>
     ensures { Gives text.now (λ x. (tree.Func (function_of x.0), seen_all text.now x.1.now)) result
         (reading.func turns (record { at = at; word = [] }) (seen_all text.now tokens.now)) }
@@ -266,7 +266,7 @@ pub(crate) fn decl<'a>(
     alloc: Global,
     text: &'a [u8],
     turns: usize,
-    tokens: &'a [Term],
+    tokens: &'a [Lexeme],
 ) -> Reads<'a, Decl>
     ensures { Gives text.now (λ x. (decl_of x.0, seen_all text.now x.1.now)) result
         (reading.decl_on turns (seen_all text.now tokens.now) (first_of (seen_all text.now tokens.now))) }

@@ -8,14 +8,14 @@ ghost use Rattle.rgo_grammar.specs.Grammar.{level};
 ghost use Rattle.rgo_grammar.specs.Reading as lists;
 ghost use Rattle.rgo_grammar.specs.ReadExprs as reading;
 ghost use Rattle.rgo_grammar.specs.Seen.{item_of, seen_all};
-ghost use Rattle.rgo_grammar.specs.declared.terminals.Terminal.TheVariants as terminal;
+ghost use Rattle.rgo_lexer.specs.declared.terminals.Terminal.TheVariants as terminal;
 ghost use Rattle.rgo_parser.specs.Gives.{Gives, leaf_of, leaf_at};
 
 use crate::lists::{Listed, separated};
 use crate::reads::{Fault, Reads, ident_of, name, token};
 use crate::types::ty;
 use rgo_ast::{BinaryOp, Element, Expr, Ident, TypeExpr, UnaryOp};
-use rgo_grammar::{Item, Term, Terminal, first};
+use rgo_grammar::{Item, Lexeme, Terminal, first};
 use rgo_lexer::unquoted;
 use std::alloc::{AllocError, Global};
 
@@ -54,7 +54,7 @@ pub(crate) fn expr<'a>(
     header: bool,
     turns: usize,
     least: u8,
-    tokens: &'a [Term],
+    tokens: &'a [Lexeme],
 ) -> Reads<'a, Expr>
     ensures { Gives text.now (λ x. (expr_of x.0, seen_all text.now x.1.now)) result
         (reading.expr header turns least (seen_all text.now tokens.now)) }
@@ -75,7 +75,7 @@ fn climb<'a>(
     turns: usize,
     least: u8,
     left: Expr,
-    tokens: &'a [Term],
+    tokens: &'a [Lexeme],
 ) -> Reads<'a, Expr>
     ensures { Gives text.now (λ x. (expr_of x.0, seen_all text.now x.1.now)) result
         (reading.climb header turns least (expr_of left) (seen_all text.now tokens.now)) }
@@ -104,7 +104,7 @@ fn unary<'a>(
     text: &'a [u8],
     header: bool,
     turns: usize,
-    tokens: &'a [Term],
+    tokens: &'a [Lexeme],
 ) -> Reads<'a, Expr>
     ensures { Gives text.now (λ x. (expr_of x.0, seen_all text.now x.1.now)) result
         (reading.unary header turns (seen_all text.now tokens.now)) }
@@ -171,7 +171,7 @@ fn signed<'a>(
     turns: usize,
     op: UnaryOp,
     at: usize,
-    tokens: &'a [Term],
+    tokens: &'a [Lexeme],
 ) -> Reads<'a, Expr>
     ensures { Gives text.now (λ x. (expr_of x.0, seen_all text.now x.1.now)) result
         (reading.signed (reading.unary header turns) op (leaf_at at) (seen_all text.now tokens.now)) }
@@ -181,7 +181,7 @@ fn signed<'a>(
 }
 
 #[cycle(expressions)]
-fn primary<'a>(alloc: Global, text: &'a [u8], turns: usize, tokens: &'a [Term]) -> Reads<'a, Expr>
+fn primary<'a>(alloc: Global, text: &'a [u8], turns: usize, tokens: &'a [Lexeme]) -> Reads<'a, Expr>
     ensures { Gives text.now (λ x. (expr_of x.0, seen_all text.now x.1.now)) result
         (reading.primary turns (seen_all text.now tokens.now)) }
 {
@@ -194,7 +194,7 @@ fn primary<'a>(alloc: Global, text: &'a [u8], turns: usize, tokens: &'a [Term]) 
 
 // What a primary expression begins with.
 #[cycle(expressions)]
-fn operand<'a>(alloc: Global, text: &'a [u8], turns: usize, tokens: &'a [Term]) -> Reads<'a, Expr>
+fn operand<'a>(alloc: Global, text: &'a [u8], turns: usize, tokens: &'a [Lexeme]) -> Reads<'a, Expr>
     ensures { Gives text.now (λ x. (expr_of x.0, seen_all text.now x.1.now)) result
         (reading.operand turns (reading.expr false turns 1) (seen_all text.now tokens.now)) }
 {
@@ -222,7 +222,7 @@ fn parens<'a>(
     text: &'a [u8],
     turns: usize,
     at: usize,
-    tokens: &'a [Term],
+    tokens: &'a [Lexeme],
 ) -> Reads<'a, Expr>
     ensures { Gives text.now (λ x. (expr_of x.0, seen_all text.now x.1.now)) result
         (reading.parens (reading.expr false turns 1) (leaf_at at) (seen_all text.now tokens.now)) }
@@ -233,7 +233,7 @@ fn parens<'a>(
 }
 
 // Behind `new`.
-fn new_at<'a>(alloc: Global, text: &'a [u8], at: usize, tokens: &'a [Term]) -> Reads<'a, Expr>
+fn new_at<'a>(alloc: Global, text: &'a [u8], at: usize, tokens: &'a [Lexeme]) -> Reads<'a, Expr>
     ensures { Gives text.now (λ x. (expr_of x.0, seen_all text.now x.1.now)) result
         (reading.new_at (leaf_at at) (seen_all text.now tokens.now)) }
 {
@@ -250,7 +250,7 @@ fn made<'a>(
     text: &'a [u8],
     turns: usize,
     at: usize,
-    tokens: &'a [Term],
+    tokens: &'a [Lexeme],
 ) -> Reads<'a, Expr>
     ensures { Gives text.now (λ x. (expr_of x.0, seen_all text.now x.1.now)) result
         (reading.made turns (reading.expr false turns 1) (leaf_at at) (seen_all text.now tokens.now)) }
@@ -276,7 +276,7 @@ fn made<'a>(
 }
 
 // The end of a `make`, perhaps with a comma before it.
-fn make_end<'a>(text: &'a [u8], tokens: &'a [Term]) -> Reads<'a, Item<'a>>
+fn make_end<'a>(text: &'a [u8], tokens: &'a [Lexeme]) -> Reads<'a, Item<'a>>
     ensures { Gives text.now (λ x. ((item_of x.0).leaf, seen_all text.now x.1.now)) result
         (reading.make_end (seen_all text.now tokens.now)) }
 {
@@ -298,7 +298,7 @@ fn sized<'a>(
     turns: usize,
     element: TypeExpr,
     at: usize,
-    tokens: &'a [Term],
+    tokens: &'a [Lexeme],
 ) -> Reads<'a, Expr>
     ensures { Gives text.now (λ x. (expr_of x.0, seen_all text.now x.1.now)) result
         (reading.sized (reading.expr false turns 1) (type_expr_of element) (leaf_at at) (seen_all text.now tokens.now)) }
@@ -321,7 +321,7 @@ fn capacity<'a>(
     turns: usize,
     element: TypeExpr,
     at: usize,
-    tokens: &'a [Term],
+    tokens: &'a [Lexeme],
 ) -> Reads<'a, Expr>
     ensures { Gives text.now (λ x. (expr_of x.0, seen_all text.now x.1.now)) result
         (reading.capacity (reading.expr false turns 1) (type_expr_of element) (leaf_at at) (seen_all text.now tokens.now)) }
@@ -347,7 +347,7 @@ fn post<'a>(
     text: &'a [u8],
     turns: usize,
     value: Expr,
-    tokens: &'a [Term],
+    tokens: &'a [Lexeme],
 ) -> Reads<'a, Expr>
     ensures { Gives text.now (λ x. (expr_of x.0, seen_all text.now x.1.now)) result
         (reading.post turns (expr_of value) (seen_all text.now tokens.now)) }
@@ -386,7 +386,7 @@ pub(crate) fn exprs<'a>(
     text: &'a [u8],
     turns: usize,
     closer: Terminal,
-    tokens: &'a [Term],
+    tokens: &'a [Lexeme],
 ) -> Listed<'a, Expr>
     ensures { Gives text.now (λ x. ((map expr_of x.0.0.items, (item_of x.0.1).leaf), seen_all text.now x.1.now)) result
         (reading.exprs closer turns (reading.expr false turns 1) (seen_all text.now tokens.now)) }
@@ -412,7 +412,7 @@ pub(crate) fn exprs<'a>(
 }
 
 // Whether a name and a `:` come first.
-fn is_keyed(text: &[u8], tokens: &[Term]) -> bool
+fn is_keyed(text: &[u8], tokens: &[Lexeme]) -> bool
     ensures { result ≡ reading.is_keyed (seen_all text.now tokens.now) }
 {
     match first(text, tokens) {
@@ -433,7 +433,7 @@ fn literal<'a>(
     text: &'a [u8],
     turns: usize,
     at: usize,
-    tokens: &'a [Term],
+    tokens: &'a [Lexeme],
 ) -> Reads<'a, Expr>
     ensures { Gives text.now (λ x. (expr_of x.0, seen_all text.now x.1.now)) result
         (reading.literal turns (reading.expr false turns 1) (leaf_at at) (seen_all text.now tokens.now)) }
@@ -453,7 +453,7 @@ fn element<'a>(
     alloc: Global,
     text: &'a [u8],
     turns: usize,
-    tokens: &'a [Term],
+    tokens: &'a [Lexeme],
 ) -> Reads<'a, Element>
     ensures { Gives text.now (λ x. (element_of x.0, seen_all text.now x.1.now)) result
         (reading.element (reading.expr false turns 1) (seen_all text.now tokens.now)) }
@@ -471,7 +471,7 @@ fn elements<'a>(
     text: &'a [u8],
     turns: usize,
     mut found: Vec<Element>,
-    tokens: &'a [Term],
+    tokens: &'a [Lexeme],
 ) -> Listed<'a, Element>
     ensures { Gives text.now (λ x. ((map element_of x.0.0.items, (item_of x.0.1).leaf), seen_all text.now x.1.now)) result
         (reading.elements_from turns (reading.expr false turns 1) (map element_of found.items) (seen_all text.now tokens.now)) }
@@ -503,7 +503,7 @@ fn keyed<'a>(
     turns: usize,
     base: Ident,
     at: usize,
-    tokens: &'a [Term],
+    tokens: &'a [Lexeme],
 ) -> Reads<'a, Expr>
     ensures { Gives text.now (λ x. (expr_of x.0, seen_all text.now x.1.now)) result
         (reading.keyed turns (reading.expr false turns 1) (leaf_at at) (leaf_of base) (seen_all text.now tokens.now)) }

@@ -13,7 +13,7 @@ ghost use Rattle.rgo_parser.specs.Statements.{head_of};
 use crate::reads::{Fault, Reads, token};
 use crate::simple::{boxed, defining, valued};
 use rgo_ast::{Expr, Stmt};
-use rgo_grammar::{Term, Terminal, first};
+use rgo_grammar::{Lexeme, Terminal, first};
 use std::alloc::Global;
 
 /// What stands behind `if` or `for`, up to its block or its first `;`: a condition before a block, or a statement, which may be
@@ -25,7 +25,7 @@ pub(crate) enum Head {
 }
 
 // The end of a head, behind its statement.
-fn head_end<'a>(alloc: Global, text: &'a [u8], stmt: Stmt, tokens: &'a [Term]) -> Reads<'a, Head>
+fn head_end<'a>(alloc: Global, text: &'a [u8], stmt: Stmt, tokens: &'a [Lexeme]) -> Reads<'a, Head>
     ensures { Gives text.now (λ x. (head_of x.0, seen_all text.now x.1.now)) result
         (reading.head_end_on (stmt_of stmt) (seen_all text.now tokens.now) (first_of (seen_all text.now tokens.now))) }
 {
@@ -47,7 +47,7 @@ pub(crate) fn heading<'a>(
     alloc: Global,
     text: &'a [u8],
     turns: usize,
-    tokens: &'a [Term],
+    tokens: &'a [Lexeme],
 ) -> Reads<'a, Head>
     ensures { Gives text.now (λ x. (head_of x.0, seen_all text.now x.1.now)) result
         (reading.head (reading_exprs.expr true turns 1) (seen_all text.now tokens.now)) }
@@ -69,7 +69,7 @@ pub(crate) fn condition<'a>(
     alloc: Global,
     text: &'a [u8],
     turns: usize,
-    tokens: &'a [Term],
+    tokens: &'a [Lexeme],
 ) -> Reads<'a, Option<Box<Expr>>>
     ensures { Gives text.now (λ x. (boxed_expr_of x.0, seen_all text.now x.1.now)) result
         (reading.condition_on (reading_exprs.expr true turns 1) (seen_all text.now tokens.now)
@@ -93,7 +93,7 @@ pub(crate) fn post<'a>(
     alloc: Global,
     text: &'a [u8],
     turns: usize,
-    tokens: &'a [Term],
+    tokens: &'a [Lexeme],
 ) -> Reads<'a, Option<Box<Stmt>>>
     ensures { Gives text.now (λ x. (boxed_stmt_of x.0, seen_all text.now x.1.now)) result
         (reading.step_on (reading_exprs.expr true turns 1) (seen_all text.now tokens.now)

@@ -8,7 +8,7 @@ ghost use Rattle.rgo_parser.specs.Lists as lists;
 ghost use Rattle.rgo_grammar.specs.Reading.{Done, Failed, At};
 
 use crate::reads::Reads;
-use rgo_grammar::{Item, Term, Terminal, first};
+use rgo_grammar::{Item, Lexeme, Terminal, first};
 
 /// Items of a list, and the token that closed it.
 pub(crate) type Listed<'a, T> = Reads<'a, (Vec<T>, Item<'a>)>;
@@ -19,8 +19,8 @@ pub(crate) fn separated<'a>(
     text: &'a [u8],
     separator: Terminal,
     closer: Terminal,
-    tokens: &'a [Term],
-) -> Option<(Option<Item<'a>>, &'a [Term])>
+    tokens: &'a [Lexeme],
+) -> Option<(Option<Item<'a>>, &'a [Lexeme])>
     ensures { MatchOption result
         (lists.separated separator closer (seen_all text.now tokens.now) ≡ Failed (At (seen_all text.now tokens.now)))
         (λ x. lists.separated separator closer (seen_all text.now tokens.now) ≡ Done (ending_of x.0) (seen_all text.now x.1.now)) }

@@ -7,7 +7,7 @@ ghost use Rattle.rgo_grammar.specs.ReadExprs as reading_exprs;
 ghost use Rattle.rgo_grammar.specs.ReadStmts as reading;
 ghost use Rattle.rgo_grammar.specs.Reading.{first_of, several};
 ghost use Rattle.rgo_grammar.specs.Seen.{item_of, seen_all};
-ghost use Rattle.rgo_grammar.specs.declared.terminals.Terminal.TheVariants as terminal;
+ghost use Rattle.rgo_lexer.specs.declared.terminals.Terminal.TheVariants as terminal;
 ghost use Rattle.rgo_parser.specs.Gives.{Gives, leaf_of};
 ghost use Rattle.rgo_parser.specs.Statements.{leaf_at};
 
@@ -16,7 +16,7 @@ use crate::reads::{Fault, Reads, name};
 use crate::simple::boxed;
 use crate::types::{ty, typed_names};
 use rgo_ast::{AssignOp, Binding, Ident, LocalVar, Stmt, TypeExpr};
-use rgo_grammar::{Term, Terminal, first};
+use rgo_grammar::{Lexeme, Terminal, first};
 use std::alloc::Global;
 
 // What stands behind the one name of a declaration and its type.
@@ -26,7 +26,7 @@ fn initial<'a>(
     turns: usize,
     one: Ident,
     ty: TypeExpr,
-    tokens: &'a [Term],
+    tokens: &'a [Lexeme],
 ) -> Reads<'a, LocalVar>
     ensures { Gives text.now (λ x. (local_var_of x.0, seen_all text.now x.1.now)) result
         (reading.initial (reading_exprs.expr false turns 1) (leaf_of one) (type_expr_of ty) (seen_all text.now tokens.now)
@@ -44,7 +44,7 @@ fn initial<'a>(
 }
 
 // Names of local variables with their type or value.
-fn local<'a>(alloc: Global, text: &'a [u8], turns: usize, tokens: &'a [Term]) -> Reads<'a, LocalVar>
+fn local<'a>(alloc: Global, text: &'a [u8], turns: usize, tokens: &'a [Lexeme]) -> Reads<'a, LocalVar>
     ensures { Gives text.now (λ x. (local_var_of x.0, seen_all text.now x.1.now)) result
         (reading.local turns (reading_exprs.expr false turns 1) (seen_all text.now tokens.now)) }
 {
@@ -73,7 +73,7 @@ fn locals<'a>(
     alloc: Global,
     text: &'a [u8],
     turns: usize,
-    tokens: &'a [Term],
+    tokens: &'a [Lexeme],
 ) -> Listed<'a, LocalVar>
     ensures { Gives text.now (λ x. ((map local_var_of x.0.0.items, (item_of x.0.1).leaf), seen_all text.now x.1.now)) result
         (several terminal.Semicolon terminal.CloseParen (reading.local turns (reading_exprs.expr false turns 1)) turns []
@@ -105,7 +105,7 @@ pub(crate) fn vars<'a>(
     text: &'a [u8],
     turns: usize,
     at: usize,
-    tokens: &'a [Term],
+    tokens: &'a [Lexeme],
 ) -> Reads<'a, Stmt>
     ensures { Gives text.now (λ x. (stmt_of x.0, seen_all text.now x.1.now)) result
         (reading.vars turns (reading_exprs.expr false turns 1) (leaf_at at) (seen_all text.now tokens.now)) }

@@ -4,14 +4,14 @@ ghost use Rattle.std.specs.Prelude.{◌≡◌, IfErr, IfOk, map};
 ghost use Rattle.rgo_ast.specs.Views.{decl_of, import_of, program_of};
 ghost use Rattle.rgo_grammar.specs.Seen.{seen_all};
 ghost use Rattle.rgo_grammar.specs.Grammar.{IsProgram};
-ghost use Rattle.rgo_lexer.specs.Tokens.{Tokens};
+ghost use Rattle.rgo_lexer.specs.Lexing.{LexesAs};
 ghost use Rattle.rgo_parser.specs.Parsing.{IsParsed, Fails, StopsAt};
 ghost use Rattle.rgo_parser.specs.declared.parser.ParseError.TheVariants.{NoMemory};
 
 use crate::programs::program;
 use crate::reads::Fault;
 use rgo_ast::{Decl, Import, Program};
-use rgo_grammar::{Term, deep_at, terms_of};
+use rgo_grammar::{Lexeme, deep_at, terms_of};
 use rgo_lexer::Token;
 use std::alloc::{AllocError, Global};
 use thiserror::Error;
@@ -57,7 +57,7 @@ enum Stopped {
 }
 
 // The imports and the declarations of a whole list of terms.
-fn whole(alloc: Global, text: &[u8], terms: &[Term]) -> Result<(Vec<Import>, Vec<Decl>), Stopped>
+fn whole(alloc: Global, text: &[u8], terms: &[Lexeme]) -> Result<(Vec<Import>, Vec<Decl>), Stopped>
     ensures parsed { IfOk result (λ x. IsProgram (seen_all text.now terms.now) (map import_of x.0.items) (map decl_of x.1.items)) }
     ensures stopped { IfErr result (StopsAt (seen_all text.now terms.now)) }
 {

@@ -10,7 +10,7 @@ ghost use Rattle.rgo_parser.specs.Gives.{Gives};
 use crate::declarations::{decl, import};
 use crate::reads::{Fault, Reads, token};
 use rgo_ast::{Decl, Import};
-use rgo_grammar::{Item, Term, Terminal, first};
+use rgo_grammar::{Item, Lexeme, Terminal, first};
 use std::alloc::Global;
 
 // Declarations to the end.
@@ -18,7 +18,7 @@ fn decls<'a>(
     alloc: Global,
     text: &'a [u8],
     turns: usize,
-    tokens: &'a [Term],
+    tokens: &'a [Lexeme],
 ) -> Reads<'a, Vec<Decl>>
     ensures { Gives text.now (λ x. (map decl_of x.0.items, seen_all text.now x.1.now)) result
         (reading.decls turns turns [] (seen_all text.now tokens.now)) }
@@ -42,7 +42,7 @@ fn imports<'a>(
     alloc: Global,
     text: &'a [u8],
     turns: usize,
-    tokens: &'a [Term],
+    tokens: &'a [Lexeme],
 ) -> Reads<'a, Vec<Import>>
     ensures { Gives text.now (λ x. (map import_of x.0.items, seen_all text.now x.1.now)) result
         (reading.imports turns turns [] (seen_all text.now tokens.now)) }
@@ -65,7 +65,7 @@ fn imports<'a>(
 }
 
 // `package main ;`, to its last token.
-fn head<'a>(text: &'a [u8], tokens: &'a [Term]) -> Reads<'a, Item<'a>>
+fn head<'a>(text: &'a [u8], tokens: &'a [Lexeme]) -> Reads<'a, Item<'a>>
     ensures { Gives text.now (λ x. ((item_of x.0).leaf, seen_all text.now x.1.now)) result
         (reading.head (seen_all text.now tokens.now)) }
 {
@@ -79,7 +79,7 @@ pub(crate) fn program<'a>(
     alloc: Global,
     text: &'a [u8],
     turns: usize,
-    tokens: &'a [Term],
+    tokens: &'a [Lexeme],
 ) -> Reads<'a, (Vec<Import>, Vec<Decl>)>
     ensures { Gives text.now (λ x. ((map import_of x.0.0.items, map decl_of x.0.1.items), seen_all text.now x.1.now)) result
         (reading.program turns (seen_all text.now tokens.now)) }

@@ -4,10 +4,10 @@ ghost use Rattle.std.specs.Prelude.{◌≡◌, true, IfOk};
 ghost use Rattle.rgo_parser.specs.Gives.{Gives, leaf_of};
 ghost use Rattle.rgo_grammar.specs.Reading as reading;
 ghost use Rattle.rgo_grammar.specs.Seen.{item_of, seen_all};
-ghost use Rattle.rgo_grammar.specs.declared.terminals.Terminal.TheVariants as terminal;
+ghost use Rattle.rgo_lexer.specs.declared.terminals.Terminal.TheVariants as terminal;
 
 use rgo_ast::{Ident, Name};
-use rgo_grammar::{Item, Term, Terminal, first};
+use rgo_grammar::{Item, Lexeme, Terminal, first};
 use std::alloc::{AllocError, AllocFailed, Global};
 
 /// Why nothing was read.
@@ -15,7 +15,7 @@ use std::alloc::{AllocError, AllocFailed, Global};
 pub(crate) enum Fault<'a> {
     NoMemory,
     /// The tokens from the first on that is not allowed.
-    Syntax(&'a [Term]),
+    Syntax(&'a [Lexeme]),
     /// The bound on the turns was too small.
     Starved,
 }
@@ -41,13 +41,13 @@ impl<'a, T: Drop> From<AllocFailed<T>> for Fault<'a> {
 }
 
 /// What a reader read, and the tokens behind it.
-pub(crate) type Reads<'a, T> = Result<(T, &'a [Term]), Fault<'a>>;
+pub(crate) type Reads<'a, T> = Result<(T, &'a [Lexeme]), Fault<'a>>;
 
 /// One token, by its terminal.
 pub(crate) fn token<'a>(
     text: &'a [u8],
     terminal: Terminal,
-    tokens: &'a [Term],
+    tokens: &'a [Lexeme],
 ) -> Reads<'a, Item<'a>>
     ensures { Gives text.now (λ x. ((item_of x.0).leaf, seen_all text.now x.1.now)) result
         (reading.token terminal (seen_all text.now tokens.now)) }
@@ -69,7 +69,7 @@ pub(crate) fn ident_of(alloc: Global, word: &[u8], at: usize) -> Result<Ident, A
 }
 
 /// A name.
-pub(crate) fn name<'a>(alloc: Global, text: &'a [u8], tokens: &'a [Term]) -> Reads<'a, Ident>
+pub(crate) fn name<'a>(alloc: Global, text: &'a [u8], tokens: &'a [Lexeme]) -> Reads<'a, Ident>
     ensures { Gives text.now (λ x. (leaf_of x.0, seen_all text.now x.1.now)) result
         (reading.token terminal.Name (seen_all text.now tokens.now)) }
 {

@@ -11,7 +11,7 @@ ghost use Rattle.rgo_parser.specs.Gives.{Gives};
 use crate::expressions::expr;
 use crate::reads::{Fault, Reads, ident_of};
 use rgo_ast::{Expr, Stmt};
-use rgo_grammar::{Term, Terminal, first};
+use rgo_grammar::{Lexeme, Terminal, first};
 use std::alloc::Global;
 
 /// An expression in a box; `header` says that it stands between `if` or `for` and its block.
@@ -20,7 +20,7 @@ pub(crate) fn boxed<'a>(
     text: &'a [u8],
     header: bool,
     turns: usize,
-    tokens: &'a [Term],
+    tokens: &'a [Lexeme],
 ) -> Reads<'a, Box<Expr>>
     ensures { Gives text.now (λ x. (expr_of x.0.value, seen_all text.now x.1.now)) result
         (reading_exprs.expr header turns 1 (seen_all text.now tokens.now)) }
@@ -35,7 +35,7 @@ pub(crate) fn valued<'a>(
     text: &'a [u8],
     header: bool,
     turns: usize,
-    tokens: &'a [Term],
+    tokens: &'a [Lexeme],
 ) -> Reads<'a, Stmt>
     ensures { Gives text.now (λ x. (stmt_of x.0, seen_all text.now x.1.now)) result
         (reading.valued (reading_exprs.expr header turns 1) (seen_all text.now tokens.now)) }
@@ -64,7 +64,7 @@ pub(crate) fn defining<'a>(
     text: &'a [u8],
     header: bool,
     turns: usize,
-    tokens: &'a [Term],
+    tokens: &'a [Lexeme],
 ) -> Reads<'a, Stmt>
     ensures { Gives text.now (λ x. (stmt_of x.0, seen_all text.now x.1.now)) result
         (reading.defining (reading_exprs.expr header turns 1) (seen_all text.now tokens.now)) }

@@ -17,7 +17,7 @@ use crate::locals::vars;
 use crate::reads::{Fault, Reads, name, token};
 use crate::simple::{boxed, defining};
 use rgo_ast::{Expr, Stmt};
-use rgo_grammar::{Term, Terminal, first};
+use rgo_grammar::{Lexeme, Terminal, first};
 use std::alloc::Global;
 
 // What stands behind `return`, which stands at a place.
@@ -26,7 +26,7 @@ fn returned<'a>(
     text: &'a [u8],
     turns: usize,
     at: usize,
-    tokens: &'a [Term],
+    tokens: &'a [Lexeme],
 ) -> Reads<'a, Stmt>
     ensures { Gives text.now (λ x. (stmt_of x.0, seen_all text.now x.1.now)) result
         (reading.return_on (reading_exprs.expr false turns 1) (leaf_at at) (seen_all text.now tokens.now)
@@ -50,7 +50,7 @@ fn going<'a>(
     text: &'a [u8],
     turns: usize,
     at: usize,
-    tokens: &'a [Term],
+    tokens: &'a [Lexeme],
 ) -> Reads<'a, Stmt>
     ensures { Gives text.now (λ x. (stmt_of x.0, seen_all text.now x.1.now)) result
         (reading.going turns (reading_exprs.expr false turns 1) (leaf_at at) (seen_all text.now tokens.now)) }
@@ -67,7 +67,7 @@ fn stmt<'a>(
     alloc: Global,
     text: &'a [u8],
     turns: usize,
-    tokens: &'a [Term],
+    tokens: &'a [Lexeme],
 ) -> Reads<'a, Option<Stmt>>
     ensures { Gives text.now (λ x. (stmt_list_of x.0, seen_all text.now x.1.now)) result
         (reading.stmt turns (seen_all text.now tokens.now)) }
@@ -103,7 +103,7 @@ fn if_stmt<'a>(
     text: &'a [u8],
     turns: usize,
     at: usize,
-    tokens: &'a [Term],
+    tokens: &'a [Lexeme],
 ) -> Reads<'a, Stmt>
     ensures { Gives text.now (λ x. (stmt_of x.0, seen_all text.now x.1.now)) result
         (reading.if_stmt turns (leaf_at at) (seen_all text.now tokens.now)) }
@@ -130,7 +130,7 @@ fn branches<'a>(
     at: usize,
     init: Option<Box<Stmt>>,
     test: Box<Expr>,
-    tokens: &'a [Term],
+    tokens: &'a [Lexeme],
 ) -> Reads<'a, Stmt>
     ensures { Gives text.now (λ x. (stmt_of x.0, seen_all text.now x.1.now)) result
         (reading.branches (reading.block turns) (if_at turns) (leaf_at at) (boxed_stmt_of init) (expr_of test.value)
@@ -156,7 +156,7 @@ fn otherwise<'a>(
     alloc: Global,
     text: &'a [u8],
     turns: usize,
-    tokens: &'a [Term],
+    tokens: &'a [Lexeme],
 ) -> Reads<'a, Option<Box<Stmt>>>
     ensures { Gives text.now (λ x. (boxed_stmt_of x.0, seen_all text.now x.1.now)) result
         (reading.else_on (reading.block turns) (if_at turns) (seen_all text.now tokens.now)
@@ -190,7 +190,7 @@ fn for_stmt<'a>(
     text: &'a [u8],
     turns: usize,
     at: usize,
-    tokens: &'a [Term],
+    tokens: &'a [Lexeme],
 ) -> Reads<'a, Stmt>
     ensures { Gives text.now (λ x. (stmt_of x.0, seen_all text.now x.1.now)) result
         (reading.for_on (reading.block turns) (reading_exprs.expr true turns 1) (leaf_at at) (seen_all text.now tokens.now)
@@ -223,7 +223,7 @@ fn looped<'a>(
     init: Option<Box<Stmt>>,
     test: Option<Box<Expr>>,
     post: Option<Box<Stmt>>,
-    tokens: &'a [Term],
+    tokens: &'a [Lexeme],
 ) -> Reads<'a, Stmt>
     ensures { Gives text.now (λ x. (stmt_of x.0, seen_all text.now x.1.now)) result
         (reading.looped (reading.block turns) (leaf_at at) (boxed_stmt_of init) (boxed_expr_of test) (boxed_stmt_of post)
@@ -248,7 +248,7 @@ pub(crate) fn block<'a>(
     alloc: Global,
     text: &'a [u8],
     turns: usize,
-    tokens: &'a [Term],
+    tokens: &'a [Lexeme],
 ) -> Listed<'a, Stmt>
     ensures { Gives text.now (λ x. ((map stmt_of x.0.0.items, (item_of x.0.1).leaf), seen_all text.now x.1.now)) result
         (reading.block turns (seen_all text.now tokens.now)) }
@@ -263,7 +263,7 @@ pub(crate) fn stmts<'a>(
     alloc: Global,
     text: &'a [u8],
     turns: usize,
-    tokens: &'a [Term],
+    tokens: &'a [Lexeme],
 ) -> Listed<'a, Stmt>
     ensures { Gives text.now (λ x. ((map stmt_of x.0.0.items, (item_of x.0.1).leaf), seen_all text.now x.1.now)) result
         (reading.stmts turns (seen_all text.now tokens.now)) }

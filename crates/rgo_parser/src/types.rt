@@ -10,7 +10,7 @@ ghost use Rattle.rgo_parser.specs.Gives.{Gives, leaf_of};
 use crate::lists::{Listed, separated};
 use crate::reads::{Fault, Reads, ident_of, name, token};
 use rgo_ast::{BinaryOp, Binding, Ident, TypeExpr};
-use rgo_grammar::{Term, Terminal, first};
+use rgo_grammar::{Lexeme, Terminal, first};
 use std::alloc::Global;
 
 /// A type.
@@ -18,7 +18,7 @@ pub(crate) fn ty<'a>(
     alloc: Global,
     text: &'a [u8],
     turns: usize,
-    tokens: &'a [Term],
+    tokens: &'a [Lexeme],
 ) -> Reads<'a, TypeExpr>
     ensures { Gives text.now (λ x. (type_expr_of x.0, seen_all text.now x.1.now)) result (reading.a_type turns (seen_all text.now tokens.now)) }
 {
@@ -53,7 +53,7 @@ fn names<'a>(
     text: &'a [u8],
     turns: usize,
     one: Ident,
-    tokens: &'a [Term],
+    tokens: &'a [Lexeme],
 ) -> Reads<'a, Vec<Ident>>
     ensures { Gives text.now (λ x. (x.0.items, seen_all text.now x.1.now)) result (reading.names turns (one ∷ []) (seen_all text.now tokens.now)) }
 {
@@ -80,7 +80,7 @@ pub(crate) fn typed_names<'a>(
     text: &'a [u8],
     turns: usize,
     one: Ident,
-    tokens: &'a [Term],
+    tokens: &'a [Lexeme],
 ) -> Reads<'a, Binding>
     ensures { Gives text.now (λ x. (binding_of x.0, seen_all text.now x.1.now)) result
         (reading.typed_names turns (one ∷ []) (seen_all text.now tokens.now)) }
@@ -95,7 +95,7 @@ pub(crate) fn binding<'a>(
     alloc: Global,
     text: &'a [u8],
     turns: usize,
-    tokens: &'a [Term],
+    tokens: &'a [Lexeme],
 ) -> Reads<'a, Binding>
     ensures { Gives text.now (λ x. (binding_of x.0, seen_all text.now x.1.now)) result
         (reading.binding turns (seen_all text.now tokens.now)) }
@@ -111,7 +111,7 @@ pub(crate) fn bindings<'a>(
     turns: usize,
     separator: Terminal,
     closer: Terminal,
-    tokens: &'a [Term],
+    tokens: &'a [Lexeme],
 ) -> Listed<'a, Binding>
     ensures { Gives text.now (λ x. ((map binding_of x.0.0.items, (item_of x.0.1).leaf), seen_all text.now x.1.now)) result
         (reading.bindings separator closer turns (seen_all text.now tokens.now)) }

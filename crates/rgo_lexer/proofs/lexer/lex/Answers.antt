@@ -1,8 +1,5 @@
-use Rattle.std.proofs.Common.{refl}
-use Rattle.std.proofs.lemmas.Result.{IfOk-weaker}
-use Rattle.rgo_lexer.proofs.Standing.{of_tokens_from}
+use Rattle.rgo_lexer.proofs.Placing.{named_of_text}
 use Rattle.rgo_lexer.proofs.lexer.lex.Goals as goal
 
-pub returns-in-Ok-clause-standing : goal.returns-in-Ok-clause-standing
-returns-in-Ok-clause-standing c =
-    IfOk-weaker c.tokens_from.result _ _ (λ tokens t. of_tokens_from c.args.text.now t refl c.start_of.ensures.within tt) c.tokens_from.ensures.ok
+pub returns-in-Ok-lexemes_from-clause-of_text : goal.returns-in-Ok-lexemes_from-clause-of_text
+returns-in-Ok-lexemes_from-clause-of_text c = named_of_text c.args.text.now _ _ (rw c.start_of.ensures.value at c.in-Ok-lexemes_from.ensures.ok) c.name_package.ensures

@@ -1,5 +1,5 @@
 use Rattle.std.proofs.Common.{◌≡◌, ◌-◌, []}
-use Rattle.rgo_grammar.specs.declared.terminals.Terminal.TheVariants.{Semicolon, CloseParen}
+use Rattle.rgo_lexer.specs.declared.terminals.Terminal.TheVariants.{Semicolon, CloseParen}
 use Rattle.rgo_grammar.specs.Reading.{several}
 use Rattle.rgo_grammar.specs.ReadDecls.{import_path}
 use Rattle.rgo_grammar.specs.Seen.{seen_all}

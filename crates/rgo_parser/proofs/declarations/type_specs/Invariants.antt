@@ -1,6 +1,6 @@
 use Rattle.std.proofs.Common.{◌≡◌, ◌-◌, [], map}
 use Rattle.rgo_ast.specs.Views.{type_spec_of}
-use Rattle.rgo_grammar.specs.declared.terminals.Terminal.TheVariants.{Semicolon, CloseParen}
+use Rattle.rgo_lexer.specs.declared.terminals.Terminal.TheVariants.{Semicolon, CloseParen}
 use Rattle.rgo_grammar.specs.Reading.{several}
 use Rattle.rgo_grammar.specs.ReadDecls.{type_spec}
 use Rattle.rgo_grammar.specs.Seen.{seen_all}

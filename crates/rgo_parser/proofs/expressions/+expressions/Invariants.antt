@@ -1,6 +1,6 @@
 use Rattle.std.proofs.Common.{◌≡◌, ◌+◌, ◌*◌, ◌-◌, false, map}
 use Rattle.rgo_ast.specs.Views.{expr_of, element_of}
-use Rattle.rgo_grammar.specs.declared.terminals.Terminal.TheVariants.{Comma, CloseBrace}
+use Rattle.rgo_lexer.specs.declared.terminals.Terminal.TheVariants.{Comma, CloseBrace}
 use Rattle.rgo_grammar.specs.Reading.{several}
 use Rattle.rgo_grammar.specs.ReadExprs.{expr, exprs, element, elements_from}
 use Rattle.rgo_grammar.specs.Seen.{seen_all}

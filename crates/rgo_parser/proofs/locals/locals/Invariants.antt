@@ -4,7 +4,7 @@ use Rattle.rgo_grammar.specs.ReadExprs.{expr}
 use Rattle.rgo_grammar.specs.ReadStmts.{local}
 use Rattle.rgo_grammar.specs.Reading.{several}
 use Rattle.rgo_grammar.specs.Seen.{seen_all}
-use Rattle.rgo_grammar.specs.declared.terminals.Terminal.TheVariants.{Semicolon, CloseParen}
+use Rattle.rgo_lexer.specs.declared.terminals.Terminal.TheVariants.{Semicolon, CloseParen}
 use Rattle.rgo_parser.proofs.locals.locals.Given as goal
 
 abbrev pub invariant-loop-turn : goal.invariant-loop-turn

@@ -1,6 +1,6 @@
 use Rattle.std.proofs.Common.{◌≡◌, Some, None, sym, ◌∙◌, ◌+◌, length-take-le, arith}
 use Rattle.rgo_grammar.specs.Nesting.{deep_among}
-use Rattle.rgo_grammar.specs.Seen.{terminals}
+use Rattle.rgo_grammar.specs.Nesting.{terminals}
 use Rattle.rgo_lexer.proofs.Standing.{of_tokens}
 use Rattle.rgo_parser.specs.Parsing.{limit}
 use Rattle.rgo_parser.proofs.Cuts.{found_within, found_syntax, found_program, found_open, whole_syntax, whole_program}

@@ -3,7 +3,7 @@ use Rattle.rgo_ast.specs.Views.{stmt_of}
 use Rattle.rgo_grammar.specs.ReadStmts.{stmt, stmts}
 use Rattle.rgo_grammar.specs.Reading.{listed}
 use Rattle.rgo_grammar.specs.Seen.{seen_all}
-use Rattle.rgo_grammar.specs.declared.terminals.Terminal.TheVariants.{Semicolon, CloseBrace}
+use Rattle.rgo_lexer.specs.declared.terminals.Terminal.TheVariants.{Semicolon, CloseBrace}
 use Rattle.rgo_parser.proofs.statements.+statements.Given as goal
 
 -- Within a turn, one function calls only others of a smaller rank.

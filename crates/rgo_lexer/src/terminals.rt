@@ -1,22 +1,22 @@
-//! The terminals of the grammar.
+//! The terminals of the grammar: what it distinguishes of a token.
 
 ghost use Rattle.std.specs.Prelude.{◌≡◌};
-ghost use Rattle.rgo_grammar.specs.Terms.{class, subclass, same};
+ghost use Rattle.rgo_lexer.specs.Lexemes.{class, subclass, same};
 
 use rgo_ast::{AssignOp, BinaryOp, StepOp};
 
-/// What the grammar sees of a token (The Go Programming Language Specification, "Tokens").
+/// The terminal of a token (The Go Programming Language Specification, "Tokens").
 #[derive(Clone, Copy, Debug, PartialEq, Eq)]
 pub enum Terminal {
-    /// A word that is no keyword, and neither `new` nor `make`.
+    /// A word that is neither a keyword nor `new` nor `make`.
     Name,
-    /// The word `main` as a text's second token.
+    /// The word `main` as the second token of a text: the package's name.
     Main,
     /// `new`
     New,
     /// `make`
     Make,
-    /// A number with its value.
+    /// An integer literal with its value.
     Number(u64),
     /// A string literal.
     Text,
@@ -59,12 +59,12 @@ pub enum Terminal {
     Return,
     Break,
     Continue,
-    /// A token that no production has.
+    /// A token that occurs in no production.
     Other,
 }
 
 impl Terminal {
-    // Its form, by a number.
+    // The number of its form.
     fn class(self) -> u8
         ensures { result ≡ class self }
     {
@@ -110,7 +110,7 @@ impl Terminal {
         }
     }
 
-    // What tells it from others of its form that stand in other places, by a number.
+    // Distinguishes operators of one form that occur in different places.
     fn subclass(self) -> u8
         ensures { result ≡ subclass self }
     {
@@ -122,7 +122,7 @@ impl Terminal {
         }
     }
 
-    /// Whether it stands in the same places as another: they differ at most in what they carry.
+    /// Whether it occurs in the same places as another: they differ at most in what they carry.
     pub fn stands_as(self, other: Terminal) -> bool
         ensures { result ≡ same other self }
     {

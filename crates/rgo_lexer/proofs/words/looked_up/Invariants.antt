@@ -1,7 +1,7 @@
 use Rattle.std.proofs.Common.{◌≡◌, drop}
-use Rattle.rgo_grammar.specs.Terms.{looked_up}
-use Rattle.rgo_grammar.specs.Seen.{entries}
-use Rattle.rgo_grammar.proofs.terms.looked_up.Given as goal
+use Rattle.rgo_lexer.specs.Words.{looked_up}
+use Rattle.rgo_lexer.specs.Words.{entries}
+use Rattle.rgo_lexer.proofs.words.looked_up.Given as goal
 
 abbrev pub invariant-loop-entry : goal.invariant-loop-entry
 invariant-loop-entry l =

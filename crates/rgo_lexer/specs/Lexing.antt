@@ -1,0 +1,74 @@
+-- The lexemes of a text.
+use Rattle.std.specs.Prelude.{◌≡◌, ℕ, ◌+◌, ◌<◌, ◌≤◌, ◌⊎◌, ◌==◌, List, [], ◌∷◌, ◌++◌, length, take, drop, codes, Option, None, Some, if◌then◌else◌, slice_range}
+use Rattle.std.specs.Str.{IsUtf8, bytes_eq}
+use Rattle.rgo_lexer.specs.Bytes.{begins_with}
+use Rattle.rgo_lexer.specs.Front.{front_of}
+use Rattle.rgo_lexer.specs.Lexemes.{Lexeme, leaf, tok, end_of}
+use Rattle.rgo_lexer.specs.Semicolons.{ending_after, inserted}
+use Rattle.rgo_lexer.specs.declared.front.Front.{Front}
+use Rattle.rgo_lexer.specs.declared.front.Front.TheVariants.{End, Blank, Newline, Piece}
+use Rattle.rgo_lexer.specs.declared.terminals.Terminal.{Terminal}
+use Rattle.rgo_lexer.specs.declared.terminals.Terminal.TheVariants.{Main, Semicolon}
+
+-- The lexemes of a text from byte `at` on, where `rest` is left of it.
+-- `ending` is where the last token ended, if the end of its line inserts a `;` there.
+pub data LexesFrom : ℕ → Option ℕ → List ℕ → List Lexeme → Type 0 where
+  finish : {at : ℕ} {ending : Option ℕ} {rest : List ℕ} → front_of rest ≡ End
+      → LexesFrom at ending rest (inserted ending)
+  blank : {at : ℕ} {ending : Option ℕ} {rest : List ℕ} {lexemes : List Lexeme} (n : ℕ)
+      → front_of rest ≡ Blank n
+      → LexesFrom (at + n) ending (drop n rest) lexemes → LexesFrom at ending rest lexemes
+  newline : {at : ℕ} {ending : Option ℕ} {rest : List ℕ} {lexemes : List Lexeme} (n : ℕ)
+      → front_of rest ≡ Newline n
+      → LexesFrom (at + n) None (drop n rest) lexemes
+      → LexesFrom at ending rest (inserted ending ++ lexemes)
+  piece : {at : ℕ} {ending : Option ℕ} {rest : List ℕ} {lexemes : List Lexeme}
+      (terminal : Terminal) (n : ℕ) → front_of rest ≡ Piece terminal n
+      → LexesFrom (at + n) (ending_after terminal (take n rest) (at + n)) (drop n rest) lexemes
+      → LexesFrom at ending rest (tok terminal (leaf at (take n rest)) ∷ lexemes)
+
+-- the byte order mark in UTF-8
+abbrev pub byte_order_mark : List ℕ
+byte_order_mark = 0xEF ∷ 0xBB ∷ 0xBF ∷ []
+
+-- where a text begins: after a byte order mark at its very front
+abbrev pub start_of : List ℕ → ℕ
+start_of text = if begins_with text byte_order_mark then 3 else 0
+
+-- the word `main` as the name of the package
+abbrev pub package_name : Lexeme → Lexeme
+package_name l = if bytes_eq l.leaf.word (codes "main") then tok Main l.leaf else l
+
+-- the name of the package is the second lexeme of a text
+abbrev pub with_package_name : List Lexeme → List Lexeme
+with_package_name [] = []
+with_package_name (l ∷ []) = l ∷ []
+with_package_name (l ∷ m ∷ lexemes) = l ∷ package_name m ∷ lexemes
+
+-- the lexemes of a whole text
+abbrev pub LexesAs : List ℕ → List Lexeme → Type 0
+LexesAs text lexemes =
+    IsUtf8 text × (found : List Lexeme)
+    × LexesFrom (start_of text) None (drop (start_of text) text) found
+    × (lexemes ≡ with_package_name found)
+
+-- the terminal of what a text begins with, if that is a token of n bytes
+abbrev pub terminal_at_width : ℕ → Front → Option Terminal
+terminal_at_width n (Piece terminal width) = if width == n then Some terminal else None
+terminal_at_width n _ = None
+
+-- the terminal of a word that is a token by itself
+unfoldable pub terminal_of : List ℕ → Option Terminal
+terminal_of word = terminal_at_width (length word) (front_of word)
+
+-- the terminal of a word: that of the token that it is by itself, unless it is the package's name
+abbrev pub IsSpelled : Terminal → List ℕ → Type 0
+IsSpelled terminal word =
+    (terminal_of word ≡ Some terminal) ⊎ ((terminal ≡ Main) × (word ≡ codes "main"))
+
+-- a lexeme of a text: an inserted `;`, or a part of the text that is a token by itself
+pub record IsLexemeOf (text : List ℕ) (l : Lexeme) : Type 0 where
+  pub within : end_of l ≤ length text
+  pub bytes : l.leaf.word ≡ slice_range text l.leaf.at (end_of l)
+  pub spelled : 0 < length l.leaf.word → IsSpelled l.terminal l.leaf.word
+  pub inserted : length l.leaf.word ≡ 0 → l.terminal ≡ Semicolon
