@@ -1,5 +1,3 @@
-pub mod Faults
-pub mod FieldLists
 pub mod Keys
 pub mod Lists
 pub mod Numbers

@@ -10,9 +10,10 @@ use Rattle.rgo_typing_rules.specs.declared.roles.Role.{Role}
 use Rattle.rgo_typing_rules.specs.declared.roles.Role.TheVariants as role
 use Rattle.rgo_typing_expressions.specs.declared.callees.Callee.{Callee}
 use Rattle.rgo_typing_expressions.specs.declared.callees.Callee.TheVariants.{Missing, Printer, Length, Closer, Routine, Nothing}
-use Rattle.rgo_typing_expressions.specs.Scopes.{Package, Scope, meaning_of}
+use Rattle.rgo_typing_expressions.specs.Packages.{Context}
+use Rattle.rgo_typing_expressions.specs.Scopes.{meaning_of}
 
--- without the parentheses round it
+-- without the parentheses around it
 abbrev pub bare : Expr → Expr
 bare (tree.Paren e at) = bare e
 bare e = e
@@ -25,40 +26,40 @@ named_callee at (Some meaning.Len) = Length
 named_callee at (Some meaning.Close) = Closer
 named_callee at (Some _) = Nothing
 
--- `fmt` with a function's name behind it
+-- `fmt` followed by a function's name
 abbrev pub package_callee : ℕ → Option Meaning → List ℕ → Callee
 package_callee at (Some (meaning.Package true)) name = if bytes_eq name (codes "Println") then Printer else Nothing
 package_callee at (Some (meaning.Package false)) name = Missing at
 package_callee at _ name = Nothing
 
-abbrev pub selected_callee : Package → Scope → Expr → List ℕ → Callee
-selected_callee p g (tree.Name x) name = package_callee x.at (meaning_of p g x.name) name
-selected_callee p g _ name = Nothing
+abbrev pub selected_callee : Context → Expr → List ℕ → Callee
+selected_callee c (tree.Name x) name = package_callee x.at (meaning_of c x.name) name
+selected_callee c _ name = Nothing
 
-abbrev pub bare_callee : Package → Scope → Expr → Callee
-bare_callee p g (tree.Name x) = named_callee x.at (meaning_of p g x.name)
-bare_callee p g (tree.Select e field) = selected_callee p g (bare e) field.name
-bare_callee p g _ = Nothing
+abbrev pub bare_callee : Context → Expr → Callee
+bare_callee c (tree.Name x) = named_callee x.at (meaning_of c x.name)
+bare_callee c (tree.Select e field) = selected_callee c (bare e) field.name
+bare_callee c _ = Nothing
 
 -- what a callee is
-abbrev pub callee_of : Package → Scope → Expr → Callee
-callee_of p g f = bare_callee p g (bare f)
+abbrev pub callee_of : Context → Expr → Callee
+callee_of c f = bare_callee c (bare f)
 
 abbrev pub is_package : Option Meaning → Bool
 is_package (Some (meaning.Package imported)) = true
 is_package _ = false
 
-abbrev pub names_package : Package → Scope → Expr → Bool
-names_package p g (tree.Name x) = is_package (meaning_of p g x.name)
-names_package p g _ = false
+abbrev pub names_package : Context → Expr → Bool
+names_package c (tree.Name x) = is_package (meaning_of c x.name)
+names_package c _ = false
 
-abbrev pub bare_package_selector : Package → Scope → Expr → Bool
-bare_package_selector p g (tree.Select e field) = names_package p g (bare e)
-bare_package_selector p g _ = false
+abbrev pub bare_package_selector : Context → Expr → Bool
+bare_package_selector c (tree.Select e field) = names_package c (bare e)
+bare_package_selector c _ = false
 
--- `fmt` with a name behind it
-abbrev pub is_package_selector : Package → Scope → Expr → Bool
-is_package_selector p g f = bare_package_selector p g (bare f)
+-- `fmt` followed by a name
+abbrev pub is_package_selector : Context → Expr → Bool
+is_package_selector c f = bare_package_selector c (bare f)
 
 abbrev pub selects_println : Expr → Bool
 selects_println (tree.Select e field) = bytes_eq field.name (codes "Println")
@@ -68,9 +69,9 @@ abbrev pub role_if : Bool → Role
 role_if true = role.Printed
 role_if false = role.Value
 
--- what arguments of this callee are judged as
-abbrev pub args_role : Package → Scope → Expr → Role
-args_role p g f = role_if (is_package_selector p g f && selects_println (bare f))
+-- what the arguments of this callee are checked as
+abbrev pub args_role : Context → Expr → Role
+args_role c f = role_if (is_package_selector c f && selects_println (bare f))
 
 abbrev pub has_effect : Callee → Bool
 has_effect Length = false
@@ -80,26 +81,26 @@ abbrev pub is_receive : UnaryOp → Bool
 is_receive unary.Receive = true
 is_receive _ = false
 
-abbrev pub bare_may_stand : Package → Scope → Expr → Bool
-bare_may_stand p g (tree.Called f args at) = has_effect (callee_of p g f)
-bare_may_stand p g (tree.Unary op e at) = is_receive op
-bare_may_stand p g _ = false
+abbrev pub bare_may_stand : Context → Expr → Bool
+bare_may_stand c (tree.Called f args at) = has_effect (callee_of c f)
+bare_may_stand c (tree.Unary op e at) = is_receive op
+bare_may_stand c _ = false
 
--- a call other than of `len`, or a receive: it may stand as a statement
-abbrev pub may_stand : Package → Scope → Expr → Bool
-may_stand p g e = bare_may_stand p g (bare e)
+-- a call other than of `len`, or a receive: it may be a statement
+abbrev pub may_stand : Context → Expr → Bool
+may_stand c e = bare_may_stand c (bare e)
 
 abbrev pub is_variable : Option Meaning → Bool
 is_variable (Some (meaning.Local n)) = true
 is_variable (Some (meaning.Global n)) = true
 is_variable _ = false
 
-abbrev pub bare_is_place : Package → Scope → Expr → Bool
-bare_is_place p g (tree.Name x) = is_variable (meaning_of p g x.name)
-bare_is_place p g (tree.Select e field) = true
-bare_is_place p g (tree.Index a i at) = true
-bare_is_place p g _ = false
+abbrev pub bare_is_place : Context → Expr → Bool
+bare_is_place c (tree.Name x) = is_variable (meaning_of c x.name)
+bare_is_place c (tree.Select e field) = true
+bare_is_place c (tree.Index a i at) = true
+bare_is_place c _ = false
 
 -- a variable, a field or an element
-abbrev pub is_place : Package → Scope → Expr → Bool
-is_place p g e = bare_is_place p g (bare e)
+abbrev pub is_place : Context → Expr → Bool
+is_place c e = bare_is_place c (bare e)

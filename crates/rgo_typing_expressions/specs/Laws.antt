@@ -9,9 +9,9 @@ use Rattle.rgo_typing_rules.specs.Nodes.{wants_value, is_printed, is_target}
 use Rattle.rgo_typing_rules.specs.Shapes as shape
 use Rattle.rgo_typing_rules.specs.Shapes.{Shape}
 use Rattle.rgo_typing_expressions.specs.Callees.{args_role}
-use Rattle.rgo_typing_expressions.specs.Judging.{nodes, parts, values_of}
-use Rattle.rgo_typing_expressions.specs.Scopes.{Package, Scope}
-use Rattle.rgo_typing_expressions.specs.Sites.{first_fault}
+use Rattle.rgo_typing_expressions.specs.Checking.{nodes, parts, values_of}
+use Rattle.rgo_typing_expressions.specs.Packages.{Context}
+use Rattle.rgo_typing_rules.specs.Sites.{first_refusal}
 use Rattle.rgo_typing_expressions.specs.Types.{type_of, types_of}
 
 -- It has a type, or is `nil`. A string has a place where it is printed, and a call without result where no value is
@@ -25,8 +25,8 @@ is_typed r _ = true
 -- the left side of `=` may name what is no value; the assignment is refused then
 abbrev pub TypedWhereUnbroken : Type 0
 TypedWhereUnbroken =
-    (p : Package) → (g : Scope) → (r : Role) → (e : Expr) → is_target r ≡ false
-    → first_fault (nodes p g r e) ≡ None → is_typed r (type_of p g e) ≡ true
+    (c : Context) → (r : Role) → (e : Expr) → is_target r ≡ false
+    → first_refusal (nodes c r e) ≡ None → is_typed r (type_of c e) ≡ true
 
 abbrev pub room_in : Capacity → Exprs
 room_in tree.no_capacity = tree.no_exprs
@@ -49,14 +49,14 @@ operands (tree.Literal x values at) = values
 operands (tree.Keyed x members at) = values_of members
 operands _ = tree.no_exprs
 
--- what they are judged as
-abbrev pub operands_role : Package → Scope → Expr → Role
-operands_role p g (tree.Paren e at) = operands_role p g e
-operands_role p g (tree.Called f args at) = args_role p g f
-operands_role p g _ = role.Value
+-- what they are checked as
+abbrev pub operands_role : Context → Expr → Role
+operands_role c (tree.Paren e at) = operands_role c e
+operands_role c (tree.Called f args at) = args_role c f
+operands_role c _ = role.Value
 
 -- where no earlier node breaks a rule, the parts of a node are typed
 abbrev pub TypedParts : Type 0
 TypedParts =
-    (p : Package) → (g : Scope) → (e : Expr) → first_fault (parts p g e) ≡ None
-    → list_all (is_typed (operands_role p g e)) (types_of p g (operands e)) ≡ true
+    (c : Context) → (e : Expr) → first_refusal (parts c e) ≡ None
+    → list_all (is_typed (operands_role c e)) (types_of c (operands e)) ≡ true

@@ -1,10 +1,8 @@
 pub mod Callees
-pub mod Judges
-pub mod Judging
+pub mod Checking
 pub mod Laws
+pub mod Packages
+pub mod Results
 pub mod Scopes
-pub mod Sites
-pub mod Tells
 pub mod Terms
 pub mod Types
-pub mod Views

@@ -1,4 +1,4 @@
--- Scopes: what a name means at a point of a program, and what a type means that is written there.
+-- What a name means at a point of a program, and what a type means that is written there.
 use Rattle.std.specs.Prelude.{ℕ, Bool, true, false, List, [], ◌∷◌, length, get_or, ◌++◌, Option, Some, None, if◌then◌else◌}
 use Rattle.std.specs.Prelude.{bytes_eq, codes}
 use Rattle.rgo_ast.specs.Tree as tree
@@ -9,27 +9,8 @@ use Rattle.rgo_typing_rules.specs.Types.{plain, spelled}
 use Rattle.rgo_typing_rules.specs.declared.meanings.Meaning.{Meaning}
 use Rattle.rgo_typing_rules.specs.declared.meanings.Meaning.TheVariants as meaning
 use Rattle.rgo_typing_rules.specs.Meanings.{Signature}
-use Rattle.rgo_scopes.specs.Blocks.{Blocks, found, declared, entered, left, no_names}
-
--- the fields of a struct: the number of each name, and the types by number
-pub record Fields : Type 0 where
-  pub numbers : Blocks ℕ
-  pub types : List «Type»
-
--- what the package declares: whether it imports `fmt`, what each of its names means, and by number the
--- structs, the types of variables, and what functions take and give
-pub record Package : Type 0 where
-  pub imported : Bool
-  pub names : Blocks Meaning
-  pub structs : List Fields
-  pub variables : List «Type»
-  pub functions : List Signature
-
--- the local variables of a function at a point: the number of each name in scope, and the types of all that
--- were declared so far, also of those that are out of scope; a local variable is numbered by their count
-pub record Scope : Type 0 where
-  pub locals : Blocks ℕ
-  pub types : List «Type»
+use Rattle.rgo_scopes.specs.Blocks.{found, declared, entered, left, no_names}
+use Rattle.rgo_typing_expressions.specs.Packages.{Fields, Package, Scope, Context}
 
 abbrev pub no_locals : Scope
 no_locals = record { locals = no_names; types = [] }
@@ -59,7 +40,7 @@ signature_at p n = get_or p.functions n no_signature
 abbrev pub local_at : Scope → ℕ → «Type»
 local_at g n = get_or g.types n int
 
--- what the words mean that each text has: `int bool true false nil len close`, and `fmt`
+-- the words that each program has: `int bool true false nil len close`, and `fmt`
 abbrev pub universe : Bool → List ℕ → Option Meaning
 universe imported name =
     if bytes_eq name (codes "int") then Some (meaning.Basic Int) else
@@ -71,18 +52,21 @@ universe imported name =
     (if bytes_eq name (codes "close") then Some meaning.Close else
     (if bytes_eq name (codes "fmt") then Some (meaning.Package imported) else None)))))))
 
--- what a name means that is no local variable's
-abbrev pub outer_meaning : Package → Option Meaning → List ℕ → Option Meaning
-outer_meaning p (Some m) name = Some m
-outer_meaning p None name = universe p.imported name
+abbrev pub global_meaning_if : Package → Option Meaning → List ℕ → Option Meaning
+global_meaning_if p (Some m) name = Some m
+global_meaning_if p None name = universe p.imported name
 
-abbrev pub inner_meaning : Package → Option ℕ → List ℕ → Option Meaning
-inner_meaning p (Some n) name = Some (meaning.Local n)
-inner_meaning p None name = outer_meaning p (found name p.names) name
+-- what a name means that is no local variable: what the package declares, else what each program has
+abbrev pub global_meaning : Package → List ℕ → Option Meaning
+global_meaning p name = global_meaning_if p (found name p.names) name
 
--- what a name means: a local variable, else what the package declares, else what each text has
-abbrev pub meaning_of : Package → Scope → List ℕ → Option Meaning
-meaning_of p g name = inner_meaning p (found name g.locals) name
+abbrev pub meaning_if : Package → Option ℕ → List ℕ → Option Meaning
+meaning_if p (Some n) name = Some (meaning.Local n)
+meaning_if p None name = global_meaning p name
+
+-- what a name means: a local variable, else what it means in the package
+abbrev pub meaning_of : Context → List ℕ → Option Meaning
+meaning_of c name = meaning_if c.globals (found name c.scope.locals) name
 
 -- a new local variable of this type
 abbrev pub with_local : List ℕ → «Type» → Scope → Scope
@@ -95,7 +79,11 @@ inside g = record { locals = entered g.locals; types = g.types }
 abbrev pub outside : Scope → Scope
 outside g = record { locals = left g.locals; types = g.types }
 
--- the base of a type, of what its name means
+-- the same context with this scope
+abbrev pub in_scope : Scope → Context → Context
+in_scope g c = record { globals = c.globals; scope = g }
+
+-- the base of a type, from what its name means
 abbrev pub basic_base : Option Meaning → Base
 basic_base (Some (meaning.Basic b)) = b
 basic_base _ = Int
@@ -104,12 +92,12 @@ abbrev pub pointer_base : Option Meaning → Base
 pointer_base (Some (meaning.Struct n)) = Pointer n
 pointer_base _ = Int
 
-abbrev pub base_of : Package → Scope → tree.TypeExpr → Base
-base_of p g (tree.Named x) = basic_base (meaning_of p g x.name)
-base_of p g (tree.Pointer x at) = pointer_base (meaning_of p g x.name)
-base_of p g (tree.Slice ty at) = base_of p g ty
-base_of p g (tree.Chan ty at) = base_of p g ty
+abbrev pub base_of : Context → tree.TypeExpr → Base
+base_of c (tree.Named x) = basic_base (meaning_of c x.name)
+base_of c (tree.Pointer x at) = pointer_base (meaning_of c x.name)
+base_of c (tree.Slice ty at) = base_of c ty
+base_of c (tree.Chan ty at) = base_of c ty
 
 -- the type that is written so
-abbrev pub resolved : Package → Scope → tree.TypeExpr → «Type»
-resolved p g ty = spelled ty (base_of p g ty)
+abbrev pub resolved : Context → tree.TypeExpr → «Type»
+resolved c ty = spelled ty (base_of c ty)

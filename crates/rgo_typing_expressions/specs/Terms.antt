@@ -17,13 +17,14 @@ use Rattle.rgo_typing_rules.specs.Shapes.{Shape, is_nil_shape}
 use Rattle.rgo_typing_rules.specs.Constants.{folded_shapes, folded_shape}
 use Rattle.rgo_typing_rules.specs.declared.meanings.Meaning.{Meaning}
 use Rattle.rgo_typing_rules.specs.declared.meanings.Meaning.TheVariants as meaning
-use Rattle.rgo_typing_expressions.specs.Scopes.{Package, Scope, Fields, meaning_of, variable_at, signature_at}
+use Rattle.rgo_typing_expressions.specs.Packages.{Fields, Package, Context}
+use Rattle.rgo_typing_expressions.specs.Scopes.{meaning_of, variable_at, signature_at}
 use Rattle.rgo_typing_expressions.specs.Scopes.{int, bool, resolved, pointer_base}
 use Rattle.rgo_typing_expressions.specs.declared.callees.Callee.{Callee}
 use Rattle.rgo_typing_expressions.specs.declared.callees.Callee.TheVariants as callee
 use Rattle.rgo_typing_expressions.specs.Callees.{callee_of}
 use Rattle.rgo_typing_expressions.specs.Types.{type_of, field_of, field_in, binary_type}
-use Rattle.rgo_typing_expressions.specs.Judging.{field_types, struct_number, struct_fields}
+use Rattle.rgo_typing_expressions.specs.Checking.{field_types, struct_number, struct_fields}
 
 -- an action without parts
 abbrev pub atom : Action → «Type» → ℕ → Term
@@ -54,11 +55,11 @@ abbrev pub with_first : List «Type» → Term → Term
 with_first [] t = t
 with_first (ty ∷ tys) t = with_type ty t
 
-abbrev pub name_term : Package → Scope → Option Meaning → ℕ → Term
-name_term p g (Some (meaning.Local n)) at = Local n
-name_term p g (Some (meaning.Global n)) at = atom (action.Get n) (variable_at p n) at
-name_term p g (Some (meaning.Truth b)) at = atom (action.Bool b) bool at
-name_term p g _ at = atom action.Nil int at
+abbrev pub name_term : Context → Option Meaning → ℕ → Term
+name_term c (Some (meaning.Local n)) at = Local n
+name_term c (Some (meaning.Global n)) at = atom (action.Get n) (variable_at c.globals n) at
+name_term c (Some (meaning.Truth b)) at = atom (action.Bool b) bool at
+name_term c _ at = atom action.Nil int at
 
 abbrev pub field_term : Option (ℕ × «Type») → Term → ℕ → Term
 field_term None t at = t
@@ -121,7 +122,7 @@ abbrev pub first_numbers : ℕ → List ℕ
 first_numbers zero = []
 first_numbers (suc n) = first_numbers n ++ n ∷ []
 
--- an object by all its fields in order, as far as there are values
+-- an object by its fields in order, one for each value
 abbrev pub build : ℕ → Terms → ℕ → Term
 build n values at = Build n values (first_numbers (count values)) at
 
@@ -141,43 +142,43 @@ with_known (None ∷ tys) t = t
 with_known (Some ty ∷ tys) t = with_type ty t
 
 abbrev mutual
-  pub term_of : Package → Scope → Expr → Term
-  term_of p g (tree.Number n at) = constant (pos n) at
-  term_of p g (tree.Text bytes at) = atom action.Nil int at
-  term_of p g (tree.Name x) = name_term p g (meaning_of p g x.name) x.at
-  term_of p g (tree.Paren e at) = term_of p g e
-  term_of p g (tree.New x at) =
-      atom (action.New (struct_number (meaning_of p g x.name))) (plain (pointer_base (meaning_of p g x.name))) at
-  term_of p g (tree.MakeSlice ty e at) = Apply action.Slice (one (term_of p g e)) (slice_of (resolved p g ty)) at
-  term_of p g (tree.MakeChan ty room at) =
-      Apply action.Chan (one (capacity_term p g room at)) (chan_of (resolved p g ty)) at
-  term_of p g (tree.Select e field) = field_term (field_of p (type_of p g e) field.name) (term_of p g e) field.at
-  term_of p g (tree.Index a i at) = Apply action.At (two (term_of p g a) (term_of p g i)) (element_type (type_of p g a)) at
-  term_of p g (tree.Called f args at) =
-      call_term p (callee_of p g f) (all_terms p g (wanted_of p (callee_of p g f)) args) at
-  term_of p g (tree.Unary op e at) = unary_term op (type_of p g e) (term_of p g e) at
-  term_of p g (tree.Binary op a b at) =
-      binary_term op (type_of p g a) (type_of p g b) (term_of p g a) (term_of p g b) at
-  term_of p g (tree.Literal x values at) =
-      build (struct_number (meaning_of p g x.name))
-      (all_terms p g (struct_fields p (meaning_of p g x.name)).types values) at
-  term_of p g (tree.Keyed x members at) =
-      Build (struct_number (meaning_of p g x.name))
-      (element_terms p g (field_types (struct_fields p (meaning_of p g x.name)) members) members)
-      (element_numbers (struct_fields p (meaning_of p g x.name)) members) at
+  pub term_of : Context → Expr → Term
+  term_of c (tree.Number n at) = constant (pos n) at
+  term_of c (tree.Text bytes at) = atom action.Nil int at
+  term_of c (tree.Name x) = name_term c (meaning_of c x.name) x.at
+  term_of c (tree.Paren e at) = term_of c e
+  term_of c (tree.New x at) =
+      atom (action.New (struct_number (meaning_of c x.name))) (plain (pointer_base (meaning_of c x.name))) at
+  term_of c (tree.MakeSlice ty e at) = Apply action.Slice (one (term_of c e)) (slice_of (resolved c ty)) at
+  term_of c (tree.MakeChan ty room at) =
+      Apply action.Chan (one (capacity_term c room at)) (chan_of (resolved c ty)) at
+  term_of c (tree.Select e field) = field_term (field_of c.globals (type_of c e) field.name) (term_of c e) field.at
+  term_of c (tree.Index a i at) = Apply action.At (two (term_of c a) (term_of c i)) (element_type (type_of c a)) at
+  term_of c (tree.Called f args at) =
+      call_term c.globals (callee_of c f) (all_terms c (wanted_of c.globals (callee_of c f)) args) at
+  term_of c (tree.Unary op e at) = unary_term op (type_of c e) (term_of c e) at
+  term_of c (tree.Binary op a b at) =
+      binary_term op (type_of c a) (type_of c b) (term_of c a) (term_of c b) at
+  term_of c (tree.Literal x values at) =
+      build (struct_number (meaning_of c x.name))
+      (all_terms c (struct_fields c.globals (meaning_of c x.name)).types values) at
+  term_of c (tree.Keyed x members at) =
+      Build (struct_number (meaning_of c x.name))
+      (element_terms c (field_types (struct_fields c.globals (meaning_of c x.name)) members) members)
+      (element_numbers (struct_fields c.globals (meaning_of c x.name)) members) at
 
   -- the room of a channel; none is 0
-  pub capacity_term : Package → Scope → Capacity → ℕ → Term
-  capacity_term p g tree.no_capacity at = constant (pos 0) at
-  capacity_term p g (tree.a_capacity e) at = term_of p g e
+  pub capacity_term : Context → Capacity → ℕ → Term
+  capacity_term c tree.no_capacity at = constant (pos 0) at
+  capacity_term c (tree.a_capacity e) at = term_of c e
 
-  -- values of these types, as far as there are types
-  pub all_terms : Package → Scope → List «Type» → Exprs → Terms
-  all_terms p g wanted tree.no_exprs = no_terms
-  all_terms p g wanted (tree.an_expr e l) = a_term (with_first wanted (term_of p g e)) (all_terms p g (drop 1 wanted) l)
+  -- values of these types, where there are types
+  pub all_terms : Context → List «Type» → Exprs → Terms
+  all_terms c wanted tree.no_exprs = no_terms
+  all_terms c wanted (tree.an_expr e l) = a_term (with_first wanted (term_of c e)) (all_terms c (drop 1 wanted) l)
 
   -- values of the types of their fields
-  pub element_terms : Package → Scope → List (Option «Type») → Elements → Terms
-  element_terms p g known tree.no_elements = no_terms
-  element_terms p g known (tree.an_element x e l) =
-      a_term (with_known known (term_of p g e)) (element_terms p g (drop 1 known) l)
+  pub element_terms : Context → List (Option «Type») → Elements → Terms
+  element_terms c known tree.no_elements = no_terms
+  element_terms c known (tree.an_element x e l) =
+      a_term (with_known known (term_of c e)) (element_terms c (drop 1 known) l)

@@ -1,4 +1,4 @@
--- The type of an expression, as far as it has one.
+-- The shape of an expression: its type, where it has one.
 use Rattle.std.specs.Prelude.{ℕ, ℤ, pos, List, [], ◌∷◌, get_or, Option, Some, None}
 use Rattle.rgo_ast.specs.Tree as tree
 use Rattle.rgo_ast.specs.Tree.{Expr, Exprs}
@@ -17,18 +17,19 @@ use Rattle.rgo_typing_rules.specs.Constants.{folded_shapes, folded_shape}
 use Rattle.rgo_typing_rules.specs.declared.meanings.Meaning.{Meaning}
 use Rattle.rgo_typing_rules.specs.declared.meanings.Meaning.TheVariants as meaning
 use Rattle.rgo_scopes.specs.Blocks.{found}
-use Rattle.rgo_typing_expressions.specs.Scopes.{Package, Scope, Fields, meaning_of, fields_at, variable_at, signature_at, local_at}
+use Rattle.rgo_typing_expressions.specs.Packages.{Fields, Package, Context}
+use Rattle.rgo_typing_expressions.specs.Scopes.{meaning_of, fields_at, variable_at, signature_at, local_at}
 use Rattle.rgo_typing_expressions.specs.Scopes.{int, bool, resolved, pointer_base}
 use Rattle.rgo_typing_expressions.specs.declared.callees.Callee.{Callee}
 use Rattle.rgo_typing_expressions.specs.declared.callees.Callee.TheVariants as callee
 use Rattle.rgo_typing_expressions.specs.Callees.{callee_of}
 
-abbrev pub shape_of_meaning : Package → Scope → Option Meaning → Shape
-shape_of_meaning p g (Some (meaning.Local n)) = shape.Value (local_at g n)
-shape_of_meaning p g (Some (meaning.Global n)) = shape.Value (variable_at p n)
-shape_of_meaning p g (Some (meaning.Truth b)) = shape.Value bool
-shape_of_meaning p g (Some meaning.Nil) = shape.Nil
-shape_of_meaning p g _ = shape.Untyped
+abbrev pub shape_of_meaning : Context → Option Meaning → Shape
+shape_of_meaning c (Some (meaning.Local n)) = shape.Value (local_at c.scope n)
+shape_of_meaning c (Some (meaning.Global n)) = shape.Value (variable_at c.globals n)
+shape_of_meaning c (Some (meaning.Truth b)) = shape.Value bool
+shape_of_meaning c (Some meaning.Nil) = shape.Nil
+shape_of_meaning c _ = shape.Untyped
 
 abbrev pub struct_base : Base → Option ℕ
 struct_base (Pointer n) = Some n
@@ -78,7 +79,7 @@ unary_shape unary.Minus s = shape.Value int
 unary_shape unary.Not s = shape.Value bool
 unary_shape unary.Receive s = element_shape s
 
--- the type of what a binary operation gives
+-- the type of the result of a binary operation
 abbrev pub binary_type : BinaryOp → «Type»
 binary_type binary.Mul = int
 binary_type binary.Div = int
@@ -102,23 +103,23 @@ call_shape p _ = shape.Untyped
 abbrev pub pointer_shape : Option Meaning → Shape
 pointer_shape m = shape.Value (plain (pointer_base m))
 
-abbrev pub type_of : Package → Scope → Expr → Shape
-type_of p g (tree.Number n at) = shape.Constant (pos n)
-type_of p g (tree.Text bytes at) = shape.Text
-type_of p g (tree.Name x) = shape_of_meaning p g (meaning_of p g x.name)
-type_of p g (tree.Paren e at) = type_of p g e
-type_of p g (tree.New x at) = pointer_shape (meaning_of p g x.name)
-type_of p g (tree.MakeSlice ty e at) = shape.Value (slice_of (resolved p g ty))
-type_of p g (tree.MakeChan ty room at) = shape.Value (chan_of (resolved p g ty))
-type_of p g (tree.Select e field) = field_shape (field_of p (type_of p g e) field.name)
-type_of p g (tree.Index a i at) = element_shape (type_of p g a)
-type_of p g (tree.Called f args at) = call_shape p (callee_of p g f)
-type_of p g (tree.Unary op e at) = constant_or (folded_shape op (type_of p g e)) (unary_shape op (type_of p g e))
-type_of p g (tree.Binary op a b at) =
-    constant_or (folded_shapes op (type_of p g a) (type_of p g b)) (shape.Value (binary_type op))
-type_of p g (tree.Literal x values at) = pointer_shape (meaning_of p g x.name)
-type_of p g (tree.Keyed x members at) = pointer_shape (meaning_of p g x.name)
+abbrev pub type_of : Context → Expr → Shape
+type_of c (tree.Number n at) = shape.Constant (pos n)
+type_of c (tree.Text bytes at) = shape.Text
+type_of c (tree.Name x) = shape_of_meaning c (meaning_of c x.name)
+type_of c (tree.Paren e at) = type_of c e
+type_of c (tree.New x at) = pointer_shape (meaning_of c x.name)
+type_of c (tree.MakeSlice ty e at) = shape.Value (slice_of (resolved c ty))
+type_of c (tree.MakeChan ty room at) = shape.Value (chan_of (resolved c ty))
+type_of c (tree.Select e field) = field_shape (field_of c.globals (type_of c e) field.name)
+type_of c (tree.Index a i at) = element_shape (type_of c a)
+type_of c (tree.Called f args at) = call_shape c.globals (callee_of c f)
+type_of c (tree.Unary op e at) = constant_or (folded_shape op (type_of c e)) (unary_shape op (type_of c e))
+type_of c (tree.Binary op a b at) =
+    constant_or (folded_shapes op (type_of c a) (type_of c b)) (shape.Value (binary_type op))
+type_of c (tree.Literal x values at) = pointer_shape (meaning_of c x.name)
+type_of c (tree.Keyed x members at) = pointer_shape (meaning_of c x.name)
 
-abbrev pub types_of : Package → Scope → Exprs → List Shape
-types_of p g tree.no_exprs = []
-types_of p g (tree.an_expr e l) = type_of p g e ∷ types_of p g l
+abbrev pub types_of : Context → Exprs → List Shape
+types_of c tree.no_exprs = []
+types_of c (tree.an_expr e l) = type_of c e ∷ types_of c l

@@ -1,14 +1,11 @@
-//! Expressions without their parentheses, and what a callee is.
+//! What a callee is, and which expressions may be statements or be assigned to.
 #![tactic(auto, using(rgo_ast::proofs::Rows::rows))]
 
 ghost use Rattle.std.specs.Prelude.{◌≡◌, bytes_eq, codes};
 ghost use Rattle.rgo_ast.specs.Views.{expr_of};
 ghost use Rattle.rgo_typing_expressions.specs.Callees as spec;
-ghost use Rattle.rgo_typing_expressions.specs.Views.{package_of, scope_of};
 
-use crate::names::meaning;
-use crate::packages::Package;
-use crate::scopes::Scope;
+use crate::checkers::Checker;
 use rgo_ast::{Expr, Place, UnaryOp};
 use rgo_typing_rules::{Meaning, Role};
 
@@ -29,7 +26,7 @@ pub enum Callee {
     Nothing,
 }
 
-/// An expression without the parentheses round it.
+/// An expression without the parentheses around it.
 pub fn bare(e: &Expr) -> &Expr
     ensures { expr_of result.now ≡ spec.bare (expr_of e.now) }
 {
@@ -74,48 +71,6 @@ fn package_callee(at: Place, meaning: Option<Meaning>, name: &[u8]) -> Callee
     }
 }
 
-fn selected_callee(globals: &Package<'_>, scope: &Scope<'_>, e: &Expr, name: &[u8]) -> Callee
-    ensures { result ≡ spec.selected_callee (package_of globals.now) (scope_of scope.now) (expr_of e.now) name.now }
-{
-    match e {
-        Expr::Name(x) => package_callee(x.at, meaning(globals, scope, x.name.bytes()), name),
-        _ => Callee::Nothing,
-    }
-}
-
-/// What a callee is.
-pub fn resolve_callee(globals: &Package<'_>, scope: &Scope<'_>, f: &Expr) -> Callee
-    ensures { result ≡ spec.callee_of (package_of globals.now) (scope_of scope.now) (expr_of f.now) }
-{
-    match bare(f) {
-        Expr::Name(x) => named_callee(x.at, meaning(globals, scope, x.name.bytes())),
-        Expr::Select(e, field) => selected_callee(globals, scope, bare(e), field.name.bytes()),
-        _ => Callee::Nothing,
-    }
-}
-
-fn names_package(globals: &Package<'_>, scope: &Scope<'_>, e: &Expr) -> bool
-    ensures { result ≡ spec.names_package (package_of globals.now) (scope_of scope.now) (expr_of e.now) }
-{
-    match e {
-        Expr::Name(x) => matches!(
-            meaning(globals, scope, x.name.bytes()),
-            Some(Meaning::Package(_))
-        ),
-        _ => false,
-    }
-}
-
-/// Whether it is `fmt` with a name behind it.
-pub fn is_package_selector(globals: &Package<'_>, scope: &Scope<'_>, f: &Expr) -> bool
-    ensures { result ≡ spec.is_package_selector (package_of globals.now) (scope_of scope.now) (expr_of f.now) }
-{
-    match bare(f) {
-        Expr::Select(e, _) => names_package(globals, scope, bare(e)),
-        _ => false,
-    }
-}
-
 fn selects_println(e: &Expr) -> bool
     ensures { result ≡ spec.selects_println (expr_of e.now) }
 {
@@ -125,40 +80,84 @@ fn selects_println(e: &Expr) -> bool
     }
 }
 
-/// What the arguments of a callee are judged as.
-pub fn args_role(globals: &Package<'_>, scope: &Scope<'_>, f: &Expr) -> Role
-    ensures { result ≡ spec.args_role (package_of globals.now) (scope_of scope.now) (expr_of f.now) }
-{
-    if is_package_selector(globals, scope, f) && selects_println(bare(f)) {
-        Role::Printed
-    } else {
-        Role::Value
+impl<'p, 'a> Checker<'p, 'a> {
+    fn selected_callee(&self, e: &Expr, name: &[u8]) -> Callee
+        ensures { result ≡ spec.selected_callee self.now (expr_of e.now) name.now }
+    {
+        match e {
+            Expr::Name(x) => package_callee(x.at, self.meaning(x.name.bytes()), name),
+            _ => Callee::Nothing,
+        }
     }
-}
 
-/// Whether it is a call other than of `len`, or a receive, and so may stand as a statement (The Go
-/// Programming Language Specification, "Expression statements").
-pub fn may_stand(globals: &Package<'_>, scope: &Scope<'_>, e: &Expr) -> bool
-    ensures { result ≡ spec.may_stand (package_of globals.now) (scope_of scope.now) (expr_of e.now) }
-{
-    match bare(e) {
-        Expr::Call(f, _, _) => !matches!(resolve_callee(globals, scope, f), Callee::Length),
-        Expr::Unary(op, _, _) => matches!(op, UnaryOp::Receive),
-        _ => false,
+    /// What a callee is.
+    pub fn resolve_callee(&self, f: &Expr) -> Callee
+        ensures { result ≡ spec.callee_of self.now (expr_of f.now) }
+    {
+        match bare(f) {
+            Expr::Name(x) => named_callee(x.at, self.meaning(x.name.bytes())),
+            Expr::Select(e, field) => self.selected_callee(bare(e), field.name.bytes()),
+            _ => Callee::Nothing,
+        }
     }
-}
 
-/// Whether it is a variable, a field or an element, and so may be assigned to (The Go Programming
-/// Language Specification, "Assignment statements").
-pub fn is_place(globals: &Package<'_>, scope: &Scope<'_>, e: &Expr) -> bool
-    ensures { result ≡ spec.is_place (package_of globals.now) (scope_of scope.now) (expr_of e.now) }
-{
-    match bare(e) {
-        Expr::Name(x) => matches!(
-            meaning(globals, scope, x.name.bytes()),
-            Some(Meaning::Local(_)) | Some(Meaning::Global(_))
-        ),
-        Expr::Select(_, _) | Expr::Index(_, _, _) => true,
-        _ => false,
+    fn names_package(&self, e: &Expr) -> bool
+        ensures { result ≡ spec.names_package self.now (expr_of e.now) }
+    {
+        match e {
+            Expr::Name(x) => matches!(
+                self.meaning(x.name.bytes()),
+                Some(Meaning::Package(_))
+            ),
+            _ => false,
+        }
+    }
+
+    /// Whether it is `fmt` followed by a name.
+    pub fn is_package_selector(&self, f: &Expr) -> bool
+        ensures { result ≡ spec.is_package_selector self.now (expr_of f.now) }
+    {
+        match bare(f) {
+            Expr::Select(e, _) => self.names_package(bare(e)),
+            _ => false,
+        }
+    }
+
+    /// What the arguments of a callee are checked as.
+    pub fn args_role(&self, f: &Expr) -> Role
+        ensures { result ≡ spec.args_role self.now (expr_of f.now) }
+    {
+        if self.is_package_selector(f) && selects_println(bare(f)) {
+            Role::Printed
+        } else {
+            Role::Value
+        }
+    }
+
+    /// Whether it is a call other than of `len`, or a receive, and so may be a statement (The Go
+    /// Programming Language Specification, "Expression statements").
+    pub fn may_stand(&self, e: &Expr) -> bool
+        ensures { result ≡ spec.may_stand self.now (expr_of e.now) }
+    {
+        match bare(e) {
+            Expr::Call(f, _, _) => !matches!(self.resolve_callee(f), Callee::Length),
+            Expr::Unary(op, _, _) => matches!(op, UnaryOp::Receive),
+            _ => false,
+        }
+    }
+
+    /// Whether it is a variable, a field or an element, and so may be assigned to (The Go Programming
+    /// Language Specification, "Assignment statements").
+    pub fn is_place(&self, e: &Expr) -> bool
+        ensures { result ≡ spec.is_place self.now (expr_of e.now) }
+    {
+        match bare(e) {
+            Expr::Name(x) => matches!(
+                self.meaning(x.name.bytes()),
+                Some(Meaning::Local(_)) | Some(Meaning::Global(_))
+            ),
+            Expr::Select(_, _) | Expr::Index(_, _, _) => true,
+            _ => false,
+        }
     }
 }

@@ -1,30 +1,26 @@
-//! Calls, of what is called and of judged arguments.
+//! Calls, from their callee and their checked arguments.
 #![tactic(auto, using(rgo_typed::proofs::Rows::rows))]
 
 ghost use Rattle.std.specs.Prelude.{◌≡◌, [], ◌∷◌, IfOk, map};
-ghost use Rattle.rgo_typing_rules.specs.Nodes as node;
-ghost use Rattle.rgo_typing_rules.specs.Views.{shape_of, optional_kind_of, signature_of};
-ghost use Rattle.rgo_typing_rules.specs.Shapes as shape;
 ghost use Rattle.rgo_typed.specs.Tree as tree;
 ghost use Rattle.rgo_typed.specs.Views.{term_of};
-ghost use Rattle.rgo_typing_expressions.specs.Judges.{Judges};
-ghost use Rattle.rgo_typing_expressions.specs.Judging.{call_place, call_node};
 ghost use Rattle.rgo_typed.specs.declared.actions.Action.TheVariants.{Len, Nil};
+ghost use Rattle.rgo_typing_rules.specs.Nodes as node;
+ghost use Rattle.rgo_typing_rules.specs.Shapes as shape;
+ghost use Rattle.rgo_typing_rules.specs.Views.{shape_of, optional_kind_of, signature_of};
+ghost use Rattle.rgo_typing_expressions.specs.Checking.{call_place, call_node};
+ghost use Rattle.rgo_typing_expressions.specs.Results.{ChecksTo, Matches};
 ghost use Rattle.rgo_typing_expressions.specs.Scopes.{int};
-ghost use Rattle.rgo_typing_expressions.specs.Tells.{Tells};
 ghost use Rattle.rgo_typing_expressions.specs.Terms as terms;
 ghost use Rattle.rgo_typing_expressions.specs.Types as types;
-ghost use Rattle.rgo_typing_expressions.specs.Views.{package_of};
 
 use crate::callees::Callee;
-use crate::errors::TypeError;
-use crate::judged::{Judged, Values};
-use crate::judging::judge;
 use crate::packages::Package;
+use crate::results::{Checked, Values};
 use crate::terms::{atom, plain};
 use rgo_ast::Place;
-use rgo_typing_rules::{Kind, Node, Role, Shape, Signature};
 use rgo_typed::{Action, Base, Term, Type};
+use rgo_typing_rules::{Kind, Node, Role, Shape, Signature, TypeError, check_node};
 use std::alloc::{AllocError, Global};
 
 fn result_shape<'a>(result_type: Option<Kind<'a>>) -> Shape<'a>
@@ -53,45 +49,46 @@ fn routine<'a>(
     signature: &Signature<'a>,
     args: Values<'a>,
     at: Place,
-) -> Result<Judged<'a>, TypeError>
-    ensures judged { Judges result
-        ((at, node.Call role (signature_of signature.now) (map shape_of args.entry.shapes.items)) ∷ []) }
-    ensures value { IfOk result (λ j. Tells j (types.result_shape (signature_of signature.now).result_type)
+) -> Result<Checked<'a>, TypeError>
+    ensures { ChecksTo result
+        ((at, node.Call role (signature_of signature.now) (map shape_of args.entry.shapes.items)) ∷ [])
+        (types.result_shape (signature_of signature.now).result_type)
         (tree.Call number (tree.terms_of (map term_of args.entry.terms.items))
-        (terms.result_or_int (signature_of signature.now).result_type) at)) }
+        (terms.result_or_int (signature_of signature.now).result_type) at) }
 {
-    judge(at, &Node::Call(role, signature, &args.shapes))?;
+    check_node(at, &Node::Call(role, signature, &args.shapes))?;
     let ty = result_or_int(alloc, signature.result_type)?;
-    Ok(Judged {
+    Ok(Checked {
         term: Term::Call(number, args.terms, ty, at),
         shape: result_shape(signature.result_type),
     })
 }
 
-fn length<'a>(alloc: Global, args: Values<'a>, at: Place) -> Result<Judged<'a>, TypeError>
-    ensures judged { Judges result ((at, node.CallLen (map shape_of args.entry.shapes.items)) ∷ []) }
-    ensures value { IfOk result (λ j. Tells j (shape.Value int)
-        (tree.Apply Len (tree.terms_of (map term_of args.entry.terms.items)) int at)) }
+/// A call of `len`.
+fn length<'a>(alloc: Global, args: Values<'a>, at: Place) -> Result<Checked<'a>, TypeError>
+    ensures { ChecksTo result ((at, node.CallLen (map shape_of args.entry.shapes.items)) ∷ [])
+        (shape.Value int) (tree.Apply Len (tree.terms_of (map term_of args.entry.terms.items)) int at) }
 {
-    judge(at, &Node::CallLen(&args.shapes))?;
+    check_node(at, &Node::CallLen(&args.shapes))?;
     let ty = plain(alloc, Base::Int);
-    Ok(Judged {
+    Ok(Checked {
         term: Term::Apply(Action::Len, args.terms, ty, at),
         shape: Shape::Value(Kind::Plain(Base::Int)),
     })
 }
 
 /// What has no value.
-fn nothing<'a>(alloc: Global, at: Place) -> Judged<'a>
-    ensures { Tells result shape.NoResult (terms.atom Nil int at) }
+fn nothing<'a>(alloc: Global, at: Place) -> Checked<'a>
+    ensures { Matches result shape.NoResult (terms.atom Nil int at) }
 {
-    Judged {
+    Checked {
         term: atom(alloc, Action::Nil, plain(alloc, Base::Int), at),
         shape: Shape::NoResult,
     }
 }
 
 /// A call (The Go Programming Language Specification, "Calls").
+#[tactic(auto, using(rgo_typed::proofs::Rows::rows), unfolding(rgo_typing_rules::specs::Rules::broken))]
 pub fn call<'a>(
     alloc: Global,
     globals: &Package<'a>,
@@ -99,29 +96,27 @@ pub fn call<'a>(
     callee: Callee,
     args: Values<'a>,
     at: Place,
-) -> Result<Judged<'a>, TypeError>
-    ensures judged { Judges result ((
-      call_place at callee,
-      call_node (package_of globals.now) role callee (map shape_of args.entry.shapes.items),
-    ) ∷ []) }
-    ensures value { IfOk result (λ j. Tells j (types.call_shape (package_of globals.now) callee)
-        (terms.call_term (package_of globals.now) callee (tree.terms_of (map term_of args.entry.terms.items)) at)) }
+) -> Result<Checked<'a>, TypeError>
+    ensures { ChecksTo result
+        ((call_place at callee, call_node globals.now role callee (map shape_of args.entry.shapes.items)) ∷ [])
+        (types.call_shape globals.now callee)
+        (terms.call_term globals.now callee (tree.terms_of (map term_of args.entry.terms.items)) at) }
 {
     match callee {
         Callee::Missing(name_at) => {
-            judge(name_at, &Node::CallMissing)?;
+            check_node(name_at, &Node::CallMissing)?;
             unreachable!();
         }
         Callee::Nothing => {
-            judge(at, &Node::CallNothing)?;
+            check_node(at, &Node::CallNothing)?;
             unreachable!();
         }
         Callee::Printer => {
-            judge(at, &Node::Print(role, &args.shapes))?;
+            check_node(at, &Node::Print(role, &args.shapes))?;
             Ok(nothing(alloc, at))
         }
         Callee::Closer => {
-            judge(at, &Node::CallClose(role, &args.shapes))?;
+            check_node(at, &Node::CallClose(role, &args.shapes))?;
             Ok(nothing(alloc, at))
         }
         Callee::Length => length(alloc, args, at),

@@ -2,9 +2,8 @@
 
 ghost use Rattle.std.specs.Prelude.{◌≡◌};
 ghost use Rattle.rgo_typing_rules.specs.Views.{kind_of, shape_of};
-ghost use Rattle.rgo_typing_expressions.specs.Tells.{found_field};
+ghost use Rattle.rgo_typing_expressions.specs.Results.{found_field};
 ghost use Rattle.rgo_typing_expressions.specs.Types as spec;
-ghost use Rattle.rgo_typing_expressions.specs.Views.{package_of, fields_of};
 
 use crate::packages::{Fields, Package};
 use rgo_typing_rules::{Kind, Shape};
@@ -19,7 +18,7 @@ pub struct Field<'a> {
 
 /// The field of this name.
 pub fn field_in<'a>(fields: &Fields<'a>, name: &[u8]) -> Option<Field<'a>>
-    ensures { found_field result ≡ spec.field_in (fields_of fields.now) name.now }
+    ensures { found_field result ≡ spec.field_in fields.now name.now }
 {
     let number = fields.numbers.get(name)?;
     let kind = match fields.kinds.get(number) {
@@ -41,7 +40,7 @@ fn struct_of(shape: Shape<'_>) -> Option<usize>
 
 /// The field of this name of what a value points to.
 pub fn find_field<'a>(globals: &Package<'a>, shape: Shape<'_>, name: &[u8]) -> Option<Field<'a>>
-    ensures { found_field result ≡ spec.field_of (package_of globals.now) (shape_of shape.entry) name.now }
+    ensures { found_field result ≡ spec.field_of globals.now (shape_of shape.entry) name.now }
 {
     let number = struct_of(shape)?;
     match globals.structs.get(number) {

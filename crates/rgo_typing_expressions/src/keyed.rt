@@ -1,32 +1,26 @@
-//! Composite literals by fields, of judged values.
+//! Composite literals by fields.
 #![tactic(auto, using(rgo_ast::proofs::Rows::rows, rgo_typed::proofs::Rows::rows))]
 
-ghost use Rattle.std.specs.Prelude.{◌≡◌, [], ◌∷◌, IfOk, map, Some};
+ghost use Rattle.std.specs.Prelude.{◌≡◌, [], ◌∷◌, IfOk, map};
 ghost use Rattle.rgo_ast.specs.Tree as ast;
 ghost use Rattle.rgo_ast.specs.Views.{element_of};
-ghost use Rattle.rgo_typing_rules.specs.Nodes as node;
-ghost use Rattle.rgo_typing_rules.specs.Views.{shape_of, optional_kind_of, known_of};
 ghost use Rattle.rgo_scopes.specs.Blocks.{no_names};
 ghost use Rattle.rgo_typed.specs.Tree as tree;
 ghost use Rattle.rgo_typed.specs.Views.{term_of};
-ghost use Rattle.rgo_typing_expressions.specs.Judges.{Judges};
-ghost use Rattle.rgo_typing_expressions.specs.Judging as judging;
-ghost use Rattle.rgo_typing_expressions.specs.Scopes as scopes;
-ghost use Rattle.rgo_typing_expressions.specs.Tells.{Tells, FieldsOf};
-ghost use Rattle.rgo_typing_expressions.specs.Terms as terms;
+ghost use Rattle.rgo_typing_rules.specs.Nodes as node;
+ghost use Rattle.rgo_typing_rules.specs.Views.{shape_of, optional_kind_of};
+ghost use Rattle.rgo_typing_expressions.specs.Checking as checking;
+ghost use Rattle.rgo_typing_expressions.specs.Results.{ChecksTo, FieldsOf};
 ghost use Rattle.rgo_typing_expressions.specs.Types as types;
-ghost use Rattle.rgo_typing_expressions.specs.Views.{package_of, fields_of};
 
-use crate::errors::TypeError;
 use crate::fields::field_in;
-use crate::judged::{Judged, Values};
-use crate::judging::judge;
-use crate::literals::{pointer, struct_number};
+use crate::made::{pointer, struct_number};
 use crate::packages::{Fields, Package};
+use crate::results::{Checked, Values};
 use rgo_ast::{Element, Place};
-use rgo_typing_rules::{Kind, Meaning, Node, Shape};
 use rgo_scopes::Scopes;
 use rgo_typed::{Row, Term};
+use rgo_typing_rules::{Kind, Meaning, Node, TypeError, check_node};
 use std::alloc::{AllocError, Global};
 
 /// The fields that the elements of a literal name: the type of each, where there is such a field,
@@ -42,7 +36,7 @@ fn fields_named<'a>(
     fields: &Fields<'a>,
     elements: &[Element],
 ) -> Result<Named<'a>, AllocError>
-    ensures { IfOk result (λ named. FieldsOf named (fields_of fields.now) (ast.elements_of (map element_of elements.now))) }
+    ensures { IfOk result (λ named. FieldsOf named fields.now (ast.elements_of (map element_of elements.now))) }
 {
     let mut kinds = Vec::new(alloc);
     let mut numbers = Vec::new(alloc);
@@ -62,14 +56,14 @@ fn fields_named<'a>(
 }
 
 /// The fields that the elements of a literal name, in the struct that its name means.
-pub fn find_named<'a>(
+pub(crate) fn find_named<'a>(
     alloc: Global,
     globals: &Package<'a>,
     meaning: Option<Meaning>,
     elements: &[Element],
 ) -> Result<Named<'a>, AllocError>
     ensures { IfOk result (λ named. FieldsOf named
-        (judging.struct_fields (package_of globals.now) meaning) (ast.elements_of (map element_of elements.now))) }
+        (checking.struct_fields globals.now meaning) (ast.elements_of (map element_of elements.now))) }
 {
     match globals.structs.get(struct_number(meaning)) {
         Some(fields) => fields_named(alloc, fields, elements),
@@ -85,7 +79,7 @@ pub fn find_named<'a>(
 
 /// Whether two elements name one field.
 fn has_twice(alloc: Global, elements: &[Element]) -> Result<bool, AllocError>
-    ensures { IfOk result (λ b. b ≡ judging.has_twice no_names (ast.elements_of (map element_of elements.now))) }
+    ensures { IfOk result (λ b. b ≡ checking.has_twice no_names (ast.elements_of (map element_of elements.now))) }
 {
     let mut seen: Scopes<'_, usize> = Scopes::new(alloc);
     for element in elements {
@@ -97,46 +91,35 @@ fn has_twice(alloc: Global, elements: &[Element]) -> Result<bool, AllocError>
     Ok(false)
 }
 
-/// Refuses a literal by fields for the first rule that it breaks.
-fn judge_keyed(
-    known: Option<&[Option<Kind<'_>>]>,
-    twice: bool,
-    values: &[Shape<'_>],
-    at: Place,
-) -> Result<(), TypeError>
-    ensures { Judges result ((at, node.Keyed (known_of known.entry) twice (map shape_of values.now)) ∷ []) }
-{
-    judge(at, &Node::Keyed(known, twice, values))
-}
-
-/// `&T{f: a, g: b}`, of its values (The Go Programming Language Specification, "Composite
+/// `&T{f: a, g: b}`, from its checked values (The Go Programming Language Specification, "Composite
 /// literals").
-pub fn keyed<'a>(
+#[tactic(auto, using(rgo_ast::proofs::Rows::rows, rgo_typed::proofs::Rows::rows), unfolding(rgo_typing_rules::specs::Rules::broken))]
+pub(crate) fn keyed<'a>(
     alloc: Global,
     meaning: Option<Meaning>,
     elements: &[Element],
     named: Named<'a>,
     values: Values<'a>,
     at: Place,
-) -> Result<Judged<'a>, TypeError>
-    ensures judged { Judges result ((
+) -> Result<Checked<'a>, TypeError>
+    ensures { ChecksTo result ((
       at,
       node.Keyed
-          (judging.known_if meaning (map optional_kind_of named.entry.kinds.items))
-          (judging.has_twice no_names (ast.elements_of (map element_of elements.now)))
+          (checking.known_if meaning (map optional_kind_of named.entry.kinds.items))
+          (checking.has_twice no_names (ast.elements_of (map element_of elements.now)))
           (map shape_of values.entry.shapes.items),
-    ) ∷ []) }
-    ensures value { IfOk result (λ j. Tells j (types.pointer_shape meaning)
-        (tree.Build (judging.struct_number meaning) (tree.terms_of (map term_of values.entry.terms.items))
-        named.entry.numbers.items at)) }
+    ) ∷ [])
+        (types.pointer_shape meaning)
+        (tree.Build (checking.struct_number meaning) (tree.terms_of (map term_of values.entry.terms.items))
+        named.entry.numbers.items at) }
 {
     let twice = has_twice(alloc, elements)?;
     let Some(Meaning::Struct(number)) = meaning else {
-        judge_keyed(None, twice, &values.shapes, at)?;
+        check_node(at, &Node::Keyed(None, twice, &values.shapes))?;
         unreachable!();
     };
-    judge_keyed(Some(&named.kinds), twice, &values.shapes, at)?;
-    Ok(Judged {
+    check_node(at, &Node::Keyed(Some(&named.kinds), twice, &values.shapes))?;
+    Ok(Checked {
         term: Term::Build(number, values.terms, Row::new(named.numbers), at),
         shape: pointer(meaning),
     })

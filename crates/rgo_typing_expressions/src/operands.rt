@@ -1,121 +1,100 @@
-//! Operands: numbers, strings and names.
+//! Operands: numbers, strings and names; and values as what is wanted of them.
 #![tactic(auto, using(rgo_typed::proofs::Rows::rows))]
 
 ghost use Rattle.std.specs.Prelude.{◌≡◌, [], ◌∷◌, IfOk, pos, map, drop};
+ghost use Rattle.rgo_typed.specs.Views.{term_of};
+ghost use Rattle.rgo_typed.specs.declared.actions.Action.TheVariants.{Nil};
 ghost use Rattle.rgo_typing_rules.specs.Nodes as node;
 ghost use Rattle.rgo_typing_rules.specs.Shapes as shape;
 ghost use Rattle.rgo_typing_rules.specs.Views.{kind_of, optional_kind_of};
-ghost use Rattle.rgo_typed.specs.Tree as tree;
-ghost use Rattle.rgo_typed.specs.Views.{term_of};
-ghost use Rattle.rgo_typed.specs.declared.actions.Action.TheVariants.{Nil};
-ghost use Rattle.rgo_typing_expressions.specs.Judges.{Judges};
+ghost use Rattle.rgo_typing_expressions.specs.Results.{ChecksTo, Matches};
 ghost use Rattle.rgo_typing_expressions.specs.Scopes.{int, meaning_of};
-ghost use Rattle.rgo_typing_expressions.specs.Tells.{Tells};
 ghost use Rattle.rgo_typing_expressions.specs.Terms as terms;
 ghost use Rattle.rgo_typing_expressions.specs.Types as types;
-ghost use Rattle.rgo_typing_expressions.specs.Views.{package_of, scope_of};
 
-use crate::errors::TypeError;
-use crate::judged::Judged;
-use crate::judging::judge;
-use crate::names::meaning;
-use crate::packages::Package;
-use crate::scopes::Scope;
+use crate::checkers::Checker;
+use crate::results::Checked;
 use crate::terms::{atom, constant, plain, with_type};
 use rgo_ast::{Ident, Place};
-use rgo_typing_rules::{Kind, Meaning, Node, Role, Shape};
 use rgo_typed::{Action, Base, Term};
+use rgo_typing_rules::{Kind, Meaning, Node, Role, Shape, TypeError, check_node};
 use std::alloc::{AllocError, Global};
 
 /// An integer literal.
-pub fn number<'a>(alloc: Global, value: u64, at: Place) -> Result<Judged<'a>, TypeError>
-    ensures judged { Judges result ((at, node.Number value) ∷ []) }
-    ensures value { IfOk result (λ j. Tells j (shape.Constant (pos value)) (terms.constant (pos value) at)) }
+#[tactic(auto, using(rgo_typed::proofs::Rows::rows), unfolding(rgo_typing_rules::specs::Rules::broken))]
+pub(crate) fn number<'a>(alloc: Global, value: u64, at: Place) -> Result<Checked<'a>, TypeError>
+    ensures { ChecksTo result ((at, node.Number value) ∷ [])
+        (shape.Constant (pos value)) (terms.constant (pos value) at) }
 {
-    judge(at, &Node::Number(value))?;
+    check_node(at, &Node::Number(value))?;
     let Ok(value) = i64::try_from(value) else {
         unreachable!();
     };
-    Ok(Judged {
+    Ok(Checked {
         term: constant(alloc, value, at),
         shape: Shape::Constant(value),
     })
 }
 
 /// A string literal. It has no term of its own: a print takes its bytes.
-pub fn text<'a>(alloc: Global, role: Role, at: Place) -> Result<Judged<'a>, TypeError>
-    ensures judged { Judges result ((at, node.Text role) ∷ []) }
-    ensures value { IfOk result (λ j. Tells j shape.Text (terms.atom Nil int at)) }
+pub(crate) fn text<'a>(alloc: Global, role: Role, at: Place) -> Result<Checked<'a>, TypeError>
+    ensures { ChecksTo result ((at, node.Text role) ∷ []) shape.Text (terms.atom Nil int at) }
 {
-    judge(at, &Node::Text(role))?;
-    Ok(Judged {
+    check_node(at, &Node::Text(role))?;
+    Ok(Checked {
         term: atom(alloc, Action::Nil, plain(alloc, Base::Int), at),
         shape: Shape::Text,
     })
 }
 
-/// An operand name.
-pub fn operand<'a>(
-    alloc: Global,
-    globals: &Package<'a>,
-    scope: &Scope<'a>,
-    role: Role,
-    x: &Ident,
-) -> Result<Judged<'a>, TypeError>
-    ensures judged { Judges result
-        ((x.now.at, node.Name role (meaning_of (package_of globals.now) (scope_of scope.now) x.now.name)) ∷ []) }
-    ensures value { IfOk result (λ j. Tells j
-        (types.shape_of_meaning (package_of globals.now) (scope_of scope.now)
-        (meaning_of (package_of globals.now) (scope_of scope.now) x.now.name))
-        (terms.name_term (package_of globals.now) (scope_of scope.now)
-        (meaning_of (package_of globals.now) (scope_of scope.now) x.now.name) x.now.at)) }
-{
-    let found = meaning(globals, scope, x.name.bytes());
-    judge(x.at, &Node::Name(role, found))?;
-    Ok(named_value(alloc, globals, scope, found, x.at)?)
-}
+impl<'p, 'a> Checker<'p, 'a> {
+    /// An operand name.
+    pub(crate) fn operand(&self, role: Role, x: &Ident) -> Result<Checked<'a>, TypeError>
+        ensures { ChecksTo result ((x.now.at, node.Name role (meaning_of self.now x.now.name)) ∷ [])
+            (types.shape_of_meaning self.now (meaning_of self.now x.now.name))
+            (terms.name_term self.now (meaning_of self.now x.now.name) x.now.at) }
+    {
+        let found = self.meaning(x.name.bytes());
+        check_node(x.at, &Node::Name(role, found))?;
+        Ok(self.named_value(found, x.at)?)
+    }
 
-/// What a name gives that means this.
-fn named_value<'a>(
-    alloc: Global,
-    globals: &Package<'a>,
-    scope: &Scope<'a>,
-    meaning: Option<Meaning>,
-    at: Place,
-) -> Result<Judged<'a>, AllocError>
-    ensures { IfOk result (λ j. Tells j
-        (types.shape_of_meaning (package_of globals.now) (scope_of scope.now) meaning)
-        (terms.name_term (package_of globals.now) (scope_of scope.now) meaning at)) }
-{
-    match meaning {
-        Some(Meaning::Local(number)) => Ok(Judged {
-            term: Term::Local(number),
-            shape: Shape::Value(scope.local(number)),
-        }),
-        Some(Meaning::Global(number)) => {
-            let kind = globals.variable(number);
-            Ok(Judged {
-                term: atom(alloc, Action::Get(number), kind.to_type(alloc)?, at),
-                shape: Shape::Value(kind),
-            })
+    /// The value of a name that means this.
+    fn named_value(&self, meaning: Option<Meaning>, at: Place) -> Result<Checked<'a>, AllocError>
+        ensures { IfOk result (λ e. Matches e
+            (types.shape_of_meaning self.now meaning) (terms.name_term self.now meaning at)) }
+    {
+        let alloc = self.alloc();
+        match meaning {
+            Some(Meaning::Local(number)) => Ok(Checked {
+                term: Term::Local(number),
+                shape: Shape::Value(self.scope().local(number)),
+            }),
+            Some(Meaning::Global(number)) => {
+                let kind = self.globals().variable(number);
+                Ok(Checked {
+                    term: atom(alloc, Action::Get(number), kind.to_type(alloc)?, at),
+                    shape: Shape::Value(kind),
+                })
+            }
+            Some(Meaning::Truth(truth)) => Ok(Checked {
+                term: atom(alloc, Action::Bool(truth), plain(alloc, Base::Bool), at),
+                shape: Shape::Value(Kind::Plain(Base::Bool)),
+            }),
+            Some(Meaning::Nil) => Ok(Checked {
+                term: atom(alloc, Action::Nil, plain(alloc, Base::Int), at),
+                shape: Shape::Nil,
+            }),
+            _ => Ok(Checked {
+                term: atom(alloc, Action::Nil, plain(alloc, Base::Int), at),
+                shape: Shape::Untyped,
+            }),
         }
-        Some(Meaning::Truth(truth)) => Ok(Judged {
-            term: atom(alloc, Action::Bool(truth), plain(alloc, Base::Bool), at),
-            shape: Shape::Value(Kind::Plain(Base::Bool)),
-        }),
-        Some(Meaning::Nil) => Ok(Judged {
-            term: atom(alloc, Action::Nil, plain(alloc, Base::Int), at),
-            shape: Shape::Nil,
-        }),
-        _ => Ok(Judged {
-            term: atom(alloc, Action::Nil, plain(alloc, Base::Int), at),
-            shape: Shape::Untyped,
-        }),
     }
 }
 
 /// A value as one of the type of this number, where there is one.
-pub fn wanted_term(
+pub(crate) fn wanted_term(
     alloc: Global,
     wanted: &[Kind<'_>],
     number: usize,
@@ -130,7 +109,7 @@ pub fn wanted_term(
 }
 
 /// The same, where not each type is known.
-pub fn known_term(
+pub(crate) fn known_term(
     alloc: Global,
     known: &[Option<Kind<'_>>],
     number: usize,

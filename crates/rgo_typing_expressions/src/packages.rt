@@ -1,13 +1,14 @@
-//! What the package declares.
+//! What a package declares.
 
-ghost use Rattle.std.specs.Prelude.{◌≡◌, MatchOption, length, get_or, map, ◌≤◌, Some, None};
-ghost use Rattle.rgo_typing_rules.specs.Views.{kind_of, signature_of};
-ghost use Rattle.rgo_typing_expressions.specs.Scopes.{variable_at};
-ghost use Rattle.rgo_typing_expressions.specs.Views.{package_of};
+ghost use Rattle.std.specs.Prelude.{◌≡◌};
+ghost use Rattle.rgo_typing_rules.specs.Views.{kind_of};
+ghost use Rattle.rgo_typing_expressions.specs.Scopes.{variable_at, global_meaning};
 
-use rgo_typing_rules::{Kind, Meaning, Signature};
+use crate::names::universe;
 use rgo_scopes::Scopes;
 use rgo_typed::Base;
+use rgo_typing_rules::{Kind, Meaning, Signature};
+use std::marker::Model;
 
 /// The fields of a struct: the number of each name, and the types by number.
 #[derive(Drop)]
@@ -16,7 +17,18 @@ pub struct Fields<'a> {
     pub kinds: Vec<Kind<'a>>,
 }
 
-/// What the package declares.
+impl<'a> Model for Fields<'a> {
+    ghost use Rattle.rgo_typing_expressions.specs.Packages.{Fields};
+
+    ghost Value = { Fields };
+
+    ghost use Rattle.std.specs.Prelude.{map};
+    ghost use Rattle.rgo_typing_rules.specs.Views.{kind_of};
+
+    ghost view = { λ f. record { numbers = f.numbers; types = map kind_of f.kinds.items } };
+}
+
+/// What a package declares.
 #[derive(Drop)]
 pub struct Package<'a> {
     /// Whether it imports `fmt`.
@@ -27,14 +39,41 @@ pub struct Package<'a> {
     pub functions: Vec<Signature<'a>>,
 }
 
+impl<'a> Model for Package<'a> {
+    ghost use Rattle.rgo_typing_expressions.specs.Packages.{Package};
+
+    ghost Value = { Package };
+
+    ghost use Rattle.std.specs.Prelude.{map};
+    ghost use Rattle.rgo_typing_rules.specs.Views.{kind_of, signature_of};
+
+    ghost view = { λ p. record {
+      imported = p.imported;
+      names = p.names;
+      structs = p.structs.items;
+      variables = map kind_of p.variables.items;
+      functions = map signature_of p.functions.items;
+    } };
+}
+
 impl<'a> Package<'a> {
     /// The type of a package variable.
     pub fn variable(&self, number: usize) -> Kind<'a>
-        ensures { kind_of result ≡ variable_at (package_of self.now) number }
+        ensures { kind_of result ≡ variable_at self.now number }
     {
         match self.variables.get(number) {
             Some(kind) => *kind,
             None => Kind::Plain(Base::Int),
+        }
+    }
+
+    /// What a name means that is no local variable.
+    pub fn meaning(&self, name: &[u8]) -> Option<Meaning>
+        ensures { result ≡ global_meaning self.now name.now }
+    {
+        match self.names.get(name) {
+            Some(meaning) => Some(meaning),
+            None => universe(self.imported, name),
         }
     }
 }

@@ -1,29 +1,41 @@
 //! The local variables of a function at a point of it.
 
-ghost use Rattle.std.specs.Prelude.{◌≡◌, OnOk, IfOk, is_some};
+ghost use Rattle.std.specs.Prelude.{◌≡◌, OnOk, OnErr, map, is_some};
 ghost use Rattle.rgo_typing_rules.specs.Views.{kind_of};
-ghost use Rattle.rgo_scopes.specs.Blocks.{found_in};
+ghost use Rattle.rgo_scopes.specs.Blocks.{found, found_in};
 ghost use Rattle.rgo_typing_expressions.specs.Scopes.{local_at, with_local, inside, outside, no_locals};
-ghost use Rattle.rgo_typing_expressions.specs.Views.{scope_of};
 
-use rgo_typing_rules::Kind;
+use crate::packages::Fields;
 use rgo_scopes::Scopes;
 use rgo_typed::Base;
+use rgo_typing_rules::Kind;
 use std::alloc::{AllocError, Global};
+use std::marker::Model;
 
 /// The local variables that were declared so far.
 #[derive(Drop)]
 pub struct Scope<'a> {
     /// The number of each name in scope.
-    pub locals: Scopes<'a, usize>,
+    locals: Scopes<'a, usize>,
     /// The types by number, also of what is out of scope.
-    pub kinds: Vec<Kind<'a>>,
+    kinds: Vec<Kind<'a>>,
+}
+
+impl<'a> Model for Scope<'a> {
+    ghost use Rattle.rgo_typing_expressions.specs.Packages.{Scope};
+
+    ghost Value = { Scope };
+
+    ghost use Rattle.std.specs.Prelude.{map};
+    ghost use Rattle.rgo_typing_rules.specs.Views.{kind_of};
+
+    ghost view = { λ g. record { locals = g.locals; types = map kind_of g.kinds.items } };
 }
 
 impl<'a> Scope<'a> {
     /// No local variables.
     pub fn new(alloc: Global) -> Scope<'a>
-        ensures { scope_of result ≡ no_locals }
+        ensures { result ≡ no_locals }
     {
         Scope {
             locals: Scopes::new(alloc),
@@ -31,9 +43,30 @@ impl<'a> Scope<'a> {
         }
     }
 
+    /// The number of the local variable that a name means.
+    pub fn number(&self, name: &[u8]) -> Option<usize>
+        ensures { result ≡ found name.now self.now.locals }
+    {
+        self.locals.get(name)
+    }
+
+    /// Whether the innermost block declares a name.
+    pub fn is_declared_here(&self, name: &[u8]) -> bool
+        ensures { result ≡ is_some (found_in name.now self.now.locals.here) }
+    {
+        self.locals.is_declared_here(name)
+    }
+
+    /// The types of all local variables so far, by number.
+    pub fn kinds(&self) -> &[Kind<'a>]
+        ensures { map kind_of result.now ≡ self.now.types }
+    {
+        &self.kinds
+    }
+
     /// The type of a local variable.
     pub fn local(&self, number: usize) -> Kind<'a>
-        ensures { kind_of result ≡ local_at (scope_of self.now) number }
+        ensures { kind_of result ≡ local_at self.now number }
     {
         match self.kinds.get(number) {
             Some(kind) => *kind,
@@ -41,26 +74,41 @@ impl<'a> Scope<'a> {
         }
     }
 
-    /// Declares a local variable in the innermost block.
+    /// Declares a local variable in the innermost block. On allocation failure the scope stays as
+    /// it was.
     pub fn declare(&mut self, name: &'a [u8], kind: Kind<'a>) -> Result<(), AllocError>
-        ensures { OnOk result (scope_of self.new ≡ with_local name.now (kind_of kind.entry) (scope_of self.old)) }
+        ensures declared { OnOk result (self.new ≡ with_local name.now (kind_of kind.entry) self.old) }
+        ensures err { OnErr result (self.new ≡ self.old) }
     {
         let number = self.kinds.len();
+        self.kinds.reserve(1)?;
         self.locals.declare(name, number)?;
-        self.kinds.push(kind)?;
+        self.kinds.push_reserved(kind);
         Ok(())
     }
 
-    /// Begins a block.
+    /// Begins a block. On allocation failure the scope stays as it was.
     pub fn enter(&mut self) -> Result<(), AllocError>
-        ensures { OnOk result (scope_of self.new ≡ inside (scope_of self.old)) }
+        ensures entered { OnOk result (self.new ≡ inside self.old) }
+        ensures err { OnErr result (self.new ≡ self.old) }
     {
         self.locals.enter()
     }
 
+    /// The local variables as the fields of a struct, or the parameters of a function.
+    pub fn into_fields(self) -> Fields<'a>
+        ensures { result ≡ record { numbers = self.entry.locals; types = self.entry.types } }
+    {
+        let Scope { locals, kinds } = self;
+        Fields {
+            numbers: locals,
+            kinds,
+        }
+    }
+
     /// Ends the innermost block.
     pub fn leave(&mut self)
-        ensures { scope_of self.new ≡ outside (scope_of self.old) }
+        ensures { self.new ≡ outside self.old }
     {
         self.locals.leave();
     }

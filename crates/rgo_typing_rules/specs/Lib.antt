@@ -1,7 +1,10 @@
+pub mod Checks
 pub mod Constants
 pub mod Meanings
 pub mod Nodes
+pub mod RuleNames
 pub mod Rules
 pub mod Shapes
+pub mod Sites
 pub mod Types
 pub mod Views

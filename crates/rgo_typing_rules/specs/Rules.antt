@@ -1,6 +1,6 @@
 -- The 34 rules on meaning. Each is a test of one node: it says whether the node breaks the rule. A node is
 -- refused for the first rule that it breaks.
-use Rattle.std.specs.Prelude.{ℕ, suc, Bool, true, false, not, ◌&&◌, ◌||◌, ◌==◌, ◌^◌, nat_lt, List, [], ◌∷◌, length}
+use Rattle.std.specs.Prelude.{ℕ, Bool, true, false, not, ◌&&◌, ◌||◌, ◌==◌, ◌^◌, nat_lt, List, [], ◌∷◌, length}
 use Rattle.std.specs.List.{list_any}
 use Rattle.std.specs.Prelude.{Option, Some, None, is_some, is_none, if◌then◌else◌, codes}
 use Rattle.std.specs.Str.{bytes_eq}
@@ -16,15 +16,17 @@ use Rattle.rgo_typing_rules.specs.Shapes.{fits, are_comparable, has_misfit, has_
 use Rattle.rgo_typing_rules.specs.Constants.{is_zero, is_below_zero, is_out_of_range, folded_shapes, folded_shape}
 use Rattle.rgo_typing_rules.specs.declared.meanings.Meaning.{Meaning}
 use Rattle.rgo_typing_rules.specs.Meanings.{is_missing, is_value, is_struct, is_type}
+use Rattle.rgo_typing_rules.specs.declared.rules.Rule.{Rule}
+use Rattle.rgo_typing_rules.specs.declared.rules.Rule.TheVariants as rule
 use Rattle.rgo_typing_rules.specs.Nodes as node
 use Rattle.rgo_typing_rules.specs.Nodes.{Node, wants_value, is_printed, is_target}
 
--- 1 BadImport: a path other than `fmt`
+-- BadImport: a path other than `fmt`
 abbrev pub bad_import : Node → Bool
 bad_import (node.Import again path) = not (bytes_eq path (codes "fmt"))
 bad_import _ = false
 
--- 2 Redeclared: a name declared again in its block, struct, parameter list or imports
+-- Redeclared: a name declared again in its block, struct, parameter list or imports
 abbrev pub redeclared : Node → Bool
 redeclared (node.Import again path) = again
 redeclared (node.Declared again name) = again
@@ -36,12 +38,12 @@ reserved =
     ∷ codes "new" ∷ codes "make" ∷ codes "len" ∷ codes "close" ∷ codes "cap"
     ∷ codes "append" ∷ codes "fmt" ∷ codes "sync" ∷ codes "init" ∷ codes "_" ∷ []
 
--- 3 ReservedName: a declaration of a reserved name
+-- ReservedName: a declaration of a reserved name
 abbrev pub reserved_name : Node → Bool
 reserved_name (node.Declared again name) = list_any (λ k. bytes_eq k name) reserved
 reserved_name _ = false
 
--- 4 NoSuchName: a name that nothing in scope declares; `fmt` without its import
+-- NoSuchName: a name that nothing in scope declares; `fmt` without its import
 abbrev pub no_such_name : Node → Bool
 no_such_name (node.TypeName m) = is_missing m
 no_such_name (node.BaseName m) = is_missing m
@@ -49,18 +51,18 @@ no_such_name (node.Name r m) = is_missing m
 no_such_name node.CallMissing = true
 no_such_name _ = false
 
--- 5 NotType: a name in a type's place that names no type
+-- NotType: a name in a type's place that names no type
 abbrev pub not_type : Node → Bool
 not_type (node.TypeName m) = not (is_type m)
 not_type (node.BaseName m) = not (is_type m)
 not_type _ = false
 
--- 6 StructByValue: a struct as a type without `*`
+-- StructByValue: a struct as a type without `*`
 abbrev pub struct_by_value : Node → Bool
 struct_by_value (node.TypeName m) = is_struct m
 struct_by_value _ = false
 
--- 7 PointerBase: `*X`, `new(X)` or `&X{` where X is no struct
+-- PointerBase: `*X`, `new(X)` or `&X{` where X is no struct
 abbrev pub pointer_base : Node → Bool
 pointer_base (node.Pointed m) = not (is_struct m)
 pointer_base (node.Literal fields values) = is_none fields
@@ -71,12 +73,12 @@ abbrev pub is_no_value : Option Meaning → Bool
 is_no_value None = false
 is_no_value (Some m) = not (is_value m)
 
--- 8 NotValue: a type, function, builtin or package as a value; the left side of `=` is none
+-- NotValue: a type, function, builtin or package as a value; the left side of `=` is none
 abbrev pub not_value : Node → Bool
 not_value (node.Name r m) = is_no_value m && not (is_target r)
 not_value _ = false
 
--- 9 StringPlace: a string that is no argument of `fmt.Println`
+-- StringPlace: a string that is no argument of `fmt.Println`
 abbrev pub string_place : Node → Bool
 string_place (node.Text r) = not (is_printed r)
 string_place _ = false
@@ -111,7 +113,7 @@ lacks_one unary.Minus s = not (is_int_shape s)
 lacks_one unary.Not s = not (is_bool_shape s)
 lacks_one unary.Receive s = false
 
--- 10 Mismatch: an operator on operands that it does not have, where 11 and 12 do not say it
+-- Mismatch: an operator on operands that it does not have, where 11 and 12 do not say it
 abbrev pub mismatch : Node → Bool
 mismatch (node.Unary op s) = lacks_one op s
 mismatch (node.Binary op a b) = lacks (operands_of op) a b
@@ -122,12 +124,12 @@ abbrev pub compares : (Shape → Shape → Bool) → Operands → Shape → Shap
 compares test alike a b = test a b
 compares test _ a b = false
 
--- 11 SliceCompare: `==` or `!=` of two slices
+-- SliceCompare: `==` or `!=` of two slices
 abbrev pub slice_compare : Node → Bool
 slice_compare (node.Binary op a b) = compares are_slices (operands_of op) a b
 slice_compare _ = false
 
--- 12 BareNil: `nil` declared without a type, printed, or compared with `nil`
+-- BareNil: `nil` declared without a type, printed, or compared with `nil`
 abbrev pub bare_nil : Node → Bool
 bare_nil (node.Binary op a b) = compares are_nil (operands_of op) a b
 bare_nil (node.Define s) = is_nil_shape s
@@ -154,7 +156,7 @@ abbrev pub misfits_known : Option (List (Option «Type»)) → List Shape → Bo
 misfits_known None values = false
 misfits_known (Some fields) values = has_known_misfit fields values
 
--- 13 NotAssignable: a value whose type is not the wanted one, where it is declared with a type,
+-- NotAssignable: a value whose type is not the wanted one, where it is declared with a type,
 -- assigned, passed, returned, sent or put in a literal; with another number of values than wanted, of the pairs
 -- as far as both go
 abbrev pub not_assignable : Node → Bool
@@ -168,13 +170,13 @@ not_assignable (node.Go signature args) = has_misfit signature.params args
 not_assignable (node.Return wanted given) = misfits_returned wanted given
 not_assignable _ = false
 
--- 14 NotPlace: an assignment, `++` or `--` on what is no variable, field or element
+-- NotPlace: an assignment, `++` or `--` on what is no variable, field or element
 abbrev pub not_place : Node → Bool
 not_place (node.Assign at_place a b) = not at_place
 not_place (node.Update op at_place a b) = not at_place
 not_place _ = false
 
--- 15 NoSuchField: a selector on what is no struct pointer, or on a field not there
+-- NoSuchField: a selector on what is no struct pointer, or on a field not there
 abbrev pub no_such_field : Node → Bool
 no_such_field (node.Selector there) = not there
 no_such_field _ = false
@@ -184,18 +186,18 @@ abbrev pub first_is_no : (Shape → Bool) → List Shape → Bool
 first_is_no test [] = false
 first_is_no test (s ∷ args) = not (test s)
 
--- 16 NotIndexable: an index or `len` on what is no slice, or an index that is no int
+-- NotIndexable: an index or `len` on what is no slice, or an index that is no int
 abbrev pub not_indexable : Node → Bool
 not_indexable (node.Index a i) = not (is_slice_shape a && is_int_shape i)
 not_indexable (node.CallLen args) = first_is_no is_slice_shape args
 not_indexable _ = false
 
--- 17 NotCall: a callee that is no function, `len`, `close` or `fmt.Println`
+-- NotCall: a callee that is no function, `len`, `close` or `fmt.Println`
 abbrev pub not_call : Node → Bool
 not_call node.CallNothing = true
 not_call _ = false
 
--- 18 ArgCount: a wrong number of arguments
+-- ArgCount: a wrong number of arguments
 abbrev pub arg_count : Node → Bool
 arg_count (node.Call r signature args) = not (length args == length signature.params)
 arg_count (node.CallLen args) = not (length args == 1)
@@ -203,19 +205,19 @@ arg_count (node.CallClose r args) = not (length args == 1)
 arg_count (node.Go signature args) = not (length args == length signature.params)
 arg_count _ = false
 
--- 19 NoResult: a call without result as a value
+-- NoResult: a call without result as a value
 abbrev pub no_result : Node → Bool
 no_result (node.Call r signature args) = is_none signature.result_type && wants_value r
 no_result (node.CallClose r args) = wants_value r
 no_result (node.Print r args) = wants_value r
 no_result _ = false
 
--- 20 NotStatement: an expression statement that is neither a call nor a receive, or is `len`, `new` or `make`
+-- NotStatement: an expression statement that is neither a call nor a receive, or is `len`, `new` or `make`
 abbrev pub not_statement : Node → Bool
 not_statement (node.Alone may_stand) = not may_stand
 not_statement _ = false
 
--- 21 GoTarget: `go` of what is no function, or of one with a result
+-- GoTarget: `go` of what is no function, or of one with a result
 abbrev pub go_target : Node → Bool
 go_target (node.Go signature args) = is_some signature.result_type
 go_target node.GoNothing = true
@@ -225,24 +227,24 @@ abbrev pub receives_no_channel : UnaryOp → Shape → Bool
 receives_no_channel unary.Receive s = not (is_chan_shape s)
 receives_no_channel _ s = false
 
--- 22 NotChannel: a send, receive or close on what is no channel
+-- NotChannel: a send, receive or close on what is no channel
 abbrev pub not_channel : Node → Bool
 not_channel (node.Unary op s) = receives_no_channel op s
 not_channel (node.CallClose r args) = first_is_no is_chan_shape args
 not_channel (node.Send c s) = not (is_chan_shape c)
 not_channel _ = false
 
--- 23 NotBool: a condition that is no bool
+-- NotBool: a condition that is no bool
 abbrev pub not_bool : Node → Bool
 not_bool (node.Condition s) = not (is_bool_shape s)
 not_bool _ = false
 
--- 24 NotInt: a size that is no int
+-- NotInt: a size that is no int
 abbrev pub not_int : Node → Bool
 not_int (node.Size s) = not (is_int_shape s)
 not_int _ = false
 
--- 25 ConstRange: a constant outside -9223372036854775808 to 9223372036854775807
+-- ConstRange: a constant outside -9223372036854775808 to 9223372036854775807
 abbrev pub const_range : Node → Bool
 const_range (node.Number n) = not (nat_lt n (2 ^ 63))
 const_range (node.Unary op s) = is_out_of_range (folded_shape op s)
@@ -258,7 +260,7 @@ divides binary.Div = true
 divides binary.Rem = true
 divides _ = false
 
--- 26 ConstZeroDivisor: `/`, `%`, `/=`, `%=` by a constant 0
+-- ConstZeroDivisor: `/`, `%`, `/=`, `%=` by a constant 0
 abbrev pub const_zero_divisor : Node → Bool
 const_zero_divisor (node.Binary op a b) = divides op && is_zero_shape b
 const_zero_divisor (node.Update op at_place a b) = divides op && is_zero_shape b
@@ -268,12 +270,12 @@ abbrev pub is_below_zero_shape : Shape → Bool
 is_below_zero_shape (shape.Constant n) = is_below_zero n
 is_below_zero_shape _ = false
 
--- 27 ConstIndex: a constant index below 0
+-- ConstIndex: a constant index below 0
 abbrev pub const_index : Node → Bool
 const_index (node.Index a i) = is_below_zero_shape i
 const_index _ = false
 
--- 28 ConstSize: a constant size below 0
+-- ConstSize: a constant size below 0
 abbrev pub const_size : Node → Bool
 const_size (node.Size s) = is_below_zero_shape s
 const_size _ = false
@@ -288,54 +290,92 @@ abbrev pub has_unknown : Option (List (Option «Type»)) → Bool
 has_unknown None = false
 has_unknown (Some fields) = list_any is_none fields
 
--- 29 LiteralFields: a literal with an unknown or repeated field name, or with values without names in another
+-- LiteralFields: a literal with an unknown or repeated field name, or with values without names in another
 -- number than the fields, except none
 abbrev pub literal_fields : Node → Bool
 literal_fields (node.Literal fields values) = is_partial fields values
 literal_fields (node.Keyed fields twice values) = has_unknown fields || twice
 literal_fields _ = false
 
--- 30 PrintType: `Println` of a pointer, slice or channel
+-- PrintType: `Println` of a pointer, slice or channel
 abbrev pub print_type : Node → Bool
 print_type (node.Print r values) = has_pointer values
 print_type _ = false
 
--- 31 ReturnCount: a value returned where there is no result, or none where there is one
+-- ReturnCount: a value returned where there is no result, or none where there is one
 abbrev pub return_count : Node → Bool
 return_count (node.Return None given) = is_some given
 return_count (node.Return (Some t) given) = is_none given
 return_count _ = false
 
--- 32 MissingReturn: a function with a result whose body is not terminating
+-- MissingReturn: a function with a result whose body is not terminating
 abbrev pub missing_return : Node → Bool
 missing_return (node.End has_result is_terminating) = has_result && not is_terminating
 missing_return _ = false
 
--- 33 LoopOutside: `break` or `continue` outside `for`
+-- LoopOutside: `break` or `continue` outside `for`
 abbrev pub loop_outside : Node → Bool
 loop_outside (node.Branch in_loop) = not in_loop
 loop_outside _ = false
 
--- 34 NoMain: no function `main` without parameters and result
+-- NoMain: no function `main` without parameters and result
 abbrev pub no_main : Node → Bool
 no_main (node.TextEnd has_main) = not has_main
 no_main _ = false
 
--- whether the node breaks each rule, from the first rule to the last
-abbrev pub breaks : Node → List Bool
-breaks n =
-    bad_import n ∷ redeclared n ∷ reserved_name n ∷ no_such_name n ∷ not_type n ∷ struct_by_value n
-    ∷ pointer_base n ∷ not_value n ∷ string_place n ∷ mismatch n ∷ slice_compare n ∷ bare_nil n
-    ∷ not_assignable n ∷ not_place n ∷ no_such_field n ∷ not_indexable n ∷ not_call n ∷ arg_count n
-    ∷ no_result n ∷ not_statement n ∷ go_target n ∷ not_channel n ∷ not_bool n ∷ not_int n
-    ∷ const_range n ∷ const_zero_divisor n ∷ const_index n ∷ const_size n ∷ literal_fields n ∷ print_type n
-    ∷ return_count n ∷ missing_return n ∷ loop_outside n ∷ no_main n ∷ []
+-- whether the node breaks the rule
+abbrev pub breaks : Rule → Node → Bool
+breaks rule.BadImport n = bad_import n
+breaks rule.Redeclared n = redeclared n
+breaks rule.ReservedName n = reserved_name n
+breaks rule.NoSuchName n = no_such_name n
+breaks rule.NotType n = not_type n
+breaks rule.StructByValue n = struct_by_value n
+breaks rule.PointerBase n = pointer_base n
+breaks rule.NotValue n = not_value n
+breaks rule.StringPlace n = string_place n
+breaks rule.Mismatch n = mismatch n
+breaks rule.SliceCompare n = slice_compare n
+breaks rule.BareNil n = bare_nil n
+breaks rule.NotAssignable n = not_assignable n
+breaks rule.NotPlace n = not_place n
+breaks rule.NoSuchField n = no_such_field n
+breaks rule.NotIndexable n = not_indexable n
+breaks rule.NotCall n = not_call n
+breaks rule.ArgCount n = arg_count n
+breaks rule.NoResult n = no_result n
+breaks rule.NotStatement n = not_statement n
+breaks rule.GoTarget n = go_target n
+breaks rule.NotChannel n = not_channel n
+breaks rule.NotBool n = not_bool n
+breaks rule.NotInt n = not_int n
+breaks rule.ConstRange n = const_range n
+breaks rule.ConstZeroDivisor n = const_zero_divisor n
+breaks rule.ConstIndex n = const_index n
+breaks rule.ConstSize n = const_size n
+breaks rule.LiteralFields n = literal_fields n
+breaks rule.PrintType n = print_type n
+breaks rule.ReturnCount n = return_count n
+breaks rule.MissingReturn n = missing_return n
+breaks rule.LoopOutside n = loop_outside n
+breaks rule.NoMain n = no_main n
 
--- counted from this number
-abbrev pub first_true : ℕ → List Bool → Option ℕ
-first_true k [] = None
-first_true k (b ∷ l) = if b then Some k else first_true (suc k) l
+-- all rules, in the order of their numbers
+abbrev pub rules : List Rule
+rules =
+    rule.BadImport ∷ rule.Redeclared ∷ rule.ReservedName ∷ rule.NoSuchName ∷ rule.NotType
+    ∷ rule.StructByValue ∷ rule.PointerBase ∷ rule.NotValue ∷ rule.StringPlace ∷ rule.Mismatch
+    ∷ rule.SliceCompare ∷ rule.BareNil ∷ rule.NotAssignable ∷ rule.NotPlace ∷ rule.NoSuchField
+    ∷ rule.NotIndexable ∷ rule.NotCall ∷ rule.ArgCount ∷ rule.NoResult ∷ rule.NotStatement
+    ∷ rule.GoTarget ∷ rule.NotChannel ∷ rule.NotBool ∷ rule.NotInt ∷ rule.ConstRange
+    ∷ rule.ConstZeroDivisor ∷ rule.ConstIndex ∷ rule.ConstSize ∷ rule.LiteralFields
+    ∷ rule.PrintType ∷ rule.ReturnCount ∷ rule.MissingReturn ∷ rule.LoopOutside ∷ rule.NoMain ∷ []
 
--- the number of the first rule that the node breaks
-abbrev pub broken : Node → Option ℕ
-broken n = first_true 1 (breaks n)
+-- the first of these rules that the node breaks
+abbrev pub first_broken : List Rule → Node → Option Rule
+first_broken [] n = None
+first_broken (r ∷ rs) n = if breaks r n then Some r else first_broken rs n
+
+-- the first rule that the node breaks
+unfoldable pub broken : Node → Option Rule
+broken n = first_broken rules n

@@ -1,19 +1,30 @@
-//! The rules on meaning, each a test of one node of a program.
+//! The rules on meaning, each a test of one node of a program, and the check of a node at its place.
 #![tactic(auto)]
 
+mod breaking;
+mod call_rules;
+mod checking;
 mod constants;
+mod errors;
 mod kinds;
 mod meanings;
+mod name_rules;
 mod nodes;
+mod operator_rules;
 mod roles;
 mod rules;
 mod shapes;
+mod value_rules;
 mod values;
 
+pub use breaking::broken;
+pub use checking::check_node;
 pub use constants::{fold, fold_one};
+pub use errors::{TypeError, TypeRefusal};
 pub use kinds::Kind;
 pub use meanings::{Meaning, Signature};
+pub use name_rules::is_fmt;
 pub use nodes::Node;
 pub use roles::Role;
-pub use rules::broken;
+pub use rules::Rule;
 pub use shapes::Shape;

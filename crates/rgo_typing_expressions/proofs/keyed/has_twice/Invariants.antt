@@ -2,7 +2,7 @@ use Rattle.std.proofs.Common.{◌≡◌, map, drop}
 use Rattle.rgo_ast.specs.Tree.{elements_of}
 use Rattle.rgo_ast.specs.Views.{element_of}
 use Rattle.rgo_scopes.specs.Blocks.{no_names}
-use Rattle.rgo_typing_expressions.specs.Judging.{has_twice}
+use Rattle.rgo_typing_expressions.specs.Checking.{has_twice}
 use Rattle.rgo_typing_expressions.proofs.keyed.has_twice.Given as goal
 
 abbrev pub invariant-loop-element : goal.invariant-loop-element

@@ -1,21 +1,22 @@
 //! Why a program gets no typed tree.
 
+use crate::rules::Rule;
 use rgo_ast::Place;
 use std::alloc::{AllocError, AllocFailed};
 use thiserror::Error;
 
-/// The first node that breaks a rule, in the order of judgement.
+/// The first node that breaks a rule, in the order of checking.
 #[derive(Clone, Copy, Debug, PartialEq, Eq)]
 pub struct TypeRefusal {
-    /// The first rule that it breaks, 1 to 34.
-    pub rule: u8,
+    /// The first rule that it breaks.
+    pub rule: Rule,
     pub at: Place,
 }
 
 /// Why a program gets no typed tree.
 #[derive(Clone, Copy, Debug, PartialEq, Eq, Error)]
 pub enum TypeError {
-    /// There is no memory for it.
+    /// An allocation failed.
     #[error("no memory for the typed tree")]
     NoMemory,
     /// It breaks a rule.
@@ -25,7 +26,7 @@ pub enum TypeError {
 
 impl From<AllocError> for TypeError {
     ghost use Rattle.std.specs.Prelude.{◌≡◌};
-    ghost use Rattle.rgo_typing_expressions.specs.declared.errors.TypeError.TheVariants.{NoMemory};
+    ghost use Rattle.rgo_typing_rules.specs.declared.errors.TypeError.TheVariants.{NoMemory};
 
     ghost from_gives = { λ _ e. e ≡ NoMemory };
 
@@ -36,7 +37,7 @@ impl From<AllocError> for TypeError {
 
 impl<T: Drop> From<AllocFailed<T>> for TypeError {
     ghost use Rattle.std.specs.Prelude.{◌≡◌};
-    ghost use Rattle.rgo_typing_expressions.specs.declared.errors.TypeError.TheVariants.{NoMemory};
+    ghost use Rattle.rgo_typing_rules.specs.declared.errors.TypeError.TheVariants.{NoMemory};
 
     ghost from_gives = { λ _ e. e ≡ NoMemory };
 

@@ -1,11 +1,11 @@
 //! Expressions that break no rule.
 
-use rgo_typing_rules::Shape;
 use rgo_typed::Term;
+use rgo_typing_rules::Shape;
 
-/// An expression: its typed tree, and what the rules ask of it.
+/// An expression that breaks no rule: its typed tree, and its shape.
 #[derive(Drop)]
-pub struct Judged<'a> {
+pub struct Checked<'a> {
     pub term: Term,
     pub shape: Shape<'a>,
 }

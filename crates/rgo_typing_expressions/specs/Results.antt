@@ -1,0 +1,46 @@
+-- What a check of expressions returns: typed trees and shapes, or the first refusal.
+use Rattle.std.specs.Prelude.{◌≡◌, ℕ, List, map, Option, Some, None, Result, Ok, Err}
+use Rattle.rgo_ast.specs.Tree.{Elements}
+use Rattle.rgo_typed.specs.Tree.{Term, Terms, terms_of}
+use Rattle.rgo_typed.specs.Views.{term_of}
+use Rattle.rgo_typed.specs.declared.types.Type.{«Type»}
+use Rattle.rgo_typing_rules.specs.Checks.{Refuses}
+use Rattle.rgo_typing_rules.specs.Shapes.{Shape}
+use Rattle.rgo_typing_rules.specs.Sites.{Site, first_refusal}
+use Rattle.rgo_typing_rules.specs.Views.{shape_of, kind_of, optional_kind_of}
+use Rattle.rgo_typing_rules.specs.declared.errors.TypeError.{TypeError}
+use Rattle.rgo_typing_expressions.specs.Checking.{field_types}
+use Rattle.rgo_typing_expressions.specs.Packages.{Fields}
+use Rattle.rgo_typing_expressions.specs.Terms.{element_numbers}
+use Rattle.rgo_typing_expressions.specs.declared.fields.Field.{Field}
+use Rattle.rgo_typing_expressions.specs.declared.keyed.Named.{Named}
+use Rattle.rgo_typing_expressions.specs.declared.results.Checked.{Checked}
+use Rattle.rgo_typing_expressions.specs.declared.results.Values.{Values}
+
+-- one expression's shape and term
+abbrev pub Matches : Checked → Shape → Term → Type 0
+Matches e shape term = (shape_of e.shape ≡ shape) × (term_of e.term ≡ term)
+
+-- those of several
+abbrev pub MatchesAll : Values → List Shape → Terms → Type 0
+MatchesAll v shapes terms = (map shape_of v.shapes.items ≡ shapes) × (terms_of (map term_of v.terms.items) ≡ terms)
+
+-- a check of these nodes, with the shape and the term of an expression where no node breaks a rule
+abbrev pub ChecksTo : Result Checked TypeError → List Site → Shape → Term → Type 0
+ChecksTo (Ok e) sites shape term = (first_refusal sites ≡ None) × Matches e shape term
+ChecksTo (Err e) sites shape term = Refuses e (first_refusal sites)
+
+-- the same for several expressions
+abbrev pub ChecksToAll : Result Values TypeError → List Site → List Shape → Terms → Type 0
+ChecksToAll (Ok v) sites shapes terms = (first_refusal sites ≡ None) × MatchesAll v shapes terms
+ChecksToAll (Err e) sites shapes terms = Refuses e (first_refusal sites)
+
+-- a field by its number and type
+abbrev pub found_field : Option Field → Option (ℕ × «Type»)
+found_field None = None
+found_field (Some f) = Some (f.number, kind_of f.kind)
+
+-- the fields that elements name
+abbrev pub FieldsOf : Named → Fields → Elements → Type 0
+FieldsOf n fields members =
+    (map optional_kind_of n.kinds.items ≡ field_types fields members) × (n.numbers.items ≡ element_numbers fields members)

@@ -1,0 +1,147 @@
+//! Binary operations, from their checked operands.
+#![tactic(auto, using(rgo_typed::proofs::Rows::rows))]
+
+ghost use Rattle.std.specs.Prelude.{◌≡◌, [], ◌∷◌, IfOk};
+ghost use Rattle.rgo_typed.specs.Tree as tree;
+ghost use Rattle.rgo_typed.specs.Views.{term_of};
+ghost use Rattle.rgo_typing_rules.specs.Checks.{Checks};
+ghost use Rattle.rgo_typing_rules.specs.Constants.{folded_shapes};
+ghost use Rattle.rgo_typing_rules.specs.Nodes as node;
+ghost use Rattle.rgo_typing_rules.specs.Shapes as shape;
+ghost use Rattle.rgo_typing_rules.specs.Shapes.{is_nil_shape};
+ghost use Rattle.rgo_typing_rules.specs.Types.{plain};
+ghost use Rattle.rgo_typing_rules.specs.Views.{shape_of};
+ghost use Rattle.rgo_typing_expressions.specs.Results.{ChecksTo};
+ghost use Rattle.rgo_typing_expressions.specs.Terms as terms;
+ghost use Rattle.rgo_typing_expressions.specs.Types as types;
+
+use crate::results::Checked;
+use crate::terms::{apply_one, apply_two, constant, plain};
+use rgo_ast::{BinaryOp, Place};
+use rgo_typed::{Action, Base, Logical, Term};
+use rgo_typing_rules::{Kind, Node, Shape, TypeError, check_node, fold};
+use std::alloc::{AllocError, Global};
+
+/// Refuses a binary operation for the first rule that it breaks. Returns its value where it is a
+/// constant.
+#[tactic(auto, using(rgo_typed::proofs::Rows::rows), unfolding(rgo_typing_rules::specs::Rules::broken))]
+fn check_binary(
+    op: BinaryOp,
+    left: Shape<'_>,
+    right: Shape<'_>,
+    at: Place,
+) -> Result<Option<i64>, TypeError>
+    ensures checked { Checks result ((at, node.Binary op (shape_of left.entry) (shape_of right.entry)) ∷ []) }
+    ensures value { IfOk result (λ n. n ≡ folded_shapes op (shape_of left.entry) (shape_of right.entry)) }
+{
+    check_node(at, &Node::Binary(op, left, right))?;
+    match (left, right) {
+        (Shape::Constant(a), Shape::Constant(b)) => Ok(fold(op, a, b)),
+        _ => Ok(None),
+    }
+}
+
+/// The type of the result of a binary operation.
+fn binary_base(op: BinaryOp) -> Base
+    ensures { plain result ≡ types.binary_type op }
+{
+    match op {
+        BinaryOp::Mul | BinaryOp::Div | BinaryOp::Rem | BinaryOp::Add | BinaryOp::Sub => Base::Int,
+        _ => Base::Bool,
+    }
+}
+
+/// The comparison itself, or its opposite.
+fn opposite(alloc: Global, differs: bool, test: Term, at: Place) -> Result<Term, AllocError>
+    ensures { IfOk result (λ t. term_of t ≡ terms.negated differs (term_of test) at) }
+{
+    if differs {
+        apply_one(alloc, Action::Not, test, plain(alloc, Base::Bool), at)
+    } else {
+        Ok(test)
+    }
+}
+
+/// `==`, or `!=`. With `nil` on one side it is a test of the other side.
+fn compared(
+    alloc: Global,
+    op: BinaryOp,
+    differs: bool,
+    left: Checked<'_>,
+    right: Checked<'_>,
+    at: Place,
+) -> Result<Term, AllocError>
+    ensures { IfOk result (λ t. term_of t ≡ terms.compared op differs
+        (is_nil_shape (shape_of left.entry.shape)) (is_nil_shape (shape_of right.entry.shape))
+        (term_of left.entry.term) (term_of right.entry.term) at) }
+{
+    let ty = plain(alloc, Base::Bool);
+    if left.shape.is_nil() {
+        let test = apply_one(alloc, Action::IsNil, right.term, ty, at)?;
+        opposite(alloc, differs, test, at)
+    } else if right.shape.is_nil() {
+        let test = apply_one(alloc, Action::IsNil, left.term, ty, at)?;
+        opposite(alloc, differs, test, at)
+    } else {
+        apply_two(alloc, Action::Binary(op), left.term, right.term, ty, at)
+    }
+}
+
+fn logic(alloc: Global, op: Logical, left: Term, right: Term, at: Place) -> Result<Term, AllocError>
+    ensures { IfOk result (λ t. term_of t ≡ tree.Logic op (term_of left) (term_of right) at) }
+{
+    Ok(Term::Logic(op, Box::new(alloc, left)?, Box::new(alloc, right)?, at))
+}
+
+/// A binary operation that is no constant.
+fn operation(
+    alloc: Global,
+    op: BinaryOp,
+    left: Checked<'_>,
+    right: Checked<'_>,
+    at: Place,
+) -> Result<Term, AllocError>
+    ensures { IfOk result (λ t. term_of t ≡ terms.operation op
+        (shape_of left.entry.shape) (shape_of right.entry.shape) (term_of left.entry.term) (term_of right.entry.term) at) }
+{
+    match op {
+        BinaryOp::And => logic(alloc, Logical::And, left.term, right.term, at),
+        BinaryOp::Or => logic(alloc, Logical::Or, left.term, right.term, at),
+        BinaryOp::Eq => compared(alloc, op, false, left, right, at),
+        BinaryOp::Ne => compared(alloc, op, true, left, right, at),
+        _ => {
+            let ty = plain(alloc, binary_base(op));
+            apply_two(alloc, Action::Binary(op), left.term, right.term, ty, at)
+        }
+    }
+}
+
+/// A binary operation.
+pub(crate) fn binary<'a>(
+    alloc: Global,
+    op: BinaryOp,
+    left: Checked<'a>,
+    right: Checked<'a>,
+    at: Place,
+) -> Result<Checked<'a>, TypeError>
+    ensures { ChecksTo result
+        ((at, node.Binary op (shape_of left.entry.shape) (shape_of right.entry.shape)) ∷ [])
+        (types.constant_or (folded_shapes op (shape_of left.entry.shape) (shape_of right.entry.shape))
+        (shape.Value (types.binary_type op)))
+        (terms.binary_term op (shape_of left.entry.shape) (shape_of right.entry.shape)
+        (term_of left.entry.term) (term_of right.entry.term) at) }
+{
+    match check_binary(op, left.shape, right.shape, at)? {
+        Some(n) => Ok(Checked {
+            term: constant(alloc, n, at),
+            shape: Shape::Constant(n),
+        }),
+        None => {
+            let term = operation(alloc, op, left, right, at)?;
+            Ok(Checked {
+                term,
+                shape: Shape::Value(Kind::Plain(binary_base(op))),
+            })
+        }
+    }
+}
