@@ -6,6 +6,7 @@ mod typing;
 
 use crate::lines::words_of;
 use crate::slow_sinks::SlowSink;
+use crate::typing_rules::names::NAMES;
 use rgo_outside::{
     MemSink, MemSource, NoFaultSink, NoFaultSource, NoGate, StdSink, StdSource, read_all,
 };
@@ -260,7 +261,7 @@ fn what_breaks_a_rule_is_told_by_both_commands(rt: HostRuntime) -> Result<(), Fa
 }
 
 fn rule_name(rule: u8) -> &'static str {
-    for (number, name) in (1..).zip(typing::NAMES) {
+    for (_, number, name) in NAMES {
         if number == rule {
             return name;
         }

@@ -1,9 +1,10 @@
-//! Programs built by hand: one that is refused, and one that is typed.
+//! Programs built by hand, one that is refused and one that is typed.
 
 use crate::surface::ident;
 use crate::typed_trees::one;
 use rgo_ast::{Decl, Function, Program};
-use rgo_types::{TypeError, TypeRefusal, check};
+use rgo_types::check;
+use rgo_typing_rules::{Rule, TypeError, TypeRefusal};
 use std::alloc::Global;
 use std::test::Fail;
 
@@ -33,7 +34,13 @@ fn a_text_without_main_is_refused(rt: HostRuntime) -> Result<(), Fail> {
     let alloc = rt.alloc();
     match check(alloc, &program(alloc, Vec::new(alloc))) {
         Err(TypeError::Refused(refusal)) => {
-            assert_eq!(rt; refusal, TypeRefusal { rule: 34, at: 20 });
+            assert_eq!(rt;
+                refusal,
+                TypeRefusal {
+                    rule: Rule::NoMain,
+                    at: 20
+                }
+            );
             Ok(())
         }
         _ => Err(Fail::new("no refusal")),
