@@ -9,6 +9,8 @@ mod grammar;
 #[cfg(test)]
 mod lexer;
 #[cfg(test)]
+mod lines;
+#[cfg(test)]
 mod meaning;
 #[cfg(test)]
 mod memory;
@@ -23,7 +25,13 @@ mod run;
 #[cfg(test)]
 mod scopes;
 #[cfg(test)]
+mod slow_sinks;
+#[cfg(test)]
+mod surface;
+#[cfg(test)]
 mod typed;
+#[cfg(test)]
+mod typed_trees;
 #[cfg(test)]
 mod types;
 #[cfg(test)]

@@ -2,12 +2,14 @@
 
 mod letters;
 mod lists;
+pub(crate) mod names;
 mod plain;
 
-use rgo_typing_rules::{Kind, Node, Role, Shape, Signature, broken, fold, fold_one};
+use crate::surface::ident;
 use plain::Row;
-use rgo_ast::{BinaryOp, Ident, Name, TypeExpr, UnaryOp};
+use rgo_ast::{BinaryOp, TypeExpr, UnaryOp};
 use rgo_typed::{Base, Layer};
+use rgo_typing_rules::{Kind, Node, Role, Rule, Shape, Signature, broken, fold, fold_one};
 use std::alloc::Global;
 use std::process::Abort;
 use std::test::Fail;
@@ -15,23 +17,26 @@ use std::test::Fail;
 fn rows_hold<R: Abort>(rt: &R, rows: &[Row<'_>]) {
     for (rule, bad, good) in rows {
         assert_eq!(rt; broken(bad), Some(*rule));
-        assert_eq!(rt; broken(good), None, "beside {rule}");
+        assert_eq!(rt; broken(good), None, "next to {}", rule.name());
     }
 }
 
-fn are_first<R: Abort>(rt: &R, rows: &[(u8, Node<'_, '_, '_>)]) {
+fn are_first<R: Abort>(rt: &R, rows: &[(Rule, Node<'_, '_, '_>)]) {
     for (rule, node) in rows {
         assert_eq!(rt; broken(node), Some(*rule));
     }
 }
 
-fn ident(alloc: Global, word: &str) -> Result<Ident, Fail> {
-    let name = Name::new(Vec::from_slice(alloc, word.as_bytes())?);
-    Ok(Ident { name, at: 0 })
+#[test]
+fn rules_have_their_numbers_and_names(rt: HostRuntime) {
+    for (rule, number, name) in names::NAMES {
+        assert_eq!(rt; rule.number(), number);
+        assert_eq!(rt; rule.name(), name);
+    }
 }
 
 #[test]
-fn nodes_without_lists_are_judged(rt: HostRuntime) {
+fn nodes_without_lists_break_their_rules(rt: HostRuntime) {
     rows_hold(&rt, &plain::DECLARATIONS);
     rows_hold(&rt, &plain::NAMES);
     rows_hold(&rt, &plain::OPERATORS);
@@ -41,7 +46,7 @@ fn nodes_without_lists_are_judged(rt: HostRuntime) {
     are_first(&rt, &plain::FIRST);
 }
 
-fn literal_breaks<'a>(fields: &'a [Kind<'a>], values: &'a [Shape<'a>]) -> Option<u8> {
+fn literal_breaks<'a>(fields: &'a [Kind<'a>], values: &'a [Shape<'a>]) -> Option<Rule> {
     broken(&Node::Literal(Some(fields), values))
 }
 
@@ -49,34 +54,34 @@ fn keyed_breaks<'a>(
     fields: &'a [Option<Kind<'a>>],
     twice: bool,
     values: &'a [Shape<'a>],
-) -> Option<u8> {
+) -> Option<Rule> {
     broken(&Node::Keyed(Some(fields), twice, values))
 }
 
-fn judged_literal<'a>(
+fn literal_of<'a>(
     alloc: Global,
     int: &'a TypeExpr,
     fields: &str,
     values: &str,
-) -> Result<Option<u8>, Fail> {
+) -> Result<Option<Rule>, Fail> {
     let kinds = letters::kinds(alloc, fields, int)?;
     let shapes = letters::values(alloc, values, int)?;
     Ok(literal_breaks(&kinds, &shapes))
 }
 
-fn judged_keyed<'a>(
+fn keyed_of<'a>(
     alloc: Global,
     int: &'a TypeExpr,
     fields: &str,
     twice: bool,
     values: &str,
-) -> Result<Option<u8>, Fail> {
+) -> Result<Option<Rule>, Fail> {
     let kinds = letters::known(alloc, fields, int)?;
     let shapes = letters::values(alloc, values, int)?;
     Ok(keyed_breaks(&kinds, twice, &shapes))
 }
 
-fn call_breaks<'a>(signature: &'a Signature<'a>, args: &'a [Shape<'a>]) -> [Option<u8>; 3] {
+fn call_breaks<'a>(signature: &'a Signature<'a>, args: &'a [Shape<'a>]) -> [Option<Rule>; 3] {
     [
         broken(&Node::Call(Role::Alone, signature, args)),
         broken(&Node::Call(Role::Value, signature, args)),
@@ -84,16 +89,16 @@ fn call_breaks<'a>(signature: &'a Signature<'a>, args: &'a [Shape<'a>]) -> [Opti
     ]
 }
 
-fn judged_call(
+fn call_of(
     alloc: Global,
     signature: &Signature<'static>,
     args: &str,
-) -> Result<[Option<u8>; 3], Fail> {
+) -> Result<[Option<Rule>; 3], Fail> {
     let shapes = letters::plain_values(alloc, args)?;
     Ok(call_breaks(signature, &shapes))
 }
 
-fn builtins_break<'a>(args: &'a [Shape<'a>]) -> [Option<u8>; 5] {
+fn builtins_break<'a>(args: &'a [Shape<'a>]) -> [Option<Rule>; 5] {
     [
         broken(&Node::CallLen(args)),
         broken(&Node::CallClose(Role::Alone, args)),
@@ -103,7 +108,7 @@ fn builtins_break<'a>(args: &'a [Shape<'a>]) -> [Option<u8>; 5] {
     ]
 }
 
-fn pair_breaks<'a>(a: Shape<'a>, b: Shape<'a>) -> [Option<u8>; 4] {
+fn pair_breaks<'a>(a: Shape<'a>, b: Shape<'a>) -> [Option<Rule>; 4] {
     [
         broken(&Node::Binary(BinaryOp::Eq, a, b)),
         broken(&Node::Index(a, b)),
@@ -113,29 +118,32 @@ fn pair_breaks<'a>(a: Shape<'a>, b: Shape<'a>) -> [Option<u8>; 4] {
 }
 
 #[test]
-fn literals_are_judged(rt: HostRuntime) -> Result<(), Fail> {
+fn literals_break_their_rules(rt: HostRuntime) -> Result<(), Fail> {
     let alloc = rt.alloc();
-    let int = TypeExpr::Named(ident(alloc, "int")?);
+    let int = TypeExpr::Named(ident(alloc, "int", 0)?);
     for (fields, values, wanted) in lists::LITERALS {
-        let broken = judged_literal(alloc, &int, fields, values)?;
+        let broken = literal_of(alloc, &int, fields, values)?;
         assert_eq!(rt; broken, wanted, "{values} for {fields}");
     }
     for (fields, twice, values, wanted) in lists::KEYED {
-        let broken = judged_keyed(alloc, &int, fields, twice, values)?;
+        let broken = keyed_of(alloc, &int, fields, twice, values)?;
         assert_eq!(rt; broken, wanted, "{values} for {fields}");
     }
-    assert_eq!(rt; broken(&Node::Literal(None, &[])), Some(7));
-    assert_eq!(rt; broken(&Node::Keyed(None, true, &[])), Some(7));
+    assert_eq!(rt; broken(&Node::Literal(None, &[])), Some(Rule::PointerBase));
+    assert_eq!(rt;
+        broken(&Node::Keyed(None, true, &[])),
+        Some(Rule::PointerBase)
+    );
     Ok(())
 }
 
 #[test]
-fn calls_are_judged(rt: HostRuntime) -> Result<(), Fail> {
+fn calls_break_their_rules(rt: HostRuntime) -> Result<(), Fail> {
     let alloc = rt.alloc();
-    let int = TypeExpr::Named(ident(alloc, "int")?);
+    let int = TypeExpr::Named(ident(alloc, "int", 0)?);
     for (params, gives, args, wanted) in lists::CALLS {
         let signature = letters::signature(alloc, params, gives)?;
-        let broken = judged_call(alloc, &signature, args)?;
+        let broken = call_of(alloc, &signature, args)?;
         assert_eq!(rt; broken, wanted, "{args} for {params}");
     }
     for (args, wanted) in lists::BUILTINS {
@@ -146,8 +154,8 @@ fn calls_are_judged(rt: HostRuntime) -> Result<(), Fail> {
 }
 
 #[test]
-fn pairs_are_judged(rt: HostRuntime) -> Result<(), Fail> {
-    let int = TypeExpr::Named(ident(rt.alloc(), "int")?);
+fn pairs_break_their_rules(rt: HostRuntime) -> Result<(), Fail> {
+    let int = TypeExpr::Named(ident(rt.alloc(), "int", 0)?);
     for (a, b, wanted) in lists::PAIRS {
         let broken = pair_breaks(letters::value(a, &int), letters::value(b, &int));
         assert_eq!(rt; broken, wanted, "{a} and {b}");
@@ -159,9 +167,12 @@ fn pairs_are_judged(rt: HostRuntime) -> Result<(), Fail> {
 #[test]
 fn types_are_identical_by_their_spelling(rt: HostRuntime) -> Result<(), Fail> {
     let alloc = rt.alloc();
-    let int = TypeExpr::Named(ident(alloc, "int")?);
-    let pointer = TypeExpr::Pointer(ident(alloc, "S")?, 0);
-    let channel = TypeExpr::Chan(Box::new(alloc, TypeExpr::Pointer(ident(alloc, "S")?, 0))?, 0);
+    let int = TypeExpr::Named(ident(alloc, "int", 0)?);
+    let pointer = TypeExpr::Pointer(ident(alloc, "S", 0)?, 0);
+    let channel = TypeExpr::Chan(
+        Box::new(alloc, TypeExpr::Pointer(ident(alloc, "S", 0)?, 0))?,
+        0,
+    );
     let types = [
         Kind::of(&int, Base::Int),
         Kind::Slice(&int, Base::Int),

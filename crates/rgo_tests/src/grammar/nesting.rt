@@ -1,9 +1,10 @@
-//! Texts with their first tokens that nest too deep.
+//! Texts with the first of their lexemes that nests too deep.
 
-// Where each token nests deeper by one.
+/// Each lexeme nests deeper by one.
 const ONE_DEEPER_EACH: [Option<usize>; 6] = [Some(0), Some(1), Some(2), Some(3), Some(4), Some(5)];
 
-/// Texts, and the first token that nests deeper than 0, 1, 2, 3, 4 and 5. Behind each stands how deep its tokens nest.
+/// Texts, each with its first lexeme that nests deeper than 0, 1, 2, 3, 4 and 5. A comment says how
+/// deep each lexeme nests.
 pub(super) const TEXTS: [(&str, [Option<usize>; 6]); 24] = [
     ("", [None; 6]),
     ("x = y ; z ++", [None; 6]),
@@ -37,10 +38,10 @@ pub(super) const TEXTS: [(&str, [Option<usize>; 6]); 24] = [
     ), // 1 2 3 4 3 2 3
 ];
 
-/// Each joint but those that close a bracket: 18 of them.
+/// Each of the 18 joints but those that close a bracket.
 pub(super) const JOINTS: &str = "+ - * / % && || ! == != < <= > >= <- & . chan";
 
-/// What is no joint and neither a bracket nor `else`.
+/// Lexemes that are neither a joint nor a bracket nor `else`.
 pub(super) const NO_JOINTS: &str =
     "x new make 1 \"a\" , ; : := = += -= *= /= %= ++ -- package main \
     import type struct var func go if for return break continue map | ^ << >> ~";

@@ -1,4 +1,4 @@
-//! Texts with their tokens: each a letter for its kind and its bytes, an inserted `;` a `~`.
+//! Texts with their lexemes: of each a letter for its kind and its bytes, of an inserted `;` a `~`.
 
 /// Separators, and the byte order mark.
 pub(super) const SEPARATORS: [(&[u8], &str); 8] = [

@@ -1,44 +1,6 @@
 //! Texts that break rules on meaning, with the rule and the place, and texts that pass. They are worked out from the
 //! words of the rules, and stand behind the head of the other texts where they are not whole.
 
-// The names of the rules, from the first to the last.
-pub const NAMES: [&str; 34] = [
-    "BadImport",
-    "Redeclared",
-    "ReservedName",
-    "NoSuchName",
-    "NotType",
-    "StructByValue",
-    "PointerBase",
-    "NotValue",
-    "StringPlace",
-    "Mismatch",
-    "SliceCompare",
-    "BareNil",
-    "NotAssignable",
-    "NotPlace",
-    "NoSuchField",
-    "NotIndexable",
-    "NotCall",
-    "ArgCount",
-    "NoResult",
-    "NotStatement",
-    "GoTarget",
-    "NotChannel",
-    "NotBool",
-    "NotInt",
-    "ConstRange",
-    "ConstZeroDivisor",
-    "ConstIndex",
-    "ConstSize",
-    "LiteralFields",
-    "PrintType",
-    "ReturnCount",
-    "MissingReturn",
-    "LoopOutside",
-    "NoMain",
-];
-
 // For each rule a text that breaks it, and the nearest that passes.
 pub const RULES: [(u8, &str, &str, &str); 33] = [
     (

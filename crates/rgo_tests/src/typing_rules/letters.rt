@@ -1,9 +1,9 @@
 //! Lists of types and of values, each written as a word of one letter for each.
 
 use super::plain::{BOOL, INT, MINUS_ONE, ONE, S, ZERO};
-use rgo_typing_rules::{Kind, Shape, Signature};
 use rgo_ast::TypeExpr;
 use rgo_typed::Base;
+use rgo_typing_rules::{Kind, Shape, Signature};
 use std::alloc::Global;
 use std::test::Fail;
 
@@ -46,7 +46,11 @@ pub(super) fn value<'a>(letter: u8, int: &'a TypeExpr) -> Shape<'a> {
     }
 }
 
-pub(super) fn kinds<'a>(alloc: Global, word: &str, int: &'a TypeExpr) -> Result<Vec<Kind<'a>>, Fail> {
+pub(super) fn kinds<'a>(
+    alloc: Global,
+    word: &str,
+    int: &'a TypeExpr,
+) -> Result<Vec<Kind<'a>>, Fail> {
     let mut kinds = Vec::new(alloc);
     for letter in word.as_bytes() {
         kinds.push(kind(*letter, int))?;
@@ -72,7 +76,11 @@ pub(super) fn known<'a>(
     Ok(kinds)
 }
 
-pub(super) fn values<'a>(alloc: Global, word: &str, int: &'a TypeExpr) -> Result<Vec<Shape<'a>>, Fail> {
+pub(super) fn values<'a>(
+    alloc: Global,
+    word: &str,
+    int: &'a TypeExpr,
+) -> Result<Vec<Shape<'a>>, Fail> {
     let mut values = Vec::new(alloc);
     for letter in word.as_bytes() {
         values.push(value(*letter, int))?;

@@ -1,71 +1,283 @@
-//! Nodes with lists of values or with types round `int`, in letters, and what they break.
+//! Nodes with lists of values or with types around `int`, in letters, and what they break.
+
+use rgo_typing_rules::Rule::{self, *};
 
 /// Literals by values: the fields, the values.
-pub(super) const LITERALS: [(&str, &str, Option<u8>); 10] = [
+pub(super) const LITERALS: [(&str, &str, Option<Rule>); 10] = [
     ("", "", None),
     ("ib", "", None),
     ("ib", "1b", None),
     ("psc", "nnn", None),
-    ("us", "ss", Some(13)),
-    ("ib", "ii", Some(13)),
-    ("ii", "b", Some(13)),
-    ("ii", "1", Some(29)),
-    ("i", "11", Some(29)),
-    ("", "1", Some(29)),
+    ("us", "ss", Some(NotAssignable)),
+    ("ib", "ii", Some(NotAssignable)),
+    ("ii", "b", Some(NotAssignable)),
+    ("ii", "1", Some(LiteralFields)),
+    ("i", "11", Some(LiteralFields)),
+    ("", "1", Some(LiteralFields)),
 ];
 
 /// Literals by fields: the elements' fields, whether a field stands there twice, the values.
-pub(super) const KEYED: [(&str, bool, &str, Option<u8>); 6] = [
+pub(super) const KEYED: [(&str, bool, &str, Option<Rule>); 6] = [
     ("", false, "", None),
     ("ib", false, "1b", None),
-    ("ib", false, "bb", Some(13)),
-    ("?b", true, "b1", Some(13)),
-    ("i?", false, "1b", Some(29)),
-    ("ii", true, "11", Some(29)),
+    ("ib", false, "bb", Some(NotAssignable)),
+    ("?b", true, "b1", Some(NotAssignable)),
+    ("i?", false, "1b", Some(LiteralFields)),
+    ("ii", true, "11", Some(LiteralFields)),
 ];
 
 /// Calls: the parameters, whether there is a result, the arguments; alone, as a value, with `go`.
-pub(super) const CALLS: [(&str, bool, &str, [Option<u8>; 3]); 11] = [
-    ("", false, "", [None, Some(19), None]),
-    ("", true, "", [None, None, Some(21)]),
-    ("", true, "1", [Some(18), Some(18), Some(18)]),
-    ("ib", false, "1b", [None, Some(19), None]),
-    ("ib", false, "1i", [Some(13), Some(13), Some(13)]),
-    ("ib", false, "1", [Some(18), Some(18), Some(18)]),
-    ("ib", true, "b", [Some(13), Some(13), Some(13)]),
-    ("ib", false, "1b1", [Some(18), Some(18), Some(18)]),
-    ("pp", false, "nn", [None, Some(19), None]),
-    ("i", true, "n", [Some(13), Some(13), Some(13)]),
-    ("bp", true, "bp", [None, None, Some(21)]),
+pub(super) const CALLS: [(&str, bool, &str, [Option<Rule>; 3]); 11] = [
+    ("", false, "", [None, Some(NoResult), None]),
+    ("", true, "", [None, None, Some(GoTarget)]),
+    (
+        "",
+        true,
+        "1",
+        [Some(ArgCount), Some(ArgCount), Some(ArgCount)],
+    ),
+    ("ib", false, "1b", [None, Some(NoResult), None]),
+    (
+        "ib",
+        false,
+        "1i",
+        [
+            Some(NotAssignable),
+            Some(NotAssignable),
+            Some(NotAssignable),
+        ],
+    ),
+    (
+        "ib",
+        false,
+        "1",
+        [Some(ArgCount), Some(ArgCount), Some(ArgCount)],
+    ),
+    (
+        "ib",
+        true,
+        "b",
+        [
+            Some(NotAssignable),
+            Some(NotAssignable),
+            Some(NotAssignable),
+        ],
+    ),
+    (
+        "ib",
+        false,
+        "1b1",
+        [Some(ArgCount), Some(ArgCount), Some(ArgCount)],
+    ),
+    ("pp", false, "nn", [None, Some(NoResult), None]),
+    (
+        "i",
+        true,
+        "n",
+        [
+            Some(NotAssignable),
+            Some(NotAssignable),
+            Some(NotAssignable),
+        ],
+    ),
+    ("bp", true, "bp", [None, None, Some(GoTarget)]),
 ];
 
 /// Arguments: of `len`; of `close` alone and as a value; of `fmt.Println` alone and as a value.
-pub(super) const BUILTINS: [(&str, [Option<u8>; 5]); 10] = [
-    ("", [Some(18), Some(18), Some(18), None, Some(19)]),
-    ("s", [None, Some(22), Some(19), Some(30), Some(19)]),
-    ("c", [Some(16), None, Some(19), Some(30), Some(19)]),
-    ("1", [Some(16), Some(22), Some(19), None, Some(19)]),
-    ("ss", [Some(18), Some(18), Some(18), Some(30), Some(19)]),
-    ("cc", [Some(16), Some(18), Some(18), Some(30), Some(19)]),
-    ("bt", [Some(16), Some(18), Some(18), None, Some(19)]),
-    ("bp", [Some(16), Some(18), Some(18), Some(30), Some(19)]),
-    ("1n", [Some(16), Some(18), Some(18), Some(12), Some(12)]),
-    ("pn", [Some(16), Some(18), Some(18), Some(12), Some(12)]),
+pub(super) const BUILTINS: [(&str, [Option<Rule>; 5]); 10] = [
+    (
+        "",
+        [
+            Some(ArgCount),
+            Some(ArgCount),
+            Some(ArgCount),
+            None,
+            Some(NoResult),
+        ],
+    ),
+    (
+        "s",
+        [
+            None,
+            Some(NotChannel),
+            Some(NoResult),
+            Some(PrintType),
+            Some(NoResult),
+        ],
+    ),
+    (
+        "c",
+        [
+            Some(NotIndexable),
+            None,
+            Some(NoResult),
+            Some(PrintType),
+            Some(NoResult),
+        ],
+    ),
+    (
+        "1",
+        [
+            Some(NotIndexable),
+            Some(NotChannel),
+            Some(NoResult),
+            None,
+            Some(NoResult),
+        ],
+    ),
+    (
+        "ss",
+        [
+            Some(ArgCount),
+            Some(ArgCount),
+            Some(ArgCount),
+            Some(PrintType),
+            Some(NoResult),
+        ],
+    ),
+    (
+        "cc",
+        [
+            Some(NotIndexable),
+            Some(ArgCount),
+            Some(ArgCount),
+            Some(PrintType),
+            Some(NoResult),
+        ],
+    ),
+    (
+        "bt",
+        [
+            Some(NotIndexable),
+            Some(ArgCount),
+            Some(ArgCount),
+            None,
+            Some(NoResult),
+        ],
+    ),
+    (
+        "bp",
+        [
+            Some(NotIndexable),
+            Some(ArgCount),
+            Some(ArgCount),
+            Some(PrintType),
+            Some(NoResult),
+        ],
+    ),
+    (
+        "1n",
+        [
+            Some(NotIndexable),
+            Some(ArgCount),
+            Some(ArgCount),
+            Some(BareNil),
+            Some(BareNil),
+        ],
+    ),
+    (
+        "pn",
+        [
+            Some(NotIndexable),
+            Some(ArgCount),
+            Some(ArgCount),
+            Some(BareNil),
+            Some(BareNil),
+        ],
+    ),
 ];
 
 /// Pairs: compared; the first at the second as index; the second sent on the first; the second
 /// assigned to a variable of the first.
-pub(super) const PAIRS: [(u8, u8, [Option<u8>; 4]); 12] = [
-    (b's', b's', [Some(11), Some(16), Some(22), None]),
-    (b's', b'u', [Some(11), Some(16), Some(22), Some(13)]),
-    (b's', b'n', [None, Some(16), Some(22), None]),
-    (b's', b'c', [Some(10), Some(16), Some(22), Some(13)]),
-    (b's', b'i', [Some(10), None, Some(22), Some(13)]),
-    (b's', b'0', [Some(10), None, Some(22), Some(13)]),
-    (b's', b'-', [Some(10), Some(27), Some(22), Some(13)]),
-    (b'c', b'c', [None, Some(16), Some(13), None]),
-    (b'c', b'n', [None, Some(16), Some(13), None]),
-    (b'c', b's', [Some(10), Some(16), Some(13), Some(13)]),
-    (b'c', b'1', [Some(10), Some(16), None, Some(13)]),
-    (b'i', b'-', [None, Some(16), Some(22), None]),
+pub(super) const PAIRS: [(u8, u8, [Option<Rule>; 4]); 12] = [
+    (
+        b's',
+        b's',
+        [
+            Some(SliceCompare),
+            Some(NotIndexable),
+            Some(NotChannel),
+            None,
+        ],
+    ),
+    (
+        b's',
+        b'u',
+        [
+            Some(SliceCompare),
+            Some(NotIndexable),
+            Some(NotChannel),
+            Some(NotAssignable),
+        ],
+    ),
+    (
+        b's',
+        b'n',
+        [None, Some(NotIndexable), Some(NotChannel), None],
+    ),
+    (
+        b's',
+        b'c',
+        [
+            Some(Mismatch),
+            Some(NotIndexable),
+            Some(NotChannel),
+            Some(NotAssignable),
+        ],
+    ),
+    (
+        b's',
+        b'i',
+        [Some(Mismatch), None, Some(NotChannel), Some(NotAssignable)],
+    ),
+    (
+        b's',
+        b'0',
+        [Some(Mismatch), None, Some(NotChannel), Some(NotAssignable)],
+    ),
+    (
+        b's',
+        b'-',
+        [
+            Some(Mismatch),
+            Some(ConstIndex),
+            Some(NotChannel),
+            Some(NotAssignable),
+        ],
+    ),
+    (
+        b'c',
+        b'c',
+        [None, Some(NotIndexable), Some(NotAssignable), None],
+    ),
+    (
+        b'c',
+        b'n',
+        [None, Some(NotIndexable), Some(NotAssignable), None],
+    ),
+    (
+        b'c',
+        b's',
+        [
+            Some(Mismatch),
+            Some(NotIndexable),
+            Some(NotAssignable),
+            Some(NotAssignable),
+        ],
+    ),
+    (
+        b'c',
+        b'1',
+        [
+            Some(Mismatch),
+            Some(NotIndexable),
+            None,
+            Some(NotAssignable),
+        ],
+    ),
+    (
+        b'i',
+        b'-',
+        [None, Some(NotIndexable), Some(NotChannel), None],
+    ),
 ];

@@ -1,11 +1,12 @@
 //! Nodes without lists: each row a rule, a node that breaks it first, and the nearest node that
 //! breaks none.
 
-use rgo_typing_rules::{Kind, Meaning, Node, Role, Shape};
 use rgo_ast::{BinaryOp, UnaryOp};
 use rgo_typed::Base;
+use rgo_typing_rules::Rule::{self, *};
+use rgo_typing_rules::{Kind, Meaning, Node, Role, Shape};
 
-pub(super) type Row<'a> = (u8, Node<'a, 'a, 'a>, Node<'a, 'a, 'a>);
+pub(super) type Row<'a> = (Rule, Node<'a, 'a, 'a>, Node<'a, 'a, 'a>);
 
 pub(super) const INT: Kind<'static> = Kind::Plain(Base::Int);
 
@@ -47,154 +48,182 @@ const FMT: Option<Meaning> = Some(Meaning::Package(true));
 const FMT_MISSING: Option<Meaning> = Some(Meaning::Package(false));
 
 pub(super) const DECLARATIONS: [Row<'static>; 7] = [
-    (1, Node::Import(false, b"os"), Node::Import(false, b"fmt")),
-    (2, Node::Import(true, b"fmt"), Node::Import(false, b"fmt")),
-    (2, Node::Declared(true, b"x"), Node::Declared(false, b"x")),
     (
-        3,
+        BadImport,
+        Node::Import(false, b"os"),
+        Node::Import(false, b"fmt"),
+    ),
+    (
+        Redeclared,
+        Node::Import(true, b"fmt"),
+        Node::Import(false, b"fmt"),
+    ),
+    (
+        Redeclared,
+        Node::Declared(true, b"x"),
+        Node::Declared(false, b"x"),
+    ),
+    (
+        ReservedName,
         Node::Declared(false, b"int"),
         Node::Declared(false, b"in"),
     ),
     (
-        3,
+        ReservedName,
         Node::Declared(false, b"cap"),
         Node::Declared(false, b"Cap"),
     ),
     (
-        3,
+        ReservedName,
         Node::Declared(false, b"init"),
         Node::Declared(false, b"main"),
     ),
-    (3, Node::Declared(false, b"_"), Node::Declared(false, b"_x")),
+    (
+        ReservedName,
+        Node::Declared(false, b"_"),
+        Node::Declared(false, b"_x"),
+    ),
 ];
 
 pub(super) const NAMES: [Row<'static>; 14] = [
-    (4, Node::TypeName(None), Node::TypeName(INT_NAME)),
-    (4, Node::BaseName(FMT_MISSING), Node::BaseName(STRUCT)),
+    (NoSuchName, Node::TypeName(None), Node::TypeName(INT_NAME)),
     (
-        4,
+        NoSuchName,
+        Node::BaseName(FMT_MISSING),
+        Node::BaseName(STRUCT),
+    ),
+    (
+        NoSuchName,
         Node::Name(Role::Target, None),
         Node::Name(Role::Target, FUNCTION),
     ),
     (
-        4,
+        NoSuchName,
         Node::Name(Role::Value, FMT_MISSING),
         Node::Name(Role::Target, FMT),
     ),
-    (5, Node::TypeName(VARIABLE), Node::TypeName(INT_NAME)),
+    (NotType, Node::TypeName(VARIABLE), Node::TypeName(INT_NAME)),
     (
-        5,
+        NotType,
         Node::BaseName(Some(Meaning::Nil)),
         Node::BaseName(INT_NAME),
     ),
-    (6, Node::TypeName(STRUCT), Node::BaseName(STRUCT)),
-    (7, Node::Pointed(INT_NAME), Node::Pointed(STRUCT)),
     (
-        8,
+        StructByValue,
+        Node::TypeName(STRUCT),
+        Node::BaseName(STRUCT),
+    ),
+    (PointerBase, Node::Pointed(INT_NAME), Node::Pointed(STRUCT)),
+    (
+        NotValue,
         Node::Name(Role::Value, FUNCTION),
         Node::Name(Role::Value, VARIABLE),
     ),
     (
-        8,
+        NotValue,
         Node::Name(Role::Value, STRUCT),
         Node::Name(Role::Target, STRUCT),
     ),
     (
-        8,
+        NotValue,
         Node::Name(Role::Printed, FMT),
         Node::Name(Role::Printed, Some(Meaning::Nil)),
     ),
     (
-        8,
+        NotValue,
         Node::Name(Role::Alone, Some(Meaning::Len)),
         Node::Name(Role::Alone, VARIABLE),
     ),
     (
-        8,
+        NotValue,
         Node::Name(Role::Value, INT_NAME),
         Node::Name(Role::Value, Some(Meaning::Truth(true))),
     ),
-    (9, Node::Text(Role::Value), Node::Text(Role::Printed)),
+    (
+        StringPlace,
+        Node::Text(Role::Value),
+        Node::Text(Role::Printed),
+    ),
 ];
 
 pub(super) const OPERATORS: [Row<'static>; 16] = [
     (
-        10,
+        Mismatch,
         Node::Unary(UnaryOp::Plus, B),
         Node::Unary(UnaryOp::Plus, I),
     ),
     (
-        10,
+        Mismatch,
         Node::Unary(UnaryOp::Minus, P),
         Node::Unary(UnaryOp::Minus, I),
     ),
     (
-        10,
+        Mismatch,
         Node::Unary(UnaryOp::Not, ZERO),
         Node::Unary(UnaryOp::Not, B),
     ),
     (
-        10,
+        Mismatch,
         Node::Binary(BinaryOp::Add, B, B),
         Node::Binary(BinaryOp::Add, I, ONE),
     ),
     (
-        10,
+        Mismatch,
         Node::Binary(BinaryOp::Lt, Shape::Nil, Shape::Nil),
         Node::Binary(BinaryOp::Lt, I, I),
     ),
     (
-        10,
+        Mismatch,
         Node::Binary(BinaryOp::And, B, ONE),
         Node::Binary(BinaryOp::And, B, B),
     ),
     (
-        10,
+        Mismatch,
         Node::Binary(BinaryOp::Or, I, I),
         Node::Binary(BinaryOp::Or, B, B),
     ),
     (
-        10,
+        Mismatch,
         Node::Binary(BinaryOp::Eq, B, ONE),
         Node::Binary(BinaryOp::Eq, I, ONE),
     ),
     (
-        10,
+        Mismatch,
         Node::Binary(BinaryOp::Eq, P, Q),
         Node::Binary(BinaryOp::Eq, P, P),
     ),
     (
-        10,
+        Mismatch,
         Node::Binary(BinaryOp::Ne, Shape::Nil, ONE),
         Node::Binary(BinaryOp::Ne, Shape::Nil, Q),
     ),
     (
-        10,
+        Mismatch,
         Node::Update(BinaryOp::Add, true, B, ONE),
         Node::Update(BinaryOp::Add, true, I, ONE),
     ),
     (
-        12,
+        BareNil,
         Node::Binary(BinaryOp::Eq, Shape::Nil, Shape::Nil),
         Node::Binary(BinaryOp::Eq, P, Shape::Nil),
     ),
     (
-        12,
+        BareNil,
         Node::Binary(BinaryOp::Ne, Shape::Nil, Shape::Nil),
         Node::Binary(BinaryOp::Ne, B, B),
     ),
     (
-        26,
+        ConstZeroDivisor,
         Node::Binary(BinaryOp::Div, I, ZERO),
         Node::Binary(BinaryOp::Div, ZERO, I),
     ),
     (
-        26,
+        ConstZeroDivisor,
         Node::Binary(BinaryOp::Rem, ONE, ZERO),
         Node::Binary(BinaryOp::Mul, ONE, ZERO),
     ),
     (
-        26,
+        ConstZeroDivisor,
         Node::Update(BinaryOp::Rem, true, I, ZERO),
         Node::Update(BinaryOp::Rem, true, I, MINUS_ONE),
     ),
@@ -203,107 +232,127 @@ pub(super) const OPERATORS: [Row<'static>; 16] = [
 /// The constants that are in range, and the nearest that are not.
 pub(super) const CONSTANTS: [Row<'static>; 8] = [
     (
-        25,
+        ConstRange,
         Node::Number(9_223_372_036_854_775_808),
         Node::Number(9_223_372_036_854_775_807),
     ),
     (
-        25,
+        ConstRange,
         Node::Unary(UnaryOp::Minus, LEAST),
         Node::Unary(UnaryOp::Minus, GREATEST),
     ),
     (
-        25,
+        ConstRange,
         Node::Binary(BinaryOp::Add, GREATEST, ONE),
         Node::Binary(BinaryOp::Add, GREATEST, ZERO),
     ),
     (
-        25,
+        ConstRange,
         Node::Binary(BinaryOp::Add, MINUS_ONE, LEAST),
         Node::Binary(BinaryOp::Add, ONE, LEAST),
     ),
     (
-        25,
+        ConstRange,
         Node::Binary(BinaryOp::Sub, LEAST, ONE),
         Node::Binary(BinaryOp::Sub, MINUS_ONE, GREATEST),
     ),
     (
-        25,
+        ConstRange,
         Node::Binary(BinaryOp::Mul, LEAST, MINUS_ONE),
         Node::Binary(BinaryOp::Mul, GREATEST, MINUS_ONE),
     ),
     (
-        25,
+        ConstRange,
         Node::Binary(BinaryOp::Div, LEAST, MINUS_ONE),
         Node::Binary(BinaryOp::Rem, LEAST, MINUS_ONE),
     ),
     (
-        25,
+        ConstRange,
         Node::Binary(BinaryOp::Add, GREATEST, GREATEST),
         Node::Binary(BinaryOp::Add, GREATEST, I),
     ),
 ];
 
 pub(super) const VALUES: [Row<'static>; 13] = [
-    (12, Node::Define(Shape::Nil), Node::DefineAs(S, Shape::Nil)),
-    (13, Node::DefineAs(INT, B), Node::DefineAs(INT, ONE)),
     (
-        13,
+        BareNil,
+        Node::Define(Shape::Nil),
+        Node::DefineAs(S, Shape::Nil),
+    ),
+    (
+        NotAssignable,
+        Node::DefineAs(INT, B),
+        Node::DefineAs(INT, ONE),
+    ),
+    (
+        NotAssignable,
         Node::DefineAs(INT, Shape::Nil),
         Node::DefineAs(T, Shape::Nil),
     ),
-    (13, Node::DefineAs(S, Q), Node::DefineAs(S, P)),
-    (13, Node::Assign(true, I, B), Node::Assign(true, B, B)),
+    (NotAssignable, Node::DefineAs(S, Q), Node::DefineAs(S, P)),
     (
-        13,
+        NotAssignable,
+        Node::Assign(true, I, B),
+        Node::Assign(true, B, B),
+    ),
+    (
+        NotAssignable,
         Node::Return(Some(INT), Some(B)),
         Node::Return(Some(INT), Some(I)),
     ),
     (
-        14,
+        NotPlace,
         Node::Assign(false, Shape::Untyped, ONE),
         Node::Assign(true, I, ONE),
     ),
     (
-        14,
+        NotPlace,
         Node::Update(BinaryOp::Sub, false, I, ONE),
         Node::Update(BinaryOp::Sub, true, I, ONE),
     ),
-    (15, Node::Selector(false), Node::Selector(true)),
-    (20, Node::Alone(false), Node::Alone(true)),
-    (23, Node::Condition(ONE), Node::Condition(B)),
-    (24, Node::Size(B), Node::Size(I)),
-    (28, Node::Size(MINUS_ONE), Node::Size(ZERO)),
+    (NoSuchField, Node::Selector(false), Node::Selector(true)),
+    (NotStatement, Node::Alone(false), Node::Alone(true)),
+    (NotBool, Node::Condition(ONE), Node::Condition(B)),
+    (NotInt, Node::Size(B), Node::Size(I)),
+    (ConstSize, Node::Size(MINUS_ONE), Node::Size(ZERO)),
 ];
 
 pub(super) const ENDS: [Row<'static>; 6] = [
-    (31, Node::Return(None, Some(ONE)), Node::Return(None, None)),
     (
-        31,
+        ReturnCount,
+        Node::Return(None, Some(ONE)),
+        Node::Return(None, None),
+    ),
+    (
+        ReturnCount,
         Node::Return(Some(INT), None),
         Node::Return(Some(INT), Some(ONE)),
     ),
-    (32, Node::End(true, false), Node::End(true, true)),
-    (32, Node::End(true, false), Node::End(false, false)),
-    (33, Node::Branch(false), Node::Branch(true)),
-    (34, Node::TextEnd(false), Node::TextEnd(true)),
+    (MissingReturn, Node::End(true, false), Node::End(true, true)),
+    (
+        MissingReturn,
+        Node::End(true, false),
+        Node::End(false, false),
+    ),
+    (LoopOutside, Node::Branch(false), Node::Branch(true)),
+    (NoMain, Node::TextEnd(false), Node::TextEnd(true)),
 ];
 
 /// Nodes that break other rules too, or would but for the first, or have no other form.
-pub(super) const FIRST: [(u8, Node<'static, 'static, 'static>); 15] = [
-    (1, Node::Import(true, b"os")),
-    (2, Node::Declared(true, b"len")),
-    (4, Node::TypeName(FMT_MISSING)),
-    (4, Node::Name(Role::Value, FMT_MISSING)),
-    (4, Node::CallMissing),
-    (10, Node::Binary(BinaryOp::Div, B, ZERO)),
-    (10, Node::Update(BinaryOp::Div, false, B, ZERO)),
-    (14, Node::Update(BinaryOp::Div, false, I, ZERO)),
-    (14, Node::Assign(false, I, B)),
-    (17, Node::CallNothing),
-    (21, Node::GoNothing),
-    (22, Node::Send(I, B)),
-    (22, Node::Unary(UnaryOp::Receive, Shape::Nil)),
-    (26, Node::Binary(BinaryOp::Rem, LEAST, ZERO)),
-    (31, Node::Return(None, Some(Shape::Nil))),
+pub(super) const FIRST: [(Rule, Node<'static, 'static, 'static>); 15] = [
+    (BadImport, Node::Import(true, b"os")),
+    (Redeclared, Node::Declared(true, b"len")),
+    (NoSuchName, Node::TypeName(FMT_MISSING)),
+    (NoSuchName, Node::Name(Role::Value, FMT_MISSING)),
+    (NoSuchName, Node::CallMissing),
+    (Mismatch, Node::Binary(BinaryOp::Div, B, ZERO)),
+    (Mismatch, Node::Update(BinaryOp::Div, false, B, ZERO)),
+    (NotPlace, Node::Update(BinaryOp::Div, false, I, ZERO)),
+    (NotPlace, Node::Assign(false, I, B)),
+    (NotCall, Node::CallNothing),
+    (GoTarget, Node::GoNothing),
+    (NotChannel, Node::Send(I, B)),
+    (NotChannel, Node::Unary(UnaryOp::Receive, Shape::Nil)),
+    (ConstZeroDivisor, Node::Binary(BinaryOp::Rem, LEAST, ZERO)),
+    (ReturnCount, Node::Return(None, Some(Shape::Nil))),
 ];

@@ -1,7 +1,7 @@
-//! Texts with their terminals.
+//! Texts with the terminals of their lexemes.
 
-use rgo_grammar::Terminal::{self, *};
 use rgo_ast::{AssignOp, BinaryOp, StepOp};
+use rgo_lexer::Terminal::{self, *};
 
 pub(super) const WORDS: [(&[u8], &[Terminal]); 4] = [
     (
@@ -109,7 +109,7 @@ pub(super) const OPERATORS: [(&[u8], &[Terminal]); 7] = [
     ),
 ];
 
-/// Keywords and operators of which no production has one.
+/// Keywords and operators that occur in no production.
 pub(super) const OTHERS: [(&[u8], &[Terminal]); 3] = [
     (
         b"case const default defer fallthrough goto (",
