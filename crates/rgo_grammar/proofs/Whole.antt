@@ -8,7 +8,7 @@ use Rattle.rgo_grammar.specs.Grammar.{IsProgram}
 use Rattle.rgo_grammar.specs.FirstBad.{Begins, IsFirstBad}
 use Rattle.rgo_grammar.specs.Laws.{OneTree, OneOfBoth}
 use Rattle.rgo_grammar.specs.reading.{Read.{Read, Done, Failed, At, Starving}, Declarations.{program}}
-use Rattle.rgo_grammar.proofs.machine.{Table.{Program, fine, leads, next}, Runs.{Accepted, Stopped, run, Reached, stopped, finish, finish_run}}
+use Rattle.rgo_grammar.proofs.machine.{Table.{Program, fine, leads}, Runs.{Accepted, Stopped, run, Reached, stopped, finish, finish_run}}
 use Rattle.rgo_grammar.proofs.reading.Complete.{Meets}
 use Rattle.rgo_grammar.proofs.declarations.{Program.Closed.{accepts, rejects}, Program.{Closed, program_correct}, Complete.{program_complete}}
 

@@ -1,5 +1,5 @@
 -- Declarations and whole programs of the grammar are read as such.
-use Rattle.std.proofs.Common.{◌≡◌, ℕ, zero, suc, inl, inr, false, List, [], ◌∷◌, ◌++◌, Option, Some, refl, append_assoc, append-nil, ◌+◌, ◌-◌}
+use Rattle.std.proofs.Common.{◌≡◌, ℕ, zero, suc, inl, inr, false, List, [], ◌∷◌, ◌++◌, Option, Some, refl, append_assoc, append-nil}
 use Rattle.rgo_ast.specs.declared.names.ImportPath.{ImportPath}
 use Rattle.rgo_ast.specs.Tree.{Binding, TypeSpec}
 use Rattle.rgo_ast.specs.Tree as tree
@@ -7,7 +7,6 @@ use Rattle.rgo_lexer.specs.{declared.terminals.Terminal.{Terminal, TheVariants.{
 use Rattle.rgo_grammar.specs.Grammar.{IsPath, IsImport, IsTypeSpec, IsResult, IsBinding, IsType, IsStmts, IsDecl, IsProgram, Listed, Each, Each.{none as no_more, next}}
 use Rattle.rgo_grammar.specs.reading.{Read.{Reader, Done, ◌>>=◌, given, first_of, single, several}, Types.{a_type, binding}, Declarations.{group_by, group, import_path, type_spec, result_on, function, func, decls_on, decls, imports_by, imports_on, imports, program}}
 use Rattle.rgo_grammar.specs.Grammar as g
-use Rattle.rgo_grammar.proofs.machine.Table.{rest}
 use Rattle.rgo_grammar.proofs.reading.{Complete.{Meets, meets_trans, meets_bind, meets_then, Opens, listed_complete, not_true}, Next.{begins_append}}
 use Rattle.rgo_grammar.proofs.types.Complete.{type_complete, binding_complete, binding_opens, bindings_complete}
 use Rattle.rgo_grammar.proofs.statements.Complete.{block_complete}

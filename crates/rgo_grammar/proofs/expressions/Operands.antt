@@ -1,13 +1,13 @@
 -- Reading a primary expression is correct, where reading expressions in brackets is: lists of them,
 -- `new` and `make`, what begins one, what follows it.
-use Rattle.std.proofs.Common.{◌≡◌, ℕ, ◌<◌, ◌≤◌, Bool, true, false, List, [], ◌∷◌, ◌++◌, length, refl, append_assoc, arith, append-nil, ◌+◌, ◌-◌, ap}
+use Rattle.std.proofs.Common.{◌≡◌, ℕ, ◌<◌, ◌≤◌, Bool, true, false, List, [], ◌∷◌, ◌++◌, length, refl, append_assoc, arith, append-nil, ap}
 use Rattle.rgo_ast.specs.Tree.{exprs_of}
 use Rattle.rgo_ast.specs.Tree as tree
 use Rattle.rgo_ast.specs.declared.ops.BinaryOp.TheVariants as op
 use Rattle.rgo_lexer.specs.{Lexemes.{Leaf, Lexeme, tok, ident}, declared.terminals.Terminal.{Terminal, TheVariants.{CloseParen, Comma, Name, New, Make, Number, Text, Binary, Bang, Ampersand, Arrow, OpenParen, OpenBracket, CloseBracket, Dot, Chan}}}
 use Rattle.rgo_grammar.specs.Grammar.{IsExprs.{none, last, more}, IsMakeEnd.{plain, comma}, IsPrimary.{new, make_slice as is_slice, make_chan, make_sized, number, text, name, parens as in_parens, select, index, call}, Listed.{none as none_item, last as last_item, more as next_item}, IsPrimary, IsType, IsMakeEnd, Listed, IsExpr, IsExprs}
 use Rattle.rgo_grammar.specs.reading.{Expressions.{exprs, make_end, make_end_by, capacity_by, sized_by, make_slice, made_by, new_at, parens, operand_by, post_by, made, capacity, sized}, Types.{a_type}, Read.{Reader}}
-use Rattle.rgo_grammar.proofs.machine.{Table.{Sym, Bin, Args, expr_row, T, Unary, Post, step, AType, MakeType, MakeSize, MakeMore, MakeEnd, closer}, Runs.{run}, Starts.{starts_as}}
+use Rattle.rgo_grammar.proofs.machine.{Table.{Sym, Bin, Args, expr_row, T, Unary, Post, step, AType, MakeType, MakeSize, MakeMore, MakeEnd}, Runs.{run}, Starts.{starts_as}}
 use Rattle.rgo_grammar.proofs.reading.{Correct.{Correct, same_start, correct_weaker, correct_under, token_read, correct_then, correct_token_then, correct_token_given, shorter, correct_given, correct_token, at_token, Empties, Correct.{done, stops}}, Lists.{ListSyms, list_correct, list_syms}}
 use Rattle.rgo_grammar.proofs.types.Correct.{type_correct}
 use Rattle.rgo_grammar.proofs.expressions.Starts.{Reads, unsigned}

@@ -1,6 +1,6 @@
 -- The machine over lists of tokens: each stack that it reaches can be emptied by some text, and
 -- where it stops, it stops whatever follows.
-use Rattle.std.proofs.Common.{◌≡◌, Bool, true, false, ◌&&◌, cond, not, List, [], ◌∷◌, ◌++◌, Option, Some, None, refl, ◌∙◌, ap, append_assoc, inl, inr, ◌⊎◌, nat_eq, ◌+◌, ◌-◌}
+use Rattle.std.proofs.Common.{◌≡◌, Bool, true, false, ◌&&◌, cond, not, List, [], ◌∷◌, ◌++◌, Option, Some, None, refl, ◌∙◌, ap, append_assoc, inl, inr, ◌⊎◌, nat_eq}
 use Rattle.std.proofs.lemmas.Bool.{eqb-true}
 use Rattle.rgo_lexer.specs.{declared.terminals.Terminal.{Terminal}, Lexemes.{Leaf, Lexeme, tok, class, subclass, same}}
 use Rattle.rgo_grammar.proofs.machine.Table.{Sym, Row, row, nullable, word, opens, closer, find, next, entered, step, closes_first, leads, fine, all_entries, and_then, after, all_nullable, entries_fine, skips, settled, both, join}

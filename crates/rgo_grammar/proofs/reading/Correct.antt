@@ -1,6 +1,6 @@
 -- What is proved of each reading function: what it reads is in the grammar; the machine takes the
 -- same tokens, or stops at the same one; its turns are enough. And how such facts are put together.
-use Rattle.std.proofs.Common.{◌≡◌, ℕ, ◌+◌, ◌==◌, ◌||◌, ◌&&◌, nat_le, Bool, true, false, cond, get_or, List, [], ◌∷◌, ◌++◌, length, refl, sym, ◌∙◌, ap, append_assoc, arith, length-append, ◌-◌}
+use Rattle.std.proofs.Common.{◌≡◌, ℕ, ◌+◌, ◌==◌, ◌||◌, ◌&&◌, nat_le, Bool, true, false, cond, get_or, List, [], ◌∷◌, ◌++◌, length, refl, sym, ◌∙◌, ap, append_assoc, arith, length-append}
 use Rattle.rgo_lexer.specs.{declared.terminals.Terminal.{Terminal, TheVariants.{Name, Main, New, Make, Number, Text, Binary, Bang, Ampersand, Arrow, Define, Assign, Step, OpenParen, CloseParen, OpenBracket, CloseBracket, OpenBrace, CloseBrace, Comma, Semicolon, Colon, Dot, Package, Import, TypeWord, Struct, Var, Func, Chan, Go, If, Else, For, Return, Break, Continue, Other}}, Lexemes.{Leaf, Lexeme, tok, class, same, plain}}
 use Rattle.rgo_grammar.specs.reading.Read.{Reader, Read, Done, Failed, At, ◌>>=◌, given, token}
 use Rattle.rgo_grammar.proofs.machine.{Table.{Sym, T, step, same_self, nullable}, Runs.{Stopped, run, closes, same_class}, Starts.{stays}}

@@ -1,5 +1,5 @@
 -- Reading lists and groups is correct, where reading an item is.
-use Rattle.std.proofs.Common.{◌≡◌, ℕ, zero, suc, ◌+◌, ◌<◌, ◌≤◌, ◌⊎◌, inl, inr, Bool, true, false, cond, List, [], ◌∷◌, ◌++◌, length, refl, sym, ◌∙◌, append_assoc, arith, append-nil, ◌-◌}
+use Rattle.std.proofs.Common.{◌≡◌, ℕ, zero, suc, ◌+◌, ◌<◌, ◌≤◌, ◌⊎◌, inl, inr, Bool, true, false, cond, List, [], ◌∷◌, ◌++◌, length, refl, sym, ◌∙◌, append_assoc, arith, append-nil}
 use Rattle.rgo_lexer.specs.{declared.terminals.Terminal.{Terminal, TheVariants.{OpenParen, CloseParen, Semicolon}}, Lexemes.{Leaf, Lexeme, tok, same, plain}}
 use Rattle.rgo_grammar.specs.Grammar.{Listed, Listed.{none, last, more}}
 use Rattle.rgo_grammar.specs.reading.{Read.{Reader, Done, Failed, At, ◌>>=◌, ended, listed, single, several}, Declarations.{group_by, group}}

@@ -1,5 +1,5 @@
 -- What comes next in a list of tokens, by a test of its terminal.
-use Rattle.std.proofs.Common.{◌≡◌, Bool, true, false, List, [], ◌∷◌, ◌++◌, ◌+◌}
+use Rattle.std.proofs.Common.{◌≡◌, Bool, true, false, List, [], ◌∷◌, ◌++◌}
 use Rattle.rgo_lexer.specs.{declared.terminals.Terminal.{Terminal}, Lexemes.{Lexeme}}
 
 -- nothing comes next, or what does not pass the test

@@ -1,10 +1,9 @@
 -- Statements and blocks of the grammar are read as such.
-use Rattle.std.proofs.Common.{ℕ, zero, suc, inl, inr, true, false, List, [], ◌∷◌, ◌++◌, Option, refl, append_assoc, append-nil, ◌+◌, ◌-◌, arith}
+use Rattle.std.proofs.Common.{ℕ, zero, suc, inl, inr, true, false, List, [], ◌∷◌, ◌++◌, Option, refl, append_assoc, append-nil, arith}
 use Rattle.rgo_ast.specs.Tree as tree
 use Rattle.rgo_lexer.specs.{declared.terminals.Terminal.TheVariants.{OpenParen, OpenBrace, CloseBrace, Semicolon}, Lexemes.{Leaf, Lexeme, tok}}
 use Rattle.rgo_grammar.specs.Grammar.{IsCondition.{none as unconditional, some as on_condition}, IsStmt, IsStmts, IsIf, IsElse, IsFor, IsStmt.{block as a_block, simple, if' as an_if, for' as a_for, go, var, vars, return as returned, returns, break as broken, continue as continued}, IsStmts.{end, empty, last, more}, IsIf.{plain, with}, IsElse.{none as no_else, an_if as else_if, a_block as else_block}, IsFor.{while, three}}
 use Rattle.rgo_grammar.specs.reading.{Read.{Done, first_of, listed}, Expressions.{expr}, Statements.{else_on, stmt, if_stmt, block}}
-use Rattle.rgo_grammar.proofs.machine.Table.{rest}
 use Rattle.rgo_grammar.proofs.reading.{Complete.{Meets, meets_trans, meets_bind, listed_none, listed_last, listed_more, meets_then}, Next.{begins_append, next_also}}
 use Rattle.rgo_grammar.proofs.expressions.{Starts.{expr_starts}, Complete.{expr_complete, exprs_complete}, Parts.{paren_closer}}
 use Rattle.rgo_grammar.proofs.statements.{KindsComplete.{EndsStmt, ends_as_simple, ends_as_local, reads, if_at, for_at, stmt_if, stmt_for, stmt_simple, stmt_opens, return_done, returns_at, else_done, else_if_at, empty_item, condition_complete, for_clause_at, for_head_at, head_clause, head_condition, step_complete}, Parts.{one_complete, simple_complete, simple_ends, simple_starts, vars_complete}}

@@ -1,5 +1,5 @@
 -- Reading the headers of `if` and `for`, up to the block or the first `;`, is correct.
-use Rattle.std.proofs.Common.{◌≡◌, ℕ, ◌+◌, ◌≤◌, Bool, true, false, List, [], ◌∷◌, ◌++◌, length, refl, arith, append-nil, ◌-◌, ap}
+use Rattle.std.proofs.Common.{◌≡◌, ℕ, ◌+◌, ◌≤◌, Bool, true, false, List, [], ◌∷◌, ◌++◌, length, refl, arith, append-nil, ap}
 use Rattle.rgo_ast.specs.Tree as tree
 use Rattle.rgo_lexer.specs.{declared.terminals.Terminal.{Terminal, TheVariants.{Arrow, Assign, Step, OpenBrace, Semicolon}}, Lexemes.{Leaf, Lexeme, tok, same}}
 use Rattle.rgo_grammar.specs.Grammar.{IsExpr, IsSimple, IsClause, IsSimple.{plain}, IsClause.{empty, some}}

@@ -1,5 +1,5 @@
 -- Headers and the kinds of statements in the grammar: how reading tells each from the others.
-use Rattle.std.proofs.Common.{◌≡◌, inr, true, false, List, ◌∷◌, ◌++◌, Option, Some, None, refl, arith, ◌+◌, [], ℕ, zero, suc, inl, Bool}
+use Rattle.std.proofs.Common.{◌≡◌, inr, true, false, List, ◌∷◌, ◌++◌, Option, Some, None, refl, arith, [], ℕ, zero, suc, inl, Bool}
 use Rattle.rgo_ast.specs.Tree as tree
 use Rattle.rgo_lexer.specs.{declared.terminals.Terminal.{Terminal, TheVariants.{OpenBrace, Semicolon, CloseBrace, Var, Go, If, Else, For, Return, Break, Continue}}, Lexemes.{Leaf, Lexeme, tok}}
 use Rattle.rgo_grammar.specs.Grammar.{IsExpr, IsClause, IsCondition, IsStmt, IsIf, IsFor, IsSimple.{plain}, IsClause.{empty, some as a_clause}, IsCondition.{none as unconditional, some as on_condition}, IsStmt.{block as a_block, simple, if' as an_if, for' as a_for, go, var, vars, return as returned, returns, break as broken, continue as continued}, IsIf.{plain, with}, IsFor.{while, three}}

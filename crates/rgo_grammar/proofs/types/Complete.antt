@@ -1,5 +1,5 @@
 -- Names and types of the grammar are read as such.
-use Rattle.std.proofs.Common.{◌≡◌, ℕ, zero, suc, inl, inr, false, List, [], ◌∷◌, ◌++◌, refl, append_assoc, ◌+◌}
+use Rattle.std.proofs.Common.{◌≡◌, ℕ, zero, suc, inl, inr, false, List, [], ◌∷◌, ◌++◌, refl, append_assoc}
 use Rattle.rgo_ast.specs.declared.names.Ident.{Ident}
 use Rattle.rgo_ast.specs.Tree.{Binding}
 use Rattle.rgo_ast.specs.Tree as tree

@@ -1,12 +1,12 @@
 -- Reading names and types is correct.
-use Rattle.std.proofs.Common.{◌≡◌, ℕ, zero, suc, ◌<◌, ◌≤◌, List, [], ◌∷◌, ◌++◌, length, refl, ap, append_assoc, arith, append-nil, ◌+◌, ◌-◌}
+use Rattle.std.proofs.Common.{◌≡◌, ℕ, zero, suc, ◌<◌, ◌≤◌, List, [], ◌∷◌, ◌++◌, length, refl, ap, append_assoc, arith, append-nil}
 use Rattle.rgo_ast.specs.declared.names.Ident.{Ident}
 use Rattle.rgo_ast.specs.declared.ops.BinaryOp.TheVariants as op
 use Rattle.rgo_ast.specs.Tree as tree
 use Rattle.rgo_lexer.specs.{declared.terminals.Terminal.{Terminal, TheVariants.{Name, Binary, OpenBracket, CloseBracket, Comma, Chan}}, Lexemes.{Leaf, Lexeme, tok, ident, same}}
 use Rattle.rgo_grammar.specs.Grammar.{IsNames, IsType, IsBinding, Listed, IsNames.{one, more}, IsType.{named, pointer, slice, chan}, IsBinding.{binding as of_names}}
 use Rattle.rgo_grammar.specs.reading.{Read.{Reader}, Types.{type_by, a_type, names_by, names, typed_names, binding, bindings}}
-use Rattle.rgo_grammar.proofs.machine.{Table.{Sym, T, AType, NamesType, step, closer}, Runs.{run, closes}, Starts.{alike}}
+use Rattle.rgo_grammar.proofs.machine.{Table.{Sym, T, AType, NamesType, step}, Runs.{run, closes}, Starts.{alike}}
 use Rattle.rgo_grammar.proofs.reading.{Lists.{ListSyms, token_list}, Correct.{Correct, token_read, same_start, correct_bind, correct_given, correct_weaker, correct_token_then, correct_token_given, shorter, Empties, Correct.{done, stops}}, Next.{NotNext}}
 
 -- ---- types

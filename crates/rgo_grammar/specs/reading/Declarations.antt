@@ -4,7 +4,7 @@ use Rattle.rgo_ast.specs.declared.names.ImportPath.{ImportPath}
 use Rattle.rgo_ast.specs.Tree as tree
 use Rattle.rgo_ast.specs.Tree.{Binding, TypeSpec, Function}
 use Rattle.rgo_lexer.specs.{declared.terminals.Terminal.{Terminal, TheVariants.{Name, Main, Text, OpenParen, CloseParen}}, declared.terminals.Terminal.TheVariants.{OpenBrace, CloseBrace, Comma, Semicolon, Package}, declared.terminals.Terminal.TheVariants.{Import, TypeWord, Struct, Var, Func}, Lexemes.{Leaf, Lexeme, ident, path}}
-use Rattle.rgo_grammar.specs.reading.{Read.{Reader, Read, Done, Failed, At, Starving, ◌>>=◌, given, first_of, token, listed, single, several}, Types.{a_type, binding, bindings}, Statements.{block}}
+use Rattle.rgo_grammar.specs.reading.{Read.{Reader, Read, Done, Failed, At, Starving, ◌>>=◌, given, first_of, token, single, several}, Types.{a_type, binding, bindings}, Statements.{block}}
 
 -- one item, or a group of them in parentheses
 abbrev pub group_by : {A : Type 0} → Reader A → ℕ → Terminal → List Lexeme → List Lexeme

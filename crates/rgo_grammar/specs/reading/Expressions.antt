@@ -9,7 +9,7 @@ use Rattle.rgo_ast.specs.Tree as tree
 use Rattle.rgo_ast.specs.Tree.{exprs_of, elements_of}
 use Rattle.rgo_lexer.specs.{Strings.{string_of}, declared.terminals.Terminal.{Terminal, TheVariants.{Name, New, Make, Number, Text, Binary, Bang}}, declared.terminals.Terminal.TheVariants.{Ampersand, Arrow, OpenParen, CloseParen}, declared.terminals.Terminal.TheVariants.{OpenBracket, CloseBracket, OpenBrace, CloseBrace}, declared.terminals.Terminal.TheVariants.{Comma, Colon, Dot, Chan}, Lexemes.{Leaf, Lexeme, ident}}
 use Rattle.rgo_grammar.specs.Grammar.{level}
-use Rattle.rgo_grammar.specs.reading.{Read.{Reader, Read, Done, Failed, At, Starving, ◌>>=◌, given, first_of, token, ended, listed, several}, Read.{Reader, single}, Types.{a_type}}
+use Rattle.rgo_grammar.specs.reading.{Read.{Reader, Read, Done, Failed, At, Starving, ◌>>=◌, given, first_of, token, ended, several}, Read.{Reader}, Types.{a_type}}
 
 -- [ "," ] ")"
 abbrev pub make_end_by : Terminal → List Lexeme → List Lexeme → Read Leaf

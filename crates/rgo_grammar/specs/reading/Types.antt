@@ -5,7 +5,7 @@ use Rattle.rgo_ast.specs.declared.names.Ident.{Ident}
 use Rattle.rgo_ast.specs.Tree as tree
 use Rattle.rgo_ast.specs.Tree.{Binding}
 use Rattle.rgo_lexer.specs.{declared.terminals.Terminal.{Terminal, TheVariants.{Name, Binary, OpenBracket, CloseBracket, Comma}}, declared.terminals.Terminal.TheVariants.{Chan}, Lexemes.{Leaf, Lexeme, ident}}
-use Rattle.rgo_grammar.specs.reading.Read.{Reader, Read, Done, Failed, At, Starving, ◌>>=◌, given, first_of, token, listed, single, several}
+use Rattle.rgo_grammar.specs.reading.Read.{Reader, Read, Done, Failed, At, Starving, ◌>>=◌, given, first_of, token, several}
 
 abbrev pub type_by : Reader tree.TypeExpr → Terminal → Leaf → List Lexeme → List Lexeme
     → Read tree.TypeExpr
