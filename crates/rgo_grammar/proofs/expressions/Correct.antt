@@ -20,23 +20,20 @@ pub correct_popped : {A : Type 0} {h : Bool} {from : List Sym}
 correct_popped {h = h} (done z {a} {w} c p g) = done z c p.0 (λ s. g s ∙ bin_pops h w s p.1)
 correct_popped (stops g) = stops g
 
-abbrev IsUnaryAt : Bool → List Lexeme → tree.Expr → List Lexeme → Type 0
-IsUnaryAt h z v w = IsUnary h z v
-
 signed_correct : (h : Bool) (again : Reader tree.Expr) (k : Terminal) (o : UnaryOp) (i : Leaf)
     (l : List Lexeme) → sign k ≡ Some o
     → ((s : List Sym) → run (tok k i ∷ l) (Unary h ∷ s) ≡ run l (Unary h ∷ s))
-    → Correct (Unary h ∷ []) (λ _. []) (IsUnaryAt h) l (again l)
-    → Correct (Unary h ∷ []) (λ _. []) (IsUnaryAt h) (tok k i ∷ l) (signed again o i l)
+    → Empties (Unary h ∷ []) (IsUnary h) l (again l)
+    → Empties (Unary h ∷ []) (IsUnary h) (tok k i ∷ l) (signed again o i l)
 signed_correct h again k o i l e r g =
     token_read (correct_given _ g (λ z v w u. with_sign k o i e u)) r
 
 unary_by_correct : (h : Bool) (n : ℕ) (inner again primary : Reader tree.Expr) (k : Terminal)
     (i : Leaf) (l : List Lexeme) → length l < n
     → ((m : List Lexeme) → length m ≤ length l → Reads inner m)
-    → Correct (Unary h ∷ []) (λ _. []) (IsUnaryAt h) l (again l)
+    → Empties (Unary h ∷ []) (IsUnary h) l (again l)
     → (unsigned k ≡ true → Empties (Unary h ∷ []) IsPrimary (tok k i ∷ l) (primary (tok k i ∷ l)))
-    → Correct (Unary h ∷ []) (λ _. []) (IsUnaryAt h) (tok k i ∷ l)
+    → Empties (Unary h ∷ []) (IsUnary h) (tok k i ∷ l)
     (unary_by h n inner again primary k i (tok k i ∷ l) l)
 unfolding run step
 unary_by_correct h n inner again primary (Binary op.Add) i l b hi ha hp =

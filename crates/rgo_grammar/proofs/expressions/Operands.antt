@@ -63,14 +63,13 @@ module _ (bound : ℕ) (inner : Reader tree.Expr)
   -- ---- `make`
 
   -- after `make ( chan Type ,`
-  abbrev IsSized : Leaf → Leaf → Leaf → Leaf → List Lexeme → List Lexeme → tree.Expr → List Lexeme
-      → Type 0
-  IsSized i j k c x z v w =
+  abbrev IsSized : Leaf → Leaf → Leaf → Leaf → List Lexeme → List Lexeme → tree.Expr → Type 0
+  IsSized i j k c x z v =
       IsPrimary (tok Make i ∷ tok OpenParen j ∷ tok Chan k ∷ (x ++ tok Comma c ∷ z)) v
 
   capacity_by_correct : (i j k c : Leaf) (x : List Lexeme) (t : tree.TypeExpr) (q : Terminal)
       (d : Leaf) (l : List Lexeme) → IsType x t → length l < bound
-      → Correct (MakeMore ∷ []) (λ _. []) (IsSized i j k c x) (tok q d ∷ l)
+      → Empties (MakeMore ∷ []) (IsSized i j k c x) (tok q d ∷ l)
       (capacity_by inner t i q (tok q d ∷ l) l)
   unfolding run step
   capacity_by_correct i j k c x t CloseParen d l h b =
@@ -82,12 +81,12 @@ module _ (bound : ℕ) (inner : Reader tree.Expr)
       refl)
 
   -- after `make ( chan Type`
-  abbrev IsChan : Leaf → Leaf → Leaf → List Lexeme → List Lexeme → tree.Expr → List Lexeme → Type 0
-  IsChan i j k x z v w = IsPrimary (tok Make i ∷ tok OpenParen j ∷ tok Chan k ∷ (x ++ z)) v
+  abbrev IsChan : Leaf → Leaf → Leaf → List Lexeme → List Lexeme → tree.Expr → Type 0
+  IsChan i j k x z v = IsPrimary (tok Make i ∷ tok OpenParen j ∷ tok Chan k ∷ (x ++ z)) v
 
   sized_by_correct : (i j k : Leaf) (x : List Lexeme) (t : tree.TypeExpr) (q : Terminal) (d : Leaf)
       (l : List Lexeme) → IsType x t → length l < bound
-      → Correct (MakeSize ∷ []) (λ _. []) (IsChan i j k x) (tok q d ∷ l)
+      → Empties (MakeSize ∷ []) (IsChan i j k x) (tok q d ∷ l)
       (sized_by inner t i q (tok q d ∷ l) l)
   unfolding run step
   sized_by_correct i j k x t CloseParen d l h b =
@@ -99,14 +98,13 @@ module _ (bound : ℕ) (inner : Reader tree.Expr)
   sized_by_correct i j k x t q d l h b = stops (λ s. refl)
 
   -- after `make ( [ ] Type`
-  abbrev IsSlice : Leaf → Leaf → Leaf → Leaf → List Lexeme → List Lexeme → tree.Expr → List Lexeme
-      → Type 0
-  IsSlice i j k m x z v w =
+  abbrev IsSlice : Leaf → Leaf → Leaf → Leaf → List Lexeme → List Lexeme → tree.Expr → Type 0
+  IsSlice i j k m x z v =
       IsPrimary (tok Make i ∷ tok OpenParen j ∷ tok OpenBracket k ∷ tok CloseBracket m ∷ (x ++ z)) v
 
   slice_correct : (i j k m : Leaf) (x : List Lexeme) (t : tree.TypeExpr) (l : List Lexeme)
       → IsType x t → length l ≤ bound
-      → Correct (T Comma ∷ Unary false ∷ Bin false ∷ MakeEnd ∷ []) (λ _. []) (IsSlice i j k m x) l
+      → Empties (T Comma ∷ Unary false ∷ Bin false ∷ MakeEnd ∷ []) (IsSlice i j k m x) l
       (make_slice inner i t l)
   slice_correct i j k m x t l h b =
       correct_token_then Comma refl
@@ -114,14 +112,13 @@ module _ (bound : ℕ) (inner : Reader tree.Expr)
       (λ y v u _ hy. correct_given _ (make_end_correct u) (λ z _ _ hz. is_slice i j k m c h hy hz)))
 
   -- after `make (`
-  abbrev IsMade : Leaf → Leaf → List Lexeme → tree.Expr → List Lexeme → Type 0
-  IsMade i j z v w = IsPrimary (tok Make i ∷ tok OpenParen j ∷ z) v
+  abbrev IsMade : Leaf → Leaf → List Lexeme → tree.Expr → Type 0
+  IsMade i j z v = IsPrimary (tok Make i ∷ tok OpenParen j ∷ z) v
 
   made_by_correct : (n : ℕ) → bound < n → (i j : Leaf) (q : Terminal) (d : Leaf) (l : List Lexeme)
       → length l < bound
       → ((m : List Lexeme) → length m < n → Empties (AType ∷ []) IsType m (a_type n m))
-      → Correct (MakeType ∷ []) (λ _. []) (IsMade i j) (tok q d ∷ l)
-      (made_by n inner i q (tok q d ∷ l) l)
+      → Empties (MakeType ∷ []) (IsMade i j) (tok q d ∷ l) (made_by n inner i q (tok q d ∷ l) l)
   unfolding run step
   made_by_correct n big i j OpenBracket d l b type_c =
       token_read (correct_token_then CloseBracket refl

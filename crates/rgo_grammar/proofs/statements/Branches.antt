@@ -124,12 +124,12 @@ module _ (m : ℕ) (value : Reader tree.Expr) (value_c : Values true m value)
       at_token (λ w. for_on block value i w (first_of w)) refl refl
       (λ t n g. for_by_correct i t.terminal t.leaf n (omega (arith, b, ap length g)))
 
-abbrev ElseAt : List Lexeme → List Lexeme → Option tree.Stmt → List Lexeme → Type 0
-ElseAt x z e w = (j : Leaf) → IsElse (tok Else j ∷ (x ++ z)) e
+abbrev ElseAt : List Lexeme → List Lexeme → Option tree.Stmt → Type 0
+ElseAt x z e = (j : Leaf) → IsElse (tok Else j ∷ (x ++ z)) e
 
 -- the block that begins at this token
-abbrev BlockFrom : Leaf → List Lexeme → List tree.Stmt × Leaf → List Lexeme → Type 0
-BlockFrom i z x w = (y : List Lexeme) × (z ≡ tok OpenBrace i ∷ y) × IsStmts y x.0 x.1
+abbrev BlockFrom : Leaf → List Lexeme → List tree.Stmt × Leaf → Type 0
+BlockFrom i z x = (y : List Lexeme) × (z ≡ tok OpenBrace i ∷ y) × IsStmts y x.0 x.1
 
 same_leaf : (k j : Terminal) (i c : Leaf) (l w : List Lexeme) → tok k i ∷ l ≡ tok j c ∷ w → c ≡ i
 same_leaf k j i c l w e = let f : tok k i ≡ tok j c = cc in sym (ap (λ u. u.leaf) f)
@@ -149,14 +149,14 @@ module _ (m : ℕ) (block : Reader (List tree.Stmt × Leaf)) (block_c : Blocks m
     (again : Leaf → Reader tree.Stmt)
     (again_c : Ifs m again) where
   block_from : (k : Terminal) (i : Leaf) (l : List Lexeme) → length l + 1 ≤ m
-      → Correct (Block ∷ []) (λ _. []) (BlockFrom i) (tok k i ∷ l) (block (tok k i ∷ l))
+      → Empties (Block ∷ []) (BlockFrom i) (tok k i ∷ l) (block (tok k i ∷ l))
   block_from k i l b =
       correct_weaker (block_c (tok k i ∷ l) (omega (arith, b)))
       (λ z x w e (c, y, ez, h). let e' = rw ez at e in let is : c ≡ i = same_leaf k OpenBrace i c l
       (y ++ w) e' in (y, rw (ez, is) refl, h))
 
   else_body_by_correct : (k : Terminal) (i : Leaf) (l : List Lexeme) → length l + 1 ≤ m
-      → Correct (ElseBody ∷ []) (λ _. []) (ElseAt []) (tok k i ∷ l)
+      → Empties (ElseBody ∷ []) (ElseAt []) (tok k i ∷ l)
       (else_body_by block again k i (tok k i ∷ l) l)
   unfolding run step
   else_body_by_correct If i l b =

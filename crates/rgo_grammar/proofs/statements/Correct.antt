@@ -122,13 +122,13 @@ list_more : (z : List Lexeme) (a : List tree.Stmt) (i : Leaf) (y : List Lexeme) 
 list_more z a i y b j (inl (e, f)) d = rw (e, f) (empty i d)
 list_more z a i y b j (inr (s, f, h)) d = rw f (more i h d)
 
-abbrev StmtsAt : List Lexeme → List tree.Stmt × Leaf → List Lexeme → Type 0
-StmtsAt z x w = IsStmts z x.0 x.1
+abbrev StmtsAt : List Lexeme → List tree.Stmt × Leaf → Type 0
+StmtsAt z x = IsStmts z x.0 x.1
 
 stmts_by_correct : (one : Reader (List tree.Stmt)) (n : ℕ) (l : List Lexeme) → length l < n
     → ((t : Lexeme) (m : List Lexeme) → length m < length l → same CloseBrace t.terminal ≡ false
     → Correct (Stmts ∷ []) (λ _. StmtEnd ∷ []) (λ z ss w. IsItem z ss) (t ∷ m) (one (t ∷ m)))
-    → Correct (Stmts ∷ []) (λ _. []) StmtsAt l (stmts_by one n l)
+    → Empties (Stmts ∷ []) StmtsAt l (stmts_by one n l)
 stmts_by_correct one n l b h =
     correct_weaker
     (listed_correct (list_syms refl refl refl refl refl refl) one IsItem IsList (length l) h

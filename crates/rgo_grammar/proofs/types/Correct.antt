@@ -11,12 +11,9 @@ use Rattle.rgo_grammar.proofs.reading.{Lists.{ListSyms, token_list}, Correct.{Co
 
 -- ---- types
 
-abbrev pub ATypeAt : List Lexeme → tree.TypeExpr → List Lexeme → Type 0
-ATypeAt z t w = IsType z t
-
 type_by_correct : (inner : Reader tree.TypeExpr) (k : Terminal) (i : Leaf) (m : List Lexeme)
-    → ((w : List Lexeme) → length w ≤ length m → Correct (AType ∷ []) (λ _. []) ATypeAt w (inner w))
-    → Correct (AType ∷ []) (λ _. []) ATypeAt (tok k i ∷ m) (type_by inner k i (tok k i ∷ m) m)
+    → ((w : List Lexeme) → length w ≤ length m → Empties (AType ∷ []) IsType w (inner w))
+    → Empties (AType ∷ []) IsType (tok k i ∷ m) (type_by inner k i (tok k i ∷ m) m)
 unfolding run step
 type_by_correct inner Name i m hi = done (tok Name i ∷ []) refl (named i) (λ s. refl)
 type_by_correct inner (Binary op.Mul) i m hi =
