@@ -51,8 +51,8 @@ parsed_by : {l : List Lexeme} {x : List Import × List Decl} {w : List Lexeme}
 parsed_by {x = x} (accepts {a} p h) e = let f : a ≡ x = cc in (rw (← f) p, h)
 parsed_by (rejects h) e = cc
 
-pub parsed : (l : List Lexeme) (x : List Import × List Decl) (w : List Lexeme) → read l ≡ Done x w
-    → IsProgram l x.0 x.1
+pub parsed : (l : List Lexeme) (x : List Import × List Decl) (w : List Lexeme)
+    → read l ≡ Done x w → IsProgram l x.0 x.1
 parsed l x w e = (parsed_by (closed l) e).0
 
 takes : (l : List Lexeme) (is : List Import) (ds : List Decl) → IsProgram l is ds

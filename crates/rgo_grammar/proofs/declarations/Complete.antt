@@ -40,8 +40,8 @@ module _ {A : Type 0} (n : ℕ) (Item : List Lexeme → A → Type 0) (item : Re
   unfolding several
   group_list j y all l d =
       let h = listed_complete Semicolon CloseParen refl Item item
-      (λ x a h. opens CloseParen (refl, refl) x a h) (λ x a h k i m s. reads x a h (tok k i ∷ m)) d
-      n [] l in
+      (λ x a h. opens CloseParen (refl, refl) x a h)
+      (λ x a h k i m s. reads x a h (tok k i ∷ m)) d n [] l in
       meets_bind _ h.1
 
 -- ---- imports
@@ -156,8 +156,8 @@ module _ (n : ℕ) where
   decl_complete (g.types i k {y} {ss} d) found again j l =
       meets_then _
       (meets_bind _
-      (group_list n IsTypeSpec (type_spec n) spec_opens (spec_reads n) k y ss (tok Semicolon j ∷ l)
-      d)) (inr refl)
+      (group_list n IsTypeSpec (type_spec n) spec_opens (spec_reads n) k y ss
+      (tok Semicolon j ∷ l) d)) (inr refl)
   decl_complete (g.var i {x} {b} h) found again j l =
       meets_then _
       (meets_bind _
@@ -170,8 +170,8 @@ module _ (n : ℕ) where
       (inr refl)
   decl_complete (g.func i j k m end {x} {y} {z} {ps} {r} {b} p q s) found again s' l =
       rw (append_assoc, append_assoc)
-      (meets_then _ (func_complete i j k m end x y z ps r b (tok Semicolon s' ∷ l) p q s)
-      (inr refl))
+      (meets_then _
+      (func_complete i j k m end x y z ps r b (tok Semicolon s' ∷ l) p q s) (inr refl))
 
   decls_complete : {x : List Lexeme} {all : List tree.Decl} → Each IsDecl x all
       → (m : ℕ) (found : List tree.Decl) → Meets (decls n m found x) (Done (found ++ all) [])
@@ -184,8 +184,8 @@ module _ (n : ℕ) where
       meets_trans (decl_complete p found (decls n m) j y)
       (rw (append_assoc found (a ∷ []) all) at rest)
 
-  decl_starts : {x : List Lexeme} {d : tree.Decl} → IsDecl x d → (l : List Lexeme)
-      → NoImport (x ++ l)
+  decl_starts : {x : List Lexeme} {d : tree.Decl} → IsDecl x d
+      → (l : List Lexeme) → NoImport (x ++ l)
   decl_starts (g.type i h) l = refl
   decl_starts (g.types i j d) l = refl
   decl_starts (g.var i h) l = refl

@@ -135,7 +135,8 @@ module _ (n : ℕ) where
       (found : List tree.Import) (k : Terminal) (i : Leaf) (m : List Lexeme) → length m ≤ n
       → ((ds : List tree.Import) (w : List Lexeme) → length w ≤ length m
       → Correct (Imports ∷ []) (λ _. Imports ∷ []) (ImportsAfter ds) w (again ds w))
-      → Correct (Imports ∷ []) (λ _. Imports ∷ []) (ImportsAfter found) (tok k i ∷ m)
+      → Correct (Imports ∷ [])
+      (λ _. Imports ∷ []) (ImportsAfter found) (tok k i ∷ m)
       (imports_by n again found k i (tok k i ∷ m) m)
   unfolding run step
   imports_by_correct again found Import i m h hi =

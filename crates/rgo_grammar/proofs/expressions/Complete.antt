@@ -96,8 +96,8 @@ mutual
   formula_complete (of_unary {header} {x} {v} u) (suc n) p l a t e =
       (n, meets_bind _ (unary_complete u n l e))
   formula_complete (binary {header} o i {x} {y} {a} {b} le f g) (suc n) p l s t e =
-      let first = formula_complete f (suc n) p (tok (Binary o) i ∷ (y ++ l)) (omega arith)
-      (omega arith) refl in
+      let first = formula_complete f (suc n) p (tok (Binary o) i ∷ (y ++ l))
+      (omega arith) (omega arith) refl in
       let rest = operated header p o i a b y first.0 l (omega arith) (omega arith)
       (λ m. formula_complete g m (level o + 1) l (omega arith) (omega arith) e) in (
         rest.0,

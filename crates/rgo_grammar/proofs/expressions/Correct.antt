@@ -57,13 +57,14 @@ IsExprAt h least x z v w = IsExpr h least (x ++ z) v × (top w < least)
 operator_correct : (h : Bool) (right : ℕ → Reader tree.Expr) (again : tree.Expr → Reader tree.Expr)
     (least : ℕ) (a : tree.Expr) (x : List Lexeme) (o : BinaryOp) (i : Leaf) (l : List Lexeme)
     → least ≤ level o
-    → Correct (Unary h ∷ Bin h ∷ []) (λ _. Bin h ∷ []) (IsExprAt h (level o + 1) []) l
-    (right (level o + 1) l)
+    → Correct (Unary h ∷ Bin h ∷ [])
+    (λ _. Bin h ∷ []) (IsExprAt h (level o + 1) []) l (right (level o + 1) l)
     → ((b : tree.Expr) (y m : List Lexeme) → IsExpr h least y b → IsExpr h (top m) y b
     → length m ≤ length l
     → Correct (Bin h ∷ []) (λ _. Bin h ∷ []) (IsExprAt h least y) m (again b m))
     → IsExpr h (level o) x a
-    → Correct (Bin h ∷ []) (λ _. Bin h ∷ []) (IsExprAt h least x) (tok (Binary o) i ∷ l)
+    → Correct (Bin h ∷ [])
+    (λ _. Bin h ∷ []) (IsExprAt h least x) (tok (Binary o) i ∷ l)
     (right (level o + 1) l >>= (λ b. again (tree.Binary o a b i.at)))
 operator_correct h right again least a x o i l le hr ha f =
     token_read (correct_bind hr
@@ -80,11 +81,14 @@ climb_by_correct : (h : Bool) (right : ℕ → Reader tree.Expr) (again : tree.E
     → ((b : tree.Expr) (y m : List Lexeme) → IsExpr h least y b → IsExpr h (top m) y b
     → length m ≤ length l
     → Correct (Bin h ∷ []) (λ _. Bin h ∷ []) (IsExprAt h least y) m (again b m))
-    → Correct (Bin h ∷ []) (λ _. Bin h ∷ []) (IsExprAt h least x) (tok k i ∷ l)
+    → Correct (Bin h ∷ [])
+    (λ _. Bin h ∷ []) (IsExprAt h least x) (tok k i ∷ l)
     (climb_by right again least a k i (tok k i ∷ l) l)
 climb_by_correct h right again least a x (Binary o) i l one f g hr ha =
-    elim (nat_le least (level o)) as (λ v. nat_le least (level o) ≡ v
-    → Correct (Bin h ∷ []) (λ _. Bin h ∷ []) (IsExprAt h least x) (tok (Binary o) i ∷ l)
+    elim (nat_le least (level o)) as
+    (λ v. nat_le least (level o) ≡ v
+    → Correct (Bin h ∷ [])
+    (λ _. Bin h ∷ []) (IsExprAt h least x) (tok (Binary o) i ∷ l)
     (cond v (right (level o + 1) l >>= (λ b. again (tree.Binary o a b i.at)))
     (Done a (tok (Binary o) i ∷ l)))) [
       | true ↦ λ is. operator_correct h right again least a x o i l (leb-true least (level o) is)
@@ -124,7 +128,8 @@ mutual
   unary_correct h (suc n) [] b = stops (λ s. refl)
   unary_correct h (suc n) (t ∷ l) b =
       unary_by_correct h n (expr false n 1) (unary h n) (primary n) t.terminal t.leaf l
-      (omega arith) (λ m g. correct_popped (expr_correct false n 1 m (omega arith) (omega arith)))
+      (omega arith)
+      (λ m g. correct_popped (expr_correct false n 1 m (omega arith) (omega arith)))
       (unary_correct h n l (omega arith)) (λ u. primary_correct h n t l u (omega arith))
 
   pub primary_correct : (h : Bool) (n : ℕ) (t : Lexeme) (l : List Lexeme)
@@ -157,8 +162,8 @@ value_correct h n l b = correct_popped (expr_correct h n 1 l (omega arith) b)
 
 -- an argument list after its `(`
 pub args_correct : (n : ℕ) (l : List Lexeme) → 4 * length l + 3 ≤ n
-    → Empties (Args ∷ []) (λ z x. IsExprs CloseParen z x.0) l
-    (exprs CloseParen n (expr false n 1) l)
+    → Empties (Args ∷ [])
+    (λ z x. IsExprs CloseParen z x.0) l (exprs CloseParen n (expr false n 1) l)
 args_correct n l b =
-    arg_list (length l) (expr false n 1) (λ m g. value_correct false n m (omega arith)) n l
-    (omega arith) (omega arith)
+    arg_list (length l) (expr false n 1)
+    (λ m g. value_correct false n m (omega arith)) n l (omega arith) (omega arith)

@@ -41,8 +41,8 @@ unkeyed_run (t ∷ l) s e = unkeyed_first t.terminal t.leaf l s e
 
 abbrev pub IsElement : List Lexeme → Ident × tree.Expr → Type 0
 IsElement z e =
-    (i c : Leaf) × (x : List Lexeme) × (z ≡ tok Name i ∷ tok Colon c ∷ x) × (e.0 ≡ ident i) × IsExpr
-    false 1 x e.1
+    (i c : Leaf) × (x : List Lexeme) × (z ≡ tok Name i ∷ tok Colon c ∷ x)
+    × (e.0 ≡ ident i) × IsExpr false 1 x e.1
 
 elements_listed : {z : List Lexeme} {es : List (Ident × tree.Expr)}
     → Listed IsElement Comma CloseBrace z es → IsElements z es
@@ -81,8 +81,8 @@ keyed_named i (t ∷ l) e =
     let k : t.terminal ≡ Colon = keyed_second t.terminal i t.leaf l
     e in (i, t.leaf, l, rw (← k) refl)
 
-keyed_first : (k : Terminal) (i : Leaf) (l : List Lexeme) → is_keyed (tok k i ∷ l) ≡ true
-    → HasKey (tok k i ∷ l)
+keyed_first : (k : Terminal) (i : Leaf) (l : List Lexeme)
+    → is_keyed (tok k i ∷ l) ≡ true → HasKey (tok k i ∷ l)
 keyed_first Name i l e = keyed_named i l e
 keyed_first _ i l e = cc
 
@@ -91,8 +91,8 @@ has_key [] e = cc
 has_key (t ∷ l) e = keyed_first t.terminal t.leaf l e
 
 key_run : (i c : Leaf) (m : List Lexeme) (s : List Sym)
-    → run (tok Name i ∷ tok Colon c ∷ m) (Elems ∷ s) ≡ run (tok Name i ∷ tok Colon c ∷ m)
-    (KeyedMore ∷ s)
+    → run (tok Name i ∷ tok Colon c ∷ m) (Elems ∷ s) ≡ run
+    (tok Name i ∷ tok Colon c ∷ m) (KeyedMore ∷ s)
 unfolding run step
 key_run i c m s = refl
 
@@ -158,15 +158,16 @@ module _ (bound : ℕ) (inner : Reader tree.Expr)
   elements_correct : (n : ℕ) (i j k : Leaf) (l : List Lexeme) → length l < n → length l ≤ bound
       → Empties (Elems ∷ []) (IsRest i j k) l (elements n inner i j l)
   elements_correct n i j k l h b =
-      elim (is_keyed l) as (λ v. is_keyed l ≡ v
+      elim (is_keyed l) as
+      (λ v. is_keyed l ≡ v
       → Empties (Elems ∷ []) (IsRest i j k) l
       (cond v (keyed n inner i j l) (unkeyed n inner i j l)))
       [ true ↦ λ e. keyed_correct n i j k l h b e | false ↦ λ e. unkeyed_correct n i j k l h b e ]
       refl
 
   pub literal_correct : (n : ℕ) (i : Leaf) (l : List Lexeme) → length l < n → length l ≤ bound
-      → Empties (T Name ∷ T OpenBrace ∷ Elems ∷ []) (λ z v. IsUnary false (tok Ampersand i ∷ z) v) l
-      (read_literal n inner i l)
+      → Empties (T Name ∷ T OpenBrace ∷ Elems ∷ [])
+      (λ z v. IsUnary false (tok Ampersand i ∷ z) v) l (read_literal n inner i l)
   literal_correct n i l h b =
       correct_token_then Name refl
       (λ j w c. correct_token_then OpenBrace refl

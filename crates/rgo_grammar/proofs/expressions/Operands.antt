@@ -27,8 +27,8 @@ make_end_correct : (l : List Lexeme) → Empties (MakeEnd ∷ []) (λ z j. IsMak
 make_end_correct l = at_token make_end refl refl (λ t m c. make_end_by_correct t.terminal t.leaf m)
 
 pub new_correct : (i : Leaf) (l : List Lexeme)
-    → Empties (T OpenParen ∷ T Name ∷ T CloseParen ∷ []) (λ z v. IsPrimary (tok New i ∷ z) v) l
-    (new_at i l)
+    → Empties (T OpenParen ∷ T Name ∷ T CloseParen ∷ [])
+    (λ z v. IsPrimary (tok New i ∷ z) v) l (new_at i l)
 new_correct i l =
     correct_token_then OpenParen refl
     (λ j w c. correct_token_then Name refl
@@ -77,8 +77,8 @@ module _ (bound : ℕ) (inner : Reader tree.Expr)
   capacity_by_correct i j k c x t q d l h b =
       same_start (correct_then (inner_c (tok q d ∷ l) (omega arith))
       (λ y v w _ hy. correct_given _ (make_end_correct w) (λ z _ u hz. make_sized i j k c h hy hz)))
-      (λ s. starts_as MakeMore (Unary false) (Bin false ∷ MakeEnd ∷ []) (tok q d) l s refl refl
-      refl)
+      (λ s. starts_as MakeMore (Unary false) (Bin false ∷ MakeEnd ∷ [])
+      (tok q d) l s refl refl refl)
 
   -- after `make ( chan Type`
   abbrev IsChan : Leaf → Leaf → Leaf → List Lexeme → List Lexeme → tree.Expr → Type 0
@@ -144,8 +144,8 @@ module _ (bound : ℕ) (inner : Reader tree.Expr)
   pub operand_by_correct : (n : ℕ) → bound < n
       → (h : Bool) (k : Terminal) (i : Leaf) (l : List Lexeme) → length l ≤ bound
       → unsigned k ≡ true
-      → Correct (Unary h ∷ []) (λ _. Post ∷ []) (λ z v w. IsPrimary z v) (tok k i ∷ l)
-      (operand_by n inner k i (tok k i ∷ l) l)
+      → Correct (Unary h ∷ []) (λ _. Post ∷ [])
+      (λ z v w. IsPrimary z v) (tok k i ∷ l) (operand_by n inner k i (tok k i ∷ l) l)
   unfolding run step
   operand_by_correct n big h (Binary op.Add) i l b u = cc
   operand_by_correct n big h (Binary op.Sub) i l b u = cc
@@ -175,8 +175,8 @@ module _ (bound : ℕ) (inner : Reader tree.Expr)
       (i : Leaf) (l : List Lexeme) → length l ≤ bound → IsPrimary x v
       → ((u : tree.Expr) (y m : List Lexeme) → IsPrimary y u → length m ≤ length l
       → Empties (Post ∷ []) (λ z u. IsPrimary (y ++ z) u) m (again u m))
-      → Empties (Post ∷ []) (λ z u. IsPrimary (x ++ z) u) (tok k i ∷ l)
-      (post_by n inner again v k i (tok k i ∷ l) l)
+      → Empties (Post ∷ [])
+      (λ z u. IsPrimary (x ++ z) u) (tok k i ∷ l) (post_by n inner again v k i (tok k i ∷ l) l)
   unfolding run step
   post_by_correct n big again v x Dot i l b h ha =
       token_read (correct_token_then Name refl

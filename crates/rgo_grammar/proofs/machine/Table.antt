@@ -380,8 +380,8 @@ empty_or : (s : List Sym) (b : Bool) → cond (empty s) true b ≡ true → (s �
 empty_or [] b e = inl refl
 empty_or (x ∷ s) b e = inr e
 
-settled_by : (x : Sym) (o : Option (List Sym)) → after (word x) (x ∷ []) ≡ o → settles x o ≡ true
-    → Settles x
+settled_by : (x : Sym) (o : Option (List Sym)) → after (word x) (x ∷ []) ≡ o
+    → settles x o ≡ true → Settles x
 settled_by x None a e = cc
 settled_by x (Some s) a e =
     let h = both e in record

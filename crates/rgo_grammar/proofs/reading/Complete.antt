@@ -94,7 +94,8 @@ module _ {A : Type 0} (separator closer : Terminal) (other : same closer separat
       (Done (found ++ a ∷ [], j') l)
   items_last n found a j x l o h = (
     j,
-    listed_last separator closer other (λ m. single (item m)) n found (a ∷ []) j x l
+    listed_last separator closer other
+        (λ m. single (item m)) n found (a ∷ []) j x l
         (begins_append _ x (tok closer j ∷ l) o) (meets_bind _ h),
   )
 
@@ -108,8 +109,9 @@ module _ {A : Type 0} (separator closer : Terminal) (other : same closer separat
       (listed separator closer (λ m. single (item m)) n found (x ++ tok separator i ∷ (y ++ l)))
       (Done (found ++ a ∷ all, j) l)
   items_more n found all a i x y l o h again =
-      let one = listed_more separator closer other (λ m. single (item m)) n found (a ∷ []) i x
-      (y ++ l) (begins_append _ x (tok separator i ∷ (y ++ l)) o) (meets_bind _ h) in
+      let one = listed_more separator closer other
+      (λ m. single (item m)) n found (a ∷ []) i x (y ++ l)
+      (begins_append _ x (tok separator i ∷ (y ++ l)) o) (meets_bind _ h) in
       let rest = again one.0 (found ++ a ∷ []) in
       let rest' = rw append_assoc at rest.1 in
       (rest.0, meets_trans one.1 rest')

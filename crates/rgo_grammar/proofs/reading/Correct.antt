@@ -17,8 +17,8 @@ pub data Correct {A : Type 0} (from : List Sym) (to : A → List Sym)
       → Correct from to P l (Failed (At w))
 
 -- the same where nothing of `from` is left, and P speaks of what was read alone
-abbrev pub Empties : {A : Type 0} → List Sym → (List Lexeme → A → Type 0) → List Lexeme → Read A
-    → Type 0
+abbrev pub Empties : {A : Type 0} → List Sym → (List Lexeme → A → Type 0)
+    → List Lexeme → Read A → Type 0
 Empties from P l r = Correct from (λ _. []) (λ z a w. P z a) l r
 
 -- after tokens z that lead from one stack to another
@@ -124,8 +124,8 @@ abbrev pub IsToken : Terminal → List Lexeme → Leaf → List Lexeme → Type 
 IsToken k z i w = z ≡ tok k i ∷ []
 
 token_by : (k j : Terminal) (i : Leaf) (l : List Lexeme) (v : Bool) → plain k ≡ true → same k j ≡ v
-    → Correct (T k ∷ []) (λ _. []) (IsToken k) (tok j i ∷ l)
-    (cond v (Done i l) (Failed (At (tok j i ∷ l))))
+    → Correct (T k ∷ [])
+    (λ _. []) (IsToken k) (tok j i ∷ l) (cond v (Done i l) (Failed (At (tok j i ∷ l))))
 token_by k j i l true p e =
     let is : j ≡ k = same_plain k j p e in
     done (tok j i ∷ []) refl (rw is refl) (λ s. rw is (take_token k i l s))

@@ -27,7 +27,7 @@ pub next_append : (test : Terminal → Bool) (x z : List Lexeme) → NotNext tes
 next_append test [] z h g = g
 next_append test (t ∷ x) z h g = h
 
-pub begins_append : (test : Terminal → Bool) (x z : List Lexeme) → IsNext test x
-    → IsNext test (x ++ z)
+pub begins_append : (test : Terminal → Bool) (x z : List Lexeme)
+    → IsNext test x → IsNext test (x ++ z)
 begins_append test [] z h = absurd h
 begins_append test (t ∷ x) z h = h

@@ -164,8 +164,8 @@ pub stmt_simple : (n : ℕ) (l : List Lexeme) → Starts l
 unfolding stmt
 stmt_simple n [] h = absurd h
 stmt_simple n (t ∷ l) h =
-    simple_kind n (block_by (stmt n) n) (stmts_by (stmt n) n) (if_stmt n) t.terminal t.leaf (t ∷ l)
-    l h
+    simple_kind n (block_by (stmt n) n) (stmts_by (stmt n) n) (if_stmt n)
+    t.terminal t.leaf (t ∷ l) l h
 
 pub stmt_opens : {x : List Lexeme} {s : tree.Stmt} → IsStmt x s → (l : List Lexeme)
     → Opens CloseBrace (x ++ l)

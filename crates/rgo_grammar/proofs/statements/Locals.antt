@@ -17,8 +17,8 @@ LocalAt x z v = IsLocal (x ++ z) v
 abbrev pub AreVars : List Lexeme → List tree.LocalVar → List Lexeme → Type 0
 AreVars z vs w = (i : Leaf) → IsStmt (tok Var i ∷ z) (tree.Var vs i.at)
 
-vars_of : (z : List Lexeme) (vs : List tree.LocalVar) (w : List Lexeme) → IsGroup IsLocal z vs
-    → AreVars z vs w
+vars_of : (z : List Lexeme) (vs : List tree.LocalVar) (w : List Lexeme)
+    → IsGroup IsLocal z vs → AreVars z vs w
 vars_of z vs w (inl (v, e, h)) i = rw e (a_var i h)
 vars_of z vs w (inr (j, y, e, h)) i = rw e (some_vars i j h)
 

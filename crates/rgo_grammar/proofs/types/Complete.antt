@@ -39,8 +39,8 @@ names_complete (more i j {x} {ns} g) (suc n) found l h =
     let d = names_complete g n (found ++ ident i ∷ []) l
     h in rw (append_assoc found (ident i ∷ []) ns) at d
 
-type_starts : (x : List Lexeme) (t : tree.TypeExpr) (l : List Lexeme) → IsType x t
-    → NoComma (x ++ l)
+type_starts : (x : List Lexeme) (t : tree.TypeExpr) (l : List Lexeme)
+    → IsType x t → NoComma (x ++ l)
 type_starts _ _ l (named i) = refl
 type_starts _ _ l (pointer i j) = refl
 type_starts _ _ l (slice i j h) = refl

@@ -54,8 +54,8 @@ names_by_correct : (again : List Ident → Reader (List Ident)) (found : List Id
     (k : Terminal) (i : Leaf) (m : List Lexeme) → IsNames x found
     → ((ns : List Ident) (y w : List Lexeme) → length w < length m → IsNames y ns
     → Correct (NamesType ∷ []) (λ _. NamesType ∷ []) (AreNames y) w (again ns w))
-    → Correct (NamesType ∷ []) (λ _. NamesType ∷ []) (AreNames x) (tok k i ∷ m)
-    (names_by again found k (tok k i ∷ m) m)
+    → Correct (NamesType ∷ [])
+    (λ _. NamesType ∷ []) (AreNames x) (tok k i ∷ m) (names_by again found k (tok k i ∷ m) m)
 unfolding run step
 names_by_correct again found x Comma i m f hi =
     token_read (correct_token_then Name refl (λ j w c. correct_more j w c)) (λ s. refl)
@@ -97,8 +97,8 @@ typed_from n found x l h f =
     (λ y t u d. rw (← append_assoc) (of_names g.0 d))) (λ s. names_end w s g.1))
 
 pub typed_names_correct : (n : ℕ) (l : List Lexeme) → length l < n → (i : Leaf)
-    → Empties (NamesType ∷ []) (λ z b. IsBinding (tok Name i ∷ z) b) l
-    (typed_names n (ident i ∷ []) l)
+    → Empties (NamesType ∷ [])
+    (λ z b. IsBinding (tok Name i ∷ z) b) l (typed_names n (ident i ∷ []) l)
 typed_names_correct n l h i = typed_from n (ident i ∷ []) (tok Name i ∷ []) l h (one i)
 
 pub binding_correct : (n : ℕ) (l : List Lexeme) → length l < n
@@ -110,8 +110,8 @@ binding_correct n l h =
 pub bindings_correct : {separator closer : Terminal} {L E : Sym}
     → ListSyms separator closer ((Name, NamesType ∷ E ∷ []) ∷ []) L E → (n : ℕ) (l : List Lexeme)
     → length l < n
-    → Empties (L ∷ []) (λ z x. Listed IsBinding separator closer z x.0) l
-    (bindings separator closer n l)
+    → Empties (L ∷ [])
+    (λ z x. Listed IsBinding separator closer z x.0) l (bindings separator closer n l)
 bindings_correct syms n l h =
-    token_list (binding n) (length l) (λ m b. binding_correct n m (omega (arith, b, h))) syms n l h
-    (omega arith)
+    token_list (binding n) (length l)
+    (λ m b. binding_correct n m (omega (arith, b, h))) syms n l h (omega arith)
