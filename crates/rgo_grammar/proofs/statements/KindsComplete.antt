@@ -6,7 +6,7 @@ use Rattle.rgo_grammar.specs.Grammar.{IsExpr, IsClause, IsCondition, IsStmt, IsI
 use Rattle.rgo_grammar.specs.reading.{Read.{Reader, Read, Done, ◌>>=◌, given, first_of, token, Failed, Starving, single}, Statements.{valued, defining, condition, init, head_end_on, head_by, head, condition_by, condition_on, step_by, step_on, for_rest, for_by, for_on, else_body_on, else_by, else_on, return_by, return_on, stmt_by, stmts_by, block_by, stmt, if_stmt, stmts, block}, Expressions.{expr}}
 use Rattle.rgo_grammar.proofs.reading.{Complete.{Meets, meets_bind, Opens}, Next.{begins_append, IsNext, next_also}}
 use Rattle.rgo_grammar.proofs.expressions.{Starts.{starts, Starts, expr_starts, brace_closes}, Complete.{expr_complete}}
-use Rattle.rgo_grammar.proofs.statements.Parts.{ReadsExprs, ends_local, ends_simple, simple_complete, simple_starts, valued_complete}
+use Rattle.rgo_grammar.proofs.statements.Parts.{ReadsExprs, simple_complete, simple_starts, valued_complete, ends}
 
 module _ (value : Reader tree.Expr) where
   head_kind : (k : Terminal) (l m : List Lexeme) → starts k ≡ true
@@ -108,15 +108,10 @@ ends_stmt _ = false
 abbrev pub EndsStmt : List Lexeme → Type 0
 EndsStmt = IsNext ends_stmt
 
-pub ends_as_simple : (k : Terminal) → ends_stmt k ≡ true → ends_simple k ≡ true
-ends_as_simple Semicolon h = refl
-ends_as_simple CloseBrace h = refl
-ends_as_simple _ h = cc
-
-pub ends_as_local : (k : Terminal) → ends_stmt k ≡ true → ends_local k ≡ true
-ends_as_local Semicolon h = refl
-ends_as_local CloseBrace h = refl
-ends_as_local _ h = cc
+pub stmt_ends : (k : Terminal) → ends_stmt k ≡ true → ends k ≡ true
+stmt_ends Semicolon h = refl
+stmt_ends CloseBrace h = refl
+stmt_ends _ h = cc
 
 -- expressions, by any bound
 pub reads : (h : Bool) (n : ℕ) → ReadsExprs h (expr h n 1)
