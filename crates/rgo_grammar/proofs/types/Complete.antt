@@ -1,5 +1,5 @@
 -- Names and types of the grammar are read as such.
-use Rattle.std.proofs.Common.{◌≡◌, ℕ, zero, suc, inl, inr, false, List, [], ◌∷◌, ◌++◌, refl, append_assoc, ◌+◌}
+use Rattle.std.proofs.Common.{◌≡◌, ℕ, zero, suc, inl, inr, false, List, [], ◌∷◌, ◌++◌, refl, append_assoc}
 use Rattle.rgo_ast.specs.declared.names.Ident.{Ident}
 use Rattle.rgo_ast.specs.Tree.{Binding}
 use Rattle.rgo_ast.specs.Tree as tree
@@ -39,8 +39,8 @@ names_complete (more i j {x} {ns} g) (suc n) found l h =
     let d = names_complete g n (found ++ ident i ∷ []) l
     h in rw (append_assoc found (ident i ∷ []) ns) at d
 
-type_starts : (x : List Lexeme) (t : tree.TypeExpr) (l : List Lexeme) → IsType x t
-    → NoComma (x ++ l)
+type_starts : (x : List Lexeme) (t : tree.TypeExpr) (l : List Lexeme)
+    → IsType x t → NoComma (x ++ l)
 type_starts _ _ l (named i) = refl
 type_starts _ _ l (pointer i j) = refl
 type_starts _ _ l (slice i j h) = refl
