@@ -1,3 +1,4 @@
 pub mod Lists
 pub mod Numbers
+pub mod Trees
 pub mod Typed
