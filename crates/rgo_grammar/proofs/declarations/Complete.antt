@@ -5,7 +5,7 @@ use Rattle.rgo_ast.specs.Tree.{Binding, TypeSpec}
 use Rattle.rgo_ast.specs.Tree as tree
 use Rattle.rgo_lexer.specs.{declared.terminals.Terminal.{Terminal, TheVariants.{Name, Text, OpenParen, CloseParen, OpenBrace, CloseBrace, Comma, Semicolon, Import}}, Lexemes.{Leaf, Lexeme, tok, same}}
 use Rattle.rgo_grammar.specs.Grammar.{IsPath, IsImport, IsTypeSpec, IsResult, IsBinding, IsType, IsStmts, IsDecl, IsProgram, Listed, Each, Each.{none as no_more, next}}
-use Rattle.rgo_grammar.specs.reading.{Read.{Reader, Done, ◌>>=◌, given, first_of, single, several}, Types.{a_type, binding}, Declarations.{group_by, group, import_path, type_spec, result_on, function, func, decls_on, decls, imports_by, imports_on, imports, program}}
+use Rattle.rgo_grammar.specs.reading.{Read.{Reader, Done, ◌>>=◌, given, first_of, single}, Types.{a_type, binding}, Declarations.{group_by, group, import_path, type_spec, result_on, function, func, decls_on, decls, imports_by, imports_on, imports, program}}
 use Rattle.rgo_grammar.specs.Grammar as g
 use Rattle.rgo_grammar.proofs.reading.{Complete.{Meets, meets_trans, meets_bind, meets_then, Opens, listed_complete, not_true}, Next.{begins_append}}
 use Rattle.rgo_grammar.proofs.types.Complete.{type_complete, binding_complete, binding_opens, bindings_complete}
@@ -37,7 +37,6 @@ module _ {A : Type 0} (n : ℕ) (Item : List Lexeme → A → Type 0) (item : Re
   pub group_list : (j : Leaf) (y : List Lexeme) (all : List A) (l : List Lexeme)
       → Listed Item Semicolon CloseParen y all
       → Meets (group item n (tok OpenParen j ∷ (y ++ l))) (Done all l)
-  unfolding several
   group_list j y all l d =
       let h = listed_complete Semicolon CloseParen refl Item item
       (λ x a h. opens CloseParen (refl, refl) x a h)

@@ -4,14 +4,14 @@ use Rattle.rgo_ast.specs.declared.names.Ident.{Ident}
 use Rattle.rgo_ast.specs.Tree as tree
 use Rattle.rgo_lexer.specs.{declared.terminals.Terminal.{Terminal, TheVariants.{Name, Binary, OpenParen, OpenBracket, CloseBracket, CloseBrace, Comma, Colon, Dot, CloseParen}}, Lexemes.{Leaf, Lexeme, tok, ident}}
 use Rattle.rgo_grammar.specs.Grammar.{level, IsExpr, IsUnary, IsPrimary, IsExprs, IsElements, IsExpr.{unary as of_unary, binary}, IsUnary.{signed, literal, keyed, primary as of_primary}, IsPrimary.{number, text, name, parens, new, make_slice, make_chan, make_sized, select, index, call}, IsExprs.{none, last, more}, IsElements.{no_element, last_element, more_elements}}
-use Rattle.rgo_grammar.specs.reading.{Read.{Done, several}, Expressions.{exprs, exprs_from, element, elements_from, expr, climb, unary, primary, post}}
+use Rattle.rgo_grammar.specs.reading.{Read.{Done}, Expressions.{exprs, exprs_from, element, elements_from, expr, climb, unary, primary, post}}
 use Rattle.rgo_grammar.proofs.machine.Table.{both}
 use Rattle.rgo_grammar.proofs.reading.{Complete.{Meets, meets_trans, meets_bind, meets_then, items_last, items_more, items_none}, Next.{next_also, begins_append}}
 use Rattle.rgo_grammar.proofs.types.Complete.{type_complete}
 use Rattle.rgo_grammar.proofs.expressions.{Starts.{top, expr_starts, primary_begins}, Ends.{Unposted, EndsExpr, finished, operated, selected, indexed_at, called_at, post_done, signed_by, unsigned_at}, Parts.{Closer, brace_closer, paren_closer, capacity_at, elements_keyed, ended_value, keyed_here, sized_end}, Second.{exprs_unkeyed}}
 
 mutual
-  unfolding expr several
+  unfolding expr
 
   primary_complete : {x : List Lexeme} {v : tree.Expr} → IsPrimary x v → (n : ℕ) (l : List Lexeme)
       → (m : ℕ) × Meets (primary n (x ++ l)) (post m v l)

@@ -3,7 +3,7 @@
 use Rattle.std.proofs.Common.{◌≡◌, ℕ, zero, suc, ◌⊎◌, inl, inr, false, List, [], ◌∷◌, ◌++◌, refl, ◌∙◌, ap, append_assoc, append-nil, Bool, true, not}
 use Rattle.rgo_lexer.specs.{declared.terminals.Terminal.{Terminal}, Lexemes.{Leaf, Lexeme, tok, same}}
 use Rattle.rgo_grammar.specs.Grammar.{Listed, Listed.{none, last, more}}
-use Rattle.rgo_grammar.specs.reading.Read.{Reader, Read, Done, Failed, Starving, ◌>>=◌, ended, listed, single}
+use Rattle.rgo_grammar.specs.reading.Read.{several, Reader, Read, Done, Failed, Starving, ◌>>=◌, ended, listed, single}
 use Rattle.rgo_grammar.proofs.machine.Table.{same_self, closer}
 use Rattle.rgo_grammar.proofs.reading.Next.{IsNext, begins_append}
 
@@ -81,17 +81,17 @@ module _ {A : Type 0} (separator closer : Terminal) (other : same closer separat
 module _ {A : Type 0} (separator closer : Terminal) (other : same closer separator ≡ false)
     (item : Reader A) where
   pub items_none : (n : ℕ) (found : List A) (j : Leaf) (l : List Lexeme)
-      → (j' : Leaf) × Meets
-      (listed separator closer (λ m. single (item m)) n found (tok closer j ∷ l))
+      → (j' : Leaf) × Meets (several separator closer item n found (tok closer j ∷ l))
       (Done (found ++ [], j') l)
+  unfolding several
   items_none n found j l =
       (j, rw append-nil (listed_none separator closer other (λ m. single (item m)) n found j l))
 
   pub items_last : (n : ℕ) (found : List A) (a : A) (j : Leaf) (x l : List Lexeme) → Opens closer x
       → Meets (item (x ++ tok closer j ∷ l)) (Done a (tok closer j ∷ l))
-      → (j' : Leaf) × Meets
-      (listed separator closer (λ m. single (item m)) n found (x ++ tok closer j ∷ l))
+      → (j' : Leaf) × Meets (several separator closer item n found (x ++ tok closer j ∷ l))
       (Done (found ++ a ∷ [], j') l)
+  unfolding several
   items_last n found a j x l o h = (
     j,
     listed_last separator closer other
@@ -103,11 +103,10 @@ module _ {A : Type 0} (separator closer : Terminal) (other : same closer separat
       → Opens closer x
       → Meets (item (x ++ tok separator i ∷ (y ++ l))) (Done a (tok separator i ∷ (y ++ l)))
       → ((m : ℕ) (f : List A)
-      → (j : Leaf) × Meets (listed separator closer (λ m. single (item m)) m f (y ++ l))
-      (Done (f ++ all, j) l))
-      → (j : Leaf) × Meets
-      (listed separator closer (λ m. single (item m)) n found (x ++ tok separator i ∷ (y ++ l)))
+      → (j : Leaf) × Meets (several separator closer item m f (y ++ l)) (Done (f ++ all, j) l))
+      → (j : Leaf) × Meets (several separator closer item n found (x ++ tok separator i ∷ (y ++ l)))
       (Done (found ++ a ∷ all, j) l)
+  unfolding several
   items_more n found all a i x y l o h again =
       let one = listed_more separator closer other
       (λ m. single (item m)) n found (a ∷ []) i x (y ++ l)
@@ -127,7 +126,7 @@ module _ {A : Type 0} (separator closer : Terminal) (other : same closer separat
     → Meets (item (x ++ tok k j ∷ l)) (Done a (tok k j ∷ l))) where
   pub listed_complete : {y : List Lexeme} {all : List A} → Listed Item separator closer y all
       → (n : ℕ) (found : List A) (l : List Lexeme)
-      → (j : Leaf) × Meets (listed separator closer (λ m. single (item m)) n found (y ++ l))
+      → (j : Leaf) × Meets (several separator closer item n found (y ++ l))
       (Done (found ++ all, j) l)
   listed_complete (none j) n found l = items_none separator closer other item n found j l
   listed_complete (last j {x} {a} h) n found l =

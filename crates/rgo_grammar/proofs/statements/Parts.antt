@@ -5,7 +5,7 @@ use Rattle.rgo_ast.specs.Tree as tree
 use Rattle.rgo_ast.specs.declared.ops.AssignOp.TheVariants as assign_op
 use Rattle.rgo_lexer.specs.{declared.terminals.Terminal.{Terminal, TheVariants.{Name, Arrow, Define, Assign, Step, OpenBrace, CloseBrace, Semicolon, OpenParen, CloseParen, Comma}}, Lexemes.{Leaf, Lexeme, tok, same, ident}}
 use Rattle.rgo_grammar.specs.Grammar.{IsExpr, IsSimple, IsType, IsLocal, Listed, IsSimple.{plain, send, step as stepped, assign, define}, IsNames.{one as one_name, more as more_names}, IsType.{named, pointer, slice, chan}, IsBinding.{binding as of_names}, IsLocal.{zero as zeroed, typed, inferred}}
-use Rattle.rgo_grammar.specs.reading.{Read.{Reader, Read, Done, first_of, ◌>>=◌, given, single, several}, Statements.{simple_by, simple_on, valued, named_by, named_on, defining_by, defining, initial_by, initial, local_on, local, vars_on}, Types.{a_type, bound}}
+use Rattle.rgo_grammar.specs.reading.{Read.{Reader, Read, Done, first_of, ◌>>=◌, given, single}, Statements.{simple_by, simple_on, valued, named_by, named_on, defining_by, defining, initial_by, initial, local_on, local, vars_on}, Types.{a_type, bound}}
 use Rattle.rgo_grammar.proofs.reading.{Complete.{Meets, meets_bind, meets_then, Opens, listed_complete}, Next.{IsNext, NotNext, begins_append, next_other}}
 use Rattle.rgo_grammar.proofs.types.Complete.{type_complete, binding_complete}
 use Rattle.rgo_grammar.proofs.expressions.{Starts.{Starts, expr_starts}, Second.{Apart, name_then, SecondNot, second_append, second_not}, Ends.{EndsExpr}}
@@ -210,7 +210,6 @@ module _ (n : ℕ) (value : Reader tree.Expr) (value_done : ReadsExprs false val
       → Listed IsLocal Semicolon CloseParen y vs → (l : List Lexeme)
       → Meets (vars_on n value (tok OpenParen i ∷ (y ++ l)) (first_of (tok OpenParen i ∷ (y ++ l))))
       (Done vs l)
-  unfolding several
   vars_complete i {y} {vs} d l =
       let h = listed_complete Semicolon CloseParen refl IsLocal (local n value) local_opens
       local_reads d n [] l in
