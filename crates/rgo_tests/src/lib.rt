@@ -29,6 +29,8 @@ mod slow_sinks;
 #[cfg(test)]
 mod surface;
 #[cfg(test)]
+mod texts;
+#[cfg(test)]
 mod typed;
 #[cfg(test)]
 mod typed_trees;
