@@ -1,4 +1,4 @@
-//! The parser: the tree of a text's tokens, or the first token that is wrong.
+//! The parser: the tree of a text's lexemes, or the first lexeme that is wrong.
 #![tactic(auto)]
 
 mod declarations;
@@ -7,11 +7,15 @@ mod headers;
 mod laws;
 mod lists;
 mod locals;
+mod openings;
+mod operands;
 mod parser;
+mod prefixes;
 mod programs;
-mod reads;
+mod reader;
 mod simple;
 mod statements;
+mod suffixes;
 mod types;
 
 pub use laws::one_answer;
