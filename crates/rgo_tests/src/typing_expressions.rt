@@ -31,7 +31,7 @@ fn package<'a>(alloc: Global) -> Package<'a> {
 
 /// What the check of an expression finds.
 #[derive(Clone, Copy, Debug, PartialEq, Eq)]
-enum Found {
+enum Outcome {
     Constant(i64),
     NoResult,
     OtherShape,
@@ -39,23 +39,23 @@ enum Found {
     Broken(Rule, usize),
 }
 
-fn found(shape: Shape<'_>) -> Found {
+fn outcome_of(shape: Shape<'_>) -> Outcome {
     match shape {
-        Shape::Constant(n) => Found::Constant(n),
-        Shape::NoResult => Found::NoResult,
-        _ => Found::OtherShape,
+        Shape::Constant(n) => Outcome::Constant(n),
+        Shape::NoResult => Outcome::NoResult,
+        _ => Outcome::OtherShape,
     }
 }
 
 /// Checks an expression where nothing is declared.
-fn checked(alloc: Global, role: Role, expr: &str) -> Result<Found, Fail> {
+fn checked(alloc: Global, role: Role, expr: &str) -> Result<Outcome, Fail> {
     let program = with_expr(alloc, expr)?;
     let globals = package(alloc);
     let checker = Checker::new(alloc, &globals);
     match checker.check_expr(role, assigned(first_stmt(&program)?)?) {
-        Ok(checked) => Ok(found(checked.shape)),
+        Ok(checked) => Ok(outcome_of(checked.shape)),
         Err(TypeError::Refused(TypeRefusal { rule, at })) => {
-            Ok(Found::Broken(rule, at.saturating_sub(BEFORE.len())))
+            Ok(Outcome::Broken(rule, at.saturating_sub(BEFORE.len())))
         }
         Err(TypeError::NoMemory) => Err(Fail::from("out of memory")),
     }
@@ -102,17 +102,21 @@ fn variables_are_places_and_calls_may_stand(rt: HostRuntime) -> Result<(), Fail>
     Ok(())
 }
 
-const EXPRESSIONS: [(Role, &str, Found); 5] = [
-    (Role::Value, "7 - 2", Found::Constant(5)),
-    (Role::Value, "nil", Found::OtherShape),
+const EXPRESSIONS: [(Role, &str, Outcome); 5] = [
+    (Role::Value, "7 - 2", Outcome::Constant(5)),
+    (Role::Value, "nil", Outcome::OtherShape),
     (
         Role::Alone,
         "7 / 0",
-        Found::Broken(Rule::ConstZeroDivisor, 2),
+        Outcome::Broken(Rule::ConstZeroDivisor, 2),
     ),
     // The arguments are checked before the call.
-    (Role::Alone, "f(\"a\")", Found::Broken(Rule::StringPlace, 2)),
-    (Role::Alone, "fmt.Println(\"a\")", Found::NoResult),
+    (
+        Role::Alone,
+        "f(\"a\")",
+        Outcome::Broken(Rule::StringPlace, 2),
+    ),
+    (Role::Alone, "fmt.Println(\"a\")", Outcome::NoResult),
 ];
 
 #[test]
