@@ -6,7 +6,8 @@ ghost use Rattle.rgo_ast.specs.Views.{expr_of, element_of};
 ghost use Rattle.rgo_grammar.specs.ReadExprs as reading;
 ghost use Rattle.rgo_grammar.specs.Reading.{several};
 ghost use Rattle.rgo_lexer.specs.declared.terminals.Terminal.TheVariants as terminal;
-ghost use Rattle.rgo_parser.specs.Agrees.{Agrees, leaf_at};
+ghost use Rattle.rgo_parser.specs.Agrees.{Agrees, leaf_at, leaf_of};
+ghost use Rattle.rgo_lexer.specs.Lexemes.{ident};
 ghost use Rattle.rgo_parser.specs.Expressions.{boxed_of};
 ghost use Rattle.rgo_parser.specs.Lists.{listed_by};
 
@@ -34,7 +35,7 @@ fn push_element(
     value: Box<Expr>,
 ) -> Result<(), AllocError>
     ensures { IfOk result (λ _. map element_of found.new.items
-        ≡ map element_of found.old.items ++ (field, expr_of value.value) ∷ []) }
+        ≡ map element_of found.old.items ++ (ident (leaf_of field), expr_of value.value) ∷ []) }
 {
     let value = Box::into_inner(value);
     found.push(Element { field, value })?;
