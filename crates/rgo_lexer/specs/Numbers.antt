@@ -63,6 +63,7 @@ abbrev pub number_front : ℕ → Option ℕ → Front
 number_front n None = bad_number
 number_front n (Some value) = Piece (Number value) n
 
--- the number at the front of a text that begins with a digit: all bytes at the front that may occur in a word
+-- the number at the front of a text that begins with a digit: all bytes at the front that may occur
+-- in a word
 unfoldable pub number_at : List ℕ → Front
 number_at text = number_front (run_of text) (number_of (take (run_of text) text))

@@ -41,6 +41,7 @@ word_terminal word = looked_up words Name word
 abbrev pub run_of : List ℕ → ℕ
 run_of text = prefix_len is_word_byte text
 
--- the word at the front of a text that begins with a letter: all bytes at the front that may occur in one
+-- the word at the front of a text that begins with a letter: all bytes at the front that may occur
+-- in one
 unfoldable pub word_at : List ℕ → Front
 word_at text = Piece (word_terminal (take (run_of text) text)) (run_of text)
