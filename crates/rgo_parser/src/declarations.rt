@@ -4,8 +4,8 @@
 ghost use Rattle.std.specs.Prelude.{◌≡◌, option_map};
 ghost use Rattle.rgo_ast.specs.Views.{type_expr_of, function_of, decl_of, import_of};
 ghost use Rattle.rgo_ast.specs.Tree as tree;
-ghost use Rattle.rgo_grammar.specs.Reading.{first_of};
-ghost use Rattle.rgo_grammar.specs.ReadDecls as reading;
+ghost use Rattle.rgo_grammar.specs.reading.Read.{first_of};
+ghost use Rattle.rgo_grammar.specs.reading.Declarations as reading;
 ghost use Rattle.rgo_parser.specs.Agrees.{Agrees, leaf_at};
 
 use crate::lists::{Item, group, list};
@@ -18,7 +18,7 @@ use std::alloc::Global;
 
 impl Item for ImportPath {
     ghost use Rattle.rgo_ast.specs.declared.names.ImportPath.{ImportPath};
-    ghost use Rattle.rgo_grammar.specs.ReadDecls as reading_decls;
+    ghost use Rattle.rgo_grammar.specs.reading.Declarations as reading_decls;
 
     ghost Tree = { ImportPath };
 
@@ -39,7 +39,7 @@ impl Item for ImportPath {
 impl Item for TypeSpec {
     ghost use Rattle.rgo_ast.specs.Views.{type_spec_of};
     ghost use Rattle.rgo_ast.specs.Tree as tree;
-    ghost use Rattle.rgo_grammar.specs.ReadDecls as reading_decls;
+    ghost use Rattle.rgo_grammar.specs.reading.Declarations as reading_decls;
 
     ghost Tree = { tree.TypeSpec };
 

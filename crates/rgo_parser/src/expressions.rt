@@ -3,8 +3,8 @@
 
 ghost use Rattle.std.specs.Prelude.{◌≡◌, ◌-◌, ◌<◌, ◌++◌, ◌∷◌, [], IfOk, false, map};
 ghost use Rattle.rgo_ast.specs.Views.{expr_of, element_of};
-ghost use Rattle.rgo_grammar.specs.ReadExprs as reading;
-ghost use Rattle.rgo_grammar.specs.Reading.{several};
+ghost use Rattle.rgo_grammar.specs.reading.Expressions as reading;
+ghost use Rattle.rgo_grammar.specs.reading.Read.{several};
 ghost use Rattle.rgo_lexer.specs.declared.terminals.Terminal.TheVariants as terminal;
 ghost use Rattle.rgo_parser.specs.Agrees.{Agrees, leaf_at, leaf_of};
 ghost use Rattle.rgo_lexer.specs.Lexemes.{ident};

@@ -2,8 +2,8 @@
 #![tactic(auto, using(crate::proofs::ListTurns::list_turns))]
 
 ghost use Rattle.std.specs.Prelude.{◌≡◌, [], map, ℕ, List};
-ghost use Rattle.rgo_grammar.specs.Reading as reading;
-ghost use Rattle.rgo_grammar.specs.ReadDecls as reading_decls;
+ghost use Rattle.rgo_grammar.specs.reading.Read as reading;
+ghost use Rattle.rgo_grammar.specs.reading.Declarations as reading_decls;
 ghost use Rattle.rgo_lexer.specs.Lexemes as lexemes;
 ghost use Rattle.rgo_parser.specs.Agrees.{Agrees, leaf_in};
 ghost use Rattle.rgo_parser.specs.Lists.{closes, separated, ending_of, listed_by};

@@ -3,9 +3,9 @@
 
 ghost use Rattle.std.specs.Prelude.{◌≡◌, false};
 ghost use Rattle.rgo_ast.specs.Views.{type_expr_of, local_var_of, stmt_of};
-ghost use Rattle.rgo_grammar.specs.ReadExprs as reading_exprs;
-ghost use Rattle.rgo_grammar.specs.ReadStmts as reading;
-ghost use Rattle.rgo_grammar.specs.Reading.{first_of};
+ghost use Rattle.rgo_grammar.specs.reading.Expressions as reading_exprs;
+ghost use Rattle.rgo_grammar.specs.reading.Statements as reading;
+ghost use Rattle.rgo_grammar.specs.reading.Read.{first_of};
 ghost use Rattle.rgo_parser.specs.Agrees.{Agrees, leaf_at, leaf_of};
 
 use crate::expressions::expr;
@@ -43,8 +43,8 @@ impl Item for LocalVar {
     ghost use Rattle.std.specs.Prelude.{false};
     ghost use Rattle.rgo_ast.specs.Views.{local_var_of};
     ghost use Rattle.rgo_ast.specs.Tree as tree;
-    ghost use Rattle.rgo_grammar.specs.ReadExprs as reading_exprs;
-    ghost use Rattle.rgo_grammar.specs.ReadStmts as reading_stmts;
+    ghost use Rattle.rgo_grammar.specs.reading.Expressions as reading_exprs;
+    ghost use Rattle.rgo_grammar.specs.reading.Statements as reading_stmts;
 
     ghost Tree = { tree.LocalVar };
 

@@ -4,7 +4,7 @@
 ghost use Rattle.std.specs.Prelude.{◌≡◌, IfOk};
 ghost use Rattle.rgo_ast.specs.Tree as tree;
 ghost use Rattle.rgo_ast.specs.Views.{expr_of, type_expr_of};
-ghost use Rattle.rgo_grammar.specs.ReadExprs as reading;
+ghost use Rattle.rgo_grammar.specs.reading.Expressions as reading;
 ghost use Rattle.rgo_parser.specs.Agrees.{Agrees, leaf_at, leaf_in};
 ghost use Rattle.rgo_parser.specs.Expressions as parts;
 

@@ -3,7 +3,7 @@
 
 ghost use Rattle.std.specs.Prelude.{◌≡◌};
 ghost use Rattle.rgo_grammar.specs.Grammar.{level};
-ghost use Rattle.rgo_grammar.specs.Reading.{Done};
+ghost use Rattle.rgo_grammar.specs.reading.Read.{Done};
 ghost use Rattle.rgo_parser.specs.Agrees.{Agrees};
 ghost use Rattle.rgo_parser.specs.Expressions as parts;
 

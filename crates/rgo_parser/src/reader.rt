@@ -1,8 +1,8 @@
 //! The reader of a text's lexemes, and what it reads of single ones.
 
 ghost use Rattle.std.specs.Prelude.{◌≡◌, ◌++◌, ◌∷◌, [], true, drop, length, IfOk, MatchOption, None, Some};
-ghost use Rattle.rgo_grammar.specs.Reading as reading;
-ghost use Rattle.rgo_grammar.specs.Reading.{first_of};
+ghost use Rattle.rgo_grammar.specs.reading.Read as reading;
+ghost use Rattle.rgo_grammar.specs.reading.Read.{first_of};
 ghost use Rattle.rgo_lexer.specs.declared.terminals.Terminal.TheVariants as terminal;
 ghost use Rattle.rgo_parser.specs.Agrees.{Agrees, leaf_of, leaf_in};
 

@@ -3,8 +3,8 @@
 
 ghost use Rattle.std.specs.Prelude.{◌≡◌};
 ghost use Rattle.rgo_ast.specs.Views.{stmt_of};
-ghost use Rattle.rgo_grammar.specs.ReadExprs as reading_exprs;
-ghost use Rattle.rgo_grammar.specs.ReadStmts as reading;
+ghost use Rattle.rgo_grammar.specs.reading.Expressions as reading_exprs;
+ghost use Rattle.rgo_grammar.specs.reading.Statements as reading;
 ghost use Rattle.rgo_parser.specs.Agrees.{Agrees};
 
 use crate::expressions::expr;

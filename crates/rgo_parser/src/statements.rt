@@ -3,8 +3,8 @@
 
 ghost use Rattle.std.specs.Prelude.{◌≡◌};
 ghost use Rattle.rgo_ast.specs.Views.{stmt_of, boxed_stmt_of};
-ghost use Rattle.rgo_grammar.specs.ReadStmts as reading;
-ghost use Rattle.rgo_grammar.specs.Reading.{first_of};
+ghost use Rattle.rgo_grammar.specs.reading.Statements as reading;
+ghost use Rattle.rgo_grammar.specs.reading.Read.{first_of};
 ghost use Rattle.rgo_parser.specs.Agrees.{Agrees, leaf_at};
 ghost use Rattle.rgo_parser.specs.Lists.{listed_by};
 ghost use Rattle.rgo_parser.specs.Statements.{if_at, for_at, stmt_list_of};

@@ -2,7 +2,7 @@
 #![tactic(auto, using(rgo_ast::proofs::Rows::rows))]
 
 ghost use Rattle.std.specs.Prelude.{◌≡◌};
-ghost use Rattle.rgo_grammar.specs.ReadExprs as reading;
+ghost use Rattle.rgo_grammar.specs.reading.Expressions as reading;
 ghost use Rattle.rgo_parser.specs.Agrees.{Agrees};
 ghost use Rattle.rgo_parser.specs.Expressions as parts;
 

@@ -3,7 +3,7 @@
 
 ghost use Rattle.std.specs.Prelude.{◌≡◌, ◌∷◌, []};
 ghost use Rattle.rgo_ast.specs.Views.{type_expr_of, binding_of};
-ghost use Rattle.rgo_grammar.specs.ReadTypes as reading;
+ghost use Rattle.rgo_grammar.specs.reading.Types as reading;
 ghost use Rattle.rgo_parser.specs.Agrees.{Agrees};
 
 use crate::lists::Item;
@@ -82,7 +82,7 @@ pub(crate) fn typed_names<'a>(
 impl Item for Binding {
     ghost use Rattle.rgo_ast.specs.Views.{binding_of};
     ghost use Rattle.rgo_ast.specs.Tree as tree;
-    ghost use Rattle.rgo_grammar.specs.ReadTypes as reading_types;
+    ghost use Rattle.rgo_grammar.specs.reading.Types as reading_types;
 
     ghost Tree = { tree.Binding };
 

@@ -1,5 +1,5 @@
 use Rattle.std.proofs.Common.{◌≡◌, ◌-◌, [], map}
-use Rattle.rgo_grammar.specs.Reading.{several}
+use Rattle.rgo_grammar.specs.reading.Read.{several}
 use Rattle.rgo_parser.proofs.lists.list.Given as goal
 
 abbrev pub invariant-loop-turn : goal.invariant-loop-turn

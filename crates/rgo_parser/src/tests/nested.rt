@@ -1,0 +1,31 @@
+//! Bodies of `main` that nest: what is put before, what is repeated, what stands within, and what closes each, with the
+//! greatest number of repetitions that passes and the token that one more is refused at.
+
+pub(crate) type Row = (
+    &'static str,
+    &'static str,
+    &'static str,
+    &'static str,
+    u8,
+    usize,
+);
+
+pub(crate) const ROWS: [Row; 17] = [
+    ("x = ", "(", "1", ")", 198, 208),
+    ("", "{", "", "}", 198, 206),
+    ("x = ", "f(", "1", ")", 198, 407),
+    ("x = f", "()", "", "", 198, 407),
+    ("x = y", ".z", "", "", 198, 407),
+    ("x = ", "s[", "1", "]", 198, 407),
+    ("x = ", "!", "b", "", 198, 208),
+    ("x = ", "<-", "c", "", 198, 208),
+    ("x = 1", " + 1", "", "", 198, 407),
+    ("x = b", " && b", "", "", 198, 407),
+    ("x = ", "f(&N{", "1", "})", 66, 341),
+    ("", "if x { ", "", "}", 198, 604),
+    ("", "for { ", "", "}", 198, 405),
+    ("if x { }", " else if x { }", "", "", 197, 1000),
+    ("var x ", "chan ", "int", "", 198, 208),
+    ("var x ", "[]", "int", "", 198, 406),
+    ("x = ", "make([]int, ", "1", ")", 197, 1194),
+];
