@@ -7,8 +7,6 @@ mod names;
 mod ops;
 mod places;
 mod statements;
-#[cfg(test)]
-mod tests;
 mod types;
 
 pub use declarations::{Decl, Function, Import, Program, TypeSpec};

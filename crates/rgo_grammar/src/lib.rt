@@ -6,8 +6,6 @@
 
 mod laws;
 mod nesting;
-#[cfg(test)]
-mod tests;
 
 pub use laws::one_reading;
 pub use nesting::{Level, deep_at};

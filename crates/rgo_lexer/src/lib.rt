@@ -16,8 +16,6 @@ mod refusals;
 mod semicolons;
 mod strings;
 mod terminals;
-#[cfg(test)]
-mod tests;
 mod words;
 
 pub use laws::{longest_match, one_reading};

@@ -11,8 +11,6 @@ mod meetings;
 mod next;
 mod source;
 mod stack;
-#[cfg(test)]
-mod tests;
 mod todos;
 
 pub use frames::{Frame, Todo};

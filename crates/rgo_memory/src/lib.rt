@@ -9,8 +9,6 @@ mod fields;
 mod making;
 mod memory;
 mod objects;
-#[cfg(test)]
-mod tests;
 
 pub use actions::perform;
 pub use channels::meets_at;

@@ -16,8 +16,6 @@ mod reader;
 mod simple;
 mod statements;
 mod suffixes;
-#[cfg(test)]
-mod tests;
 mod types;
 
 pub use laws::one_answer;

@@ -7,8 +7,6 @@ mod laws;
 mod lines;
 mod probes;
 mod rounds;
-#[cfg(test)]
-mod tests;
 
 pub use ends::{Limits, RunEnd};
 pub use laws::print_grows;

@@ -6,8 +6,6 @@ mod endings;
 mod laws;
 mod positions;
 mod report;
-#[cfg(test)]
-mod tests;
 mod top;
 
 pub use endings::{Ending, Position};

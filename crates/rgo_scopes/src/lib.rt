@@ -4,7 +4,5 @@
 
 mod newest;
 mod scopes;
-#[cfg(test)]
-mod tests;
 
 pub use scopes::Scopes;

@@ -7,8 +7,6 @@ mod lists;
 mod programs;
 mod statements;
 mod terms;
-#[cfg(test)]
-mod tests;
 mod types;
 
 pub use actions::{Action, Logical};

@@ -11,8 +11,6 @@ mod numbering;
 mod prints;
 mod signatures;
 mod statements;
-#[cfg(test)]
-mod tests;
 
 pub use checking::check;
 pub use rgo_typing_expressions::{TypeError, TypeRefusal};

@@ -17,8 +17,6 @@ mod operations;
 mod packages;
 mod scopes;
 mod terms;
-#[cfg(test)]
-mod tests;
 mod types;
 
 pub use callees::{Callee, args_role, bare, is_place, may_stand, named_callee, resolve_callee};

@@ -8,8 +8,6 @@ mod nodes;
 mod roles;
 mod rules;
 mod shapes;
-#[cfg(test)]
-mod tests;
 mod values;
 
 pub use constants::{fold, fold_one};

@@ -3,8 +3,6 @@
 
 mod operators;
 mod printing;
-#[cfg(test)]
-mod tests;
 mod traps;
 mod values;
 

@@ -6,8 +6,6 @@ mod laws;
 mod limits;
 mod numbers;
 mod parser;
-#[cfg(test)]
-mod tests;
 
 pub use commands::{Command, WordsError, read_words};
 pub use laws::words_asked;

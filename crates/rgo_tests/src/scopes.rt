@@ -2,7 +2,7 @@
 
 ghost use Rattle.std.specs.Prelude.{◌≡◌, OnOk};
 
-use crate::Scopes;
+use rgo_scopes::Scopes;
 use std::alloc::AllocError;
 use std::process::Abort;
 use std::test::Fail;

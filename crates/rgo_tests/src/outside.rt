@@ -1,42 +1,14 @@
 //! Texts read and written to the end, in pieces and past faults, over each source and sink.
 
-ghost use Rattle.std.specs.Prelude.{None};
-
-use crate::{
-    Failed, MemSink, MemSource, NoFaultSink, NoFaultSource, ReadEnd, Sink, StdSink, StdSource,
-    WriteFault, read_all, write_all,
+use crate::slow_sinks::SlowSink;
+use rgo_outside::{
+    MemSink, MemSource, NoFaultSink, NoFaultSource, ReadEnd, StdSink, StdSource, WriteFault,
+    read_all, write_all,
 };
 use std::io::{self, ErrorKind, Read, Write};
 use std::test::Fail;
 
-// A sink of four bytes that takes one at a time.
-#[derive(Drop)]
-struct OneByOne {
-    bytes: [u8; 4],
-    filled: usize,
-    faults: u64,
-}
-
-impl Sink for OneByOne {
-    ghost contents = { λ _. None };
-
-    ghost faults = { λ s. s.faults };
-
-    fn write(&mut self, bytes: &[u8]) -> Result<usize, Failed> {
-        if bytes.is_empty() {
-            return Ok(0);
-        }
-        if self.filled >= 4 {
-            self.faults = self.faults.saturating_add(1);
-            return Err(Failed);
-        }
-        self.bytes[self.filled] = bytes[0];
-        self.filled += 1;
-        Ok(1)
-    }
-}
-
-// A writer that takes at most so many bytes and whose flushes may fail, and a reader that fails.
+/// A writer that takes at most `moved` bytes and whose flushes may fail, and a reader that fails.
 #[derive(Drop)]
 struct Stuck {
     moved: usize,
@@ -110,14 +82,10 @@ fn sinks_are_written_to_the_end(rt: HostRuntime) -> Result<(), Fail> {
         );
         assert_eq!(rt; sink.bytes(), kept.as_bytes());
     }
-    let mut sink = OneByOne {
-        bytes: [0; 4],
-        filled: 0,
-        faults: 0,
-    };
+    let mut sink = SlowSink::new(4);
     assert_eq!(rt; write_all(&mut sink, b"abc"), Ok(()));
     assert_eq!(rt; write_all(&mut sink, b"de"), Err(WriteFault { written: 1 }));
-    assert_eq!(rt; sink.bytes.as_slice(), b"abcd".as_slice());
+    assert_eq!(rt; sink.bytes[..4], b"abcd"[..]);
     assert_eq!(rt; write_all(&mut NoFaultSink, b"abc"), Ok(()));
     Ok(())
 }

@@ -1,7 +1,9 @@
-//! Actions one after another on one memory, each with what the language says that it gives.
+//! Sequences of actions on one memory, each with the effect that the language assigns to it.
 
-use crate::{Effect, Memory, meets_at, perform};
-use rgo_ast::{BinaryOp, Name};
+use crate::surface::name_of;
+use crate::typed_trees::{int, two, ty};
+use rgo_ast::BinaryOp;
+use rgo_memory::{Effect, Memory, meets_at, perform};
 use rgo_typed::{Action, Base, Layer, Row, Struct, Type, Variable};
 use rgo_values::{Trap, Value};
 use std::alloc::Global;
@@ -10,18 +12,13 @@ use std::test::Fail;
 
 type Step<'a> = (Action, &'a [Value], Effect);
 
-/// What an action without a value gives.
+/// The effect of an action without a value.
 const DONE: Effect = Effect::Gives(Value::Nil);
 
 const NIL: Value = Value::Nil;
 
 /// The object that is made first.
 const FIRST: Value = Value::Object(0);
-
-fn ty(alloc: Global, layers: &[Layer], base: Base) -> Result<Type, Fail> {
-    let layers = Row::new(Vec::from_slice(alloc, layers)?);
-    Ok(Type { layers, base })
-}
 
 fn steps_hold<R: Abort>(
     rt: &R,
@@ -73,7 +70,7 @@ const CHANNELS_THAT_ARE_NIL: [Step<'static>; 3] = [
 #[test]
 fn channels_are_first_in_first_out(rt: HostRuntime) -> Result<(), Fail> {
     let alloc = rt.alloc();
-    let int = ty(alloc, &[], Base::Int)?;
+    let int = int(alloc)?;
     let mut memory = Memory::new(alloc, &[])?;
     steps_hold(&rt, alloc, &mut memory, &int, &FIRST_IN_FIRST_OUT)?;
     steps_hold(&rt, alloc, &mut memory, &int, &CHANNELS_THAT_ARE_NIL)
@@ -82,7 +79,7 @@ fn channels_are_first_in_first_out(rt: HostRuntime) -> Result<(), Fail> {
 #[test]
 fn channels_without_buffer_are_met_at(rt: HostRuntime) -> Result<(), Fail> {
     let alloc = rt.alloc();
-    let int = ty(alloc, &[], Base::Int)?;
+    let int = int(alloc)?;
     let mut memory = Memory::new(alloc, &[])?;
     let made: [Step<'_>; 3] = [
         (Action::Chan, &[Value::Int(0)], Effect::Gives(FIRST)),
@@ -189,13 +186,12 @@ const FIELDS: [Step<'static>; 6] = [
 #[test]
 fn fields_are_read_and_written(rt: HostRuntime) -> Result<(), Fail> {
     let alloc = rt.alloc();
-    let int = ty(alloc, &[], Base::Int)?;
-    let mut fields = Vec::new(alloc);
-    fields.push(ty(alloc, &[], Base::Int)?)?;
-    fields.push(ty(alloc, &[], Base::Pointer(0))?)?;
+    let int = int(alloc)?;
+    let value = ty(alloc, &[], Base::Int)?;
+    let next = ty(alloc, &[], Base::Pointer(0))?;
     let node = Struct {
-        name: Name::new(Vec::from_slice(alloc, b"Node")?),
-        fields: Row::new(fields),
+        name: name_of(alloc, "Node")?,
+        fields: Row::new(two(alloc, value, next)?),
     };
     let mut memory = Memory::new(alloc, &[])?;
     let new = perform(alloc, &mut memory, &[node], Action::New(0), &int, &[])?;
@@ -227,9 +223,9 @@ const VARIABLES: [Step<'static>; 9] = [
 #[test]
 fn variables_and_plain_values(rt: HostRuntime) -> Result<(), Fail> {
     let alloc = rt.alloc();
-    let int = ty(alloc, &[], Base::Int)?;
+    let int = int(alloc)?;
     let variable = Variable {
-        name: Name::new(Vec::from_slice(alloc, b"total")?),
+        name: name_of(alloc, "total")?,
         ty: ty(alloc, &[], Base::Int)?,
     };
     let mut memory = Memory::new(alloc, &[variable])?;

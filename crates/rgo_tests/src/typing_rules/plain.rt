@@ -1,9 +1,9 @@
 //! Nodes without lists: each row a rule, a node that breaks it first, and the nearest node that
 //! breaks none.
 
-use crate::{Kind, Meaning, Node, Role, Shape};
 use rgo_ast::{BinaryOp, UnaryOp};
 use rgo_typed::Base;
+use rgo_typing_rules::{Kind, Meaning, Node, Role, Shape};
 
 pub(super) type Row<'a> = (u8, Node<'a, 'a, 'a>, Node<'a, 'a, 'a>);
 

@@ -1,9 +1,9 @@
 //! Lists of types and of values, each written as a word of one letter for each.
 
 use super::plain::{BOOL, INT, MINUS_ONE, ONE, S, ZERO};
-use crate::{Kind, Shape, Signature};
-use rgo_ast::Type;
+use rgo_ast::TypeExpr;
 use rgo_typed::Base;
+use rgo_typing_rules::{Kind, Shape, Signature};
 use std::alloc::Global;
 use std::test::Fail;
 
@@ -30,7 +30,7 @@ fn plain_value(letter: u8) -> Shape<'static> {
 }
 
 /// The same, with types round `int`: `s` is `[]int`, `u` `[]bool`, and `c` `chan int`.
-fn kind<'a>(letter: u8, int: &'a Type) -> Kind<'a> {
+fn kind<'a>(letter: u8, int: &'a TypeExpr) -> Kind<'a> {
     match letter {
         b's' => Kind::Slice(int, Base::Int),
         b'u' => Kind::Slice(int, Base::Bool),
@@ -39,14 +39,18 @@ fn kind<'a>(letter: u8, int: &'a Type) -> Kind<'a> {
     }
 }
 
-pub(super) fn value<'a>(letter: u8, int: &'a Type) -> Shape<'a> {
+pub(super) fn value<'a>(letter: u8, int: &'a TypeExpr) -> Shape<'a> {
     match letter {
         b's' | b'u' | b'c' => Shape::Value(kind(letter, int)),
         _ => plain_value(letter),
     }
 }
 
-pub(super) fn kinds<'a>(alloc: Global, word: &str, int: &'a Type) -> Result<Vec<Kind<'a>>, Fail> {
+pub(super) fn kinds<'a>(
+    alloc: Global,
+    word: &str,
+    int: &'a TypeExpr,
+) -> Result<Vec<Kind<'a>>, Fail> {
     let mut kinds = Vec::new(alloc);
     for letter in word.as_bytes() {
         kinds.push(kind(*letter, int))?;
@@ -58,7 +62,7 @@ pub(super) fn kinds<'a>(alloc: Global, word: &str, int: &'a Type) -> Result<Vec<
 pub(super) fn known<'a>(
     alloc: Global,
     word: &str,
-    int: &'a Type,
+    int: &'a TypeExpr,
 ) -> Result<Vec<Option<Kind<'a>>>, Fail> {
     let mut kinds = Vec::new(alloc);
     for letter in word.as_bytes() {
@@ -72,7 +76,11 @@ pub(super) fn known<'a>(
     Ok(kinds)
 }
 
-pub(super) fn values<'a>(alloc: Global, word: &str, int: &'a Type) -> Result<Vec<Shape<'a>>, Fail> {
+pub(super) fn values<'a>(
+    alloc: Global,
+    word: &str,
+    int: &'a TypeExpr,
+) -> Result<Vec<Shape<'a>>, Fail> {
     let mut values = Vec::new(alloc);
     for letter in word.as_bytes() {
         values.push(value(*letter, int))?;

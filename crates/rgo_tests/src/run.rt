@@ -4,13 +4,12 @@ mod examples;
 mod running;
 mod typing;
 
-ghost use Rattle.std.specs.Prelude.{None};
-
-use crate::rgo;
+use crate::lines::words_of;
+use crate::slow_sinks::SlowSink;
 use rgo_outside::{
-    Failed, MemSink, MemSource, NoFaultSink, NoFaultSource, NoGate, Sink, StdSink, StdSource,
-    read_all,
+    MemSink, MemSource, NoFaultSink, NoFaultSource, NoGate, StdSink, StdSource, read_all,
 };
+use rgo_run::rgo;
 use std::alloc::{AllocError, Global};
 use std::process::Abort;
 use std::test::Fail;
@@ -40,15 +39,6 @@ const SOUND: Outside = Outside {
     failing_err: 0,
 };
 
-// The words of a line, of which one blank stands between two.
-fn words_of(alloc: Global, line: &str) -> Result<Vec<String>, AllocError> {
-    let mut words = Vec::new(alloc);
-    for word in line.split(' ') {
-        words.push(String::from_str(alloc, word)?)?;
-    }
-    Ok(words)
-}
-
 // The line behind the head, as a text.
 fn with_head(alloc: Global, line: &str) -> Result<Vec<u8>, AllocError> {
     format!(in alloc; "{HEAD}{line}\n")?
@@ -71,7 +61,7 @@ fn expect<R: Abort + AllocGlobal>(
     let mut source = MemSource::new(text, outside.per_read, failing_reads);
     let mut out = MemSink::new(alloc, 1000, vec![in alloc; outside.failing_out; 1]?)?;
     let mut err = MemSink::new(alloc, 1000, vec![in alloc; outside.failing_err; 1]?)?;
-    let words = words_of(alloc, words)?;
+    let words = words_of(alloc, words, ' ')?;
     let answer = rgo(
         alloc,
         words.as_slice(),
@@ -425,7 +415,7 @@ fn faults_end_the_run(rt: HostRuntime) -> Result<(), Fail> {
 // The status of a run of a text, and how many bytes went out.
 fn answer<R: Abort + AllocGlobal>(rt: &R, text: Vec<u8>) -> Result<(u8, usize), Fail> {
     let alloc = rt.alloc();
-    let words = words_of(alloc, "rgo run")?;
+    let words = words_of(alloc, "rgo run", ' ')?;
     let mut source = MemSource::new(text, 1000, Vec::new(alloc));
     let mut out = MemSink::new(alloc, 1000, Vec::new(alloc))?;
     let mut err = MemSink::new(alloc, 1000, Vec::new(alloc))?;
@@ -509,7 +499,7 @@ fn other_words_are_answered_by_the_usage(rt: HostRuntime) -> Result<(), Fail> {
         "rgo run run",
         "rgo  run",
     ] {
-        let words = words_of(alloc, line)?;
+        let words = words_of(alloc, line, ' ')?;
         let mut source = NoFaultSource::new(b"text".to_vec(alloc)?);
         let mut err = MemSink::new(alloc, 1000, Vec::new(alloc))?;
         let status = rgo(
@@ -530,47 +520,16 @@ fn other_words_are_answered_by_the_usage(rt: HostRuntime) -> Result<(), Fail> {
     Ok(())
 }
 
-// A sink of sixteen bytes that takes one at a time.
-#[derive(Drop)]
-struct OneByOne {
-    bytes: [u8; 16],
-    filled: usize,
-    faults: u64,
-}
-
-impl Sink for OneByOne {
-    ghost contents = { λ _. None };
-
-    ghost faults = { λ s. s.faults };
-
-    fn write(&mut self, bytes: &[u8]) -> Result<usize, Failed> {
-        if bytes.is_empty() {
-            return Ok(0);
-        }
-        if self.filled >= 16 {
-            self.faults = self.faults.saturating_add(1);
-            return Err(Failed);
-        }
-        self.bytes[self.filled] = bytes[0];
-        self.filled += 1;
-        Ok(1)
-    }
-}
-
 #[test]
 fn slow_sinks_and_streams_of_std_serve(rt: HostRuntime) -> Result<(), Fail> {
     let alloc = rt.alloc();
-    let words = words_of(alloc, "rgo run")?;
+    let words = words_of(alloc, "rgo run", ' ')?;
     let text = with_head(
         alloc,
         "func main() { fmt.Println(\"hi\", 1, true); fmt.Println(2, 3) }",
     )?;
     let mut source = StdSource::new(text.as_slice());
-    let mut out = OneByOne {
-        bytes: [0; 16],
-        filled: 0,
-        faults: 0,
-    };
+    let mut out = SlowSink::new(16);
     let mut told: Vec<u8> = Vec::new(alloc);
     let mut err = StdSink::new(&mut told);
     let status = rgo(

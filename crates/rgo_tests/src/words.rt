@@ -1,25 +1,17 @@
 //! Rows of words, and what they ask for.
 
-use crate::{Command, Limits, WordsError, read_words};
+use crate::lines::words_of;
+use rgo_words::{Command, Limits, WordsError, read_words};
 use std::alloc::{AllocError, Global};
 use std::process::Abort;
 use std::test::Fail;
-
-// The words of a line, of which one bar stands between two.
-fn words_of(alloc: Global, line: &str) -> Result<Vec<String>, AllocError> {
-    let mut words = Vec::new(alloc);
-    for word in line.split('|') {
-        words.push(String::from_str(alloc, word)?)?;
-    }
-    Ok(words)
-}
 
 fn expect<R: Abort + AllocGlobal>(
     rt: &R,
     line: &str,
     wanted: Result<Command, WordsError>,
 ) -> Result<(), AllocError> {
-    let words = words_of(rt.alloc(), line)?;
+    let words = words_of(rt.alloc(), line, '|')?;
     let answer = read_words(rt.alloc(), words.as_slice());
     assert!(rt; answer == wanted, "{line}: {answer:?}");
     Ok(())

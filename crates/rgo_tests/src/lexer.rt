@@ -3,7 +3,7 @@
 mod refusals;
 mod tokens;
 
-use crate::{LexError, Span, Token, TokenKind, lex, number_value, string_value};
+use rgo_lexer::{LexError, Span, Token, TokenKind, lex, number_value, string_value};
 use std::alloc::Global;
 use std::process::Abort;
 use std::test::Fail;

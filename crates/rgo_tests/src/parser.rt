@@ -4,9 +4,9 @@
 mod marked;
 mod nested;
 
-use crate::{ParseError, ParseRefusal, parse};
 use rgo_ast::Program;
 use rgo_lexer::lex;
+use rgo_parser::{ParseError, ParseRefusal, parse};
 use std::alloc::{AllocError, AllocFailed, Global};
 use std::process::Abort;
 use std::test::Fail;

@@ -1,12 +1,14 @@
-//! Small expressions, with what they are worked out by hand.
+//! Small expressions with their meanings, constants and broken rules, worked out by hand.
 
-use crate::{
-    Judged, Package, Scope, TypeError, TypeRefusal, bare, is_place, judge_expr, may_stand, meaning,
-};
-use rgo_ast::{BinaryOp, Expr, Ident, Name, Place};
-use rgo_typing_rules::{Kind, Meaning, Role, Shape};
+use crate::surface::{ident, name, number};
+use crate::typed_trees::one;
+use rgo_ast::{BinaryOp, Expr, Place};
 use rgo_scopes::Scopes;
 use rgo_typed::Base;
+use rgo_typing_expressions::{
+    Judged, Package, Scope, TypeError, TypeRefusal, bare, is_place, judge_expr, may_stand, meaning,
+};
+use rgo_typing_rules::{Kind, Meaning, Role, Shape};
 use std::alloc::Global;
 use std::test::Fail;
 
@@ -21,23 +23,9 @@ fn package<'a>(alloc: Global) -> Package<'a> {
     }
 }
 
-fn ident(alloc: Global, word: &str, at: Place) -> Result<Ident, Fail> {
-    let name = Name::new(Vec::from_slice(alloc, word.as_bytes())?);
-    Ok(Ident { name, at })
-}
-
-fn name(alloc: Global, word: &str, at: Place) -> Result<Box<Expr>, Fail> {
-    Ok(Box::new(alloc, Expr::Name(ident(alloc, word, at)?))?)
-}
-
-fn number(alloc: Global, value: u64, at: Place) -> Result<Box<Expr>, Fail> {
-    Ok(Box::new(alloc, Expr::Number(value, at))?)
-}
-
-/// `f("a")`, of the callee, with the places of the `(` and of the string.
+/// `f("a")` for a callee `f`, with the places of the `(` and of the string.
 fn called(alloc: Global, f: Box<Expr>, at: Place, text_at: Place) -> Result<Expr, Fail> {
-    let mut args = Vec::new(alloc);
-    args.push(Expr::Text(vec![in alloc; b'a'; 1]?, text_at))?;
+    let args = one(alloc, Expr::Text(vec![in alloc; b'a'; 1]?, text_at))?;
     Ok(Expr::Call(f, args, at))
 }
 

@@ -1,7 +1,9 @@
 //! Programs built by hand: one that is refused, and one that is typed.
 
-use crate::{TypeError, TypeRefusal, check};
-use rgo_ast::{Decl, Function, Ident, Name, Program};
+use crate::surface::ident;
+use crate::typed_trees::one;
+use rgo_ast::{Decl, Function, Program};
+use rgo_types::{TypeError, TypeRefusal, check};
 use std::alloc::Global;
 use std::test::Fail;
 
@@ -16,11 +18,8 @@ fn program(alloc: Global, decls: Vec<Decl>) -> Program {
 
 // func main() {}
 fn main_function(alloc: Global) -> Result<Function, Fail> {
-    let mut bytes = Vec::new(alloc);
-    bytes.extend_from_slice("main".as_bytes())?;
-    let name = Name::new(bytes);
     Ok(Function {
-        name: Ident { name, at: 5 },
+        name: ident(alloc, "main", 5)?,
         params: Vec::new(alloc),
         result_type: None,
         body: Vec::new(alloc),
@@ -44,8 +43,7 @@ fn a_text_without_main_is_refused(rt: HostRuntime) -> Result<(), Fail> {
 #[test]
 fn main_is_typed(rt: HostRuntime) -> Result<(), Fail> {
     let alloc = rt.alloc();
-    let mut decls = Vec::new(alloc);
-    decls.push(Decl::Func(main_function(alloc)?))?;
+    let decls = one(alloc, Decl::Func(main_function(alloc)?))?;
     let typed = check(alloc, &program(alloc, decls))?;
     assert_eq!(rt; typed.structs.items().len(), 0);
     assert_eq!(rt; typed.variables.items().len(), 0);

@@ -3,8 +3,8 @@
 mod nesting;
 mod terminals;
 
-use crate::{Term, Terminal, deep_at, first, terms_of};
 use rgo_ast::BinaryOp;
+use rgo_grammar::{Term, Terminal, deep_at, first, terms_of};
 use rgo_lexer::{Span, lex};
 use std::alloc::{AllocError, Global};
 use std::process::Abort;

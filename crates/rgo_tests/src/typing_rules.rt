@@ -4,10 +4,11 @@ mod letters;
 mod lists;
 mod plain;
 
-use crate::{Kind, Node, Role, Shape, Signature, broken, fold, fold_one};
+use crate::surface::ident;
 use plain::Row;
-use rgo_ast::{BinaryOp, Ident, Name, Type, UnaryOp};
+use rgo_ast::{BinaryOp, TypeExpr, UnaryOp};
 use rgo_typed::{Base, Layer};
+use rgo_typing_rules::{Kind, Node, Role, Shape, Signature, broken, fold, fold_one};
 use std::alloc::Global;
 use std::process::Abort;
 use std::test::Fail;
@@ -23,11 +24,6 @@ fn are_first<R: Abort>(rt: &R, rows: &[(u8, Node<'_, '_, '_>)]) {
     for (rule, node) in rows {
         assert_eq!(rt; broken(node), Some(*rule));
     }
-}
-
-fn ident(alloc: Global, word: &str) -> Result<Ident, Fail> {
-    let name = Name::new(Vec::from_slice(alloc, word.as_bytes())?);
-    Ok(Ident { name, at: 0 })
 }
 
 #[test]
@@ -55,7 +51,7 @@ fn keyed_breaks<'a>(
 
 fn judged_literal<'a>(
     alloc: Global,
-    int: &'a Type,
+    int: &'a TypeExpr,
     fields: &str,
     values: &str,
 ) -> Result<Option<u8>, Fail> {
@@ -66,7 +62,7 @@ fn judged_literal<'a>(
 
 fn judged_keyed<'a>(
     alloc: Global,
-    int: &'a Type,
+    int: &'a TypeExpr,
     fields: &str,
     twice: bool,
     values: &str,
@@ -115,7 +111,7 @@ fn pair_breaks<'a>(a: Shape<'a>, b: Shape<'a>) -> [Option<u8>; 4] {
 #[test]
 fn literals_are_judged(rt: HostRuntime) -> Result<(), Fail> {
     let alloc = rt.alloc();
-    let int = Type::Named(ident(alloc, "int")?);
+    let int = TypeExpr::Named(ident(alloc, "int", 0)?);
     for (fields, values, wanted) in lists::LITERALS {
         let broken = judged_literal(alloc, &int, fields, values)?;
         assert_eq!(rt; broken, wanted, "{values} for {fields}");
@@ -132,7 +128,7 @@ fn literals_are_judged(rt: HostRuntime) -> Result<(), Fail> {
 #[test]
 fn calls_are_judged(rt: HostRuntime) -> Result<(), Fail> {
     let alloc = rt.alloc();
-    let int = Type::Named(ident(alloc, "int")?);
+    let int = TypeExpr::Named(ident(alloc, "int", 0)?);
     for (params, gives, args, wanted) in lists::CALLS {
         let signature = letters::signature(alloc, params, gives)?;
         let broken = judged_call(alloc, &signature, args)?;
@@ -147,7 +143,7 @@ fn calls_are_judged(rt: HostRuntime) -> Result<(), Fail> {
 
 #[test]
 fn pairs_are_judged(rt: HostRuntime) -> Result<(), Fail> {
-    let int = Type::Named(ident(rt.alloc(), "int")?);
+    let int = TypeExpr::Named(ident(rt.alloc(), "int", 0)?);
     for (a, b, wanted) in lists::PAIRS {
         let broken = pair_breaks(letters::value(a, &int), letters::value(b, &int));
         assert_eq!(rt; broken, wanted, "{a} and {b}");
@@ -159,9 +155,12 @@ fn pairs_are_judged(rt: HostRuntime) -> Result<(), Fail> {
 #[test]
 fn types_are_identical_by_their_spelling(rt: HostRuntime) -> Result<(), Fail> {
     let alloc = rt.alloc();
-    let int = Type::Named(ident(alloc, "int")?);
-    let pointer = Type::Pointer(ident(alloc, "S")?, 0);
-    let channel = Type::Chan(Box::new(alloc, Type::Pointer(ident(alloc, "S")?, 0))?, 0);
+    let int = TypeExpr::Named(ident(alloc, "int", 0)?);
+    let pointer = TypeExpr::Pointer(ident(alloc, "S", 0)?, 0);
+    let channel = TypeExpr::Chan(
+        Box::new(alloc, TypeExpr::Pointer(ident(alloc, "S", 0)?, 0))?,
+        0,
+    );
     let types = [
         Kind::of(&int, Base::Int),
         Kind::Slice(&int, Base::Int),

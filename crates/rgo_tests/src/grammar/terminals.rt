@@ -1,7 +1,7 @@
 //! Texts with their terminals.
 
-use crate::terminals::Terminal::{self, *};
 use rgo_ast::{AssignOp, BinaryOp, StepOp};
+use rgo_grammar::Terminal::{self, *};
 
 pub(super) const WORDS: [(&[u8], &[Terminal]); 4] = [
     (

@@ -1,8 +1,9 @@
 //! Operators, zeros and prints, with values computed by hand.
 
-use crate::{Trap, Value, binary, element_zero, inverted, is_nil, negated, write_value, zero};
+use crate::typed_trees::ty;
 use rgo_ast::BinaryOp;
-use rgo_typed::{Base, Layer, Row, Type};
+use rgo_typed::{Base, Layer};
+use rgo_values::{Trap, Value, binary, element_zero, inverted, is_nil, negated, write_value, zero};
 use std::test::Fail;
 
 const LEAST: i64 = i64::MIN;
@@ -77,8 +78,7 @@ fn zeros_are_those_of_the_types(rt: HostRuntime) -> Result<(), Fail> {
         ),
     ];
     for (layers, base, of_type, of_element) in rows {
-        let layers = Row::new(Vec::from_slice(rt.alloc(), layers)?);
-        let ty = Type { layers, base };
+        let ty = ty(rt.alloc(), layers, base)?;
         assert_eq!(rt; zero(&ty), of_type);
         assert_eq!(rt; element_zero(&ty), of_element);
     }
