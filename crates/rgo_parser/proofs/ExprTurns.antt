@@ -265,4 +265,4 @@ unfolding r.expr
 post_starved n v l e = rw e refl
 
 pub ruleset expr_turns =
-  (map-append, keyed_is, operand_is, expr_more, climb_more, unary_more, primary_more, post_more, expr_starved, climb_starved, unary_starved, primary_starved, post_starved)
+    (map-append, keyed_is, operand_is, expr_more, climb_more, unary_more, primary_more, post_more, expr_starved, climb_starved, unary_starved, primary_starved, post_starved)

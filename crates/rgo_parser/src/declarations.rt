@@ -38,10 +38,10 @@ impl Item for ImportPath {
 
 impl Item for TypeSpec {
     ghost use Rattle.rgo_ast.specs.Views.{type_spec_of};
-    ghost use Rattle.rgo_ast.specs.Tree as tree;
+    ghost use Rattle.rgo_ast.specs.Tree as trees;
     ghost use Rattle.rgo_grammar.specs.reading.Declarations as reading_decls;
 
-    ghost Tree = { tree.TypeSpec };
+    ghost Tree = { trees.TypeSpec };
 
     ghost tree = { type_spec_of };
 
@@ -78,11 +78,7 @@ pub(crate) fn import<'a>(
 }
 
 // The type of a function's result, if it has one, up to the function's block.
-fn result_type<'a>(
-    alloc: Global,
-    reader: &mut Reader<'a>,
-    turns: usize,
-) -> Read<Option<TypeExpr>>
+fn result_type<'a>(alloc: Global, reader: &mut Reader<'a>, turns: usize) -> Read<Option<TypeExpr>>
     ensures { Agrees (option_map type_expr_of) result reader.new
         (reading.result_on turns reader.old (first_of reader.old)) }
 {
@@ -102,13 +98,7 @@ fn func<'a>(alloc: Global, reader: &mut Reader<'a>, turns: usize, at: usize) -> 
 {
     let name = reader.name(alloc)?;
     reader.take(Terminal::OpenParen)?;
-    let (params, _) = list::<Binding>(
-        alloc,
-        reader,
-        turns,
-        Terminal::Comma,
-        Terminal::CloseParen,
-    )?;
+    let (params, _) = list::<Binding>(alloc, reader, turns, Terminal::Comma, Terminal::CloseParen)?;
     let result_type = result_type(alloc, reader, turns)?;
     let (body, end) = block(alloc, reader, turns)?;
     Ok(Function {

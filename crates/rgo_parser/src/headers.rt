@@ -16,7 +16,8 @@ use rgo_ast::{Expr, Stmt};
 use rgo_lexer::Terminal;
 use std::alloc::Global;
 
-/// A header up to its block or its first `;`: a condition before a block, or a statement, which may be empty, and its `;`.
+/// A header up to its block or its first `;`: a condition before a block, or a statement, which may be
+/// empty, and its `;`.
 #[derive(Drop)]
 enum Head {
     Condition(Box<Expr>),

@@ -53,7 +53,9 @@ pub(crate) fn separated<'a>(
 /// What is read one by one in a list.
 pub(crate) trait Item: Drop {
     ghost Tree: { Type 0 };
+
     ghost tree: { Self → Tree };
+
     ghost reading: { ℕ → List lexemes.Lexeme → reading.Read Tree };
 
     /// One item.

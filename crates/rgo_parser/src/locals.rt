@@ -25,7 +25,8 @@ fn initial<'a>(
     ty: TypeExpr,
 ) -> Read<LocalVar>
     ensures { Agrees local_var_of result reader.new
-        (reading.initial (reading_exprs.expr false turns 1) (leaf_of one) (type_expr_of ty) reader.old (first_of reader.old)) }
+        (reading.initial (reading_exprs.expr false turns 1) (leaf_of one) (type_expr_of ty) reader.old
+        (first_of reader.old)) }
 {
     if let Some(lexeme) = reader.peek() {
         if let Terminal::Assign(AssignOp::Plain) = lexeme.terminal {
@@ -42,11 +43,11 @@ fn initial<'a>(
 impl Item for LocalVar {
     ghost use Rattle.std.specs.Prelude.{false};
     ghost use Rattle.rgo_ast.specs.Views.{local_var_of};
-    ghost use Rattle.rgo_ast.specs.Tree as tree;
+    ghost use Rattle.rgo_ast.specs.Tree as trees;
     ghost use Rattle.rgo_grammar.specs.reading.Expressions as reading_exprs;
     ghost use Rattle.rgo_grammar.specs.reading.Statements as reading_stmts;
 
-    ghost Tree = { tree.LocalVar };
+    ghost Tree = { trees.LocalVar };
 
     ghost tree = { local_var_of };
 

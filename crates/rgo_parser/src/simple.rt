@@ -13,7 +13,8 @@ use rgo_ast::Stmt;
 use rgo_lexer::Terminal;
 use std::alloc::Global;
 
-/// A simple statement that begins with an expression; `header` says that it is between `if` or `for` and its block.
+/// A simple statement that begins with an expression; `header` says that it is between `if` or `for`
+/// and its block.
 pub(crate) fn valued<'a>(
     alloc: Global,
     reader: &mut Reader<'a>,

@@ -1,5 +1,5 @@
-//! Statements and blocks.
-#![tactic(auto, using(rgo_ast::proofs::Rows::rows, crate::proofs::ListTurns::listed_turns, crate::proofs::StmtTurns::stmt_turns))]
+//! Statements and blocks: the functions that read a statement within a statement.
+#![tactic(auto, using(rgo_ast::proofs::Rows::rows, crate::proofs::ListTurns::listed_turns, crate::proofs::StmtTurns::stmt_turns,))]
 
 ghost use Rattle.std.specs.Prelude.{◌≡◌};
 ghost use Rattle.rgo_ast.specs.Views.{stmt_of, boxed_stmt_of};

@@ -81,10 +81,10 @@ pub(crate) fn typed_names<'a>(
 
 impl Item for Binding {
     ghost use Rattle.rgo_ast.specs.Views.{binding_of};
-    ghost use Rattle.rgo_ast.specs.Tree as tree;
+    ghost use Rattle.rgo_ast.specs.Tree as trees;
     ghost use Rattle.rgo_grammar.specs.reading.Types as reading_types;
 
-    ghost Tree = { tree.Binding };
+    ghost Tree = { trees.Binding };
 
     ghost tree = { binding_of };
 
