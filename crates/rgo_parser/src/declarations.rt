@@ -2,8 +2,9 @@
 #![tactic(auto, using(rgo_ast::proofs::Rows::rows))]
 
 ghost use Rattle.std.specs.Prelude.{◌≡◌, option_map};
-ghost use Rattle.rgo_ast.specs.Views.{type_expr_of, function_of, decl_of, import_of};
+ghost use Rattle.rgo_ast.specs.Views.{type_expr_of, type_spec_of, function_of, decl_of, import_of};
 ghost use Rattle.rgo_ast.specs.Tree as tree;
+ghost use Rattle.rgo_ast.specs.declared.names.ImportPath.{ImportPath};
 ghost use Rattle.rgo_grammar.specs.reading.Read.{first_of};
 ghost use Rattle.rgo_grammar.specs.reading.Declarations as reading;
 ghost use Rattle.rgo_parser.specs.Agrees.{Agrees, leaf_at};
@@ -17,14 +18,11 @@ use rgo_lexer::{Terminal, unquoted};
 use std::alloc::Global;
 
 impl Item for ImportPath {
-    ghost use Rattle.rgo_ast.specs.declared.names.ImportPath.{ImportPath};
-    ghost use Rattle.rgo_grammar.specs.reading.Declarations as reading_decls;
-
     ghost Tree = { ImportPath };
 
-    ghost tree = { λ path. path };
+    ghost tree_of = { λ path. path };
 
-    ghost reading = { λ _. reading_decls.import_path };
+    ghost reads = { λ _. reading.import_path };
 
     /// The path of an import.
     fn read<'a>(alloc: Global, reader: &mut Reader<'a>, _turns: usize) -> Read<ImportPath> {
@@ -37,15 +35,11 @@ impl Item for ImportPath {
 }
 
 impl Item for TypeSpec {
-    ghost use Rattle.rgo_ast.specs.Views.{type_spec_of};
-    ghost use Rattle.rgo_ast.specs.Tree as trees;
-    ghost use Rattle.rgo_grammar.specs.reading.Declarations as reading_decls;
+    ghost Tree = { tree.TypeSpec };
 
-    ghost Tree = { trees.TypeSpec };
+    ghost tree_of = { type_spec_of };
 
-    ghost tree = { type_spec_of };
-
-    ghost reading = { reading_decls.type_spec };
+    ghost reads = { reading.type_spec };
 
     /// A type with its name.
     fn read<'a>(alloc: Global, reader: &mut Reader<'a>, turns: usize) -> Read<TypeSpec> {

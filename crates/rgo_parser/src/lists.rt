@@ -54,13 +54,13 @@ pub(crate) fn separated<'a>(
 pub(crate) trait Item: Drop {
     ghost Tree: { Type 0 };
 
-    ghost tree: { Self → Tree };
+    ghost tree_of: { Self → Tree };
 
-    ghost reading: { ℕ → List lexemes.Lexeme → reading.Read Tree };
+    ghost reads: { ℕ → List lexemes.Lexeme → reading.Read Tree };
 
     /// One item.
     fn read<'a>(alloc: Global, reader: &mut Reader<'a>, turns: usize) -> Read<Self>
-        ensures { Agrees tree result reader.new (reading turns reader.old) };
+        ensures { Agrees tree_of result reader.new (reads turns reader.old) };
 }
 
 /// Items up to the lexeme that closes them.
@@ -71,8 +71,8 @@ pub(crate) fn list<'a, T: Item>(
     separator: Terminal,
     closer: Terminal,
 ) -> Listed<'a, T>
-    ensures { Agrees (listed_by T.tree) result reader.new
-        (reading.several separator closer (T.reading turns) turns [] reader.old) }
+    ensures { Agrees (listed_by T.tree_of) result reader.new
+        (reading.several separator closer (T.reads turns) turns [] reader.old) }
 {
     let mut found = Vec::new(alloc);
     for turn in 0..turns {
@@ -94,8 +94,8 @@ pub(crate) fn group<'a, T: Item>(
     reader: &mut Reader<'a>,
     turns: usize,
 ) -> Read<Vec<T>>
-    ensures { Agrees (λ x. map T.tree x.items) result reader.new
-        (reading_decls.group (T.reading turns) turns reader.old) }
+    ensures { Agrees (λ x. map T.tree_of x.items) result reader.new
+        (reading_decls.group (T.reads turns) turns reader.old) }
 {
     let Some(lexeme) = reader.peek() else {
         return Err(Fault::Syntax);

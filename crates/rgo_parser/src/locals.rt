@@ -2,6 +2,7 @@
 #![tactic(auto, using(rgo_ast::proofs::Rows::rows, crate::proofs::StmtTurns::vars_are))]
 
 ghost use Rattle.std.specs.Prelude.{◌≡◌, false};
+ghost use Rattle.rgo_ast.specs.Tree as tree;
 ghost use Rattle.rgo_ast.specs.Views.{type_expr_of, local_var_of, stmt_of};
 ghost use Rattle.rgo_grammar.specs.reading.Expressions as reading_exprs;
 ghost use Rattle.rgo_grammar.specs.reading.Statements as reading;
@@ -41,17 +42,11 @@ fn initial<'a>(
 }
 
 impl Item for LocalVar {
-    ghost use Rattle.std.specs.Prelude.{false};
-    ghost use Rattle.rgo_ast.specs.Views.{local_var_of};
-    ghost use Rattle.rgo_ast.specs.Tree as trees;
-    ghost use Rattle.rgo_grammar.specs.reading.Expressions as reading_exprs;
-    ghost use Rattle.rgo_grammar.specs.reading.Statements as reading_stmts;
+    ghost Tree = { tree.LocalVar };
 
-    ghost Tree = { trees.LocalVar };
+    ghost tree_of = { local_var_of };
 
-    ghost tree = { local_var_of };
-
-    ghost reading = { λ n. reading_stmts.local n (reading_exprs.expr false n 1) };
+    ghost reads = { λ n. reading.local n (reading_exprs.expr false n 1) };
 
     /// Names with their type or value.
     fn read<'a>(alloc: Global, reader: &mut Reader<'a>, turns: usize) -> Read<LocalVar> {
