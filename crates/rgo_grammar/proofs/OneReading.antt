@@ -1,4 +1,4 @@
--- A list of tokens has at most one first bad token, and none where it is a program.
+-- A list of lexemes has at most one first bad lexeme, and none if it is a program.
 use Rattle.std.proofs.Common.{◌≡◌, ℕ, ◌+◌, ◌≤◌, ◌<◌, ◌⊎◌, inl, inr, List, [], ◌++◌, length, take, drop, subst, append_assoc, append-nil, arith}
 use Rattle.std.proofs.lemmas.List.{take-take, take-append-drop}
 use Rattle.std.proofs.lemmas.Bool.{cases_order, cases_lt}
@@ -18,7 +18,7 @@ less_begins k j l h b = subst Begins (take-take k j l h) (front_begins k (take j
 whole_begins : (l : List Lexeme) (imports : List Import) (decls : List Decl) → IsProgram l imports decls → Begins l
 whole_begins l imports decls p = ([], imports, decls, rw append-nil p)
 
--- one of them stands first
+-- no list has two: one of them would come first
 no_second : (l : List Lexeme) (k j : ℕ) → k < j → IsFirstBad l k → IsFirstBad l j → ⊥
 no_second l k j h f g = f.next (omega (arith, g.within)) (less_begins (k + 1) j l (omega arith) g.before)
 

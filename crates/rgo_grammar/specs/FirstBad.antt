@@ -1,16 +1,19 @@
--- The first token with which no program goes on.
+-- The first bad lexeme: the first one that continues no program.
 use Rattle.std.specs.Prelude.{◌≡◌, ℕ, ◌+◌, ◌<◌, ◌≤◌, List, ◌++◌, length, take}
 use Rattle.rgo_ast.specs.Tree.{Import, Decl}
 use Rattle.rgo_lexer.specs.Lexemes.{Lexeme}
 use Rattle.rgo_grammar.specs.Grammar.{IsProgram}
 
--- some program begins so
+-- some program begins with these lexemes
 abbrev pub Begins : List Lexeme → Type 0
-Begins l = (w : List Lexeme) × (imports : List Import) × (decls : List Decl) × IsProgram (l ++ w) imports decls
+Begins l =
+    (w : List Lexeme) × (imports : List Import) × (decls : List Decl) × IsProgram (l ++ w) imports decls
 
--- The first k tokens begin a program and the first k + 1 do not; or they are all, and no program.
+-- The first k lexemes begin a program and the first k + 1 do not; or there are only k, and they are
+-- no program.
 pub record IsFirstBad (l : List Lexeme) (k : ℕ) : Type 0 where
   pub within : k ≤ length l
   pub before : Begins (take k l)
   pub next : k < length l → Begins (take (k + 1) l) → ⊥
-  pub all : k ≡ length l → (imports : List Import) (decls : List Decl) → IsProgram l imports decls → ⊥
+  pub all : k ≡ length l → (imports : List Import) (decls : List Decl)
+      → IsProgram l imports decls → ⊥

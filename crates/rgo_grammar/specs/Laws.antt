@@ -1,4 +1,4 @@
--- What holds of every list of tokens, whatever reads it: it is a program of one tree, or has one first bad token.
+-- Laws of every list of lexemes: it is a program with one tree, or has one first bad lexeme.
 use Rattle.std.specs.Prelude.{◌≡◌, ℕ, ◌⊎◌, List}
 use Rattle.rgo_ast.specs.Tree.{Import, Decl}
 use Rattle.rgo_lexer.specs.Lexemes.{Lexeme}
@@ -8,12 +8,13 @@ use Rattle.rgo_grammar.specs.FirstBad.{IsFirstBad}
 -- the grammar has no two trees of one list
 abbrev pub OneTree : Type 0
 OneTree = (l : List Lexeme) (imports imports' : List Import) (decls decls' : List Decl)
-    → IsProgram l imports decls → IsProgram l imports' decls' → (imports ≡ imports') × (decls ≡ decls')
+    → IsProgram l imports decls → IsProgram l imports' decls'
+    → (imports ≡ imports') × (decls ≡ decls')
 
 abbrev pub OneRefusal : Type 0
 OneRefusal = (l : List Lexeme) (k j : ℕ) → IsFirstBad l k → IsFirstBad l j → k ≡ j
 
--- no list is a program and has a first bad token
+-- no list is a program and has a first bad lexeme
 abbrev pub NeverBoth : Type 0
 NeverBoth = (l : List Lexeme) (imports : List Import) (decls : List Decl) (k : ℕ)
     → IsProgram l imports decls → IsFirstBad l k → ⊥
@@ -21,4 +22,5 @@ NeverBoth = (l : List Lexeme) (imports : List Import) (decls : List Decl) (k : �
 -- each list is the one or has the other
 abbrev pub OneOfBoth : Type 0
 OneOfBoth = (l : List Lexeme)
-    → ((imports : List Import) × (decls : List Decl) × IsProgram l imports decls) ⊎ ((k : ℕ) × IsFirstBad l k)
+    → ((imports : List Import) × (decls : List Decl) × IsProgram l imports decls)
+    ⊎ ((k : ℕ) × IsFirstBad l k)

@@ -1,9 +1,5 @@
 pub mod Grammar
-pub mod Reading
-pub mod ReadTypes
-pub mod ReadExprs
-pub mod ReadStmts
-pub mod ReadDecls
 pub mod FirstBad
 pub mod Nesting
 pub mod Laws
+pub mod reading

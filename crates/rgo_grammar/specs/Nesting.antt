@@ -1,5 +1,6 @@
--- How deeply a list of lexemes nests, by their terminals alone. An open level counts the bracket that
--- began it, its joints since its last `;` or `,`, and its `else` since its last `;` after a `}`.
+-- How deeply a list of lexemes nests, by their terminals alone. An open level counts the bracket
+-- that began it, its joints since its last `;` or `,`, and its `else` since its last `;` after a
+-- `}`.
 use Rattle.std.specs.Prelude.{ℕ, ◌+◌, ◌≤◌, nat_lt, if◌then◌else◌, List, [], ◌∷◌, Option, Some, None, map, sum_by}
 use Rattle.rgo_lexer.specs.declared.terminals.Terminal.{Terminal}
 use Rattle.rgo_lexer.specs.declared.terminals.Terminal.TheVariants.{Binary, Bang, Ampersand, Arrow, OpenParen, CloseParen, OpenBracket, CloseBracket, OpenBrace, CloseBrace, Comma, Semicolon, Dot, Chan, Else, Other}

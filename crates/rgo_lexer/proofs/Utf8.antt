@@ -7,13 +7,18 @@ use Rattle.std.proofs.lemmas.List.{take_all}
 use Rattle.std.proofs.lemmas.Str.{IsUtf8-from_is_utf8, is_utf8-from_IsUtf8}
 
 pub cases_utf8 : (text : List ℕ) → IsUtf8 text ⊎ (¬ (IsUtf8 text))
-cases_utf8 text = elim (cases_Bool (is_utf8 text)) [ inl e ↦ inl (IsUtf8-from_is_utf8 text e) | inr e ↦ inr (λ u. false≢true (sym e ∙ is_utf8-from_IsUtf8 text u)) ]
+cases_utf8 text =
+    elim (cases_Bool (is_utf8 text)) [
+      | inl e ↦ inl (IsUtf8-from_is_utf8 text e)
+      | inr e ↦ inr (λ u. false≢true (sym e ∙ is_utf8-from_IsUtf8 text u))
+    ]
 
 up_to : (text : List ℕ) (n : ℕ) → valid_len_up_to text n ≤ n
 up_to text zero = omega arith
 up_to text (suc n) = by_test (is_utf8 (take (suc n) text)) (up_to text n)
   where
-    by_test : (v : Bool) → valid_len_up_to text n ≤ n → cond v (suc n) (valid_len_up_to text n) ≤ suc n
+    by_test : (v : Bool) → valid_len_up_to text n ≤ n
+        → cond v (suc n) (valid_len_up_to text n) ≤ suc n
     by_test true h = omega arith
     by_test false h = omega arith
 
@@ -21,7 +26,12 @@ pub utf8_stops : (text : List ℕ) → ¬ (IsUtf8 text) → utf8_valid_len text 
 unfolding utf8_valid_len
 utf8_stops [] no' = absurd (no' ([], (refl, refl)))
 utf8_stops (b ∷ text) no' =
-    let whole : is_utf8 (take (suc (length text)) (b ∷ text)) ≡ false = ap is_utf8 (take_all (suc (length text)) (b ∷ text) (omega arith)) ∙ false_from_ne_true (is_utf8 (b ∷ text)) (λ e. no' (IsUtf8-from_is_utf8 (b ∷ text) e)) in
-    let below : valid_len_up_to (b ∷ text) (length text) ≤ length text = up_to (b ∷ text) (length text) in
-    let e : valid_len_up_to (b ∷ text) (suc (length text)) ≡ valid_len_up_to (b ∷ text) (length text) = ap (λ v. cond v (suc (length text)) (valid_len_up_to (b ∷ text) (length text))) whole in
+    let l = b ∷ text in
+    let n = length text in
+    let whole : is_utf8 (take (suc n) l) ≡ false =
+    ap is_utf8 (take_all (suc n) l (omega arith))
+    ∙ false_from_ne_true (is_utf8 l) (λ e. no' (IsUtf8-from_is_utf8 l e)) in
+    let below : valid_len_up_to l n ≤ n = up_to l n in
+    let e : valid_len_up_to l (suc n) ≡ valid_len_up_to l n =
+    ap (λ v. cond v (suc n) (valid_len_up_to l n)) whole in
     omega arith

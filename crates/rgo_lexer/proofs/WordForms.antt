@@ -10,10 +10,16 @@ use Rattle.rgo_lexer.specs.declared.front.Front.TheVariants.{Piece}
 use Rattle.rgo_lexer.specs.declared.terminals.Terminal.{Terminal}
 use Rattle.rgo_lexer.proofs.Runs.{prefix_len-take, prefix_len_some}
 
-pub run_fits : (b : ℕ) (rest : List ℕ) → is_word_byte b ≡ true → IsWidthIn (b ∷ rest) (run_of (b ∷ rest))
-run_fits b rest h = record { some = prefix_len_some is_word_byte b rest h; within = prefix_len-le-length is_word_byte (b ∷ rest) }
+pub run_fits : (b : ℕ) (rest : List ℕ) → is_word_byte b ≡ true
+    → IsWidthIn (b ∷ rest) (run_of (b ∷ rest))
+run_fits b rest h =
+    record {
+      some = prefix_len_some is_word_byte b rest h;
+      within = prefix_len-le-length is_word_byte (b ∷ rest);
+    }
 
-pub word_fits : (b : ℕ) (rest : List ℕ) → is_letter b ≡ true → FitsIn (b ∷ rest) (word_at (b ∷ rest))
+pub word_fits : (b : ℕ) (rest : List ℕ) → is_letter b ≡ true
+    → FitsIn (b ∷ rest) (word_at (b ∷ rest))
 unfolding word_at
 word_fits b rest h = run_fits b rest (or_left (is_letter b) (is_digit b) h)
 
@@ -21,13 +27,16 @@ pub run_again : (text : List ℕ) → run_of (take (run_of text) text) ≡ run_o
 run_again text = prefix_len-take is_word_byte text (run_of text) (omega arith)
 
 -- the run of a run
-pub twice : (text : List ℕ) → take (run_of (take (run_of text) text)) (take (run_of text) text) ≡ take (run_of text) text
+pub twice : (text : List ℕ)
+    → take (run_of (take (run_of text) text)) (take (run_of text) text) ≡ take (run_of text) text
 twice text = rw (run_again text) (take-take (run_of text) (run_of text) text (omega arith))
 
 again : (text : List ℕ) → word_at (take (run_of text) text) ≡ word_at text
 unfolding word_at
 again text = rw (twice text, run_again text) refl
 
-pub word_stable : (text : List ℕ) (terminal : Terminal) (n : ℕ) → word_at text ≡ Piece terminal n → word_at (take n text) ≡ Piece terminal n
+pub word_stable : (text : List ℕ) (terminal : Terminal) (n : ℕ) → word_at text ≡ Piece terminal n
+    → word_at (take n text) ≡ Piece terminal n
 unfolding word_at
-word_stable text terminal n e = let width : n ≡ run_of text = cc in rw width (again text ∙ e ∙ ap (Piece terminal) width)
+word_stable text terminal n e =
+    let width : n ≡ run_of text = cc in rw width (again text ∙ e ∙ ap (Piece terminal) width)

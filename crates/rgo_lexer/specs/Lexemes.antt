@@ -20,6 +20,7 @@ pub record Leaf : Type 0 where
   pub at : ℕ
   pub word : List ℕ
 
+-- a token with its terminal
 pub record Lexeme : Type 0 where
   pub terminal : Terminal
   pub leaf : Leaf

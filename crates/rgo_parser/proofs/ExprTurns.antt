@@ -11,9 +11,9 @@ use Rattle.rgo_lexer.specs.declared.terminals.Terminal.{Terminal}
 use Rattle.rgo_lexer.specs.declared.terminals.Terminal.TheVariants.{Name, New, Make, Number, Text, Binary, Bang, Ampersand, Arrow, OpenParen, CloseParen, OpenBracket, CloseBracket, OpenBrace, CloseBrace, Comma, Dot, Chan}
 use Rattle.rgo_lexer.specs.Lexemes.{Leaf, Lexeme, tok, ident}
 use Rattle.rgo_grammar.specs.Grammar.{level}
-use Rattle.rgo_grammar.specs.Reading.{Read, Done, Failed, At, Starving, ◌>>=◌, given, first_of, token, single, ended, listed, several}
-use Rattle.rgo_grammar.specs.ReadTypes.{a_type}
-use Rattle.rgo_grammar.specs.ReadExprs as r
+use Rattle.rgo_grammar.specs.reading.Read.{Read, Done, Failed, At, Starving, ◌>>=◌, given, first_of, token, single, ended, listed, several}
+use Rattle.rgo_grammar.specs.reading.Types.{a_type}
+use Rattle.rgo_grammar.specs.reading.Expressions as r
 use Rattle.rgo_parser.specs.Agrees.{leaf_at}
 use Rattle.rgo_parser.specs.Expressions as parts
 use Rattle.rgo_parser.specs.declared.prefixes.Prefix.{Prefix}
@@ -265,4 +265,4 @@ unfolding r.expr
 post_starved n v l e = rw e refl
 
 pub ruleset expr_turns =
-  (map-append, keyed_is, operand_is, expr_more, climb_more, unary_more, primary_more, post_more, expr_starved, climb_starved, unary_starved, primary_starved, post_starved)
+    (map-append, keyed_is, operand_is, expr_more, climb_more, unary_more, primary_more, post_more, expr_starved, climb_starved, unary_starved, primary_starved, post_starved)

@@ -3,7 +3,7 @@ use Rattle.std.specs.Prelude.{◌≡◌, ◌≢◌, ℕ, List, [], Option, Some,
 use denote.Ref.{Bor}
 use Rattle.rgo_ast.specs.declared.names.Ident.{Ident}
 use Rattle.rgo_lexer.specs.Lexemes.{Leaf, Lexeme}
-use Rattle.rgo_grammar.specs.Reading.{Read, Done, Failed, Stop, At, Starving}
+use Rattle.rgo_grammar.specs.reading.Read.{Read, Done, Failed, Stop, At, Starving}
 use Rattle.rgo_parser.specs.declared.reader.Fault.{Fault}
 use Rattle.rgo_parser.specs.declared.reader.Fault.TheVariants as fault
 

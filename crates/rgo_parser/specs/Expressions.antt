@@ -17,9 +17,9 @@ use Rattle.rgo_lexer.specs.declared.terminals.Terminal.TheVariants.{OpenBracket,
 use Rattle.rgo_lexer.specs.Lexemes.{Leaf, Lexeme, ident}
 use Rattle.rgo_lexer.specs.Strings.{string_of}
 use Rattle.rgo_grammar.specs.Grammar.{level}
-use Rattle.rgo_grammar.specs.Reading.{Read, Done, Failed, At, ◌>>=◌, given, first_of, token}
-use Rattle.rgo_grammar.specs.ReadTypes.{a_type}
-use Rattle.rgo_grammar.specs.ReadExprs.{make_end, new_at}
+use Rattle.rgo_grammar.specs.reading.Read.{Read, Done, Failed, At, ◌>>=◌, given, first_of, token}
+use Rattle.rgo_grammar.specs.reading.Types.{a_type}
+use Rattle.rgo_grammar.specs.reading.Expressions.{make_end, new_at}
 use Rattle.rgo_parser.specs.declared.prefixes.Prefix.{Prefix}
 use Rattle.rgo_parser.specs.declared.prefixes.Prefix.TheVariants as prefix
 use Rattle.rgo_parser.specs.declared.suffixes.Suffix.{Suffix}

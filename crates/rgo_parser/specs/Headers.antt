@@ -5,8 +5,8 @@ use Rattle.rgo_ast.specs.Views.{expr_of, boxed_expr_of, boxed_stmt_of}
 use Rattle.rgo_lexer.specs.declared.terminals.Terminal.{Terminal}
 use Rattle.rgo_lexer.specs.declared.terminals.Terminal.TheVariants.{OpenBrace}
 use Rattle.rgo_lexer.specs.Lexemes.{Lexeme}
-use Rattle.rgo_grammar.specs.Reading.{Read, Done, Failed, At, ◌>>=◌, given, first_of}
-use Rattle.rgo_grammar.specs.ReadStmts as reading
+use Rattle.rgo_grammar.specs.reading.Read.{Read, Done, Failed, At, ◌>>=◌, given, first_of}
+use Rattle.rgo_grammar.specs.reading.Statements as reading
 use Rattle.rgo_parser.specs.declared.headers.Head.{Head}
 use Rattle.rgo_parser.specs.declared.headers.Head.TheVariants as head
 use Rattle.rgo_parser.specs.declared.headers.IfHeader.{IfHeader}

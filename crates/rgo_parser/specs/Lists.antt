@@ -5,7 +5,7 @@ use Rattle.std.specs.declared.alloc.Global.{Global}
 use Rattle.std.specs.declared.vec.Vec.{Vec}
 use Rattle.rgo_lexer.specs.declared.terminals.Terminal.{Terminal}
 use Rattle.rgo_lexer.specs.Lexemes.{Leaf, Lexeme, same}
-use Rattle.rgo_grammar.specs.Reading.{Read, Done, Failed, At, first_of}
+use Rattle.rgo_grammar.specs.reading.Read.{Read, Done, Failed, At, first_of}
 
 -- before an item: the lexeme that closes the list, or none
 abbrev pub closes_on : Terminal → List Lexeme → Option (Lexeme × List Lexeme) → Read (Option Leaf)

@@ -1,5 +1,5 @@
--- What `parse` says of a list of lexemes: they are a program, or what is wrong with them first. A lexeme's number is that of the
--- lexemes before it; the number of all stands for the text's end.
+-- What `parse` says of a list of lexemes: they are a program, or what is wrong with them first. A
+-- lexeme's number is that of the lexemes before it; the number of all means the text's end.
 use Rattle.std.specs.Prelude.{◌≡◌, ℕ, ◌+◌, List, take, None, Some}
 use Rattle.rgo_ast.specs.Tree.{Program}
 use Rattle.rgo_lexer.specs.Lexemes.{Lexeme}

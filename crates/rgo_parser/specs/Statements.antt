@@ -7,9 +7,9 @@ use Rattle.rgo_ast.specs.Views.{stmt_of}
 use Rattle.rgo_lexer.specs.declared.terminals.Terminal.{Terminal}
 use Rattle.rgo_lexer.specs.declared.terminals.Terminal.TheVariants.{OpenBrace, Semicolon, Var, Go, If, Else, For, Return, Break, Continue}
 use Rattle.rgo_lexer.specs.Lexemes.{Leaf, Lexeme}
-use Rattle.rgo_grammar.specs.Reading.{Read, Done, Failed, At, ◌>>=◌, given, first_of}
-use Rattle.rgo_grammar.specs.ReadExprs.{expr}
-use Rattle.rgo_grammar.specs.ReadStmts as reading
+use Rattle.rgo_grammar.specs.reading.Read.{Read, Done, Failed, At, ◌>>=◌, given, first_of}
+use Rattle.rgo_grammar.specs.reading.Expressions.{expr}
+use Rattle.rgo_grammar.specs.reading.Statements as reading
 use Rattle.rgo_parser.specs.declared.openings.Leading.{Leading as CodeLeading}
 use Rattle.rgo_parser.specs.declared.openings.Leading.TheVariants as code_leading
 use Rattle.rgo_parser.specs.declared.openings.Else.{Else as CodeElse}

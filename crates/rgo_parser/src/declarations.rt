@@ -2,10 +2,11 @@
 #![tactic(auto, using(rgo_ast::proofs::Rows::rows))]
 
 ghost use Rattle.std.specs.Prelude.{◌≡◌, option_map};
-ghost use Rattle.rgo_ast.specs.Views.{type_expr_of, function_of, decl_of, import_of};
+ghost use Rattle.rgo_ast.specs.Views.{type_expr_of, type_spec_of, function_of, decl_of, import_of};
 ghost use Rattle.rgo_ast.specs.Tree as tree;
-ghost use Rattle.rgo_grammar.specs.Reading.{first_of};
-ghost use Rattle.rgo_grammar.specs.ReadDecls as reading;
+ghost use Rattle.rgo_ast.specs.declared.names.ImportPath.{ImportPath};
+ghost use Rattle.rgo_grammar.specs.reading.Read.{first_of};
+ghost use Rattle.rgo_grammar.specs.reading.Declarations as reading;
 ghost use Rattle.rgo_parser.specs.Agrees.{Agrees, leaf_at};
 
 use crate::lists::{Item, group, list};
@@ -17,14 +18,11 @@ use rgo_lexer::{Terminal, unquoted};
 use std::alloc::Global;
 
 impl Item for ImportPath {
-    ghost use Rattle.rgo_ast.specs.declared.names.ImportPath.{ImportPath};
-    ghost use Rattle.rgo_grammar.specs.ReadDecls as reading_decls;
-
     ghost Tree = { ImportPath };
 
-    ghost tree = { λ path. path };
+    ghost tree_of = { λ path. path };
 
-    ghost reading = { λ _. reading_decls.import_path };
+    ghost reads = { λ _. reading.import_path };
 
     /// The path of an import.
     fn read<'a>(alloc: Global, reader: &mut Reader<'a>, _turns: usize) -> Read<ImportPath> {
@@ -37,15 +35,11 @@ impl Item for ImportPath {
 }
 
 impl Item for TypeSpec {
-    ghost use Rattle.rgo_ast.specs.Views.{type_spec_of};
-    ghost use Rattle.rgo_ast.specs.Tree as tree;
-    ghost use Rattle.rgo_grammar.specs.ReadDecls as reading_decls;
-
     ghost Tree = { tree.TypeSpec };
 
-    ghost tree = { type_spec_of };
+    ghost tree_of = { type_spec_of };
 
-    ghost reading = { reading_decls.type_spec };
+    ghost reads = { reading.type_spec };
 
     /// A type with its name.
     fn read<'a>(alloc: Global, reader: &mut Reader<'a>, turns: usize) -> Read<TypeSpec> {
@@ -78,11 +72,7 @@ pub(crate) fn import<'a>(
 }
 
 // The type of a function's result, if it has one, up to the function's block.
-fn result_type<'a>(
-    alloc: Global,
-    reader: &mut Reader<'a>,
-    turns: usize,
-) -> Read<Option<TypeExpr>>
+fn result_type<'a>(alloc: Global, reader: &mut Reader<'a>, turns: usize) -> Read<Option<TypeExpr>>
     ensures { Agrees (option_map type_expr_of) result reader.new
         (reading.result_on turns reader.old (first_of reader.old)) }
 {
@@ -102,13 +92,7 @@ fn func<'a>(alloc: Global, reader: &mut Reader<'a>, turns: usize, at: usize) -> 
 {
     let name = reader.name(alloc)?;
     reader.take(Terminal::OpenParen)?;
-    let (params, _) = list::<Binding>(
-        alloc,
-        reader,
-        turns,
-        Terminal::Comma,
-        Terminal::CloseParen,
-    )?;
+    let (params, _) = list::<Binding>(alloc, reader, turns, Terminal::Comma, Terminal::CloseParen)?;
     let result_type = result_type(alloc, reader, turns)?;
     let (body, end) = block(alloc, reader, turns)?;
     Ok(Function {

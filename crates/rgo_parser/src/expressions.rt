@@ -1,12 +1,13 @@
-//! Expressions, by precedence.
-#![tactic(auto, using(rgo_ast::proofs::Rows::rows, crate::proofs::ListTurns::list_turns, crate::proofs::ExprTurns::expr_turns))]
+//! Expressions, by precedence: the functions that read an expression within an expression.
+#![tactic(auto, using(rgo_ast::proofs::Rows::rows, crate::proofs::ListTurns::list_turns, crate::proofs::ExprTurns::expr_turns,))]
 
 ghost use Rattle.std.specs.Prelude.{◌≡◌, ◌-◌, ◌<◌, ◌++◌, ◌∷◌, [], IfOk, false, map};
 ghost use Rattle.rgo_ast.specs.Views.{expr_of, element_of};
-ghost use Rattle.rgo_grammar.specs.ReadExprs as reading;
-ghost use Rattle.rgo_grammar.specs.Reading.{several};
+ghost use Rattle.rgo_grammar.specs.reading.Expressions as reading;
+ghost use Rattle.rgo_grammar.specs.reading.Read.{several};
 ghost use Rattle.rgo_lexer.specs.declared.terminals.Terminal.TheVariants as terminal;
-ghost use Rattle.rgo_parser.specs.Agrees.{Agrees, leaf_at};
+ghost use Rattle.rgo_parser.specs.Agrees.{Agrees, leaf_at, leaf_of};
+ghost use Rattle.rgo_lexer.specs.Lexemes.{ident};
 ghost use Rattle.rgo_parser.specs.Expressions.{boxed_of};
 ghost use Rattle.rgo_parser.specs.Lists.{listed_by};
 
@@ -21,28 +22,25 @@ use std::alloc::{AllocError, Global};
 
 // Adds an expression to a list.
 fn push_expr(found: &mut Vec<Expr>, value: Box<Expr>) -> Result<(), AllocError>
-    ensures { IfOk result (λ _. map expr_of found.new.items ≡ map expr_of found.old.items ++ expr_of value.value ∷ []) }
+    ensures { IfOk result (λ _. map expr_of found.new.items
+        ≡ map expr_of found.old.items ++ expr_of value.value ∷ []) }
 {
     found.push(Box::into_inner(value))?;
     Ok(())
 }
 
 // Adds an element with its field to a list.
-fn push_element(
-    found: &mut Vec<Element>,
-    field: Ident,
-    value: Box<Expr>,
-) -> Result<(), AllocError>
+fn push_element(found: &mut Vec<Element>, field: Ident, value: Box<Expr>) -> Result<(), AllocError>
     ensures { IfOk result (λ _. map element_of found.new.items
-        ≡ map element_of found.old.items ++ (field, expr_of value.value) ∷ []) }
+        ≡ map element_of found.old.items ++ (ident (leaf_of field), expr_of value.value) ∷ []) }
 {
     let value = Box::into_inner(value);
     found.push(Element { field, value })?;
     Ok(())
 }
 
-/// An expression whose operators bind at least so tightly; `header` says that it is between `if` or `for` and its block,
-/// outside brackets.
+/// An expression whose operators bind at least as tightly as `least`; `header` says that it is between
+/// `if` or `for` and its block, outside brackets.
 #[cycle(expressions)]
 pub(crate) fn expr<'a>(
     alloc: Global,
@@ -60,7 +58,7 @@ pub(crate) fn expr<'a>(
     climb(alloc, reader, header, turns - 1, least, left)
 }
 
-// The operators after an expression that bind at least so tightly.
+// The operators after an expression that bind at least as tightly as `least`.
 #[cycle(expressions)]
 fn climb<'a>(
     alloc: Global,
@@ -84,6 +82,7 @@ fn climb<'a>(
     climb(alloc, reader, header, turns - 1, least, joined)
 }
 
+// A unary expression.
 #[cycle(expressions)]
 fn unary<'a>(alloc: Global, reader: &mut Reader<'a>, header: bool, turns: usize) -> Read<Box<Expr>>
     ensures { Agrees boxed_of result reader.new (reading.unary header turns reader.old) }
@@ -101,6 +100,7 @@ fn unary<'a>(alloc: Global, reader: &mut Reader<'a>, header: bool, turns: usize)
     }
 }
 
+// A primary expression: an operand and what comes after it.
 #[cycle(expressions)]
 fn primary<'a>(alloc: Global, reader: &mut Reader<'a>, turns: usize) -> Read<Box<Expr>>
     ensures { Agrees boxed_of result reader.new (reading.primary turns reader.old) }
@@ -120,7 +120,12 @@ fn primary<'a>(alloc: Global, reader: &mut Reader<'a>, turns: usize) -> Read<Box
 
 // What comes after a primary expression.
 #[cycle(expressions)]
-fn post<'a>(alloc: Global, reader: &mut Reader<'a>, turns: usize, value: Box<Expr>) -> Read<Box<Expr>>
+fn post<'a>(
+    alloc: Global,
+    reader: &mut Reader<'a>,
+    turns: usize,
+    value: Box<Expr>,
+) -> Read<Box<Expr>>
     ensures { Agrees boxed_of result reader.new
         (reading.post turns (expr_of value.value) reader.old) }
 {
@@ -172,7 +177,7 @@ pub(crate) fn exprs<'a>(
     Err(Fault::Starved)
 }
 
-/// Elements with their fields up to the brace that closes them; their values are read in a turn less.
+// Elements with their fields up to the brace that closes them; their values are read with one turn less.
 #[cycle(expressions)]
 fn elements<'a>(alloc: Global, reader: &mut Reader<'a>, turns: usize) -> Listed<'a, Element>
     ensures { Agrees (listed_by element_of) result reader.new
@@ -195,7 +200,7 @@ fn elements<'a>(alloc: Global, reader: &mut Reader<'a>, turns: usize) -> Listed<
     Err(Fault::Starved)
 }
 
-// A composite literal after its `&`; its values are read in a turn less.
+// A composite literal after its `&`; its values are read with one turn less.
 #[cycle(expressions)]
 fn literal<'a>(alloc: Global, reader: &mut Reader<'a>, turns: usize, at: usize) -> Read<Box<Expr>>
     requires { 0 < turns }

@@ -3,9 +3,9 @@
 
 ghost use Rattle.std.specs.Prelude.{◌≡◌, true};
 ghost use Rattle.rgo_ast.specs.Views.{stmt_of, boxed_expr_of, boxed_stmt_of};
-ghost use Rattle.rgo_grammar.specs.ReadExprs as reading_exprs;
-ghost use Rattle.rgo_grammar.specs.ReadStmts as reading;
-ghost use Rattle.rgo_grammar.specs.Reading.{first_of};
+ghost use Rattle.rgo_grammar.specs.reading.Expressions as reading_exprs;
+ghost use Rattle.rgo_grammar.specs.reading.Statements as reading;
+ghost use Rattle.rgo_grammar.specs.reading.Read.{first_of};
 ghost use Rattle.rgo_parser.specs.Agrees.{Agrees};
 ghost use Rattle.rgo_parser.specs.Headers as headers;
 
@@ -16,7 +16,8 @@ use rgo_ast::{Expr, Stmt};
 use rgo_lexer::Terminal;
 use std::alloc::Global;
 
-/// A header up to its block or its first `;`: a condition before a block, or a statement, which may be empty, and its `;`.
+/// A header up to its block or its first `;`: a condition before a block, or a statement, which may be
+/// empty, and its `;`.
 #[derive(Drop)]
 enum Head {
     Condition(Box<Expr>),

@@ -1,4 +1,10 @@
 //! The parser: the tree of a text's lexemes, or the first lexeme that is wrong.
+//!
+//! `parse` is what the compiler calls. Each private function reads one production of the grammar from
+//! a `Reader`, and its contract says that it agrees with the reading function of rgo_grammar for that
+//! production. rgo_grammar proves that the reading functions find the one tree or the first bad lexeme.
+//! The functions that call each other in a cycle are those of `expressions` and of `statements`; what
+//! they can read without the cycle is in the other files.
 #![tactic(auto)]
 
 mod declarations;

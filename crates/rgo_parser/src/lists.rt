@@ -2,8 +2,8 @@
 #![tactic(auto, using(crate::proofs::ListTurns::list_turns))]
 
 ghost use Rattle.std.specs.Prelude.{◌≡◌, [], map, ℕ, List};
-ghost use Rattle.rgo_grammar.specs.Reading as reading;
-ghost use Rattle.rgo_grammar.specs.ReadDecls as reading_decls;
+ghost use Rattle.rgo_grammar.specs.reading.Read as reading;
+ghost use Rattle.rgo_grammar.specs.reading.Declarations as reading_decls;
 ghost use Rattle.rgo_lexer.specs.Lexemes as lexemes;
 ghost use Rattle.rgo_parser.specs.Agrees.{Agrees, leaf_in};
 ghost use Rattle.rgo_parser.specs.Lists.{closes, separated, ending_of, listed_by};
@@ -53,12 +53,14 @@ pub(crate) fn separated<'a>(
 /// What is read one by one in a list.
 pub(crate) trait Item: Drop {
     ghost Tree: { Type 0 };
-    ghost tree: { Self → Tree };
-    ghost reading: { ℕ → List lexemes.Lexeme → reading.Read Tree };
+
+    ghost tree_of: { Self → Tree };
+
+    ghost reads: { ℕ → List lexemes.Lexeme → reading.Read Tree };
 
     /// One item.
     fn read<'a>(alloc: Global, reader: &mut Reader<'a>, turns: usize) -> Read<Self>
-        ensures { Agrees tree result reader.new (reading turns reader.old) };
+        ensures { Agrees tree_of result reader.new (reads turns reader.old) };
 }
 
 /// Items up to the lexeme that closes them.
@@ -69,8 +71,8 @@ pub(crate) fn list<'a, T: Item>(
     separator: Terminal,
     closer: Terminal,
 ) -> Listed<'a, T>
-    ensures { Agrees (listed_by T.tree) result reader.new
-        (reading.several separator closer (T.reading turns) turns [] reader.old) }
+    ensures { Agrees (listed_by T.tree_of) result reader.new
+        (reading.several separator closer (T.reads turns) turns [] reader.old) }
 {
     let mut found = Vec::new(alloc);
     for turn in 0..turns {
@@ -92,8 +94,8 @@ pub(crate) fn group<'a, T: Item>(
     reader: &mut Reader<'a>,
     turns: usize,
 ) -> Read<Vec<T>>
-    ensures { Agrees (λ x. map T.tree x.items) result reader.new
-        (reading_decls.group (T.reading turns) turns reader.old) }
+    ensures { Agrees (λ x. map T.tree_of x.items) result reader.new
+        (reading_decls.group (T.reads turns) turns reader.old) }
 {
     let Some(lexeme) = reader.peek() else {
         return Err(Fault::Syntax);

@@ -2,10 +2,11 @@
 #![tactic(auto, using(rgo_ast::proofs::Rows::rows, crate::proofs::StmtTurns::vars_are))]
 
 ghost use Rattle.std.specs.Prelude.{◌≡◌, false};
+ghost use Rattle.rgo_ast.specs.Tree as tree;
 ghost use Rattle.rgo_ast.specs.Views.{type_expr_of, local_var_of, stmt_of};
-ghost use Rattle.rgo_grammar.specs.ReadExprs as reading_exprs;
-ghost use Rattle.rgo_grammar.specs.ReadStmts as reading;
-ghost use Rattle.rgo_grammar.specs.Reading.{first_of};
+ghost use Rattle.rgo_grammar.specs.reading.Expressions as reading_exprs;
+ghost use Rattle.rgo_grammar.specs.reading.Statements as reading;
+ghost use Rattle.rgo_grammar.specs.reading.Read.{first_of};
 ghost use Rattle.rgo_parser.specs.Agrees.{Agrees, leaf_at, leaf_of};
 
 use crate::expressions::expr;
@@ -25,7 +26,8 @@ fn initial<'a>(
     ty: TypeExpr,
 ) -> Read<LocalVar>
     ensures { Agrees local_var_of result reader.new
-        (reading.initial (reading_exprs.expr false turns 1) (leaf_of one) (type_expr_of ty) reader.old (first_of reader.old)) }
+        (reading.initial (reading_exprs.expr false turns 1) (leaf_of one) (type_expr_of ty) reader.old
+        (first_of reader.old)) }
 {
     if let Some(lexeme) = reader.peek() {
         if let Terminal::Assign(AssignOp::Plain) = lexeme.terminal {
@@ -40,17 +42,11 @@ fn initial<'a>(
 }
 
 impl Item for LocalVar {
-    ghost use Rattle.std.specs.Prelude.{false};
-    ghost use Rattle.rgo_ast.specs.Views.{local_var_of};
-    ghost use Rattle.rgo_ast.specs.Tree as tree;
-    ghost use Rattle.rgo_grammar.specs.ReadExprs as reading_exprs;
-    ghost use Rattle.rgo_grammar.specs.ReadStmts as reading_stmts;
-
     ghost Tree = { tree.LocalVar };
 
-    ghost tree = { local_var_of };
+    ghost tree_of = { local_var_of };
 
-    ghost reading = { λ n. reading_stmts.local n (reading_exprs.expr false n 1) };
+    ghost reads = { λ n. reading.local n (reading_exprs.expr false n 1) };
 
     /// Names with their type or value.
     fn read<'a>(alloc: Global, reader: &mut Reader<'a>, turns: usize) -> Read<LocalVar> {

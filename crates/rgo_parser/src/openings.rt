@@ -3,9 +3,9 @@
 
 ghost use Rattle.std.specs.Prelude.{◌≡◌, false};
 ghost use Rattle.rgo_ast.specs.Views.{stmt_of};
-ghost use Rattle.rgo_grammar.specs.ReadExprs as reading_exprs;
-ghost use Rattle.rgo_grammar.specs.ReadStmts as reading;
-ghost use Rattle.rgo_grammar.specs.Reading.{first_of};
+ghost use Rattle.rgo_grammar.specs.reading.Expressions as reading_exprs;
+ghost use Rattle.rgo_grammar.specs.reading.Statements as reading;
+ghost use Rattle.rgo_grammar.specs.reading.Read.{first_of};
 ghost use Rattle.rgo_parser.specs.Agrees.{Agrees, leaf_at};
 ghost use Rattle.rgo_parser.specs.Statements as statements;
 
@@ -17,7 +17,8 @@ use rgo_ast::Stmt;
 use rgo_lexer::Terminal;
 use std::alloc::Global;
 
-/// A statement that holds no other, which was read whole, or the place where another one begins, after its keyword or `{`.
+/// A statement that holds no other, which was read whole, or the place where another one begins, after its
+/// keyword or `{`.
 #[derive(Drop)]
 pub(crate) enum Leading {
     Empty,
@@ -27,7 +28,8 @@ pub(crate) enum Leading {
     For(usize),
 }
 
-/// What comes after the block of an `if`: nothing, an `if` after its keyword or a block from its `{` on, with its place.
+/// What comes after the block of an `if`: nothing, an `if` after its keyword, or a block from its `{` on,
+/// with its place.
 #[derive(Clone, Copy)]
 pub(crate) enum Else {
     None,
@@ -38,7 +40,8 @@ pub(crate) enum Else {
 // A `return` statement after its keyword, which is at a place.
 fn returned<'a>(alloc: Global, reader: &mut Reader<'a>, turns: usize, at: usize) -> Read<Stmt>
     ensures { Agrees stmt_of result reader.new
-        (reading.return_on (reading_exprs.expr false turns 1) (leaf_at at) reader.old (first_of reader.old)) }
+        (reading.return_on (reading_exprs.expr false turns 1) (leaf_at at) reader.old
+        (first_of reader.old)) }
 {
     let Some(lexeme) = reader.peek() else {
         return Err(Fault::Syntax);
@@ -64,7 +67,11 @@ fn going<'a>(alloc: Global, reader: &mut Reader<'a>, turns: usize, at: usize) ->
 }
 
 /// A statement that holds no other, or what another one begins with.
-pub(crate) fn read_leading<'a>(alloc: Global, reader: &mut Reader<'a>, turns: usize) -> Read<Leading>
+pub(crate) fn read_leading<'a>(
+    alloc: Global,
+    reader: &mut Reader<'a>,
+    turns: usize,
+) -> Read<Leading>
     ensures { Agrees statements.leading_of result reader.new (statements.leading turns reader.old) }
 {
     let Some(lexeme) = reader.peek() else {

@@ -4,7 +4,7 @@
 ghost use Rattle.std.specs.Prelude.{◌≡◌, IfOk};
 ghost use Rattle.rgo_ast.specs.Tree as tree;
 ghost use Rattle.rgo_ast.specs.Views.{expr_of, type_expr_of};
-ghost use Rattle.rgo_grammar.specs.ReadExprs as reading;
+ghost use Rattle.rgo_grammar.specs.reading.Expressions as reading;
 ghost use Rattle.rgo_parser.specs.Agrees.{Agrees, leaf_at, leaf_in};
 ghost use Rattle.rgo_parser.specs.Expressions as parts;
 
@@ -44,13 +44,19 @@ fn new_at<'a>(alloc: Global, reader: &mut Reader<'a>, at: usize) -> Read<Box<Exp
 
 // A channel with no capacity.
 fn plain_chan(alloc: Global, element: Box<TypeExpr>, at: usize) -> Result<Box<Expr>, AllocError>
-    ensures { IfOk result (λ e. expr_of e.value ≡ tree.MakeChan (type_expr_of element.value) tree.no_capacity at) }
+    ensures { IfOk result
+        (λ e. expr_of e.value ≡ tree.MakeChan (type_expr_of element.value) tree.no_capacity at) }
 {
     Ok(Box::new(alloc, Expr::MakeChan(Box::into_inner(element), None, at))?)
 }
 
 // After the `,` after a channel's type.
-fn capacity<'a>(alloc: Global, reader: &mut Reader<'a>, element: Box<TypeExpr>, at: usize) -> Read<Opening>
+fn capacity<'a>(
+    alloc: Global,
+    reader: &mut Reader<'a>,
+    element: Box<TypeExpr>,
+    at: usize,
+) -> Read<Opening>
     ensures { Agrees parts.opening_of result reader.new
         (parts.capacity (leaf_at at) (type_expr_of element.value) reader.old) }
 {
@@ -67,7 +73,12 @@ fn capacity<'a>(alloc: Global, reader: &mut Reader<'a>, element: Box<TypeExpr>, 
 }
 
 // After a channel's type.
-fn sized<'a>(alloc: Global, reader: &mut Reader<'a>, element: Box<TypeExpr>, at: usize) -> Read<Opening>
+fn sized<'a>(
+    alloc: Global,
+    reader: &mut Reader<'a>,
+    element: Box<TypeExpr>,
+    at: usize,
+) -> Read<Opening>
     ensures { Agrees parts.opening_of result reader.new
         (parts.sized (leaf_at at) (type_expr_of element.value) reader.old) }
 {
@@ -112,7 +123,11 @@ fn made<'a>(alloc: Global, reader: &mut Reader<'a>, turns: usize, at: usize) -> 
 }
 
 /// An operand, up to the expression that it holds.
-pub(crate) fn open_operand<'a>(alloc: Global, reader: &mut Reader<'a>, turns: usize) -> Read<Opening>
+pub(crate) fn open_operand<'a>(
+    alloc: Global,
+    reader: &mut Reader<'a>,
+    turns: usize,
+) -> Read<Opening>
     ensures { Agrees parts.opening_of result reader.new (parts.opening turns reader.old) }
 {
     let Some(lexeme) = reader.peek() else {
@@ -169,7 +184,12 @@ fn make_end<'a>(reader: &mut Reader<'a>) -> Read<&'a Lexeme<'a>>
 }
 
 /// An operand from the end of the expression that it holds on.
-pub(crate) fn close_operand<'a>(alloc: Global, reader: &mut Reader<'a>, bracket: Bracket, value: Box<Expr>) -> Read<Box<Expr>>
+pub(crate) fn close_operand<'a>(
+    alloc: Global,
+    reader: &mut Reader<'a>,
+    bracket: Bracket,
+    value: Box<Expr>,
+) -> Read<Box<Expr>>
     ensures { Agrees parts.boxed_of result reader.new
         (parts.closing (parts.bracket_of bracket) (expr_of value.value) reader.old) }
 {

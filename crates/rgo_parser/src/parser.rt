@@ -18,8 +18,8 @@ use thiserror::Error;
 /// How deep a program may nest.
 const LIMIT: usize = 200;
 
-/// Why lexemes are not a program: what is wrong first, and the number of the lexeme where it is, counted from 0. The number of
-/// all lexemes stands for the text's end.
+/// Why lexemes are not a program: what is wrong first, and the number of the lexeme where it is, counted
+/// from 0. The number of all lexemes means the text's end.
 #[derive(Clone, Copy, Debug, PartialEq, Eq, Error)]
 pub enum ParseRefusal {
     /// No program continues with this lexeme.
@@ -47,14 +47,15 @@ impl From<AllocError> for ParseError {
     }
 }
 
-// The imports and the declarations of a whole list of lexemes, or the number of the first with which no program continues. The
-// outer error says that memory ran out.
+// The imports and the declarations of a whole list of lexemes, or the number of the first with which no
+// program continues. The outer error says that memory ran out.
 fn whole<'a>(
     alloc: Global,
     lexemes: &'a [Lexeme<'a>],
 ) -> Result<Result<(Vec<Import>, Vec<Decl>), usize>, AllocError>
     ensures { IfOk result (λ read. MatchResult read
-        (λ x. IsProgram lexemes.now (map import_of x.0.items) (map decl_of x.1.items)) (IsFirstBad lexemes.now)) }
+        (λ x. IsProgram lexemes.now (map import_of x.0.items) (map decl_of x.1.items))
+        (IsFirstBad lexemes.now)) }
 {
     let mut reader = Reader::new(lexemes);
     match program(alloc, &mut reader, 4 * lexemes.len() + 4) {

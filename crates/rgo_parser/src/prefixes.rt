@@ -3,7 +3,7 @@
 
 ghost use Rattle.std.specs.Prelude.{◌≡◌};
 ghost use Rattle.rgo_grammar.specs.Grammar.{level};
-ghost use Rattle.rgo_grammar.specs.Reading.{Done};
+ghost use Rattle.rgo_grammar.specs.reading.Read.{Done};
 ghost use Rattle.rgo_parser.specs.Agrees.{Agrees};
 ghost use Rattle.rgo_parser.specs.Expressions as parts;
 
@@ -19,7 +19,8 @@ pub(crate) enum Prefix {
     Literal(usize),
 }
 
-/// How tightly an operator binds (The Go Programming Language Specification, "Operator precedence").
+/// How tightly an operator binds (The Go Programming Language Specification, "Operator
+/// precedence").
 pub(crate) fn level(op: BinaryOp) -> u8
     ensures { result ≡ level op }
 {
@@ -33,7 +34,8 @@ pub(crate) fn level(op: BinaryOp) -> u8
     }
 }
 
-/// A binary operator that binds at least so tightly, with its place; none where no such operator is next.
+/// A binary operator that binds at least as tightly as `least`, with its place; none where no such
+/// operator is next.
 pub(crate) fn operator<'a>(reader: &mut Reader<'a>, least: u8) -> Option<(BinaryOp, usize)>
     ensures { parts.operator least reader.old ≡ Done result reader.new }
 {

@@ -3,7 +3,7 @@
 
 ghost use Rattle.std.specs.Prelude.{◌≡◌, [], map};
 ghost use Rattle.rgo_ast.specs.Views.{decl_of, import_of};
-ghost use Rattle.rgo_grammar.specs.ReadDecls as reading;
+ghost use Rattle.rgo_grammar.specs.reading.Declarations as reading;
 ghost use Rattle.rgo_parser.specs.Agrees.{Agrees, leaf_in};
 
 use crate::declarations::{decl, import};

@@ -1,8 +1,12 @@
 //! The reader of a text's lexemes, and what it reads of single ones.
+//!
+//! Each function that reads takes the reader, which it moves past what it has read. Where it fails, the
+//! reader is at the lexeme that is not allowed. Functions that repeat or recur take `turns`, a bound on
+//! both that is one less for each part; `parse` passes a bound that no list of lexemes reaches.
 
 ghost use Rattle.std.specs.Prelude.{◌≡◌, ◌++◌, ◌∷◌, [], true, drop, length, IfOk, MatchOption, None, Some};
-ghost use Rattle.rgo_grammar.specs.Reading as reading;
-ghost use Rattle.rgo_grammar.specs.Reading.{first_of};
+ghost use Rattle.rgo_grammar.specs.reading.Read as reading;
+ghost use Rattle.rgo_grammar.specs.reading.Read.{first_of};
 ghost use Rattle.rgo_lexer.specs.declared.terminals.Terminal.TheVariants as terminal;
 ghost use Rattle.rgo_parser.specs.Agrees.{Agrees, leaf_of, leaf_in};
 

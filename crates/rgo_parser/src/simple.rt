@@ -3,8 +3,8 @@
 
 ghost use Rattle.std.specs.Prelude.{◌≡◌};
 ghost use Rattle.rgo_ast.specs.Views.{stmt_of};
-ghost use Rattle.rgo_grammar.specs.ReadExprs as reading_exprs;
-ghost use Rattle.rgo_grammar.specs.ReadStmts as reading;
+ghost use Rattle.rgo_grammar.specs.reading.Expressions as reading_exprs;
+ghost use Rattle.rgo_grammar.specs.reading.Statements as reading;
 ghost use Rattle.rgo_parser.specs.Agrees.{Agrees};
 
 use crate::expressions::expr;
@@ -13,7 +13,8 @@ use rgo_ast::Stmt;
 use rgo_lexer::Terminal;
 use std::alloc::Global;
 
-/// A simple statement that begins with an expression; `header` says that it is between `if` or `for` and its block.
+/// A simple statement that begins with an expression; `header` says that it is between `if` or `for`
+/// and its block.
 pub(crate) fn valued<'a>(
     alloc: Global,
     reader: &mut Reader<'a>,

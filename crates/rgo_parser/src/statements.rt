@@ -1,10 +1,10 @@
-//! Statements and blocks.
-#![tactic(auto, using(rgo_ast::proofs::Rows::rows, crate::proofs::ListTurns::listed_turns, crate::proofs::StmtTurns::stmt_turns))]
+//! Statements and blocks: the functions that read a statement within a statement.
+#![tactic(auto, using(rgo_ast::proofs::Rows::rows, crate::proofs::ListTurns::listed_turns, crate::proofs::StmtTurns::stmt_turns,))]
 
 ghost use Rattle.std.specs.Prelude.{◌≡◌};
 ghost use Rattle.rgo_ast.specs.Views.{stmt_of, boxed_stmt_of};
-ghost use Rattle.rgo_grammar.specs.ReadStmts as reading;
-ghost use Rattle.rgo_grammar.specs.Reading.{first_of};
+ghost use Rattle.rgo_grammar.specs.reading.Statements as reading;
+ghost use Rattle.rgo_grammar.specs.reading.Read.{first_of};
 ghost use Rattle.rgo_parser.specs.Agrees.{Agrees, leaf_at};
 ghost use Rattle.rgo_parser.specs.Lists.{listed_by};
 ghost use Rattle.rgo_parser.specs.Statements.{if_at, for_at, stmt_list_of};

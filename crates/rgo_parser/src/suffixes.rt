@@ -2,7 +2,7 @@
 #![tactic(auto, using(rgo_ast::proofs::Rows::rows))]
 
 ghost use Rattle.std.specs.Prelude.{◌≡◌};
-ghost use Rattle.rgo_grammar.specs.ReadExprs as reading;
+ghost use Rattle.rgo_grammar.specs.reading.Expressions as reading;
 ghost use Rattle.rgo_parser.specs.Agrees.{Agrees};
 ghost use Rattle.rgo_parser.specs.Expressions as parts;
 
@@ -11,7 +11,7 @@ use rgo_ast::Ident;
 use rgo_lexer::Terminal;
 use std::alloc::Global;
 
-/// What comes after a primary expression: a field, an index from its `[` on, a call from its `(` on, or nothing.
+/// What comes after a primary expression: a field, the `[` of an index, the `(` of a call, or nothing.
 #[derive(Drop)]
 pub(crate) enum Suffix {
     None,
@@ -49,7 +49,8 @@ pub(crate) fn is_keyed<'a>(reader: &Reader<'a>) -> bool
     ensures { result ≡ reading.is_keyed reader.now }
 {
     match (reader.peek(), reader.peek_second()) {
-        (Some(first), Some(second)) => first.terminal.stands_as(Terminal::Name) && second.terminal.stands_as(Terminal::Colon),
+        (Some(first), Some(second)) => first.terminal.stands_as(Terminal::Name)
+            && second.terminal.stands_as(Terminal::Colon),
         _ => false,
     }
 }

@@ -2,8 +2,9 @@
 #![tactic(auto, using(rgo_ast::proofs::Rows::rows, crate::proofs::TypeTurns::type_turns))]
 
 ghost use Rattle.std.specs.Prelude.{◌≡◌, ◌∷◌, []};
+ghost use Rattle.rgo_ast.specs.Tree as tree;
 ghost use Rattle.rgo_ast.specs.Views.{type_expr_of, binding_of};
-ghost use Rattle.rgo_grammar.specs.ReadTypes as reading;
+ghost use Rattle.rgo_grammar.specs.reading.Types as reading;
 ghost use Rattle.rgo_parser.specs.Agrees.{Agrees};
 
 use crate::lists::Item;
@@ -80,15 +81,11 @@ pub(crate) fn typed_names<'a>(
 }
 
 impl Item for Binding {
-    ghost use Rattle.rgo_ast.specs.Views.{binding_of};
-    ghost use Rattle.rgo_ast.specs.Tree as tree;
-    ghost use Rattle.rgo_grammar.specs.ReadTypes as reading_types;
-
     ghost Tree = { tree.Binding };
 
-    ghost tree = { binding_of };
+    ghost tree_of = { binding_of };
 
-    ghost reading = { reading_types.binding };
+    ghost reads = { reading.binding };
 
     /// Names and their type.
     fn read<'a>(alloc: Global, reader: &mut Reader<'a>, turns: usize) -> Read<Binding> {

@@ -9,4 +9,5 @@ pub loop-at-preserved : goal.loop-at-preserved
 loop-at-preserved c =
     let text = c.args.text.now in
     let at = c.loop-at.at in
-    first_close-more text at (ap (λ l. begins_with l (codes "*/")) (sym (take_rest text at)) ∙ sym c.starts_with.ensures.value ∙ c.if-starts_with.false) ∙ c.loop-at.invariant
+    first_close-more text at (ap (λ l. begins_with l (codes "*/")) (sym (take_rest text at))
+    ∙ sym c.starts_with.ensures.value ∙ c.if-starts_with.false) ∙ c.loop-at.invariant

@@ -4,4 +4,11 @@ use Rattle.rgo_lexer.proofs.Order.{in_order}
 use Rattle.rgo_lexer.proofs.laws.one_reading.Goals as goal
 
 pub returns : goal.returns
-returns c = record { never_both = never_both; one_of_both = one_of_both; one_list = one_list; one_refusal = one_refusal; of_text = of_text; in_order = in_order }
+returns c = record {
+  never_both = never_both;
+  one_of_both = one_of_both;
+  one_list = one_list;
+  one_refusal = one_refusal;
+  of_text = of_text;
+  in_order = in_order;
+}

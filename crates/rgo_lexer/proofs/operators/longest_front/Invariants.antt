@@ -6,5 +6,6 @@ use Rattle.rgo_lexer.proofs.operators.longest_front.Given as goal
 abbrev pub invariant-loop-entry : goal.invariant-loop-entry
 invariant-loop-entry l = record {
   order : longer_first (entries (drop l.entry-index l.table)) ≡ true;
-  rest : longest_front (entries (drop l.entry-index l.table)) l.text ≡ longest_front (entries l.table) l.text;
+  rest : longest_front (entries (drop l.entry-index l.table)) l.text ≡ longest_front
+      (entries l.table) l.text;
 }

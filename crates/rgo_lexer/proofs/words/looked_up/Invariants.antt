@@ -5,4 +5,5 @@ use Rattle.rgo_lexer.proofs.words.looked_up.Given as goal
 
 abbrev pub invariant-loop-entry : goal.invariant-loop-entry
 invariant-loop-entry l =
-    looked_up (entries l.fn.table) l.default l.word ≡ looked_up (entries (drop l.entry-index l.fn.table)) l.default l.word
+    looked_up (entries l.fn.table) l.default l.word ≡ looked_up
+    (entries (drop l.entry-index l.fn.table)) l.default l.word

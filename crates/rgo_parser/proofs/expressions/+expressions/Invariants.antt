@@ -1,8 +1,8 @@
 use Rattle.std.proofs.Common.{◌≡◌, ◌+◌, ◌*◌, ◌-◌, [], false, map}
 use Rattle.rgo_ast.specs.Views.{expr_of, element_of}
 use Rattle.rgo_lexer.specs.declared.terminals.Terminal.TheVariants.{Comma, CloseBrace}
-use Rattle.rgo_grammar.specs.Reading.{several}
-use Rattle.rgo_grammar.specs.ReadExprs.{expr, exprs, element}
+use Rattle.rgo_grammar.specs.reading.Read.{several}
+use Rattle.rgo_grammar.specs.reading.Expressions.{expr, exprs, element}
 use Rattle.rgo_parser.proofs.expressions.+expressions.Given as goal
 
 abbrev pub decreases-expr : goal.decreases-expr

@@ -1,6 +1,6 @@
 use Rattle.std.proofs.Common.{◌≡◌, ◌-◌, [], map}
 use Rattle.rgo_ast.specs.Views.{decl_of}
-use Rattle.rgo_grammar.specs.ReadDecls.{decls}
+use Rattle.rgo_grammar.specs.reading.Declarations.{decls}
 use Rattle.rgo_parser.proofs.programs.decls.Given as goal
 
 abbrev pub invariant-loop-turn : goal.invariant-loop-turn

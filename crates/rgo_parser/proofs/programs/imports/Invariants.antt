@@ -1,6 +1,6 @@
 use Rattle.std.proofs.Common.{◌≡◌, ◌-◌, [], map}
 use Rattle.rgo_ast.specs.Views.{import_of}
-use Rattle.rgo_grammar.specs.ReadDecls.{imports}
+use Rattle.rgo_grammar.specs.reading.Declarations.{imports}
 use Rattle.rgo_parser.proofs.programs.imports.Given as goal
 
 abbrev pub invariant-loop-turn : goal.invariant-loop-turn

@@ -1,8 +1,8 @@
 use Rattle.std.proofs.Common.{◌≡◌, ◌-◌, ◌+◌, ◌*◌, map}
 use Rattle.rgo_ast.specs.Views.{stmt_of}
 use Rattle.rgo_lexer.specs.declared.terminals.Terminal.TheVariants.{Semicolon, CloseBrace}
-use Rattle.rgo_grammar.specs.Reading.{listed}
-use Rattle.rgo_grammar.specs.ReadStmts.{stmt, stmts}
+use Rattle.rgo_grammar.specs.reading.Read.{listed}
+use Rattle.rgo_grammar.specs.reading.Statements.{stmt, stmts}
 use Rattle.rgo_parser.proofs.statements.+statements.Given as goal
 
 -- Within a turn, one function calls only others of a smaller rank.

@@ -1,5 +1,5 @@
 use Rattle.std.proofs.Common.{◌≡◌, ◌-◌, ◌∷◌, []}
-use Rattle.rgo_grammar.specs.ReadTypes.{names}
+use Rattle.rgo_grammar.specs.reading.Types.{names}
 use Rattle.rgo_parser.proofs.types.names.Given as goal
 
 abbrev pub invariant-loop-turn : goal.invariant-loop-turn

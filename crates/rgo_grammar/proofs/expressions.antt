@@ -1,0 +1,8 @@
+pub mod Starts
+pub mod Operands
+pub mod Literals
+pub mod Correct
+pub mod Second
+pub mod Ends
+pub mod Parts
+pub mod Complete

@@ -1,0 +1,4 @@
+pub mod Next
+pub mod Correct
+pub mod Lists
+pub mod Complete

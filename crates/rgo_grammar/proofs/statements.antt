@@ -1,0 +1,8 @@
+pub mod Simple
+pub mod Locals
+pub mod Headers
+pub mod Branches
+pub mod Correct
+pub mod Parts
+pub mod KindsComplete
+pub mod Complete
