@@ -1,20 +1,16 @@
--- A list that nests too deep is read up to the term where it does.
+-- A list that nests too deep is read up to the lexeme where it does.
 use Rattle.std.proofs.Common.{◌≡◌, ℕ, suc, ◌+◌, ◌<◌, ◌≤◌, Bool, true, false, cond, List, [], ◌∷◌, ◌++◌, length, take, drop, map, Option, Some, None, refl, sym, ap, subst, ◌∙◌, append_assoc, append-nil, arith}
 use Rattle.std.specs.Prelude.{nat_lt}
-use Rattle.std.proofs.lemmas.List.{take-take, length-take, length-map, take-map, take-append-drop}
-use Rattle.std.proofs.lemmas.Simd.{map-map}
+use Rattle.std.proofs.lemmas.List.{take-take, length-take, length-map, take-append-drop}
 use Rattle.rgo_ast.specs.Tree.{Import, Decl}
-use Rattle.rgo_lexer.specs.declared.tokens.Token.{Token}
 use Rattle.rgo_lexer.specs.declared.terminals.Terminal.{Terminal}
 use Rattle.rgo_lexer.specs.declared.terminals.Terminal.TheVariants.{Other}
 use Rattle.rgo_grammar.specs.declared.nesting.Level.{Level}
-use Rattle.rgo_grammar.specs.declared.terms.Lexeme.{Lexeme as CodeTerm}
-use Rattle.rgo_grammar.specs.Seen.{seen, seen_all, terminals}
-use Rattle.rgo_lexer.specs.Lexemes.{Lexeme, terms}
+use Rattle.rgo_lexer.specs.Lexemes.{Lexeme}
 use Rattle.rgo_grammar.specs.Grammar.{IsProgram}
 use Rattle.rgo_grammar.specs.FirstBad.{Begins, IsFirstBad}
-use Rattle.rgo_grammar.specs.Nesting.{deep_at, deep_among, deep_from, levels_after, nesting, outermost}
-use Rattle.rgo_parser.specs.Parsing.{limit, IsParsed, IsSyntax, IsTooDeep}
+use Rattle.rgo_grammar.specs.Nesting.{deep_at, deep_from, levels_after, nesting, outermost}
+use Rattle.rgo_parser.specs.Parsing.{limit, IsSyntax, IsTooDeep}
 
 -- a program begins with each of its fronts
 pub whole_begins : (k : ℕ) (l : List Lexeme) (imports : List Import) (decls : List Decl) → IsProgram l imports decls → Begins (take k l)
@@ -62,43 +58,6 @@ cut_open l k d e h bad = record {
   begun = subst Begins (take-take (d + 1) (d + 1) l (omega arith)) (less_begins (d + 1) k (take (d + 1) l) (omega arith) bad.before);
 }
 
--- In what follows the code's terms are seen as a list.
-
-pub deep_is : (text : List ℕ) (found : List CodeTerm) (l : List Lexeme) (d : Option ℕ) → seen_all text found ≡ l → d ≡ deep_among limit (terminals found)
-    → deep_at limit l ≡ d
-deep_is text found l d same e = ap (deep_at limit) (sym same) ∙ ap (deep_among limit) (map-map (λ t. t.terminal) (seen text) found) ∙ sym e
-
-pub found_within : (found : List CodeTerm) (d : ℕ) → Some d ≡ deep_among limit (terminals found) → d < length found
-found_within found d e = let h = deep_within (seen_all [] found) d (deep_is [] found (seen_all [] found) (Some d) refl e) in omega (arith, h, length-map found (seen []))
-
-front_seen : (text : List ℕ) (found : List CodeTerm) (l : List Lexeme) (n : ℕ) → seen_all text found ≡ l → seen_all text (take n found) ≡ take n l
-front_seen text found l n same = sym (take-map (seen text) n found) ∙ ap (take n) same
-
-pub found_syntax : (text : List ℕ) (found : List CodeTerm) (l : List Lexeme) (k d : ℕ) → seen_all text found ≡ l → Some d ≡ deep_among limit (terminals found)
-    → k ≤ d → IsFirstBad (seen_all text (take (d + 1) found)) k → IsSyntax l k
-found_syntax text found l k d same e h bad =
-    cut_syntax l k d (deep_is text found l (Some d) same e) h (subst (λ m. IsFirstBad m k) (front_seen text found l (d + 1) same) bad)
-
-pub found_program : (text : List ℕ) (found : List CodeTerm) (l : List Lexeme) (d : ℕ) (imports : List Import) (decls : List Decl) → seen_all text found ≡ l
-    → Some d ≡ deep_among limit (terminals found) → IsProgram (seen_all text (take (d + 1) found)) imports decls → IsTooDeep l d
-found_program text found l d imports decls same e p =
-    cut_program l d imports decls (deep_is text found l (Some d) same e) (subst (λ m. IsProgram m imports decls) (front_seen text found l (d + 1) same) p)
-
-pub found_open : (text : List ℕ) (found : List CodeTerm) (l : List Lexeme) (k d : ℕ) → seen_all text found ≡ l → Some d ≡ deep_among limit (terminals found)
-    → d < k → IsFirstBad (seen_all text (take (d + 1) found)) k → IsTooDeep l d
-found_open text found l k d same e h bad =
-    cut_open l k d (deep_is text found l (Some d) same e) h (subst (λ m. IsFirstBad m k) (front_seen text found l (d + 1) same) bad)
-
 -- where none nests too deep
-pub whole_syntax : (text : List ℕ) (found : List CodeTerm) (l : List Lexeme) (k : ℕ) → seen_all text found ≡ l → None ≡ deep_among limit (terminals found)
-    → IsFirstBad (seen_all text found) k → IsSyntax l k
-whole_syntax text found l k same e bad = record { bad = subst (λ m. IsFirstBad m k) same bad; shallow = rw (deep_is text found l None same e) tt }
-
-pub whole_program : (text : List ℕ) (found : List CodeTerm) (tokens : List Token) (imports : List Import) (decls : List Decl)
-    → seen_all text found ≡ terms text tokens → None ≡ deep_among limit (terminals found) → IsProgram (seen_all text found) imports decls
-    → IsParsed text tokens (record { imports = imports; decls = decls; end = length text })
-whole_program text found tokens imports decls same e p = record {
-  derived = subst (λ m. IsProgram m imports decls) same p;
-  ended = refl;
-  shallow = deep_is text found (terms text tokens) None same e;
-}
+pub whole_syntax : (l : List Lexeme) (k : ℕ) → deep_at limit l ≡ None → IsFirstBad l k → IsSyntax l k
+whole_syntax l k e bad = record { bad = bad; shallow = rw e tt }

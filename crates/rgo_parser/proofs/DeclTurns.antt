@@ -3,8 +3,8 @@ use Rattle.std.proofs.Common.{◌≡◌, ℕ, ◌-◌, ◌<◌, List, refl, ap}
 use Rattle.std.proofs.lemmas.List.{map-append}
 use Rattle.rgo_ast.specs.Tree.{Import, Decl}
 use Rattle.rgo_lexer.specs.Lexemes.{Lexeme}
-use Rattle.rgo_grammar.specs.Reading.{Failed, Starving, first_of}
-use Rattle.rgo_grammar.specs.ReadDecls.{decls, decls_on, imports, imports_on}
+use Rattle.rgo_grammar.specs.reading.Read.{Failed, Starving, first_of}
+use Rattle.rgo_grammar.specs.reading.Declarations.{decls, decls_on, imports, imports_on}
 use Rattle.rgo_parser.proofs.TypeTurns.{turn}
 
 pub decls_more : (n m : ℕ) (found : List Decl) (l : List Lexeme) → 0 < m → decls n m found l ≡ decls_on n (decls n (m - 1)) found l (first_of l)

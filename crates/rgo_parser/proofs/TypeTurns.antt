@@ -3,8 +3,8 @@ use Rattle.std.proofs.Common.{◌≡◌, ℕ, suc, ◌-◌, ◌<◌, List, refl,
 use Rattle.std.proofs.lemmas.List.{map-append}
 use Rattle.rgo_ast.specs.declared.names.Ident.{Ident}
 use Rattle.rgo_lexer.specs.Lexemes.{Lexeme}
-use Rattle.rgo_grammar.specs.Reading.{Failed, Starving, first_of}
-use Rattle.rgo_grammar.specs.ReadTypes.{a_type, type_on, names, names_on}
+use Rattle.rgo_grammar.specs.reading.Read.{Failed, Starving, first_of}
+use Rattle.rgo_grammar.specs.reading.Types.{a_type, type_on, names, names_on}
 
 pub turn : (n : ℕ) → 0 < n → n ≡ suc (n - 1)
 turn n h = omega arith

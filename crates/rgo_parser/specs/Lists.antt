@@ -1,8 +1,19 @@
--- Reading what stands behind an item of a list.
-use Rattle.std.specs.Prelude.{if◌then◌else◌, List, Option, Some, None}
+-- Reading what comes before and after an item of a list.
+use Rattle.std.specs.Prelude.{if◌then◌else◌, List, map, Option, Some, None}
+use denote.Ref.{Bor}
+use Rattle.std.specs.declared.alloc.Global.{Global}
+use Rattle.std.specs.declared.vec.Vec.{Vec}
 use Rattle.rgo_lexer.specs.declared.terminals.Terminal.{Terminal}
 use Rattle.rgo_lexer.specs.Lexemes.{Leaf, Lexeme, same}
-use Rattle.rgo_grammar.specs.Reading.{Read, Done, Failed, At, first_of}
+use Rattle.rgo_grammar.specs.reading.Read.{Read, Done, Failed, At, first_of}
+
+-- before an item: the lexeme that closes the list, or none
+abbrev pub closes_on : Terminal → List Lexeme → Option (Lexeme × List Lexeme) → Read (Option Leaf)
+closes_on closer l None = Failed (At l)
+closes_on closer l (Some x) = if same closer x.0.terminal then Done (Some x.0.leaf) x.1 else Done None l
+
+abbrev pub closes : Terminal → List Lexeme → Read (Option Leaf)
+closes closer l = closes_on closer l (first_of l)
 
 abbrev pub separated_on : Terminal → Terminal → List Lexeme → Option (Lexeme × List Lexeme) → Read (Option Leaf)
 separated_on separator closer l None = Failed (At l)
@@ -10,6 +21,14 @@ separated_on separator closer l (Some x) =
     if same closer x.0.terminal then Done (Some x.0.leaf) x.1
     else (if same separator x.0.terminal then Done None x.1 else Failed (At l))
 
--- the token that closes the list, or none behind a separator
+-- after an item: the lexeme that closes the list, or none after a separator
 abbrev pub separated : Terminal → Terminal → List Lexeme → Read (Option Leaf)
 separated separator closer l = separated_on separator closer l (first_of l)
+
+abbrev pub ending_of : Option (Bor Lexeme) → Option Leaf
+ending_of None = None
+ending_of (Some l) = Some l.now.leaf
+
+-- the items of a list by their trees, and the leaf that closes it
+abbrev pub listed_by : {X A : Type 0} → (X → A) → Vec X Global × Bor Lexeme → List A × Leaf
+listed_by tree x = (map tree x.0.items, x.1.now.leaf)

@@ -1,27 +1,87 @@
--- What is read of statements besides their trees.
-use Rattle.std.specs.Prelude.{ℕ, List, [], ◌∷◌, Option, Some, None}
+-- The parts of statements that are read without another statement.
+use Rattle.std.specs.Prelude.{ℕ, false, true, List, [], ◌∷◌, Option, Some, None}
 use Rattle.rgo_ast.specs.declared.statements.Stmt.{Stmt as CodeStmt}
 use Rattle.rgo_ast.specs.Tree.{Stmt}
-use Rattle.rgo_ast.specs.Views.{expr_of, stmt_of, boxed_stmt_of}
-use Rattle.rgo_grammar.specs.Reading.{Read}
+use Rattle.rgo_ast.specs.Tree as tree
+use Rattle.rgo_ast.specs.Views.{stmt_of}
+use Rattle.rgo_lexer.specs.declared.terminals.Terminal.{Terminal}
+use Rattle.rgo_lexer.specs.declared.terminals.Terminal.TheVariants.{OpenBrace, Semicolon, Var, Go, If, Else, For, Return, Break, Continue}
 use Rattle.rgo_lexer.specs.Lexemes.{Leaf, Lexeme}
-use Rattle.rgo_grammar.specs.ReadStmts as reading
-use Rattle.rgo_parser.specs.declared.headers.Head.{Head}
-use Rattle.rgo_parser.specs.declared.headers.Head.TheVariants as head
+use Rattle.rgo_grammar.specs.reading.Read.{Read, Done, Failed, At, ◌>>=◌, given, first_of}
+use Rattle.rgo_grammar.specs.reading.Expressions.{expr}
+use Rattle.rgo_grammar.specs.reading.Statements as reading
+use Rattle.rgo_parser.specs.declared.openings.Leading.{Leading as CodeLeading}
+use Rattle.rgo_parser.specs.declared.openings.Leading.TheVariants as code_leading
+use Rattle.rgo_parser.specs.declared.openings.Else.{Else as CodeElse}
+use Rattle.rgo_parser.specs.declared.openings.Else.TheVariants as code_else
+use Rattle.rgo_parser.specs.Agrees.{leaf_at}
+use Rattle.rgo_parser.specs.Headers.{for_header}
 
--- a leaf of which only the place is asked
-abbrev pub leaf_at : ℕ → Leaf
-leaf_at at = record { at = at; word = [] }
-
--- behind the word `if`, of which only the place is asked
+-- after the word `if`, of which only the place matters
 abbrev pub if_at : ℕ → Leaf → List Lexeme → Read Stmt
 if_at n i l = reading.if_stmt n (leaf_at i.at) l
+
+-- after the word `for`
+abbrev pub for_at : ℕ → Leaf → List Lexeme → Read Stmt
+for_at n i l = for_header (expr true n 1) l >>= λ h. reading.looped (reading.block n) i h.0 h.1 h.2
 
 -- an empty statement leaves nothing
 abbrev pub stmt_list_of : Option CodeStmt → List Stmt
 stmt_list_of None = []
 stmt_list_of (Some s) = stmt_of s ∷ []
 
-abbrev pub head_of : Head → reading.Head
-head_of (head.Condition e) = reading.condition (expr_of e.value)
-head_of (head.Init s) = reading.init (boxed_stmt_of s)
+-- statements that were read, or what begins at a place
+pub data Leading : Type 0 where
+  Whole : List Stmt → Leading
+  Block : ℕ → Leading
+  IfAt : ℕ → Leading
+  ForAt : ℕ → Leading
+
+abbrev pub leading_of : CodeLeading → Leading
+leading_of code_leading.Empty = Whole []
+leading_of (code_leading.Whole s) = Whole (stmt_of s ∷ [])
+leading_of (code_leading.Block at) = Block at
+leading_of (code_leading.If at) = IfAt at
+leading_of (code_leading.For at) = ForAt at
+
+abbrev pub one : Stmt → Leading
+one s = Whole (s ∷ [])
+
+abbrev pub leading_by : ℕ → Terminal → Leaf → List Lexeme → List Lexeme → Read Leading
+leading_by n OpenBrace i l m = Done (Block i.at) m
+leading_by n If i l m = Done (IfAt i.at) m
+leading_by n For i l m = Done (ForAt i.at) m
+leading_by n Go i l m = reading.going n (expr false n 1) i m >>= given one
+leading_by n Var i l m = reading.vars n (expr false n 1) i m >>= given one
+leading_by n Return i l m = reading.return_on (expr false n 1) i m (first_of m) >>= given one
+leading_by n Break i l m = Done (one (tree.Break i.at)) m
+leading_by n Continue i l m = Done (one (tree.Continue i.at)) m
+leading_by n Semicolon i l m = Done (Whole []) l
+leading_by n _ i l m = reading.defining (expr false n 1) l >>= given one
+
+abbrev pub leading_on : ℕ → List Lexeme → Option (Lexeme × List Lexeme) → Read Leading
+leading_on n l None = Failed (At l)
+leading_on n l (Some x) = leading_by n x.0.terminal x.0.leaf l x.1
+
+abbrev pub leading : ℕ → List Lexeme → Read Leading
+leading n l = leading_on n l (first_of l)
+
+-- after the block of an `if`
+abbrev pub else_body_by : Terminal → Leaf → List Lexeme → List Lexeme → Read CodeElse
+else_body_by If i l m = Done (code_else.If i.at) m
+else_body_by _ i l m = Done (code_else.Block i.at) l
+
+abbrev pub else_body_on : List Lexeme → Option (Lexeme × List Lexeme) → Read CodeElse
+else_body_on l None = Failed (At l)
+else_body_on l (Some x) = else_body_by x.0.terminal x.0.leaf l x.1
+
+abbrev pub else_by : Terminal → List Lexeme → List Lexeme → Read CodeElse
+else_by Else l m = else_body_on m (first_of m)
+else_by _ l m = Done code_else.None l
+
+abbrev pub else_on : List Lexeme → Option (Lexeme × List Lexeme) → Read CodeElse
+else_on l None = Done code_else.None l
+else_on l (Some x) = else_by x.0.terminal l x.1
+
+abbrev pub else_word : List Lexeme → Read CodeElse
+else_word l = else_on l (first_of l)

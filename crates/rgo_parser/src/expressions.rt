@@ -1,522 +1,218 @@
-//! Expressions, by precedence.
+//! Expressions, by precedence: the functions that read an expression within an expression.
 #![tactic(auto, using(rgo_ast::proofs::Rows::rows, crate::proofs::ListTurns::list_turns, crate::proofs::ExprTurns::expr_turns,))]
 
-ghost use Rattle.std.specs.Prelude.{◌≡◌, ◌∷◌, [], map, false, IfOk};
-ghost use Rattle.rgo_ast.specs.Views.{expr_of, element_of, type_expr_of};
-ghost use Rattle.rgo_ast.specs.Tree as tree;
-ghost use Rattle.rgo_grammar.specs.Grammar.{level};
-ghost use Rattle.rgo_grammar.specs.Reading as lists;
-ghost use Rattle.rgo_grammar.specs.ReadExprs as reading;
-ghost use Rattle.rgo_grammar.specs.Seen.{item_of, seen_all};
+ghost use Rattle.std.specs.Prelude.{◌≡◌, ◌-◌, ◌<◌, ◌++◌, ◌∷◌, [], IfOk, false, map};
+ghost use Rattle.rgo_ast.specs.Views.{expr_of, element_of};
+ghost use Rattle.rgo_grammar.specs.reading.Expressions as reading;
+ghost use Rattle.rgo_grammar.specs.reading.Read.{several};
 ghost use Rattle.rgo_lexer.specs.declared.terminals.Terminal.TheVariants as terminal;
-ghost use Rattle.rgo_parser.specs.Gives.{Gives, leaf_of, leaf_at};
+ghost use Rattle.rgo_parser.specs.Agrees.{Agrees, leaf_at, leaf_of};
+ghost use Rattle.rgo_lexer.specs.Lexemes.{ident};
+ghost use Rattle.rgo_parser.specs.Expressions.{boxed_of};
+ghost use Rattle.rgo_parser.specs.Lists.{listed_by};
 
-use crate::lists::{Listed, separated};
-use crate::reads::{Fault, Reads, ident_of, name, token};
-use crate::types::ty;
-use rgo_ast::{BinaryOp, Element, Expr, Ident, TypeExpr, UnaryOp};
-use rgo_grammar::{Item, Lexeme, Terminal, first};
-use rgo_lexer::unquoted;
+use crate::lists::{Listed, closes, separated};
+use crate::operands::{Opening, close_operand, open_operand};
+use crate::prefixes::{Prefix, level, operator, read_prefix};
+use crate::reader::{Fault, Read, Reader};
+use crate::suffixes::{Suffix, is_keyed, read_suffix};
+use rgo_ast::{Element, Expr, Ident};
+use rgo_lexer::Terminal;
 use std::alloc::{AllocError, Global};
 
-// How tightly an operator binds.
-fn level(op: BinaryOp) -> u8
-    ensures { result ≡ level op }
+// Adds an expression to a list.
+fn push_expr(found: &mut Vec<Expr>, value: Box<Expr>) -> Result<(), AllocError>
+    ensures { IfOk result (λ _. map expr_of found.new.items
+        ≡ map expr_of found.old.items ++ expr_of value.value ∷ []) }
 {
-    match op {
-        BinaryOp::Mul | BinaryOp::Div | BinaryOp::Rem => 5,
-        BinaryOp::Add | BinaryOp::Sub => 4,
-        BinaryOp::Eq | BinaryOp::Ne | BinaryOp::Lt | BinaryOp::Le | BinaryOp::Gt | BinaryOp::Ge =>
-            3,
-        BinaryOp::And => 2,
-        BinaryOp::Or => 1,
-    }
+    found.push(Box::into_inner(value))?;
+    Ok(())
 }
 
-fn binary(
-    alloc: Global,
-    op: BinaryOp,
-    left: Expr,
-    right: Expr,
-    at: usize,
-) -> Result<Expr, AllocError>
-    ensures { IfOk result (λ e. expr_of e ≡ tree.Binary op (expr_of left) (expr_of right) at) }
+// Adds an element with its field to a list.
+fn push_element(found: &mut Vec<Element>, field: Ident, value: Box<Expr>) -> Result<(), AllocError>
+    ensures { IfOk result (λ _. map element_of found.new.items
+        ≡ map element_of found.old.items ++ (ident (leaf_of field), expr_of value.value) ∷ []) }
 {
-    Ok(Expr::Binary(op, Box::new(alloc, left)?, Box::new(alloc, right)?, at))
+    let value = Box::into_inner(value);
+    found.push(Element { field, value })?;
+    Ok(())
 }
 
-/// An expression whose operators bind at least so tightly; `header` says that it stands between `if` or `for` and its block,
-/// outside brackets.
+/// An expression whose operators bind at least as tightly as `least`; `header` says that it is between
+/// `if` or `for` and its block, outside brackets.
 #[cycle(expressions)]
 pub(crate) fn expr<'a>(
     alloc: Global,
-    text: &'a [u8],
+    reader: &mut Reader<'a>,
     header: bool,
     turns: usize,
     least: u8,
-    tokens: &'a [Lexeme],
-) -> Reads<'a, Expr>
-    ensures { Gives text.now (λ x. (expr_of x.0, seen_all text.now x.1.now)) result
-        (reading.expr header turns least (seen_all text.now tokens.now)) }
+) -> Read<Box<Expr>>
+    ensures { Agrees boxed_of result reader.new (reading.expr header turns least reader.old) }
 {
     if turns == 0 {
         return Err(Fault::Starved);
     }
-    let (left, rest) = unary(alloc, text, header, turns - 1, tokens)?;
-    climb(alloc, text, header, turns - 1, least, left, rest)
+    let left = unary(alloc, reader, header, turns - 1)?;
+    climb(alloc, reader, header, turns - 1, least, left)
 }
 
-// The operators behind an expression that bind at least so tightly.
+// The operators after an expression that bind at least as tightly as `least`.
 #[cycle(expressions)]
 fn climb<'a>(
     alloc: Global,
-    text: &'a [u8],
+    reader: &mut Reader<'a>,
     header: bool,
     turns: usize,
     least: u8,
-    left: Expr,
-    tokens: &'a [Lexeme],
-) -> Reads<'a, Expr>
-    ensures { Gives text.now (λ x. (expr_of x.0, seen_all text.now x.1.now)) result
-        (reading.climb header turns least (expr_of left) (seen_all text.now tokens.now)) }
+    left: Box<Expr>,
+) -> Read<Box<Expr>>
+    ensures { Agrees boxed_of result reader.new
+        (reading.climb header turns least (expr_of left.value) reader.old) }
 {
     if turns == 0 {
         return Err(Fault::Starved);
     }
-    let Some((item, behind)) = first(text, tokens) else {
-        return Ok((left, tokens));
+    let Some((op, at)) = operator(reader, least) else {
+        return Ok(left);
     };
-    let Terminal::Binary(op) = item.terminal else {
-        return Ok((left, tokens));
-    };
-    let binds = level(op);
-    if binds < least {
-        return Ok((left, tokens));
-    }
-    let (right, rest) = expr(alloc, text, header, turns - 1, binds + 1, behind)?;
-    let joined = binary(alloc, op, left, right, item.at)?;
-    climb(alloc, text, header, turns - 1, least, joined, rest)
+    let right = expr(alloc, reader, header, turns - 1, level(op) + 1)?;
+    let joined = Box::new(alloc, Expr::Binary(op, left, right, at))?;
+    climb(alloc, reader, header, turns - 1, least, joined)
 }
 
+// A unary expression.
 #[cycle(expressions)]
-fn unary<'a>(
-    alloc: Global,
-    text: &'a [u8],
-    header: bool,
-    turns: usize,
-    tokens: &'a [Lexeme],
-) -> Reads<'a, Expr>
-    ensures { Gives text.now (λ x. (expr_of x.0, seen_all text.now x.1.now)) result
-        (reading.unary header turns (seen_all text.now tokens.now)) }
+fn unary<'a>(alloc: Global, reader: &mut Reader<'a>, header: bool, turns: usize) -> Read<Box<Expr>>
+    ensures { Agrees boxed_of result reader.new (reading.unary header turns reader.old) }
 {
     if turns == 0 {
         return Err(Fault::Starved);
     }
-    let Some((item, behind)) = first(text, tokens) else {
-        return Err(Fault::Syntax(tokens));
-    };
-    match item.terminal {
-        Terminal::Binary(BinaryOp::Add) => signed(
-            alloc,
-            text,
-            header,
-            turns - 1,
-            UnaryOp::Plus,
-            item.at,
-            behind,
-        ),
-        Terminal::Binary(BinaryOp::Sub) => signed(
-            alloc,
-            text,
-            header,
-            turns - 1,
-            UnaryOp::Minus,
-            item.at,
-            behind,
-        ),
-        Terminal::Bang => signed(
-            alloc,
-            text,
-            header,
-            turns - 1,
-            UnaryOp::Not,
-            item.at,
-            behind,
-        ),
-        Terminal::Arrow => signed(
-            alloc,
-            text,
-            header,
-            turns - 1,
-            UnaryOp::Receive,
-            item.at,
-            behind,
-        ),
-        Terminal::Ampersand => {
-            if header {
-                return Err(Fault::Syntax(tokens));
-            }
-            literal(alloc, text, turns - 1, item.at, behind)
+    match read_prefix(reader, header)? {
+        Prefix::None => primary(alloc, reader, turns - 1),
+        Prefix::Sign(op, at) => {
+            let value = unary(alloc, reader, header, turns - 1)?;
+            Ok(Box::new(alloc, Expr::Unary(op, value, at))?)
         }
-        _ => primary(alloc, text, turns - 1, tokens),
+        Prefix::Literal(at) => literal(alloc, reader, turns, at),
     }
 }
 
-// Behind a unary operator.
+// A primary expression: an operand and what comes after it.
 #[cycle(expressions)]
-fn signed<'a>(
-    alloc: Global,
-    text: &'a [u8],
-    header: bool,
-    turns: usize,
-    op: UnaryOp,
-    at: usize,
-    tokens: &'a [Lexeme],
-) -> Reads<'a, Expr>
-    ensures { Gives text.now (λ x. (expr_of x.0, seen_all text.now x.1.now)) result
-        (reading.signed (reading.unary header turns) op (leaf_at at) (seen_all text.now tokens.now)) }
-{
-    let (value, rest) = unary(alloc, text, header, turns, tokens)?;
-    Ok((Expr::Unary(op, Box::new(alloc, value)?, at), rest))
-}
-
-#[cycle(expressions)]
-fn primary<'a>(alloc: Global, text: &'a [u8], turns: usize, tokens: &'a [Lexeme]) -> Reads<'a, Expr>
-    ensures { Gives text.now (λ x. (expr_of x.0, seen_all text.now x.1.now)) result
-        (reading.primary turns (seen_all text.now tokens.now)) }
+fn primary<'a>(alloc: Global, reader: &mut Reader<'a>, turns: usize) -> Read<Box<Expr>>
+    ensures { Agrees boxed_of result reader.new (reading.primary turns reader.old) }
 {
     if turns == 0 {
         return Err(Fault::Starved);
     }
-    let (value, rest) = operand(alloc, text, turns - 1, tokens)?;
-    post(alloc, text, turns - 1, value, rest)
-}
-
-// What a primary expression begins with.
-#[cycle(expressions)]
-fn operand<'a>(alloc: Global, text: &'a [u8], turns: usize, tokens: &'a [Lexeme]) -> Reads<'a, Expr>
-    ensures { Gives text.now (λ x. (expr_of x.0, seen_all text.now x.1.now)) result
-        (reading.operand turns (reading.expr false turns 1) (seen_all text.now tokens.now)) }
-{
-    let Some((item, behind)) = first(text, tokens) else {
-        return Err(Fault::Syntax(tokens));
-    };
-    match item.terminal {
-        Terminal::Name => Ok((Expr::Name(ident_of(alloc, item.word, item.at)?), behind)),
-        Terminal::Number(value) => Ok((Expr::Number(value, item.at), behind)),
-        Terminal::Text => Ok((Expr::Text(unquoted(alloc, item.word)?, item.at), behind)),
-        Terminal::OpenParen => parens(alloc, text, turns, item.at, behind),
-        Terminal::New => new_at(alloc, text, item.at, behind),
-        Terminal::Make => {
-            let (_, rest) = token(text, Terminal::OpenParen, behind)?;
-            made(alloc, text, turns, item.at, rest)
+    match open_operand(alloc, reader, turns - 1)? {
+        Opening::Whole(value) => post(alloc, reader, turns - 1, value),
+        Opening::Open(bracket) => {
+            let inner = expr(alloc, reader, false, turns - 1, 1)?;
+            let value = close_operand(alloc, reader, bracket, inner)?;
+            post(alloc, reader, turns - 1, value)
         }
-        _ => Err(Fault::Syntax(tokens)),
     }
 }
 
-// Behind `(`.
-#[cycle(expressions)]
-fn parens<'a>(
-    alloc: Global,
-    text: &'a [u8],
-    turns: usize,
-    at: usize,
-    tokens: &'a [Lexeme],
-) -> Reads<'a, Expr>
-    ensures { Gives text.now (λ x. (expr_of x.0, seen_all text.now x.1.now)) result
-        (reading.parens (reading.expr false turns 1) (leaf_at at) (seen_all text.now tokens.now)) }
-{
-    let (value, rest) = expr(alloc, text, false, turns, 1, tokens)?;
-    let (_, rest) = token(text, Terminal::CloseParen, rest)?;
-    Ok((Expr::Paren(Box::new(alloc, value)?, at), rest))
-}
-
-// Behind `new`.
-fn new_at<'a>(alloc: Global, text: &'a [u8], at: usize, tokens: &'a [Lexeme]) -> Reads<'a, Expr>
-    ensures { Gives text.now (λ x. (expr_of x.0, seen_all text.now x.1.now)) result
-        (reading.new_at (leaf_at at) (seen_all text.now tokens.now)) }
-{
-    let (_, rest) = token(text, Terminal::OpenParen, tokens)?;
-    let (base, rest) = name(alloc, text, rest)?;
-    let (_, rest) = token(text, Terminal::CloseParen, rest)?;
-    Ok((Expr::New(base, at), rest))
-}
-
-// Behind `make (`.
-#[cycle(expressions)]
-fn made<'a>(
-    alloc: Global,
-    text: &'a [u8],
-    turns: usize,
-    at: usize,
-    tokens: &'a [Lexeme],
-) -> Reads<'a, Expr>
-    ensures { Gives text.now (λ x. (expr_of x.0, seen_all text.now x.1.now)) result
-        (reading.made turns (reading.expr false turns 1) (leaf_at at) (seen_all text.now tokens.now)) }
-{
-    let Some((item, behind)) = first(text, tokens) else {
-        return Err(Fault::Syntax(tokens));
-    };
-    match item.terminal {
-        Terminal::OpenBracket => {
-            let (_, rest) = token(text, Terminal::CloseBracket, behind)?;
-            let (element, rest) = ty(alloc, text, turns, rest)?;
-            let (_, rest) = token(text, Terminal::Comma, rest)?;
-            let (size, rest) = expr(alloc, text, false, turns, 1, rest)?;
-            let (_, rest) = make_end(text, rest)?;
-            Ok((Expr::MakeSlice(element, Box::new(alloc, size)?, at), rest))
-        }
-        Terminal::Chan => {
-            let (element, rest) = ty(alloc, text, turns, behind)?;
-            sized(alloc, text, turns, element, at, rest)
-        }
-        _ => Err(Fault::Syntax(tokens)),
-    }
-}
-
-// The end of a `make`, perhaps with a comma before it.
-fn make_end<'a>(text: &'a [u8], tokens: &'a [Lexeme]) -> Reads<'a, Item<'a>>
-    ensures { Gives text.now (λ x. ((item_of x.0).leaf, seen_all text.now x.1.now)) result
-        (reading.make_end (seen_all text.now tokens.now)) }
-{
-    let Some((item, behind)) = first(text, tokens) else {
-        return Err(Fault::Syntax(tokens));
-    };
-    match item.terminal {
-        Terminal::CloseParen => token(text, Terminal::CloseParen, tokens),
-        Terminal::Comma => token(text, Terminal::CloseParen, behind),
-        _ => Err(Fault::Syntax(tokens)),
-    }
-}
-
-// Behind the type of a channel.
-#[cycle(expressions)]
-fn sized<'a>(
-    alloc: Global,
-    text: &'a [u8],
-    turns: usize,
-    element: TypeExpr,
-    at: usize,
-    tokens: &'a [Lexeme],
-) -> Reads<'a, Expr>
-    ensures { Gives text.now (λ x. (expr_of x.0, seen_all text.now x.1.now)) result
-        (reading.sized (reading.expr false turns 1) (type_expr_of element) (leaf_at at) (seen_all text.now tokens.now)) }
-{
-    let Some((item, behind)) = first(text, tokens) else {
-        return Err(Fault::Syntax(tokens));
-    };
-    match item.terminal {
-        Terminal::CloseParen => Ok((Expr::MakeChan(element, None, at), behind)),
-        Terminal::Comma => capacity(alloc, text, turns, element, at, behind),
-        _ => Err(Fault::Syntax(tokens)),
-    }
-}
-
-// Behind the comma behind the type of a channel: a capacity, or the end.
-#[cycle(expressions)]
-fn capacity<'a>(
-    alloc: Global,
-    text: &'a [u8],
-    turns: usize,
-    element: TypeExpr,
-    at: usize,
-    tokens: &'a [Lexeme],
-) -> Reads<'a, Expr>
-    ensures { Gives text.now (λ x. (expr_of x.0, seen_all text.now x.1.now)) result
-        (reading.capacity (reading.expr false turns 1) (type_expr_of element) (leaf_at at) (seen_all text.now tokens.now)) }
-{
-    let Some((item, behind)) = first(text, tokens) else {
-        return Err(Fault::Syntax(tokens));
-    };
-    if item.terminal.stands_as(Terminal::CloseParen) {
-        return Ok((Expr::MakeChan(element, None, at), behind));
-    }
-    let (size, rest) = expr(alloc, text, false, turns, 1, tokens)?;
-    let (_, rest) = make_end(text, rest)?;
-    Ok((
-        Expr::MakeChan(element, Some(Box::new(alloc, size)?), at),
-        rest,
-    ))
-}
-
-// What stands behind a primary expression.
+// What comes after a primary expression.
 #[cycle(expressions)]
 fn post<'a>(
     alloc: Global,
-    text: &'a [u8],
+    reader: &mut Reader<'a>,
     turns: usize,
-    value: Expr,
-    tokens: &'a [Lexeme],
-) -> Reads<'a, Expr>
-    ensures { Gives text.now (λ x. (expr_of x.0, seen_all text.now x.1.now)) result
-        (reading.post turns (expr_of value) (seen_all text.now tokens.now)) }
+    value: Box<Expr>,
+) -> Read<Box<Expr>>
+    ensures { Agrees boxed_of result reader.new
+        (reading.post turns (expr_of value.value) reader.old) }
 {
     if turns == 0 {
         return Err(Fault::Starved);
     }
-    let Some((item, behind)) = first(text, tokens) else {
-        return Ok((value, tokens));
-    };
-    match item.terminal {
-        Terminal::Dot => {
-            let (field, rest) = name(alloc, text, behind)?;
-            let selected = Expr::Select(Box::new(alloc, value)?, field);
-            post(alloc, text, turns - 1, selected, rest)
+    match read_suffix(alloc, reader)? {
+        Suffix::None => Ok(value),
+        Suffix::Select(field) => {
+            let selected = Box::new(alloc, Expr::Select(value, field))?;
+            post(alloc, reader, turns - 1, selected)
         }
-        Terminal::OpenBracket => {
-            let (index, rest) = expr(alloc, text, false, turns - 1, 1, behind)?;
-            let (_, rest) = token(text, Terminal::CloseBracket, rest)?;
-            let indexed = Expr::Index(Box::new(alloc, value)?, Box::new(alloc, index)?, item.at);
-            post(alloc, text, turns - 1, indexed, rest)
+        Suffix::Index(at) => {
+            let index = expr(alloc, reader, false, turns - 1, 1)?;
+            reader.take(Terminal::CloseBracket)?;
+            let indexed = Box::new(alloc, Expr::Index(value, index, at))?;
+            post(alloc, reader, turns - 1, indexed)
         }
-        Terminal::OpenParen => {
-            let ((args, _), rest) = exprs(alloc, text, turns - 1, Terminal::CloseParen, behind)?;
-            let called = Expr::Call(Box::new(alloc, value)?, args, item.at);
-            post(alloc, text, turns - 1, called, rest)
+        Suffix::Call(at) => {
+            let (args, _) = exprs(alloc, reader, turns - 1, Terminal::CloseParen)?;
+            let called = Box::new(alloc, Expr::Call(value, args, at))?;
+            post(alloc, reader, turns - 1, called)
         }
-        _ => Ok((value, tokens)),
     }
 }
 
-/// Expressions up to the token that closes them.
+/// Expressions up to the lexeme that closes them.
 #[cycle(expressions)]
 pub(crate) fn exprs<'a>(
     alloc: Global,
-    text: &'a [u8],
+    reader: &mut Reader<'a>,
     turns: usize,
     closer: Terminal,
-    tokens: &'a [Lexeme],
 ) -> Listed<'a, Expr>
-    ensures { Gives text.now (λ x. ((map expr_of x.0.0.items, (item_of x.0.1).leaf), seen_all text.now x.1.now)) result
-        (reading.exprs closer turns (reading.expr false turns 1) (seen_all text.now tokens.now)) }
+    ensures { Agrees (listed_by expr_of) result reader.new
+        (reading.exprs closer turns (reading.expr false turns 1) reader.old) }
 {
     let mut found = Vec::new(alloc);
-    let mut rest = tokens;
     for turn in 0..turns {
-        let Some((item, behind)) = first(text, rest) else {
-            return Err(Fault::Syntax(rest));
-        };
-        if item.terminal.stands_as(closer) {
-            return Ok(((found, item), behind));
+        if let Some(closing) = closes(reader, closer)? {
+            return Ok((found, closing));
         }
-        let (one, next) = expr(alloc, text, false, turns, 1, rest)?;
-        found.push(one)?;
-        match separated(text, Terminal::Comma, closer, next) {
-            Some((None, behind)) => rest = behind,
-            Some((Some(item), behind)) => return Ok(((found, item), behind)),
-            None => return Err(Fault::Syntax(next)),
+        let one = expr(alloc, reader, false, turns, 1)?;
+        push_expr(&mut found, one)?;
+        if let Some(closing) = separated(reader, Terminal::Comma, closer)? {
+            return Ok((found, closing));
         }
     }
     Err(Fault::Starved)
 }
 
-// Whether a name and a `:` come first.
-fn is_keyed(text: &[u8], tokens: &[Lexeme]) -> bool
-    ensures { result ≡ reading.is_keyed (seen_all text.now tokens.now) }
-{
-    match first(text, tokens) {
-        Some((item, behind)) if item.terminal.stands_as(Terminal::Name) => match first(
-            text, behind,
-        ) {
-            Some((item, _)) => item.terminal.stands_as(Terminal::Colon),
-            None => false,
-        },
-        _ => false,
-    }
-}
-
-// Behind `&`.
+// Elements with their fields up to the brace that closes them; their values are read with one turn less.
 #[cycle(expressions)]
-fn literal<'a>(
-    alloc: Global,
-    text: &'a [u8],
-    turns: usize,
-    at: usize,
-    tokens: &'a [Lexeme],
-) -> Reads<'a, Expr>
-    ensures { Gives text.now (λ x. (expr_of x.0, seen_all text.now x.1.now)) result
-        (reading.literal turns (reading.expr false turns 1) (leaf_at at) (seen_all text.now tokens.now)) }
+fn elements<'a>(alloc: Global, reader: &mut Reader<'a>, turns: usize) -> Listed<'a, Element>
+    ensures { Agrees (listed_by element_of) result reader.new
+        (several terminal.Comma terminal.CloseBrace (reading.element (reading.expr false (turns - 1) 1)) turns []
+        reader.old) }
 {
-    let (base, rest) = name(alloc, text, tokens)?;
-    let (_, rest) = token(text, Terminal::OpenBrace, rest)?;
-    if is_keyed(text, rest) {
-        return keyed(alloc, text, turns, base, at, rest);
-    }
-    let ((values, _), rest) = exprs(alloc, text, turns, Terminal::CloseBrace, rest)?;
-    Ok((Expr::Literal(base, values, at), rest))
-}
-
-// An element with its field.
-#[cycle(expressions)]
-fn element<'a>(
-    alloc: Global,
-    text: &'a [u8],
-    turns: usize,
-    tokens: &'a [Lexeme],
-) -> Reads<'a, Element>
-    ensures { Gives text.now (λ x. (element_of x.0, seen_all text.now x.1.now)) result
-        (reading.element (reading.expr false turns 1) (seen_all text.now tokens.now)) }
-{
-    let (field, rest) = name(alloc, text, tokens)?;
-    let (_, rest) = token(text, Terminal::Colon, rest)?;
-    let (value, rest) = expr(alloc, text, false, turns, 1, rest)?;
-    Ok((Element { field, value }, rest))
-}
-
-// Elements up to the brace that closes them, behind those that were found.
-#[cycle(expressions)]
-fn elements<'a>(
-    alloc: Global,
-    text: &'a [u8],
-    turns: usize,
-    mut found: Vec<Element>,
-    tokens: &'a [Lexeme],
-) -> Listed<'a, Element>
-    ensures { Gives text.now (λ x. ((map element_of x.0.0.items, (item_of x.0.1).leaf), seen_all text.now x.1.now)) result
-        (reading.elements_from turns (reading.expr false turns 1) (map element_of found.items) (seen_all text.now tokens.now)) }
-{
-    let mut rest = tokens;
+    let mut found = Vec::new(alloc);
     for turn in 0..turns {
-        let Some((item, behind)) = first(text, rest) else {
-            return Err(Fault::Syntax(rest));
-        };
-        if item.terminal.stands_as(Terminal::CloseBrace) {
-            return Ok(((found, item), behind));
+        if let Some(closing) = closes(reader, Terminal::CloseBrace)? {
+            return Ok((found, closing));
         }
-        let (one, next) = element(alloc, text, turns, rest)?;
-        found.push(one)?;
-        match separated(text, Terminal::Comma, Terminal::CloseBrace, next) {
-            Some((None, behind)) => rest = behind,
-            Some((Some(item), behind)) => return Ok(((found, item), behind)),
-            None => return Err(Fault::Syntax(next)),
+        let field = reader.name(alloc)?;
+        reader.take(Terminal::Colon)?;
+        let value = expr(alloc, reader, false, turns - 1, 1)?;
+        push_element(&mut found, field, value)?;
+        if let Some(closing) = separated(reader, Terminal::Comma, Terminal::CloseBrace)? {
+            return Ok((found, closing));
         }
     }
     Err(Fault::Starved)
 }
 
-// A literal by fields, from the first of them on.
+// A composite literal after its `&`; its values are read with one turn less.
 #[cycle(expressions)]
-fn keyed<'a>(
-    alloc: Global,
-    text: &'a [u8],
-    turns: usize,
-    base: Ident,
-    at: usize,
-    tokens: &'a [Lexeme],
-) -> Reads<'a, Expr>
-    ensures { Gives text.now (λ x. (expr_of x.0, seen_all text.now x.1.now)) result
-        (reading.keyed turns (reading.expr false turns 1) (leaf_at at) (leaf_of base) (seen_all text.now tokens.now)) }
+fn literal<'a>(alloc: Global, reader: &mut Reader<'a>, turns: usize, at: usize) -> Read<Box<Expr>>
+    requires { 0 < turns }
+    ensures { Agrees boxed_of result reader.new
+        (reading.literal (turns - 1) (reading.expr false (turns - 1) 1) (leaf_at at) reader.old) }
 {
-    let (one, next) = element(alloc, text, turns, tokens)?;
-    let mut found = Vec::new(alloc);
-    found.push(one)?;
-    match separated(text, Terminal::Comma, Terminal::CloseBrace, next) {
-        Some((None, behind)) => {
-            let ((all, _), rest) = elements(alloc, text, turns, found, behind)?;
-            Ok((Expr::Keyed(base, all, at), rest))
-        }
-        Some((Some(_), behind)) => Ok((Expr::Keyed(base, found, at), behind)),
-        None => Err(Fault::Syntax(next)),
+    let base = reader.name(alloc)?;
+    reader.take(Terminal::OpenBrace)?;
+    if is_keyed(reader) {
+        let (all, _) = elements(alloc, reader, turns)?;
+        return Ok(Box::new(alloc, Expr::Keyed(base, all, at))?);
     }
+    let (values, _) = exprs(alloc, reader, turns - 1, Terminal::CloseBrace)?;
+    Ok(Box::new(alloc, Expr::Literal(base, values, at))?)
 }

@@ -1,112 +1,166 @@
-//! What stands between `if` or `for` and its block.
+//! The headers of `if` and `for`: what is between the keyword and the block.
 #![tactic(auto, using(rgo_ast::proofs::Rows::rows))]
 
 ghost use Rattle.std.specs.Prelude.{◌≡◌, true};
 ghost use Rattle.rgo_ast.specs.Views.{stmt_of, boxed_expr_of, boxed_stmt_of};
-ghost use Rattle.rgo_grammar.specs.ReadExprs as reading_exprs;
-ghost use Rattle.rgo_grammar.specs.ReadStmts as reading;
-ghost use Rattle.rgo_grammar.specs.Reading.{first_of};
-ghost use Rattle.rgo_grammar.specs.Seen.{seen_all};
-ghost use Rattle.rgo_parser.specs.Gives.{Gives};
-ghost use Rattle.rgo_parser.specs.Statements.{head_of};
+ghost use Rattle.rgo_grammar.specs.reading.Expressions as reading_exprs;
+ghost use Rattle.rgo_grammar.specs.reading.Statements as reading;
+ghost use Rattle.rgo_grammar.specs.reading.Read.{first_of};
+ghost use Rattle.rgo_parser.specs.Agrees.{Agrees};
+ghost use Rattle.rgo_parser.specs.Headers as headers;
 
-use crate::reads::{Fault, Reads, token};
-use crate::simple::{boxed, defining, valued};
+use crate::expressions::expr;
+use crate::reader::{Fault, Read, Reader};
+use crate::simple::{defining, valued};
 use rgo_ast::{Expr, Stmt};
-use rgo_grammar::{Lexeme, Terminal, first};
+use rgo_lexer::Terminal;
 use std::alloc::Global;
 
-/// What stands behind `if` or `for`, up to its block or its first `;`: a condition before a block, or a statement, which may be
+/// A header up to its block or its first `;`: a condition before a block, or a statement, which may be
 /// empty, and its `;`.
 #[derive(Drop)]
-pub(crate) enum Head {
+enum Head {
     Condition(Box<Expr>),
     Init(Option<Box<Stmt>>),
 }
 
-// The end of a head, behind its statement.
-fn head_end<'a>(alloc: Global, text: &'a [u8], stmt: Stmt, tokens: &'a [Lexeme]) -> Reads<'a, Head>
-    ensures { Gives text.now (λ x. (head_of x.0, seen_all text.now x.1.now)) result
-        (reading.head_end_on (stmt_of stmt) (seen_all text.now tokens.now) (first_of (seen_all text.now tokens.now))) }
+/// The header of an `if`.
+#[derive(Drop)]
+pub(crate) struct IfHeader {
+    pub(crate) init: Option<Box<Stmt>>,
+    pub(crate) test: Box<Expr>,
+}
+
+/// The header of a `for`.
+#[derive(Drop)]
+pub(crate) struct ForHeader {
+    pub(crate) init: Option<Box<Stmt>>,
+    pub(crate) test: Option<Box<Expr>>,
+    pub(crate) post: Option<Box<Stmt>>,
+}
+
+// The end of a head, after its statement.
+fn head_end<'a>(reader: &mut Reader<'a>, stmt: Box<Stmt>) -> Read<Head>
+    ensures { Agrees headers.head_of result reader.new
+        (reading.head_end_on (stmt_of stmt.value) reader.old (first_of reader.old)) }
 {
-    let Some((item, rest)) = first(text, tokens) else {
-        return Err(Fault::Syntax(tokens));
+    let Some(lexeme) = reader.peek() else {
+        return Err(Fault::Syntax);
     };
-    match item.terminal {
-        Terminal::OpenBrace => match stmt {
-            Stmt::Plain(value) => Ok((Head::Condition(value), tokens)),
-            _ => Err(Fault::Syntax(tokens)),
+    match lexeme.terminal {
+        Terminal::OpenBrace => match Box::into_inner(stmt) {
+            Stmt::Plain(value) => Ok(Head::Condition(value)),
+            _ => Err(Fault::Syntax),
         },
-        Terminal::Semicolon => Ok((Head::Init(Some(Box::new(alloc, stmt)?)), rest)),
-        _ => Err(Fault::Syntax(tokens)),
+        Terminal::Semicolon => {
+            reader.pass();
+            Ok(Head::Init(Some(stmt)))
+        }
+        _ => Err(Fault::Syntax),
     }
 }
 
-/// The head of an `if` or `for`.
-pub(crate) fn heading<'a>(
-    alloc: Global,
-    text: &'a [u8],
-    turns: usize,
-    tokens: &'a [Lexeme],
-) -> Reads<'a, Head>
-    ensures { Gives text.now (λ x. (head_of x.0, seen_all text.now x.1.now)) result
-        (reading.head (reading_exprs.expr true turns 1) (seen_all text.now tokens.now)) }
+// A header up to its block or its first `;`.
+fn read_head<'a>(alloc: Global, reader: &mut Reader<'a>, turns: usize) -> Read<Head>
+    ensures { Agrees headers.head_of result reader.new
+        (reading.head (reading_exprs.expr true turns 1) reader.old) }
 {
-    let Some((item, rest)) = first(text, tokens) else {
-        return Err(Fault::Syntax(tokens));
+    let Some(lexeme) = reader.peek() else {
+        return Err(Fault::Syntax);
     };
-    match item.terminal {
-        Terminal::Semicolon => Ok((Head::Init(None), rest)),
+    match lexeme.terminal {
+        Terminal::Semicolon => {
+            reader.pass();
+            Ok(Head::Init(None))
+        }
         _ => {
-            let (stmt, rest) = defining(alloc, text, true, turns, tokens)?;
-            head_end(alloc, text, stmt, rest)
+            let stmt = Box::new(alloc, defining(alloc, reader, true, turns)?)?;
+            head_end(reader, stmt)
         }
     }
 }
 
-/// The condition of a `for` and the `;` behind it.
-pub(crate) fn condition<'a>(
-    alloc: Global,
-    text: &'a [u8],
-    turns: usize,
-    tokens: &'a [Lexeme],
-) -> Reads<'a, Option<Box<Expr>>>
-    ensures { Gives text.now (λ x. (boxed_expr_of x.0, seen_all text.now x.1.now)) result
-        (reading.condition_on (reading_exprs.expr true turns 1) (seen_all text.now tokens.now)
-        (first_of (seen_all text.now tokens.now))) }
+// The condition of a `for` and the `;` after it.
+fn condition<'a>(alloc: Global, reader: &mut Reader<'a>, turns: usize) -> Read<Option<Box<Expr>>>
+    ensures { Agrees boxed_expr_of result reader.new
+        (reading.condition_on (reading_exprs.expr true turns 1) reader.old (first_of reader.old)) }
 {
-    let Some((item, rest)) = first(text, tokens) else {
-        return Err(Fault::Syntax(tokens));
+    let Some(lexeme) = reader.peek() else {
+        return Err(Fault::Syntax);
     };
-    match item.terminal {
-        Terminal::Semicolon => Ok((None, rest)),
+    match lexeme.terminal {
+        Terminal::Semicolon => {
+            reader.pass();
+            Ok(None)
+        }
         _ => {
-            let (value, rest) = boxed(alloc, text, true, turns, tokens)?;
-            let (_, rest) = token(text, Terminal::Semicolon, rest)?;
-            Ok((Some(value), rest))
+            let value = expr(alloc, reader, true, turns, 1)?;
+            reader.take(Terminal::Semicolon)?;
+            Ok(Some(value))
         }
     }
 }
 
-/// What a `for` does after each turn, up to its block.
-pub(crate) fn post<'a>(
-    alloc: Global,
-    text: &'a [u8],
-    turns: usize,
-    tokens: &'a [Lexeme],
-) -> Reads<'a, Option<Box<Stmt>>>
-    ensures { Gives text.now (λ x. (boxed_stmt_of x.0, seen_all text.now x.1.now)) result
-        (reading.step_on (reading_exprs.expr true turns 1) (seen_all text.now tokens.now)
-        (first_of (seen_all text.now tokens.now))) }
+// The post statement of a `for`, up to its block.
+fn post<'a>(alloc: Global, reader: &mut Reader<'a>, turns: usize) -> Read<Option<Box<Stmt>>>
+    ensures { Agrees boxed_stmt_of result reader.new
+        (reading.step_on (reading_exprs.expr true turns 1) reader.old (first_of reader.old)) }
 {
-    let Some((item, _)) = first(text, tokens) else {
-        return Err(Fault::Syntax(tokens));
+    let Some(lexeme) = reader.peek() else {
+        return Err(Fault::Syntax);
     };
-    match item.terminal {
-        Terminal::OpenBrace => Ok((None, tokens)),
+    match lexeme.terminal {
+        Terminal::OpenBrace => Ok(None),
         _ => {
-            let (stmt, rest) = valued(alloc, text, true, turns, tokens)?;
-            Ok((Some(Box::new(alloc, stmt)?), rest))
+            let stmt = valued(alloc, reader, true, turns)?;
+            Ok(Some(Box::new(alloc, stmt)?))
+        }
+    }
+}
+
+/// The header of an `if`, up to its block.
+pub(crate) fn if_header<'a>(alloc: Global, reader: &mut Reader<'a>, turns: usize) -> Read<IfHeader>
+    ensures { Agrees headers.if_of result reader.new
+        (headers.if_header (reading_exprs.expr true turns 1) reader.old) }
+{
+    match read_head(alloc, reader, turns)? {
+        Head::Condition(test) => Ok(IfHeader { init: None, test }),
+        Head::Init(init) => {
+            let test = expr(alloc, reader, true, turns, 1)?;
+            Ok(IfHeader { init, test })
+        }
+    }
+}
+
+/// The header of a `for`, up to its block.
+pub(crate) fn for_header<'a>(
+    alloc: Global,
+    reader: &mut Reader<'a>,
+    turns: usize,
+) -> Read<ForHeader>
+    ensures { Agrees headers.for_of result reader.new
+        (headers.for_header (reading_exprs.expr true turns 1) reader.old) }
+{
+    let Some(lexeme) = reader.peek() else {
+        return Err(Fault::Syntax);
+    };
+    if let Terminal::OpenBrace = lexeme.terminal {
+        return Ok(ForHeader {
+            init: None,
+            test: None,
+            post: None,
+        });
+    }
+    match read_head(alloc, reader, turns)? {
+        Head::Condition(test) => Ok(ForHeader {
+            init: None,
+            test: Some(test),
+            post: None,
+        }),
+        Head::Init(init) => {
+            let test = condition(alloc, reader, turns)?;
+            let post = post(alloc, reader, turns)?;
+            Ok(ForHeader { init, test, post })
         }
     }
 }

@@ -1,8 +1,8 @@
-//! What holds of every list of tokens, whatever parses it.
+//! What holds of every list of lexemes, whatever parses it.
 
 ghost use Rattle.rgo_parser.specs.Laws.{OneTree, OneRefusal, NeverBoth, OneOfBoth};
 
-/// A list of tokens is parsed as one program, or has one refusal.
+/// A list of lexemes is one program, or has one refusal.
 pub fn one_answer()
     ensures tree { OneTree }
     ensures refusal { OneRefusal }

@@ -1,4 +1,10 @@
-//! The parser: the tree of a text's tokens, or the first token that is wrong.
+//! The parser: the tree of a text's lexemes, or the first lexeme that is wrong.
+//!
+//! `parse` is what the compiler calls. Each private function reads one production of the grammar from
+//! a `Reader`, and its contract says that it agrees with the reading function of rgo_grammar for that
+//! production. rgo_grammar proves that the reading functions find the one tree or the first bad lexeme.
+//! The functions that call each other in a cycle are those of `expressions` and of `statements`; what
+//! they can read without the cycle is in the other files.
 #![tactic(auto)]
 
 mod declarations;
@@ -7,11 +13,15 @@ mod headers;
 mod laws;
 mod lists;
 mod locals;
+mod openings;
+mod operands;
 mod parser;
+mod prefixes;
 mod programs;
-mod reads;
+mod reader;
 mod simple;
 mod statements;
+mod suffixes;
 mod types;
 
 pub use laws::one_answer;

@@ -1,33 +1,122 @@
-//! What stands behind the items of a list.
+//! Lists of items with a separator between them.
 #![tactic(auto, using(crate::proofs::ListTurns::list_turns))]
 
-ghost use Rattle.std.specs.Prelude.{◌≡◌, MatchOption};
-ghost use Rattle.rgo_grammar.specs.Seen.{item_of, seen_all};
-ghost use Rattle.rgo_parser.specs.Gives.{ending_of};
-ghost use Rattle.rgo_parser.specs.Lists as lists;
-ghost use Rattle.rgo_grammar.specs.Reading.{Done, Failed, At};
+ghost use Rattle.std.specs.Prelude.{◌≡◌, [], map, ℕ, List};
+ghost use Rattle.rgo_grammar.specs.reading.Read as reading;
+ghost use Rattle.rgo_grammar.specs.reading.Declarations as reading_decls;
+ghost use Rattle.rgo_lexer.specs.Lexemes as lexemes;
+ghost use Rattle.rgo_parser.specs.Agrees.{Agrees, leaf_in};
+ghost use Rattle.rgo_parser.specs.Lists.{closes, separated, ending_of, listed_by};
 
-use crate::reads::Reads;
-use rgo_grammar::{Item, Lexeme, Terminal, first};
+use crate::reader::{Fault, Read, Reader};
+use rgo_lexer::{Lexeme, Terminal};
+use std::alloc::Global;
 
-/// Items of a list, and the token that closed it.
-pub(crate) type Listed<'a, T> = Reads<'a, (Vec<T>, Item<'a>)>;
+/// The items of a list, and the lexeme that closes it.
+pub(crate) type Listed<'a, T> = Read<(Vec<T>, &'a Lexeme<'a>)>;
 
-/// Behind an item of a list: the token that closes it, or none behind a separator, with the tokens behind that. None where
-/// neither comes first.
+/// What comes before an item of a list: the lexeme that closes the list, or none.
+pub(crate) fn closes<'a>(reader: &mut Reader<'a>, closer: Terminal) -> Read<Option<&'a Lexeme<'a>>>
+    ensures { Agrees ending_of result reader.new (closes closer reader.old) }
+{
+    match reader.peek() {
+        Some(lexeme) if lexeme.terminal.stands_as(closer) => {
+            reader.pass();
+            Ok(Some(lexeme))
+        }
+        Some(_) => Ok(None),
+        None => Err(Fault::Syntax),
+    }
+}
+
+/// What follows an item of a list: the lexeme that closes the list, or none after a separator.
 pub(crate) fn separated<'a>(
-    text: &'a [u8],
+    reader: &mut Reader<'a>,
     separator: Terminal,
     closer: Terminal,
-    tokens: &'a [Lexeme],
-) -> Option<(Option<Item<'a>>, &'a [Lexeme])>
-    ensures { MatchOption result
-        (lists.separated separator closer (seen_all text.now tokens.now) ≡ Failed (At (seen_all text.now tokens.now)))
-        (λ x. lists.separated separator closer (seen_all text.now tokens.now) ≡ Done (ending_of x.0) (seen_all text.now x.1.now)) }
+) -> Read<Option<&'a Lexeme<'a>>>
+    ensures { Agrees ending_of result reader.new (separated separator closer reader.old) }
 {
-    match first(text, tokens) {
-        Some((item, rest)) if item.terminal.stands_as(closer) => Some((Some(item), rest)),
-        Some((item, rest)) if item.terminal.stands_as(separator) => Some((None, rest)),
-        _ => None,
+    match reader.peek() {
+        Some(lexeme) if lexeme.terminal.stands_as(closer) => {
+            reader.pass();
+            Ok(Some(lexeme))
+        }
+        Some(lexeme) if lexeme.terminal.stands_as(separator) => {
+            reader.pass();
+            Ok(None)
+        }
+        _ => Err(Fault::Syntax),
+    }
+}
+
+/// What is read one by one in a list.
+pub(crate) trait Item: Drop {
+    ghost Tree: { Type 0 };
+
+    ghost tree_of: { Self → Tree };
+
+    ghost reads: { ℕ → List lexemes.Lexeme → reading.Read Tree };
+
+    /// One item.
+    fn read<'a>(alloc: Global, reader: &mut Reader<'a>, turns: usize) -> Read<Self>
+        ensures { Agrees tree_of result reader.new (reads turns reader.old) };
+}
+
+/// Items up to the lexeme that closes them.
+pub(crate) fn list<'a, T: Item>(
+    alloc: Global,
+    reader: &mut Reader<'a>,
+    turns: usize,
+    separator: Terminal,
+    closer: Terminal,
+) -> Listed<'a, T>
+    ensures { Agrees (listed_by T.tree_of) result reader.new
+        (reading.several separator closer (T.reads turns) turns [] reader.old) }
+{
+    let mut found = Vec::new(alloc);
+    for turn in 0..turns {
+        if let Some(closing) = closes(reader, closer)? {
+            return Ok((found, closing));
+        }
+        let item = T::read(alloc, reader, turns)?;
+        found.push(item)?;
+        if let Some(closing) = separated(reader, separator, closer)? {
+            return Ok((found, closing));
+        }
+    }
+    Err(Fault::Starved)
+}
+
+/// One item, or a group of them in parentheses.
+pub(crate) fn group<'a, T: Item>(
+    alloc: Global,
+    reader: &mut Reader<'a>,
+    turns: usize,
+) -> Read<Vec<T>>
+    ensures { Agrees (λ x. map T.tree_of x.items) result reader.new
+        (reading_decls.group (T.reads turns) turns reader.old) }
+{
+    let Some(lexeme) = reader.peek() else {
+        return Err(Fault::Syntax);
+    };
+    match lexeme.terminal {
+        Terminal::OpenParen => {
+            reader.pass();
+            let (found, _) = list::<T>(
+                alloc,
+                reader,
+                turns,
+                Terminal::Semicolon,
+                Terminal::CloseParen,
+            )?;
+            Ok(found)
+        }
+        _ => {
+            let mut found = Vec::new(alloc);
+            let item = T::read(alloc, reader, turns)?;
+            found.push(item)?;
+            Ok(found)
+        }
     }
 }

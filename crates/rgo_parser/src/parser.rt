@@ -1,37 +1,36 @@
-//! Parsing a text's tokens.
+//! Parsing the lexemes of a text.
 
-ghost use Rattle.std.specs.Prelude.{◌≡◌, IfErr, IfOk, map};
+ghost use Rattle.std.specs.Prelude.{◌≡◌, IfErr, IfOk, MatchResult, map};
 ghost use Rattle.rgo_ast.specs.Views.{decl_of, import_of, program_of};
-ghost use Rattle.rgo_grammar.specs.Seen.{seen_all};
+ghost use Rattle.rgo_grammar.specs.FirstBad.{IsFirstBad};
 ghost use Rattle.rgo_grammar.specs.Grammar.{IsProgram};
-ghost use Rattle.rgo_lexer.specs.Lexing.{LexesAs};
-ghost use Rattle.rgo_parser.specs.Parsing.{IsParsed, Fails, StopsAt};
+ghost use Rattle.rgo_parser.specs.Parsing.{IsParsed, Fails};
 ghost use Rattle.rgo_parser.specs.declared.parser.ParseError.TheVariants.{NoMemory};
 
 use crate::programs::program;
-use crate::reads::Fault;
-use rgo_ast::{Decl, Import, Program};
-use rgo_grammar::{Lexeme, deep_at, terms_of};
-use rgo_lexer::Token;
+use crate::reader::{Fault, Reader};
+use rgo_ast::{Decl, Import, Place, Program};
+use rgo_grammar::deep_at;
+use rgo_lexer::Lexeme;
 use std::alloc::{AllocError, Global};
 use thiserror::Error;
 
 /// How deep a program may nest.
 const LIMIT: usize = 200;
 
-/// Why tokens are no program: what is wrong first, and the number of the token where it is, counted from 0. The number of
-/// tokens stands for the text's end.
+/// Why lexemes are not a program: what is wrong first, and the number of the lexeme where it is, counted
+/// from 0. The number of all lexemes means the text's end.
 #[derive(Clone, Copy, Debug, PartialEq, Eq, Error)]
 pub enum ParseRefusal {
-    /// No program goes on with this token.
+    /// No program continues with this lexeme.
     #[error("wrong syntax at token {at}")]
     Syntax { at: usize },
-    /// The program nests too deep from this token on.
+    /// The program nests too deep from this lexeme on.
     #[error("too deep at token {at}")]
     TooDeep { at: usize },
 }
 
-/// Why there is no tree: memory ran out, or the tokens are no program.
+/// Why there is no tree: memory ran out, or the lexemes are not a program.
 #[derive(Clone, Copy, Debug, PartialEq, Eq, Error)]
 pub enum ParseError {
     #[error("out of memory")]
@@ -48,51 +47,47 @@ impl From<AllocError> for ParseError {
     }
 }
 
-// Why a list of terms has no tree.
-#[derive(Drop)]
-enum Stopped {
-    NoMemory,
-    /// At the first with which no program goes on.
-    At(usize),
-}
-
-// The imports and the declarations of a whole list of terms.
-fn whole(alloc: Global, text: &[u8], terms: &[Lexeme]) -> Result<(Vec<Import>, Vec<Decl>), Stopped>
-    ensures parsed { IfOk result (λ x. IsProgram (seen_all text.now terms.now) (map import_of x.0.items) (map decl_of x.1.items)) }
-    ensures stopped { IfErr result (StopsAt (seen_all text.now terms.now)) }
+// The imports and the declarations of a whole list of lexemes, or the number of the first with which no
+// program continues. The outer error says that memory ran out.
+fn whole<'a>(
+    alloc: Global,
+    lexemes: &'a [Lexeme<'a>],
+) -> Result<Result<(Vec<Import>, Vec<Decl>), usize>, AllocError>
+    ensures { IfOk result (λ read. MatchResult read
+        (λ x. IsProgram lexemes.now (map import_of x.0.items) (map decl_of x.1.items))
+        (IsFirstBad lexemes.now)) }
 {
-    match program(alloc, text, 4 * terms.len() + 4, terms) {
-        Ok((found, _)) => Ok(found),
-        Err(Fault::NoMemory) => Err(Stopped::NoMemory),
-        Err(Fault::Syntax(rest)) => Err(Stopped::At(terms.len() - rest.len())),
+    let mut reader = Reader::new(lexemes);
+    match program(alloc, &mut reader, 4 * lexemes.len() + 4) {
+        Ok(found) => Ok(Ok(found)),
+        Err(Fault::NoMemory) => Err(AllocError),
+        Err(Fault::Syntax) => Ok(Err(lexemes.len() - reader.left())),
         Err(Fault::Starved) => unreachable!(),
     }
 }
 
-/// The program that a text's tokens are.
-pub fn parse(alloc: Global, text: &[u8], tokens: &[Token]) -> Result<Program, ParseError>
-    requires { Tokens text.now tokens.now }
-    ensures parsed { IfOk result (λ program. IsParsed text.now tokens.now (program_of program)) }
-    ensures refused { IfErr result (Fails text.now tokens.now) }
+/// The program that the lexemes of a text are; `end` is the length of the text.
+pub fn parse<'a>(
+    alloc: Global,
+    end: Place,
+    lexemes: &'a [Lexeme<'a>],
+) -> Result<Program, ParseError>
+    ensures parsed { IfOk result (λ program. IsParsed end lexemes.now (program_of program)) }
+    ensures refused { IfErr result (Fails lexemes.now) }
 {
-    let terms = terms_of(alloc, text, tokens)?;
-    match deep_at(alloc, LIMIT, &terms)? {
-        None => match whole(alloc, text, &terms) {
+    match deep_at(alloc, LIMIT, lexemes)? {
+        None => match whole(alloc, lexemes)? {
             Ok((imports, decls)) => Ok(Program {
                 imports,
                 decls,
-                end: text.len(),
+                end,
             }),
-            Err(Stopped::NoMemory) => Err(ParseError::NoMemory),
-            Err(Stopped::At(at)) => Err(ParseError::Refused(ParseRefusal::Syntax { at })),
+            Err(at) => Err(ParseError::Refused(ParseRefusal::Syntax { at })),
         },
-        Some(deep) => match whole(alloc, text, &terms[..deep + 1]) {
+        Some(deep) => match whole(alloc, &lexemes[..deep + 1])? {
             Ok(_) => Err(ParseError::Refused(ParseRefusal::TooDeep { at: deep })),
-            Err(Stopped::NoMemory) => Err(ParseError::NoMemory),
-            Err(Stopped::At(at)) if at > deep => Err(ParseError::Refused(ParseRefusal::TooDeep {
-                at: deep,
-            })),
-            Err(Stopped::At(at)) => Err(ParseError::Refused(ParseRefusal::Syntax { at })),
+            Err(at) if at > deep => Err(ParseError::Refused(ParseRefusal::TooDeep { at: deep })),
+            Err(at) => Err(ParseError::Refused(ParseRefusal::Syntax { at })),
         },
     }
 }

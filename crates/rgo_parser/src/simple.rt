@@ -2,88 +2,78 @@
 #![tactic(auto, using(rgo_ast::proofs::Rows::rows))]
 
 ghost use Rattle.std.specs.Prelude.{◌≡◌};
-ghost use Rattle.rgo_ast.specs.Views.{expr_of, stmt_of};
-ghost use Rattle.rgo_grammar.specs.ReadExprs as reading_exprs;
-ghost use Rattle.rgo_grammar.specs.ReadStmts as reading;
-ghost use Rattle.rgo_grammar.specs.Seen.{seen_all};
-ghost use Rattle.rgo_parser.specs.Gives.{Gives};
+ghost use Rattle.rgo_ast.specs.Views.{stmt_of};
+ghost use Rattle.rgo_grammar.specs.reading.Expressions as reading_exprs;
+ghost use Rattle.rgo_grammar.specs.reading.Statements as reading;
+ghost use Rattle.rgo_parser.specs.Agrees.{Agrees};
 
 use crate::expressions::expr;
-use crate::reads::{Fault, Reads, ident_of};
-use rgo_ast::{Expr, Stmt};
-use rgo_grammar::{Lexeme, Terminal, first};
+use crate::reader::{Fault, Read, Reader, ident};
+use rgo_ast::Stmt;
+use rgo_lexer::Terminal;
 use std::alloc::Global;
 
-/// An expression in a box; `header` says that it stands between `if` or `for` and its block.
-pub(crate) fn boxed<'a>(
-    alloc: Global,
-    text: &'a [u8],
-    header: bool,
-    turns: usize,
-    tokens: &'a [Lexeme],
-) -> Reads<'a, Box<Expr>>
-    ensures { Gives text.now (λ x. (expr_of x.0.value, seen_all text.now x.1.now)) result
-        (reading_exprs.expr header turns 1 (seen_all text.now tokens.now)) }
-{
-    let (value, rest) = expr(alloc, text, header, turns, 1, tokens)?;
-    Ok((Box::new(alloc, value)?, rest))
-}
-
-/// A simple statement that begins with an expression; `header` as for `boxed`.
+/// A simple statement that begins with an expression; `header` says that it is between `if` or `for`
+/// and its block.
 pub(crate) fn valued<'a>(
     alloc: Global,
-    text: &'a [u8],
+    reader: &mut Reader<'a>,
     header: bool,
     turns: usize,
-    tokens: &'a [Lexeme],
-) -> Reads<'a, Stmt>
-    ensures { Gives text.now (λ x. (stmt_of x.0, seen_all text.now x.1.now)) result
-        (reading.valued (reading_exprs.expr header turns 1) (seen_all text.now tokens.now)) }
+) -> Read<Stmt>
+    ensures { Agrees stmt_of result reader.new
+        (reading.valued (reading_exprs.expr header turns 1) reader.old) }
 {
-    let (value, rest) = boxed(alloc, text, header, turns, tokens)?;
-    let Some((item, behind)) = first(text, rest) else {
-        return Ok((Stmt::Plain(value), rest));
+    let value = expr(alloc, reader, header, turns, 1)?;
+    let Some(lexeme) = reader.peek() else {
+        return Ok(Stmt::Plain(value));
     };
-    match item.terminal {
+    match lexeme.terminal {
         Terminal::Arrow => {
-            let (sent, rest) = boxed(alloc, text, header, turns, behind)?;
-            Ok((Stmt::Send(value, sent, item.at), rest))
+            reader.pass();
+            let sent = expr(alloc, reader, header, turns, 1)?;
+            Ok(Stmt::Send(value, sent, lexeme.at))
         }
-        Terminal::Step(op) => Ok((Stmt::Step(op, value, item.at), behind)),
+        Terminal::Step(op) => {
+            reader.pass();
+            Ok(Stmt::Step(op, value, lexeme.at))
+        }
         Terminal::Assign(op) => {
-            let (assigned, rest) = boxed(alloc, text, header, turns, behind)?;
-            Ok((Stmt::Assign(op, value, assigned, item.at), rest))
+            reader.pass();
+            let assigned = expr(alloc, reader, header, turns, 1)?;
+            Ok(Stmt::Assign(op, value, assigned, lexeme.at))
         }
-        _ => Ok((Stmt::Plain(value), rest)),
+        _ => Ok(Stmt::Plain(value)),
     }
 }
 
-/// A simple statement that may be a definition; `header` as for `boxed`.
+/// A simple statement that may be a definition; `header` as for `valued`.
 pub(crate) fn defining<'a>(
     alloc: Global,
-    text: &'a [u8],
+    reader: &mut Reader<'a>,
     header: bool,
     turns: usize,
-    tokens: &'a [Lexeme],
-) -> Reads<'a, Stmt>
-    ensures { Gives text.now (λ x. (stmt_of x.0, seen_all text.now x.1.now)) result
-        (reading.defining (reading_exprs.expr header turns 1) (seen_all text.now tokens.now)) }
+) -> Read<Stmt>
+    ensures { Agrees stmt_of result reader.new
+        (reading.defining (reading_exprs.expr header turns 1) reader.old) }
 {
-    let Some((item, rest)) = first(text, tokens) else {
-        return Err(Fault::Syntax(tokens));
+    let Some(name) = reader.peek() else {
+        return Err(Fault::Syntax);
     };
-    let Terminal::Name = item.terminal else {
-        return valued(alloc, text, header, turns, tokens);
+    let Terminal::Name = name.terminal else {
+        return valued(alloc, reader, header, turns);
     };
-    let Some((define, rest)) = first(text, rest) else {
-        return valued(alloc, text, header, turns, tokens);
+    let Some(define) = reader.peek_second() else {
+        return valued(alloc, reader, header, turns);
     };
     match define.terminal {
         Terminal::Define => {
-            let name = ident_of(alloc, item.word, item.at)?;
-            let (value, rest) = boxed(alloc, text, header, turns, rest)?;
-            Ok((Stmt::Define(name, value, define.at), rest))
+            reader.pass();
+            reader.pass();
+            let defined = ident(alloc, name)?;
+            let value = expr(alloc, reader, header, turns, 1)?;
+            Ok(Stmt::Define(defined, value, define.at))
         }
-        _ => valued(alloc, text, header, turns, tokens),
+        _ => valued(alloc, reader, header, turns),
     }
 }

@@ -1,75 +1,67 @@
 //! Names and types.
-#![tactic(auto, using(rgo_ast::proofs::Rows::rows, crate::proofs::TypeTurns::type_turns, crate::proofs::ListTurns::list_turns))]
+#![tactic(auto, using(rgo_ast::proofs::Rows::rows, crate::proofs::TypeTurns::type_turns))]
 
-ghost use Rattle.std.specs.Prelude.{◌≡◌, ◌∷◌, [], map};
+ghost use Rattle.std.specs.Prelude.{◌≡◌, ◌∷◌, []};
+ghost use Rattle.rgo_ast.specs.Tree as tree;
 ghost use Rattle.rgo_ast.specs.Views.{type_expr_of, binding_of};
-ghost use Rattle.rgo_grammar.specs.ReadTypes as reading;
-ghost use Rattle.rgo_grammar.specs.Seen.{item_of, seen_all};
-ghost use Rattle.rgo_parser.specs.Gives.{Gives, leaf_of};
+ghost use Rattle.rgo_grammar.specs.reading.Types as reading;
+ghost use Rattle.rgo_parser.specs.Agrees.{Agrees};
 
-use crate::lists::{Listed, separated};
-use crate::reads::{Fault, Reads, ident_of, name, token};
+use crate::lists::Item;
+use crate::reader::{Fault, Read, Reader, ident};
 use rgo_ast::{BinaryOp, Binding, Ident, TypeExpr};
-use rgo_grammar::{Lexeme, Terminal, first};
+use rgo_lexer::Terminal;
 use std::alloc::Global;
 
 /// A type.
-pub(crate) fn ty<'a>(
-    alloc: Global,
-    text: &'a [u8],
-    turns: usize,
-    tokens: &'a [Lexeme],
-) -> Reads<'a, TypeExpr>
-    ensures { Gives text.now (λ x. (type_expr_of x.0, seen_all text.now x.1.now)) result (reading.a_type turns (seen_all text.now tokens.now)) }
+pub(crate) fn ty<'a>(alloc: Global, reader: &mut Reader<'a>, turns: usize) -> Read<TypeExpr>
+    ensures { Agrees type_expr_of result reader.new (reading.a_type turns reader.old) }
 {
     if turns == 0 {
         return Err(Fault::Starved);
     }
-    let Some((item, rest)) = first(text, tokens) else {
-        return Err(Fault::Syntax(tokens));
+    let Some(lexeme) = reader.peek() else {
+        return Err(Fault::Syntax);
     };
-    match item.terminal {
-        Terminal::Name => Ok((TypeExpr::Named(ident_of(alloc, item.word, item.at)?), rest)),
+    match lexeme.terminal {
+        Terminal::Name => {
+            reader.pass();
+            Ok(TypeExpr::Named(ident(alloc, lexeme)?))
+        }
         Terminal::Binary(BinaryOp::Mul) => {
-            let (base, rest) = name(alloc, text, rest)?;
-            Ok((TypeExpr::Pointer(base, item.at), rest))
+            reader.pass();
+            let base = reader.name(alloc)?;
+            Ok(TypeExpr::Pointer(base, lexeme.at))
         }
         Terminal::OpenBracket => {
-            let (_, rest) = token(text, Terminal::CloseBracket, rest)?;
-            let (element, rest) = ty(alloc, text, turns - 1, rest)?;
-            Ok((TypeExpr::Slice(Box::new(alloc, element)?, item.at), rest))
+            reader.pass();
+            reader.take(Terminal::CloseBracket)?;
+            let element = ty(alloc, reader, turns - 1)?;
+            Ok(TypeExpr::Slice(Box::new(alloc, element)?, lexeme.at))
         }
         Terminal::Chan => {
-            let (element, rest) = ty(alloc, text, turns - 1, rest)?;
-            Ok((TypeExpr::Chan(Box::new(alloc, element)?, item.at), rest))
+            reader.pass();
+            let element = ty(alloc, reader, turns - 1)?;
+            Ok(TypeExpr::Chan(Box::new(alloc, element)?, lexeme.at))
         }
-        _ => Err(Fault::Syntax(tokens)),
+        _ => Err(Fault::Syntax),
     }
 }
 
 // The names of a declaration, of which the first was read.
-fn names<'a>(
-    alloc: Global,
-    text: &'a [u8],
-    turns: usize,
-    one: Ident,
-    tokens: &'a [Lexeme],
-) -> Reads<'a, Vec<Ident>>
-    ensures { Gives text.now (λ x. (x.0.items, seen_all text.now x.1.now)) result (reading.names turns (one ∷ []) (seen_all text.now tokens.now)) }
+fn names<'a>(alloc: Global, reader: &mut Reader<'a>, turns: usize, one: Ident) -> Read<Vec<Ident>>
+    ensures { Agrees (λ x. x.items) result reader.new (reading.names turns (one ∷ []) reader.old) }
 {
     let mut found = Vec::new(alloc);
     found.push(one)?;
-    let mut rest = tokens;
     for turn in 0..turns {
-        let Some((item, behind)) = first(text, rest) else {
-            return Ok((found, rest));
-        };
-        if !item.terminal.stands_as(Terminal::Comma) {
-            return Ok((found, rest));
+        match reader.peek() {
+            Some(lexeme) if lexeme.terminal.stands_as(Terminal::Comma) => {
+                reader.pass();
+                found.push(reader.name(alloc)?)?;
+            }
+            _ => return Ok(found),
         }
-        let (next, behind) = name(alloc, text, behind)?;
-        found.push(next)?;
-        rest = behind;
     }
     Err(Fault::Starved)
 }
@@ -77,61 +69,27 @@ fn names<'a>(
 /// The names of a declaration, of which the first was read, and their type.
 pub(crate) fn typed_names<'a>(
     alloc: Global,
-    text: &'a [u8],
+    reader: &mut Reader<'a>,
     turns: usize,
     one: Ident,
-    tokens: &'a [Lexeme],
-) -> Reads<'a, Binding>
-    ensures { Gives text.now (λ x. (binding_of x.0, seen_all text.now x.1.now)) result
-        (reading.typed_names turns (one ∷ []) (seen_all text.now tokens.now)) }
+) -> Read<Binding>
+    ensures { Agrees binding_of result reader.new (reading.typed_names turns (one ∷ []) reader.old) }
 {
-    let (names, rest) = names(alloc, text, turns, one, tokens)?;
-    let (ty, rest) = ty(alloc, text, turns, rest)?;
-    Ok((Binding { names, ty }, rest))
+    let names = names(alloc, reader, turns, one)?;
+    let ty = ty(alloc, reader, turns)?;
+    Ok(Binding { names, ty })
 }
 
-/// Names and their type.
-pub(crate) fn binding<'a>(
-    alloc: Global,
-    text: &'a [u8],
-    turns: usize,
-    tokens: &'a [Lexeme],
-) -> Reads<'a, Binding>
-    ensures { Gives text.now (λ x. (binding_of x.0, seen_all text.now x.1.now)) result
-        (reading.binding turns (seen_all text.now tokens.now)) }
-{
-    let (one, rest) = name(alloc, text, tokens)?;
-    typed_names(alloc, text, turns, one, rest)
-}
+impl Item for Binding {
+    ghost Tree = { tree.Binding };
 
-/// Bindings up to the token that closes them.
-pub(crate) fn bindings<'a>(
-    alloc: Global,
-    text: &'a [u8],
-    turns: usize,
-    separator: Terminal,
-    closer: Terminal,
-    tokens: &'a [Lexeme],
-) -> Listed<'a, Binding>
-    ensures { Gives text.now (λ x. ((map binding_of x.0.0.items, (item_of x.0.1).leaf), seen_all text.now x.1.now)) result
-        (reading.bindings separator closer turns (seen_all text.now tokens.now)) }
-{
-    let mut found = Vec::new(alloc);
-    let mut rest = tokens;
-    for turn in 0..turns {
-        let Some((item, behind)) = first(text, rest) else {
-            return Err(Fault::Syntax(rest));
-        };
-        if item.terminal.stands_as(closer) {
-            return Ok(((found, item), behind));
-        }
-        let (one, next) = binding(alloc, text, turns, rest)?;
-        found.push(one)?;
-        match separated(text, separator, closer, next) {
-            Some((None, behind)) => rest = behind,
-            Some((Some(item), behind)) => return Ok(((found, item), behind)),
-            None => return Err(Fault::Syntax(next)),
-        }
+    ghost tree_of = { binding_of };
+
+    ghost reads = { reading.binding };
+
+    /// Names and their type.
+    fn read<'a>(alloc: Global, reader: &mut Reader<'a>, turns: usize) -> Read<Binding> {
+        let one = reader.name(alloc)?;
+        typed_names(alloc, reader, turns, one)
     }
-    Err(Fault::Starved)
 }

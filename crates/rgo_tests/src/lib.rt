@@ -27,7 +27,7 @@ mod scopes;
 #[cfg(test)]
 mod slow_sinks;
 #[cfg(test)]
-mod surface;
+mod texts;
 #[cfg(test)]
 mod typed;
 #[cfg(test)]

@@ -1,23 +1,11 @@
-//! Programs built by hand, run step by step on the source machine.
+//! Programs that are run step by step on the source machine.
 
-use crate::typed_trees::{function, int, meeting, number, one, print, program, two};
-use rgo_ast::BinaryOp;
+use crate::texts::typed;
 use rgo_machine::{End, Pick, Stepped};
 use rgo_meaning::{Next, SourceState, next_act, printed, start, step};
-use rgo_typed::{Action, Term, Typed};
 use rgo_values::{Trap, Value};
 use std::alloc::Global;
 use std::test::Fail;
-
-/// `func main() { fmt.Println("a b", a/b) }`, with the division at place 7.
-fn division(alloc: Global, a: i64, b: i64) -> Result<Typed, Fail> {
-    let operands = two(alloc, number(alloc, a)?, number(alloc, b)?)?;
-    let division = Action::Binary(BinaryOp::Div);
-    let quotient = Term::Apply(division, operands, int(alloc)?, 7);
-    let body = one(alloc, print(alloc, "a b", quotient)?)?;
-    let main = function(alloc, "main", 0, 0, body)?;
-    Ok(program(alloc, one(alloc, main)?))
-}
 
 /// Steps one goroutine as long as it advances, and returns what the last step reported.
 fn run_alone(alloc: Global, state: &mut SourceState<'_>, g: usize) -> Result<Stepped, Fail> {
@@ -30,54 +18,58 @@ fn run_alone(alloc: Global, state: &mut SourceState<'_>, g: usize) -> Result<Ste
     Ok(Stepped::Advanced)
 }
 
+/// Operands of a division, with what is printed and how the program ends.
+const DIVISIONS: [(i64, i64, &str, End); 3] = [
+    (-7, 2, "a b -3\n", End::Exit),
+    (6, 3, "a b 2\n", End::Exit),
+    (1, 0, "", End::Trap(Trap::DivideZero, 79)),
+];
+
 #[test]
 fn no_step_follows_the_end(rt: HostRuntime) -> Result<(), Fail> {
     let alloc = rt.alloc();
-    let cases = [
-        (-7, 2, b"a b -3\n".as_slice(), End::Exit),
-        (6, 3, b"a b 2\n".as_slice(), End::Exit),
-        (1, 0, b"".as_slice(), End::Trap(Trap::DivideZero, 7)),
-    ];
-    for (a, b, out, end) in cases {
-        let program = division(alloc, a, b)?;
+    for (a, b, print, end) in DIVISIONS {
+        let text = format!(in alloc;
+            "package main; import \"fmt\"; func main() {{ a := {a}; b := {b}; fmt.Println(\"a b\", a / b) }}"
+        )?;
+        let program = typed(alloc, text.as_str())?;
         let mut state = start(alloc, &program)?;
         assert_eq!(rt; run_alone(alloc, &mut state, 0)?, Stepped::Ended(end));
-        assert_eq!(rt; printed(&state), out);
-        assert_eq!(rt; step(alloc, &mut state, Pick::One(0))?, Stepped::NotEnabled);
-        assert_eq!(rt;
-            step(alloc, &mut state, Pick::Meet(0, 1))?,
-            Stepped::NotEnabled
-        );
+        assert_eq!(rt; printed(&state), print.as_bytes());
+        for pick in [Pick::One(0), Pick::Meet(0, 1)] {
+            assert_eq!(rt; step(alloc, &mut state, pick)?, Stepped::NotEnabled);
+        }
     }
     Ok(())
 }
 
+const MEETING: &str = "\
+package main
+import \"fmt\"
+func f(c chan int) { c <- 7 }
+func main() { c := make(chan int); go f(c); fmt.Println(\"a b\", <-c) }
+";
+
 #[test]
 fn only_a_receiver_and_a_sender_meet(rt: HostRuntime) -> Result<(), Fail> {
     let alloc = rt.alloc();
-    let program = meeting(alloc)?;
+    let program = typed(alloc, MEETING)?;
     let mut state = start(alloc, &program)?;
-    assert_eq!(rt; step(alloc, &mut state, Pick::One(1))?, Stepped::NotEnabled);
-    assert_eq!(rt; run_alone(alloc, &mut state, 0)?, Stepped::NotEnabled);
+    let refused = Stepped::NotEnabled;
+    assert_eq!(rt; step(alloc, &mut state, Pick::One(1))?, refused);
+    assert_eq!(rt; run_alone(alloc, &mut state, 0)?, refused);
     assert_eq!(rt; next_act(&state, 0), Next::Receive(Value::Object(0)));
     assert_eq!(rt; next_act(&state, 1), Next::Other);
-    assert_eq!(rt;
-        step(alloc, &mut state, Pick::Meet(0, 1))?,
-        Stepped::NotEnabled
-    );
-    assert_eq!(rt; run_alone(alloc, &mut state, 1)?, Stepped::NotEnabled);
+    assert_eq!(rt; step(alloc, &mut state, Pick::Meet(0, 1))?, refused);
+    assert_eq!(rt; run_alone(alloc, &mut state, 1)?, refused);
     assert_eq!(rt; next_act(&state, 1), Next::Send(Value::Object(0)));
     for (receiver, sender) in [(1, 0), (0, 0), (1, 1), (0, 2)] {
-        assert_eq!(rt;
-            step(alloc, &mut state, Pick::Meet(receiver, sender))?,
-            Stepped::NotEnabled
-        );
+        let pick = Pick::Meet(receiver, sender);
+        assert_eq!(rt; step(alloc, &mut state, pick)?, refused);
     }
-    assert_eq!(rt;
-        step(alloc, &mut state, Pick::Meet(0, 1))?,
-        Stepped::Advanced
-    );
+    let met = step(alloc, &mut state, Pick::Meet(0, 1))?;
+    assert_eq!(rt; met, Stepped::Advanced);
     assert_eq!(rt; run_alone(alloc, &mut state, 0)?, Stepped::Ended(End::Exit));
-    assert_eq!(rt; printed(&state), b"got 7\n".as_slice());
+    assert_eq!(rt; printed(&state), b"a b 7\n".as_slice());
     Ok(())
 }

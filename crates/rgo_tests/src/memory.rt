@@ -1,7 +1,6 @@
 //! Sequences of actions on one memory, each with the effect that the language assigns to it.
 
-use crate::surface::name_of;
-use crate::typed_trees::{int, two, ty};
+use crate::typed_trees::{name_of, two, ty};
 use rgo_ast::BinaryOp;
 use rgo_memory::{Effect, Memory, meets_at, perform};
 use rgo_typed::{Action, Base, Layer, Row, Struct, Type, Variable};
@@ -70,7 +69,7 @@ const CHANNELS_THAT_ARE_NIL: [Step<'static>; 3] = [
 #[test]
 fn channels_are_first_in_first_out(rt: HostRuntime) -> Result<(), Fail> {
     let alloc = rt.alloc();
-    let int = int(alloc)?;
+    let int = ty(alloc, &[], Base::Int)?;
     let mut memory = Memory::new(alloc, &[])?;
     steps_hold(&rt, alloc, &mut memory, &int, &FIRST_IN_FIRST_OUT)?;
     steps_hold(&rt, alloc, &mut memory, &int, &CHANNELS_THAT_ARE_NIL)
@@ -79,7 +78,7 @@ fn channels_are_first_in_first_out(rt: HostRuntime) -> Result<(), Fail> {
 #[test]
 fn channels_without_buffer_are_met_at(rt: HostRuntime) -> Result<(), Fail> {
     let alloc = rt.alloc();
-    let int = int(alloc)?;
+    let int = ty(alloc, &[], Base::Int)?;
     let mut memory = Memory::new(alloc, &[])?;
     let made: [Step<'_>; 3] = [
         (Action::Chan, &[Value::Int(0)], Effect::Gives(FIRST)),
@@ -186,7 +185,7 @@ const FIELDS: [Step<'static>; 6] = [
 #[test]
 fn fields_are_read_and_written(rt: HostRuntime) -> Result<(), Fail> {
     let alloc = rt.alloc();
-    let int = int(alloc)?;
+    let int = ty(alloc, &[], Base::Int)?;
     let value = ty(alloc, &[], Base::Int)?;
     let next = ty(alloc, &[], Base::Pointer(0))?;
     let node = Struct {
@@ -223,7 +222,7 @@ const VARIABLES: [Step<'static>; 9] = [
 #[test]
 fn variables_and_plain_values(rt: HostRuntime) -> Result<(), Fail> {
     let alloc = rt.alloc();
-    let int = int(alloc)?;
+    let int = ty(alloc, &[], Base::Int)?;
     let variable = Variable {
         name: name_of(alloc, "total")?,
         ty: ty(alloc, &[], Base::Int)?,

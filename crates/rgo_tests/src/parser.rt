@@ -1,5 +1,5 @@
-//! Texts with the token at which they are refused. The marks were found by parsers outside of this repository: one over
-//! the grammar as it is written, one over its table.
+//! Texts with the lexeme at which they are refused. The marks were found by two parsers outside of this
+//! repository, one over the grammar as it is written, one over its table.
 
 mod marked;
 mod nested;
@@ -11,31 +11,28 @@ use std::alloc::{AllocError, AllocFailed, Global};
 use std::process::Abort;
 use std::test::Fail;
 
-// What stands before the body of `main`.
+/// The text before the body of `main`.
 const BEFORE: &str = "package main; func main() { ";
 
-// The program of a text, or the token that refuses it.
+/// The program of a text, or its refusal.
 fn parsed(alloc: Global, text: &[u8]) -> Result<Result<Program, ParseRefusal>, Fail> {
-    let tokens = lex(alloc, text)?;
-    match parse(alloc, text, &tokens) {
+    let lexemes = lex(alloc, text)?;
+    match parse(alloc, text.len(), &lexemes) {
         Ok(program) => Ok(Ok(program)),
         Err(ParseError::Refused(refusal)) => Ok(Err(refusal)),
         Err(ParseError::NoMemory) => Err(Fail::from("out of memory")),
     }
 }
 
-// The first token that begins at a place or behind it; the number of tokens where none does.
-fn token_at(alloc: Global, text: &[u8], place: usize) -> Result<usize, Fail> {
-    let tokens = lex(alloc, text)?;
-    Ok(
-        tokens
-            .iter()
-            .position(|t| t.span.start >= place)
-            .unwrap_or(tokens.len()),
-    )
+/// The number of the first lexeme at a place or after it. If there is none, the number of lexemes.
+fn lexeme_at(alloc: Global, text: &[u8], place: usize) -> Result<usize, Fail> {
+    let lexemes = lex(alloc, text)?;
+    let found = lexemes.iter().position(|lexeme| lexeme.at >= place);
+    Ok(found.unwrap_or(lexemes.len()))
 }
 
-// Adds a marked text without its mark, and tells where that was: no place of the text where the end is refused.
+/// Appends a marked text without its mark, and returns the place of the mark, which is beyond the
+/// text if its end is refused.
 fn unmarked(text: &mut Vec<u8>, marked: &str) -> Result<Option<usize>, AllocFailed<u8>> {
     let mut mark = None;
     for byte in marked.bytes() {
@@ -49,20 +46,22 @@ fn unmarked(text: &mut Vec<u8>, marked: &str) -> Result<Option<usize>, AllocFail
     Ok(mark)
 }
 
-// Whether a marked text between two others is refused at its mark, or is a program where it has none.
+/// Whether a marked text between two others is refused at its mark, or is a program if it has none.
 fn is_refused_at_its_mark(
     alloc: Global,
     before: &str,
     marked: &str,
-    behind: &str,
+    after: &str,
 ) -> Result<bool, Fail> {
     let mut text = Vec::new(alloc);
     text.extend_from_slice(before.as_bytes())?;
     let mark = unmarked(&mut text, marked)?;
-    text.extend_from_slice(behind.as_bytes())?;
+    text.extend_from_slice(after.as_bytes())?;
     match (parsed(alloc, &text)?, mark) {
         (Ok(_), None) => Ok(true),
-        (Err(ParseRefusal::Syntax { at }), Some(place)) => Ok(at == token_at(alloc, &text, place)?),
+        (Err(ParseRefusal::Syntax { at }), Some(place)) => Ok(
+            at == lexeme_at(alloc, &text, place)?,
+        ),
         _ => Ok(false),
     }
 }

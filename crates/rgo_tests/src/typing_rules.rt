@@ -5,14 +5,19 @@ mod lists;
 pub(crate) mod names;
 mod plain;
 
-use crate::surface::ident;
+use crate::typed_trees::name_of;
 use plain::Row;
-use rgo_ast::{BinaryOp, TypeExpr, UnaryOp};
+use rgo_ast::{BinaryOp, Ident, TypeExpr, UnaryOp};
 use rgo_typed::{Base, Layer};
 use rgo_typing_rules::{Kind, Node, Role, Rule, Shape, Signature, broken, fold, fold_one};
 use std::alloc::Global;
 use std::process::Abort;
 use std::test::Fail;
+
+fn ident(alloc: Global, word: &str) -> Result<Ident, Fail> {
+    let name = name_of(alloc, word)?;
+    Ok(Ident { name, at: 0 })
+}
 
 fn rows_hold<R: Abort>(rt: &R, rows: &[Row<'_>]) {
     for (rule, bad, good) in rows {
@@ -120,7 +125,7 @@ fn pair_breaks<'a>(a: Shape<'a>, b: Shape<'a>) -> [Option<Rule>; 4] {
 #[test]
 fn literals_break_their_rules(rt: HostRuntime) -> Result<(), Fail> {
     let alloc = rt.alloc();
-    let int = TypeExpr::Named(ident(alloc, "int", 0)?);
+    let int = TypeExpr::Named(ident(alloc, "int")?);
     for (fields, values, wanted) in lists::LITERALS {
         let broken = literal_of(alloc, &int, fields, values)?;
         assert_eq!(rt; broken, wanted, "{values} for {fields}");
@@ -140,7 +145,7 @@ fn literals_break_their_rules(rt: HostRuntime) -> Result<(), Fail> {
 #[test]
 fn calls_break_their_rules(rt: HostRuntime) -> Result<(), Fail> {
     let alloc = rt.alloc();
-    let int = TypeExpr::Named(ident(alloc, "int", 0)?);
+    let int = TypeExpr::Named(ident(alloc, "int")?);
     for (params, gives, args, wanted) in lists::CALLS {
         let signature = letters::signature(alloc, params, gives)?;
         let broken = call_of(alloc, &signature, args)?;
@@ -155,7 +160,7 @@ fn calls_break_their_rules(rt: HostRuntime) -> Result<(), Fail> {
 
 #[test]
 fn pairs_break_their_rules(rt: HostRuntime) -> Result<(), Fail> {
-    let int = TypeExpr::Named(ident(rt.alloc(), "int", 0)?);
+    let int = TypeExpr::Named(ident(rt.alloc(), "int")?);
     for (a, b, wanted) in lists::PAIRS {
         let broken = pair_breaks(letters::value(a, &int), letters::value(b, &int));
         assert_eq!(rt; broken, wanted, "{a} and {b}");
@@ -167,10 +172,10 @@ fn pairs_break_their_rules(rt: HostRuntime) -> Result<(), Fail> {
 #[test]
 fn types_are_identical_by_their_spelling(rt: HostRuntime) -> Result<(), Fail> {
     let alloc = rt.alloc();
-    let int = TypeExpr::Named(ident(alloc, "int", 0)?);
-    let pointer = TypeExpr::Pointer(ident(alloc, "S", 0)?, 0);
+    let int = TypeExpr::Named(ident(alloc, "int")?);
+    let pointer = TypeExpr::Pointer(ident(alloc, "S")?, 0);
     let channel = TypeExpr::Chan(
-        Box::new(alloc, TypeExpr::Pointer(ident(alloc, "S", 0)?, 0))?,
+        Box::new(alloc, TypeExpr::Pointer(ident(alloc, "S")?, 0))?,
         0,
     );
     let types = [

@@ -1,5 +1,5 @@
-//! Texts with a mark before the token that is refused: `@`, or `$` where it is the end that is refused. A `~` stands for a
-//! newline.
+//! Texts with a mark before the lexeme that is refused: `@`, or `$` if the end is refused. A `~`
+//! stands for a newline.
 
 /// Bodies of `main`, between its braces.
 pub(crate) const BODIES: &str = "\

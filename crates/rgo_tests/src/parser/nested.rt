@@ -1,5 +1,6 @@
-//! Bodies of `main` that nest: what is put before, what is repeated, what stands within, and what closes each, with the
-//! greatest number of repetitions that passes and the token that one more is refused at.
+//! Bodies of `main` that nest: what is before, what is repeated, what is inside, and what closes each
+//! repetition, with the greatest number of repetitions that passes and the lexeme at which one more is
+//! refused.
 
 pub(crate) type Row = (
     &'static str,

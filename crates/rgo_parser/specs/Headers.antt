@@ -1,0 +1,51 @@
+-- The headers of `if` and `for`, as they are read up to the block.
+use Rattle.std.specs.Prelude.{List, Option, Some, None}
+use Rattle.rgo_ast.specs.Tree.{Expr, Stmt}
+use Rattle.rgo_ast.specs.Views.{expr_of, boxed_expr_of, boxed_stmt_of}
+use Rattle.rgo_lexer.specs.declared.terminals.Terminal.{Terminal}
+use Rattle.rgo_lexer.specs.declared.terminals.Terminal.TheVariants.{OpenBrace}
+use Rattle.rgo_lexer.specs.Lexemes.{Lexeme}
+use Rattle.rgo_grammar.specs.reading.Read.{Read, Done, Failed, At, ◌>>=◌, given, first_of}
+use Rattle.rgo_grammar.specs.reading.Statements as reading
+use Rattle.rgo_parser.specs.declared.headers.Head.{Head}
+use Rattle.rgo_parser.specs.declared.headers.Head.TheVariants as head
+use Rattle.rgo_parser.specs.declared.headers.IfHeader.{IfHeader}
+use Rattle.rgo_parser.specs.declared.headers.ForHeader.{ForHeader}
+
+abbrev pub head_of : Head → reading.Head
+head_of (head.Condition e) = reading.condition (expr_of e.value)
+head_of (head.Init s) = reading.init (boxed_stmt_of s)
+
+-- the statement before the first `;`, and the condition
+abbrev pub if_of : IfHeader → Option Stmt × Expr
+if_of h = (boxed_stmt_of h.init, expr_of h.test.value)
+
+-- the same, and the post statement
+abbrev pub for_of : ForHeader → Option Stmt × Option Expr × Option Stmt
+for_of h = (boxed_stmt_of h.init, boxed_expr_of h.test, boxed_stmt_of h.post)
+
+-- In what follows `value` reads an expression of a header.
+
+abbrev pub if_rest : (List Lexeme → Read Expr) → reading.Head → List Lexeme → Read (Option Stmt × Expr)
+if_rest value (reading.condition c) l = Done (None, c) l
+if_rest value (reading.init s) l = value l >>= given (λ c. (s, c))
+
+abbrev pub if_header : (List Lexeme → Read Expr) → List Lexeme → Read (Option Stmt × Expr)
+if_header value l = reading.head value l >>= if_rest value
+
+abbrev pub for_rest : (List Lexeme → Read Expr) → reading.Head → List Lexeme → Read (Option Stmt × Option Expr × Option Stmt)
+for_rest value (reading.condition c) l = Done (None, Some c, None) l
+for_rest value (reading.init s) l =
+    reading.condition_on value l (first_of l) >>= λ c w. reading.step_on value w (first_of w) >>= given (λ p. (s, c, p))
+
+abbrev pub for_by : (List Lexeme → Read Expr) → Terminal → List Lexeme → Read (Option Stmt × Option Expr × Option Stmt)
+for_by value OpenBrace l = Done (None, None, None) l
+for_by value _ l = reading.head value l >>= for_rest value
+
+abbrev pub for_on : (List Lexeme → Read Expr) → List Lexeme → Option (Lexeme × List Lexeme)
+    → Read (Option Stmt × Option Expr × Option Stmt)
+for_on value l None = Failed (At l)
+for_on value l (Some x) = for_by value x.0.terminal l
+
+abbrev pub for_header : (List Lexeme → Read Expr) → List Lexeme → Read (Option Stmt × Option Expr × Option Stmt)
+for_header value l = for_on value l (first_of l)

@@ -1,0 +1,140 @@
+//! Statements that hold no other, and what the others begin with.
+#![tactic(auto, using(rgo_ast::proofs::Rows::rows))]
+
+ghost use Rattle.std.specs.Prelude.{◌≡◌, false};
+ghost use Rattle.rgo_ast.specs.Views.{stmt_of};
+ghost use Rattle.rgo_grammar.specs.reading.Expressions as reading_exprs;
+ghost use Rattle.rgo_grammar.specs.reading.Statements as reading;
+ghost use Rattle.rgo_grammar.specs.reading.Read.{first_of};
+ghost use Rattle.rgo_parser.specs.Agrees.{Agrees, leaf_at};
+ghost use Rattle.rgo_parser.specs.Statements as statements;
+
+use crate::expressions::{expr, exprs};
+use crate::locals::vars;
+use crate::reader::{Fault, Read, Reader};
+use crate::simple::defining;
+use rgo_ast::Stmt;
+use rgo_lexer::Terminal;
+use std::alloc::Global;
+
+/// A statement that holds no other, which was read whole, or the place where another one begins, after its
+/// keyword or `{`.
+#[derive(Drop)]
+pub(crate) enum Leading {
+    Empty,
+    Whole(Stmt),
+    Block(usize),
+    If(usize),
+    For(usize),
+}
+
+/// What comes after the block of an `if`: nothing, an `if` after its keyword, or a block from its `{` on,
+/// with its place.
+#[derive(Clone, Copy)]
+pub(crate) enum Else {
+    None,
+    If(usize),
+    Block(usize),
+}
+
+// A `return` statement after its keyword, which is at a place.
+fn returned<'a>(alloc: Global, reader: &mut Reader<'a>, turns: usize, at: usize) -> Read<Stmt>
+    ensures { Agrees stmt_of result reader.new
+        (reading.return_on (reading_exprs.expr false turns 1) (leaf_at at) reader.old
+        (first_of reader.old)) }
+{
+    let Some(lexeme) = reader.peek() else {
+        return Err(Fault::Syntax);
+    };
+    match lexeme.terminal {
+        Terminal::Semicolon | Terminal::CloseBrace => Ok(Stmt::Return(None, at)),
+        _ => {
+            let value = expr(alloc, reader, false, turns, 1)?;
+            Ok(Stmt::Return(Some(value), at))
+        }
+    }
+}
+
+// A `go` statement after its keyword, which is at a place.
+fn going<'a>(alloc: Global, reader: &mut Reader<'a>, turns: usize, at: usize) -> Read<Stmt>
+    ensures { Agrees stmt_of result reader.new
+        (reading.going turns (reading_exprs.expr false turns 1) (leaf_at at) reader.old) }
+{
+    let function = reader.name(alloc)?;
+    reader.take(Terminal::OpenParen)?;
+    let (args, _) = exprs(alloc, reader, turns, Terminal::CloseParen)?;
+    Ok(Stmt::Go(function, args, at))
+}
+
+/// A statement that holds no other, or what another one begins with.
+pub(crate) fn read_leading<'a>(
+    alloc: Global,
+    reader: &mut Reader<'a>,
+    turns: usize,
+) -> Read<Leading>
+    ensures { Agrees statements.leading_of result reader.new (statements.leading turns reader.old) }
+{
+    let Some(lexeme) = reader.peek() else {
+        return Err(Fault::Syntax);
+    };
+    let at = lexeme.at;
+    match lexeme.terminal {
+        Terminal::OpenBrace => {
+            reader.pass();
+            Ok(Leading::Block(at))
+        }
+        Terminal::If => {
+            reader.pass();
+            Ok(Leading::If(at))
+        }
+        Terminal::For => {
+            reader.pass();
+            Ok(Leading::For(at))
+        }
+        Terminal::Go => {
+            reader.pass();
+            Ok(Leading::Whole(going(alloc, reader, turns, at)?))
+        }
+        Terminal::Var => {
+            reader.pass();
+            Ok(Leading::Whole(vars(alloc, reader, turns, at)?))
+        }
+        Terminal::Return => {
+            reader.pass();
+            Ok(Leading::Whole(returned(alloc, reader, turns, at)?))
+        }
+        Terminal::Break => {
+            reader.pass();
+            Ok(Leading::Whole(Stmt::Break(at)))
+        }
+        Terminal::Continue => {
+            reader.pass();
+            Ok(Leading::Whole(Stmt::Continue(at)))
+        }
+        Terminal::Semicolon => Ok(Leading::Empty),
+        _ => Ok(Leading::Whole(defining(alloc, reader, false, turns)?)),
+    }
+}
+
+/// What comes after the block of an `if`.
+pub(crate) fn else_word<'a>(reader: &mut Reader<'a>) -> Read<Else>
+    ensures { Agrees (λ x. x) result reader.new (statements.else_word reader.old) }
+{
+    let Some(lexeme) = reader.peek() else {
+        return Ok(Else::None);
+    };
+    let Terminal::Else = lexeme.terminal else {
+        return Ok(Else::None);
+    };
+    reader.pass();
+    let Some(lexeme) = reader.peek() else {
+        return Err(Fault::Syntax);
+    };
+    match lexeme.terminal {
+        Terminal::If => {
+            reader.pass();
+            Ok(Else::If(lexeme.at))
+        }
+        _ => Ok(Else::Block(lexeme.at)),
+    }
+}

@@ -1,0 +1,136 @@
+//! The reader of a text's lexemes, and what it reads of single ones.
+//!
+//! Each function that reads takes the reader, which it moves past what it has read. Where it fails, the
+//! reader is at the lexeme that is not allowed. Functions that repeat or recur take `turns`, a bound on
+//! both that is one less for each part; `parse` passes a bound that no list of lexemes reaches.
+
+ghost use Rattle.std.specs.Prelude.{◌≡◌, ◌++◌, ◌∷◌, [], true, drop, length, IfOk, MatchOption, None, Some};
+ghost use Rattle.rgo_grammar.specs.reading.Read as reading;
+ghost use Rattle.rgo_grammar.specs.reading.Read.{first_of};
+ghost use Rattle.rgo_lexer.specs.declared.terminals.Terminal.TheVariants as terminal;
+ghost use Rattle.rgo_parser.specs.Agrees.{Agrees, leaf_of, leaf_in};
+
+use rgo_ast::{Ident, Name};
+use rgo_lexer::{Lexeme, Terminal};
+use std::alloc::{AllocError, AllocFailed, Global};
+use std::marker::Model;
+
+/// Why nothing was read.
+#[derive(Drop)]
+pub(crate) enum Fault {
+    NoMemory,
+    /// The next lexeme is not allowed.
+    Syntax,
+    /// The bound on the turns was too small.
+    Starved,
+}
+
+impl From<AllocError> for Fault {
+    ghost use Rattle.rgo_parser.specs.declared.reader.Fault.TheVariants.{NoMemory};
+
+    ghost from_gives = { λ _ e. e ≡ NoMemory };
+
+    fn from(_: AllocError) -> Fault {
+        Fault::NoMemory
+    }
+}
+
+impl<T: Drop> From<AllocFailed<T>> for Fault {
+    ghost use Rattle.rgo_parser.specs.declared.reader.Fault.TheVariants.{NoMemory};
+
+    ghost from_gives = { λ _ e. e ≡ NoMemory };
+
+    fn from(_: AllocFailed<T>) -> Fault {
+        Fault::NoMemory
+    }
+}
+
+/// What was read, or why nothing was.
+pub(crate) type Read<T> = Result<T, Fault>;
+
+/// A text's lexemes from the next one on. Contracts see those that are left.
+#[derive(Drop)]
+pub(crate) struct Reader<'a> {
+    lexemes: &'a [Lexeme<'a>],
+    at: usize,
+}
+
+impl<'a> Model for Reader<'a> {
+    ghost use Rattle.std.specs.Prelude.{List, drop};
+    ghost use Rattle.rgo_lexer.specs.Lexemes.{Lexeme};
+
+    ghost Value = { List Lexeme };
+
+    ghost view = { λ r. drop r.at r.lexemes.now };
+}
+
+impl<'a> Reader<'a> {
+    pub(crate) fn new(lexemes: &'a [Lexeme<'a>]) -> Reader<'a>
+        ensures { result ≡ lexemes.now }
+    {
+        Reader { lexemes, at: 0 }
+    }
+
+    /// How many lexemes are left.
+    pub(crate) fn left(&self) -> usize
+        ensures { result ≡ length self.now }
+    {
+        self.lexemes.len().saturating_sub(self.at)
+    }
+
+    /// The next lexeme, which stays the next.
+    pub(crate) fn peek(&self) -> Option<&'a Lexeme<'a>>
+        ensures { MatchOption result (first_of self.now ≡ None)
+            (λ l. first_of self.now ≡ Some (l.now, drop 1 self.now)) }
+    {
+        self.lexemes.get(self.at)
+    }
+
+    /// The lexeme after the next.
+    pub(crate) fn peek_second(&self) -> Option<&'a Lexeme<'a>>
+        ensures { MatchOption result (first_of (drop 1 self.now) ≡ None)
+            (λ l. first_of (drop 1 self.now) ≡ Some (l.now, drop 2 self.now)) }
+    {
+        self.lexemes.get(self.at..)?.get(1)
+    }
+
+    /// Passes the next lexeme, if there is one.
+    pub(crate) fn pass(&mut self)
+        ensures { self.new ≡ drop 1 self.old }
+    {
+        if self.at < self.lexemes.len() {
+            self.at += 1;
+        }
+    }
+
+    /// One lexeme, by its terminal.
+    pub(crate) fn take(&mut self, terminal: Terminal) -> Read<&'a Lexeme<'a>>
+        ensures { Agrees leaf_in result self.new (reading.token terminal self.old) }
+    {
+        match self.peek() {
+            Some(lexeme) if lexeme.terminal.stands_as(terminal) => {
+                self.pass();
+                Ok(lexeme)
+            }
+            _ => Err(Fault::Syntax),
+        }
+    }
+
+    /// A name.
+    pub(crate) fn name(&mut self, alloc: Global) -> Read<Ident>
+        ensures { Agrees leaf_of result self.new (reading.token terminal.Name self.old) }
+    {
+        let lexeme = self.take(Terminal::Name)?;
+        Ok(ident(alloc, lexeme)?)
+    }
+}
+
+/// The name that a lexeme spells.
+pub(crate) fn ident<'a>(alloc: Global, lexeme: &Lexeme<'a>) -> Result<Ident, AllocError>
+    ensures { IfOk result (λ i. leaf_of i ≡ lexeme.now.leaf) }
+{
+    Ok(Ident {
+        name: Name::new(lexeme.word.to_vec(alloc)?),
+        at: lexeme.at,
+    })
+}

@@ -1,0 +1,56 @@
+//! What comes after a primary expression.
+#![tactic(auto, using(rgo_ast::proofs::Rows::rows))]
+
+ghost use Rattle.std.specs.Prelude.{◌≡◌};
+ghost use Rattle.rgo_grammar.specs.reading.Expressions as reading;
+ghost use Rattle.rgo_parser.specs.Agrees.{Agrees};
+ghost use Rattle.rgo_parser.specs.Expressions as parts;
+
+use crate::reader::{Read, Reader};
+use rgo_ast::Ident;
+use rgo_lexer::Terminal;
+use std::alloc::Global;
+
+/// What comes after a primary expression: a field, the `[` of an index, the `(` of a call, or nothing.
+#[derive(Drop)]
+pub(crate) enum Suffix {
+    None,
+    Select(Ident),
+    Index(usize),
+    Call(usize),
+}
+
+/// What comes after a primary expression.
+pub(crate) fn read_suffix<'a>(alloc: Global, reader: &mut Reader<'a>) -> Read<Suffix>
+    ensures { Agrees (λ x. x) result reader.new (parts.read_suffix reader.old) }
+{
+    let Some(lexeme) = reader.peek() else {
+        return Ok(Suffix::None);
+    };
+    match lexeme.terminal {
+        Terminal::Dot => {
+            reader.pass();
+            Ok(Suffix::Select(reader.name(alloc)?))
+        }
+        Terminal::OpenBracket => {
+            reader.pass();
+            Ok(Suffix::Index(lexeme.at))
+        }
+        Terminal::OpenParen => {
+            reader.pass();
+            Ok(Suffix::Call(lexeme.at))
+        }
+        _ => Ok(Suffix::None),
+    }
+}
+
+/// Whether a name and a `:` are next.
+pub(crate) fn is_keyed<'a>(reader: &Reader<'a>) -> bool
+    ensures { result ≡ reading.is_keyed reader.now }
+{
+    match (reader.peek(), reader.peek_second()) {
+        (Some(first), Some(second)) => first.terminal.stands_as(Terminal::Name)
+            && second.terminal.stands_as(Terminal::Colon),
+        _ => false,
+    }
+}
