@@ -1,5 +1,5 @@
 //! What a frame does: the first thing that it has to do.
-#![tactic(auto, using(rgo_typed::proofs::Rows::rows))]
+#![tactic(auto)]
 
 ghost use Rattle.std.specs.Prelude.{◌≡◌, ◌∷◌, [], true, false, IfOk, OnOk, drop, take, map, option_to_list, slice_get};
 ghost use Rattle.rgo_memory.specs.Views.{memory_of};

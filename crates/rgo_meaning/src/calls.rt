@@ -1,5 +1,5 @@
 //! The frame of a function that is called.
-#![tactic(auto, using(rgo_typed::proofs::Rows::rows))]
+#![tactic(auto)]
 
 ghost use Rattle.std.specs.Prelude.{◌≡◌, ◌++◌, IfOk, OnOk, drop, map};
 ghost use Rattle.rgo_typed.specs.Views.{function_of};

@@ -1,5 +1,5 @@
 //! The source machine: the state of a run, its beginning and its steps.
-#![tactic(auto, using(rgo_typed::proofs::Rows::rows))]
+#![tactic(auto)]
 
 ghost use Rattle.std.specs.Prelude.{◌≡◌, ◌∷◌, [], false, codes, IfOk, OnOk, map, Some, None};
 ghost use Rattle.rgo_typed.specs.Views.{typed_of, function_of};

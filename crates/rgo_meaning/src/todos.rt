@@ -1,5 +1,5 @@
 //! What terms and statements leave to do.
-#![tactic(auto, using(rgo_typed::proofs::Rows::rows, crate::proofs::Counts::counted))]
+#![tactic(auto)]
 
 ghost use Rattle.std.specs.Prelude.{◌≡◌, [], OnOk, drop, map};
 ghost use Rattle.rgo_typed.specs.Views as typed;
@@ -16,6 +16,7 @@ use rgo_typed::{Action, Stmt, Term, Type};
 use std::alloc::AllocError;
 
 /// A term is evaluated: a local variable gives its value, any other term its parts first.
+#[tactic(auto, using(rgo_typed::proofs::Rows::rows, crate::proofs::Counts::counted))]
 pub fn evaluate<'a>(frame: &mut Frame<'a>, term: &'a Term) -> Result<(), AllocError>
     ensures { OnOk result (frame_of frame.new
         ≡ spec.evaluated (typed.term_of term.now) (drop 1 (frame_of frame.old).todo) (frame_of frame.old)) }
@@ -137,6 +138,7 @@ pub struct Change<'a> {
     pub at: Place,
 }
 
+#[tactic(auto, using(rgo_typed::proofs::Rows::rows, crate::proofs::Counts::counted))]
 fn update<'a>(frame: &mut Frame<'a>, change: Change<'a>) -> Result<(), AllocError>
     ensures { OnOk result (frame_of frame.new ≡ going (frame_of frame.old) 0 []
         (todos.update_todo (change_of change.entry) (frame_of frame.old).todo)) }
@@ -168,6 +170,7 @@ fn return_with<'a>(frame: &mut Frame<'a>, value: &'a Option<Box<Term>>) -> Resul
 }
 
 /// A statement is executed: its parts come first.
+#[tactic(auto, using(rgo_typed::proofs::Rows::rows, crate::proofs::Counts::counted))]
 pub fn execute<'a>(frame: &mut Frame<'a>, stmt: &'a Stmt) -> Result<(), AllocError>
     ensures { OnOk result (frame_of frame.new ≡ going (frame_of frame.old) 0 []
         (todos.statement_todo (typed.stmt_of stmt.now) (drop 1 (frame_of frame.old).todo))) }
