@@ -161,8 +161,8 @@ impl<'p, 'a> Checker<'p, 'a> {
         keyed(self.alloc(), found, elements, fields, values, at)
     }
 
-    /// Checks the parts of a callee that is not `fmt` followed by a name; the callee itself is checked
-    /// with its call.
+    /// Checks the parts of a callee that is not `fmt` followed by a name; the callee itself is
+    /// checked with its call.
     #[cycle(expressions)]
     pub fn check_callee(&self, f: &'a Expr) -> Result<(), TypeError>
         ensures { Checks result (checking.callee_nodes self.now (expr_of f.now)) }
@@ -236,7 +236,7 @@ impl<'p, 'a> Checker<'p, 'a> {
         Ok(Values { terms, shapes })
     }
 
-    /// Checks the values of a literal by fields, each as a value of its field's type, where there is
+    /// Checks the values of a literal by fields, each as a value of its field's type, if there is
     /// such a field.
     #[cycle(expressions)]
     fn check_elements(
