@@ -92,3 +92,5 @@ several_more separator closer item n found (t ∷ l) h =
 pub ruleset list_turns = (map-append, several_starved, several_more)
 
 pub ruleset listed_turns = (map-append, append-nil, listed_starved, listed_more)
+
+pub ruleset pushes = (map-append, append-nil)
