@@ -7,10 +7,10 @@ use Rattle.rgo_ast.specs.Tree.{stmts_of, clause_of}
 use Rattle.rgo_lexer.specs.declared.terminals.Terminal.{Terminal}
 use Rattle.rgo_lexer.specs.declared.terminals.Terminal.TheVariants.{OpenParen, OpenBrace, Semicolon, Var, Go, If, Else, For, Return, Break, Continue}
 use Rattle.rgo_lexer.specs.Lexemes.{Leaf, Lexeme}
-use Rattle.rgo_grammar.specs.reading.Read.{Read, Done, Failed, Starving, At, ◌>>=◌, given, first_of, single}
+use Rattle.rgo_grammar.specs.reading.Read.{Read, Done, Failed, Starving, ◌>>=◌, given, first_of, single}
 use Rattle.rgo_grammar.specs.reading.Expressions.{expr}
 use Rattle.rgo_grammar.specs.reading.Statements as r
-use Rattle.rgo_grammar.specs.reading.Declarations.{group, group_by, group_on}
+use Rattle.rgo_grammar.specs.reading.Declarations.{group, group_by}
 use Rattle.rgo_parser.specs.Agrees.{leaf_at}
 use Rattle.rgo_parser.specs.Headers as headers
 use Rattle.rgo_parser.specs.Statements as parts
@@ -18,7 +18,6 @@ use Rattle.rgo_parser.specs.Statements.{if_at, for_at}
 use Rattle.rgo_parser.specs.declared.openings.Else.{Else as CodeElse}
 use Rattle.rgo_parser.specs.declared.openings.Else.TheVariants as code_else
 use Rattle.rgo_parser.proofs.TypeTurns.{turn}
-use Rattle.rgo_parser.proofs.ExprTurns.{joined}
 
 -- Local variables are read as a group.
 

@@ -1,4 +1,4 @@
-use Rattle.std.proofs.Common.{◌≡◌, ◌≤◌, length, arith}
+use Rattle.std.proofs.Common.{arith}
 use Rattle.rgo_parser.proofs.Wholes.{parsed_as, stops_within, stops_at, starves_never}
 use Rattle.rgo_parser.proofs.parser.whole.Goals as goal
 
