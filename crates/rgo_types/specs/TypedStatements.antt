@@ -145,7 +145,7 @@ step_stmt c op e at = changed op (term_of c e) (constant (pos 1) at) at
 abbrev pub define_stmt : Context → Option «Type» → Expr → ℕ → Stmt
 define_stmt c wanted e at =
     typed.Declare (length c.scope.types) (type_or wanted (type_of c e))
-        (with_type (type_or wanted (type_of c e)) (term_of c e)) at
+    (with_type (type_or wanted (type_of c e)) (term_of c e)) at
 
 -- variables begin with the zero of their type, at their names
 abbrev pub zeros : ℕ → «Type» → List Ident → List Stmt

@@ -1,5 +1,5 @@
 //! Typed trees of assignments, from their checked sides.
-#![tactic(auto, using(rgo_typed::proofs::Rows::rows))]
+#![tactic(auto, using(rgo_typing_expressions::proofs::Trees::terms))]
 
 ghost use Rattle.std.specs.Prelude.{◌≡◌, IfOk, map};
 ghost use Rattle.rgo_typed.specs.Tree.{terms_of};
@@ -120,7 +120,12 @@ pub(crate) fn assigned(
         ≡ spec.assigned op (shape_of left.entry.shape) (term_of left.entry.term) (term_of value) at) }
 {
     match op {
-        None => stored(alloc, left.term, with_type(alloc, kind_in(left.shape), value)?, at),
+        None => stored(
+            alloc,
+            left.term,
+            with_type(alloc, kind_in(left.shape), value)?,
+            at,
+        ),
         Some(op) => changed(alloc, op, left.term, value, at),
     }
 }

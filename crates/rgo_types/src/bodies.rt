@@ -1,5 +1,5 @@
 //! Bodies of functions.
-#![tactic(auto, using(rgo_ast::proofs::Rows::rows, rgo_typed::proofs::Rows::rows, rgo_typing_rules::proofs::Refusals::refusals))]
+#![tactic(auto, using(rgo_typing_rules::proofs::Refusals::refusals, std::proofs::lemmas::List::map_push))]
 
 ghost use Rattle.std.specs.Prelude.{◌≡◌, ◌++◌, IfOk, OnOk, map};
 ghost use Rattle.rgo_ast.specs.Views.{decl_of, function_of};
@@ -9,7 +9,7 @@ ghost use Rattle.rgo_typing_rules.specs.Views.{optional_kind_of};
 ghost use Rattle.rgo_types.specs.Programs as spec;
 
 use crate::flow::ends;
-use crate::names::add_bindings;
+use crate::names::{add_bindings, count};
 use crate::signatures::{copied, result_kind, types};
 use crate::statements::{Enclosing, check_stmts};
 use rgo_ast::{Decl, Function as Source};
@@ -28,26 +28,23 @@ fn optional_type(alloc: Global, kind: Option<Kind<'_>>) -> Result<Option<Type>, 
 }
 
 /// Where the body of a function begins, whose parameters were checked.
-fn at_body<'p, 'a>(
-    package: &Checker<'p, 'a>,
-    f: &'a Source,
-) -> Result<Checker<'p, 'a>, AllocError>
-    ensures { IfOk result (λ c. c ≡ spec.at_body package.now (function_of f.now)) }
+fn at_body<'p, 'a>(top: &Checker<'p, 'a>, f: &'a Source) -> Result<Checker<'p, 'a>, AllocError>
+    ensures { IfOk result (λ c. c ≡ spec.at_body top.now (function_of f.now)) }
 {
-    let mut scope = Scope::new(package.alloc());
-    add_bindings(package, &mut scope, &f.params)?;
-    Ok(Checker::with_scope(package.alloc(), package.globals(), scope))
+    let mut scope = Scope::new(top.alloc());
+    add_bindings(top, &mut scope, &f.params)?;
+    Ok(Checker::with_scope(top.alloc(), top.globals(), scope))
 }
 
 /// Checks the statements of a function, and then its end.
-fn check_body<'a>(package: &Checker<'_, 'a>, f: &'a Source) -> Result<Function, TypeError>
-    ensures checked { Checks result (spec.body_sites package.now (function_of f.now)) }
-    ensures typed { IfOk result (λ t. typed.function_of t ≡ spec.typed_function package.now (function_of f.now)) }
+fn check_body<'a>(top: &Checker<'_, 'a>, f: &'a Source) -> Result<Function, TypeError>
+    ensures checked { Checks result (spec.body_sites top.now (function_of f.now)) }
+    ensures typed { IfOk result (λ t. typed.function_of t ≡ spec.typed_function top.now (function_of f.now)) }
 {
-    let alloc = package.alloc();
-    let mut checker = at_body(package, f)?;
-    let params = checker.scope().kinds().len();
-    let result_type = result_kind(package, &f.result_type);
+    let alloc = top.alloc();
+    let mut checker = at_body(top, f)?;
+    let params = count(checker.scope());
+    let result_type = result_kind(top, &f.result_type);
     let around = Enclosing {
         result_type,
         in_loop: false,
@@ -66,18 +63,18 @@ fn check_body<'a>(package: &Checker<'_, 'a>, f: &'a Source) -> Result<Function, 
 
 /// Checks the body of a declaration, where it has one.
 fn check_decl<'a>(
-    package: &Checker<'_, 'a>,
+    top: &Checker<'_, 'a>,
     functions: &mut Vec<Function>,
     decl: &'a Decl,
 ) -> Result<(), TypeError>
-    ensures checked { Checks result (spec.decl_sites package.now (decl_of decl.now)) }
+    ensures checked { Checks result (spec.decl_sites top.now (decl_of decl.now)) }
     ensures typed { OnOk result (map typed.function_of functions.new.items
-        ≡ map typed.function_of functions.old.items ++ spec.typed_decl package.now (decl_of decl.now)) }
+        ≡ map typed.function_of functions.old.items ++ spec.typed_decl top.now (decl_of decl.now)) }
 {
     match decl {
         Decl::Types(_, _) | Decl::Vars(_, _) => Ok(()),
         Decl::Func(f) => {
-            functions.push(check_body(package, f)?)?;
+            functions.push(check_body(top, f)?)?;
             Ok(())
         }
     }
@@ -85,15 +82,15 @@ fn check_decl<'a>(
 
 /// Checks the bodies of all functions, in the order of the text.
 pub(crate) fn check_bodies<'a>(
-    package: &Checker<'_, 'a>,
+    top: &Checker<'_, 'a>,
     decls: &'a [Decl],
 ) -> Result<Vec<Function>, TypeError>
-    ensures checked { Checks result (spec.bodies_sites package.now (map decl_of decls.now)) }
-    ensures typed { IfOk result (λ v. map typed.function_of v.items ≡ spec.typed_functions package.now (map decl_of decls.now)) }
+    ensures checked { Checks result (spec.bodies_sites top.now (map decl_of decls.now)) }
+    ensures typed { IfOk result (λ v. map typed.function_of v.items ≡ spec.typed_functions top.now (map decl_of decls.now)) }
 {
-    let mut functions = Vec::new(package.alloc());
+    let mut functions = Vec::new(top.alloc());
     for decl in decls {
-        check_decl(package, &mut functions, decl)?;
+        check_decl(top, &mut functions, decl)?;
     }
     Ok(functions)
 }

@@ -1,5 +1,5 @@
 //! Calls as statements.
-#![tactic(auto, using(rgo_ast::proofs::Rows::rows, rgo_typed::proofs::Rows::rows, rgo_typing_rules::proofs::Refusals::refusals, crate::proofs::Lists::pushed))]
+#![tactic(auto, using(rgo_typing_expressions::proofs::Trees::exprs, rgo_typing_expressions::proofs::Trees::terms, rgo_typing_rules::proofs::Refusals::refusals, std::proofs::lemmas::List::map_push))]
 
 ghost use Rattle.std.specs.Prelude.{◌≡◌, [], ◌∷◌, IfOk, map};
 ghost use Rattle.rgo_ast.specs.Tree as ast;
@@ -147,7 +147,7 @@ fn check_go(
 }
 
 /// A `go` statement, from its checked arguments.
-#[tactic(auto, using(rgo_typed::proofs::Rows::rows), unfolding(rgo_typing_rules::specs::Rules::broken))]
+#[tactic(auto, unfolding(rgo_typing_rules::specs::Rules::broken))]
 fn started<'a>(
     alloc: Global,
     globals: &Package<'a>,

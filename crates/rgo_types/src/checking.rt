@@ -1,5 +1,5 @@
 //! Whole programs.
-#![tactic(auto, using(rgo_ast::proofs::Rows::rows, rgo_typed::proofs::Rows::rows, rgo_typing_rules::proofs::Refusals::refusals))]
+#![tactic(auto, using(rgo_typing_rules::proofs::Refusals::refusals))]
 
 ghost use Rattle.std.specs.Prelude.{◌≡◌, IfOk};
 ghost use Rattle.rgo_ast.specs.Views.{program_of};

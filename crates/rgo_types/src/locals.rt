@@ -1,5 +1,5 @@
 //! Declarations of local variables.
-#![tactic(auto, using(rgo_ast::proofs::Rows::rows, rgo_typed::proofs::Rows::rows, rgo_typing_rules::proofs::Refusals::refusals))]
+#![tactic(auto, using(rgo_typing_rules::proofs::Refusals::refusals, std::proofs::lemmas::List::map_push))]
 
 ghost use Rattle.std.specs.Prelude.{◌≡◌, [], ◌∷◌, map};
 ghost use Rattle.rgo_ast.specs.Tree.{Zero};
@@ -11,7 +11,7 @@ ghost use Rattle.rgo_types.specs.Names.{name_site};
 ghost use Rattle.rgo_types.specs.Outcomes.{Appends, ChecksInto, var_outcome, vars_outcome, define_outcome, zeros_outcome};
 ghost use Rattle.rgo_types.specs.Statements as spec;
 
-use crate::names::check_name;
+use crate::names::{check_name, count};
 use rgo_ast::{Binding, Expr, Ident, LocalVar, Place};
 use rgo_typed::{Base, Stmt};
 use rgo_typing_expressions::{Checker, with_type};
@@ -42,7 +42,7 @@ fn declare_zeros<'a>(
         checker.new out.old.items out.new.items }
 {
     for x in names {
-        let number = checker.scope().kinds().len();
+        let number = count(checker.scope());
         declare_local(checker, kind, x)?;
         out.push(Stmt::Zero(number, kind.to_type(checker.alloc())?, x.at))?;
     }
@@ -109,7 +109,7 @@ pub(crate) fn define<'a>(
 {
     let value = checker.check_expr(Role::Value, value)?;
     let kind = kind_or(wanted, value.shape);
-    let number = checker.scope().kinds().len();
+    let number = count(checker.scope());
     declare_local(checker, kind, x)?;
     check_definition(wanted, value.shape, at)?;
     let alloc = checker.alloc();

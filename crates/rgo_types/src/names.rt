@@ -1,7 +1,7 @@
 //! Names that are declared in a scope: fields, parameters, local variables, and the names of a package.
-#![tactic(auto, using(rgo_ast::proofs::Rows::rows, rgo_typing_rules::proofs::Refusals::refusals))]
+#![tactic(auto, using(rgo_typing_rules::proofs::Refusals::refusals))]
 
-ghost use Rattle.std.specs.Prelude.{◌≡◌, [], ◌∷◌, OnOk, map};
+ghost use Rattle.std.specs.Prelude.{◌≡◌, [], ◌∷◌, OnOk, map, length};
 ghost use Rattle.rgo_ast.specs.Views.{binding_of};
 ghost use Rattle.rgo_typing_rules.specs.Checks.{Checks};
 ghost use Rattle.rgo_typing_rules.specs.Views.{kind_of};
@@ -13,6 +13,13 @@ use rgo_ast::{Binding, Ident};
 use rgo_typing_expressions::{Checker, Scope};
 use rgo_typing_rules::{Kind, Node, TypeError, check_node};
 use std::alloc::AllocError;
+
+/// How many names were declared so far: the number of the next local variable.
+pub(crate) fn count(scope: &Scope<'_>) -> usize
+    ensures { result ≡ length scope.now.types }
+{
+    scope.kinds().len()
+}
 
 /// Checks that the innermost block has not declared a name before.
 pub(crate) fn check_name(scope: &Scope<'_>, x: &Ident) -> Result<(), TypeError>
@@ -53,29 +60,29 @@ pub(crate) fn declare_names<'a>(
 
 /// Declares names with one type.
 fn declare_binding<'a>(
-    package: &Checker<'_, '_>,
+    top: &Checker<'_, '_>,
     scope: &mut Scope<'a>,
     binding: &'a Binding,
 ) -> Result<(), TypeError>
-    ensures { ChecksInto result (spec.binding_sites package.now scope.old (binding_of binding.now))
-        scope.new (spec.with_binding package.now scope.old (binding_of binding.now)) }
+    ensures { ChecksInto result (spec.binding_sites top.now scope.old (binding_of binding.now))
+        scope.new (spec.with_binding top.now scope.old (binding_of binding.now)) }
 {
-    let kind = package.resolve(&binding.ty);
+    let kind = top.resolve(&binding.ty);
     declare_names(scope, kind, &binding.names)?;
-    package.check_type(&binding.ty)
+    top.check_type(&binding.ty)
 }
 
 /// Declares the fields of a struct, or the parameters of a function.
 pub(crate) fn declare_bindings<'a>(
-    package: &Checker<'_, '_>,
+    top: &Checker<'_, '_>,
     scope: &mut Scope<'a>,
     bindings: &'a [Binding],
 ) -> Result<(), TypeError>
-    ensures { ChecksInto result (spec.bindings_sites package.now scope.old (map binding_of bindings.now))
-        scope.new (spec.with_bindings package.now scope.old (map binding_of bindings.now)) }
+    ensures { ChecksInto result (spec.bindings_sites top.now scope.old (map binding_of bindings.now))
+        scope.new (spec.with_bindings top.now scope.old (map binding_of bindings.now)) }
 {
     for binding in bindings {
-        declare_binding(package, scope, binding)?;
+        declare_binding(top, scope, binding)?;
     }
     Ok(())
 }
@@ -96,14 +103,14 @@ fn add_names<'a>(
 
 /// Adds parameters that were checked before.
 pub(crate) fn add_bindings<'a>(
-    package: &Checker<'_, '_>,
+    top: &Checker<'_, '_>,
     scope: &mut Scope<'a>,
     bindings: &'a [Binding],
 ) -> Result<(), AllocError>
-    ensures { OnOk result (scope.new ≡ spec.with_bindings package.now scope.old (map binding_of bindings.now)) }
+    ensures { OnOk result (scope.new ≡ spec.with_bindings top.now scope.old (map binding_of bindings.now)) }
 {
     for binding in bindings {
-        add_names(scope, package.resolve(&binding.ty), &binding.names)?;
+        add_names(scope, top.resolve(&binding.ty), &binding.names)?;
     }
     Ok(())
 }

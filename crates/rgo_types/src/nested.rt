@@ -1,5 +1,5 @@
 //! Typed trees of statements that contain others.
-#![tactic(auto, using(rgo_typed::proofs::Rows::rows, rgo_typing_rules::proofs::Refusals::refusals, crate::proofs::Lists::pushed))]
+#![tactic(auto, using(crate::proofs::Trees::stmts, rgo_typing_rules::proofs::Refusals::refusals, std::proofs::lemmas::List::map_push))]
 
 ghost use Rattle.std.specs.Prelude.{◌≡◌, [], ◌∷◌, ◌++◌, IfOk, OnOk, map};
 ghost use Rattle.rgo_ast.specs.Views.{boxed_expr_of};
@@ -54,7 +54,11 @@ pub(crate) fn push_headed(
     ensures { OnOk result (map stmt_of out.new.items
         ≡ map stmt_of out.old.items ++ typed.headed has_init (map stmt_of init.items) (stmt_of stmt)) }
 {
-    let whole = if has_init { block_of(init, stmt)? } else { stmt };
+    let whole = if has_init {
+        block_of(init, stmt)?
+    } else {
+        stmt
+    };
     out.push(whole)?;
     Ok(())
 }

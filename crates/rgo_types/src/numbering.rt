@@ -1,5 +1,5 @@
 //! The names of a package: each means what the first of its declarations says.
-#![tactic(auto, using(rgo_ast::proofs::Rows::rows))]
+#![tactic(auto)]
 
 ghost use Rattle.std.specs.Prelude.{◌≡◌, ◌+◌, OnOk, IfOk, map};
 ghost use Rattle.rgo_ast.specs.Views.{binding_of, decl_of, function_of, type_spec_of};
@@ -7,8 +7,8 @@ ghost use Rattle.rgo_types.specs.Numbering as spec;
 ghost use Rattle.rgo_types.specs.Views.{numbering_of};
 
 use rgo_ast::{Binding, Decl, Function, Ident, TypeSpec};
-use rgo_typing_rules::Meaning;
 use rgo_scopes::Scopes;
+use rgo_typing_rules::Meaning;
 use std::alloc::{AllocError, Global};
 
 /// The names so far, and the number of each kind.

@@ -1,5 +1,5 @@
 //! Typed trees of prints, from their checked operands.
-#![tactic(auto, using(rgo_ast::proofs::Rows::rows, rgo_typed::proofs::Rows::rows))]
+#![tactic(auto, using(rgo_typing_expressions::proofs::Trees::exprs, std::proofs::lemmas::List::map_push))]
 
 ghost use Rattle.std.specs.Prelude.{◌≡◌, ◌++◌, IfOk, OnOk, map};
 ghost use Rattle.rgo_ast.specs.Tree as ast;
@@ -9,8 +9,8 @@ ghost use Rattle.rgo_typed.specs.Views.{term_of, stmt_of};
 ghost use Rattle.rgo_types.specs.TypedStatements as spec;
 
 use rgo_ast::{Expr, Name, Place};
-use rgo_typing_expressions::bare;
 use rgo_typed::{Piece, Row, Stmt, Term};
+use rgo_typing_expressions::bare;
 use std::alloc::{AllocError, Global};
 
 /// What a print writes for an operand without parentheses.

@@ -1,5 +1,5 @@
 //! What a package declares, but for the bodies of its functions.
-#![tactic(auto, using(rgo_ast::proofs::Rows::rows, rgo_typing_rules::proofs::Refusals::refusals))]
+#![tactic(auto, using(rgo_typing_rules::proofs::Refusals::refusals, std::proofs::lemmas::List::map_push))]
 
 ghost use Rattle.std.specs.Prelude.{◌≡◌, IfOk, OnOk, map};
 ghost use Rattle.rgo_ast.specs.Views.{binding_of, decl_of, function_of, type_spec_of, type_expr_of};
@@ -36,25 +36,25 @@ pub(crate) fn types(alloc: Global, kinds: &[Kind<'_>]) -> Result<Row<Type>, Allo
 }
 
 /// Checks the result type of a function, if it has one.
-fn check_result(package: &Checker<'_, '_>, result_type: &Option<TypeExpr>) -> Result<(), TypeError>
-    ensures { Checks result (spec.result_sites package.now (optional_type_expr_of result_type.now)) }
+fn check_result(top: &Checker<'_, '_>, result_type: &Option<TypeExpr>) -> Result<(), TypeError>
+    ensures { Checks result (spec.result_sites top.now (optional_type_expr_of result_type.now)) }
 {
     match result_type {
         None => Ok(()),
-        Some(ty) => package.check_type(ty),
+        Some(ty) => top.check_type(ty),
     }
 }
 
 /// The result type of a function, if it has one.
 pub(crate) fn result_kind<'a>(
-    package: &Checker<'_, '_>,
+    top: &Checker<'_, '_>,
     result_type: &'a Option<TypeExpr>,
 ) -> Option<Kind<'a>>
-    ensures { optional_kind_of result ≡ spec.result_of package.now (optional_type_expr_of result_type.now) }
+    ensures { optional_kind_of result ≡ spec.result_of top.now (optional_type_expr_of result_type.now) }
 {
     match result_type {
         None => None,
-        Some(ty) => Some(package.resolve(ty)),
+        Some(ty) => Some(top.resolve(ty)),
     }
 }
 
@@ -87,16 +87,16 @@ impl<'a> Signatures<'a> {
     /// Declares a struct.
     fn add_struct(
         &mut self,
-        package: &Checker<'_, '_>,
+        top: &Checker<'_, '_>,
         declared: &'a TypeSpec,
     ) -> Result<(), TypeError>
-        ensures { ChecksInto result (spec.struct_sites package.now (signatures_of self.old) (type_spec_of declared.now))
-            (signatures_of self.new) (spec.with_struct package.now (signatures_of self.old) (type_spec_of declared.now)) }
+        ensures { ChecksInto result (spec.struct_sites top.now (signatures_of self.old) (type_spec_of declared.now))
+            (signatures_of self.new) (spec.with_struct top.now (signatures_of self.old) (type_spec_of declared.now)) }
     {
-        let alloc = package.alloc();
+        let alloc = top.alloc();
         declare_name(&mut self.seen, Kind::Plain(Base::Int), &declared.name)?;
         let mut fields = Scope::new(alloc);
-        declare_bindings(package, &mut fields, &declared.fields)?;
+        declare_bindings(top, &mut fields, &declared.fields)?;
         let name = copied(alloc, &declared.name.name)?;
         let types = types(alloc, fields.kinds())?;
         self.typed_structs.push(Struct {
@@ -109,14 +109,14 @@ impl<'a> Signatures<'a> {
 
     fn add_structs(
         &mut self,
-        package: &Checker<'_, '_>,
+        top: &Checker<'_, '_>,
         types: &'a [TypeSpec],
     ) -> Result<(), TypeError>
-        ensures { ChecksInto result (spec.structs_sites package.now (signatures_of self.old) (map type_spec_of types.now))
-            (signatures_of self.new) (spec.with_structs package.now (signatures_of self.old) (map type_spec_of types.now)) }
+        ensures { ChecksInto result (spec.structs_sites top.now (signatures_of self.old) (map type_spec_of types.now))
+            (signatures_of self.new) (spec.with_structs top.now (signatures_of self.old) (map type_spec_of types.now)) }
     {
         for declared in types {
-            self.add_struct(package, declared)?;
+            self.add_struct(top, declared)?;
         }
         Ok(())
     }
@@ -142,85 +142,81 @@ impl<'a> Signatures<'a> {
     /// Declares package variables of one type.
     fn add_binding(
         &mut self,
-        package: &Checker<'_, '_>,
+        top: &Checker<'_, '_>,
         binding: &'a Binding,
     ) -> Result<(), TypeError>
-        ensures { ChecksInto result (spec.binding_sites package.now (signatures_of self.old) (binding_of binding.now))
-            (signatures_of self.new) (spec.with_binding package.now (signatures_of self.old) (binding_of binding.now)) }
+        ensures { ChecksInto result (spec.binding_sites top.now (signatures_of self.old) (binding_of binding.now))
+            (signatures_of self.new) (spec.with_binding top.now (signatures_of self.old) (binding_of binding.now)) }
     {
         declare_names(&mut self.seen, Kind::Plain(Base::Int), &binding.names)?;
-        package.check_type(&binding.ty)?;
-        let kind = package.resolve(&binding.ty);
-        self.push_variables(package.alloc(), kind, &binding.names)?;
+        top.check_type(&binding.ty)?;
+        let kind = top.resolve(&binding.ty);
+        self.push_variables(top.alloc(), kind, &binding.names)?;
         Ok(())
     }
 
     fn add_bindings(
         &mut self,
-        package: &Checker<'_, '_>,
+        top: &Checker<'_, '_>,
         vars: &'a [Binding],
     ) -> Result<(), TypeError>
-        ensures { ChecksInto result (spec.vars_sites package.now (signatures_of self.old) (map binding_of vars.now))
-            (signatures_of self.new) (spec.with_vars package.now (signatures_of self.old) (map binding_of vars.now)) }
+        ensures { ChecksInto result (spec.vars_sites top.now (signatures_of self.old) (map binding_of vars.now))
+            (signatures_of self.new) (spec.with_vars top.now (signatures_of self.old) (map binding_of vars.now)) }
     {
         for binding in vars {
-            self.add_binding(package, binding)?;
+            self.add_binding(top, binding)?;
         }
         Ok(())
     }
 
     /// Declares a function.
-    fn add_function(
-        &mut self,
-        package: &Checker<'_, '_>,
-        f: &'a Function,
-    ) -> Result<(), TypeError>
-        ensures { ChecksInto result (spec.function_sites package.now (signatures_of self.old) (function_of f.now))
-            (signatures_of self.new) (spec.with_function package.now (signatures_of self.old) (function_of f.now)) }
+    fn add_function(&mut self, top: &Checker<'_, '_>, f: &'a Function) -> Result<(), TypeError>
+        ensures { ChecksInto result (spec.function_sites top.now (signatures_of self.old) (function_of f.now))
+            (signatures_of self.new) (spec.with_function top.now (signatures_of self.old) (function_of f.now)) }
     {
         declare_name(&mut self.seen, Kind::Plain(Base::Int), &f.name)?;
-        let mut params = Scope::new(package.alloc());
-        declare_bindings(package, &mut params, &f.params)?;
-        check_result(package, &f.result_type)?;
+        let mut params = Scope::new(top.alloc());
+        declare_bindings(top, &mut params, &f.params)?;
+        check_result(top, &f.result_type)?;
         let params = params.into_fields();
         self.functions.push(Signature {
             params: params.kinds,
-            result_type: result_kind(package, &f.result_type),
+            result_type: result_kind(top, &f.result_type),
         })?;
         Ok(())
     }
 
-    fn add_decl(&mut self, package: &Checker<'_, '_>, decl: &'a Decl) -> Result<(), TypeError>
-        ensures { ChecksInto result (spec.decl_sites package.now (signatures_of self.old) (decl_of decl.now))
-            (signatures_of self.new) (spec.with_decl package.now (signatures_of self.old) (decl_of decl.now)) }
+    fn add_decl(&mut self, top: &Checker<'_, '_>, decl: &'a Decl) -> Result<(), TypeError>
+        ensures { ChecksInto result (spec.decl_sites top.now (signatures_of self.old) (decl_of decl.now))
+            (signatures_of self.new) (spec.with_decl top.now (signatures_of self.old) (decl_of decl.now)) }
     {
         match decl {
-            Decl::Types(types, _) => self.add_structs(package, types),
-            Decl::Vars(vars, _) => self.add_bindings(package, vars),
-            Decl::Func(f) => self.add_function(package, f),
+            Decl::Types(types, _) => self.add_structs(top, types),
+            Decl::Vars(vars, _) => self.add_bindings(top, vars),
+            Decl::Func(f) => self.add_function(top, f),
         }
     }
 
-    fn add_decls(&mut self, package: &Checker<'_, '_>, decls: &'a [Decl]) -> Result<(), TypeError>
-        ensures { ChecksInto result (spec.decls_sites package.now (signatures_of self.old) (map decl_of decls.now))
-            (signatures_of self.new) (spec.with_decls package.now (signatures_of self.old) (map decl_of decls.now)) }
+    fn add_decls(&mut self, top: &Checker<'_, '_>, decls: &'a [Decl]) -> Result<(), TypeError>
+        ensures { ChecksInto result (spec.decls_sites top.now (signatures_of self.old) (map decl_of decls.now))
+            (signatures_of self.new) (spec.with_decls top.now (signatures_of self.old) (map decl_of decls.now)) }
     {
         for decl in decls {
-            self.add_decl(package, decl)?;
+            self.add_decl(top, decl)?;
         }
         Ok(())
     }
 }
 
-/// Checks what the package declares, but for the bodies, with the names as they are in `package`.
+/// Checks what the package declares, but for the bodies, with the meanings of names that `top` has.
 pub(crate) fn check_decls<'a>(
-    package: &Checker<'_, '_>,
+    top: &Checker<'_, '_>,
     decls: &'a [Decl],
 ) -> Result<Signatures<'a>, TypeError>
-    ensures checked { Checks result (spec.decls_sites package.now spec.no_signatures (map decl_of decls.now)) }
-    ensures value { IfOk result (λ s. signatures_of s ≡ spec.with_decls package.now spec.no_signatures (map decl_of decls.now)) }
+    ensures checked { Checks result (spec.decls_sites top.now spec.no_signatures (map decl_of decls.now)) }
+    ensures value { IfOk result (λ s. signatures_of s ≡ spec.with_decls top.now spec.no_signatures (map decl_of decls.now)) }
 {
-    let mut signatures = Signatures::new(package.alloc());
-    signatures.add_decls(package, decls)?;
+    let mut signatures = Signatures::new(top.alloc());
+    signatures.add_decls(top, decls)?;
     Ok(signatures)
 }

@@ -1,5 +1,5 @@
 //! Statements that contain no others and declare nothing.
-#![tactic(auto, using(rgo_ast::proofs::Rows::rows, rgo_typed::proofs::Rows::rows, rgo_typing_rules::proofs::Refusals::refusals, crate::proofs::Lists::pushed))]
+#![tactic(auto, using(rgo_typing_rules::proofs::Refusals::refusals, std::proofs::lemmas::List::map_push))]
 
 ghost use Rattle.std.specs.Prelude.{◌≡◌, [], ◌∷◌, IfOk};
 ghost use Rattle.rgo_ast.specs.Views.{expr_of, boxed_expr_of};

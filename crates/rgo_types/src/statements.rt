@@ -2,7 +2,7 @@
 //!
 //! The functions of the cycle are those that call one another: `check_stmt` is a table of calls, and what
 //! it calls but for blocks, `if` and `for` is in the files of the other statements.
-#![tactic(auto, using(rgo_ast::proofs::Rows::rows, rgo_typed::proofs::Rows::rows, rgo_typing_rules::proofs::Refusals::refusals))]
+#![tactic(auto, using(crate::proofs::Trees::sources, rgo_typing_rules::proofs::Refusals::refusals))]
 
 ghost use Rattle.std.specs.Prelude.{◌≡◌, map};
 ghost use Rattle.rgo_ast.specs.Tree as ast;
@@ -121,7 +121,14 @@ fn if_stmt<'a>(
     let test = checker.check_expr(Role::Value, test)?;
     let body = check_block(checker, around, body)?;
     let other_stmts = check_clause(checker, around, other)?;
-    let stmt = if_of(checker.alloc(), test, body, other.is_some(), other_stmts, at)?;
+    let stmt = if_of(
+        checker.alloc(),
+        test,
+        body,
+        other.is_some(),
+        other_stmts,
+        at,
+    )?;
     push_headed(out, init.is_some(), header, stmt)?;
     checker.leave();
     Ok(())
