@@ -7,7 +7,7 @@ use Rattle.std.specs.Option.{option_or}
 abbrev pub Block : Type 0 → Type 0
 Block T = List (List ℕ × T)
 
--- the innermost block, and those round it, from the inside to the outside
+-- the innermost block, and those around it, from the inside to the outside
 pub record Blocks (T : Type 0) : Type 0 where
   pub here : Block T
   pub outer : List (Block T)

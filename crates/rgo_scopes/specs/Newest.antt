@@ -1,15 +1,15 @@
--- What the map of the newest declarations says of a name, and what a note in it changes.
+-- What the map of the newest declarations says of a name, and what an insertion changes.
 use Rattle.std.specs.Prelude.{◌≡◌, ℕ, List, Option, None, Some, bytes_eq, if◌then◌else◌}
 use Rattle.std.specs.Borrow.{Bor}
 use Rattle.rgo_scopes.specs.declared.newest.Seen.{Seen}
 use Rattle.indexmap.specs.IndexMap.{IndexMap, get_by}
 
--- a name that the map does not hold means nothing, as one that is no more declared
+-- a name without an entry means nothing, and so does one that is no longer declared
 abbrev pub flat : {T : Type 0} → Option (Option (Seen T)) → Option (Seen T)
 flat None = None
 flat (Some seen) = seen
 
--- for each name that was ever declared its newest declaration, or none where none is left
+-- each name that was ever declared, with its newest declaration that is still in scope, if any
 abbrev pub Newest : Type 0 → Type 0 → Type 0
 Newest T S = IndexMap (Bor (List ℕ)) (Option (Seen T)) S
 

@@ -1,4 +1,4 @@
-//! What each name means at this moment, by a hash of the name.
+//! The index below the table of blocks: what each name means now, found by a hash of the name.
 
 ghost use Rattle.std.specs.Prelude.{◌≡◌, List, ℕ, Some, IsSome, OnOk, OnErr, bytes_eq, if◌then◌else◌};
 ghost use Rattle.rgo_scopes.specs.Newest.{noted, Notes};
@@ -6,14 +6,14 @@ ghost use Rattle.rgo_scopes.specs.Newest.{noted, Notes};
 use indexmap::IndexMap;
 use std::alloc::AllocError;
 
-/// A declaration that a name means: its value, and how many blocks stand outside its own.
+/// A declaration that a name means: its value, and the number of blocks outside its own.
 #[derive(Clone, Copy)]
 pub(crate) struct Seen<T> {
     pub(crate) value: T,
     pub(crate) block: usize,
 }
 
-/// What each name means. A name that is no more declared keeps its place.
+/// What each name means. A name that is no longer declared keeps its entry.
 pub(crate) type Newest<'a, T> = IndexMap<&'a [u8], Option<Seen<T>>>;
 
 /// What a name means.
@@ -26,7 +26,7 @@ pub(crate) fn look_up<'a, T: Copy>(newest: &Newest<'a, T>, name: &[u8]) -> Optio
     }
 }
 
-/// Lets a name mean a declaration, new or newer.
+/// Makes a name mean a new declaration.
 pub(crate) fn note<'a, T: Copy>(
     newest: &mut Newest<'a, T>,
     name: &'a [u8],
@@ -39,8 +39,8 @@ pub(crate) fn note<'a, T: Copy>(
     Ok(())
 }
 
-/// Lets a name that means something mean what it did before. Its entry is there, so that this takes
-/// no memory.
+/// Makes a name that means something mean what it meant before. Its entry exists, so this allocates
+/// nothing.
 pub(crate) fn restore<'a, T: Copy>(
     newest: &mut Newest<'a, T>,
     name: &'a [u8],

@@ -1,4 +1,4 @@
-//! The table of blocks: what is declared in each, and what each declaration hid.
+//! The table of blocks: what each block declares, and what each declaration hid.
 
 ghost use Rattle.std.specs.Prelude.{◌≡◌, OnOk, OnErr, is_some};
 ghost use Rattle.rgo_scopes.specs.Blocks.{no_names, found, found_in, declared, entered, left};
@@ -17,11 +17,11 @@ pub(crate) struct Binding<'a, T> {
     hidden: Option<Seen<T>>,
 }
 
-/// Names with what they mean, block by block. A block may declare a name again, and blocks inside
-/// it may too.
+/// Names with what they mean, block by block. A block may declare a name again, and so may the
+/// blocks inside it.
 ///
-/// Costs are in numbers of names, and expected: a name is found by a hash whose seed is fixed. The
-/// table keeps room for each name that was ever declared.
+/// Costs are expected costs, since a name is found by a hash with a fixed seed. The table keeps
+/// memory for each name that was ever declared.
 #[derive(Drop)]
 pub struct Scopes<'a, T> {
     here: Vec<Binding<'a, T>>,
@@ -78,7 +78,7 @@ impl<'a, T: Copy> Scopes<'a, T> {
     }
 
     /// Declares a name in the innermost block, where it may be declared already. Takes amortised
-    /// O(1) time. An error is want of memory, and leaves the table as it was.
+    /// O(1) time. On allocation failure the table stays as it was.
     pub fn declare(&mut self, name: &'a [u8], value: T) -> Result<(), AllocError>
         ensures declared { OnOk result (self.new ≡ declared name.now value self.old) }
         ensures err { OnErr result (self.new ≡ self.old) }
@@ -95,8 +95,8 @@ impl<'a, T: Copy> Scopes<'a, T> {
         Ok(())
     }
 
-    /// Begins a block inside the innermost one. Takes amortised O(1) time. An error is want of
-    /// memory, and leaves the table as it was.
+    /// Begins a block inside the innermost one. Takes amortised O(1) time. On allocation failure
+    /// the table stays as it was.
     pub fn enter(&mut self) -> Result<(), AllocError>
         ensures entered { OnOk result (self.new ≡ entered self.old) }
         ensures err { OnErr result (self.new ≡ self.old) }
@@ -108,7 +108,7 @@ impl<'a, T: Copy> Scopes<'a, T> {
         Ok(())
     }
 
-    /// Ends the innermost block, so that its names mean again what they did before it. Ending the
+    /// Ends the innermost block, so that its names mean again what they meant before it. Ending the
     /// outermost block leaves one with no names. Takes O(n) time for the n declarations of the
     /// block. Allocates nothing.
     pub fn leave(&mut self)

@@ -1,4 +1,4 @@
-pub mod Keys
 pub mod Lists
 pub mod Numbers
+pub mod Trees
 pub mod Typed

@@ -1,5 +1,5 @@
 //! What a callee is, and which expressions may be statements or be assigned to.
-#![tactic(auto, using(rgo_ast::proofs::Rows::rows))]
+#![tactic(auto, using(crate::proofs::Trees::exprs))]
 
 ghost use Rattle.std.specs.Prelude.{◌≡◌, bytes_eq, codes};
 ghost use Rattle.rgo_ast.specs.Views.{expr_of};

@@ -1,5 +1,5 @@
 //! Calls, from their callee and their checked arguments.
-#![tactic(auto, using(rgo_typed::proofs::Rows::rows))]
+#![tactic(auto, using(crate::proofs::Trees::terms))]
 
 ghost use Rattle.std.specs.Prelude.{◌≡◌, [], ◌∷◌, IfOk, map};
 ghost use Rattle.rgo_typed.specs.Tree as tree;
@@ -88,7 +88,7 @@ fn nothing<'a>(alloc: Global, at: Place) -> Checked<'a>
 }
 
 /// A call (The Go Programming Language Specification, "Calls").
-#[tactic(auto, using(rgo_typed::proofs::Rows::rows), unfolding(rgo_typing_rules::specs::Rules::broken))]
+#[tactic(auto, using(crate::proofs::Trees::terms), unfolding(rgo_typing_rules::specs::Rules::broken))]
 pub fn call<'a>(
     alloc: Global,
     globals: &Package<'a>,

@@ -1,5 +1,5 @@
 //! Composite literals by their values in order.
-#![tactic(auto, using(rgo_typed::proofs::Rows::rows, crate::proofs::Numbers::numbers))]
+#![tactic(auto, using(crate::proofs::Trees::terms, crate::proofs::Numbers::numbers))]
 
 ghost use Rattle.std.specs.Prelude.{◌≡◌, [], ◌∷◌, IfOk, map, Some};
 ghost use Rattle.rgo_typed.specs.Tree as tree;
@@ -49,7 +49,7 @@ fn check_literal(
 }
 
 /// `&T{a, b}` (The Go Programming Language Specification, "Composite literals").
-#[tactic(auto, using(rgo_typed::proofs::Rows::rows, crate::proofs::Numbers::numbers), unfolding(rgo_typing_rules::specs::Rules::broken))]
+#[tactic(auto, using(crate::proofs::Trees::terms, crate::proofs::Numbers::numbers), unfolding(rgo_typing_rules::specs::Rules::broken))]
 pub(crate) fn literal<'a>(
     alloc: Global,
     globals: &Package<'a>,

@@ -1,5 +1,5 @@
 //! Typed trees from their parts.
-#![tactic(auto, using(rgo_typed::proofs::Rows::rows))]
+#![tactic(auto, using(crate::proofs::Trees::terms))]
 
 ghost use Rattle.std.specs.Prelude.{◌≡◌, IfOk};
 ghost use Rattle.rgo_typing_rules.specs.Types.{plain};

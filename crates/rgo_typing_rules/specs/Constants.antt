@@ -1,5 +1,5 @@
--- Constants, their values, and the range that they keep. Each constant operation has to keep it, not only
--- the last.
+-- Constants, their values, and the range that they keep. Every constant operation has to keep it, not only
+-- the last one.
 use Rattle.std.specs.Prelude.{Bool, true, false, not, ◌^◌, ℤ, pos, negsuc, ◌+ℤ◌, ◌-ℤ◌, ◌*ℤ◌, neg_ℤ, int_div, int_rem}
 use Rattle.std.specs.Prelude.{nat_lt, Option, Some, None, if◌then◌else◌}
 use Rattle.rgo_ast.specs.declared.ops.UnaryOp.{UnaryOp}

@@ -1,4 +1,4 @@
--- What is said of the meaning of a name, and what a function takes and gives.
+-- Tests of the meaning of a name, and what a function takes and returns.
 use Rattle.std.specs.Prelude.{Bool, true, false, List, Option, Some, None}
 use Rattle.rgo_typed.specs.declared.types.Type.{«Type»}
 use Rattle.rgo_typing_rules.specs.declared.meanings.Meaning.{Meaning}

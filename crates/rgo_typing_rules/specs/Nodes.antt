@@ -1,4 +1,4 @@
--- The judged nodes of a program, each with what the rules ask of it and of its parts.
+-- The nodes of a program that are checked against the rules, each with what the rules ask about it and its parts.
 use Rattle.std.specs.Prelude.{ℕ, Bool, true, false, List, Option}
 use Rattle.rgo_ast.specs.declared.ops.UnaryOp.{UnaryOp}
 use Rattle.rgo_ast.specs.declared.ops.BinaryOp.{BinaryOp}
@@ -20,14 +20,14 @@ pub data Node : Type 0 where
   TextEnd : Bool → Node
   -- a name as a type
   TypeName : Option Meaning → Node
-  -- a name behind `*`, behind `&`, or in `new`
+  -- a name after `*` or `&`, or in `new`
   BaseName : Option Meaning → Node
   -- the `*` or the `new` with such a name
   Pointed : Option Meaning → Node
   Number : ℕ → Node
   Text : Role → Node
   Name : Role → Option Meaning → Node
-  -- the size of a slice or the capacity of a channel that is made
+  -- the size of a slice or the capacity of a channel, in `make`
   Size : Shape → Node
   -- a selector: whether its operand is a struct pointer and the struct has the field
   Selector : Bool → Node
@@ -38,7 +38,7 @@ pub data Node : Type 0 where
   -- a literal by its values: the types of the struct's fields, where the name is a struct's
   Literal : Option (List «Type») → List Shape → Node
   -- a literal by fields: the type of each element's field, where there is such a field; whether a
-  -- field stands there twice
+  -- field appears twice
   Keyed : Option (List (Option «Type»)) → Bool → List Shape → Node
   -- calls: of a name that nothing declares; of what is no function; of a function; of the builtins; of `fmt.Println`
   CallMissing : Node
@@ -47,13 +47,13 @@ pub data Node : Type 0 where
   CallLen : List Shape → Node
   CallClose : Role → List Shape → Node
   Print : Role → List Shape → Node
-  -- an expression statement: whether it is a call or receive that may stand alone
+  -- an expression statement: whether it is a call or receive that may be a statement
   Alone : Bool → Node
   -- a send statement: the channel and the value
   Send : Shape → Shape → Node
   -- an assignment: whether its left side is a variable, a field or an element; both sides
   Assign : Bool → Shape → Shape → Node
-  -- the same for an assignment that computes first, by its operator
+  -- an assignment with an operator, as `+=`: the operator, and the same
   Update : BinaryOp → Bool → Shape → Shape → Node
   -- a variable declared with a value, without and with a type
   Define : Shape → Node
@@ -64,11 +64,10 @@ pub data Node : Type 0 where
   GoNothing : Node
   -- the function's result, and what is returned
   Return : Option «Type» → Option Shape → Node
-  -- `break` or `continue`: whether a `for` is round it
+  -- `break` or `continue`: whether it is inside a `for`
   Branch : Bool → Node
 
--- An expression is judged as one that has to have a value. It has not where it is an expression
--- statement, or is the left side of `=`.
+-- An expression has to have a value, unless it is an expression statement or the left side of `=`.
 abbrev pub wants_value : Role → Bool
 wants_value role.Value = true
 wants_value role.Printed = true

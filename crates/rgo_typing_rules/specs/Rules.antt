@@ -1,4 +1,4 @@
--- The 34 rules on meaning. Each is a test of one node: it says whether the node breaks the rule. A node is
+-- The 34 rules on meaning. Each is a test of one node, which says whether the node breaks the rule. A node is
 -- refused for the first rule that it breaks.
 use Rattle.std.specs.Prelude.{ℕ, Bool, true, false, not, ◌&&◌, ◌||◌, ◌==◌, ◌^◌, nat_lt, List, [], ◌∷◌, length}
 use Rattle.std.specs.List.{list_any}
@@ -73,7 +73,7 @@ abbrev pub is_no_value : Option Meaning → Bool
 is_no_value None = false
 is_no_value (Some m) = not (is_value m)
 
--- NotValue: a type, function, builtin or package as a value; the left side of `=` is none
+-- NotValue: a type, function, builtin or package as a value; the left side of `=` is no value
 abbrev pub not_value : Node → Bool
 not_value (node.Name r m) = is_no_value m && not (is_target r)
 not_value _ = false
@@ -113,7 +113,7 @@ lacks_one unary.Minus s = not (is_int_shape s)
 lacks_one unary.Not s = not (is_bool_shape s)
 lacks_one unary.Receive s = false
 
--- Mismatch: an operator on operands that it does not have, where 11 and 12 do not say it
+-- Mismatch: an operator on operands that it does not take, unless SliceCompare or BareNil says it
 abbrev pub mismatch : Node → Bool
 mismatch (node.Unary op s) = lacks_one op s
 mismatch (node.Binary op a b) = lacks (operands_of op) a b
@@ -157,8 +157,7 @@ misfits_known None values = false
 misfits_known (Some fields) values = has_known_misfit fields values
 
 -- NotAssignable: a value whose type is not the wanted one, where it is declared with a type,
--- assigned, passed, returned, sent or put in a literal; with another number of values than wanted, of the pairs
--- as far as both go
+-- assigned, passed, returned, sent or put in a literal; pairs past the end of the shorter list do not count
 abbrev pub not_assignable : Node → Bool
 not_assignable (node.Literal fields values) = misfits_fields fields values
 not_assignable (node.Keyed fields twice values) = misfits_known fields values
@@ -176,12 +175,12 @@ not_place (node.Assign at_place a b) = not at_place
 not_place (node.Update op at_place a b) = not at_place
 not_place _ = false
 
--- NoSuchField: a selector on what is no struct pointer, or on a field not there
+-- NoSuchField: a selector on what is no struct pointer, or of a field that the struct does not have
 abbrev pub no_such_field : Node → Bool
 no_such_field (node.Selector there) = not there
 no_such_field _ = false
 
--- there is a first argument, and it is something else
+-- there is a first argument, and it fails the test
 abbrev pub first_is_no : (Shape → Bool) → List Shape → Bool
 first_is_no test [] = false
 first_is_no test (s ∷ args) = not (test s)
@@ -280,7 +279,7 @@ abbrev pub const_size : Node → Bool
 const_size (node.Size s) = is_below_zero_shape s
 const_size _ = false
 
--- values are there, in another number than the fields
+-- there are values, and their number is not that of the fields
 abbrev pub is_partial : Option (List «Type») → List Shape → Bool
 is_partial None values = false
 is_partial (Some fields) [] = false
@@ -290,8 +289,8 @@ abbrev pub has_unknown : Option (List (Option «Type»)) → Bool
 has_unknown None = false
 has_unknown (Some fields) = list_any is_none fields
 
--- LiteralFields: a literal with an unknown or repeated field name, or with values without names in another
--- number than the fields, except none
+-- LiteralFields: a literal with an unknown or repeated field name, or with values without names whose number is
+-- neither 0 nor that of the fields
 abbrev pub literal_fields : Node → Bool
 literal_fields (node.Literal fields values) = is_partial fields values
 literal_fields (node.Keyed fields twice values) = has_unknown fields || twice

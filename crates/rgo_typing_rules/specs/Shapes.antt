@@ -47,7 +47,7 @@ fits t (Constant n) = is_int t
 fits t (Value u) = same t u
 fits t _ = false
 
--- `==` and `!=` are there for these two
+-- `==` and `!=` are defined for these two
 abbrev pub are_comparable : Shape → Shape → Bool
 are_comparable (Constant m) b = is_int_shape b
 are_comparable Nil b = is_pointer_shape b
@@ -56,7 +56,7 @@ are_comparable (Value t) (Constant n) = is_int t
 are_comparable (Value t) Nil = is_pointer_like t
 are_comparable _ _ = false
 
--- Of the pairs of a wanted type and a value, as far as both lists go, one does not fit.
+-- a value does not fit the wanted type at its place; pairs past the end of the shorter list do not count
 abbrev pub has_misfit : List «Type» → List Shape → Bool
 has_misfit [] shapes = false
 has_misfit (t ∷ ts) [] = false

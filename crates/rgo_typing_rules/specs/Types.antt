@@ -28,7 +28,7 @@ layers_of (tree.Pointer name at) = []
 layers_of (tree.Slice ty at) = Slice ∷ layers_of ty
 layers_of (tree.Chan ty at) = Chan ∷ layers_of ty
 
--- a type as it is written, round what its name means
+-- a type as it is written, around what its name means
 abbrev pub spelled : tree.TypeExpr → Base → «Type»
 spelled ty b = record { layers = layers_of ty; base = b }
 

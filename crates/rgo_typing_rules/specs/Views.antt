@@ -1,4 +1,4 @@
--- The views: of what the code holds of a node, the plain data that contracts say of it.
+-- The views: the plain data that contracts see in place of the code's borrowed types and nodes.
 use Rattle.std.specs.Prelude.{Option, Some, None, map, List}
 use denote.Ref.{Bor}
 use Rattle.rgo_ast.specs.Views.{type_expr_of}

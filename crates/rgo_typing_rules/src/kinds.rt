@@ -1,5 +1,5 @@
-//! Types of values while a program is judged. A type with layers is lent by the text that spells it,
-//! so nothing is copied.
+//! Types of values while a program is checked. A type with layers is borrowed from the syntax tree that
+//! spells it, so nothing is copied.
 #![tactic(auto, using(rgo_ast::proofs::Rows::rows))]
 
 ghost use Rattle.std.specs.Prelude.{◌≡◌, ◌++◌, IfOk, OnOk};
@@ -20,7 +20,7 @@ pub enum Kind<'a> {
     Plain(Base),
     /// A slice: how the type of its elements is spelled, and what the name in it means.
     Slice(&'a TypeExpr, Base),
-    /// A channel, by its elements alike.
+    /// A channel, by its elements in the same way.
     Chan(&'a TypeExpr, Base),
 }
 
@@ -34,7 +34,7 @@ fn same_bases(a: Base, b: Base) -> bool
     }
 }
 
-/// Whether two types are spelled alike but for the name inside.
+/// Whether two types are spelled alike except for the name inside.
 fn same_spellings(a: &TypeExpr, b: &TypeExpr) -> bool
     ensures { result ≡ same_layers (layers_of (type_expr_of a.now)) (layers_of (type_expr_of b.now)) }
 {
@@ -64,7 +64,7 @@ fn push_layers(layers: &mut Vec<Layer>, ty: &TypeExpr) -> Result<(), AllocError>
 }
 
 impl<'a> Kind<'a> {
-    /// The type that is spelled so, where the name in it means this base.
+    /// The type that is spelled so, if the name in it means this base.
     pub fn of(ty: &'a TypeExpr, base: Base) -> Kind<'a>
         ensures { kind_of result ≡ spelled (type_expr_of ty.now) base }
     {
@@ -137,7 +137,7 @@ impl<'a> Kind<'a> {
     ///
     /// # Errors
     ///
-    /// Where there is no memory for its layers.
+    /// On allocation failure.
     pub fn to_type(self, alloc: Global) -> Result<Type, AllocError>
         ensures { IfOk result (λ ty. ty ≡ kind_of self.entry) }
     {

@@ -1,10 +1,10 @@
-//! What names mean, and what functions take and give.
+//! What names mean, and what functions take and return.
 
 use crate::kinds::Kind;
 use rgo_typed::Base;
 
-/// What a name in scope means. A number is that of a local variable in its function, and else that
-/// of its kind in the package.
+/// What a name in scope means. Local variables are numbered in their function, package variables,
+/// functions and structs each in the package.
 #[derive(Clone, Copy)]
 pub enum Meaning {
     /// A local variable.
@@ -29,7 +29,7 @@ pub enum Meaning {
     Package(bool),
 }
 
-/// What a function takes and gives.
+/// What a function takes and returns.
 #[derive(Drop)]
 pub struct Signature<'a> {
     pub params: Vec<Kind<'a>>,

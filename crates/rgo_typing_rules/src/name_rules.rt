@@ -11,6 +11,7 @@ use crate::meanings::Meaning;
 use crate::roles::Role;
 use crate::rules::Rule;
 
+/// Whether a path is `fmt`.
 pub fn is_fmt(path: &[u8]) -> bool
     ensures { result ≡ bytes_eq path.now (codes "fmt") }
 {

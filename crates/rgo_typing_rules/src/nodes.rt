@@ -1,4 +1,4 @@
-//! The judged nodes of a program.
+//! The nodes of a program that are checked against the rules.
 
 use crate::kinds::Kind;
 use crate::meanings::{Meaning, Signature};
@@ -6,8 +6,8 @@ use crate::roles::Role;
 use crate::shapes::Shape;
 use rgo_ast::{BinaryOp, UnaryOp};
 
-/// A node of a program, with what the rules ask of it and of its parts. The text lends names and
-/// types, whoever wants types (`'p`) lends those, and whoever judges (`'v`) the values.
+/// A node of a program, with what the rules ask about it and its parts. Names and types are borrowed
+/// from the text (`'t`), wanted types from the package (`'p`), and values from the caller (`'v`).
 #[derive(Clone, Copy)]
 pub enum Node<'t, 'p, 'v> {
     /// An import: whether its path was imported before, and the path.
@@ -20,7 +20,7 @@ pub enum Node<'t, 'p, 'v> {
     TextEnd(bool),
     /// A name as a type.
     TypeName(Option<Meaning>),
-    /// A name behind `*`, behind `&`, or in `new`.
+    /// A name after `*` or `&`, or in `new`.
     BaseName(Option<Meaning>),
     /// The `*` or the `new` with such a name.
     Pointed(Option<Meaning>),
@@ -30,7 +30,7 @@ pub enum Node<'t, 'p, 'v> {
     Text(Role),
     /// An operand name.
     Name(Role, Option<Meaning>),
-    /// The size of a slice, or the capacity of a channel, that is made.
+    /// The size of a slice or the capacity of a channel, in `make`.
     Size(Shape<'t>),
     /// A selector: whether its operand is a struct pointer and the struct has the field.
     Selector(bool),
@@ -43,7 +43,7 @@ pub enum Node<'t, 'p, 'v> {
     /// A literal by its values: the types of the struct's fields, where its name is a struct's.
     Literal(Option<&'p [Kind<'t>]>, &'v [Shape<'t>]),
     /// A literal by fields: the type of each element's field, where there is such a field; whether
-    /// a field stands there twice; and the values.
+    /// a field appears twice; and the values.
     Keyed(Option<&'p [Option<Kind<'t>>]>, bool, &'v [Shape<'t>]),
     /// A call of a name that nothing declares.
     CallMissing,
@@ -57,13 +57,13 @@ pub enum Node<'t, 'p, 'v> {
     CallClose(Role, &'v [Shape<'t>]),
     /// A call of `fmt.Println`.
     Print(Role, &'v [Shape<'t>]),
-    /// An expression statement: whether it is a call or receive that may stand alone.
+    /// An expression statement: whether it is a call or receive that may be a statement.
     Alone(bool),
     /// A send statement: the channel and the value.
     Send(Shape<'t>, Shape<'t>),
     /// `=`: whether its left side is a variable, a field or an element; both sides.
     Assign(bool, Shape<'t>, Shape<'t>),
-    /// The same for an assignment that computes first, by its operator.
+    /// An assignment with an operator, as `+=`: the same, and the operator.
     Update(BinaryOp, bool, Shape<'t>, Shape<'t>),
     /// A variable declared with a value and without a type.
     Define(Shape<'t>),
@@ -77,6 +77,6 @@ pub enum Node<'t, 'p, 'v> {
     GoNothing,
     /// A `return`: the function's result, and what is returned.
     Return(Option<Kind<'t>>, Option<Shape<'t>>),
-    /// `break` or `continue`: whether a `for` is round it.
+    /// `break` or `continue`: whether it is inside a `for`.
     Branch(bool),
 }

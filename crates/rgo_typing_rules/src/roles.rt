@@ -1,6 +1,6 @@
-//! In which place an expression stands.
+//! The place of an expression in the program.
 
-/// The place of an expression: what it is judged as.
+/// The place of an expression: what it is checked as.
 #[derive(Clone, Copy, Debug, PartialEq, Eq)]
 pub enum Role {
     /// A value that is wanted.

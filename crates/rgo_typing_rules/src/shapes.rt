@@ -1,4 +1,4 @@
-//! Shapes of expressions while a program is judged.
+//! Shapes of expressions while a program is checked.
 
 ghost use Rattle.std.specs.Prelude.{◌≡◌};
 ghost use Rattle.rgo_typing_rules.specs.Shapes.{is_int_shape, is_bool_shape, is_slice_shape};
@@ -8,10 +8,10 @@ ghost use Rattle.rgo_typing_rules.specs.Views.{kind_of, shape_of};
 
 use crate::kinds::Kind;
 
-/// What the typing says of an expression: its type in most cases.
+/// What the typing says about an expression: its type in most cases.
 #[derive(Clone, Copy)]
 pub enum Shape<'a> {
-    /// What has no type: a name that is no value, on the left side of `=`.
+    /// No type: a name that is no value, on the left side of `=`.
     Untyped,
     /// `nil`.
     Nil,
@@ -97,7 +97,7 @@ impl<'a> Shape<'a> {
         }
     }
 
-    /// Whether `==` and `!=` are there for these two (The Go Programming Language Specification,
+    /// Whether `==` and `!=` are defined for these two (The Go Programming Language Specification,
     /// "Comparison operators").
     pub fn compares_with(self, other: Shape<'_>) -> bool
         ensures { result ≡ are_comparable (shape_of self.entry) (shape_of other.entry) }

@@ -1,4 +1,4 @@
-//! Tests over the values of a call, a literal or a print.
+//! Tests of the values of a call, a literal or a print.
 
 ghost use Rattle.std.specs.Prelude.{◌≡◌, map, is_none};
 ghost use Rattle.std.specs.List.{list_any};
@@ -9,7 +9,7 @@ ghost use Rattle.rgo_typing_rules.specs.Views.{shape_of, kind_of, optional_kind_
 use crate::kinds::Kind;
 use crate::shapes::Shape;
 
-/// Whether of the pairs of a wanted type and a value, as far as both go, one does not fit.
+/// Whether a value does not fit the wanted type at its place, up to the end of the shorter list.
 pub fn has_misfit(wanted: &[Kind<'_>], given: &[Shape<'_>]) -> bool
     ensures { result ≡ has_misfit (map kind_of wanted.now) (map shape_of given.now) }
 {
@@ -33,7 +33,7 @@ fn misfits(wanted: Option<Kind<'_>>, given: Shape<'_>) -> bool
     }
 }
 
-/// The same, where not each wanted type is known.
+/// The same, where some wanted types are unknown.
 pub fn has_known_misfit(wanted: &[Option<Kind<'_>>], given: &[Shape<'_>]) -> bool
     ensures { result ≡ has_known_misfit (map optional_kind_of wanted.now) (map shape_of given.now) }
 {
