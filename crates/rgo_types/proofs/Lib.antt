@@ -1,3 +1,4 @@
+pub mod Clauses
 pub mod Ends
 pub mod Lists
 pub mod Printed

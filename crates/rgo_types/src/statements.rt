@@ -1,8 +1,8 @@
 //! Statements: checked in the order of the text, and made typed trees.
 //!
-//! The functions of the cycle are those that call one another: `check_stmt` is a table of calls, and what
-//! it calls but for blocks, `if` and `for` is in the files of the other statements.
-#![tactic(auto, using(crate::proofs::Trees::sources, rgo_typing_rules::proofs::Refusals::refusals))]
+//! `check_stmt` is a table of calls. Only blocks, `if` and `for` call back into it: they form one cycle
+//! of functions, with nothing else in it.
+#![tactic(auto, using(crate::proofs::Trees::sources, crate::proofs::Clauses::has_clause_is, rgo_typing_rules::proofs::Refusals::refusals))]
 
 ghost use Rattle.std.specs.Prelude.{◌≡◌, map};
 ghost use Rattle.rgo_ast.specs.Tree as ast;
