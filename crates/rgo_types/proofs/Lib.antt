@@ -1,4 +1,3 @@
-pub mod Clauses
 pub mod Ends
 pub mod Lists
 pub mod Printed

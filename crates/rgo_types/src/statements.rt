@@ -2,7 +2,7 @@
 //!
 //! `check_stmt` is a table of calls. Only blocks, `if` and `for` call back into it: they form one cycle
 //! of functions, with nothing else in it.
-#![tactic(auto, using(crate::proofs::Trees::sources, crate::proofs::Clauses::has_clause_is, rgo_typing_rules::proofs::Refusals::refusals))]
+#![tactic(auto, using(crate::proofs::Trees::sources, rgo_typing_rules::proofs::Refusals::refusals))]
 
 ghost use Rattle.std.specs.Prelude.{◌≡◌, map};
 ghost use Rattle.rgo_ast.specs.Tree as ast;
