@@ -1,5 +1,5 @@
 //! Binary operations, from their checked operands.
-#![tactic(auto, using(crate::proofs::Trees::terms))]
+#![tactic(auto)]
 
 ghost use Rattle.std.specs.Prelude.{◌≡◌, [], ◌∷◌, IfOk};
 ghost use Rattle.rgo_typed.specs.Tree as tree;
@@ -24,7 +24,7 @@ use std::alloc::{AllocError, Global};
 
 /// Refuses a binary operation for the first rule that it breaks. Returns its value where it is a
 /// constant.
-#[tactic(auto, using(crate::proofs::Trees::terms), unfolding(rgo_typing_rules::specs::Rules::broken))]
+#[tactic(auto, unfolding(rgo_typing_rules::specs::Rules::broken))]
 fn check_binary(
     op: BinaryOp,
     left: Shape<'_>,

@@ -1,5 +1,5 @@
 //! Calls, from their callee and their checked arguments.
-#![tactic(auto, using(crate::proofs::Trees::terms))]
+#![tactic(auto)]
 
 ghost use Rattle.std.specs.Prelude.{◌≡◌, [], ◌∷◌, IfOk, map};
 ghost use Rattle.rgo_typed.specs.Tree as tree;
@@ -42,6 +42,7 @@ fn result_or_int(alloc: Global, result_type: Option<Kind<'_>>) -> Result<Type, A
 }
 
 /// A call of a function.
+#[tactic(auto, using(crate::proofs::Trees::terms))]
 fn routine<'a>(
     alloc: Global,
     role: Role,
@@ -65,6 +66,7 @@ fn routine<'a>(
 }
 
 /// A call of `len`.
+#[tactic(auto, using(crate::proofs::Trees::terms))]
 fn length<'a>(alloc: Global, args: Values<'a>, at: Place) -> Result<Checked<'a>, TypeError>
     ensures { ChecksTo result ((at, node.CallLen (map shape_of args.entry.shapes.items)) ∷ [])
         (shape.Value int) (tree.Apply Len (tree.terms_of (map term_of args.entry.terms.items)) int at) }
@@ -88,7 +90,7 @@ fn nothing<'a>(alloc: Global, at: Place) -> Checked<'a>
 }
 
 /// A call (The Go Programming Language Specification, "Calls").
-#[tactic(auto, using(crate::proofs::Trees::terms), unfolding(rgo_typing_rules::specs::Rules::broken))]
+#[tactic(auto, unfolding(rgo_typing_rules::specs::Rules::broken))]
 pub fn call<'a>(
     alloc: Global,
     globals: &Package<'a>,

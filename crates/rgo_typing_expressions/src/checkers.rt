@@ -40,11 +40,7 @@ impl<'p, 'a> Checker<'p, 'a> {
     }
 
     /// A checker of a package at a point with these local variables in scope.
-    pub fn with_scope(
-        alloc: Global,
-        globals: &'p Package<'a>,
-        scope: Scope<'a>,
-    ) -> Checker<'p, 'a>
+    pub fn with_scope(alloc: Global, globals: &'p Package<'a>, scope: Scope<'a>) -> Checker<'p, 'a>
         ensures { result ≡ record { globals = globals.now; scope = scope.entry } }
     {
         Checker {

@@ -1,5 +1,5 @@
 //! Expressions: checked in the order of the text, parts before the whole, and made typed trees.
-#![tactic(auto, using(crate::proofs::Trees::exprs, crate::proofs::Trees::terms, rgo_typing_rules::proofs::Refusals::refusals))]
+#![tactic(auto)]
 
 ghost use Rattle.std.specs.Prelude.{◌≡◌, [], ◌∷◌, IfOk, map};
 ghost use Rattle.rgo_ast.specs.Tree as ast;
@@ -70,6 +70,7 @@ impl<'p, 'a> Checker<'p, 'a> {
 
     /// Checks an expression (The Go Programming Language Specification, "Expressions").
     #[cycle(expressions)]
+    #[tactic(auto, using(crate::proofs::Trees::exprs, rgo_typing_rules::proofs::Refusals::refusals))]
     pub fn check_expr(&self, role: Role, e: &'a Expr) -> Result<Checked<'a>, TypeError>
         ensures { ChecksTo result (checking.nodes self.now role (expr_of e.now))
             (types.type_of self.now (expr_of e.now)) (terms.term_of self.now (expr_of e.now)) }
@@ -84,7 +85,12 @@ impl<'p, 'a> Checker<'p, 'a> {
             Expr::MakeSlice(element, size, at) => {
                 self.check_type(element)?;
                 let size = self.check_expr(Role::Value, size)?;
-                make_slice(alloc, Kind::Slice(element, self.resolve_base(element)), size, *at)
+                make_slice(
+                    alloc,
+                    Kind::Slice(element, self.resolve_base(element)),
+                    size,
+                    *at,
+                )
             }
             Expr::MakeChan(element, None, at) => {
                 self.check_type(element)?;
@@ -94,7 +100,12 @@ impl<'p, 'a> Checker<'p, 'a> {
             Expr::MakeChan(element, Some(capacity), at) => {
                 self.check_type(element)?;
                 let capacity = self.check_expr(Role::Value, capacity)?;
-                make_buffered(alloc, Kind::Chan(element, self.resolve_base(element)), capacity, *at)
+                make_buffered(
+                    alloc,
+                    Kind::Chan(element, self.resolve_base(element)),
+                    capacity,
+                    *at,
+                )
             }
             Expr::Select(inner, field) => {
                 let inner = self.check_expr(Role::Value, inner)?;
@@ -151,6 +162,7 @@ impl<'p, 'a> Checker<'p, 'a> {
 
     /// Checks the parts of an expression, and not the expression itself.
     #[cycle(expressions)]
+    #[tactic(auto, using(crate::proofs::Trees::exprs, rgo_typing_rules::proofs::Refusals::refusals))]
     fn check_parts(&self, e: &'a Expr) -> Result<(), TypeError>
         ensures { Checks result (checking.parts self.now (expr_of e.now)) }
     {

@@ -1,5 +1,5 @@
 //! Composite literals by fields.
-#![tactic(auto, using(crate::proofs::Trees::exprs, crate::proofs::Trees::terms))]
+#![tactic(auto)]
 
 ghost use Rattle.std.specs.Prelude.{◌≡◌, [], ◌∷◌, IfOk, map};
 ghost use Rattle.rgo_ast.specs.Tree as ast;
@@ -93,7 +93,7 @@ fn has_twice(alloc: Global, elements: &[Element]) -> Result<bool, AllocError>
 
 /// `&T{f: a, g: b}`, from its checked values (The Go Programming Language Specification, "Composite
 /// literals").
-#[tactic(auto, using(crate::proofs::Trees::exprs, crate::proofs::Trees::terms), unfolding(rgo_typing_rules::specs::Rules::broken))]
+#[tactic(auto, using(crate::proofs::Trees::terms), unfolding(rgo_typing_rules::specs::Rules::broken))]
 pub(crate) fn keyed<'a>(
     alloc: Global,
     meaning: Option<Meaning>,

@@ -1,5 +1,5 @@
 //! Composite literals by their values in order.
-#![tactic(auto, using(crate::proofs::Trees::terms, crate::proofs::Numbers::numbers))]
+#![tactic(auto)]
 
 ghost use Rattle.std.specs.Prelude.{◌≡◌, [], ◌∷◌, IfOk, map, Some};
 ghost use Rattle.rgo_typed.specs.Tree as tree;
@@ -22,6 +22,7 @@ use rgo_typing_rules::{Meaning, Node, Shape, TypeError, check_node};
 use std::alloc::{AllocError, Global};
 
 /// The numbers below n.
+#[tactic(auto, using(crate::proofs::Numbers::numbers))]
 fn first_numbers(alloc: Global, n: usize) -> Result<Vec<usize>, AllocError>
     ensures { IfOk result (λ l. l.items ≡ terms.first_numbers n) }
 {

@@ -1,5 +1,5 @@
 //! Objects, slices and channels that `new` and `make` make, from their checked parts.
-#![tactic(auto, using(crate::proofs::Trees::terms))]
+#![tactic(auto)]
 
 ghost use Rattle.std.specs.Prelude.{◌≡◌, [], ◌∷◌, IfOk, pos};
 ghost use Rattle.rgo_typed.specs.Tree as tree;

@@ -1,5 +1,5 @@
 //! Unary operations, index expressions and selectors, from their checked operands.
-#![tactic(auto, using(crate::proofs::Trees::terms))]
+#![tactic(auto)]
 
 ghost use Rattle.std.specs.Prelude.{◌≡◌, [], ◌∷◌, IfOk, is_some};
 ghost use Rattle.rgo_ast.specs.declared.ops.UnaryOp.TheVariants.{Plus, Minus, Not, Receive};
@@ -27,7 +27,7 @@ use std::alloc::{AllocError, Global};
 
 /// Refuses a unary operation for the first rule that it breaks. Returns its value where it is a
 /// constant.
-#[tactic(auto, using(crate::proofs::Trees::terms), unfolding(rgo_typing_rules::specs::Rules::broken))]
+#[tactic(auto, unfolding(rgo_typing_rules::specs::Rules::broken))]
 fn check_unary(op: UnaryOp, operand: Shape<'_>, at: Place) -> Result<Option<i64>, TypeError>
     ensures checked { Checks result ((at, node.Unary op (shape_of operand.entry)) ∷ []) }
     ensures value { IfOk result (λ n. n ≡ folded_shape op (shape_of operand.entry)) }
@@ -107,7 +107,7 @@ fn not<'a>(alloc: Global, operand: Checked<'a>, at: Place) -> Result<Checked<'a>
 }
 
 /// `<-x`: a receive from a channel.
-#[tactic(auto, using(crate::proofs::Trees::terms), unfolding(rgo_typing_rules::specs::Rules::broken))]
+#[tactic(auto, unfolding(rgo_typing_rules::specs::Rules::broken))]
 fn received<'a>(alloc: Global, channel: Checked<'a>, at: Place) -> Result<Checked<'a>, TypeError>
     ensures { ChecksTo result ((at, node.Unary Receive (shape_of channel.entry.shape)) ∷ [])
         (types.element_shape (shape_of channel.entry.shape))
@@ -145,7 +145,7 @@ pub(crate) fn unary<'a>(
 }
 
 /// An index expression.
-#[tactic(auto, using(crate::proofs::Trees::terms), unfolding(rgo_typing_rules::specs::Rules::broken))]
+#[tactic(auto, unfolding(rgo_typing_rules::specs::Rules::broken))]
 pub(crate) fn index<'a>(
     alloc: Global,
     slice: Checked<'a>,
@@ -171,7 +171,7 @@ pub(crate) fn index<'a>(
 }
 
 /// A selector.
-#[tactic(auto, using(crate::proofs::Trees::terms), unfolding(rgo_typing_rules::specs::Rules::broken))]
+#[tactic(auto, unfolding(rgo_typing_rules::specs::Rules::broken))]
 pub(crate) fn select<'a>(
     alloc: Global,
     globals: &Package<'a>,

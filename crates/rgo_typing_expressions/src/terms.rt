@@ -10,8 +10,8 @@ ghost use Rattle.rgo_typing_expressions.specs.Scopes as scopes;
 ghost use Rattle.rgo_typing_expressions.specs.Terms as spec;
 
 use rgo_ast::Place;
-use rgo_typing_rules::Kind;
 use rgo_typed::{Action, Base, Row, Term, Type};
+use rgo_typing_rules::Kind;
 use std::alloc::{AllocError, Global};
 
 /// A type without layers. Allocates nothing.

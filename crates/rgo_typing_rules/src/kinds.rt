@@ -1,6 +1,6 @@
 //! Types of values while a program is checked. A type with layers is borrowed from the syntax tree that
 //! spells it, so nothing is copied.
-#![tactic(auto, using(rgo_ast::proofs::Rows::rows))]
+#![tactic(auto)]
 
 ghost use Rattle.std.specs.Prelude.{◌≡◌, ◌++◌, IfOk, OnOk};
 ghost use Rattle.rgo_ast.specs.Views.{type_expr_of};
