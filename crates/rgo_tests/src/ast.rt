@@ -1,5 +1,6 @@
 //! The places of trees, counted by hand from the front of small texts.
 
+use crate::checks::same;
 use crate::texts::{assigned, first_stmt, parsed};
 use rgo_ast::{LocalVar, Program, Stmt, TypeExpr};
 use std::alloc::Global;
@@ -9,7 +10,7 @@ use std::test::Fail;
 const BEFORE: &str = "package main; func main() { ";
 
 /// Statements with their places and starts.
-const STATEMENTS: [(&str, usize, usize); 14] = [
+static STATEMENTS: [(&str, usize, usize); 14] = [
     ("{ }", 0, 0),
     ("f()", 1, 0),
     ("x.y <- 1", 4, 0),
@@ -27,7 +28,7 @@ const STATEMENTS: [(&str, usize, usize); 14] = [
 ];
 
 /// Expressions with their places and starts.
-const EXPRESSIONS: [(&str, usize, usize); 14] = [
+static EXPRESSIONS: [(&str, usize, usize); 14] = [
     ("7", 0, 0),
     ("\"ab\"", 0, 0),
     ("f", 0, 0),
@@ -45,7 +46,7 @@ const EXPRESSIONS: [(&str, usize, usize); 14] = [
 ];
 
 /// Types. The place of each is its front.
-const TYPES: [&str; 4] = ["int", "*N", "[]*N", "chan []*N"];
+static TYPES: [&str; 4] = ["int", "*N", "[]*N", "chan []*N"];
 
 fn with_statement(alloc: Global, before: &str, text: &str) -> Result<Program, Fail> {
     let text = format!(in alloc; "{BEFORE}{before}{text} }}")?;
@@ -54,11 +55,12 @@ fn with_statement(alloc: Global, before: &str, text: &str) -> Result<Program, Fa
 
 #[test]
 fn statements_have_their_places(rt: HostRuntime) -> Result<(), Fail> {
-    for (text, place, start) in STATEMENTS {
+    let front = BEFORE.len();
+    for (text, place, start) in &STATEMENTS {
         let program = with_statement(rt.alloc(), "", text)?;
         let stmt = first_stmt(&program)?;
-        assert_eq!(rt; stmt.place(), BEFORE.len() + place, "{text}");
-        assert_eq!(rt; stmt.start(), BEFORE.len() + start, "{text}");
+        same(&rt, text, &stmt.place().saturating_sub(front), place);
+        same(&rt, text, &stmt.start().saturating_sub(front), start);
     }
     Ok(())
 }
@@ -66,11 +68,11 @@ fn statements_have_their_places(rt: HostRuntime) -> Result<(), Fail> {
 #[test]
 fn expressions_have_their_places(rt: HostRuntime) -> Result<(), Fail> {
     let front = BEFORE.len() + "x = ".len();
-    for (text, place, start) in EXPRESSIONS {
+    for (text, place, start) in &EXPRESSIONS {
         let program = with_statement(rt.alloc(), "x = ", text)?;
         let value = assigned(first_stmt(&program)?)?;
-        assert_eq!(rt; value.place(), front + place, "{text}");
-        assert_eq!(rt; value.start(), front + start, "{text}");
+        same(&rt, text, &value.place().saturating_sub(front), place);
+        same(&rt, text, &value.start().saturating_sub(front), start);
     }
     Ok(())
 }
@@ -88,10 +90,10 @@ fn declared_type(stmt: &Stmt) -> Result<&TypeExpr, Fail> {
 #[test]
 fn types_have_their_places(rt: HostRuntime) -> Result<(), Fail> {
     let front = BEFORE.len() + "var x ".len();
-    for text in TYPES {
+    for text in &TYPES {
         let program = with_statement(rt.alloc(), "var x ", text)?;
         let ty = declared_type(first_stmt(&program)?)?;
-        assert_eq!(rt; ty.place(), front, "{text}");
+        same(&rt, text, &ty.place(), &front);
     }
     Ok(())
 }
@@ -100,7 +102,7 @@ fn types_have_their_places(rt: HostRuntime) -> Result<(), Fail> {
 fn names_have_their_bytes(rt: HostRuntime) -> Result<(), Fail> {
     let program = with_statement(rt.alloc(), "", "max := 1")?;
     match first_stmt(&program)? {
-        Stmt::Define(name, _, _) => assert_eq!(rt; name.name.bytes(), b"max".as_slice()),
+        Stmt::Define(name, _, _) => same(&rt, "max", &name.name.bytes(), &b"max".as_slice()),
         _ => return Err(Fail::from("no definition")),
     }
     Ok(())

@@ -4,6 +4,7 @@ mod refusals;
 mod terminals;
 mod tokens;
 
+use crate::checks::same;
 use rgo_lexer::{LexError, Lexeme, LexicalKind, Terminal, lex, unquoted};
 use std::alloc::Global;
 use std::process::Abort;
@@ -22,9 +23,20 @@ fn letter(lexeme: &Lexeme<'_>) -> &'static str {
         Terminal::Name | Terminal::Main | Terminal::New | Terminal::Make => "w:",
         Terminal::Number(_) => "n:",
         Terminal::Text => "t:",
+        Terminal::Semicolon if lexeme.word.is_empty() => "~",
         _ if is_keyword(lexeme.word) => "k:",
         _ => "o:",
     }
+}
+
+fn shown_lexemes(alloc: Global, lexemes: &[Lexeme<'_>]) -> Result<String, Fail> {
+    let mut line = String::new(alloc);
+    for lexeme in lexemes {
+        let space = if line.is_empty() { "" } else { " " };
+        let word = std::str::from_utf8(lexeme.word).unwrap_or("?");
+        line = format!(in alloc; "{line}{space}{}{word}", letter(lexeme))?;
+    }
+    Ok(line)
 }
 
 fn shown(alloc: Global, text: &[u8]) -> Result<String, Fail> {
@@ -35,28 +47,14 @@ fn shown(alloc: Global, text: &[u8]) -> Result<String, Fail> {
             refusal.kind.number(),
             refusal.at
         )?),
-        Err(LexError::NoMemory) => Ok(format!(in alloc; "no memory")?),
+        Err(LexError::NoMemory) => Err(Fail::from("out of memory")),
     }
-}
-
-fn shown_lexemes(alloc: Global, lexemes: &[Lexeme<'_>]) -> Result<String, Fail> {
-    let mut line = String::new(alloc);
-    for lexeme in lexemes {
-        let space = if line.is_empty() { "" } else { " " };
-        let word = std::str::from_utf8(lexeme.word).unwrap_or("?");
-        line = if lexeme.word.is_empty() {
-            format!(in alloc; "{line}{space}~")?
-        } else {
-            format!(in alloc; "{line}{space}{}{word}", letter(lexeme))?
-        };
-    }
-    Ok(line)
 }
 
 fn are_read<R: Abort + AllocGlobal>(rt: &R, texts: &[(&[u8], &str)]) -> Result<(), Fail> {
     for (text, wanted) in texts {
         let line = shown(rt.alloc(), text)?;
-        assert_eq!(rt; line.as_str(), *wanted);
+        same(rt, wanted, &line.as_str(), wanted);
     }
     Ok(())
 }
@@ -82,19 +80,29 @@ fn texts_have_their_refusals(rt: HostRuntime) -> Result<(), Fail> {
     are_read(&rt, &refusals::FIRST)
 }
 
+static KINDS: [(LexicalKind, u8, &str); 6] = [
+    (LexicalKind::BadUtf8, 1, "BadUtf8"),
+    (LexicalKind::BadByte, 2, "BadByte"),
+    (LexicalKind::BadNumber, 3, "BadNumber"),
+    (LexicalKind::BadEscape, 4, "BadEscape"),
+    (LexicalKind::OpenString, 5, "OpenString"),
+    (LexicalKind::OpenComment, 6, "OpenComment"),
+];
+
 #[test]
 fn kinds_of_refusal_have_their_numbers_and_names(rt: HostRuntime) {
-    for (kind, number, name) in [
-        (LexicalKind::BadUtf8, 1, "BadUtf8"),
-        (LexicalKind::BadByte, 2, "BadByte"),
-        (LexicalKind::BadNumber, 3, "BadNumber"),
-        (LexicalKind::BadEscape, 4, "BadEscape"),
-        (LexicalKind::OpenString, 5, "OpenString"),
-        (LexicalKind::OpenComment, 6, "OpenComment"),
-    ] {
-        assert_eq!(rt; kind.number(), number);
-        assert_eq!(rt; kind.name(), name);
+    for (kind, number, name) in &KINDS {
+        same(&rt, name, &kind.number(), number);
+        same(&rt, name, &kind.name(), name);
     }
+}
+
+fn terminals_of(alloc: Global, text: &[u8]) -> Result<Vec<Terminal>, Fail> {
+    let mut terminals = Vec::new(alloc);
+    for lexeme in &lex(alloc, text)? {
+        terminals.push(lexeme.terminal)?;
+    }
+    Ok(terminals)
 }
 
 fn have_terminals<R: Abort + AllocGlobal>(
@@ -102,11 +110,8 @@ fn have_terminals<R: Abort + AllocGlobal>(
     texts: &[(&[u8], &[Terminal])],
 ) -> Result<(), Fail> {
     for (text, wanted) in texts {
-        let lexemes = lex(rt.alloc(), text)?;
-        assert_eq!(rt; lexemes.len(), wanted.len());
-        for (lexeme, terminal) in lexemes.iter().zip(wanted.iter()) {
-            assert_eq!(rt; lexeme.terminal, *terminal);
-        }
+        let terminals = terminals_of(rt.alloc(), text)?;
+        same(rt, "a text", &terminals.as_slice(), wanted);
     }
     Ok(())
 }
@@ -120,22 +125,24 @@ fn lexemes_have_their_terminals(rt: HostRuntime) -> Result<(), Fail> {
     have_terminals(&rt, &terminals::OTHERS)
 }
 
+static PLACED: &[u8] = b"\xEF\xBB\xBF x\n  main <-\"a\"";
+
+static PLACES: [(usize, &[u8]); 6] = [
+    (4, b"x"),
+    (5, b""),
+    (8, b"main"),
+    (13, b"<-"),
+    (15, b"\"a\""),
+    (18, b""),
+];
+
 #[test]
 fn lexemes_have_their_places_and_words(rt: HostRuntime) -> Result<(), Fail> {
-    let text = b"\xEF\xBB\xBF x\n  main <-\"a\"".as_slice();
-    let wanted = [
-        (4, b"x".as_slice()),
-        (5, b""),
-        (8, b"main"),
-        (13, b"<-"),
-        (15, b"\"a\""),
-        (18, b""),
-    ];
-    let lexemes = lex(rt.alloc(), text)?;
-    assert_eq!(rt; lexemes.len(), wanted.len());
-    for (lexeme, (at, word)) in lexemes.iter().zip(wanted.iter()) {
-        assert_eq!(rt; lexeme.at, *at);
-        assert_eq!(rt; lexeme.word, *word);
+    let lexemes = lex(rt.alloc(), PLACED)?;
+    same(&rt, "all", &lexemes.len(), &PLACES.len());
+    for (lexeme, (at, word)) in lexemes.iter().zip(PLACES.iter()) {
+        same(&rt, "a lexeme", &lexeme.at, at);
+        same(&rt, "a lexeme", &lexeme.word, word);
     }
     Ok(())
 }
@@ -151,40 +158,35 @@ fn number_of(alloc: Global, text: &str) -> Option<u64> {
     }
 }
 
+static NUMBERS: [(&str, Option<u64>); 14] = [
+    ("0", Some(0)),
+    ("42", Some(42)),
+    ("1_000", Some(1000)),
+    ("0x1F", Some(31)),
+    ("0X_a_B", Some(171)),
+    ("9223372036854775807", Some(9_223_372_036_854_775_807)),
+    ("0x7fffffffffffffff", Some(9_223_372_036_854_775_807)),
+    ("9223372036854775808", None),
+    ("0x8000000000000000", None),
+    ("", None),
+    ("01", None),
+    ("0x", None),
+    ("1_", None),
+    ("a", None),
+];
+
 #[test]
-fn numbers_have_their_values(rt: HostRuntime) -> Result<(), Fail> {
-    for (word, wanted) in [
-        ("0", Some(0)),
-        ("42", Some(42)),
-        ("1_000", Some(1000)),
-        ("0x1F", Some(31)),
-        ("0X_a_B", Some(171)),
-        ("9223372036854775807", Some(9_223_372_036_854_775_807)),
-        ("0x7fffffffffffffff", Some(9_223_372_036_854_775_807)),
-        ("9223372036854775808", None),
-        ("0x8000000000000000", None),
-        ("", None),
-        ("01", None),
-        ("0x", None),
-        ("1_", None),
-        ("a", None),
-    ] {
-        assert_eq!(rt; number_of(rt.alloc(), word), wanted, "at {word}");
+fn numbers_have_their_values(rt: HostRuntime) {
+    for (word, wanted) in &NUMBERS {
+        same(&rt, word, &number_of(rt.alloc(), word), wanted);
     }
-    Ok(())
 }
 
 #[test]
 fn strings_have_their_values(rt: HostRuntime) -> Result<(), Fail> {
-    let text = b"x \"hi\xC3\xA9\\a\\b\\f\\n\\r\\t\\v\\\\\\\"\" y".as_slice();
-    let lexemes = lex(rt.alloc(), text)?;
-    let Some(literal) = lexemes.get(1) else {
-        return Err(Fail::from("no second lexeme"));
-    };
-    let value = unquoted(rt.alloc(), literal.word)?;
-    assert_eq!(rt;
-        value.as_slice(),
-        b"hi\xC3\xA9\x07\x08\x0C\n\r\t\x0B\\\"".as_slice()
-    );
+    let literal = b"\"hi\xC3\xA9\\a\\b\\f\\n\\r\\t\\v\\\\\\\"\"".as_slice();
+    let value = unquoted(rt.alloc(), literal)?;
+    let wanted = b"hi\xC3\xA9\x07\x08\x0C\n\r\t\x0B\\\"".as_slice();
+    same(&rt, "a string", &value.as_slice(), &wanted);
     Ok(())
 }

@@ -5,6 +5,8 @@
 #[cfg(test)]
 mod ast;
 #[cfg(test)]
+mod checks;
+#[cfg(test)]
 mod grammar;
 #[cfg(test)]
 mod lexer;

@@ -1,9 +1,10 @@
 //! Sequences of actions on one memory, each with the effect that the language assigns to it.
 
+use crate::checks::same;
 use crate::typed_trees::{name_of, two, ty};
 use rgo_ast::BinaryOp;
 use rgo_memory::{Effect, Memory, meets_at, perform};
-use rgo_typed::{Action, Base, Layer, Row, Struct, Type, Variable};
+use rgo_typed::{Action, Base, Layer, Row, Struct, Variable};
 use rgo_values::{Trap, Value};
 use std::alloc::Global;
 use std::process::Abort;
@@ -19,21 +20,24 @@ const NIL: Value = Value::Nil;
 /// The object that is made first.
 const FIRST: Value = Value::Object(0);
 
-fn steps_hold<R: Abort>(
+/// Performs the actions one after another, and compares their effects. `layers` and `base` are the
+/// type of each result.
+fn steps_hold<R: Abort + AllocGlobal>(
     rt: &R,
-    alloc: Global,
     memory: &mut Memory,
-    ty: &Type,
+    layers: &[Layer],
+    base: Base,
     steps: &[Step<'_>],
 ) -> Result<(), Fail> {
+    let ty = ty(rt.alloc(), layers, base)?;
     for (action, operands, expected) in steps {
-        let effect = perform(alloc, memory, &[], *action, ty, *operands)?;
-        assert_eq!(rt; effect, *expected);
+        let effect = perform(rt.alloc(), memory, &[], *action, &ty, *operands)?;
+        same(rt, "an action", &effect, expected);
     }
     Ok(())
 }
 
-const FIRST_IN_FIRST_OUT: [Step<'static>; 16] = [
+static FIRST_IN_FIRST_OUT: [Step<'static>; 16] = [
     (
         Action::Chan,
         &[Value::Int(-1)],
@@ -60,7 +64,7 @@ const FIRST_IN_FIRST_OUT: [Step<'static>; 16] = [
     (Action::IsNil, &[FIRST], Effect::Gives(Value::Bool(false))),
 ];
 
-const CHANNELS_THAT_ARE_NIL: [Step<'static>; 3] = [
+static CHANNELS_THAT_ARE_NIL: [Step<'static>; 3] = [
     (Action::Recv, &[NIL], Effect::Waits),
     (Action::Send, &[NIL, Value::Int(1)], Effect::Waits),
     (Action::Close, &[NIL], Effect::Traps(Trap::CloseNil)),
@@ -68,44 +72,52 @@ const CHANNELS_THAT_ARE_NIL: [Step<'static>; 3] = [
 
 #[test]
 fn channels_are_first_in_first_out(rt: HostRuntime) -> Result<(), Fail> {
-    let alloc = rt.alloc();
-    let int = ty(alloc, &[], Base::Int)?;
-    let mut memory = Memory::new(alloc, &[])?;
-    steps_hold(&rt, alloc, &mut memory, &int, &FIRST_IN_FIRST_OUT)?;
-    steps_hold(&rt, alloc, &mut memory, &int, &CHANNELS_THAT_ARE_NIL)
+    let mut memory = Memory::new(rt.alloc(), &[])?;
+    steps_hold(&rt, &mut memory, &[], Base::Int, &FIRST_IN_FIRST_OUT)?;
+    steps_hold(&rt, &mut memory, &[], Base::Int, &CHANNELS_THAT_ARE_NIL)
 }
+
+const SECOND: Value = Value::Object(1);
+
+/// A channel without a buffer, and one with.
+static MADE: [Step<'static>; 3] = [
+    (Action::Chan, &[Value::Int(0)], Effect::Gives(FIRST)),
+    (Action::Send, &[FIRST, Value::Int(1)], Effect::Waits),
+    (Action::Chan, &[Value::Int(1)], Effect::Gives(SECOND)),
+];
+
+static CLOSED: [Step<'static>; 1] = [(Action::Close, &[FIRST], DONE)];
+
+static PAIRS: [(Value, Value, bool); 4] = [
+    (FIRST, FIRST, true),
+    (FIRST, SECOND, false),
+    (SECOND, SECOND, false),
+    (NIL, NIL, false),
+];
 
 #[test]
 fn channels_without_buffer_are_met_at(rt: HostRuntime) -> Result<(), Fail> {
-    let alloc = rt.alloc();
-    let int = ty(alloc, &[], Base::Int)?;
-    let mut memory = Memory::new(alloc, &[])?;
-    let made: [Step<'_>; 3] = [
-        (Action::Chan, &[Value::Int(0)], Effect::Gives(FIRST)),
-        (Action::Send, &[FIRST, Value::Int(1)], Effect::Waits),
-        (
-            Action::Chan,
-            &[Value::Int(1)],
-            Effect::Gives(Value::Object(1)),
-        ),
-    ];
-    steps_hold(&rt, alloc, &mut memory, &int, &made)?;
-    assert!(rt; meets_at(&memory, FIRST, FIRST));
-    assert!(rt; !meets_at(&memory, FIRST, Value::Object(1)));
-    assert!(rt; !meets_at(&memory, Value::Object(1), Value::Object(1)));
-    assert!(rt; !meets_at(&memory, NIL, NIL));
-    steps_hold(
+    let mut memory = Memory::new(rt.alloc(), &[])?;
+    steps_hold(&rt, &mut memory, &[], Base::Int, &MADE)?;
+    for (left, right, wanted) in &PAIRS {
+        same(
+            &rt,
+            "two channels",
+            &meets_at(&memory, *left, *right),
+            wanted,
+        );
+    }
+    steps_hold(&rt, &mut memory, &[], Base::Int, &CLOSED)?;
+    same(
         &rt,
-        alloc,
-        &mut memory,
-        &int,
-        &[(Action::Close, &[FIRST], DONE)],
-    )?;
-    assert!(rt; !meets_at(&memory, FIRST, FIRST));
+        "a closed channel",
+        &meets_at(&memory, FIRST, FIRST),
+        &false,
+    );
     Ok(())
 }
 
-const ELEMENTS: [Step<'static>; 12] = [
+static ELEMENTS: [Step<'static>; 12] = [
     (
         Action::Slice,
         &[Value::Int(-1)],
@@ -158,18 +170,21 @@ const ELEMENTS: [Step<'static>; 12] = [
 
 #[test]
 fn slices_are_read_and_written(rt: HostRuntime) -> Result<(), Fail> {
-    let alloc = rt.alloc();
-    let slice = ty(alloc, &[Layer::Slice], Base::Bool)?;
-    let mut memory = Memory::new(alloc, &[])?;
-    steps_hold(&rt, alloc, &mut memory, &slice, &ELEMENTS)?;
-    // More elements than there is memory for.
-    let huge = [Value::Int(i64::MAX)];
-    let answer = perform(alloc, &mut memory, &[], Action::Slice, &slice, &huge);
-    assert!(rt; answer.is_err());
+    let mut memory = Memory::new(rt.alloc(), &[])?;
+    steps_hold(&rt, &mut memory, &[Layer::Slice], Base::Bool, &ELEMENTS)
+}
+
+#[test]
+fn a_slice_needs_memory_for_its_elements(rt: HostRuntime) -> Result<(), Fail> {
+    let mut memory = Memory::new(rt.alloc(), &[])?;
+    let slice = ty(rt.alloc(), &[Layer::Slice], Base::Bool)?;
+    let size = [Value::Int(i64::MAX)];
+    let made = perform(rt.alloc(), &mut memory, &[], Action::Slice, &slice, &size);
+    same(&rt, "a slice", &made.is_err(), &true);
     Ok(())
 }
 
-const FIELDS: [Step<'static>; 6] = [
+static FIELDS: [Step<'static>; 6] = [
     (Action::Load(0), &[FIRST], Effect::Gives(Value::Int(0))),
     (Action::Store(1), &[FIRST, FIRST], DONE),
     (Action::Load(0), &[FIRST], Effect::Gives(Value::Int(0))),
@@ -182,23 +197,28 @@ const FIELDS: [Step<'static>; 6] = [
     ),
 ];
 
+/// `struct { value int; next *Node }`
+fn node(alloc: Global) -> Result<Struct, Fail> {
+    let value = ty(alloc, &[], Base::Int)?;
+    let next = ty(alloc, &[], Base::Pointer(0))?;
+    Ok(Struct {
+        name: name_of(alloc, "Node")?,
+        fields: Row::new(two(alloc, value, next)?),
+    })
+}
+
 #[test]
 fn fields_are_read_and_written(rt: HostRuntime) -> Result<(), Fail> {
     let alloc = rt.alloc();
-    let int = ty(alloc, &[], Base::Int)?;
-    let value = ty(alloc, &[], Base::Int)?;
-    let next = ty(alloc, &[], Base::Pointer(0))?;
-    let node = Struct {
-        name: name_of(alloc, "Node")?,
-        fields: Row::new(two(alloc, value, next)?),
-    };
     let mut memory = Memory::new(alloc, &[])?;
-    let new = perform(alloc, &mut memory, &[node], Action::New(0), &int, &[])?;
-    assert_eq!(rt; new, Effect::Gives(FIRST));
-    steps_hold(&rt, alloc, &mut memory, &int, &FIELDS)
+    let structs = [node(alloc)?];
+    let pointer = ty(alloc, &[], Base::Pointer(0))?;
+    let new = perform(alloc, &mut memory, &structs, Action::New(0), &pointer, &[])?;
+    same(&rt, "new", &new, &Effect::Gives(FIRST));
+    steps_hold(&rt, &mut memory, &[], Base::Int, &FIELDS)
 }
 
-const VARIABLES: [Step<'static>; 9] = [
+static VARIABLES: [Step<'static>; 9] = [
     (Action::Get(0), &[], Effect::Gives(Value::Int(0))),
     (Action::Set(0), &[Value::Int(5)], DONE),
     (Action::Get(0), &[], Effect::Gives(Value::Int(5))),
@@ -222,11 +242,10 @@ const VARIABLES: [Step<'static>; 9] = [
 #[test]
 fn variables_and_plain_values(rt: HostRuntime) -> Result<(), Fail> {
     let alloc = rt.alloc();
-    let int = ty(alloc, &[], Base::Int)?;
     let variable = Variable {
         name: name_of(alloc, "total")?,
         ty: ty(alloc, &[], Base::Int)?,
     };
     let mut memory = Memory::new(alloc, &[variable])?;
-    steps_hold(&rt, alloc, &mut memory, &int, &VARIABLES)
+    steps_hold(&rt, &mut memory, &[], Base::Int, &VARIABLES)
 }

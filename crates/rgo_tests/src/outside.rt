@@ -1,11 +1,13 @@
 //! Texts read and written to the end, in pieces and past faults, over each source and sink.
 
+use crate::checks::same;
 use crate::slow_sinks::SlowSink;
 use rgo_outside::{
-    MemSink, MemSource, NoFaultSink, NoFaultSource, ReadEnd, StdSink, StdSource, WriteFault,
-    read_all, write_all,
+    MemSink, MemSource, NoFaultSink, NoFaultSource, ReadEnd, Sink, Source, StdSink, StdSource,
+    WriteFault, read_all, write_all,
 };
 use std::io::{self, ErrorKind, Read, Write};
+use std::process::Abort;
 use std::test::Fail;
 
 /// A writer that takes at most `moved` bytes and whose flushes may fail, and a reader that fails.
@@ -34,86 +36,129 @@ impl Read for Stuck {
     }
 }
 
+/// Reads a source to the end, and compares the bytes or how reading ended.
+fn is_read<R: Abort + AllocGlobal, S: Source>(
+    rt: &R,
+    source: &mut S,
+    limit: usize,
+    wanted: &Result<&str, ReadEnd>,
+) {
+    assert!(rt; limit < 1000);
+    match read_all(rt.alloc(), source, limit) {
+        Ok(bytes) => same(
+            rt,
+            "read",
+            &Ok(str::from_utf8(&bytes).unwrap_or("?")),
+            wanted,
+        ),
+        Err(end) => same(rt, "read", &Err(end), wanted),
+    }
+}
+
+/// Texts, how many bytes a read returns at most, which read fails, the limit, and what is read.
+static SOURCES: [(&str, usize, u64, usize, Result<&str, ReadEnd>); 7] = [
+    ("", 1, 9, 0, Ok("")),
+    ("abc", 1, 9, 3, Ok("abc")),
+    ("abcd", 1, 9, 3, Err(ReadEnd::TooLong)),
+    ("abcd", 4, 9, 3, Err(ReadEnd::TooLong)),
+    ("abc", 2, 2, 8, Err(ReadEnd::Fault)),
+    ("abc", 2, 3, 8, Err(ReadEnd::Fault)),
+    ("abc", 2, 4, 8, Ok("abc")),
+];
+
 #[test]
 fn sources_are_read_to_the_end(rt: HostRuntime) -> Result<(), Fail> {
     let alloc = rt.alloc();
-    for (text, per_call, failing, limit, wanted) in [
-        ("", 1_usize, 9_u64, 0_usize, Ok("")),
-        ("abc", 1, 9, 3, Ok("abc")),
-        ("abcd", 1, 9, 3, Err(ReadEnd::TooLong)),
-        ("abcd", 4, 9, 3, Err(ReadEnd::TooLong)),
-        ("abc", 2, 2, 8, Err(ReadEnd::Fault)),
-        ("abc", 2, 3, 8, Err(ReadEnd::Fault)),
-        ("abc", 2, 4, 8, Ok("abc")),
-    ] {
-        assert!(rt; 0 < per_call && limit < 9);
+    for (text, per_call, failing, limit, wanted) in &SOURCES {
+        assert!(rt; 0 < *per_call);
         let bytes = text.as_bytes().to_vec(alloc)?;
-        let mut source = MemSource::new(bytes, per_call, vec![in alloc; failing; 1]?);
-        let answer = read_all(alloc, &mut source, limit);
-        match wanted {
-            Ok(read) => assert_eq!(rt; answer?.as_slice(), read.as_bytes()),
-            Err(end) => assert_eq!(rt; answer.err(), Some(end), "at {text}"),
-        }
+        let failing = vec![in alloc; *failing; 1]?;
+        let mut source = MemSource::new(bytes, *per_call, failing);
+        is_read(&rt, &mut source, *limit, wanted);
     }
-    let mut source = NoFaultSource::new("abc".as_bytes().to_vec(alloc)?);
-    assert_eq!(rt;
-        read_all(alloc, &mut source, 3)?.as_slice(),
-        b"abc".as_slice()
-    );
     Ok(())
 }
 
 #[test]
-fn sinks_are_written_to_the_end(rt: HostRuntime) -> Result<(), Fail> {
-    let alloc = rt.alloc();
-    let mut sink = MemSink::new(alloc, 5, vec![in alloc; 2u64; 1]?)?;
-    for (piece, wanted, kept) in [
-        ("ab", Ok(()), "ab"),
-        ("cd", Err(WriteFault { written: 0 }), "ab"),
-        ("", Ok(()), "ab"),
-        ("cd", Ok(()), "abcd"),
-        ("ef", Err(WriteFault { written: 0 }), "abcd"),
-        ("g", Ok(()), "abcdg"),
-    ] {
-        assert_eq!(rt;
-            write_all(&mut sink, piece.as_bytes()),
-            wanted,
-            "at {piece}"
-        );
-        assert_eq!(rt; sink.bytes(), kept.as_bytes());
-    }
-    let mut sink = SlowSink::new(4);
-    assert_eq!(rt; write_all(&mut sink, b"abc"), Ok(()));
-    assert_eq!(rt; write_all(&mut sink, b"de"), Err(WriteFault { written: 1 }));
-    assert_eq!(rt; sink.bytes[..4], b"abcd"[..]);
-    assert_eq!(rt; write_all(&mut NoFaultSink, b"abc"), Ok(()));
+fn a_source_without_faults_is_read(rt: HostRuntime) -> Result<(), Fail> {
+    let bytes = b"abc".as_slice().to_vec(rt.alloc())?;
+    is_read(&rt, &mut NoFaultSource::new(bytes), 3, &Ok("abc"));
     Ok(())
 }
 
 #[test]
-fn std_readers_and_writers_serve(rt: HostRuntime) -> Result<(), Fail> {
-    let alloc = rt.alloc();
+fn std_readers_are_read(rt: HostRuntime) {
     let mut source = StdSource::new(b"abc".as_slice());
-    assert_eq!(rt;
-        read_all(alloc, &mut source, 3)?.as_slice(),
-        b"abc".as_slice()
-    );
-    let mut stuck = StdSource::new(Stuck {
+    is_read(&rt, &mut source, 3, &Ok("abc"));
+    let stuck = Stuck {
         moved: 0,
         flush_fails: false,
-    });
-    assert_eq!(rt; read_all(alloc, &mut stuck, 3).err(), Some(ReadEnd::Fault));
-    let mut kept: Vec<u8> = Vec::new(alloc);
-    let mut sink = StdSink::new(&mut kept);
-    assert_eq!(rt; write_all(&mut sink, b"abc"), Ok(()));
-    assert_eq!(rt; kept.as_slice(), b"abc".as_slice());
-    for (moved, flush_fails, wanted) in [
-        (0, false, Err(WriteFault { written: 0 })),
-        (2, true, Err(WriteFault { written: 0 })),
-        (2, false, Ok(())),
-    ] {
-        let mut sink = StdSink::new(Stuck { moved, flush_fails });
-        assert_eq!(rt; write_all(&mut sink, b"abc"), wanted);
+    };
+    let mut source = StdSource::new(stuck);
+    is_read(&rt, &mut source, 3, &Err(ReadEnd::Fault));
+}
+
+/// Writes a text whole, and compares whether that failed.
+fn is_written<R: Abort, K: Sink>(
+    rt: &R,
+    sink: &mut K,
+    text: &str,
+    wanted: &Result<(), WriteFault>,
+) {
+    same(rt, text, &write_all(sink, text.as_bytes()), wanted);
+}
+
+/// Pieces for a sink of five bytes whose second call fails, with what the sink then has.
+static PIECES: [(&str, Result<(), WriteFault>, &str); 6] = [
+    ("ab", Ok(()), "ab"),
+    ("cd", Err(WriteFault { written: 0 }), "ab"),
+    ("", Ok(()), "ab"),
+    ("cd", Ok(()), "abcd"),
+    ("ef", Err(WriteFault { written: 0 }), "abcd"),
+    ("g", Ok(()), "abcdg"),
+];
+
+#[test]
+fn a_sink_in_memory_is_written(rt: HostRuntime) -> Result<(), Fail> {
+    let alloc = rt.alloc();
+    let mut sink = MemSink::new(alloc, 5, vec![in alloc; 2u64; 1]?)?;
+    for (piece, wanted, kept) in &PIECES {
+        is_written(&rt, &mut sink, piece, wanted);
+        same(&rt, piece, &sink.bytes(), &kept.as_bytes());
     }
     Ok(())
+}
+
+#[test]
+fn a_slow_sink_is_written_to_the_end(rt: HostRuntime) {
+    let mut sink = SlowSink::new(4);
+    is_written(&rt, &mut sink, "abc", &Ok(()));
+    is_written(&rt, &mut sink, "de", &Err(WriteFault { written: 1 }));
+    same(&rt, "the sink", &&sink.bytes[..4], &b"abcd".as_slice());
+    is_written(&rt, &mut NoFaultSink, "abc", &Ok(()));
+}
+
+/// How many bytes a writer takes, whether its flushes fail, and what a whole write reports.
+static WRITERS: [(usize, bool, Result<(), WriteFault>); 3] = [
+    (0, false, Err(WriteFault { written: 0 })),
+    (2, true, Err(WriteFault { written: 0 })),
+    (2, false, Ok(())),
+];
+
+#[test]
+fn std_writers_are_written(rt: HostRuntime) {
+    for (moved, flush_fails, wanted) in &WRITERS {
+        let stuck = Stuck {
+            moved: *moved,
+            flush_fails: *flush_fails,
+        };
+        is_written(&rt, &mut StdSink::new(stuck), "abc", wanted);
+    }
+}
+
+#[test]
+fn a_vector_keeps_what_is_written(rt: HostRuntime) {
+    let mut kept: Vec<u8> = Vec::new(rt.alloc());
+    is_written(&rt, &mut StdSink::new(&mut kept), "abc", &Ok(()));
+    same(&rt, "the vector", &kept.as_slice(), &b"abc".as_slice());
 }

@@ -4,11 +4,12 @@
 mod marked;
 mod nested;
 
+use crate::checks::same;
+use nested::Row;
 use rgo_ast::Program;
 use rgo_lexer::lex;
 use rgo_parser::{ParseError, ParseRefusal, parse};
 use std::alloc::{AllocError, AllocFailed, Global};
-use std::process::Abort;
 use std::test::Fail;
 
 /// The text before the body of `main`.
@@ -22,13 +23,6 @@ fn parsed(alloc: Global, text: &[u8]) -> Result<Result<Program, ParseRefusal>, F
         Err(ParseError::Refused(refusal)) => Ok(Err(refusal)),
         Err(ParseError::NoMemory) => Err(Fail::from("out of memory")),
     }
-}
-
-/// The number of the first lexeme at a place or after it. If there is none, the number of lexemes.
-fn lexeme_at(alloc: Global, text: &[u8], place: usize) -> Result<usize, Fail> {
-    let lexemes = lex(alloc, text)?;
-    let found = lexemes.iter().position(|lexeme| lexeme.at >= place);
-    Ok(found.unwrap_or(lexemes.len()))
 }
 
 /// Appends a marked text without its mark, and returns the place of the mark, which is beyond the
@@ -46,6 +40,14 @@ fn unmarked(text: &mut Vec<u8>, marked: &str) -> Result<Option<usize>, AllocFail
     Ok(mark)
 }
 
+/// Whether the lexeme with this number is the first at the place or after it. The number of all
+/// lexemes stands for the end.
+fn is_first_at(alloc: Global, text: &[u8], number: usize, place: usize) -> Result<bool, Fail> {
+    let lexemes = lex(alloc, text)?;
+    let found = lexemes.iter().position(|lexeme| lexeme.at >= place);
+    Ok(number == found.unwrap_or(lexemes.len()))
+}
+
 /// Whether a marked text between two others is refused at its mark, or is a program if it has none.
 fn is_refused_at_its_mark(
     alloc: Global,
@@ -59,9 +61,7 @@ fn is_refused_at_its_mark(
     text.extend_from_slice(after.as_bytes())?;
     match (parsed(alloc, &text)?, mark) {
         (Ok(_), None) => Ok(true),
-        (Err(ParseRefusal::Syntax { at }), Some(place)) => Ok(
-            at == lexeme_at(alloc, &text, place)?,
-        ),
+        (Err(ParseRefusal::Syntax { at }), Some(place)) => is_first_at(alloc, &text, at, place),
         _ => Ok(false),
     }
 }
@@ -69,10 +69,8 @@ fn is_refused_at_its_mark(
 #[test]
 fn bodies_are_refused_at_their_marks(rt: HostRuntime) -> Result<(), Fail> {
     for body in marked::BODIES.lines() {
-        assert!(rt;
-            is_refused_at_its_mark(rt.alloc(), BEFORE, body, " }")?,
-            "{body}"
-        );
+        let is_so = is_refused_at_its_mark(rt.alloc(), BEFORE, body, " }")?;
+        same(&rt, body, &is_so, &true);
     }
     Ok(())
 }
@@ -80,12 +78,13 @@ fn bodies_are_refused_at_their_marks(rt: HostRuntime) -> Result<(), Fail> {
 #[test]
 fn texts_are_refused_at_their_marks(rt: HostRuntime) -> Result<(), Fail> {
     for text in marked::TEXTS.lines() {
-        assert!(rt; is_refused_at_its_mark(rt.alloc(), "", text, "")?, "{text}");
+        let is_so = is_refused_at_its_mark(rt.alloc(), "", text, "")?;
+        same(&rt, text, &is_so, &true);
     }
     Ok(())
 }
 
-fn nested_text(alloc: Global, row: &nested::Row, count: usize) -> Result<Vec<u8>, AllocError> {
+fn nested_text(alloc: Global, row: &Row, count: usize) -> Result<Vec<u8>, AllocError> {
     let (before, open, within, close, _, _) = *row;
     let mut text = Vec::new(alloc);
     text.extend_from_slice(BEFORE.as_bytes())?;
@@ -101,17 +100,23 @@ fn nested_text(alloc: Global, row: &nested::Row, count: usize) -> Result<Vec<u8>
     Ok(text)
 }
 
+/// The refusal of a text, or none if it is a program.
+fn refusal(alloc: Global, text: &[u8]) -> Result<Option<ParseRefusal>, Fail> {
+    match parsed(alloc, text)? {
+        Ok(_) => Ok(None),
+        Err(refusal) => Ok(Some(refusal)),
+    }
+}
+
 #[test]
 fn nesting_is_refused_from_its_limit_on(rt: HostRuntime) -> Result<(), Fail> {
     for row in &nested::ROWS {
         let (_, open, _, _, most, refused) = *row;
         let text = nested_text(rt.alloc(), row, usize::from(most))?;
-        assert!(rt; parsed(rt.alloc(), &text)?.is_ok(), "{open}");
+        same(&rt, open, &refusal(rt.alloc(), &text)?, &None);
         let text = nested_text(rt.alloc(), row, usize::from(most) + 1)?;
-        let Err(ParseRefusal::TooDeep { at }) = parsed(rt.alloc(), &text)? else {
-            return Err(Fail::from("not too deep"));
-        };
-        assert_eq!(rt; at, refused, "{open}");
+        let wanted = ParseRefusal::TooDeep { at: refused };
+        same(&rt, open, &refusal(rt.alloc(), &text)?, &Some(wanted));
     }
     Ok(())
 }

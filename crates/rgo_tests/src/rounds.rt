@@ -1,5 +1,6 @@
 //! Programs with how their runs in rounds end and what they print.
 
+use crate::checks::same;
 use crate::texts::typed;
 use rgo_outside::MemSink;
 use rgo_rounds::{Limits, RunEnd, run};
@@ -43,27 +44,35 @@ fn ends_so<R: Abort + AllocGlobal>(
     let program = typed(alloc, text.as_str())?;
     let mut out = MemSink::new(alloc, 1000, Vec::new(alloc))?;
     let ended = run(alloc, &program, limits, &mut out);
-    assert_eq!(rt; ended, end, "{body}");
-    assert_eq!(rt; out.bytes(), print.as_bytes(), "{body}");
+    same(rt, body, &ended, &end);
+    same(rt, body, &out.bytes(), &print.as_bytes());
     Ok(())
 }
+
+/// Bodies that print two lines, with how their runs end.
+static ENDS: [(&str, Limits, RunEnd); 4] = [
+    ("return", AMPLE, RunEnd::Exit),
+    ("var c chan int; <-c", AMPLE, RunEnd::Deadlock),
+    (
+        "x := 0; y := 1 / x",
+        AMPLE,
+        RunEnd::Trap(Trap::DivideZero, 100),
+    ),
+    ("for { }", FEW_STEPS, RunEnd::StepsSpent),
+];
 
 #[test]
 fn runs_end_as_their_last_statements_do(rt: HostRuntime) -> Result<(), Fail> {
     let alloc = rt.alloc();
-    for (last, limits, end) in [
-        ("return", AMPLE, RunEnd::Exit),
-        ("var c chan int; <-c", AMPLE, RunEnd::Deadlock),
-        (
-            "x := 0; y := 1 / x",
-            AMPLE,
-            RunEnd::Trap(Trap::DivideZero, 100),
-        ),
-        ("for { }", FEW_STEPS, RunEnd::StepsSpent),
-    ] {
+    for (last, limits, end) in &ENDS {
         let body = format!(in alloc; "{TWO_LINES}{last}")?;
-        ends_so(&rt, limits, body.as_str(), end, "a 7\nb -8\n")?;
+        ends_so(&rt, *limits, body.as_str(), *end, "a 7\nb -8\n")?;
     }
+    Ok(())
+}
+
+#[test]
+fn calls_have_a_limit(rt: HostRuntime) -> Result<(), Fail> {
     ends_so(&rt, AMPLE, "main()", RunEnd::CallsTooDeep, "")
 }
 
@@ -81,7 +90,7 @@ fn a_failed_write_ends_the_run(rt: HostRuntime) -> Result<(), Fail> {
     let program = typed(alloc, text.as_str())?;
     let mut out = MemSink::new(alloc, 1000, vec![in alloc; 2u64; 1]?)?;
     let ended = run(alloc, &program, AMPLE, &mut out);
-    assert_eq!(rt; ended, RunEnd::WriteFault);
-    assert_eq!(rt; out.bytes(), b"a 7\n".as_slice());
+    same(&rt, "the end", &ended, &RunEnd::WriteFault);
+    same(&rt, "the print", &out.bytes(), &b"a 7\n".as_slice());
     Ok(())
 }

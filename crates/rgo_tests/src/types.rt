@@ -1,5 +1,6 @@
 //! Whole programs: one that is refused, and one that is typed.
 
+use crate::checks::same;
 use crate::texts::{parsed, typed};
 use rgo_types::check;
 use rgo_typing_rules::{Rule, TypeError, TypeRefusal};
@@ -7,30 +8,29 @@ use std::test::Fail;
 
 #[test]
 fn a_text_without_main_is_refused(rt: HostRuntime) -> Result<(), Fail> {
-    let alloc = rt.alloc();
-    match check(alloc, &parsed(alloc, "package main; var x int")?) {
-        Err(TypeError::Refused(refusal)) => {
-            let rule = Rule::NoMain;
-            assert_eq!(rt; refusal, TypeRefusal { rule, at: 23 });
-            Ok(())
-        }
-        _ => Err(Fail::new("no refusal")),
-    }
+    let program = parsed(rt.alloc(), "package main; var x int")?;
+    let refusal = TypeRefusal {
+        rule: Rule::NoMain,
+        at: 23,
+    };
+    let found = check(rt.alloc(), &program).err();
+    same(&rt, "no main", &found, &Some(TypeError::Refused(refusal)));
+    Ok(())
 }
 
 #[test]
 fn main_is_typed(rt: HostRuntime) -> Result<(), Fail> {
     let program = typed(rt.alloc(), "package main; func main() { }")?;
-    assert_eq!(rt; program.structs.items().len(), 0);
-    assert_eq!(rt; program.variables.items().len(), 0);
-    assert_eq!(rt; program.functions.len(), 1);
+    same(&rt, "structs", &program.structs.items().len(), &0);
+    same(&rt, "variables", &program.variables.items().len(), &0);
+    same(&rt, "functions", &program.functions.len(), &1);
     let Some(main) = program.functions.first() else {
         return Err(Fail::new("no function"));
     };
-    assert_eq!(rt; main.name.bytes(), b"main".as_slice());
-    assert_eq!(rt; main.params, 0);
-    assert_eq!(rt; main.end, 28);
-    assert!(rt; main.result_type.is_none());
-    assert!(rt; main.body.is_empty());
+    same(&rt, "name", &main.name.bytes(), &b"main".as_slice());
+    same(&rt, "parameters", &main.params, &0);
+    same(&rt, "end", &main.end, &28);
+    same(&rt, "result", &main.result_type.is_none(), &true);
+    same(&rt, "body", &main.body.is_empty(), &true);
     Ok(())
 }

@@ -1,5 +1,6 @@
 //! Small expressions with their meanings, constants and broken rules, worked out by hand.
 
+use crate::checks::same;
 use crate::texts::{assigned, first_stmt, parsed};
 use rgo_ast::Program;
 use rgo_scopes::Scopes;
@@ -63,24 +64,32 @@ fn checked(alloc: Global, role: Role, expr: &str) -> Result<Outcome, Fail> {
 
 #[test]
 fn local_variables_hide_other_meanings(rt: HostRuntime) -> Result<(), Fail> {
-    let alloc = rt.alloc();
-    let globals = package(alloc);
-    let mut checker = Checker::new(alloc, &globals);
+    let globals = package(rt.alloc());
+    let mut checker = Checker::new(rt.alloc(), &globals);
     let found = checker.meaning(b"len");
-    assert!(rt; matches!(found, Some(Meaning::Len)));
+    same(&rt, "len", &matches!(found, Some(Meaning::Len)), &true);
     let found = checker.meaning(b"fmt");
-    assert!(rt; matches!(found, Some(Meaning::Package(true))));
-    let found = checker.meaning(b"lens");
-    assert!(rt; found.is_none());
+    same(
+        &rt,
+        "fmt",
+        &matches!(found, Some(Meaning::Package(true))),
+        &true,
+    );
+    same(&rt, "lens", &checker.meaning(b"lens").is_none(), &true);
     checker.declare(b"len", Kind::Plain(Base::Int))?;
     let found = checker.meaning(b"len");
-    assert!(rt; matches!(found, Some(Meaning::Local(0))));
+    same(
+        &rt,
+        "a local",
+        &matches!(found, Some(Meaning::Local(0))),
+        &true,
+    );
     Ok(())
 }
 
 /// Expressions, whether they are places, whether they may be statements, and where they start
 /// without their parentheses.
-const PLACES: [(&str, bool, bool, usize); 3] = [
+static PLACES: [(&str, bool, bool, usize); 3] = [
     ("x", true, false, 0),
     ("((x))", true, false, 2),
     ("f(\"a\")", false, true, 0),
@@ -88,21 +97,21 @@ const PLACES: [(&str, bool, bool, usize); 3] = [
 
 #[test]
 fn variables_are_places_and_calls_may_stand(rt: HostRuntime) -> Result<(), Fail> {
-    let alloc = rt.alloc();
-    for (expr, is_place, may_stand, start) in PLACES {
-        let program = with_expr(alloc, expr)?;
-        let globals = package(alloc);
-        let mut checker = Checker::new(alloc, &globals);
-        checker.declare(b"x", Kind::Plain(Base::Int))?;
+    let globals = package(rt.alloc());
+    for (expr, is_place, may_stand, start) in &PLACES {
+        let program = with_expr(rt.alloc(), expr)?;
         let tree = assigned(first_stmt(&program)?)?;
-        assert_eq!(rt; checker.is_place(tree), is_place, "{expr}");
-        assert_eq!(rt; checker.may_stand(tree), may_stand, "{expr}");
-        assert_eq!(rt; bare(tree).start(), BEFORE.len() + start, "{expr}");
+        let mut checker = Checker::new(rt.alloc(), &globals);
+        checker.declare(b"x", Kind::Plain(Base::Int))?;
+        same(&rt, expr, &checker.is_place(tree), is_place);
+        same(&rt, expr, &checker.may_stand(tree), may_stand);
+        let found = bare(tree).start().saturating_sub(BEFORE.len());
+        same(&rt, expr, &found, start);
     }
     Ok(())
 }
 
-const EXPRESSIONS: [(Role, &str, Outcome); 5] = [
+static EXPRESSIONS: [(Role, &str, Outcome); 5] = [
     (Role::Value, "7 - 2", Outcome::Constant(5)),
     (Role::Value, "nil", Outcome::OtherShape),
     (
@@ -121,9 +130,9 @@ const EXPRESSIONS: [(Role, &str, Outcome); 5] = [
 
 #[test]
 fn expressions_are_checked(rt: HostRuntime) -> Result<(), Fail> {
-    for (role, expr, wanted) in EXPRESSIONS {
-        let found = checked(rt.alloc(), role, expr)?;
-        assert_eq!(rt; found, wanted, "{expr}");
+    for (role, expr, wanted) in &EXPRESSIONS {
+        let found = checked(rt.alloc(), *role, expr)?;
+        same(&rt, expr, &found, wanted);
     }
     Ok(())
 }

@@ -1,25 +1,24 @@
-//! Rows of words, and what they ask for.
+//! Command lines with the commands that they ask for. A `|` separates two words.
 
+use crate::checks::same;
 use crate::lines::words_of;
 use rgo_words::{Command, Limits, WordsError, read_words};
-use std::alloc::{AllocError, Global};
 use std::process::Abort;
 use std::test::Fail;
 
-fn expect<R: Abort + AllocGlobal>(
+fn asks<R: Abort + AllocGlobal>(
     rt: &R,
     line: &str,
     wanted: Result<Command, WordsError>,
-) -> Result<(), AllocError> {
+) -> Result<(), Fail> {
     let words = words_of(rt.alloc(), line, '|')?;
-    let answer = read_words(rt.alloc(), words.as_slice());
-    assert!(rt; answer == wanted, "{line}: {answer:?}");
+    same(rt, line, &read_words(rt.alloc(), words.as_slice()), &wanted);
     Ok(())
 }
 
 const MOST_STEPS: u64 = 4_398_046_511_104;
 
-// Words that ask for `run`, with its steps and its goroutines.
+/// Command lines that ask for `run`, with its steps and its goroutines.
 static RUNS: [(&str, u64, usize); 37] = [
     ("rgo|run", MOST_STEPS, 100_000),
     ("rgo|run|--", MOST_STEPS, 100_000),
@@ -175,7 +174,7 @@ static REFUSED: [&str; 158] = [
     "rgo|run|--goroutines|18446744073709551617",
     "rgo|run|--steps|5|--goroutines|0",
     "rgo|run|--steps|0|--goroutines|5",
-    // An option that stands twice.
+    // An option that occurs twice.
     "rgo|run|--steps|5|--steps|6",
     "rgo|run|--steps|5|--steps|5",
     "rgo|run|--steps=5|--steps=5",
@@ -238,34 +237,33 @@ static REFUSED: [&str; 158] = [
 ];
 
 #[test]
-fn reads_rows_of_words(rt: HostRuntime) -> Result<(), Fail> {
-    for (line, steps, goroutines) in RUNS.as_slice() {
-        let limits = Limits {
-            steps: *steps,
-            goroutines: *goroutines,
-        };
-        expect(&rt, line, Ok(Command::Run(limits)))?;
+fn words_ask_for_their_commands(rt: HostRuntime) -> Result<(), Fail> {
+    for (line, steps, goroutines) in &RUNS {
+        let (steps, goroutines) = (*steps, *goroutines);
+        asks(&rt, line, Ok(Command::Run(Limits { steps, goroutines })))?;
     }
-    for line in CHECKS.as_slice() {
-        expect(&rt, line, Ok(Command::Check))?;
+    for line in &CHECKS {
+        asks(&rt, line, Ok(Command::Check))?;
     }
-    for line in REFUSED.as_slice() {
-        expect(&rt, line, Err(WordsError::Usage))?;
-    }
-    assert!(rt; read_words(rt.alloc(), &[]) == Err(WordsError::Usage));
     Ok(())
 }
 
 #[test]
-fn errors_are_told(rt: HostRuntime) -> Result<(), Fail> {
+fn other_words_ask_for_none(rt: HostRuntime) -> Result<(), Fail> {
+    for line in &REFUSED {
+        asks(&rt, line, Err(WordsError::Usage))?;
+    }
+    let none = read_words(rt.alloc(), &[]);
+    same(&rt, "no words", &none, &Err(WordsError::Usage));
+    Ok(())
+}
+
+#[test]
+fn errors_have_their_texts(rt: HostRuntime) -> Result<(), Fail> {
     let alloc = rt.alloc();
-    assert_eq!(rt;
-        format!(in alloc; "{}", WordsError::NoMemory)?.as_str(),
-        "out of memory"
-    );
-    assert_eq!(rt;
-        format!(in alloc; "{}", WordsError::Usage)?.as_str(),
-        "no command"
-    );
+    let memory = format!(in alloc; "{}", WordsError::NoMemory)?;
+    same(&rt, "memory", &memory.as_str(), &"out of memory");
+    let usage = format!(in alloc; "{}", WordsError::Usage)?;
+    same(&rt, "usage", &usage.as_str(), &"no command");
     Ok(())
 }

@@ -5,7 +5,7 @@ const ONE_DEEPER_EACH: [Option<usize>; 6] = [Some(0), Some(1), Some(2), Some(3),
 
 /// Texts, each with its first lexeme that nests deeper than 0, 1, 2, 3, 4 and 5. A comment says how
 /// deep each lexeme nests.
-pub(super) const TEXTS: [(&str, [Option<usize>; 6]); 24] = [
+pub(super) static TEXTS: [(&str, [Option<usize>; 6]); 24] = [
     ("", [None; 6]),
     ("x = y ; z ++", [None; 6]),
     ("((((((", ONE_DEEPER_EACH), // 1 2 3 4 5 6

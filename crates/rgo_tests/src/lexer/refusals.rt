@@ -1,7 +1,7 @@
 //! Texts with their refusals: each its kind and its byte.
 
 /// Texts that are not UTF-8, some of them with other refusals.
-pub(super) const BAD_UTF8: [(&[u8], &str); 12] = [
+pub(super) static BAD_UTF8: [(&[u8], &str); 12] = [
     (b"\xFF", "1@0"),
     (b"x \xC3(", "1@2"),
     (b"x \xC3", "1@2"),
@@ -17,7 +17,7 @@ pub(super) const BAD_UTF8: [(&[u8], &str); 12] = [
 ];
 
 /// Bytes that begin nothing.
-pub(super) const BAD_BYTES: [(&[u8], &str); 15] = [
+pub(super) static BAD_BYTES: [(&[u8], &str); 15] = [
     (b"\xEF\xBB\xBFx #", "2@5"),
     (b"\xEF\xBB\xBF\xEF\xBB\xBFx", "2@3"),
     (b"x \xEF\xBB\xBF", "2@2"),
@@ -36,7 +36,7 @@ pub(super) const BAD_BYTES: [(&[u8], &str); 15] = [
 ];
 
 /// Numbers out of form, or too large.
-pub(super) const BAD_NUMBERS: [(&[u8], &str); 22] = [
+pub(super) static BAD_NUMBERS: [(&[u8], &str); 22] = [
     (b"9223372036854775808", "3@0"),
     (b"x 9_223_372_036_854_775_808", "3@2"),
     (b"0x8000000000000000", "3@0"),
@@ -62,7 +62,7 @@ pub(super) const BAD_NUMBERS: [(&[u8], &str); 22] = [
 ];
 
 /// Strings that are not closed, or with a bad escape, the one met first.
-pub(super) const BAD_STRINGS: [(&[u8], &str); 19] = [
+pub(super) static BAD_STRINGS: [(&[u8], &str); 19] = [
     (b"\"abc", "5@0"),
     (b"x \"", "5@2"),
     (b"x \"a\nb\"", "5@2"),
@@ -85,7 +85,7 @@ pub(super) const BAD_STRINGS: [(&[u8], &str); 19] = [
 ];
 
 /// General comments that are not closed.
-pub(super) const OPEN_COMMENTS: [(&[u8], &str); 4] = [
+pub(super) static OPEN_COMMENTS: [(&[u8], &str); 4] = [
     (b"/*", "6@0"),
     (b"/*/", "6@0"),
     (b"x /* y", "6@2"),
@@ -93,7 +93,7 @@ pub(super) const OPEN_COMMENTS: [(&[u8], &str); 4] = [
 ];
 
 /// Texts with several refusals, of which the first counts.
-pub(super) const FIRST: [(&[u8], &str); 5] = [
+pub(super) static FIRST: [(&[u8], &str); 5] = [
     (b"# 08", "2@0"),
     (b"08 #", "3@0"),
     (b"\"\\q\" /*", "4@1"),

@@ -3,7 +3,7 @@
 use rgo_ast::{AssignOp, BinaryOp, StepOp};
 use rgo_lexer::Terminal::{self, *};
 
-pub(super) const WORDS: [(&[u8], &[Terminal]); 4] = [
+pub(super) static WORDS: [(&[u8], &[Terminal]); 4] = [
     (
         b"import package type struct var func chan go",
         &[Import, Package, TypeWord, Struct, Var, Func, Chan, Go],
@@ -17,7 +17,7 @@ pub(super) const WORDS: [(&[u8], &[Terminal]); 4] = [
 ];
 
 /// `main` is the package's name as the second token alone.
-pub(super) const PACKAGE_NAMES: [(&[u8], &[Terminal]); 9] = [
+pub(super) static PACKAGE_NAMES: [(&[u8], &[Terminal]); 9] = [
     (b"", &[]),
     (b"package main;", &[Package, Main, Semicolon]),
     (b"package maine;", &[Package, Name, Semicolon]),
@@ -33,7 +33,7 @@ pub(super) const PACKAGE_NAMES: [(&[u8], &[Terminal]); 9] = [
 ];
 
 /// Numbers with their values, and strings.
-pub(super) const LITERALS: [(&[u8], &[Terminal]); 3] = [
+pub(super) static LITERALS: [(&[u8], &[Terminal]); 3] = [
     (
         b"0 7 0x1F 1_000",
         &[Number(0), Number(7), Number(31), Number(1000), Semicolon],
@@ -45,7 +45,7 @@ pub(super) const LITERALS: [(&[u8], &[Terminal]); 3] = [
     (b"\"\" \"new\" \"1\"", &[Text, Text, Text, Semicolon]),
 ];
 
-pub(super) const OPERATORS: [(&[u8], &[Terminal]); 7] = [
+pub(super) static OPERATORS: [(&[u8], &[Terminal]); 7] = [
     (
         b"; , . : ( ) [ ] { } :=",
         &[
@@ -110,7 +110,7 @@ pub(super) const OPERATORS: [(&[u8], &[Terminal]); 7] = [
 ];
 
 /// Keywords and operators that occur in no production.
-pub(super) const OTHERS: [(&[u8], &[Terminal]); 3] = [
+pub(super) static OTHERS: [(&[u8], &[Terminal]); 3] = [
     (
         b"case const default defer fallthrough goto (",
         &[Other, Other, Other, Other, Other, Other, OpenParen],

@@ -1,7 +1,7 @@
 //! Texts with their lexemes: of each a letter for its kind and its bytes, of an inserted `;` a `~`.
 
 /// Separators, and the byte order mark.
-pub(super) const SEPARATORS: [(&[u8], &str); 8] = [
+pub(super) static SEPARATORS: [(&[u8], &str); 8] = [
     (b"", ""),
     (b" \t\r\n\n", ""),
     (b"package main\n", "k:package w:main ~"),
@@ -16,7 +16,7 @@ pub(super) const SEPARATORS: [(&[u8], &str); 8] = [
 ];
 
 /// Words, and each keyword, at ends of lines.
-pub(super) const WORDS: [(&[u8], &str); 9] = [
+pub(super) static WORDS: [(&[u8], &str); 9] = [
     (
         b"break\ncase\nchan\nconst\n",
         "k:break ~ k:case k:chan k:const",
@@ -47,7 +47,7 @@ pub(super) const WORDS: [(&[u8], &str); 9] = [
 ];
 
 /// Each operator at the end of a line, and operators that follow one another.
-pub(super) const OPERATORS: [(&[u8], &str); 19] = [
+pub(super) static OPERATORS: [(&[u8], &str); 19] = [
     (b"<<=\n>>=\n&^=\n...\n", "o:<<= o:>>= o:&^= o:..."),
     (b"<<\n>>\n&^\n+=\n-=\n*=\n", "o:<< o:>> o:&^ o:+= o:-= o:*="),
     (b"/=\n%=\n&=\n|=\n^=\n", "o:/= o:%= o:&= o:|= o:^="),
@@ -79,7 +79,7 @@ pub(super) const OPERATORS: [(&[u8], &str); 19] = [
 ];
 
 /// Where a `;` is inserted.
-pub(super) const SEMICOLONS: [(&[u8], &str); 6] = [
+pub(super) static SEMICOLONS: [(&[u8], &str); 6] = [
     (b"x\ny", "w:x ~ w:y ~"),
     (b"1\n\"\"\n", "n:1 ~ t:\"\" ~"),
     (b"x;\n", "w:x o:;"),
@@ -89,7 +89,7 @@ pub(super) const SEMICOLONS: [(&[u8], &str); 6] = [
 ];
 
 /// Comments to the end of the line, and general ones.
-pub(super) const COMMENTS: [(&[u8], &str); 19] = [
+pub(super) static COMMENTS: [(&[u8], &str); 19] = [
     (b"x // y\nz", "w:x ~ w:z ~"),
     (b"x // y", "w:x ~"),
     (b"x//\r\ny", "w:x ~ w:y ~"),
@@ -112,7 +112,7 @@ pub(super) const COMMENTS: [(&[u8], &str); 19] = [
 ];
 
 /// Integer literals.
-pub(super) const NUMBERS: [(&[u8], &str); 9] = [
+pub(super) static NUMBERS: [(&[u8], &str); 9] = [
     (b"0 7 10 900", "n:0 n:7 n:10 n:900 ~"),
     (b"1_0 1_2_3 9_00", "n:1_0 n:1_2_3 n:9_00 ~"),
     (b"0x1F 0XaBc 0x0", "n:0x1F n:0XaBc n:0x0 ~"),
@@ -131,7 +131,7 @@ pub(super) const NUMBERS: [(&[u8], &str); 9] = [
 ];
 
 /// String literals.
-pub(super) const STRINGS: [(&[u8], &str); 7] = [
+pub(super) static STRINGS: [(&[u8], &str); 7] = [
     (b"\"\"", "t:\"\" ~"),
     (b"\"a b\" \"c\"d", "t:\"a b\" t:\"c\" w:d ~"),
     (b"\"//\" \"/*\" x", "t:\"//\" t:\"/*\" w:x ~"),

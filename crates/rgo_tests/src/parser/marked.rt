@@ -2,7 +2,7 @@
 //! stands for a newline.
 
 /// Bodies of `main`, between its braces.
-pub(crate) const BODIES: &str = "\
+pub(super) const BODIES: &str = "\
 x\n\
 x := 1\n\
 x := 1; y := 2\n\
@@ -201,7 +201,7 @@ return (1 +@)\n\
 ";
 
 /// Whole texts.
-pub(crate) const TEXTS: &str = "\
+pub(super) const TEXTS: &str = "\
 $\n\
 @x\n\
 package $\n\

@@ -2,7 +2,7 @@
 //! repetition, with the greatest number of repetitions that passes and the lexeme at which one more is
 //! refused.
 
-pub(crate) type Row = (
+pub(super) type Row = (
     &'static str,
     &'static str,
     &'static str,
@@ -11,7 +11,7 @@ pub(crate) type Row = (
     usize,
 );
 
-pub(crate) const ROWS: [Row; 17] = [
+pub(super) static ROWS: [Row; 17] = [
     ("x = ", "(", "1", ")", 198, 208),
     ("", "{", "", "}", 198, 206),
     ("x = ", "f(", "1", ")", 198, 407),

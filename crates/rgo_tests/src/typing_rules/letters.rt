@@ -1,35 +1,38 @@
-//! Lists of types and of values, each written as a word of one letter for each.
+//! Types and values as letters, and lists of them as words.
 
-use super::plain::{BOOL, INT, MINUS_ONE, ONE, S, ZERO};
 use rgo_ast::TypeExpr;
 use rgo_typed::Base;
 use rgo_typing_rules::{Kind, Shape, Signature};
 use std::alloc::Global;
 use std::test::Fail;
 
-/// The type of a letter: `i` is int, `p` a pointer, and each other bool.
-fn plain_kind(letter: u8) -> Kind<'static> {
-    match letter {
-        b'i' => INT,
-        b'p' => S,
-        _ => BOOL,
-    }
+/// The type of a letter: `i` is `int`, `b` `bool`, and `p` and `q` are pointers to two structs.
+pub(super) fn plain_kind(letter: u8) -> Kind<'static> {
+    Kind::Plain(match letter {
+        b'i' => Base::Int,
+        b'p' => Base::Pointer(0),
+        b'q' => Base::Pointer(1),
+        _ => Base::Bool,
+    })
 }
 
-/// The value of a letter: a constant of a digit, -1 of `-`, `nil` of `n`, a string of `t`, and else
-/// a value of the letter's type.
-fn plain_value(letter: u8) -> Shape<'static> {
+/// The value of a letter: a constant for `0`, `1`, `-` (-1), `<` (the least), `>` (the greatest);
+/// `n` is `nil`, `t` a string, `?` has no type, and a type's letter is a value of that type.
+pub(super) fn plain_value(letter: u8) -> Shape<'static> {
     match letter {
-        b'0' => ZERO,
-        b'1' => ONE,
-        b'-' => MINUS_ONE,
+        b'0' => Shape::Constant(0),
+        b'1' => Shape::Constant(1),
+        b'-' => Shape::Constant(-1),
+        b'<' => Shape::Constant(i64::MIN),
+        b'>' => Shape::Constant(i64::MAX),
         b'n' => Shape::Nil,
         b't' => Shape::Text,
+        b'?' => Shape::Untyped,
         _ => Shape::Value(plain_kind(letter)),
     }
 }
 
-/// The same, with types round `int`: `s` is `[]int`, `u` `[]bool`, and `c` `chan int`.
+/// The same with types around `int`: `s` is `[]int`, `u` `[]bool`, and `c` `chan int`.
 fn kind<'a>(letter: u8, int: &'a TypeExpr) -> Kind<'a> {
     match letter {
         b's' => Kind::Slice(int, Base::Int),
@@ -58,7 +61,7 @@ pub(super) fn kinds<'a>(
     Ok(kinds)
 }
 
-/// Types of fields, where `?` is a field that is not there.
+/// Types of fields; `?` is a field that does not exist.
 pub(super) fn known<'a>(
     alloc: Global,
     word: &str,
@@ -96,17 +99,21 @@ pub(super) fn plain_values(alloc: Global, word: &str) -> Result<Vec<Shape<'stati
     Ok(values)
 }
 
-/// A signature of these parameters, with the result int or none.
+/// A signature with these parameters, and with the result `int` or none.
 pub(super) fn signature(
     alloc: Global,
     word: &str,
-    gives: bool,
+    has_result: bool,
 ) -> Result<Signature<'static>, Fail> {
     let mut params = Vec::new(alloc);
     for letter in word.as_bytes() {
         params.push(plain_kind(*letter))?;
     }
-    let result_type = if gives { Some(INT) } else { None };
+    let result_type = if has_result {
+        Some(Kind::Plain(Base::Int))
+    } else {
+        None
+    };
     Ok(Signature {
         params,
         result_type,

@@ -3,7 +3,7 @@
 use rgo_typing_rules::Rule::{self, *};
 
 /// Literals by values: the fields, the values.
-pub(super) const LITERALS: [(&str, &str, Option<Rule>); 10] = [
+pub(super) static LITERALS: [(&str, &str, Option<Rule>); 10] = [
     ("", "", None),
     ("ib", "", None),
     ("ib", "1b", None),
@@ -16,8 +16,8 @@ pub(super) const LITERALS: [(&str, &str, Option<Rule>); 10] = [
     ("", "1", Some(LiteralFields)),
 ];
 
-/// Literals by fields: the elements' fields, whether a field stands there twice, the values.
-pub(super) const KEYED: [(&str, bool, &str, Option<Rule>); 6] = [
+/// Literals by fields: the elements' fields, whether a field occurs twice, the values.
+pub(super) static KEYED: [(&str, bool, &str, Option<Rule>); 6] = [
     ("", false, "", None),
     ("ib", false, "1b", None),
     ("ib", false, "bb", Some(NotAssignable)),
@@ -27,7 +27,7 @@ pub(super) const KEYED: [(&str, bool, &str, Option<Rule>); 6] = [
 ];
 
 /// Calls: the parameters, whether there is a result, the arguments; alone, as a value, with `go`.
-pub(super) const CALLS: [(&str, bool, &str, [Option<Rule>; 3]); 11] = [
+pub(super) static CALLS: [(&str, bool, &str, [Option<Rule>; 3]); 11] = [
     ("", false, "", [None, Some(NoResult), None]),
     ("", true, "", [None, None, Some(GoTarget)]),
     (
@@ -84,7 +84,7 @@ pub(super) const CALLS: [(&str, bool, &str, [Option<Rule>; 3]); 11] = [
 ];
 
 /// Arguments: of `len`; of `close` alone and as a value; of `fmt.Println` alone and as a value.
-pub(super) const BUILTINS: [(&str, [Option<Rule>; 5]); 10] = [
+pub(super) static BUILTINS: [(&str, [Option<Rule>; 5]); 10] = [
     (
         "",
         [
@@ -189,10 +189,9 @@ pub(super) const BUILTINS: [(&str, [Option<Rule>; 5]); 10] = [
 
 /// Pairs: compared; the first at the second as index; the second sent on the first; the second
 /// assigned to a variable of the first.
-pub(super) const PAIRS: [(u8, u8, [Option<Rule>; 4]); 12] = [
+pub(super) static PAIRS: [(&str, [Option<Rule>; 4]); 12] = [
     (
-        b's',
-        b's',
+        "ss",
         [
             Some(SliceCompare),
             Some(NotIndexable),
@@ -201,8 +200,7 @@ pub(super) const PAIRS: [(u8, u8, [Option<Rule>; 4]); 12] = [
         ],
     ),
     (
-        b's',
-        b'u',
+        "su",
         [
             Some(SliceCompare),
             Some(NotIndexable),
@@ -210,14 +208,9 @@ pub(super) const PAIRS: [(u8, u8, [Option<Rule>; 4]); 12] = [
             Some(NotAssignable),
         ],
     ),
+    ("sn", [None, Some(NotIndexable), Some(NotChannel), None]),
     (
-        b's',
-        b'n',
-        [None, Some(NotIndexable), Some(NotChannel), None],
-    ),
-    (
-        b's',
-        b'c',
+        "sc",
         [
             Some(Mismatch),
             Some(NotIndexable),
@@ -226,18 +219,15 @@ pub(super) const PAIRS: [(u8, u8, [Option<Rule>; 4]); 12] = [
         ],
     ),
     (
-        b's',
-        b'i',
+        "si",
         [Some(Mismatch), None, Some(NotChannel), Some(NotAssignable)],
     ),
     (
-        b's',
-        b'0',
+        "s0",
         [Some(Mismatch), None, Some(NotChannel), Some(NotAssignable)],
     ),
     (
-        b's',
-        b'-',
+        "s-",
         [
             Some(Mismatch),
             Some(ConstIndex),
@@ -245,19 +235,10 @@ pub(super) const PAIRS: [(u8, u8, [Option<Rule>; 4]); 12] = [
             Some(NotAssignable),
         ],
     ),
+    ("cc", [None, Some(NotIndexable), Some(NotAssignable), None]),
+    ("cn", [None, Some(NotIndexable), Some(NotAssignable), None]),
     (
-        b'c',
-        b'c',
-        [None, Some(NotIndexable), Some(NotAssignable), None],
-    ),
-    (
-        b'c',
-        b'n',
-        [None, Some(NotIndexable), Some(NotAssignable), None],
-    ),
-    (
-        b'c',
-        b's',
+        "cs",
         [
             Some(Mismatch),
             Some(NotIndexable),
@@ -266,8 +247,7 @@ pub(super) const PAIRS: [(u8, u8, [Option<Rule>; 4]); 12] = [
         ],
     ),
     (
-        b'c',
-        b'1',
+        "c1",
         [
             Some(Mismatch),
             Some(NotIndexable),
@@ -275,9 +255,5 @@ pub(super) const PAIRS: [(u8, u8, [Option<Rule>; 4]); 12] = [
             Some(NotAssignable),
         ],
     ),
-    (
-        b'i',
-        b'-',
-        [None, Some(NotIndexable), Some(NotChannel), None],
-    ),
+    ("i-", [None, Some(NotIndexable), Some(NotChannel), None]),
 ];

@@ -2,7 +2,7 @@
 
 use rgo_typing_rules::Rule::{self, *};
 
-pub(crate) const NAMES: [(Rule, u8, &str); 34] = [
+pub(crate) static NAMES: [(Rule, u8, &str); 34] = [
     (BadImport, 1, "BadImport"),
     (Redeclared, 2, "Redeclared"),
     (ReservedName, 3, "ReservedName"),

@@ -1,39 +1,13 @@
 //! Nodes without lists: each row a rule, a node that breaks it first, and the nearest node that
-//! breaks none.
+//! breaks none. The letters of values are those of `letters`.
 
+use super::samples::Sample::{self, *};
 use rgo_ast::{BinaryOp, UnaryOp};
 use rgo_typed::Base;
 use rgo_typing_rules::Rule::{self, *};
-use rgo_typing_rules::{Kind, Meaning, Node, Role, Shape};
+use rgo_typing_rules::{Meaning, Role};
 
-pub(super) type Row<'a> = (Rule, Node<'a, 'a, 'a>, Node<'a, 'a, 'a>);
-
-pub(super) const INT: Kind<'static> = Kind::Plain(Base::Int);
-
-pub(super) const BOOL: Kind<'static> = Kind::Plain(Base::Bool);
-/// `*S`, and `*T`.
-pub(super) const S: Kind<'static> = Kind::Plain(Base::Pointer(0));
-
-pub(super) const T: Kind<'static> = Kind::Plain(Base::Pointer(1));
-
-/// Values of these types, and constants.
-pub(super) const I: Shape<'static> = Shape::Value(INT);
-
-pub(super) const B: Shape<'static> = Shape::Value(BOOL);
-
-pub(super) const P: Shape<'static> = Shape::Value(S);
-
-pub(super) const Q: Shape<'static> = Shape::Value(T);
-
-pub(super) const ZERO: Shape<'static> = Shape::Constant(0);
-
-pub(super) const ONE: Shape<'static> = Shape::Constant(1);
-
-pub(super) const MINUS_ONE: Shape<'static> = Shape::Constant(-1);
-
-pub(super) const LEAST: Shape<'static> = Shape::Constant(i64::MIN);
-
-pub(super) const GREATEST: Shape<'static> = Shape::Constant(i64::MAX);
+pub(super) type Row = (Rule, Sample, Sample);
 
 const VARIABLE: Option<Meaning> = Some(Meaning::Local(0));
 
@@ -47,312 +21,252 @@ const FMT: Option<Meaning> = Some(Meaning::Package(true));
 
 const FMT_MISSING: Option<Meaning> = Some(Meaning::Package(false));
 
-pub(super) const DECLARATIONS: [Row<'static>; 7] = [
-    (
-        BadImport,
-        Node::Import(false, b"os"),
-        Node::Import(false, b"fmt"),
-    ),
-    (
-        Redeclared,
-        Node::Import(true, b"fmt"),
-        Node::Import(false, b"fmt"),
-    ),
-    (
-        Redeclared,
-        Node::Declared(true, b"x"),
-        Node::Declared(false, b"x"),
-    ),
+pub(super) static DECLARATIONS: [Row; 7] = [
+    (BadImport, Import(false, "os"), Import(false, "fmt")),
+    (Redeclared, Import(true, "fmt"), Import(false, "fmt")),
+    (Redeclared, Declared(true, "x"), Declared(false, "x")),
+    (ReservedName, Declared(false, "int"), Declared(false, "in")),
+    (ReservedName, Declared(false, "cap"), Declared(false, "Cap")),
     (
         ReservedName,
-        Node::Declared(false, b"int"),
-        Node::Declared(false, b"in"),
+        Declared(false, "init"),
+        Declared(false, "main"),
     ),
-    (
-        ReservedName,
-        Node::Declared(false, b"cap"),
-        Node::Declared(false, b"Cap"),
-    ),
-    (
-        ReservedName,
-        Node::Declared(false, b"init"),
-        Node::Declared(false, b"main"),
-    ),
-    (
-        ReservedName,
-        Node::Declared(false, b"_"),
-        Node::Declared(false, b"_x"),
-    ),
+    (ReservedName, Declared(false, "_"), Declared(false, "_x")),
 ];
 
-pub(super) const NAMES: [Row<'static>; 14] = [
-    (NoSuchName, Node::TypeName(None), Node::TypeName(INT_NAME)),
+pub(super) static NAMES: [Row; 14] = [
+    (NoSuchName, TypeName(None), TypeName(INT_NAME)),
+    (NoSuchName, BaseName(FMT_MISSING), BaseName(STRUCT)),
     (
         NoSuchName,
-        Node::BaseName(FMT_MISSING),
-        Node::BaseName(STRUCT),
-    ),
-    (
-        NoSuchName,
-        Node::Name(Role::Target, None),
-        Node::Name(Role::Target, FUNCTION),
+        Name(Role::Target, None),
+        Name(Role::Target, FUNCTION),
     ),
     (
         NoSuchName,
-        Node::Name(Role::Value, FMT_MISSING),
-        Node::Name(Role::Target, FMT),
+        Name(Role::Value, FMT_MISSING),
+        Name(Role::Target, FMT),
     ),
-    (NotType, Node::TypeName(VARIABLE), Node::TypeName(INT_NAME)),
-    (
-        NotType,
-        Node::BaseName(Some(Meaning::Nil)),
-        Node::BaseName(INT_NAME),
-    ),
-    (
-        StructByValue,
-        Node::TypeName(STRUCT),
-        Node::BaseName(STRUCT),
-    ),
-    (PointerBase, Node::Pointed(INT_NAME), Node::Pointed(STRUCT)),
+    (NotType, TypeName(VARIABLE), TypeName(INT_NAME)),
+    (NotType, BaseName(Some(Meaning::Nil)), BaseName(INT_NAME)),
+    (StructByValue, TypeName(STRUCT), BaseName(STRUCT)),
+    (PointerBase, Pointed(INT_NAME), Pointed(STRUCT)),
     (
         NotValue,
-        Node::Name(Role::Value, FUNCTION),
-        Node::Name(Role::Value, VARIABLE),
+        Name(Role::Value, FUNCTION),
+        Name(Role::Value, VARIABLE),
     ),
     (
         NotValue,
-        Node::Name(Role::Value, STRUCT),
-        Node::Name(Role::Target, STRUCT),
+        Name(Role::Value, STRUCT),
+        Name(Role::Target, STRUCT),
     ),
     (
         NotValue,
-        Node::Name(Role::Printed, FMT),
-        Node::Name(Role::Printed, Some(Meaning::Nil)),
+        Name(Role::Printed, FMT),
+        Name(Role::Printed, Some(Meaning::Nil)),
     ),
     (
         NotValue,
-        Node::Name(Role::Alone, Some(Meaning::Len)),
-        Node::Name(Role::Alone, VARIABLE),
+        Name(Role::Alone, Some(Meaning::Len)),
+        Name(Role::Alone, VARIABLE),
     ),
     (
         NotValue,
-        Node::Name(Role::Value, INT_NAME),
-        Node::Name(Role::Value, Some(Meaning::Truth(true))),
+        Name(Role::Value, INT_NAME),
+        Name(Role::Value, Some(Meaning::Truth(true))),
     ),
-    (
-        StringPlace,
-        Node::Text(Role::Value),
-        Node::Text(Role::Printed),
-    ),
+    (StringPlace, Text(Role::Value), Text(Role::Printed)),
 ];
 
-pub(super) const OPERATORS: [Row<'static>; 16] = [
+pub(super) static OPERATORS: [Row; 16] = [
     (
         Mismatch,
-        Node::Unary(UnaryOp::Plus, B),
-        Node::Unary(UnaryOp::Plus, I),
+        Unary(UnaryOp::Plus, b'b'),
+        Unary(UnaryOp::Plus, b'i'),
     ),
     (
         Mismatch,
-        Node::Unary(UnaryOp::Minus, P),
-        Node::Unary(UnaryOp::Minus, I),
+        Unary(UnaryOp::Minus, b'p'),
+        Unary(UnaryOp::Minus, b'i'),
     ),
     (
         Mismatch,
-        Node::Unary(UnaryOp::Not, ZERO),
-        Node::Unary(UnaryOp::Not, B),
+        Unary(UnaryOp::Not, b'0'),
+        Unary(UnaryOp::Not, b'b'),
     ),
     (
         Mismatch,
-        Node::Binary(BinaryOp::Add, B, B),
-        Node::Binary(BinaryOp::Add, I, ONE),
+        Binary(BinaryOp::Add, b'b', b'b'),
+        Binary(BinaryOp::Add, b'i', b'1'),
     ),
     (
         Mismatch,
-        Node::Binary(BinaryOp::Lt, Shape::Nil, Shape::Nil),
-        Node::Binary(BinaryOp::Lt, I, I),
+        Binary(BinaryOp::Lt, b'n', b'n'),
+        Binary(BinaryOp::Lt, b'i', b'i'),
     ),
     (
         Mismatch,
-        Node::Binary(BinaryOp::And, B, ONE),
-        Node::Binary(BinaryOp::And, B, B),
+        Binary(BinaryOp::And, b'b', b'1'),
+        Binary(BinaryOp::And, b'b', b'b'),
     ),
     (
         Mismatch,
-        Node::Binary(BinaryOp::Or, I, I),
-        Node::Binary(BinaryOp::Or, B, B),
+        Binary(BinaryOp::Or, b'i', b'i'),
+        Binary(BinaryOp::Or, b'b', b'b'),
     ),
     (
         Mismatch,
-        Node::Binary(BinaryOp::Eq, B, ONE),
-        Node::Binary(BinaryOp::Eq, I, ONE),
+        Binary(BinaryOp::Eq, b'b', b'1'),
+        Binary(BinaryOp::Eq, b'i', b'1'),
     ),
     (
         Mismatch,
-        Node::Binary(BinaryOp::Eq, P, Q),
-        Node::Binary(BinaryOp::Eq, P, P),
+        Binary(BinaryOp::Eq, b'p', b'q'),
+        Binary(BinaryOp::Eq, b'p', b'p'),
     ),
     (
         Mismatch,
-        Node::Binary(BinaryOp::Ne, Shape::Nil, ONE),
-        Node::Binary(BinaryOp::Ne, Shape::Nil, Q),
+        Binary(BinaryOp::Ne, b'n', b'1'),
+        Binary(BinaryOp::Ne, b'n', b'q'),
     ),
     (
         Mismatch,
-        Node::Update(BinaryOp::Add, true, B, ONE),
-        Node::Update(BinaryOp::Add, true, I, ONE),
+        Update(BinaryOp::Add, true, b'b', b'1'),
+        Update(BinaryOp::Add, true, b'i', b'1'),
     ),
     (
         BareNil,
-        Node::Binary(BinaryOp::Eq, Shape::Nil, Shape::Nil),
-        Node::Binary(BinaryOp::Eq, P, Shape::Nil),
+        Binary(BinaryOp::Eq, b'n', b'n'),
+        Binary(BinaryOp::Eq, b'p', b'n'),
     ),
     (
         BareNil,
-        Node::Binary(BinaryOp::Ne, Shape::Nil, Shape::Nil),
-        Node::Binary(BinaryOp::Ne, B, B),
+        Binary(BinaryOp::Ne, b'n', b'n'),
+        Binary(BinaryOp::Ne, b'b', b'b'),
     ),
     (
         ConstZeroDivisor,
-        Node::Binary(BinaryOp::Div, I, ZERO),
-        Node::Binary(BinaryOp::Div, ZERO, I),
+        Binary(BinaryOp::Div, b'i', b'0'),
+        Binary(BinaryOp::Div, b'0', b'i'),
     ),
     (
         ConstZeroDivisor,
-        Node::Binary(BinaryOp::Rem, ONE, ZERO),
-        Node::Binary(BinaryOp::Mul, ONE, ZERO),
+        Binary(BinaryOp::Rem, b'1', b'0'),
+        Binary(BinaryOp::Mul, b'1', b'0'),
     ),
     (
         ConstZeroDivisor,
-        Node::Update(BinaryOp::Rem, true, I, ZERO),
-        Node::Update(BinaryOp::Rem, true, I, MINUS_ONE),
+        Update(BinaryOp::Rem, true, b'i', b'0'),
+        Update(BinaryOp::Rem, true, b'i', b'-'),
     ),
 ];
 
 /// The constants that are in range, and the nearest that are not.
-pub(super) const CONSTANTS: [Row<'static>; 8] = [
+pub(super) static CONSTANTS: [Row; 8] = [
     (
         ConstRange,
-        Node::Number(9_223_372_036_854_775_808),
-        Node::Number(9_223_372_036_854_775_807),
+        Number(9_223_372_036_854_775_808),
+        Number(9_223_372_036_854_775_807),
     ),
     (
         ConstRange,
-        Node::Unary(UnaryOp::Minus, LEAST),
-        Node::Unary(UnaryOp::Minus, GREATEST),
+        Unary(UnaryOp::Minus, b'<'),
+        Unary(UnaryOp::Minus, b'>'),
     ),
     (
         ConstRange,
-        Node::Binary(BinaryOp::Add, GREATEST, ONE),
-        Node::Binary(BinaryOp::Add, GREATEST, ZERO),
+        Binary(BinaryOp::Add, b'>', b'1'),
+        Binary(BinaryOp::Add, b'>', b'0'),
     ),
     (
         ConstRange,
-        Node::Binary(BinaryOp::Add, MINUS_ONE, LEAST),
-        Node::Binary(BinaryOp::Add, ONE, LEAST),
+        Binary(BinaryOp::Add, b'-', b'<'),
+        Binary(BinaryOp::Add, b'1', b'<'),
     ),
     (
         ConstRange,
-        Node::Binary(BinaryOp::Sub, LEAST, ONE),
-        Node::Binary(BinaryOp::Sub, MINUS_ONE, GREATEST),
+        Binary(BinaryOp::Sub, b'<', b'1'),
+        Binary(BinaryOp::Sub, b'-', b'>'),
     ),
     (
         ConstRange,
-        Node::Binary(BinaryOp::Mul, LEAST, MINUS_ONE),
-        Node::Binary(BinaryOp::Mul, GREATEST, MINUS_ONE),
+        Binary(BinaryOp::Mul, b'<', b'-'),
+        Binary(BinaryOp::Mul, b'>', b'-'),
     ),
     (
         ConstRange,
-        Node::Binary(BinaryOp::Div, LEAST, MINUS_ONE),
-        Node::Binary(BinaryOp::Rem, LEAST, MINUS_ONE),
+        Binary(BinaryOp::Div, b'<', b'-'),
+        Binary(BinaryOp::Rem, b'<', b'-'),
     ),
     (
         ConstRange,
-        Node::Binary(BinaryOp::Add, GREATEST, GREATEST),
-        Node::Binary(BinaryOp::Add, GREATEST, I),
+        Binary(BinaryOp::Add, b'>', b'>'),
+        Binary(BinaryOp::Add, b'>', b'i'),
     ),
 ];
 
-pub(super) const VALUES: [Row<'static>; 13] = [
+pub(super) static VALUES: [Row; 13] = [
+    (BareNil, Define(b'n'), DefineAs(b'p', b'n')),
+    (NotAssignable, DefineAs(b'i', b'b'), DefineAs(b'i', b'1')),
+    (NotAssignable, DefineAs(b'i', b'n'), DefineAs(b'q', b'n')),
+    (NotAssignable, DefineAs(b'p', b'q'), DefineAs(b'p', b'p')),
     (
-        BareNil,
-        Node::Define(Shape::Nil),
-        Node::DefineAs(S, Shape::Nil),
+        NotAssignable,
+        Assign(true, b'i', b'b'),
+        Assign(true, b'b', b'b'),
     ),
     (
         NotAssignable,
-        Node::DefineAs(INT, B),
-        Node::DefineAs(INT, ONE),
-    ),
-    (
-        NotAssignable,
-        Node::DefineAs(INT, Shape::Nil),
-        Node::DefineAs(T, Shape::Nil),
-    ),
-    (NotAssignable, Node::DefineAs(S, Q), Node::DefineAs(S, P)),
-    (
-        NotAssignable,
-        Node::Assign(true, I, B),
-        Node::Assign(true, B, B),
-    ),
-    (
-        NotAssignable,
-        Node::Return(Some(INT), Some(B)),
-        Node::Return(Some(INT), Some(I)),
+        Return(Some(b'i'), Some(b'b')),
+        Return(Some(b'i'), Some(b'i')),
     ),
     (
         NotPlace,
-        Node::Assign(false, Shape::Untyped, ONE),
-        Node::Assign(true, I, ONE),
+        Assign(false, b'?', b'1'),
+        Assign(true, b'i', b'1'),
     ),
     (
         NotPlace,
-        Node::Update(BinaryOp::Sub, false, I, ONE),
-        Node::Update(BinaryOp::Sub, true, I, ONE),
+        Update(BinaryOp::Sub, false, b'i', b'1'),
+        Update(BinaryOp::Sub, true, b'i', b'1'),
     ),
-    (NoSuchField, Node::Selector(false), Node::Selector(true)),
-    (NotStatement, Node::Alone(false), Node::Alone(true)),
-    (NotBool, Node::Condition(ONE), Node::Condition(B)),
-    (NotInt, Node::Size(B), Node::Size(I)),
-    (ConstSize, Node::Size(MINUS_ONE), Node::Size(ZERO)),
+    (NoSuchField, Selector(false), Selector(true)),
+    (NotStatement, Alone(false), Alone(true)),
+    (NotBool, Condition(b'1'), Condition(b'b')),
+    (NotInt, Size(b'b'), Size(b'i')),
+    (ConstSize, Size(b'-'), Size(b'0')),
 ];
 
-pub(super) const ENDS: [Row<'static>; 6] = [
+pub(super) static ENDS: [Row; 6] = [
+    (ReturnCount, Return(None, Some(b'1')), Return(None, None)),
     (
         ReturnCount,
-        Node::Return(None, Some(ONE)),
-        Node::Return(None, None),
+        Return(Some(b'i'), None),
+        Return(Some(b'i'), Some(b'1')),
     ),
-    (
-        ReturnCount,
-        Node::Return(Some(INT), None),
-        Node::Return(Some(INT), Some(ONE)),
-    ),
-    (MissingReturn, Node::End(true, false), Node::End(true, true)),
-    (
-        MissingReturn,
-        Node::End(true, false),
-        Node::End(false, false),
-    ),
-    (LoopOutside, Node::Branch(false), Node::Branch(true)),
-    (NoMain, Node::TextEnd(false), Node::TextEnd(true)),
+    (MissingReturn, End(true, false), End(true, true)),
+    (MissingReturn, End(true, false), End(false, false)),
+    (LoopOutside, Branch(false), Branch(true)),
+    (NoMain, TextEnd(false), TextEnd(true)),
 ];
 
 /// Nodes that break other rules too, or would but for the first, or have no other form.
-pub(super) const FIRST: [(Rule, Node<'static, 'static, 'static>); 15] = [
-    (BadImport, Node::Import(true, b"os")),
-    (Redeclared, Node::Declared(true, b"len")),
-    (NoSuchName, Node::TypeName(FMT_MISSING)),
-    (NoSuchName, Node::Name(Role::Value, FMT_MISSING)),
-    (NoSuchName, Node::CallMissing),
-    (Mismatch, Node::Binary(BinaryOp::Div, B, ZERO)),
-    (Mismatch, Node::Update(BinaryOp::Div, false, B, ZERO)),
-    (NotPlace, Node::Update(BinaryOp::Div, false, I, ZERO)),
-    (NotPlace, Node::Assign(false, I, B)),
-    (NotCall, Node::CallNothing),
-    (GoTarget, Node::GoNothing),
-    (NotChannel, Node::Send(I, B)),
-    (NotChannel, Node::Unary(UnaryOp::Receive, Shape::Nil)),
-    (ConstZeroDivisor, Node::Binary(BinaryOp::Rem, LEAST, ZERO)),
-    (ReturnCount, Node::Return(None, Some(Shape::Nil))),
+pub(super) static FIRST: [(Rule, Sample); 15] = [
+    (BadImport, Import(true, "os")),
+    (Redeclared, Declared(true, "len")),
+    (NoSuchName, TypeName(FMT_MISSING)),
+    (NoSuchName, Name(Role::Value, FMT_MISSING)),
+    (NoSuchName, CallMissing),
+    (Mismatch, Binary(BinaryOp::Div, b'b', b'0')),
+    (Mismatch, Update(BinaryOp::Div, false, b'b', b'0')),
+    (NotPlace, Update(BinaryOp::Div, false, b'i', b'0')),
+    (NotPlace, Assign(false, b'i', b'b')),
+    (NotCall, CallNothing),
+    (GoTarget, GoNothing),
+    (NotChannel, Send(b'i', b'b')),
+    (NotChannel, Unary(UnaryOp::Receive, b'n')),
+    (ConstZeroDivisor, Binary(BinaryOp::Rem, b'<', b'0')),
+    (ReturnCount, Return(None, Some(b'n'))),
 ];
