@@ -143,8 +143,8 @@ impl<'p, 'a> Checker<'p, 'a> {
         }
     }
 
-    /// Whether it is a variable, a field or an element, and so may be assigned to (The Go Programming
-    /// Language Specification, "Assignment statements").
+    /// Whether it is a variable, a field or an element, and so may be assigned to (The Go
+    /// Programming Language Specification, "Assignment statements").
     pub fn is_place(&self, e: &Expr) -> bool
         ensures { result ≡ spec.is_place self.now (expr_of e.now) }
     {

@@ -52,7 +52,11 @@ fn routine<'a>(
     at: Place,
 ) -> Result<Checked<'a>, TypeError>
     ensures { ChecksTo result
-        ((at, node.Call role (signature_of signature.now) (map shape_of args.entry.shapes.items)) ∷ [])
+        ((
+          at,
+          node.Call role (signature_of signature.now)
+              (map shape_of args.entry.shapes.items),
+        ) ∷ [])
         (types.result_shape (signature_of signature.now).result_type)
         (tree.Call number (tree.terms_of (map term_of args.entry.terms.items))
         (terms.result_or_int (signature_of signature.now).result_type) at) }
@@ -69,7 +73,8 @@ fn routine<'a>(
 #[tactic(auto, using(crate::proofs::Trees::terms))]
 fn length<'a>(alloc: Global, args: Values<'a>, at: Place) -> Result<Checked<'a>, TypeError>
     ensures { ChecksTo result ((at, node.CallLen (map shape_of args.entry.shapes.items)) ∷ [])
-        (shape.Value int) (tree.Apply Len (tree.terms_of (map term_of args.entry.terms.items)) int at) }
+        (shape.Value int)
+        (tree.Apply Len (tree.terms_of (map term_of args.entry.terms.items)) int at) }
 {
     check_node(at, &Node::CallLen(&args.shapes))?;
     let ty = plain(alloc, Base::Int);
@@ -100,9 +105,13 @@ pub fn call<'a>(
     at: Place,
 ) -> Result<Checked<'a>, TypeError>
     ensures { ChecksTo result
-        ((call_place at callee, call_node globals.now role callee (map shape_of args.entry.shapes.items)) ∷ [])
+        ((
+          call_place at callee,
+          call_node globals.now role callee (map shape_of args.entry.shapes.items),
+        ) ∷ [])
         (types.call_shape globals.now callee)
-        (terms.call_term globals.now callee (tree.terms_of (map term_of args.entry.terms.items)) at) }
+        (terms.call_term globals.now callee
+        (tree.terms_of (map term_of args.entry.terms.items)) at) }
 {
     match callee {
         Callee::Missing(name_at) => {

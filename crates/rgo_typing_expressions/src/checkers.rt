@@ -82,7 +82,8 @@ impl<'p, 'a> Checker<'p, 'a> {
 
     /// Declares a local variable in the innermost block. On allocation failure nothing changes.
     pub fn declare(&mut self, name: &'a [u8], kind: Kind<'a>) -> Result<(), AllocError>
-        ensures declared { OnOk result (self.new ≡ in_scope (with_local name.now (kind_of kind.entry) self.old.scope) self.old) }
+        ensures declared { OnOk result (self.new
+            ≡ in_scope (with_local name.now (kind_of kind.entry) self.old.scope) self.old) }
         ensures err { OnErr result (self.new ≡ self.old) }
     {
         self.scope.declare(name, kind)

@@ -41,7 +41,11 @@ fn check_literal(
     at: Place,
 ) -> Result<(), TypeError>
     ensures { Checks result
-        ((at, node.Literal (Some (scopes.fields_at globals.now number).types) (map shape_of values.now)) ∷ []) }
+        ((
+          at,
+          node.Literal (Some (scopes.fields_at globals.now number).types)
+              (map shape_of values.now),
+        ) ∷ []) }
 {
     match globals.structs.get(number) {
         Some(fields) => check_node(at, &Node::Literal(Some(&fields.kinds), values)),
@@ -59,9 +63,14 @@ pub(crate) fn literal<'a>(
     at: Place,
 ) -> Result<Checked<'a>, TypeError>
     ensures { ChecksTo result
-        ((at, node.Literal (checking.struct_types globals.now meaning) (map shape_of values.entry.shapes.items)) ∷ [])
+        ((
+          at,
+          node.Literal (checking.struct_types globals.now meaning)
+              (map shape_of values.entry.shapes.items),
+        ) ∷ [])
         (types.pointer_shape meaning)
-        (terms.build (checking.struct_number meaning) (tree.terms_of (map term_of values.entry.terms.items)) at) }
+        (terms.build (checking.struct_number meaning)
+        (tree.terms_of (map term_of values.entry.terms.items)) at) }
 {
     let Some(Meaning::Struct(number)) = meaning else {
         check_node(at, &Node::Literal(None, &values.shapes))?;

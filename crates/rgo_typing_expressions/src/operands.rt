@@ -100,7 +100,8 @@ pub(crate) fn wanted_term(
     number: usize,
     term: Term,
 ) -> Result<Term, AllocError>
-    ensures { IfOk result (λ t. term_of t ≡ terms.with_first (map kind_of (drop number wanted.now)) (term_of term)) }
+    ensures { IfOk result (λ t. term_of t
+        ≡ terms.with_first (map kind_of (drop number wanted.now)) (term_of term)) }
 {
     match wanted.get(number) {
         Some(kind) => with_type(alloc, *kind, term),
@@ -108,14 +109,15 @@ pub(crate) fn wanted_term(
     }
 }
 
-/// The same, where not each type is known.
+/// The same, where some types are unknown.
 pub(crate) fn known_term(
     alloc: Global,
     known: &[Option<Kind<'_>>],
     number: usize,
     term: Term,
 ) -> Result<Term, AllocError>
-    ensures { IfOk result (λ t. term_of t ≡ terms.with_known (map optional_kind_of (drop number known.now)) (term_of term)) }
+    ensures { IfOk result (λ t. term_of t
+        ≡ terms.with_known (map optional_kind_of (drop number known.now)) (term_of term)) }
 {
     match known.get(number) {
         Some(Some(kind)) => with_type(alloc, *kind, term),

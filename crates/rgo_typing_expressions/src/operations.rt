@@ -42,7 +42,8 @@ fn check_unary(op: UnaryOp, operand: Shape<'_>, at: Place) -> Result<Option<i64>
 /// `+x`: its operand, as an `int`.
 fn plus<'a>(operand: Checked<'a>, at: Place) -> Result<Checked<'a>, TypeError>
     ensures { ChecksTo result ((at, node.Unary Plus (shape_of operand.entry.shape)) ∷ [])
-        (types.constant_or (folded_shape Plus (shape_of operand.entry.shape)) (shape.Value scopes.int))
+        (types.constant_or (folded_shape Plus (shape_of operand.entry.shape))
+        (shape.Value scopes.int))
         (term_of operand.entry.term) }
 {
     let shape = match check_unary(UnaryOp::Plus, operand.shape, at)? {
@@ -63,7 +64,8 @@ fn negated<'a>(
     at: Place,
 ) -> Result<Checked<'a>, AllocError>
     ensures { IfOk result (λ e. Matches e (types.constant_or value (shape.Value scopes.int))
-        (terms.constant_or_term value at (tree.Apply action.Neg (terms.one (term_of operand)) scopes.int at))) }
+        (terms.constant_or_term value at
+        (tree.Apply action.Neg (terms.one (term_of operand)) scopes.int at))) }
 {
     match value {
         Some(n) => Ok(Checked {
@@ -84,7 +86,8 @@ fn negated<'a>(
 /// `-x`.
 fn minus<'a>(alloc: Global, operand: Checked<'a>, at: Place) -> Result<Checked<'a>, TypeError>
     ensures { ChecksTo result ((at, node.Unary Minus (shape_of operand.entry.shape)) ∷ [])
-        (types.constant_or (folded_shape Minus (shape_of operand.entry.shape)) (shape.Value scopes.int))
+        (types.constant_or (folded_shape Minus (shape_of operand.entry.shape))
+        (shape.Value scopes.int))
         (terms.unary_term Minus (shape_of operand.entry.shape) (term_of operand.entry.term) at) }
 {
     let value = check_unary(UnaryOp::Minus, operand.shape, at)?;
@@ -94,7 +97,8 @@ fn minus<'a>(alloc: Global, operand: Checked<'a>, at: Place) -> Result<Checked<'
 /// `!x`.
 fn not<'a>(alloc: Global, operand: Checked<'a>, at: Place) -> Result<Checked<'a>, TypeError>
     ensures { ChecksTo result ((at, node.Unary Not (shape_of operand.entry.shape)) ∷ [])
-        (types.constant_or (folded_shape Not (shape_of operand.entry.shape)) (shape.Value scopes.bool))
+        (types.constant_or (folded_shape Not (shape_of operand.entry.shape))
+        (shape.Value scopes.bool))
         (terms.unary_term Not (shape_of operand.entry.shape) (term_of operand.entry.term) at) }
 {
     check_unary(UnaryOp::Not, operand.shape, at)?;
@@ -133,7 +137,8 @@ pub(crate) fn unary<'a>(
     at: Place,
 ) -> Result<Checked<'a>, TypeError>
     ensures { ChecksTo result ((at, node.Unary op (shape_of operand.entry.shape)) ∷ [])
-        (types.constant_or (folded_shape op (shape_of operand.entry.shape)) (types.unary_shape op (shape_of operand.entry.shape)))
+        (types.constant_or (folded_shape op (shape_of operand.entry.shape))
+        (types.unary_shape op (shape_of operand.entry.shape)))
         (terms.unary_term op (shape_of operand.entry.shape) (term_of operand.entry.term) at) }
 {
     match op {

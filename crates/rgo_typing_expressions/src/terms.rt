@@ -62,7 +62,8 @@ pub fn apply_two(
     ty: Type,
     at: Place,
 ) -> Result<Term, AllocError>
-    ensures { IfOk result (λ t. term_of t ≡ tree.Apply action (spec.two (term_of first) (term_of second)) ty at) }
+    ensures { IfOk result (λ t. term_of t
+        ≡ tree.Apply action (spec.two (term_of first) (term_of second)) ty at) }
 {
     let mut parts = Vec::new(alloc);
     parts.push(first)?;

@@ -93,7 +93,8 @@ pub(crate) fn updated(
     left: Shape<'_>,
     right: Shape<'_>,
 ) -> Option<Rule>
-    ensures { result ≡ broken (spec.Update op at_place (shape_of left.entry) (shape_of right.entry)) }
+    ensures { result
+        ≡ broken (spec.Update op at_place (shape_of left.entry) (shape_of right.entry)) }
 {
     if !(left.is_int() && right.is_int()) {
         Some(Rule::Mismatch)
@@ -105,7 +106,8 @@ pub(crate) fn updated(
 }
 
 pub(crate) fn returned(wanted: Option<Kind<'_>>, given: Option<Shape<'_>>) -> Option<Rule>
-    ensures { result ≡ broken (spec.Return (optional_kind_of wanted.entry) (optional_shape_of given.entry)) }
+    ensures { result
+        ≡ broken (spec.Return (optional_kind_of wanted.entry) (optional_shape_of given.entry)) }
 {
     match (wanted, given) {
         (None, None) => None,
