@@ -8,7 +8,7 @@ use Rattle.rgo_grammar.specs.Grammar.{IsProgram}
 use Rattle.rgo_grammar.specs.FirstBad.{Begins, IsFirstBad}
 use Rattle.rgo_grammar.specs.Laws.{OneTree, OneOfBoth}
 use Rattle.rgo_grammar.specs.reading.{Read.{Read, Done, Failed, At, Starving}, Declarations.{program}}
-use Rattle.rgo_grammar.proofs.machine.{Table.{Program, fine, leads, next}, Runs.{Accepted, Stopped, run, Reached, stopped, finish, finish_run}}
+use Rattle.rgo_grammar.proofs.machine.{Table.{Program, fine, leads}, Runs.{Accepted, Stopped, run, Reached, stopped, finish, finish_run}}
 use Rattle.rgo_grammar.proofs.reading.Complete.{Meets}
 use Rattle.rgo_grammar.proofs.declarations.{Program.Closed.{accepts, rejects}, Program.{Closed, program_correct}, Complete.{program_complete}}
 
@@ -51,8 +51,8 @@ parsed_by : {l : List Lexeme} {x : List Import × List Decl} {w : List Lexeme}
 parsed_by {x = x} (accepts {a} p h) e = let f : a ≡ x = cc in (rw (← f) p, h)
 parsed_by (rejects h) e = cc
 
-pub parsed : (l : List Lexeme) (x : List Import × List Decl) (w : List Lexeme) → read l ≡ Done x w
-    → IsProgram l x.0 x.1
+pub parsed : (l : List Lexeme) (x : List Import × List Decl) (w : List Lexeme)
+    → read l ≡ Done x w → IsProgram l x.0 x.1
 parsed l x w e = (parsed_by (closed l) e).0
 
 takes : (l : List Lexeme) (is : List Import) (ds : List Decl) → IsProgram l is ds

@@ -1,3 +1,4 @@
+-- Expressions: reading them is correct (up to `Correct`), and what the grammar derives is read.
 pub mod Starts
 pub mod Operands
 pub mod Literals

@@ -1,3 +1,4 @@
+-- Statements: reading them is correct (up to `Correct`), and what the grammar derives is read.
 pub mod Simple
 pub mod Locals
 pub mod Headers

@@ -1,2 +1,3 @@
+-- Names and types: reading them is correct, and what the grammar derives is read.
 pub mod Correct
 pub mod Complete

@@ -147,8 +147,8 @@ mutual
     none : {closer : Terminal} (j : Leaf) → IsExprs closer (tok closer j ∷ []) []
     last : {closer : Terminal} (j : Leaf) {x : List Lexeme} {v : tree.Expr} → IsExpr false 1 x v
         → IsExprs closer (x ++ tok closer j ∷ []) (v ∷ [])
-    more : {closer : Terminal} (j : Leaf) {x y : List Lexeme} {v : tree.Expr} {vs : List tree.Expr}
-        → IsExpr false 1 x v
+    more : {closer : Terminal} (j : Leaf) {x y : List Lexeme} {v : tree.Expr}
+        {vs : List tree.Expr} → IsExpr false 1 x v
         → IsExprs closer y vs → IsExprs closer (x ++ tok Comma j ∷ y) (v ∷ vs)
 
   -- [ name ":" Expr { "," name ":" Expr } [ "," ] ] "}"
@@ -169,15 +169,15 @@ mutual
 pub data IsSimple : Bool → Bool → List Lexeme → tree.Stmt → Type 0 where
   plain : {header defines : Bool} {x : List Lexeme} {v : tree.Expr} → IsExpr header 1 x v
       → IsSimple header defines x (tree.Plain v)
-  send : {header defines : Bool} (i : Leaf) {x y : List Lexeme} {a b : tree.Expr}
-      → IsExpr header 1 x a
+  send : {header defines : Bool} (i : Leaf) {x y : List Lexeme}
+      {a b : tree.Expr} → IsExpr header 1 x a
       → IsExpr header 1 y b
       → IsSimple header defines (x ++ tok Arrow i ∷ y) (tree.Send a b i.at)
-  step : {header defines : Bool} (o : StepOp) (i : Leaf) {x : List Lexeme} {v : tree.Expr}
-      → IsExpr header 1 x v
+  step : {header defines : Bool} (o : StepOp) (i : Leaf) {x : List Lexeme}
+      {v : tree.Expr} → IsExpr header 1 x v
       → IsSimple header defines (x ++ tok (Step o) i ∷ []) (tree.Step o v i.at)
-  assign : {header defines : Bool} (o : AssignOp) (i : Leaf) {x y : List Lexeme} {a b : tree.Expr}
-      → IsExpr header 1 x a
+  assign : {header defines : Bool} (o : AssignOp) (i : Leaf) {x y : List Lexeme}
+      {a b : tree.Expr} → IsExpr header 1 x a
       → IsExpr header 1 y b
       → IsSimple header defines (x ++ tok (Assign o) i ∷ y) (tree.Assign o a b i.at)
   define : {header : Bool} (i j : Leaf) {x : List Lexeme} {v : tree.Expr} → IsExpr header 1 x v
@@ -197,8 +197,8 @@ pub data IsCondition : List Lexeme → Option tree.Expr → Type 0 where
 -- LVar = Names Type | name Type "=" Expr | name "=" Expr .
 pub data IsLocal : List Lexeme → tree.LocalVar → Type 0 where
   zero : {x : List Lexeme} {b : Binding} → IsBinding x b → IsLocal x (tree.Zero b)
-  typed : (i j : Leaf) {x y : List Lexeme} {t : tree.TypeExpr} {v : tree.Expr} → IsType x t
-      → IsExpr false 1 y v
+  typed : (i j : Leaf) {x y : List Lexeme} {t : tree.TypeExpr} {v : tree.Expr}
+      → IsType x t → IsExpr false 1 y v
       → IsLocal (tok Name i ∷ (x ++ tok (Assign assign_op.Plain) j ∷ y))
       (tree.Typed (ident i) t v j.at)
   inferred : (i j : Leaf) {y : List Lexeme} {v : tree.Expr} → IsExpr false 1 y v
@@ -245,8 +245,8 @@ mutual
         → IsExpr true 1 x c → IsStmts y b end → IsElse z e
         → IsIf (tok If i ∷ (x ++ tok OpenBrace k ∷ (y ++ z)))
         (tree.If tree.no_clause c (stmts_of b) (clause_of e) i.at)
-    with : (i j k : Leaf) {w x y z : List Lexeme} {s : Option tree.Stmt} {c : tree.Expr}
-        {b : List tree.Stmt}
+    with : (i j k : Leaf) {w x y z : List Lexeme} {s : Option tree.Stmt}
+        {c : tree.Expr} {b : List tree.Stmt}
         {e : Option tree.Stmt} {end : Leaf}
         → IsClause true w s → IsExpr true 1 x c → IsStmts y b end → IsElse z e
         → IsIf (tok If i ∷ (w ++ tok Semicolon j ∷ (x ++ tok OpenBrace k ∷ (y ++ z))))
@@ -268,8 +268,8 @@ mutual
         → IsStmts y b end
         → IsFor (tok For i ∷ (x ++ tok OpenBrace k ∷ y))
         (tree.For tree.no_clause c tree.no_clause (stmts_of b) i.at)
-    three : (i j k m : Leaf) {u v w y : List Lexeme} {s p : Option tree.Stmt} {c : Option tree.Expr}
-        {b : List tree.Stmt}
+    three : (i j k m : Leaf) {u v w y : List Lexeme} {s p : Option tree.Stmt}
+        {c : Option tree.Expr} {b : List tree.Stmt}
         {end : Leaf}
         → IsClause true u s → IsCondition v c → IsClause false w p → IsStmts y b end
         → IsFor (tok For i
@@ -302,8 +302,8 @@ pub data IsDecl : List Lexeme → tree.Decl → Type 0 where
   vars : (i j : Leaf) {y : List Lexeme} {bs : List Binding}
       → Listed IsBinding Semicolon CloseParen y bs
       → IsDecl (tok Var i ∷ tok OpenParen j ∷ y) (tree.Vars bs i.at)
-  func : (i j k m end : Leaf) {x y z : List Lexeme} {ps : List Binding} {r : Option tree.TypeExpr}
-      {b : List tree.Stmt}
+  func : (i j k m end : Leaf) {x y z : List Lexeme} {ps : List Binding}
+      {r : Option tree.TypeExpr} {b : List tree.Stmt}
       → Listed IsBinding Comma CloseParen x ps → IsResult y r → IsStmts z b end
       → IsDecl (tok Func i ∷ tok Name j ∷ tok OpenParen k ∷ (x ++ (y ++ tok OpenBrace m ∷ z)))
       (tree.Func (record

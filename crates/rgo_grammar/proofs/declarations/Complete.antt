@@ -1,13 +1,12 @@
 -- Declarations and whole programs of the grammar are read as such.
-use Rattle.std.proofs.Common.{◌≡◌, ℕ, zero, suc, inl, inr, false, List, [], ◌∷◌, ◌++◌, Option, Some, refl, append_assoc, append-nil, ◌+◌, ◌-◌}
+use Rattle.std.proofs.Common.{◌≡◌, ℕ, zero, suc, inl, inr, false, List, [], ◌∷◌, ◌++◌, Option, Some, refl, append_assoc, append-nil}
 use Rattle.rgo_ast.specs.declared.names.ImportPath.{ImportPath}
 use Rattle.rgo_ast.specs.Tree.{Binding, TypeSpec}
 use Rattle.rgo_ast.specs.Tree as tree
 use Rattle.rgo_lexer.specs.{declared.terminals.Terminal.{Terminal, TheVariants.{Name, Text, OpenParen, CloseParen, OpenBrace, CloseBrace, Comma, Semicolon, Import}}, Lexemes.{Leaf, Lexeme, tok, same}}
 use Rattle.rgo_grammar.specs.Grammar.{IsPath, IsImport, IsTypeSpec, IsResult, IsBinding, IsType, IsStmts, IsDecl, IsProgram, Listed, Each, Each.{none as no_more, next}}
-use Rattle.rgo_grammar.specs.reading.{Read.{Reader, Done, ◌>>=◌, given, first_of, single, several}, Types.{a_type, binding}, Declarations.{group_by, group, import_path, type_spec, result_on, function, func, decls_on, decls, imports_by, imports_on, imports, program}}
+use Rattle.rgo_grammar.specs.reading.{Read.{Reader, Done, ◌>>=◌, given, first_of, single}, Types.{a_type, binding}, Declarations.{group_by, group, import_path, type_spec, result_on, function, func, decls_on, decls, imports_by, imports_on, imports, program}}
 use Rattle.rgo_grammar.specs.Grammar as g
-use Rattle.rgo_grammar.proofs.machine.Table.{rest}
 use Rattle.rgo_grammar.proofs.reading.{Complete.{Meets, meets_trans, meets_bind, meets_then, Opens, listed_complete, not_true}, Next.{begins_append}}
 use Rattle.rgo_grammar.proofs.types.Complete.{type_complete, binding_complete, binding_opens, bindings_complete}
 use Rattle.rgo_grammar.proofs.statements.Complete.{block_complete}
@@ -38,11 +37,10 @@ module _ {A : Type 0} (n : ℕ) (Item : List Lexeme → A → Type 0) (item : Re
   pub group_list : (j : Leaf) (y : List Lexeme) (all : List A) (l : List Lexeme)
       → Listed Item Semicolon CloseParen y all
       → Meets (group item n (tok OpenParen j ∷ (y ++ l))) (Done all l)
-  unfolding several
   group_list j y all l d =
       let h = listed_complete Semicolon CloseParen refl Item item
-      (λ x a h. opens CloseParen (refl, refl) x a h) (λ x a h k i m s. reads x a h (tok k i ∷ m)) d
-      n [] l in
+      (λ x a h. opens CloseParen (refl, refl) x a h)
+      (λ x a h k i m s. reads x a h (tok k i ∷ m)) d n [] l in
       meets_bind _ h.1
 
 -- ---- imports
@@ -157,8 +155,8 @@ module _ (n : ℕ) where
   decl_complete (g.types i k {y} {ss} d) found again j l =
       meets_then _
       (meets_bind _
-      (group_list n IsTypeSpec (type_spec n) spec_opens (spec_reads n) k y ss (tok Semicolon j ∷ l)
-      d)) (inr refl)
+      (group_list n IsTypeSpec (type_spec n) spec_opens (spec_reads n) k y ss
+      (tok Semicolon j ∷ l) d)) (inr refl)
   decl_complete (g.var i {x} {b} h) found again j l =
       meets_then _
       (meets_bind _
@@ -171,8 +169,8 @@ module _ (n : ℕ) where
       (inr refl)
   decl_complete (g.func i j k m end {x} {y} {z} {ps} {r} {b} p q s) found again s' l =
       rw (append_assoc, append_assoc)
-      (meets_then _ (func_complete i j k m end x y z ps r b (tok Semicolon s' ∷ l) p q s)
-      (inr refl))
+      (meets_then _
+      (func_complete i j k m end x y z ps r b (tok Semicolon s' ∷ l) p q s) (inr refl))
 
   decls_complete : {x : List Lexeme} {all : List tree.Decl} → Each IsDecl x all
       → (m : ℕ) (found : List tree.Decl) → Meets (decls n m found x) (Done (found ++ all) [])
@@ -185,8 +183,8 @@ module _ (n : ℕ) where
       meets_trans (decl_complete p found (decls n m) j y)
       (rw (append_assoc found (a ∷ []) all) at rest)
 
-  decl_starts : {x : List Lexeme} {d : tree.Decl} → IsDecl x d → (l : List Lexeme)
-      → NoImport (x ++ l)
+  decl_starts : {x : List Lexeme} {d : tree.Decl} → IsDecl x d
+      → (l : List Lexeme) → NoImport (x ++ l)
   decl_starts (g.type i h) l = refl
   decl_starts (g.types i j d) l = refl
   decl_starts (g.var i h) l = refl

@@ -26,8 +26,8 @@ pub import_correct : (n : ℕ) (i : Leaf) (l : List Lexeme) → length l ≤ n
     → Empties (Paths ∷ []) (λ z d. IsImport (tok Import i ∷ z) d) l (import_decl n i l)
 import_correct n i l h =
     correct_given _
-    (group_correct {L = PathList} import_path (length l) (λ m _. path_correct m)
-    (list_syms refl refl refl refl refl refl) refl refl n l h (omega arith))
+    (group_correct {L = PathList} import_path (length l)
+    (λ m _. path_correct m) (list_syms refl refl refl refl refl refl) refl refl n l h (omega arith))
     (λ z ps w d. import_of z i ps d)
 
 -- ---- types
@@ -48,13 +48,14 @@ types_of z i ss (inl (s, e, h)) = rw e (g.type i h)
 types_of z i ss (inr (j, y, e, h)) = rw e (g.types i j h)
 
 pub types_correct : (n : ℕ) (i : Leaf) (m : List Lexeme) → length m ≤ n
-    → Empties (Specs ∷ []) (λ z d. IsDecl (tok TypeWord i ∷ z) d) m
+    → Empties (Specs ∷ [])
+    (λ z d. IsDecl (tok TypeWord i ∷ z) d) m
     (group (type_spec n) n m >>= given (λ ss. tree.Types ss i.at))
 types_correct n i m h =
     correct_given _
-    (group_correct {L = SpecList} (type_spec n) (length m) (λ l e. spec_correct n l (omega arith))
-    (list_syms refl refl refl refl refl refl) refl refl n m h (omega arith))
-    (λ z ss w d. types_of z i ss d)
+    (group_correct {L = SpecList} (type_spec n) (length m)
+    (λ l e. spec_correct n l (omega arith)) (list_syms refl refl refl refl refl refl) refl refl n m
+    h (omega arith)) (λ z ss w d. types_of z i ss d)
 
 -- ---- variables
 
@@ -64,19 +65,19 @@ vars_of z i bs (inl (b, e, h)) = rw e (g.var i h)
 vars_of z i bs (inr (j, y, e, h)) = rw e (g.vars i j h)
 
 pub vars_correct : (n : ℕ) (i : Leaf) (m : List Lexeme) → length m < n
-    → Empties (Vars ∷ []) (λ z d. IsDecl (tok Var i ∷ z) d) m
-    (group (binding n) n m >>= given (λ bs. tree.Vars bs i.at))
+    → Empties (Vars ∷ [])
+    (λ z d. IsDecl (tok Var i ∷ z) d) m (group (binding n) n m >>= given (λ bs. tree.Vars bs i.at))
 vars_correct n i m h =
     correct_given _
-    (group_correct {L = VarList} (binding n) (length m) (λ l e. binding_correct n l (omega arith))
-    (list_syms refl refl refl refl refl refl) refl refl n m (omega arith) (omega arith))
-    (λ z bs w d. vars_of z i bs d)
+    (group_correct {L = VarList} (binding n) (length m)
+    (λ l e. binding_correct n l (omega arith)) (list_syms refl refl refl refl refl refl) refl refl n
+    m (omega arith) (omega arith)) (λ z bs w d. vars_of z i bs d)
 
 -- ---- functions
 
 result_by_correct : (n : ℕ) (k : Terminal) (i : Leaf) (m : List Lexeme) → length m + 1 < n
-    → Correct (Result ∷ []) (λ _. Block ∷ []) (λ z r w. IsResult z r) (tok k i ∷ m)
-    (result_by n k (tok k i ∷ m))
+    → Correct (Result ∷ []) (λ _. Block ∷ [])
+    (λ z r w. IsResult z r) (tok k i ∷ m) (result_by n k (tok k i ∷ m))
 unfolding run step
 result_by_correct n OpenBrace i m h = done [] refl g.none (λ s. refl)
 result_by_correct n k i m h =
@@ -95,8 +96,8 @@ module _ (n : ℕ) where
       correct_given _ (block_correct n l h) (λ z b w d. rw d.2 (g.func i j k d.0 b.1 p q d.3))
 
   pub func_correct : (i : Leaf) (l : List Lexeme) → 4 * length l + 4 ≤ n
-      → Empties (T Name ∷ T OpenParen ∷ Params ∷ Result ∷ []) (λ z d. IsDecl (tok Func i ∷ z) d) l
-      (func n i l)
+      → Empties (T Name ∷ T OpenParen ∷ Params ∷ Result ∷ [])
+      (λ z d. IsDecl (tok Func i ∷ z) d) l (func n i l)
   func_correct i l h =
       correct_token_then Name refl
       (λ j w c. correct_token_then OpenParen refl

@@ -1,5 +1,5 @@
 -- Reading whole programs is correct.
-use Rattle.std.proofs.Common.{◌≡◌, ℕ, zero, suc, ◌+◌, ◌*◌, ◌<◌, ◌≤◌, List, [], ◌∷◌, ◌++◌, length, refl, sym, ◌∙◌, ap, append_assoc, arith, append-nil, ◌-◌}
+use Rattle.std.proofs.Common.{◌≡◌, ℕ, zero, suc, ◌+◌, ◌*◌, ◌<◌, ◌≤◌, List, [], ◌∷◌, ◌++◌, length, refl, sym, ◌∙◌, ap, append_assoc, arith, append-nil}
 use Rattle.rgo_ast.specs.Tree as tree
 use Rattle.rgo_lexer.specs.{declared.terminals.Terminal.{Terminal, TheVariants.{Main, Semicolon, Package, Import, TypeWord, Var, Func}}, Lexemes.{same, Leaf, Lexeme, tok}}
 use Rattle.rgo_grammar.specs.Grammar.{IsImport, IsDecl, IsProgram, Each}
@@ -135,7 +135,8 @@ module _ (n : ℕ) where
       (found : List tree.Import) (k : Terminal) (i : Leaf) (m : List Lexeme) → length m ≤ n
       → ((ds : List tree.Import) (w : List Lexeme) → length w ≤ length m
       → Correct (Imports ∷ []) (λ _. Imports ∷ []) (ImportsAfter ds) w (again ds w))
-      → Correct (Imports ∷ []) (λ _. Imports ∷ []) (ImportsAfter found) (tok k i ∷ m)
+      → Correct (Imports ∷ [])
+      (λ _. Imports ∷ []) (ImportsAfter found) (tok k i ∷ m)
       (imports_by n again found k i (tok k i ∷ m) m)
   unfolding run step
   imports_by_correct again found Import i m h hi =

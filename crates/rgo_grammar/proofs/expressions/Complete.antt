@@ -4,14 +4,14 @@ use Rattle.rgo_ast.specs.declared.names.Ident.{Ident}
 use Rattle.rgo_ast.specs.Tree as tree
 use Rattle.rgo_lexer.specs.{declared.terminals.Terminal.{Terminal, TheVariants.{Name, Binary, OpenParen, OpenBracket, CloseBracket, CloseBrace, Comma, Colon, Dot, CloseParen}}, Lexemes.{Leaf, Lexeme, tok, ident}}
 use Rattle.rgo_grammar.specs.Grammar.{level, IsExpr, IsUnary, IsPrimary, IsExprs, IsElements, IsExpr.{unary as of_unary, binary}, IsUnary.{signed, literal, keyed, primary as of_primary}, IsPrimary.{number, text, name, parens, new, make_slice, make_chan, make_sized, select, index, call}, IsExprs.{none, last, more}, IsElements.{no_element, last_element, more_elements}}
-use Rattle.rgo_grammar.specs.reading.{Read.{Done, several}, Expressions.{exprs, exprs_from, element, elements_from, expr, climb, unary, primary, post}}
-use Rattle.rgo_grammar.proofs.machine.Table.{closer, header, rest, both}
-use Rattle.rgo_grammar.proofs.reading.{Complete.{Meets, meets_trans, meets_bind, meets_then}, Next.{next_also, begins_append}}
+use Rattle.rgo_grammar.specs.reading.{Read.{Done}, Expressions.{exprs, exprs_from, element, elements_from, expr, climb, unary, primary, post}}
+use Rattle.rgo_grammar.proofs.machine.Table.{both}
+use Rattle.rgo_grammar.proofs.reading.{Complete.{Meets, meets_trans, meets_bind, meets_then, items_last, items_more, items_none}, Next.{next_also, begins_append}}
 use Rattle.rgo_grammar.proofs.types.Complete.{type_complete}
-use Rattle.rgo_grammar.proofs.expressions.{Starts.{top, expr_starts, primary_begins}, Ends.{Unposted, EndsExpr, finished, operated, selected, indexed_at, called_at, post_done, signed_by, unsigned_at}, Parts.{Closer, brace_closer, items_last, items_more, items_none, paren_closer, capacity_at, elements_keyed, ended_value, keyed_here, sized_end}, Second.{exprs_unkeyed}}
+use Rattle.rgo_grammar.proofs.expressions.{Starts.{top, expr_starts, primary_begins}, Ends.{Unposted, EndsExpr, finished, operated, selected, indexed_at, called_at, post_done, signed_by, unsigned_at}, Parts.{Closer, brace_closer, paren_closer, capacity_at, elements_keyed, ended_value, keyed_here, sized_end}, Second.{exprs_unkeyed}}
 
 mutual
-  unfolding expr several
+  unfolding expr
 
   primary_complete : {x : List Lexeme} {v : tree.Expr} → IsPrimary x v → (n : ℕ) (l : List Lexeme)
       → (m : ℕ) × Meets (primary n (x ++ l)) (post m v l)
@@ -96,8 +96,8 @@ mutual
   formula_complete (of_unary {header} {x} {v} u) (suc n) p l a t e =
       (n, meets_bind _ (unary_complete u n l e))
   formula_complete (binary {header} o i {x} {y} {a} {b} le f g) (suc n) p l s t e =
-      let first = formula_complete f (suc n) p (tok (Binary o) i ∷ (y ++ l)) (omega arith)
-      (omega arith) refl in
+      let first = formula_complete f (suc n) p (tok (Binary o) i ∷ (y ++ l))
+      (omega arith) (omega arith) refl in
       let rest = operated header p o i a b y first.0 l (omega arith) (omega arith)
       (λ m. formula_complete g m (level o + 1) l (omega arith) (omega arith) e) in (
         rest.0,
@@ -110,18 +110,18 @@ mutual
       → (j : Leaf) × Meets (exprs_from closer n (expr false m 1) found (y ++ l))
       (Done (found ++ vs, j) l)
   exprs_found (none {closer} j) c m n found l =
-      items_none closer c.other (expr false m 1) n found j l
+      items_none Comma closer c.other (expr false m 1) n found j l
   exprs_found (last {closer} j {x} {v} f) c m n found l =
       let h = finished false m x (c.loose, c.unposted)
       (formula_complete f m 1 (tok closer j ∷ l) (omega arith)) in
       rw append_assoc
-      (items_last closer c.other (expr false m 1) n found v j x l
+      (items_last Comma closer c.other (expr false m 1) n found v j x l
       (next_also x (expr_starts f) c.closes) h)
   exprs_found (more {closer} j {x} {y} {v} {vs} f d) c m n found l =
       let h = finished false m x (omega arith, refl)
       (formula_complete f m 1 (tok Comma j ∷ (y ++ l)) (omega arith)) in
       rw append_assoc
-      (items_more closer c.other (expr false m 1) n found vs v j x y l
+      (items_more Comma closer c.other (expr false m 1) n found vs v j x y l
       (next_also x (expr_starts f) c.closes) h (λ k us. exprs_found d c m k us l))
 
   elements_found : {y : List Lexeme} {es : List (Ident × tree.Expr)} → IsElements y es
@@ -129,20 +129,20 @@ mutual
       → (j : Leaf) × Meets (elements_from n (expr false m 1) found (y ++ l))
       (Done (found ++ es, j) l)
   elements_found (no_element j) m n found l =
-      items_none CloseBrace refl (element (expr false m 1)) n found j l
+      items_none Comma CloseBrace refl (element (expr false m 1)) n found j l
   elements_found (last_element i c j {x} {v} f) m n found l =
       let h = meets_bind _
       (finished false m x (omega arith, refl)
       (formula_complete f m 1 (tok CloseBrace j ∷ l) (omega arith))) in
       rw append_assoc
-      (items_last CloseBrace refl (element (expr false m 1)) n found (ident i, v) j
+      (items_last Comma CloseBrace refl (element (expr false m 1)) n found (ident i, v) j
       (tok Name i ∷ tok Colon c ∷ x) l refl h)
   elements_found (more_elements i c j {x} {y} {v} {vs} f d) m n found l =
       let h = meets_bind _
       (finished false m x (omega arith, refl)
       (formula_complete f m 1 (tok Comma j ∷ (y ++ l)) (omega arith))) in
       rw append_assoc
-      (items_more CloseBrace refl (element (expr false m 1)) n found vs (ident i, v) j
+      (items_more Comma CloseBrace refl (element (expr false m 1)) n found vs (ident i, v) j
       (tok Name i ∷ tok Colon c ∷ x) y l refl h (λ k us. elements_found d m k us l))
 
 pub expr_complete : {h : Bool} {x : List Lexeme} {v : tree.Expr} → IsExpr h 1 x v

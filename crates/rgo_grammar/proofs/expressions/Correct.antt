@@ -1,5 +1,5 @@
 -- Reading expressions is correct.
-use Rattle.std.proofs.Common.{◌≡◌, ℕ, zero, suc, ◌+◌, ◌*◌, ◌<◌, ◌≤◌, nat_le, Bool, true, false, cond, List, [], ◌∷◌, ◌++◌, length, Some, refl, ◌∙◌, append_assoc, arith, append-nil, ◌-◌}
+use Rattle.std.proofs.Common.{◌≡◌, ℕ, zero, suc, ◌+◌, ◌*◌, ◌<◌, ◌≤◌, nat_le, Bool, true, false, cond, List, [], ◌∷◌, ◌++◌, length, Some, refl, ◌∙◌, append_assoc, arith, append-nil}
 use Rattle.std.proofs.lemmas.Bool.{leb-true, leb-false}
 use Rattle.rgo_ast.specs.declared.ops.{BinaryOp.{BinaryOp}, UnaryOp.{UnaryOp}}
 use Rattle.rgo_ast.specs.declared.ops.BinaryOp.TheVariants as op
@@ -20,23 +20,20 @@ pub correct_popped : {A : Type 0} {h : Bool} {from : List Sym}
 correct_popped {h = h} (done z {a} {w} c p g) = done z c p.0 (λ s. g s ∙ bin_pops h w s p.1)
 correct_popped (stops g) = stops g
 
-abbrev IsUnaryAt : Bool → List Lexeme → tree.Expr → List Lexeme → Type 0
-IsUnaryAt h z v w = IsUnary h z v
-
 signed_correct : (h : Bool) (again : Reader tree.Expr) (k : Terminal) (o : UnaryOp) (i : Leaf)
     (l : List Lexeme) → sign k ≡ Some o
     → ((s : List Sym) → run (tok k i ∷ l) (Unary h ∷ s) ≡ run l (Unary h ∷ s))
-    → Correct (Unary h ∷ []) (λ _. []) (IsUnaryAt h) l (again l)
-    → Correct (Unary h ∷ []) (λ _. []) (IsUnaryAt h) (tok k i ∷ l) (signed again o i l)
+    → Empties (Unary h ∷ []) (IsUnary h) l (again l)
+    → Empties (Unary h ∷ []) (IsUnary h) (tok k i ∷ l) (signed again o i l)
 signed_correct h again k o i l e r g =
     token_read (correct_given _ g (λ z v w u. with_sign k o i e u)) r
 
 unary_by_correct : (h : Bool) (n : ℕ) (inner again primary : Reader tree.Expr) (k : Terminal)
     (i : Leaf) (l : List Lexeme) → length l < n
     → ((m : List Lexeme) → length m ≤ length l → Reads inner m)
-    → Correct (Unary h ∷ []) (λ _. []) (IsUnaryAt h) l (again l)
+    → Empties (Unary h ∷ []) (IsUnary h) l (again l)
     → (unsigned k ≡ true → Empties (Unary h ∷ []) IsPrimary (tok k i ∷ l) (primary (tok k i ∷ l)))
-    → Correct (Unary h ∷ []) (λ _. []) (IsUnaryAt h) (tok k i ∷ l)
+    → Empties (Unary h ∷ []) (IsUnary h) (tok k i ∷ l)
     (unary_by h n inner again primary k i (tok k i ∷ l) l)
 unfolding run step
 unary_by_correct h n inner again primary (Binary op.Add) i l b hi ha hp =
@@ -60,13 +57,14 @@ IsExprAt h least x z v w = IsExpr h least (x ++ z) v × (top w < least)
 operator_correct : (h : Bool) (right : ℕ → Reader tree.Expr) (again : tree.Expr → Reader tree.Expr)
     (least : ℕ) (a : tree.Expr) (x : List Lexeme) (o : BinaryOp) (i : Leaf) (l : List Lexeme)
     → least ≤ level o
-    → Correct (Unary h ∷ Bin h ∷ []) (λ _. Bin h ∷ []) (IsExprAt h (level o + 1) []) l
-    (right (level o + 1) l)
+    → Correct (Unary h ∷ Bin h ∷ [])
+    (λ _. Bin h ∷ []) (IsExprAt h (level o + 1) []) l (right (level o + 1) l)
     → ((b : tree.Expr) (y m : List Lexeme) → IsExpr h least y b → IsExpr h (top m) y b
     → length m ≤ length l
     → Correct (Bin h ∷ []) (λ _. Bin h ∷ []) (IsExprAt h least y) m (again b m))
     → IsExpr h (level o) x a
-    → Correct (Bin h ∷ []) (λ _. Bin h ∷ []) (IsExprAt h least x) (tok (Binary o) i ∷ l)
+    → Correct (Bin h ∷ [])
+    (λ _. Bin h ∷ []) (IsExprAt h least x) (tok (Binary o) i ∷ l)
     (right (level o + 1) l >>= (λ b. again (tree.Binary o a b i.at)))
 operator_correct h right again least a x o i l le hr ha f =
     token_read (correct_bind hr
@@ -83,11 +81,14 @@ climb_by_correct : (h : Bool) (right : ℕ → Reader tree.Expr) (again : tree.E
     → ((b : tree.Expr) (y m : List Lexeme) → IsExpr h least y b → IsExpr h (top m) y b
     → length m ≤ length l
     → Correct (Bin h ∷ []) (λ _. Bin h ∷ []) (IsExprAt h least y) m (again b m))
-    → Correct (Bin h ∷ []) (λ _. Bin h ∷ []) (IsExprAt h least x) (tok k i ∷ l)
+    → Correct (Bin h ∷ [])
+    (λ _. Bin h ∷ []) (IsExprAt h least x) (tok k i ∷ l)
     (climb_by right again least a k i (tok k i ∷ l) l)
 climb_by_correct h right again least a x (Binary o) i l one f g hr ha =
-    elim (nat_le least (level o)) as (λ v. nat_le least (level o) ≡ v
-    → Correct (Bin h ∷ []) (λ _. Bin h ∷ []) (IsExprAt h least x) (tok (Binary o) i ∷ l)
+    elim (nat_le least (level o)) as
+    (λ v. nat_le least (level o) ≡ v
+    → Correct (Bin h ∷ [])
+    (λ _. Bin h ∷ []) (IsExprAt h least x) (tok (Binary o) i ∷ l)
     (cond v (right (level o + 1) l >>= (λ b. again (tree.Binary o a b i.at)))
     (Done a (tok (Binary o) i ∷ l)))) [
       | true ↦ λ is. operator_correct h right again least a x o i l (leb-true least (level o) is)
@@ -127,7 +128,8 @@ mutual
   unary_correct h (suc n) [] b = stops (λ s. refl)
   unary_correct h (suc n) (t ∷ l) b =
       unary_by_correct h n (expr false n 1) (unary h n) (primary n) t.terminal t.leaf l
-      (omega arith) (λ m g. correct_popped (expr_correct false n 1 m (omega arith) (omega arith)))
+      (omega arith)
+      (λ m g. correct_popped (expr_correct false n 1 m (omega arith) (omega arith)))
       (unary_correct h n l (omega arith)) (λ u. primary_correct h n t l u (omega arith))
 
   pub primary_correct : (h : Bool) (n : ℕ) (t : Lexeme) (l : List Lexeme)
@@ -160,8 +162,8 @@ value_correct h n l b = correct_popped (expr_correct h n 1 l (omega arith) b)
 
 -- an argument list after its `(`
 pub args_correct : (n : ℕ) (l : List Lexeme) → 4 * length l + 3 ≤ n
-    → Empties (Args ∷ []) (λ z x. IsExprs CloseParen z x.0) l
-    (exprs CloseParen n (expr false n 1) l)
+    → Empties (Args ∷ [])
+    (λ z x. IsExprs CloseParen z x.0) l (exprs CloseParen n (expr false n 1) l)
 args_correct n l b =
-    arg_list (length l) (expr false n 1) (λ m g. value_correct false n m (omega arith)) n l
-    (omega arith) (omega arith)
+    arg_list (length l) (expr false n 1)
+    (λ m g. value_correct false n m (omega arith)) n l (omega arith) (omega arith)

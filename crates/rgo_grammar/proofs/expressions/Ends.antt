@@ -1,6 +1,6 @@
 -- Where an expression ends, and how one is read that a token follows: operators, selections,
 -- indexes, calls, signs.
-use Rattle.std.proofs.Common.{◌≡◌, ℕ, zero, suc, ◌+◌, ◌<◌, ◌≤◌, inl, inr, Bool, true, false, List, [], ◌∷◌, ◌++◌, Some, refl, arith, ◌-◌}
+use Rattle.std.proofs.Common.{◌≡◌, ℕ, zero, suc, ◌+◌, ◌<◌, ◌≤◌, inl, inr, Bool, true, false, List, [], ◌∷◌, ◌++◌, Some, refl, arith}
 use Rattle.std.proofs.lemmas.Bool.{le-leb, lt-leb}
 use Rattle.rgo_ast.specs.declared.ops.{BinaryOp.{BinaryOp}, UnaryOp.{UnaryOp}}
 use Rattle.rgo_ast.specs.Tree.{exprs_of}
@@ -10,7 +10,7 @@ use Rattle.rgo_ast.specs.Tree as tree
 use Rattle.rgo_lexer.specs.{declared.terminals.Terminal.{Terminal, TheVariants.{Name, Binary, Bang, Ampersand, Arrow, OpenParen, CloseParen, OpenBracket, CloseBracket, Dot}}, Lexemes.{Leaf, Lexeme, tok, ident}}
 use Rattle.rgo_grammar.specs.Grammar.{level, sign}
 use Rattle.rgo_grammar.specs.reading.{Read.{Reader, Done}, Expressions.{exprs, signed, unary_by, post_by, climb_by, expr, climb, unary, primary, post}}
-use Rattle.rgo_grammar.proofs.reading.{Complete.{Meets, meets_trans, meets_bind, meets_then}, Correct.Correct.{done}, Next.{IsNext, NotNext}}
+use Rattle.rgo_grammar.proofs.reading.{Complete.{Meets, meets_trans, meets_bind, meets_then}, Next.{IsNext, NotNext}}
 use Rattle.rgo_grammar.proofs.expressions.Starts.{level_of, top, unsigned}
 
 -- what continues a primary expression

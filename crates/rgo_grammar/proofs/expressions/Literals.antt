@@ -7,7 +7,7 @@ use Rattle.rgo_lexer.specs.{declared.terminals.Terminal.{Terminal, TheVariants.{
 use Rattle.rgo_grammar.specs.Grammar.{Listed, IsExpr, IsUnary, IsElements, Listed.{none as none_item, last as last_item, more as next_item}, IsUnary.{literal, keyed as with_keys}, IsElements.{no_element, last_element, more_elements}}
 use Rattle.rgo_grammar.specs.reading.{Read.{Reader, ◌>>=◌, given, ended, listed, single, several}, Expressions.{element, elements_from, is_keyed, keyed, unkeyed, elements, literal as read_literal}}
 use Rattle.rgo_grammar.proofs.machine.{Table.{Sym, T, Unary, Bin, Elems, ElemsMore, KeyedMore, step, ElemsEnd, ElemsNamed, Post, then_all, bin_row, find, joined, next, post_row, row}, Runs.{run, closes}, Starts.{after_name, alike, name_ends}}
-use Rattle.rgo_grammar.proofs.reading.{Correct.{Correct, same_start, correct_given, correct_weaker, correct_token_then, Empties}, Complete.{bind_assoc}, Lists.{list_syms, token_list}}
+use Rattle.rgo_grammar.proofs.reading.{Correct.{same_start, correct_given, correct_weaker, correct_token_then, Empties}, Complete.{bind_assoc}, Lists.{list_syms, token_list}}
 use Rattle.rgo_grammar.proofs.expressions.{Starts.{Reads}, Operands.{exprs_correct}}
 
 -- ---- where no key comes first
@@ -41,11 +41,8 @@ unkeyed_run (t ∷ l) s e = unkeyed_first t.terminal t.leaf l s e
 
 abbrev pub IsElement : List Lexeme → Ident × tree.Expr → Type 0
 IsElement z e =
-    (i c : Leaf) × (x : List Lexeme) × (z ≡ tok Name i ∷ tok Colon c ∷ x) × (e.0 ≡ ident i) × IsExpr
-    false 1 x e.1
-
-abbrev AnElement : List Lexeme → Ident × tree.Expr → List Lexeme → Type 0
-AnElement z e w = IsElement z e
+    (i c : Leaf) × (x : List Lexeme) × (z ≡ tok Name i ∷ tok Colon c ∷ x)
+    × (e.0 ≡ ident i) × IsExpr false 1 x e.1
 
 elements_listed : {z : List Lexeme} {es : List (Ident × tree.Expr)}
     → Listed IsElement Comma CloseBrace z es → IsElements z es
@@ -84,8 +81,8 @@ keyed_named i (t ∷ l) e =
     let k : t.terminal ≡ Colon = keyed_second t.terminal i t.leaf l
     e in (i, t.leaf, l, rw (← k) refl)
 
-keyed_first : (k : Terminal) (i : Leaf) (l : List Lexeme) → is_keyed (tok k i ∷ l) ≡ true
-    → HasKey (tok k i ∷ l)
+keyed_first : (k : Terminal) (i : Leaf) (l : List Lexeme)
+    → is_keyed (tok k i ∷ l) ≡ true → HasKey (tok k i ∷ l)
 keyed_first Name i l e = keyed_named i l e
 keyed_first _ i l e = cc
 
@@ -94,8 +91,8 @@ has_key [] e = cc
 has_key (t ∷ l) e = keyed_first t.terminal t.leaf l e
 
 key_run : (i c : Leaf) (m : List Lexeme) (s : List Sym)
-    → run (tok Name i ∷ tok Colon c ∷ m) (Elems ∷ s) ≡ run (tok Name i ∷ tok Colon c ∷ m)
-    (KeyedMore ∷ s)
+    → run (tok Name i ∷ tok Colon c ∷ m) (Elems ∷ s) ≡ run
+    (tok Name i ∷ tok Colon c ∷ m) (KeyedMore ∷ s)
 unfolding run step
 key_run i c m s = refl
 
@@ -118,8 +115,7 @@ keyed_list n inner i j t l e =
 module _ (bound : ℕ) (inner : Reader tree.Expr)
     (inner_c : (m : List Lexeme) → length m ≤ bound → Reads inner m) where
   element_correct : (l : List Lexeme) → length l ≤ bound
-      → Correct (T Name ∷ T Colon ∷ Unary false ∷ Bin false ∷ []) (λ _. []) AnElement l
-      (element inner l)
+      → Empties (T Name ∷ T Colon ∷ Unary false ∷ Bin false ∷ []) IsElement l (element inner l)
   element_correct l b =
       correct_token_then Name refl
       (λ i w d. correct_token_then Colon refl
@@ -127,18 +123,18 @@ module _ (bound : ℕ) (inner : Reader tree.Expr)
       (λ z v w h. (i, c, z, refl, refl, h))))
 
   -- after `& name {`
-  abbrev IsRest : Leaf → Leaf → Leaf → List Lexeme → tree.Expr → List Lexeme → Type 0
-  IsRest i j k z v w = IsUnary false (tok Ampersand i ∷ tok Name j ∷ tok OpenBrace k ∷ z) v
+  abbrev IsRest : Leaf → Leaf → Leaf → List Lexeme → tree.Expr → Type 0
+  IsRest i j k z v = IsUnary false (tok Ampersand i ∷ tok Name j ∷ tok OpenBrace k ∷ z) v
 
   keyed_correct : (n : ℕ) (i j k : Leaf) (l : List Lexeme) → length l < n → length l ≤ bound
-      → is_keyed l ≡ true → Correct (Elems ∷ []) (λ _. []) (IsRest i j k) l (keyed n inner i j l)
+      → is_keyed l ≡ true → Empties (Elems ∷ []) (IsRest i j k) l (keyed n inner i j l)
   unfolding several
   keyed_correct n i j k l h b e =
       let (a, c, m, p) = has_key l e in
       rw p (with_key a c m (omega (arith, ap length p)) (omega (arith, ap length p)))
     where
       with_key : (a c : Leaf) (m : List Lexeme) → length m + 2 < n → length m + 2 ≤ bound
-          → Correct (Elems ∷ []) (λ _. []) (IsRest i j k) (tok Name a ∷ tok Colon c ∷ m)
+          → Empties (Elems ∷ []) (IsRest i j k) (tok Name a ∷ tok Colon c ∷ m)
           (keyed n inner i j (tok Name a ∷ tok Colon c ∷ m))
       with_key a c m g b' =
           rw (keyed_list n inner i j (tok Name a) (tok Colon c ∷ m) refl)
@@ -153,24 +149,25 @@ module _ (bound : ℕ) (inner : Reader tree.Expr)
           (λ z x w d. keyed_rest i j k z x.0 d.0 d.1))
 
   unkeyed_correct : (n : ℕ) (i j k : Leaf) (l : List Lexeme) → length l < n → length l ≤ bound
-      → is_keyed l ≡ false → Correct (Elems ∷ []) (λ _. []) (IsRest i j k) l (unkeyed n inner i j l)
+      → is_keyed l ≡ false → Empties (Elems ∷ []) (IsRest i j k) l (unkeyed n inner i j l)
   unkeyed_correct n i j k l h b e =
       same_start (correct_given _
       (exprs_correct bound inner inner_c (list_syms refl refl refl refl refl refl) n l h b)
       (λ z x w d. literal i j k d)) (λ s. unkeyed_run l s e)
 
   elements_correct : (n : ℕ) (i j k : Leaf) (l : List Lexeme) → length l < n → length l ≤ bound
-      → Correct (Elems ∷ []) (λ _. []) (IsRest i j k) l (elements n inner i j l)
+      → Empties (Elems ∷ []) (IsRest i j k) l (elements n inner i j l)
   elements_correct n i j k l h b =
-      elim (is_keyed l) as (λ v. is_keyed l ≡ v
-      → Correct (Elems ∷ []) (λ _. []) (IsRest i j k) l
+      elim (is_keyed l) as
+      (λ v. is_keyed l ≡ v
+      → Empties (Elems ∷ []) (IsRest i j k) l
       (cond v (keyed n inner i j l) (unkeyed n inner i j l)))
       [ true ↦ λ e. keyed_correct n i j k l h b e | false ↦ λ e. unkeyed_correct n i j k l h b e ]
       refl
 
   pub literal_correct : (n : ℕ) (i : Leaf) (l : List Lexeme) → length l < n → length l ≤ bound
-      → Empties (T Name ∷ T OpenBrace ∷ Elems ∷ []) (λ z v. IsUnary false (tok Ampersand i ∷ z) v) l
-      (read_literal n inner i l)
+      → Empties (T Name ∷ T OpenBrace ∷ Elems ∷ [])
+      (λ z v. IsUnary false (tok Ampersand i ∷ z) v) l (read_literal n inner i l)
   literal_correct n i l h b =
       correct_token_then Name refl
       (λ j w c. correct_token_then OpenBrace refl

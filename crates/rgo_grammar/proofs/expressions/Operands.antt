@@ -1,13 +1,13 @@
 -- Reading a primary expression is correct, where reading expressions in brackets is: lists of them,
 -- `new` and `make`, what begins one, what follows it.
-use Rattle.std.proofs.Common.{◌≡◌, ℕ, ◌<◌, ◌≤◌, Bool, true, false, List, [], ◌∷◌, ◌++◌, length, refl, append_assoc, arith, append-nil, ◌+◌, ◌-◌, ap}
+use Rattle.std.proofs.Common.{◌≡◌, ℕ, ◌<◌, ◌≤◌, Bool, true, false, List, [], ◌∷◌, ◌++◌, length, refl, append_assoc, arith, append-nil, ap}
 use Rattle.rgo_ast.specs.Tree.{exprs_of}
 use Rattle.rgo_ast.specs.Tree as tree
 use Rattle.rgo_ast.specs.declared.ops.BinaryOp.TheVariants as op
 use Rattle.rgo_lexer.specs.{Lexemes.{Leaf, Lexeme, tok, ident}, declared.terminals.Terminal.{Terminal, TheVariants.{CloseParen, Comma, Name, New, Make, Number, Text, Binary, Bang, Ampersand, Arrow, OpenParen, OpenBracket, CloseBracket, Dot, Chan}}}
 use Rattle.rgo_grammar.specs.Grammar.{IsExprs.{none, last, more}, IsMakeEnd.{plain, comma}, IsPrimary.{new, make_slice as is_slice, make_chan, make_sized, number, text, name, parens as in_parens, select, index, call}, Listed.{none as none_item, last as last_item, more as next_item}, IsPrimary, IsType, IsMakeEnd, Listed, IsExpr, IsExprs}
 use Rattle.rgo_grammar.specs.reading.{Expressions.{exprs, make_end, make_end_by, capacity_by, sized_by, make_slice, made_by, new_at, parens, operand_by, post_by, made, capacity, sized}, Types.{a_type}, Read.{Reader}}
-use Rattle.rgo_grammar.proofs.machine.{Table.{Sym, Bin, Args, expr_row, T, Unary, Post, step, AType, MakeType, MakeSize, MakeMore, MakeEnd, closer}, Runs.{run}, Starts.{starts_as}}
+use Rattle.rgo_grammar.proofs.machine.{Table.{Sym, Bin, Args, expr_row, T, Unary, Post, step, AType, MakeType, MakeSize, MakeMore, MakeEnd}, Runs.{run}, Starts.{starts_as}}
 use Rattle.rgo_grammar.proofs.reading.{Correct.{Correct, same_start, correct_weaker, correct_under, token_read, correct_then, correct_token_then, correct_token_given, shorter, correct_given, correct_token, at_token, Empties, Correct.{done, stops}}, Lists.{ListSyms, list_correct, list_syms}}
 use Rattle.rgo_grammar.proofs.types.Correct.{type_correct}
 use Rattle.rgo_grammar.proofs.expressions.Starts.{Reads, unsigned}
@@ -27,8 +27,8 @@ make_end_correct : (l : List Lexeme) → Empties (MakeEnd ∷ []) (λ z j. IsMak
 make_end_correct l = at_token make_end refl refl (λ t m c. make_end_by_correct t.terminal t.leaf m)
 
 pub new_correct : (i : Leaf) (l : List Lexeme)
-    → Empties (T OpenParen ∷ T Name ∷ T CloseParen ∷ []) (λ z v. IsPrimary (tok New i ∷ z) v) l
-    (new_at i l)
+    → Empties (T OpenParen ∷ T Name ∷ T CloseParen ∷ [])
+    (λ z v. IsPrimary (tok New i ∷ z) v) l (new_at i l)
 new_correct i l =
     correct_token_then OpenParen refl
     (λ j w c. correct_token_then Name refl
@@ -63,14 +63,13 @@ module _ (bound : ℕ) (inner : Reader tree.Expr)
   -- ---- `make`
 
   -- after `make ( chan Type ,`
-  abbrev IsSized : Leaf → Leaf → Leaf → Leaf → List Lexeme → List Lexeme → tree.Expr → List Lexeme
-      → Type 0
-  IsSized i j k c x z v w =
+  abbrev IsSized : Leaf → Leaf → Leaf → Leaf → List Lexeme → List Lexeme → tree.Expr → Type 0
+  IsSized i j k c x z v =
       IsPrimary (tok Make i ∷ tok OpenParen j ∷ tok Chan k ∷ (x ++ tok Comma c ∷ z)) v
 
   capacity_by_correct : (i j k c : Leaf) (x : List Lexeme) (t : tree.TypeExpr) (q : Terminal)
       (d : Leaf) (l : List Lexeme) → IsType x t → length l < bound
-      → Correct (MakeMore ∷ []) (λ _. []) (IsSized i j k c x) (tok q d ∷ l)
+      → Empties (MakeMore ∷ []) (IsSized i j k c x) (tok q d ∷ l)
       (capacity_by inner t i q (tok q d ∷ l) l)
   unfolding run step
   capacity_by_correct i j k c x t CloseParen d l h b =
@@ -78,16 +77,16 @@ module _ (bound : ℕ) (inner : Reader tree.Expr)
   capacity_by_correct i j k c x t q d l h b =
       same_start (correct_then (inner_c (tok q d ∷ l) (omega arith))
       (λ y v w _ hy. correct_given _ (make_end_correct w) (λ z _ u hz. make_sized i j k c h hy hz)))
-      (λ s. starts_as MakeMore (Unary false) (Bin false ∷ MakeEnd ∷ []) (tok q d) l s refl refl
-      refl)
+      (λ s. starts_as MakeMore (Unary false) (Bin false ∷ MakeEnd ∷ [])
+      (tok q d) l s refl refl refl)
 
   -- after `make ( chan Type`
-  abbrev IsChan : Leaf → Leaf → Leaf → List Lexeme → List Lexeme → tree.Expr → List Lexeme → Type 0
-  IsChan i j k x z v w = IsPrimary (tok Make i ∷ tok OpenParen j ∷ tok Chan k ∷ (x ++ z)) v
+  abbrev IsChan : Leaf → Leaf → Leaf → List Lexeme → List Lexeme → tree.Expr → Type 0
+  IsChan i j k x z v = IsPrimary (tok Make i ∷ tok OpenParen j ∷ tok Chan k ∷ (x ++ z)) v
 
   sized_by_correct : (i j k : Leaf) (x : List Lexeme) (t : tree.TypeExpr) (q : Terminal) (d : Leaf)
       (l : List Lexeme) → IsType x t → length l < bound
-      → Correct (MakeSize ∷ []) (λ _. []) (IsChan i j k x) (tok q d ∷ l)
+      → Empties (MakeSize ∷ []) (IsChan i j k x) (tok q d ∷ l)
       (sized_by inner t i q (tok q d ∷ l) l)
   unfolding run step
   sized_by_correct i j k x t CloseParen d l h b =
@@ -99,14 +98,13 @@ module _ (bound : ℕ) (inner : Reader tree.Expr)
   sized_by_correct i j k x t q d l h b = stops (λ s. refl)
 
   -- after `make ( [ ] Type`
-  abbrev IsSlice : Leaf → Leaf → Leaf → Leaf → List Lexeme → List Lexeme → tree.Expr → List Lexeme
-      → Type 0
-  IsSlice i j k m x z v w =
+  abbrev IsSlice : Leaf → Leaf → Leaf → Leaf → List Lexeme → List Lexeme → tree.Expr → Type 0
+  IsSlice i j k m x z v =
       IsPrimary (tok Make i ∷ tok OpenParen j ∷ tok OpenBracket k ∷ tok CloseBracket m ∷ (x ++ z)) v
 
   slice_correct : (i j k m : Leaf) (x : List Lexeme) (t : tree.TypeExpr) (l : List Lexeme)
       → IsType x t → length l ≤ bound
-      → Correct (T Comma ∷ Unary false ∷ Bin false ∷ MakeEnd ∷ []) (λ _. []) (IsSlice i j k m x) l
+      → Empties (T Comma ∷ Unary false ∷ Bin false ∷ MakeEnd ∷ []) (IsSlice i j k m x) l
       (make_slice inner i t l)
   slice_correct i j k m x t l h b =
       correct_token_then Comma refl
@@ -114,14 +112,13 @@ module _ (bound : ℕ) (inner : Reader tree.Expr)
       (λ y v u _ hy. correct_given _ (make_end_correct u) (λ z _ _ hz. is_slice i j k m c h hy hz)))
 
   -- after `make (`
-  abbrev IsMade : Leaf → Leaf → List Lexeme → tree.Expr → List Lexeme → Type 0
-  IsMade i j z v w = IsPrimary (tok Make i ∷ tok OpenParen j ∷ z) v
+  abbrev IsMade : Leaf → Leaf → List Lexeme → tree.Expr → Type 0
+  IsMade i j z v = IsPrimary (tok Make i ∷ tok OpenParen j ∷ z) v
 
   made_by_correct : (n : ℕ) → bound < n → (i j : Leaf) (q : Terminal) (d : Leaf) (l : List Lexeme)
       → length l < bound
       → ((m : List Lexeme) → length m < n → Empties (AType ∷ []) IsType m (a_type n m))
-      → Correct (MakeType ∷ []) (λ _. []) (IsMade i j) (tok q d ∷ l)
-      (made_by n inner i q (tok q d ∷ l) l)
+      → Empties (MakeType ∷ []) (IsMade i j) (tok q d ∷ l) (made_by n inner i q (tok q d ∷ l) l)
   unfolding run step
   made_by_correct n big i j OpenBracket d l b type_c =
       token_read (correct_token_then CloseBracket refl
@@ -147,8 +144,8 @@ module _ (bound : ℕ) (inner : Reader tree.Expr)
   pub operand_by_correct : (n : ℕ) → bound < n
       → (h : Bool) (k : Terminal) (i : Leaf) (l : List Lexeme) → length l ≤ bound
       → unsigned k ≡ true
-      → Correct (Unary h ∷ []) (λ _. Post ∷ []) (λ z v w. IsPrimary z v) (tok k i ∷ l)
-      (operand_by n inner k i (tok k i ∷ l) l)
+      → Correct (Unary h ∷ []) (λ _. Post ∷ [])
+      (λ z v w. IsPrimary z v) (tok k i ∷ l) (operand_by n inner k i (tok k i ∷ l) l)
   unfolding run step
   operand_by_correct n big h (Binary op.Add) i l b u = cc
   operand_by_correct n big h (Binary op.Sub) i l b u = cc
@@ -178,8 +175,8 @@ module _ (bound : ℕ) (inner : Reader tree.Expr)
       (i : Leaf) (l : List Lexeme) → length l ≤ bound → IsPrimary x v
       → ((u : tree.Expr) (y m : List Lexeme) → IsPrimary y u → length m ≤ length l
       → Empties (Post ∷ []) (λ z u. IsPrimary (y ++ z) u) m (again u m))
-      → Empties (Post ∷ []) (λ z u. IsPrimary (x ++ z) u) (tok k i ∷ l)
-      (post_by n inner again v k i (tok k i ∷ l) l)
+      → Empties (Post ∷ [])
+      (λ z u. IsPrimary (x ++ z) u) (tok k i ∷ l) (post_by n inner again v k i (tok k i ∷ l) l)
   unfolding run step
   post_by_correct n big again v x Dot i l b h ha =
       token_read (correct_token_then Name refl

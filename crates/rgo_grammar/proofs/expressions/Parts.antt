@@ -1,14 +1,13 @@
 -- Parts of expressions in the grammar are read as their trees, where expressions are: `new ( .. )`
 -- and `make ( .. )`, items of lists, and the literals around them.
-use Rattle.std.proofs.Common.{◌≡◌, ℕ, suc, inr, true, false, List, ◌∷◌, ◌++◌, refl, ap, arith, ◌+◌, [], ◌<◌, append_assoc, append-nil, ◌-◌}
+use Rattle.std.proofs.Common.{◌≡◌, ℕ, suc, inr, true, false, List, ◌∷◌, ◌++◌, refl, ap, arith, [], ◌<◌}
 use Rattle.rgo_ast.specs.declared.names.Ident.{Ident}
 use Rattle.rgo_ast.specs.Tree.{elements_of}
 use Rattle.rgo_ast.specs.Tree as tree
 use Rattle.rgo_lexer.specs.{declared.terminals.Terminal.{Terminal, TheVariants.{Name, CloseParen, Comma, CloseBrace, Colon}}, Lexemes.{Leaf, Lexeme, tok, ident, same}}
 use Rattle.rgo_grammar.specs.Grammar.{IsMakeEnd, IsElements, IsMakeEnd.{plain, comma}, IsElements.{no_element, last_element, more_elements}}
-use Rattle.rgo_grammar.specs.reading.{Read.{Reader, Done, ◌>>=◌, given, listed, single}, Expressions.{make_end, capacity, capacity_by, sized, expr, elements_from, elements}}
-use Rattle.rgo_grammar.proofs.machine.Table.{rest}
-use Rattle.rgo_grammar.proofs.reading.{Complete.{Meets, meets_bind, meets_then, meets_trans, Opens, listed_none, listed_last, listed_more}, Next.{begins_append}}
+use Rattle.rgo_grammar.specs.reading.{Read.{Reader, Done, ◌>>=◌, given}, Expressions.{make_end, capacity, capacity_by, sized, expr, elements_from, elements}}
+use Rattle.rgo_grammar.proofs.reading.Complete.{Meets, meets_then}
 use Rattle.rgo_grammar.proofs.expressions.{Starts.{Starts, starts, level_of, Closes, paren_closes, brace_closes}, Ends.{EndsExpr, ReadsAs, posts}, Literals.{keyed_list}}
 
 make_end_done : {z : List Lexeme} → IsMakeEnd z → (l : List Lexeme)
@@ -62,45 +61,6 @@ paren_closer = record { closes = paren_closes; other = refl; loose = omega arith
 
 pub brace_closer : Closer CloseBrace
 brace_closer = record { closes = brace_closes; other = refl; loose = omega arith; unposted = refl }
-
--- items of a list
-module _ {A : Type 0} (closer : Terminal) (other : same closer Comma ≡ false) (item : Reader A)
-  where
-    pub items_none : (n : ℕ) (found : List A) (j : Leaf) (l : List Lexeme)
-        → (j' : Leaf) × Meets
-        (listed Comma closer (λ m. single (item m)) n found (tok closer j ∷ l))
-        (Done (found ++ [], j') l)
-    items_none n found j l =
-        (j, rw append-nil (listed_none Comma closer other (λ m. single (item m)) n found j l))
-
-    pub items_last : (n : ℕ) (found : List A) (a : A) (j : Leaf) (x l : List Lexeme)
-        → Opens closer x → Meets (item (x ++ tok closer j ∷ l)) (Done a (tok closer j ∷ l))
-        → (j' : Leaf) × Meets
-        (listed Comma closer (λ m. single (item m)) n found (x ++ tok closer j ∷ l))
-        (Done (found ++ a ∷ [], j') l)
-    items_last n found a j x l o h = (
-      j,
-      listed_last Comma closer other (λ m. single (item m)) n found (a ∷ []) j x l
-          (begins_append _ x (tok closer j ∷ l) o) (meets_bind _ h),
-    )
-
-    pub items_more : (n : ℕ) (found all : List A) (a : A) (i : Leaf) (x y l : List Lexeme)
-        → Opens closer x
-        → Meets (item (x ++ tok Comma i ∷ (y ++ l))) (Done a (tok Comma i ∷ (y ++ l)))
-        → ((m : ℕ) (f : List A)
-        → (j : Leaf) × Meets (listed Comma closer (λ m. single (item m)) m f (y ++ l))
-        (Done (f ++ all, j) l))
-        → (j : Leaf) × Meets
-        (listed Comma closer (λ m. single (item m)) n found (x ++ tok Comma i ∷ (y ++ l)))
-        (Done (found ++ a ∷ all, j) l)
-    items_more n found all a i x y l o h again =
-        let one = listed_more Comma closer other (λ m. single (item m)) n found (a ∷ []) i x
-        (y ++ l) (begins_append _ x (tok Comma i ∷ (y ++ l)) o) (meets_bind _ h) in
-        let rest = again one.0 (found ++ a ∷ []) in
-        let rest' = rw append_assoc at rest.1 in (
-          rest.0,
-          meets_trans one.1 rest',
-        )
 
 pub elements_keyed : {y : List Lexeme} {e : Ident × tree.Expr} {es : List (Ident × tree.Expr)}
     (t : List (Ident × tree.Expr)) → IsElements y t → t ≡ e ∷ es → (l : List Lexeme)

@@ -1,5 +1,5 @@
 -- The second token of an expression that begins with a name: `.`, `[`, `(` or an operator.
-use Rattle.std.proofs.Common.{◌≡◌, ℕ, Bool, false, List, [], ◌∷◌, ◌++◌, Some, refl, append_assoc, ◌+◌}
+use Rattle.std.proofs.Common.{◌≡◌, ℕ, Bool, false, List, [], ◌∷◌, ◌++◌, Some, refl, append_assoc}
 use Rattle.rgo_ast.specs.declared.ops.{BinaryOp.{BinaryOp}, UnaryOp.{UnaryOp}}
 use Rattle.rgo_ast.specs.Tree as tree
 use Rattle.rgo_lexer.specs.{declared.terminals.Terminal.{Terminal, TheVariants.{Name, Binary, OpenParen, OpenBracket, CloseBracket, CloseBrace, Comma, Colon, Dot}}, Lexemes.{Leaf, Lexeme, tok, same}}
@@ -41,12 +41,12 @@ signed_second test _ o l e = tt
 
 module _ (test : Terminal → Bool) (apart : Apart test) where
   mutual
-    pub second_not : {h : Bool} {p : ℕ} {x : List Lexeme} {v : tree.Expr} → IsExpr h p x v
-        → SecondNot test x
+    pub second_not : {h : Bool} {p : ℕ} {x : List Lexeme} {v : tree.Expr}
+        → IsExpr h p x v → SecondNot test x
     second_not (unary u) = unary_second u
     second_not (binary o i {x} {y} l f g) =
-        second_append test x (tok (Binary o) i ∷ y) (expr_starts f) (second_not f)
-        (apart.operator o)
+        second_append test x (tok (Binary o) i ∷ y) (expr_starts f)
+        (second_not f) (apart.operator o)
 
     unary_second : {h : Bool} {x : List Lexeme} {v : tree.Expr} → IsUnary h x v → SecondNot test x
     unary_second (signed k o i {x} s u) = signed_second test k o x s
@@ -64,8 +64,8 @@ module _ (test : Terminal → Bool) (apart : Apart test) where
     primary_second (make_chan i j k t e) = tt
     primary_second (make_sized i j k c t f e) = tt
     primary_second (select i j {x} p) =
-        second_append test x (tok Dot i ∷ tok Name j ∷ []) (primary_starts p) (primary_second p)
-        apart.dot
+        second_append test x (tok Dot i ∷ tok Name j ∷ []) (primary_starts p)
+        (primary_second p) apart.dot
     primary_second (index i j {x} {y} p f) =
         second_append test x (tok OpenBracket i ∷ (y ++ tok CloseBracket j ∷ [])) (primary_starts p)
         (primary_second p) apart.bracket

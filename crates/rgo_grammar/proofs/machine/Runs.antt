@@ -1,6 +1,6 @@
 -- The machine over lists of tokens: each stack that it reaches can be emptied by some text, and
 -- where it stops, it stops whatever follows.
-use Rattle.std.proofs.Common.{◌≡◌, Bool, true, false, ◌&&◌, cond, not, List, [], ◌∷◌, ◌++◌, Option, Some, None, refl, ◌∙◌, ap, append_assoc, inl, inr, ◌⊎◌, nat_eq, ◌+◌, ◌-◌}
+use Rattle.std.proofs.Common.{◌≡◌, Bool, true, false, ◌&&◌, cond, not, List, [], ◌∷◌, ◌++◌, Option, Some, None, refl, ◌∙◌, ap, append_assoc, inl, inr, ◌⊎◌, nat_eq}
 use Rattle.std.proofs.lemmas.Bool.{eqb-true}
 use Rattle.rgo_lexer.specs.{declared.terminals.Terminal.{Terminal}, Lexemes.{Leaf, Lexeme, tok, class, subclass, same}}
 use Rattle.rgo_grammar.proofs.machine.Table.{Sym, Row, row, nullable, word, opens, closer, find, next, entered, step, closes_first, leads, fine, all_entries, and_then, after, all_nullable, entries_fine, skips, settled, both, join}
@@ -68,7 +68,8 @@ unfolding leads
 leads_append [] s true h e = e
 leads_append [] s false h e = cc
 leads_append (y ∷ b) s o h e =
-    elim (nullable y) as (λ v. cond v (leads b o) (closes_first (word y)) ≡ true
+    elim (nullable y) as
+    (λ v. cond v (leads b o) (closes_first (word y)) ≡ true
     → cond v (leads (b ++ s) true) (closes_first (word y)) ≡ true)
     [ true ↦ λ d. leads_append b s o d e | false ↦ λ d. d ] h
 
@@ -100,8 +101,8 @@ step_fine_by x s k r None ne f ih e =
     elim (nullable x) as (λ v. cond v (step s k) None ≡ Some r → fine r true ≡ true)
     [ true ↦ ih | false ↦ λ d. cc ] e
 
-step_fine : (s : List Sym) (k : Terminal) (r : List Sym) → fine s true ≡ true → step s k ≡ Some r
-    → fine r true ≡ true
+step_fine : (s : List Sym) (k : Terminal) (r : List Sym) → fine s true ≡ true
+    → step s k ≡ Some r → fine r true ≡ true
 unfolding step fine
 step_fine [] k r f e = cc
 step_fine (x ∷ s) k r f e =
@@ -146,8 +147,8 @@ step_append_by : (a s b : List Sym) (x : Sym) (k : Terminal) (n : Option (List S
     → entered n (a ++ s) (cond (nullable x) (step (a ++ s) k) None) ≡ Some (b ++ s)
 step_append_by a s b x k (Some c) ih e = let f : c ++ a ≡ b = cc in rw (← f, append_assoc) refl
 step_append_by a s b x k None ih e =
-    elim (nullable x) as (λ v. cond v (step a k) None ≡ Some b
-    → cond v (step (a ++ s) k) None ≡ Some (b ++ s))
+    elim (nullable x) as
+    (λ v. cond v (step a k) None ≡ Some b → cond v (step (a ++ s) k) None ≡ Some (b ++ s))
     [ true ↦ ih | false ↦ λ d. cc ] e
 
 step_append : (a s b : List Sym) (k : Terminal) → step a k ≡ Some b
@@ -192,8 +193,8 @@ ended : run [] [] ≡ Accepted
 unfolding run closes
 ended = refl
 
-unless : (v : Bool) (s : List Sym) → v ≡ true → cond v (leads s true) true ≡ true
-    → leads s true ≡ true
+unless : (v : Bool) (s : List Sym) → v ≡ true
+    → cond v (leads s true) true ≡ true → leads s true ≡ true
 unless true s e h = h
 unless false s e h = cc
 

@@ -1,6 +1,6 @@
 -- What the machine does at a symbol, by the symbol's row: it takes a token, stops, or does the same
 -- as at another symbol.
-use Rattle.std.proofs.Common.{◌≡◌, Bool, true, false, cond, List, [], ◌∷◌, ◌++◌, Option, Some, None, refl, append_assoc, ◌+◌}
+use Rattle.std.proofs.Common.{◌≡◌, Bool, true, false, cond, List, [], ◌∷◌, ◌++◌, Option, Some, None, refl, append_assoc}
 use Rattle.rgo_lexer.specs.{declared.terminals.Terminal.{Terminal}, Lexemes.{Leaf, Lexeme, tok, same}}
 use Rattle.rgo_grammar.proofs.machine.{Table.{Sym, T, Bin, Post, Row, then_all, joined, post_row, bin_row, row, nullable, find, next, entered, step}, Runs.{Stopped, advance, run, closes}}
 

@@ -1,7 +1,7 @@
 -- The grammar as the table of a machine that takes one token at a time, with a stack of what is
 -- still to come: for each symbol of the stack a row, which tells for each token what takes the
 -- place of the symbol.
-use Rattle.std.proofs.Common.{◌≡◌, Bool, true, false, cond, not, List, [], ◌∷◌, ◌++◌, Option, Some, None, refl, inl, inr, ◌⊎◌, ◌==◌, ◌||◌, ◌&&◌, nat_le, ◌+◌, ◌-◌}
+use Rattle.std.proofs.Common.{◌≡◌, Bool, true, false, cond, not, List, [], ◌∷◌, ◌++◌, Option, Some, None, refl, inl, inr, ◌⊎◌, ◌==◌, ◌||◌, ◌&&◌, nat_le}
 use Rattle.std.proofs.lemmas.Bool.{eq-eqb}
 use Rattle.rgo_ast.specs.declared.ops.BinaryOp.TheVariants as op
 use Rattle.rgo_ast.specs.declared.ops.AssignOp.TheVariants as assign_op
@@ -380,8 +380,8 @@ empty_or : (s : List Sym) (b : Bool) → cond (empty s) true b ≡ true → (s �
 empty_or [] b e = inl refl
 empty_or (x ∷ s) b e = inr e
 
-settled_by : (x : Sym) (o : Option (List Sym)) → after (word x) (x ∷ []) ≡ o → settles x o ≡ true
-    → Settles x
+settled_by : (x : Sym) (o : Option (List Sym)) → after (word x) (x ∷ []) ≡ o
+    → settles x o ≡ true → Settles x
 settled_by x None a e = cc
 settled_by x (Some s) a e =
     let h = both e in record

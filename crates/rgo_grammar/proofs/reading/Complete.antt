@@ -1,10 +1,10 @@
 -- What is proved of the grammar: what it derives is read as its tree. And how such facts are put
 -- together.
-use Rattle.std.proofs.Common.{◌≡◌, ℕ, zero, suc, ◌⊎◌, inl, inr, false, List, [], ◌∷◌, ◌++◌, refl, ◌∙◌, ap, append_assoc, append-nil, ◌+◌, ◌-◌, Bool, true, not}
+use Rattle.std.proofs.Common.{◌≡◌, ℕ, zero, suc, ◌⊎◌, inl, inr, false, List, [], ◌∷◌, ◌++◌, refl, ◌∙◌, ap, append_assoc, append-nil, Bool, true, not}
 use Rattle.rgo_lexer.specs.{declared.terminals.Terminal.{Terminal}, Lexemes.{Leaf, Lexeme, tok, same}}
 use Rattle.rgo_grammar.specs.Grammar.{Listed, Listed.{none, last, more}}
-use Rattle.rgo_grammar.specs.reading.Read.{Reader, Read, Done, Failed, Starving, ◌>>=◌, ended, listed, single}
-use Rattle.rgo_grammar.proofs.machine.Table.{same_self, rest, closer}
+use Rattle.rgo_grammar.specs.reading.Read.{several, Reader, Read, Done, Failed, Starving, ◌>>=◌, ended, listed, single}
+use Rattle.rgo_grammar.proofs.machine.Table.{same_self, closer}
 use Rattle.rgo_grammar.proofs.reading.Next.{IsNext, begins_append}
 
 -- the same, unless the bound on the turns was too small
@@ -77,6 +77,44 @@ module _ {A : Type 0} (separator closer : Terminal) (other : same closer separat
         (meets_then _ h (inr (rw (other, same_self) refl))),
   )
 
+-- items that are read one by one
+module _ {A : Type 0} (separator closer : Terminal) (other : same closer separator ≡ false)
+    (item : Reader A) where
+  pub items_none : (n : ℕ) (found : List A) (j : Leaf) (l : List Lexeme)
+      → (j' : Leaf) × Meets (several separator closer item n found (tok closer j ∷ l))
+      (Done (found ++ [], j') l)
+  unfolding several
+  items_none n found j l =
+      (j, rw append-nil (listed_none separator closer other (λ m. single (item m)) n found j l))
+
+  pub items_last : (n : ℕ) (found : List A) (a : A) (j : Leaf) (x l : List Lexeme) → Opens closer x
+      → Meets (item (x ++ tok closer j ∷ l)) (Done a (tok closer j ∷ l))
+      → (j' : Leaf) × Meets (several separator closer item n found (x ++ tok closer j ∷ l))
+      (Done (found ++ a ∷ [], j') l)
+  unfolding several
+  items_last n found a j x l o h = (
+    j,
+    listed_last separator closer other
+        (λ m. single (item m)) n found (a ∷ []) j x l
+        (begins_append _ x (tok closer j ∷ l) o) (meets_bind _ h),
+  )
+
+  pub items_more : (n : ℕ) (found all : List A) (a : A) (i : Leaf) (x y l : List Lexeme)
+      → Opens closer x
+      → Meets (item (x ++ tok separator i ∷ (y ++ l))) (Done a (tok separator i ∷ (y ++ l)))
+      → ((m : ℕ) (f : List A)
+      → (j : Leaf) × Meets (several separator closer item m f (y ++ l)) (Done (f ++ all, j) l))
+      → (j : Leaf) × Meets (several separator closer item n found (x ++ tok separator i ∷ (y ++ l)))
+      (Done (found ++ a ∷ all, j) l)
+  unfolding several
+  items_more n found all a i x y l o h again =
+      let one = listed_more separator closer other
+      (λ m. single (item m)) n found (a ∷ []) i x (y ++ l)
+      (begins_append _ x (tok separator i ∷ (y ++ l)) o) (meets_bind _ h) in
+      let rest = again one.0 (found ++ a ∷ []) in
+      let rest' = rw append_assoc at rest.1 in
+      (rest.0, meets_trans one.1 rest')
+
 -- a list in the grammar is read as its items, if each item is that is followed by a separator or by
 -- what closes the list
 module _ {A : Type 0} (separator closer : Terminal) (other : same closer separator ≡ false)
@@ -88,23 +126,14 @@ module _ {A : Type 0} (separator closer : Terminal) (other : same closer separat
     → Meets (item (x ++ tok k j ∷ l)) (Done a (tok k j ∷ l))) where
   pub listed_complete : {y : List Lexeme} {all : List A} → Listed Item separator closer y all
       → (n : ℕ) (found : List A) (l : List Lexeme)
-      → (j : Leaf) × Meets (listed separator closer (λ m. single (item m)) n found (y ++ l))
+      → (j : Leaf) × Meets (several separator closer item n found (y ++ l))
       (Done (found ++ all, j) l)
-  listed_complete (none j) n found l =
-      (j, rw append-nil (listed_none separator closer other (λ m. single (item m)) n found j l))
-  listed_complete (last j {x} {a} h) n found l = (
-    j,
-    rw append_assoc
-        (listed_last separator closer other (λ m. single (item m)) n found (a ∷ []) j x l
-        (begins_append _ x (tok closer j ∷ l) (opens x a h))
-        (meets_bind _ (reads x a h closer j l (inr refl)))),
-  )
+  listed_complete (none j) n found l = items_none separator closer other item n found j l
+  listed_complete (last j {x} {a} h) n found l =
+      rw append_assoc
+      (items_last separator closer other item n found a j x l (opens x a h)
+      (reads x a h closer j l (inr refl)))
   listed_complete (more i {x} {y} {a} {all} h d) n found l =
-      let one = listed_more separator closer other (λ m. single (item m)) n found (a ∷ []) i x
-      (y ++ l) (begins_append _ x (tok separator i ∷ (y ++ l)) (opens x a h))
-      (meets_bind _ (reads x a h separator i (y ++ l) (inl refl))) in
-      let rest = listed_complete d one.0 (found ++ a ∷ []) l in
-      let rest' = rw append_assoc at rest.1 in (
-        rest.0,
-        rw append_assoc (meets_trans one.1 rest'),
-      )
+      rw append_assoc
+      (items_more separator closer other item n found all a i x y l (opens x a h)
+      (reads x a h separator i (y ++ l) (inl refl)) (λ m f. listed_complete d m f l))

@@ -1,6 +1,6 @@
 -- What is proved of each reading function: what it reads is in the grammar; the machine takes the
 -- same tokens, or stops at the same one; its turns are enough. And how such facts are put together.
-use Rattle.std.proofs.Common.{◌≡◌, ℕ, ◌+◌, ◌==◌, ◌||◌, ◌&&◌, nat_le, Bool, true, false, cond, get_or, List, [], ◌∷◌, ◌++◌, length, refl, sym, ◌∙◌, ap, append_assoc, arith, length-append, ◌-◌}
+use Rattle.std.proofs.Common.{◌≡◌, ℕ, ◌+◌, ◌==◌, ◌||◌, ◌&&◌, nat_le, Bool, true, false, cond, get_or, List, [], ◌∷◌, ◌++◌, length, refl, sym, ◌∙◌, ap, append_assoc, arith, length-append}
 use Rattle.rgo_lexer.specs.{declared.terminals.Terminal.{Terminal, TheVariants.{Name, Main, New, Make, Number, Text, Binary, Bang, Ampersand, Arrow, Define, Assign, Step, OpenParen, CloseParen, OpenBracket, CloseBracket, OpenBrace, CloseBrace, Comma, Semicolon, Colon, Dot, Package, Import, TypeWord, Struct, Var, Func, Chan, Go, If, Else, For, Return, Break, Continue, Other}}, Lexemes.{Leaf, Lexeme, tok, class, same, plain}}
 use Rattle.rgo_grammar.specs.reading.Read.{Reader, Read, Done, Failed, At, ◌>>=◌, given, token}
 use Rattle.rgo_grammar.proofs.machine.{Table.{Sym, T, step, same_self, nullable}, Runs.{Stopped, run, closes, same_class}, Starts.{stays}}
@@ -17,8 +17,8 @@ pub data Correct {A : Type 0} (from : List Sym) (to : A → List Sym)
       → Correct from to P l (Failed (At w))
 
 -- the same where nothing of `from` is left, and P speaks of what was read alone
-abbrev pub Empties : {A : Type 0} → List Sym → (List Lexeme → A → Type 0) → List Lexeme → Read A
-    → Type 0
+abbrev pub Empties : {A : Type 0} → List Sym → (List Lexeme → A → Type 0)
+    → List Lexeme → Read A → Type 0
 Empties from P l r = Correct from (λ _. []) (λ z a w. P z a) l r
 
 -- after tokens z that lead from one stack to another
@@ -124,8 +124,8 @@ abbrev pub IsToken : Terminal → List Lexeme → Leaf → List Lexeme → Type 
 IsToken k z i w = z ≡ tok k i ∷ []
 
 token_by : (k j : Terminal) (i : Leaf) (l : List Lexeme) (v : Bool) → plain k ≡ true → same k j ≡ v
-    → Correct (T k ∷ []) (λ _. []) (IsToken k) (tok j i ∷ l)
-    (cond v (Done i l) (Failed (At (tok j i ∷ l))))
+    → Correct (T k ∷ [])
+    (λ _. []) (IsToken k) (tok j i ∷ l) (cond v (Done i l) (Failed (At (tok j i ∷ l))))
 token_by k j i l true p e =
     let is : j ≡ k = same_plain k j p e in
     done (tok j i ∷ []) refl (rw is refl) (λ s. rw is (take_token k i l s))

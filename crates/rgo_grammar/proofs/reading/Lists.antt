@@ -1,5 +1,5 @@
 -- Reading lists and groups is correct, where reading an item is.
-use Rattle.std.proofs.Common.{◌≡◌, ℕ, zero, suc, ◌+◌, ◌<◌, ◌≤◌, ◌⊎◌, inl, inr, Bool, true, false, cond, List, [], ◌∷◌, ◌++◌, length, refl, sym, ◌∙◌, append_assoc, arith, append-nil, ◌-◌}
+use Rattle.std.proofs.Common.{◌≡◌, ℕ, zero, suc, ◌+◌, ◌<◌, ◌≤◌, ◌⊎◌, inl, inr, Bool, true, false, cond, List, [], ◌∷◌, ◌++◌, length, refl, sym, ◌∙◌, append_assoc, arith, append-nil}
 use Rattle.rgo_lexer.specs.{declared.terminals.Terminal.{Terminal, TheVariants.{OpenParen, CloseParen, Semicolon}}, Lexemes.{Leaf, Lexeme, tok, same, plain}}
 use Rattle.rgo_grammar.specs.Grammar.{Listed, Listed.{none, last, more}}
 use Rattle.rgo_grammar.specs.reading.{Read.{Reader, Done, Failed, At, ◌>>=◌, ended, listed, single, several}, Declarations.{group_by, group}}
@@ -38,8 +38,8 @@ module _ {A : Type 0} {separator closer : Terminal} {items : Row} {L E : Sym}
     → Correct (L ∷ []) (λ _. E ∷ []) (λ z a w. I z a) (t ∷ l) (item (t ∷ l)))
     (r_none : (j : Leaf) → R (tok closer j ∷ []) [] j)
     (r_last : (z : List Lexeme) (a : List A) (j : Leaf) → I z a → R (z ++ tok closer j ∷ []) a j)
-    (r_more : (z : List Lexeme) (a : List A) (i : Leaf) (y : List Lexeme) (b : List A) (j : Leaf)
-    → I z a → R y b j
+    (r_more : (z : List Lexeme) (a : List A) (i : Leaf) (y : List Lexeme) (b : List A)
+    (j : Leaf) → I z a → R y b j
     → R (z ++ tok separator i ∷ y) (a ++ b) j) where
   -- what was found after `found`, up to what closes the list
   abbrev pub AreListed : List A → List Lexeme → List A × Leaf → List Lexeme → Type 0
@@ -50,7 +50,8 @@ module _ {A : Type 0} {separator closer : Terminal} {items : Row} {L E : Sym}
       → same separator k ≡ s → l ≡ z ++ tok k i ∷ w → I z new
       → ((f : List A) → same separator k ≡ true
       → Correct (L ∷ []) (λ _. []) (AreListed f) w (again f w))
-      → Correct (E ∷ []) (λ _. []) (λ x b u. AreListed found (z ++ x) b u) (tok k i ∷ w)
+      → Correct (E ∷ []) (λ _. [])
+      (λ x b u. AreListed found (z ++ x) b u) (tok k i ∷ w)
       (cond c (Done (found ++ new, i) w)
       (cond s (again (found ++ new) w) (Failed (At (tok k i ∷ w)))))
   ended_by again found new l z k i w true s ce se e h ih =
@@ -71,8 +72,8 @@ module _ {A : Type 0} {separator closer : Terminal} {items : Row} {L E : Sym}
       (l z w : List Lexeme) → l ≡ z ++ w → I z new
       → ((f : List A) (m : List Lexeme) → length m < length w
       → Correct (L ∷ []) (λ _. []) (AreListed f) m (again f m))
-      → Correct (E ∷ []) (λ _. []) (λ x b u. AreListed found (z ++ x) b u) w
-      (ended separator closer again (found ++ new) w)
+      → Correct (E ∷ []) (λ _. [])
+      (λ x b u. AreListed found (z ++ x) b u) w (ended separator closer again (found ++ new) w)
   ended_correct again found new l z [] e h ih = stops (λ v. stays E v syms.end_stays)
   ended_correct again found new l z (t ∷ w) e h ih =
       ended_by again found new l z t.terminal t.leaf w (same closer t.terminal)
@@ -82,7 +83,8 @@ module _ {A : Type 0} {separator closer : Terminal} {items : Row} {L E : Sym}
       (l : List Lexeme) (c : Bool) → length l < bound → same closer k ≡ c
       → ((f : List A) (m : List Lexeme) → length m < length l + 1
       → Correct (L ∷ []) (λ _. []) (AreListed f) m (again f m))
-      → Correct (L ∷ []) (λ _. []) (AreListed found) (tok k i ∷ l)
+      → Correct (L ∷ [])
+      (λ _. []) (AreListed found) (tok k i ∷ l)
       (cond c (Done (found, i) l)
       (item (tok k i ∷ l) >>= λ a. ended separator closer again (found ++ a)))
   listed_by again found k i l true b ce ih =
@@ -125,8 +127,8 @@ pub list_correct : {A : Type 0} {separator closer : Terminal} {items : Row} {L E
     → ((t : Lexeme) (l : List Lexeme) → length l < bound → same closer t.terminal ≡ false
     → Correct (L ∷ []) (λ _. E ∷ []) (λ z a w. Item z a) (t ∷ l) (item (t ∷ l)))
     → (n : ℕ) (l : List Lexeme) → length l < n → length l ≤ bound
-    → Empties (L ∷ []) (λ z x. Listed Item separator closer z x.0) l
-    (several separator closer item n [] l)
+    → Empties (L ∷ [])
+    (λ z x. Listed Item separator closer z x.0) l (several separator closer item n [] l)
 unfolding several
 list_correct {separator = separator} {closer = closer} {Item = Item} item bound syms hi n l h b =
     correct_weaker
@@ -141,8 +143,8 @@ pub token_list : {A : Type 0} {separator closer k : Terminal} {a : List Sym} {L 
     → ((l : List Lexeme) → length l ≤ bound → Empties (T k ∷ a) Item l (item l))
     → ListSyms separator closer ((k, a ++ E ∷ []) ∷ []) L E → (n : ℕ) (l : List Lexeme)
     → length l < n → length l ≤ bound
-    → Empties (L ∷ []) (λ z x. Listed Item separator closer z x.0) l
-    (several separator closer item n [] l)
+    → Empties (L ∷ [])
+    (λ z x. Listed Item separator closer z x.0) l (several separator closer item n [] l)
 token_list {k = k} {a = a} {L = L} {E = E} item bound hi syms n l h b =
     list_correct item bound syms
     (λ t m g e. same_start (correct_under (E ∷ []) (hi (t ∷ m) (omega arith)))
@@ -153,8 +155,8 @@ token_list {k = k} {a = a} {L = L} {E = E} item bound hi syms n l h b =
 abbrev pub IsGroup : {A : Type 0} → (List Lexeme → A → Type 0) → List Lexeme → List A → Type 0
 IsGroup Item z l =
     IsOne Item z l
-    ⊎ ((j : Leaf) × (y : List Lexeme) × (z ≡ tok OpenParen j ∷ y) × Listed Item Semicolon CloseParen
-    y l)
+    ⊎ ((j : Leaf) × (y : List Lexeme) × (z ≡ tok OpenParen j ∷ y) × Listed Item
+    Semicolon CloseParen y l)
 
 module _ {A : Type 0} {k : Terminal} {a : List Sym} {G L E : Sym} {Item : List Lexeme → A → Type 0}
     (item : Reader A) (bound : ℕ)

@@ -1,5 +1,5 @@
 -- What comes next in a list of tokens, by a test of its terminal.
-use Rattle.std.proofs.Common.{◌≡◌, Bool, true, false, List, [], ◌∷◌, ◌++◌, ◌+◌}
+use Rattle.std.proofs.Common.{◌≡◌, Bool, true, false, List, [], ◌∷◌, ◌++◌}
 use Rattle.rgo_lexer.specs.{declared.terminals.Terminal.{Terminal}, Lexemes.{Lexeme}}
 
 -- nothing comes next, or what does not pass the test
@@ -27,7 +27,7 @@ pub next_append : (test : Terminal → Bool) (x z : List Lexeme) → NotNext tes
 next_append test [] z h g = g
 next_append test (t ∷ x) z h g = h
 
-pub begins_append : (test : Terminal → Bool) (x z : List Lexeme) → IsNext test x
-    → IsNext test (x ++ z)
+pub begins_append : (test : Terminal → Bool) (x z : List Lexeme)
+    → IsNext test x → IsNext test (x ++ z)
 begins_append test [] z h = absurd h
 begins_append test (t ∷ x) z h = h

@@ -31,8 +31,8 @@ IsConditionEnd z c w =
 
 module _ (m : ℕ) (value : Reader tree.Expr) (value_c : Values true m value) where
   condition_by_correct : (k : Terminal) (i : Leaf) (l : List Lexeme) → length l + 1 ≤ m
-      → Correct (Condition ∷ []) (λ _. ForStep ∷ []) IsConditionEnd (tok k i ∷ l)
-      (condition_by value k (tok k i ∷ l) l)
+      → Correct (Condition ∷ [])
+      (λ _. ForStep ∷ []) IsConditionEnd (tok k i ∷ l) (condition_by value k (tok k i ∷ l) l)
   unfolding run step
   condition_by_correct Semicolon i l b =
       done (tok Semicolon i ∷ []) refl ([], i, refl, unconditional) (λ s. refl)
@@ -40,8 +40,8 @@ module _ (m : ℕ) (value : Reader tree.Expr) (value_c : Values true m value) wh
       same_start (correct_then (value_c (tok k i ∷ l) (omega (arith, b)))
       (λ z v w e h. correct_under (ForStep ∷ [])
       (correct_token_given Semicolon _ refl (λ j u. (z, j, refl, on_condition h)))))
-      (λ s. starts_as Condition (Unary true) (Bin true ∷ T Semicolon ∷ ForStep ∷ []) (tok k i) l s
-      refl refl refl)
+      (λ s. starts_as Condition (Unary true) (Bin true ∷ T Semicolon ∷ ForStep ∷ [])
+      (tok k i) l s refl refl refl)
 
   step_valued : (l : List Lexeme) → length l ≤ m
       → Correct (Unary true ∷ Bin true ∷ Tail for_post ∷ []) (λ _. Block ∷ [])
@@ -51,15 +51,15 @@ module _ (m : ℕ) (value : Reader tree.Expr) (value_c : Values true m value) wh
       (λ z st w g. (g.0, λ s. left_before_block st w s g.1))
 
   step_by_correct : (k : Terminal) (i : Leaf) (l : List Lexeme) → length l + 1 ≤ m
-      → Correct (ForStep ∷ []) (λ _. Block ∷ []) (λ z p w. IsClause false z p) (tok k i ∷ l)
-      (step_by value k (tok k i ∷ l))
+      → Correct (ForStep ∷ []) (λ _. Block ∷ [])
+      (λ z p w. IsClause false z p) (tok k i ∷ l) (step_by value k (tok k i ∷ l))
   unfolding run step
   step_by_correct OpenBrace i l b = done [] refl empty (λ s. refl)
   step_by_correct k i l b =
       same_start (correct_given _ (step_valued (tok k i ∷ l) (omega (arith, b)))
       (λ z s w h. a_clause h))
-      (λ s. starts_as ForStep (Unary true) (Bin true ∷ Tail for_post ∷ []) (tok k i) l s refl refl
-      refl)
+      (λ s. starts_as ForStep (Unary true) (Bin true ∷ Tail for_post ∷ [])
+      (tok k i) l s refl refl refl)
 
 -- ---- `for`
 
@@ -102,13 +102,14 @@ module _ (m : ℕ) (value : Reader tree.Expr) (value_c : Values true m value)
       (at_token (λ w. step_on value w (first_of w)) refl refl
       (λ t n g. step_by_correct m value value_c t.terminal t.leaf n
       (omega (arith, b, shorter l z w ec, ap length g))))
-      (λ y p o eo hp. looped_correct (λ q t r. ForAt i x (z ++ (y ++ q)) t r) i o s c p
+      (λ y p o eo hp. looped_correct
+      (λ q t r. ForAt i x (z ++ (y ++ q)) t r) i o s c p
       (omega (arith, b, shorter l z w ec, shorter w y o eo))
       (λ n q bs end r d. three_of i j k y n e ez hs hc hp d)))
 
   for_by_correct : (i : Leaf) (k : Terminal) (j : Leaf) (l : List Lexeme) → length l + 1 ≤ m
-      → Correct (ForHead ∷ []) (λ _. []) (ForAt i []) (tok k j ∷ l)
-      (for_by block value i k (tok k j ∷ l))
+      → Correct (ForHead ∷ [])
+      (λ _. []) (ForAt i []) (tok k j ∷ l) (for_by block value i k (tok k j ∷ l))
   unfolding run step
   for_by_correct i OpenBrace j l b =
       same_start (looped_correct (ForAt i []) i (tok OpenBrace j ∷ l) None None None
@@ -118,18 +119,18 @@ module _ (m : ℕ) (value : Reader tree.Expr) (value_c : Values true m value)
       (λ z h w e d. for_rest_correct i z h w (omega (arith, b, shorter (tok k j ∷ l) z w e)) d)
 
   pub for_on_correct : (i : Leaf) (l : List Lexeme) → length l ≤ m
-      → Empties (ForHead ∷ []) (λ z s. IsFor (tok For i ∷ z) s) l
-      (for_on block value i l (first_of l))
+      → Empties (ForHead ∷ [])
+      (λ z s. IsFor (tok For i ∷ z) s) l (for_on block value i l (first_of l))
   for_on_correct i l b =
       at_token (λ w. for_on block value i w (first_of w)) refl refl
       (λ t n g. for_by_correct i t.terminal t.leaf n (omega (arith, b, ap length g)))
 
-abbrev ElseAt : List Lexeme → List Lexeme → Option tree.Stmt → List Lexeme → Type 0
-ElseAt x z e w = (j : Leaf) → IsElse (tok Else j ∷ (x ++ z)) e
+abbrev ElseAt : List Lexeme → List Lexeme → Option tree.Stmt → Type 0
+ElseAt x z e = (j : Leaf) → IsElse (tok Else j ∷ (x ++ z)) e
 
 -- the block that begins at this token
-abbrev BlockFrom : Leaf → List Lexeme → List tree.Stmt × Leaf → List Lexeme → Type 0
-BlockFrom i z x w = (y : List Lexeme) × (z ≡ tok OpenBrace i ∷ y) × IsStmts y x.0 x.1
+abbrev BlockFrom : Leaf → List Lexeme → List tree.Stmt × Leaf → Type 0
+BlockFrom i z x = (y : List Lexeme) × (z ≡ tok OpenBrace i ∷ y) × IsStmts y x.0 x.1
 
 same_leaf : (k j : Terminal) (i c : Leaf) (l w : List Lexeme) → tok k i ∷ l ≡ tok j c ∷ w → c ≡ i
 same_leaf k j i c l w e = let f : tok k i ≡ tok j c = cc in sym (ap (λ u. u.leaf) f)
@@ -149,14 +150,14 @@ module _ (m : ℕ) (block : Reader (List tree.Stmt × Leaf)) (block_c : Blocks m
     (again : Leaf → Reader tree.Stmt)
     (again_c : Ifs m again) where
   block_from : (k : Terminal) (i : Leaf) (l : List Lexeme) → length l + 1 ≤ m
-      → Correct (Block ∷ []) (λ _. []) (BlockFrom i) (tok k i ∷ l) (block (tok k i ∷ l))
+      → Empties (Block ∷ []) (BlockFrom i) (tok k i ∷ l) (block (tok k i ∷ l))
   block_from k i l b =
       correct_weaker (block_c (tok k i ∷ l) (omega (arith, b)))
       (λ z x w e (c, y, ez, h). let e' = rw ez at e in let is : c ≡ i = same_leaf k OpenBrace i c l
       (y ++ w) e' in (y, rw (ez, is) refl, h))
 
   else_body_by_correct : (k : Terminal) (i : Leaf) (l : List Lexeme) → length l + 1 ≤ m
-      → Correct (ElseBody ∷ []) (λ _. []) (ElseAt []) (tok k i ∷ l)
+      → Empties (ElseBody ∷ []) (ElseAt []) (tok k i ∷ l)
       (else_body_by block again k i (tok k i ∷ l) l)
   unfolding run step
   else_body_by_correct If i l b =
@@ -202,12 +203,13 @@ module _ (m : ℕ) (block : Reader (List tree.Stmt × Leaf)) (block_c : Blocks m
         branches_correct (IfAt i x) i None c l b (λ k y z bs end e w d f. plain i k h d f)
     if_rest_correct i x (init s) l b (v, j, ex, hs) =
         correct_then (value_c l b)
-        (λ u c w e hc. branches_correct (λ q t r. IfAt i x (u ++ q) t r) i s c w
-        (omega (arith, b, shorter l u w e)) (λ k y z bs end f r d g. with_of i j k ex hs hc d g))
+        (λ u c w e hc. branches_correct
+        (λ q t r. IfAt i x (u ++ q) t r) i s c w (omega (arith, b, shorter l u w e))
+        (λ k y z bs end f r d g. with_of i j k ex hs hc d g))
 
     pub if_correct : (i : Leaf) (l : List Lexeme) → length l ≤ m
-        → Empties (IfHead ∷ []) (λ z s. IsIf (tok If i ∷ z) s) l
-        (head value l >>= if_rest block again value i)
+        → Empties (IfHead ∷ [])
+        (λ z s. IsIf (tok If i ∷ z) s) l (head value l >>= if_rest block again value i)
     if_correct i l b =
         correct_bind (if_head_correct m value value_c l b)
         (λ z h w e d. if_rest_correct i z h w (omega (arith, b, shorter l z w e)) d)

@@ -1,13 +1,12 @@
 -- Statements and blocks of the grammar are read as such.
-use Rattle.std.proofs.Common.{ℕ, zero, suc, inl, inr, true, false, List, [], ◌∷◌, ◌++◌, Option, refl, append_assoc, append-nil, ◌+◌, ◌-◌, arith}
+use Rattle.std.proofs.Common.{ℕ, zero, suc, inl, inr, true, false, List, [], ◌∷◌, ◌++◌, Option, refl, append_assoc, append-nil, arith}
 use Rattle.rgo_ast.specs.Tree as tree
 use Rattle.rgo_lexer.specs.{declared.terminals.Terminal.TheVariants.{OpenParen, OpenBrace, CloseBrace, Semicolon}, Lexemes.{Leaf, Lexeme, tok}}
 use Rattle.rgo_grammar.specs.Grammar.{IsCondition.{none as unconditional, some as on_condition}, IsStmt, IsStmts, IsIf, IsElse, IsFor, IsStmt.{block as a_block, simple, if' as an_if, for' as a_for, go, var, vars, return as returned, returns, break as broken, continue as continued}, IsStmts.{end, empty, last, more}, IsIf.{plain, with}, IsElse.{none as no_else, an_if as else_if, a_block as else_block}, IsFor.{while, three}}
 use Rattle.rgo_grammar.specs.reading.{Read.{Done, first_of, listed}, Expressions.{expr}, Statements.{else_on, stmt, if_stmt, block}}
-use Rattle.rgo_grammar.proofs.machine.Table.{rest}
 use Rattle.rgo_grammar.proofs.reading.{Complete.{Meets, meets_trans, meets_bind, listed_none, listed_last, listed_more, meets_then}, Next.{begins_append, next_also}}
 use Rattle.rgo_grammar.proofs.expressions.{Starts.{expr_starts}, Complete.{expr_complete, exprs_complete}, Parts.{paren_closer}}
-use Rattle.rgo_grammar.proofs.statements.{KindsComplete.{EndsStmt, ends_as_simple, ends_as_local, reads, if_at, for_at, stmt_if, stmt_for, stmt_simple, stmt_opens, return_done, returns_at, else_done, else_if_at, empty_item, condition_complete, for_clause_at, for_head_at, head_clause, head_condition, step_complete}, Parts.{one_complete, simple_complete, simple_ends, simple_starts, vars_complete}}
+use Rattle.rgo_grammar.proofs.statements.{KindsComplete.{EndsStmt, stmt_ends, reads, if_at, for_at, stmt_if, stmt_for, stmt_simple, stmt_opens, return_done, returns_at, else_done, else_if_at, empty_item, condition_complete, for_clause_at, for_head_at, head_clause, head_condition, step_complete}, Parts.{one_complete, simple_complete, ends_expr, simple_starts, vars_complete}}
 
 mutual
   unfolding stmt
@@ -19,13 +18,13 @@ mutual
   stmt_complete (simple {x} d) (suc n) l h =
       rw (stmt_simple n (x ++ l) (simple_starts d l))
       (meets_bind _
-      (simple_complete (expr false n 1) false (reads false n) d l (next_also l h ends_as_simple)))
+      (simple_complete (expr false n 1) false (reads false n) d l (next_also l h stmt_ends)))
   stmt_complete (an_if {x} d) (suc n) l h = rw (stmt_if d n l) (meets_bind _ (if_complete d n l h))
   stmt_complete (a_for {x} d) (suc n) l h = rw (stmt_for d n l) (meets_bind _ (for_complete d n l))
   stmt_complete (go i j k d) (suc n) l h =
       meets_bind _ (meets_bind _ (exprs_complete d paren_closer n n l).1)
   stmt_complete (var i {x} {v} d) (suc n) l h =
-      let vs = one_complete n (expr false n 1) (reads false n) d l (next_also l h ends_as_local) in
+      let vs = one_complete n (expr false n 1) (reads false n) d l (next_also l h stmt_ends) in
       meets_bind _ (meets_bind _ vs)
   stmt_complete (vars i j {y} {vs} d) (suc n) l h =
       let m = tok OpenParen j ∷ (y ++ l) in
@@ -33,8 +32,7 @@ mutual
   stmt_complete (returned i) (suc n) l h = meets_bind _ (inr (return_done (expr false n 1) i l h))
   stmt_complete (returns i {x} {v} e) (suc n) l h =
       rw (returns_at (expr false n 1) i (x ++ l) (begins_append _ x l (expr_starts e)))
-      (meets_bind _
-      (meets_bind _ (expr_complete e n l (simple_ends l (next_also l h ends_as_simple)))))
+      (meets_bind _ (meets_bind _ (expr_complete e n l (ends_expr l (next_also l h stmt_ends)))))
   stmt_complete (broken i) (suc n) l h = inr refl
   stmt_complete (continued i) (suc n) l h = inr refl
 

@@ -40,11 +40,11 @@ return_run t l s e =
 
 module _ (n m : ℕ) (small : m + 2 < n) (value_c : (h : Bool) → Values h (m + 1) (expr h n 1))
     (exprs_c : (l : List Lexeme) → length l ≤ m
-    → Empties (Args ∷ []) (λ z x. IsExprs CloseParen z x.0) l
-    (exprs CloseParen n (expr false n 1) l)) where
+    → Empties (Args ∷ [])
+    (λ z x. IsExprs CloseParen z x.0) l (exprs CloseParen n (expr false n 1) l)) where
   going_correct : (i : Leaf) (l : List Lexeme) → length l ≤ m
-      → Empties (T Name ∷ T OpenParen ∷ Args ∷ []) (λ z s. IsStmt (tok Go i ∷ z) s) l
-      (going n (expr false n 1) i l)
+      → Empties (T Name ∷ T OpenParen ∷ Args ∷ [])
+      (λ z s. IsStmt (tok Go i ∷ z) s) l (going n (expr false n 1) i l)
   going_correct i l b =
       correct_token_then Name refl
       (λ j w c. correct_token_then OpenParen refl
@@ -52,8 +52,9 @@ module _ (n m : ℕ) (small : m + 2 < n) (value_c : (h : Bool) → Values h (m +
       (λ z x w h. go i j k h)))
 
   return_by_correct : (i : Leaf) (k : Terminal) (j : Leaf) (l : List Lexeme) → length l ≤ m
-      → Correct (Value ∷ StmtEnd ∷ []) (λ _. StmtEnd ∷ []) (λ z s w. IsStmt (tok Return i ∷ z) s)
-      (tok k j ∷ l) (return_by (expr false n 1) i k (tok k j ∷ l))
+      → Correct (Value ∷ StmtEnd ∷ []) (λ _. StmtEnd ∷ [])
+      (λ z s w. IsStmt (tok Return i ∷ z) s) (tok k j ∷ l)
+      (return_by (expr false n 1) i k (tok k j ∷ l))
   unfolding run step
   return_by_correct i Semicolon j l b = done [] refl (returned i) (λ s. refl)
   return_by_correct i CloseBrace j l b = done [] refl (returned i) (λ s. refl)
@@ -63,8 +64,8 @@ module _ (n m : ℕ) (small : m + 2 < n) (value_c : (h : Bool) → Values h (m +
       (λ z v w h. returns i h)) (λ s. return_run (tok k j) l s refl)
 
   at_return : (i : Leaf) (l : List Lexeme) → length l ≤ m
-      → Correct (Value ∷ StmtEnd ∷ []) (λ _. StmtEnd ∷ []) (λ z s w. IsStmt (tok Return i ∷ z) s) l
-      (return_on (expr false n 1) i l (first_of l))
+      → Correct (Value ∷ StmtEnd ∷ []) (λ _. StmtEnd ∷ [])
+      (λ z s w. IsStmt (tok Return i ∷ z) s) l (return_on (expr false n 1) i l (first_of l))
   unfolding run closes
   at_return i [] b = stops (λ s. refl)
   at_return i (t ∷ l) b = return_by_correct i t.terminal t.leaf l (omega (arith, b))
@@ -75,26 +76,28 @@ module _ (n m : ℕ) (small : m + 2 < n) (value_c : (h : Bool) → Values h (m +
       (ifs : Leaf → Reader tree.Stmt) (ifs_c : Ifs (m + 1) ifs) where
     pub stmt_by_correct : (k : Terminal) (i : Leaf) (l : List Lexeme) → length l ≤ m
         → same CloseBrace k ≡ false
-        → Correct (Stmts ∷ []) (λ _. StmtEnd ∷ []) ItemAt (tok k i ∷ l)
-        (stmt_by n block stmts ifs k i (tok k i ∷ l) l)
+        → Correct (Stmts ∷ [])
+        (λ _. StmtEnd ∷ []) ItemAt (tok k i ∷ l) (stmt_by n block stmts ifs k i (tok k i ∷ l) l)
     unfolding run step
     stmt_by_correct OpenBrace i l b e =
         token_read (correct_given _ (correct_under (StmtEnd ∷ []) (stmts_c l b))
         (λ z x w h. inr (tree.Block (stmts_of x.0) i.at, refl, a_block i h))) (λ s. refl)
     stmt_by_correct If i l b e =
-        keyword_correct (correct_weaker (ifs_c i l (omega (arith, b))) (λ z s w c h. an_if h))
-        (λ s. refl)
+        keyword_correct
+        (correct_weaker (ifs_c i l (omega (arith, b))) (λ z s w c h. an_if h)) (λ s. refl)
     stmt_by_correct For i l b e =
         keyword_correct
         (correct_weaker
-        (for_on_correct m (expr true n 1) (λ w g. value_c true w (omega (arith, g))) block block_c i
-        l b) (λ z s w c h. a_for h)) (λ s. refl)
+        (for_on_correct m (expr true n 1)
+        (λ w g. value_c true w (omega (arith, g))) block block_c i l b) (λ z s w c h. a_for h))
+        (λ s. refl)
     stmt_by_correct Go i l b e = keyword_correct (going_correct i l b) (λ s. refl)
     stmt_by_correct Var i l b e =
         keyword_correct
         (correct_given _
-        (local_vars_correct n m (expr false n 1) (λ w g. value_c false w (omega (arith, g))) l
-        (omega (arith, b, small)) b) (λ z vs w h. h i)) (λ s. refl)
+        (local_vars_correct n m (expr false n 1)
+        (λ w g. value_c false w (omega (arith, g))) l (omega (arith, b, small)) b)
+        (λ z vs w h. h i)) (λ s. refl)
     stmt_by_correct Return i l b e =
         token_read (correct_given _ (at_return i l b) (λ z s w h. inr (s, refl, h))) (λ s. refl)
     stmt_by_correct Break i l b e =
@@ -122,13 +125,13 @@ list_more : (z : List Lexeme) (a : List tree.Stmt) (i : Leaf) (y : List Lexeme) 
 list_more z a i y b j (inl (e, f)) d = rw (e, f) (empty i d)
 list_more z a i y b j (inr (s, f, h)) d = rw f (more i h d)
 
-abbrev StmtsAt : List Lexeme → List tree.Stmt × Leaf → List Lexeme → Type 0
-StmtsAt z x w = IsStmts z x.0 x.1
+abbrev StmtsAt : List Lexeme → List tree.Stmt × Leaf → Type 0
+StmtsAt z x = IsStmts z x.0 x.1
 
 stmts_by_correct : (one : Reader (List tree.Stmt)) (n : ℕ) (l : List Lexeme) → length l < n
     → ((t : Lexeme) (m : List Lexeme) → length m < length l → same CloseBrace t.terminal ≡ false
     → Correct (Stmts ∷ []) (λ _. StmtEnd ∷ []) (λ z ss w. IsItem z ss) (t ∷ m) (one (t ∷ m)))
-    → Correct (Stmts ∷ []) (λ _. []) StmtsAt l (stmts_by one n l)
+    → Empties (Stmts ∷ []) StmtsAt l (stmts_by one n l)
 stmts_by_correct one n l b h =
     correct_weaker
     (listed_correct (list_syms refl refl refl refl refl refl) one IsItem IsList (length l) h

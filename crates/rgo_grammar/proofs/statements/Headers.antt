@@ -1,5 +1,5 @@
 -- Reading the headers of `if` and `for`, up to the block or the first `;`, is correct.
-use Rattle.std.proofs.Common.{◌≡◌, ℕ, ◌+◌, ◌≤◌, Bool, true, false, List, [], ◌∷◌, ◌++◌, length, refl, arith, append-nil, ◌-◌, ap}
+use Rattle.std.proofs.Common.{◌≡◌, ℕ, ◌+◌, ◌≤◌, Bool, true, false, List, [], ◌∷◌, ◌++◌, length, refl, arith, append-nil, ap}
 use Rattle.rgo_ast.specs.Tree as tree
 use Rattle.rgo_lexer.specs.{declared.terminals.Terminal.{Terminal, TheVariants.{Arrow, Assign, Step, OpenBrace, Semicolon}}, Lexemes.{Leaf, Lexeme, tok, same}}
 use Rattle.rgo_grammar.specs.Grammar.{IsExpr, IsSimple, IsClause, IsSimple.{plain}, IsClause.{empty, some}}
@@ -29,8 +29,8 @@ IsHead z (init s) =
 abbrev HeadAt : List Lexeme → List Lexeme → Head → List Lexeme → Type 0
 HeadAt x z h w = IsHead (x ++ z) h
 
-plain_of : {h d : Bool} {x : List Lexeme} {v : tree.Expr} → IsSimple h d x (tree.Plain v)
-    → IsExpr h 1 x v
+plain_of : {h d : Bool} {x : List Lexeme} {v : tree.Expr}
+    → IsSimple h d x (tree.Plain v) → IsExpr h 1 x v
 plain_of (plain e) = e
 
 -- after an expression
@@ -90,8 +90,8 @@ head_end_correct b x st (t ∷ w) e g = head_end_some b x st t w e g
 
 module _ (m : ℕ) (value : Reader tree.Expr) (value_c : Values true m value) where
   if_head_by : (k : Terminal) (i : Leaf) (l : List Lexeme) → length l + 1 ≤ m
-      → Correct (IfHead ∷ []) (after_head true) (λ z h w. IsHead z h) (tok k i ∷ l)
-      (head_by value k (tok k i ∷ l) l)
+      → Correct (IfHead ∷ []) (after_head true)
+      (λ z h w. IsHead z h) (tok k i ∷ l) (head_by value k (tok k i ∷ l) l)
   unfolding run step
   if_head_by Semicolon i l b = done (tok Semicolon i ∷ []) refl ([], i, refl, empty) (λ s. refl)
   if_head_by k i l b =
@@ -106,8 +106,8 @@ module _ (m : ℕ) (value : Reader tree.Expr) (value_c : Values true m value) wh
 
   pub for_head_correct : (k : Terminal) (i : Leaf) (l : List Lexeme) → length l + 1 ≤ m
       → same OpenBrace k ≡ false
-      → Correct (ForHead ∷ []) (after_head false) (λ z h w. IsHead z h) (tok k i ∷ l)
-      (head value (tok k i ∷ l))
+      → Correct (ForHead ∷ []) (after_head false)
+      (λ z h w. IsHead z h) (tok k i ∷ l) (head value (tok k i ∷ l))
   unfolding run step
   for_head_correct OpenBrace i l b f = cc
   for_head_correct Semicolon i l b f =

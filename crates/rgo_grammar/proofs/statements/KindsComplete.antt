@@ -1,12 +1,12 @@
 -- Headers and the kinds of statements in the grammar: how reading tells each from the others.
-use Rattle.std.proofs.Common.{◌≡◌, inr, true, false, List, ◌∷◌, ◌++◌, Option, Some, None, refl, arith, ◌+◌, [], ℕ, zero, suc, inl, Bool}
+use Rattle.std.proofs.Common.{◌≡◌, inr, true, false, List, ◌∷◌, ◌++◌, Option, Some, None, refl, arith, [], ℕ, zero, suc, inl, Bool}
 use Rattle.rgo_ast.specs.Tree as tree
 use Rattle.rgo_lexer.specs.{declared.terminals.Terminal.{Terminal, TheVariants.{OpenBrace, Semicolon, CloseBrace, Var, Go, If, Else, For, Return, Break, Continue}}, Lexemes.{Leaf, Lexeme, tok}}
 use Rattle.rgo_grammar.specs.Grammar.{IsExpr, IsClause, IsCondition, IsStmt, IsIf, IsFor, IsSimple.{plain}, IsClause.{empty, some as a_clause}, IsCondition.{none as unconditional, some as on_condition}, IsStmt.{block as a_block, simple, if' as an_if, for' as a_for, go, var, vars, return as returned, returns, break as broken, continue as continued}, IsIf.{plain, with}, IsFor.{while, three}}
 use Rattle.rgo_grammar.specs.reading.{Read.{Reader, Read, Done, ◌>>=◌, given, first_of, token, Failed, Starving, single}, Statements.{valued, defining, condition, init, head_end_on, head_by, head, condition_by, condition_on, step_by, step_on, for_rest, for_by, for_on, else_body_on, else_by, else_on, return_by, return_on, stmt_by, stmts_by, block_by, stmt, if_stmt, stmts, block}, Expressions.{expr}}
 use Rattle.rgo_grammar.proofs.reading.{Complete.{Meets, meets_bind, Opens}, Next.{begins_append, IsNext, next_also}}
 use Rattle.rgo_grammar.proofs.expressions.{Starts.{starts, Starts, expr_starts, brace_closes}, Complete.{expr_complete}}
-use Rattle.rgo_grammar.proofs.statements.Parts.{ReadsExprs, ends_local, ends_simple, simple_complete, simple_starts, valued_complete}
+use Rattle.rgo_grammar.proofs.statements.Parts.{ReadsExprs, simple_complete, simple_starts, valued_complete, ends}
 
 module _ (value : Reader tree.Expr) where
   head_kind : (k : Terminal) (l m : List Lexeme) → starts k ≡ true
@@ -108,15 +108,10 @@ ends_stmt _ = false
 abbrev pub EndsStmt : List Lexeme → Type 0
 EndsStmt = IsNext ends_stmt
 
-pub ends_as_simple : (k : Terminal) → ends_stmt k ≡ true → ends_simple k ≡ true
-ends_as_simple Semicolon h = refl
-ends_as_simple CloseBrace h = refl
-ends_as_simple _ h = cc
-
-pub ends_as_local : (k : Terminal) → ends_stmt k ≡ true → ends_local k ≡ true
-ends_as_local Semicolon h = refl
-ends_as_local CloseBrace h = refl
-ends_as_local _ h = cc
+pub stmt_ends : (k : Terminal) → ends_stmt k ≡ true → ends k ≡ true
+stmt_ends Semicolon h = refl
+stmt_ends CloseBrace h = refl
+stmt_ends _ h = cc
 
 -- expressions, by any bound
 pub reads : (h : Bool) (n : ℕ) → ReadsExprs h (expr h n 1)
@@ -164,8 +159,8 @@ pub stmt_simple : (n : ℕ) (l : List Lexeme) → Starts l
 unfolding stmt
 stmt_simple n [] h = absurd h
 stmt_simple n (t ∷ l) h =
-    simple_kind n (block_by (stmt n) n) (stmts_by (stmt n) n) (if_stmt n) t.terminal t.leaf (t ∷ l)
-    l h
+    simple_kind n (block_by (stmt n) n) (stmts_by (stmt n) n) (if_stmt n)
+    t.terminal t.leaf (t ∷ l) l h
 
 pub stmt_opens : {x : List Lexeme} {s : tree.Stmt} → IsStmt x s → (l : List Lexeme)
     → Opens CloseBrace (x ++ l)

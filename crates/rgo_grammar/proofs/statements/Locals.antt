@@ -1,5 +1,5 @@
 -- Reading declarations of local variables is correct.
-use Rattle.std.proofs.Common.{◌≡◌, ℕ, ◌+◌, ◌<◌, ◌≤◌, false, List, [], ◌∷◌, ◌++◌, length, refl, ap, arith, append-nil, ◌-◌, inl, inr}
+use Rattle.std.proofs.Common.{◌≡◌, ℕ, ◌+◌, ◌<◌, ◌≤◌, false, List, [], ◌∷◌, ◌++◌, length, refl, ap, arith, append-nil, inl, inr}
 use Rattle.rgo_ast.specs.declared.ops.AssignOp.TheVariants as assign_op
 use Rattle.rgo_ast.specs.Tree as tree
 use Rattle.rgo_lexer.specs.{declared.terminals.Terminal.{Terminal, TheVariants.{Name, Assign, OpenParen, Comma, Var}}, Lexemes.{Leaf, Lexeme, tok}}
@@ -10,15 +10,15 @@ use Rattle.rgo_grammar.proofs.reading.{Correct.{Correct, token_read, same_start,
 use Rattle.rgo_grammar.proofs.types.Correct.{type_correct, typed_names_correct}
 use Rattle.rgo_grammar.proofs.statements.Simple.{Values}
 
-abbrev LocalAt : List Lexeme → List Lexeme → tree.LocalVar → List Lexeme → Type 0
-LocalAt x z v w = IsLocal (x ++ z) v
+abbrev LocalAt : List Lexeme → List Lexeme → tree.LocalVar → Type 0
+LocalAt x z v = IsLocal (x ++ z) v
 
 -- the variables of a statement
 abbrev pub AreVars : List Lexeme → List tree.LocalVar → List Lexeme → Type 0
 AreVars z vs w = (i : Leaf) → IsStmt (tok Var i ∷ z) (tree.Var vs i.at)
 
-vars_of : (z : List Lexeme) (vs : List tree.LocalVar) (w : List Lexeme) → IsGroup IsLocal z vs
-    → AreVars z vs w
+vars_of : (z : List Lexeme) (vs : List tree.LocalVar) (w : List Lexeme)
+    → IsGroup IsLocal z vs → AreVars z vs w
 vars_of z vs w (inl (v, e, h)) i = rw e (a_var i h)
 vars_of z vs w (inr (j, y, e, h)) i = rw e (some_vars i j h)
 
@@ -36,7 +36,7 @@ vars_as_group n value (t ∷ l) = vars_by_group n value t.terminal (t ∷ l) l
 module _ (n m : ℕ) (value : Reader tree.Expr) (value_c : Values false m value) where
   initial_by_correct : (i : Leaf) (x : List Lexeme) (t : tree.TypeExpr) (k : Terminal) (j : Leaf)
       (l : List Lexeme) → length l ≤ m → IsType x t
-      → Correct (Initial ∷ []) (λ _. []) (LocalAt (tok Name i ∷ x)) (tok k j ∷ l)
+      → Empties (Initial ∷ []) (LocalAt (tok Name i ∷ x)) (tok k j ∷ l)
       (initial_by value i t k j (tok k j ∷ l) l)
   unfolding run step
   initial_by_correct i x t (Assign assign_op.Plain) j l b h =
@@ -46,8 +46,7 @@ module _ (n m : ℕ) (value : Reader tree.Expr) (value_c : Values false m value)
 
   initial_correct : (i : Leaf) (x : List Lexeme) (t : tree.TypeExpr) (l : List Lexeme)
       → length l ≤ m → IsType x t
-      → Correct (Initial ∷ []) (λ _. []) (LocalAt (tok Name i ∷ x)) l
-      (initial value i t l (first_of l))
+      → Empties (Initial ∷ []) (LocalAt (tok Name i ∷ x)) l (initial value i t l (first_of l))
   unfolding run closes
   initial_correct i x t [] b h =
       done [] refl (rw append-nil (zeroed (of_names (one i) h))) (λ s. refl)
@@ -56,7 +55,7 @@ module _ (n m : ℕ) (value : Reader tree.Expr) (value_c : Values false m value)
 
   local_by_correct : (i : Leaf) (k : Terminal) (j : Leaf) (l : List Lexeme) → length l + 1 < n
       → length l + 1 ≤ m
-      → Correct (LocalRest ∷ []) (λ _. []) (LocalAt (tok Name i ∷ [])) (tok k j ∷ l)
+      → Empties (LocalRest ∷ []) (LocalAt (tok Name i ∷ [])) (tok k j ∷ l)
       (local_by n value i k j (tok k j ∷ l) l)
   unfolding run step
   local_by_correct i Comma j l a b =

@@ -1,35 +1,36 @@
 -- Simple statements and declarations of local variables in the grammar are read as their trees,
 -- where expressions are.
-use Rattle.std.proofs.Common.{◌≡◌, inr, Bool, true, false, List, [], ◌∷◌, ◌++◌, refl, append_assoc, arith, ◌+◌, ℕ, ◌⊎◌, inl}
+use Rattle.std.proofs.Common.{◌≡◌, inr, Bool, true, false, List, [], ◌∷◌, ◌++◌, refl, append_assoc, arith, ℕ, ◌⊎◌, inl}
 use Rattle.rgo_ast.specs.Tree as tree
 use Rattle.rgo_ast.specs.declared.ops.AssignOp.TheVariants as assign_op
 use Rattle.rgo_lexer.specs.{declared.terminals.Terminal.{Terminal, TheVariants.{Name, Arrow, Define, Assign, Step, OpenBrace, CloseBrace, Semicolon, OpenParen, CloseParen, Comma}}, Lexemes.{Leaf, Lexeme, tok, same, ident}}
 use Rattle.rgo_grammar.specs.Grammar.{IsExpr, IsSimple, IsType, IsLocal, Listed, IsSimple.{plain, send, step as stepped, assign, define}, IsNames.{one as one_name, more as more_names}, IsType.{named, pointer, slice, chan}, IsBinding.{binding as of_names}, IsLocal.{zero as zeroed, typed, inferred}}
-use Rattle.rgo_grammar.specs.reading.{Read.{Reader, Read, Done, first_of, ◌>>=◌, given, single, several}, Statements.{simple_by, simple_on, valued, named_by, named_on, defining_by, defining, initial_by, initial, local_on, local, vars_on}, Types.{a_type, bound}}
+use Rattle.rgo_grammar.specs.reading.{Read.{Reader, Read, Done, first_of, ◌>>=◌, given, single}, Statements.{simple_by, simple_on, valued, named_by, named_on, defining_by, defining, initial_by, initial, local_on, local, vars_on}, Types.{a_type, bound}}
 use Rattle.rgo_grammar.proofs.reading.{Complete.{Meets, meets_bind, meets_then, Opens, listed_complete}, Next.{IsNext, NotNext, begins_append, next_other}}
 use Rattle.rgo_grammar.proofs.types.Complete.{type_complete, binding_complete}
 use Rattle.rgo_grammar.proofs.expressions.{Starts.{Starts, expr_starts}, Second.{Apart, name_then, SecondNot, second_append, second_not}, Ends.{EndsExpr}}
 
--- what a simple statement ends before
-abbrev pub ends_simple : Terminal → Bool
-ends_simple Semicolon = true
-ends_simple CloseBrace = true
-ends_simple OpenBrace = true
-ends_simple _ = false
+-- what a simple statement and a declaration of local variables end before
+abbrev pub ends : Terminal → Bool
+ends Semicolon = true
+ends CloseParen = true
+ends CloseBrace = true
+ends OpenBrace = true
+ends _ = false
 
-abbrev pub EndsSimple : List Lexeme → Type 0
-EndsSimple = IsNext ends_simple
+abbrev pub Ends : List Lexeme → Type 0
+Ends = IsNext ends
 
-ends_by : (k : Terminal) (i : Leaf) (l : List Lexeme) → ends_simple k ≡ true
-    → EndsExpr (tok k i ∷ l)
+ends_by : (k : Terminal) (i : Leaf) (l : List Lexeme) → ends k ≡ true → EndsExpr (tok k i ∷ l)
 ends_by Semicolon i l h = (omega arith, refl)
+ends_by CloseParen i l h = (omega arith, refl)
 ends_by CloseBrace i l h = (omega arith, refl)
 ends_by OpenBrace i l h = (omega arith, refl)
 ends_by _ i l h = cc
 
-pub simple_ends : (l : List Lexeme) → EndsSimple l → EndsExpr l
-simple_ends [] h = absurd h
-simple_ends (t ∷ l) h = ends_by t.terminal t.leaf l h
+pub ends_expr : (l : List Lexeme) → Ends l → EndsExpr l
+ends_expr [] h = absurd h
+ends_expr (t ∷ l) h = ends_by t.terminal t.leaf l h
 
 -- a reader of expressions that reads each in the grammar
 abbrev pub ReadsExprs : Bool → Reader tree.Expr → Type 0
@@ -48,7 +49,7 @@ expr_undefined : {h : Bool} {x : List Lexeme} {v : tree.Expr} (z : List Lexeme) 
 expr_undefined {x = x} z e h =
     second_append (same Define) x z (expr_starts e) (second_not (same Define) define_apart e) h
 
-ends_undefined : (k : Terminal) → ends_simple k ≡ true → same Define k ≡ false
+ends_undefined : (k : Terminal) → ends k ≡ true → same Define k ≡ false
 ends_undefined Define h = cc
 ends_undefined _ h = refl
 
@@ -64,14 +65,14 @@ simple_starts (assign o i {x} {y} e g) l =
 simple_starts (define i j {x} e) l = refl
 
 module _ (value : Reader tree.Expr) where
-  simple_end_by : (a : tree.Expr) (k : Terminal) (i : Leaf) (l m : List Lexeme)
-      → ends_simple k ≡ true → simple_by value a k i l m ≡ Done (tree.Plain a) l
+  simple_end_by : (a : tree.Expr) (k : Terminal) (i : Leaf) (l m : List Lexeme) → ends k ≡ true
+      → simple_by value a k i l m ≡ Done (tree.Plain a) l
   simple_end_by a Arrow i l m h = cc
   simple_end_by a (Step o) i l m h = cc
   simple_end_by a (Assign o) i l m h = cc
   simple_end_by a _ i l m h = refl
 
-  simple_end : (a : tree.Expr) (l : List Lexeme) → EndsSimple l
+  simple_end : (a : tree.Expr) (l : List Lexeme) → Ends l
       → simple_on value a l (first_of l) ≡ Done (tree.Plain a) l
   simple_end a [] h = absurd h
   simple_end a (t ∷ l) h = simple_end_by a t.terminal t.leaf (t ∷ l) l h
@@ -98,22 +99,22 @@ module _ (value : Reader tree.Expr) where
   module _ (h : Bool) (value_done : ReadsExprs h value) where
     -- one that may be no definition
     pub valued_complete : {x : List Lexeme} {s : tree.Stmt} → IsSimple h false x s
-        → (l : List Lexeme) → EndsSimple l → Meets (valued value (x ++ l)) (Done s l)
+        → (l : List Lexeme) → Ends l → Meets (valued value (x ++ l)) (Done s l)
     valued_complete (plain {x} {v} e) l d =
-        meets_then _ (value_done x v e l (simple_ends l d)) (inr (simple_end v l d))
+        meets_then _ (value_done x v e l (ends_expr l d)) (inr (simple_end v l d))
     valued_complete (send i {x} {y} {a} {b} e g) l d =
         rw append_assoc
         (meets_then _ (value_done x a e (tok Arrow i ∷ (y ++ l)) (omega arith, refl))
-        (meets_bind _ (value_done y b g l (simple_ends l d))))
+        (meets_bind _ (value_done y b g l (ends_expr l d))))
     valued_complete (stepped o i {x} {v} e) l d =
         rw append_assoc (meets_bind _ (value_done x v e (tok (Step o) i ∷ l) (omega arith, refl)))
     valued_complete (assign o i {x} {y} {a} {b} e g) l d =
         rw append_assoc
         (meets_then _ (value_done x a e (tok (Assign o) i ∷ (y ++ l)) (omega arith, refl))
-        (meets_bind _ (value_done y b g l (simple_ends l d))))
+        (meets_bind _ (value_done y b g l (ends_expr l d))))
 
     undefined : {x : List Lexeme} {s : tree.Stmt} → IsSimple h false x s → (l : List Lexeme)
-        → EndsSimple l → Undefined (x ++ l)
+        → Ends l → Undefined (x ++ l)
     undefined (plain e) l d = expr_undefined l e (next_other l d ends_undefined)
     undefined (send i {x} {y} e g) l d =
         rw append_assoc (expr_undefined (tok Arrow i ∷ (y ++ l)) e refl)
@@ -122,47 +123,27 @@ module _ (value : Reader tree.Expr) where
         rw append_assoc (expr_undefined (tok (Assign o) i ∷ (y ++ l)) e refl)
 
     no_definition : {x : List Lexeme} {s : tree.Stmt} → IsSimple h false x s → (l : List Lexeme)
-        → EndsSimple l → Meets (defining value (x ++ l)) (Done s l)
+        → Ends l → Meets (defining value (x ++ l)) (Done s l)
     no_definition {x} p l d =
         rw (undefined_at (x ++ l) (simple_starts p l) (undefined p l d)) (valued_complete p l d)
 
     pub simple_complete : {x : List Lexeme} {s : tree.Stmt} → IsSimple h true x s
-        → (l : List Lexeme) → EndsSimple l → Meets (defining value (x ++ l)) (Done s l)
+        → (l : List Lexeme) → Ends l → Meets (defining value (x ++ l)) (Done s l)
     simple_complete (plain e) l d = no_definition (plain e) l d
     simple_complete (send i e g) l d = no_definition (send i e g) l d
     simple_complete (stepped o i e) l d = no_definition (stepped o i e) l d
     simple_complete (assign o i e g) l d = no_definition (assign o i e g) l d
-    simple_complete (define i j {x} {v} e) l d = meets_bind _ (value_done x v e l (simple_ends l d))
+    simple_complete (define i j {x} {v} e) l d = meets_bind _ (value_done x v e l (ends_expr l d))
 
--- what such a declaration ends before
-abbrev pub ends_local : Terminal → Bool
-ends_local Semicolon = true
-ends_local CloseParen = true
-ends_local CloseBrace = true
-ends_local _ = false
-
-abbrev pub EndsLocal : List Lexeme → Type 0
-EndsLocal = IsNext ends_local
-
-local_ends_by : (k : Terminal) (i : Leaf) (l : List Lexeme) → ends_local k ≡ true
-    → EndsExpr (tok k i ∷ l)
-local_ends_by Semicolon i l h = (omega arith, refl)
-local_ends_by CloseParen i l h = (omega arith, refl)
-local_ends_by CloseBrace i l h = (omega arith, refl)
-local_ends_by _ i l h = cc
-
-local_ends : (l : List Lexeme) → EndsLocal l → EndsExpr l
-local_ends [] h = absurd h
-local_ends (t ∷ l) h = local_ends_by t.terminal t.leaf l h
+-- ---- declarations of local variables
 
 module _ (n : ℕ) (value : Reader tree.Expr) (value_done : ReadsExprs false value) where
   initial_end_by : (i : Leaf) (t : tree.TypeExpr) (k : Terminal) (j : Leaf) (l m : List Lexeme)
-      → ends_local k ≡ true
-      → initial_by value i t k j l m ≡ Done (tree.Zero (bound (ident i ∷ []) t)) l
+      → ends k ≡ true → initial_by value i t k j l m ≡ Done (tree.Zero (bound (ident i ∷ []) t)) l
   initial_end_by i t (Assign assign_op.Plain) j l m h = cc
   initial_end_by i t _ j l m h = refl
 
-  initial_end : (i : Leaf) (t : tree.TypeExpr) (l : List Lexeme) → EndsLocal l
+  initial_end : (i : Leaf) (t : tree.TypeExpr) (l : List Lexeme) → Ends l
       → initial value i t l (first_of l) ≡ Done (tree.Zero (bound (ident i ∷ []) t)) l
   initial_end i t [] h = absurd h
   initial_end i t (u ∷ l) h = initial_end_by i t u.terminal u.leaf (u ∷ l) l h
@@ -176,9 +157,9 @@ module _ (n : ℕ) (value : Reader tree.Expr) (value_done : ReadsExprs false val
   type_at i (chan j h) l = refl
 
   value_given : {x : List Lexeme} {v : tree.Expr} → IsExpr false 1 x v
-      → (f : tree.Expr → tree.LocalVar) (l : List Lexeme) → EndsLocal l
+      → (f : tree.Expr → tree.LocalVar) (l : List Lexeme) → Ends l
       → Meets (value (x ++ l) >>= given f) (Done (f v) l)
-  value_given {x} {v} e f l h = meets_bind _ (value_done x v e l (local_ends l h))
+  value_given {x} {v} e f l h = meets_bind _ (value_done x v e l (ends_expr l h))
 
   type_then : (i : Leaf) {x : List Lexeme} {t : tree.TypeExpr} → IsType x t
       → (l : List Lexeme) (r : Read tree.LocalVar) → Meets (initial value i t l (first_of l)) r
@@ -186,7 +167,7 @@ module _ (n : ℕ) (value : Reader tree.Expr) (value_done : ReadsExprs false val
   type_then i {x} {t} h l r g = rw (type_at i h l) (meets_then _ (type_complete x t h n l) g)
 
   pub local_complete : {x : List Lexeme} {v : tree.LocalVar} → IsLocal x v → (l : List Lexeme)
-      → EndsLocal l → Meets (local n value (x ++ l)) (Done v l)
+      → Ends l → Meets (local n value (x ++ l)) (Done v l)
   local_complete (zeroed (of_names {t = t} (one_name i) h)) l e =
       type_then i h l (Done (tree.Zero (bound (ident i ∷ []) t)) l) (inr (initial_end i t l e))
   local_complete (zeroed (of_names {y = y} {t = t} (more_names i j {x} {ns} g) h)) l e =
@@ -222,14 +203,13 @@ module _ (n : ℕ) (value : Reader tree.Expr) (value_done : ReadsExprs false val
   one_at (inferred i j e) l = refl
 
   pub one_complete : {x : List Lexeme} {v : tree.LocalVar} → IsLocal x v → (l : List Lexeme)
-      → EndsLocal l → Meets (vars_on n value (x ++ l) (first_of (x ++ l))) (Done (v ∷ []) l)
+      → Ends l → Meets (vars_on n value (x ++ l) (first_of (x ++ l))) (Done (v ∷ []) l)
   one_complete h l e = rw (one_at h l) (meets_bind _ (local_complete h l e))
 
   pub vars_complete : (i : Leaf) {y : List Lexeme} {vs : List tree.LocalVar}
       → Listed IsLocal Semicolon CloseParen y vs → (l : List Lexeme)
       → Meets (vars_on n value (tok OpenParen i ∷ (y ++ l)) (first_of (tok OpenParen i ∷ (y ++ l))))
       (Done vs l)
-  unfolding several
   vars_complete i {y} {vs} d l =
       let h = listed_complete Semicolon CloseParen refl IsLocal (local n value) local_opens
       local_reads d n [] l in

@@ -1,5 +1,5 @@
 -- Reading simple statements is correct, where reading expressions is.
-use Rattle.std.proofs.Common.{◌≡◌, ℕ, ◌+◌, ◌≤◌, Bool, true, false, List, [], ◌∷◌, ◌++◌, length, Some, refl, ◌∙◌, append_assoc, append-nil, arith, ◌-◌}
+use Rattle.std.proofs.Common.{◌≡◌, ℕ, ◌+◌, ◌≤◌, Bool, true, false, List, [], ◌∷◌, ◌++◌, length, Some, refl, ◌∙◌, append_assoc, append-nil, arith}
 use Rattle.rgo_ast.specs.declared.ops.AssignOp.{AssignOp}
 use Rattle.rgo_ast.specs.declared.ops.AssignOp.TheVariants as assign_op
 use Rattle.rgo_ast.specs.Tree as tree
@@ -60,96 +60,96 @@ named_nullable : (c : Context) → nullable (Named c) ≡ nullable (Tail c)
 named_nullable alone = refl
 named_nullable _ = refl
 
-module _ (c : Context) (m : ℕ) (value : Reader tree.Expr) (value_c : Values (header c) m value)
-  where
-    -- the last expression of a statement that is none
-    part_correct : {Q : List Lexeme → tree.Stmt → List Lexeme → Type 0} {l : List Lexeme}
-        (f : tree.Expr → tree.Stmt) → length l ≤ m
-        → ((z : List Lexeme) (v : tree.Expr) (w : List Lexeme) → IsExpr (header c) 1 z v
-        → Q z (f v) w × (leaves c (f v) ≡ rest c))
-        → Correct (Unary (header c) ∷ Bin (header c) ∷ rest c) (leaves c) Q l (value l >>= given f)
-    part_correct {Q = Q} {l = l} f b g =
-        correct_left
-        (correct_given {Q = λ z s w. Q z s w × (leaves c s ≡ rest c)} f
-        (correct_under (rest c) (value_c l b)) g) (λ z s w h. (h.0, λ u. rw h.1 refl))
+module _ (c : Context) (m : ℕ) (value : Reader tree.Expr)
+    (value_c : Values (header c) m value) where
+  -- the last expression of a statement that is none
+  part_correct : {Q : List Lexeme → tree.Stmt → List Lexeme → Type 0} {l : List Lexeme}
+      (f : tree.Expr → tree.Stmt) → length l ≤ m
+      → ((z : List Lexeme) (v : tree.Expr) (w : List Lexeme) → IsExpr (header c) 1 z v
+      → Q z (f v) w × (leaves c (f v) ≡ rest c))
+      → Correct (Unary (header c) ∷ Bin (header c) ∷ rest c) (leaves c) Q l (value l >>= given f)
+  part_correct {Q = Q} {l = l} f b g =
+      correct_left
+      (correct_given {Q = λ z s w. Q z s w × (leaves c s ≡ rest c)} f
+      (correct_under (rest c) (value_c l b)) g) (λ z s w h. (h.0, λ u. rw h.1 refl))
 
-    simple_by_correct : (d : Bool) (x : List Lexeme) (a : tree.Expr) (k : Terminal) (i : Leaf)
-        (l : List Lexeme) → length l ≤ m → IsExpr (header c) 1 x a
-        → Correct (Tail c ∷ []) (leaves c) (AtSimple c d x) (tok k i ∷ l)
-        (simple_by value a k i (tok k i ∷ l) l)
+  simple_by_correct : (d : Bool) (x : List Lexeme) (a : tree.Expr) (k : Terminal) (i : Leaf)
+      (l : List Lexeme) → length l ≤ m → IsExpr (header c) 1 x a
+      → Correct (Tail c ∷ []) (leaves c) (AtSimple c d x) (tok k i ∷ l)
+      (simple_by value a k i (tok k i ∷ l) l)
+  unfolding run step
+  simple_by_correct d x a Arrow i l b e =
+      token_read (part_correct _ b (λ z v w g. ((send i e g, tt), refl))) (λ s. refl)
+  simple_by_correct d x a (Step o) i l b e =
+      done (tok (Step o) i ∷ []) refl (stepped o i e, tt) (λ s. refl)
+  simple_by_correct d x a (Assign o) i l b e =
+      token_read (part_correct _ b (λ z v w g. ((assign o i e g, tt), refl)))
+      (λ s. assign_run c o i l s)
+  simple_by_correct d x a _ i l b e = done [] refl (rw append-nil (plain e), refl) (λ s. refl)
+
+  simple_on_correct : (d : Bool) (x : List Lexeme) (a : tree.Expr) (l : List Lexeme) → length l ≤ m
+      → IsExpr (header c) 1 x a
+      → Correct (Tail c ∷ []) (leaves c) (AtSimple c d x) l (simple_on value a l (first_of l))
+  simple_on_correct d x a [] b e = done [] refl (rw append-nil (plain e), tt) (λ s. refl)
+  simple_on_correct d x a (t ∷ l) b e = simple_by_correct d x a t.terminal t.leaf l (omega arith) e
+
+  pub valued_correct : (d : Bool) (l : List Lexeme) → length l ≤ m
+      → Correct (Unary (header c) ∷ Bin (header c) ∷ Tail c ∷ []) (leaves c)
+      (AtSimple c d []) l (valued value l)
+  valued_correct d l b =
+      correct_bind (correct_under (Tail c ∷ []) (value_c l b))
+      (λ z a w e h. simple_on_correct d z a w (omega (arith, shorter l z w e)) h)
+
+  -- a symbol X that begins a simple statement, with u under it
+  module _ (X : Sym) (u : List Sym) (x_name : next X Name ≡ Some (Named c ∷ u))
+      (x_stays : nullable X ≡ false) where
+    as_value : (l : List Lexeme) → length l ≤ m
+        → ((s : List Sym)
+        → run l (X ∷ s) ≡ run l (Unary (header c) ∷ Bin (header c) ∷ Tail c ∷ (u ++ s)))
+        → Correct (X ∷ []) (λ s. leaves c s ++ u) (AtSimple c true []) l (valued value l)
+    as_value l b e = same_start (correct_under u (valued_correct true l b)) e
+
+    name_run : (i : Leaf) (l : List Lexeme) (s : List Sym)
+        → run l (Named c ∷ (u ++ s)) ≡ run l (Post ∷ Bin (header c) ∷ Tail c ∷ (u ++ s))
+        → run (tok Name i ∷ l) (X ∷ s) ≡ run (tok Name i ∷ l)
+        (Unary (header c) ∷ Bin (header c) ∷ Tail c ∷ (u ++ s))
     unfolding run step
-    simple_by_correct d x a Arrow i l b e =
-        token_read (part_correct _ b (λ z v w g. ((send i e g, tt), refl))) (λ s. refl)
-    simple_by_correct d x a (Step o) i l b e =
-        done (tok (Step o) i ∷ []) refl (stepped o i e, tt) (λ s. refl)
-    simple_by_correct d x a (Assign o) i l b e =
-        token_read (part_correct _ b (λ z v w g. ((assign o i e g, tt), refl)))
-        (λ s. assign_run c o i l s)
-    simple_by_correct d x a _ i l b e = done [] refl (rw append-nil (plain e), refl) (λ s. refl)
+    name_run i l s e = takes X Name (Named c ∷ u) i l s x_name ∙ e
 
-    simple_on_correct : (d : Bool) (x : List Lexeme) (a : tree.Expr) (l : List Lexeme)
-        → length l ≤ m → IsExpr (header c) 1 x a
-        → Correct (Tail c ∷ []) (leaves c) (AtSimple c d x) l (simple_on value a l (first_of l))
-    simple_on_correct d x a [] b e = done [] refl (rw append-nil (plain e), tt) (λ s. refl)
-    simple_on_correct d x a (t ∷ l) b e =
-        simple_by_correct d x a t.terminal t.leaf l (omega arith) e
+    named_by_correct : (i : Leaf) (k : Terminal) (j : Leaf) (l : List Lexeme) → length l + 2 ≤ m
+        → Correct (X ∷ [])
+        (λ s. leaves c s ++ u) (AtSimple c true []) (tok Name i ∷ tok k j ∷ l)
+        (named_by value i k j (tok Name i ∷ tok k j ∷ l) l)
+    unfolding run step
+    named_by_correct i Define j l b =
+        correct_after (tok Name i ∷ tok Define j ∷ []) refl
+        (correct_under u
+        (part_correct _ (omega (arith, b)) (λ z v w g. ((define i j g, tt), refl))))
+        (λ s. takes X Name (Named c ∷ u) i (tok Define j ∷ l) s x_name ∙ rw append_assoc refl)
+    named_by_correct i k j l b =
+        as_value (tok Name i ∷ tok k j ∷ l) (omega (arith, b))
+        (λ s. name_run i (tok k j ∷ l) s
+        (after_name (header c) (Named c) (Tail c) (tok k j) l (u ++ s) (named_nullable c) refl))
 
-    pub valued_correct : (d : Bool) (l : List Lexeme) → length l ≤ m
-        → Correct (Unary (header c) ∷ Bin (header c) ∷ Tail c ∷ []) (leaves c) (AtSimple c d []) l
-        (valued value l)
-    valued_correct d l b =
-        correct_bind (correct_under (Tail c ∷ []) (value_c l b))
-        (λ z a w e h. simple_on_correct d z a w (omega (arith, shorter l z w e)) h)
+    named_on_correct : (i : Leaf) (l : List Lexeme) → length l + 1 ≤ m
+        → Correct (X ∷ [])
+        (λ s. leaves c s ++ u) (AtSimple c true []) (tok Name i ∷ l)
+        (named_on value i (tok Name i ∷ l) (first_of l))
+    named_on_correct i [] b =
+        as_value (tok Name i ∷ []) (omega (arith, b))
+        (λ s. name_run i [] s (name_ends (header c) (Named c) (Tail c) (u ++ s) (named_nullable c)))
+    named_on_correct i (t ∷ l) b = named_by_correct i t.terminal t.leaf l (omega (arith, b))
 
-    -- a symbol X that begins a simple statement, with u under it
-    module _ (X : Sym) (u : List Sym) (x_name : next X Name ≡ Some (Named c ∷ u))
-        (x_stays : nullable X ≡ false) where
-      as_value : (l : List Lexeme) → length l ≤ m
-          → ((s : List Sym)
-          → run l (X ∷ s) ≡ run l (Unary (header c) ∷ Bin (header c) ∷ Tail c ∷ (u ++ s)))
-          → Correct (X ∷ []) (λ s. leaves c s ++ u) (AtSimple c true []) l (valued value l)
-      as_value l b e = same_start (correct_under u (valued_correct true l b)) e
-
-      name_run : (i : Leaf) (l : List Lexeme) (s : List Sym)
-          → run l (Named c ∷ (u ++ s)) ≡ run l (Post ∷ Bin (header c) ∷ Tail c ∷ (u ++ s))
-          → run (tok Name i ∷ l) (X ∷ s) ≡ run (tok Name i ∷ l)
-          (Unary (header c) ∷ Bin (header c) ∷ Tail c ∷ (u ++ s))
-      unfolding run step
-      name_run i l s e = takes X Name (Named c ∷ u) i l s x_name ∙ e
-
-      named_by_correct : (i : Leaf) (k : Terminal) (j : Leaf) (l : List Lexeme) → length l + 2 ≤ m
-          → Correct (X ∷ []) (λ s. leaves c s ++ u) (AtSimple c true []) (tok Name i ∷ tok k j ∷ l)
-          (named_by value i k j (tok Name i ∷ tok k j ∷ l) l)
-      unfolding run step
-      named_by_correct i Define j l b =
-          correct_after (tok Name i ∷ tok Define j ∷ []) refl
-          (correct_under u
-          (part_correct _ (omega (arith, b)) (λ z v w g. ((define i j g, tt), refl))))
-          (λ s. takes X Name (Named c ∷ u) i (tok Define j ∷ l) s x_name ∙ rw append_assoc refl)
-      named_by_correct i k j l b =
-          as_value (tok Name i ∷ tok k j ∷ l) (omega (arith, b))
-          (λ s. name_run i (tok k j ∷ l) s
-          (after_name (header c) (Named c) (Tail c) (tok k j) l (u ++ s) (named_nullable c) refl))
-
-      named_on_correct : (i : Leaf) (l : List Lexeme) → length l + 1 ≤ m
-          → Correct (X ∷ []) (λ s. leaves c s ++ u) (AtSimple c true []) (tok Name i ∷ l)
-          (named_on value i (tok Name i ∷ l) (first_of l))
-      named_on_correct i [] b =
-          as_value (tok Name i ∷ []) (omega (arith, b))
-          (λ s. name_run i [] s
-          (name_ends (header c) (Named c) (Tail c) (u ++ s) (named_nullable c)))
-      named_on_correct i (t ∷ l) b = named_by_correct i t.terminal t.leaf l (omega (arith, b))
-
-      pub defining_correct : (k : Terminal) (i : Leaf) (l : List Lexeme) → length l + 1 ≤ m
-          → next X k ≡ find k (starts_row (header c) (Bin (header c) ∷ Tail c ∷ u) (Named c ∷ u))
-          → Correct (X ∷ []) (λ s. leaves c s ++ u) (AtSimple c true []) (tok k i ∷ l)
-          (defining value (tok k i ∷ l))
-      defining_correct Name i l b e = named_on_correct i l b
-      defining_correct k i l b e =
-          as_value (tok k i ∷ l) (omega (arith, b))
-          (λ s. starts_as X (Unary (header c)) (Bin (header c) ∷ Tail c ∷ u) (tok k i) l s
-          (e ∙ starts_other (header c) k (Bin (header c) ∷ Tail c ∷ u) (Named c ∷ u) refl) x_stays
-          refl)
+    pub defining_correct : (k : Terminal) (i : Leaf) (l : List Lexeme) → length l + 1 ≤ m
+        → next X k ≡ find k (starts_row (header c) (Bin (header c) ∷ Tail c ∷ u) (Named c ∷ u))
+        → Correct (X ∷ [])
+        (λ s. leaves c s ++ u) (AtSimple c true []) (tok k i ∷ l) (defining value (tok k i ∷ l))
+    defining_correct Name i l b e = named_on_correct i l b
+    defining_correct k i l b e =
+        as_value (tok k i ∷ l) (omega (arith, b))
+        (λ s. starts_as X (Unary (header c)) (Bin (header c) ∷ Tail c ∷ u) (tok k i) l s
+        (e ∙ starts_other (header c) k (Bin (header c) ∷ Tail c ∷ u) (Named c ∷ u) refl) x_stays
+        refl)
 
 -- ---- what is left of the stack, at what does not continue the statement
 

@@ -1,11 +1,11 @@
 -- Names and types of the grammar are read as such.
-use Rattle.std.proofs.Common.{◌≡◌, ℕ, zero, suc, inl, inr, false, List, [], ◌∷◌, ◌++◌, refl, append_assoc, ◌+◌}
+use Rattle.std.proofs.Common.{◌≡◌, ℕ, zero, suc, inl, inr, false, List, [], ◌∷◌, ◌++◌, refl, append_assoc}
 use Rattle.rgo_ast.specs.declared.names.Ident.{Ident}
 use Rattle.rgo_ast.specs.Tree.{Binding}
 use Rattle.rgo_ast.specs.Tree as tree
 use Rattle.rgo_lexer.specs.{declared.terminals.Terminal.{Terminal, TheVariants.{Name, Comma}}, Lexemes.{Leaf, Lexeme, tok, ident, same}}
 use Rattle.rgo_grammar.specs.Grammar.{IsNames, IsType, IsBinding, Listed, IsNames.{one, more}, IsType.{named, pointer, slice, chan}, IsBinding.{binding as of_names}}
-use Rattle.rgo_grammar.specs.reading.{Read.{Done, ◌>>=◌, given, token, several}, Types.{a_type, names_by, names, bound, binding, bindings}}
+use Rattle.rgo_grammar.specs.reading.{Read.{Done, ◌>>=◌, given, token}, Types.{a_type, names_by, names, bound, binding, bindings}}
 use Rattle.rgo_grammar.proofs.reading.Complete.{Meets, meets_bind, meets_then, bind_assoc, Opens, listed_complete}
 use Rattle.rgo_grammar.proofs.types.Correct.{NoComma}
 
@@ -39,8 +39,8 @@ names_complete (more i j {x} {ns} g) (suc n) found l h =
     let d = names_complete g n (found ++ ident i ∷ []) l
     h in rw (append_assoc found (ident i ∷ []) ns) at d
 
-type_starts : (x : List Lexeme) (t : tree.TypeExpr) (l : List Lexeme) → IsType x t
-    → NoComma (x ++ l)
+type_starts : (x : List Lexeme) (t : tree.TypeExpr) (l : List Lexeme)
+    → IsType x t → NoComma (x ++ l)
 type_starts _ _ l (named i) = refl
 type_starts _ _ l (pointer i j) = refl
 type_starts _ _ l (slice i j h) = refl
@@ -66,7 +66,6 @@ pub bindings_complete : (separator closer : Terminal) → same closer separator 
     → same closer Name ≡ false → {y : List Lexeme} {bs : List Binding}
     → Listed IsBinding separator closer y bs → (n : ℕ) (l : List Lexeme)
     → (j : Leaf) × Meets (bindings separator closer n (y ++ l)) (Done (bs, j) l)
-unfolding several
 bindings_complete separator closer other name d n l =
     listed_complete separator closer other IsBinding (binding n) (binding_opens closer name)
     (λ x b h k j m s. binding_complete x b h n (tok k j ∷ m)) d n [] l

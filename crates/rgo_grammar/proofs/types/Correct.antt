@@ -1,22 +1,19 @@
 -- Reading names and types is correct.
-use Rattle.std.proofs.Common.{◌≡◌, ℕ, zero, suc, ◌<◌, ◌≤◌, List, [], ◌∷◌, ◌++◌, length, refl, ap, append_assoc, arith, append-nil, ◌+◌, ◌-◌}
+use Rattle.std.proofs.Common.{◌≡◌, ℕ, zero, suc, ◌<◌, ◌≤◌, List, [], ◌∷◌, ◌++◌, length, refl, ap, append_assoc, arith, append-nil}
 use Rattle.rgo_ast.specs.declared.names.Ident.{Ident}
 use Rattle.rgo_ast.specs.declared.ops.BinaryOp.TheVariants as op
 use Rattle.rgo_ast.specs.Tree as tree
 use Rattle.rgo_lexer.specs.{declared.terminals.Terminal.{Terminal, TheVariants.{Name, Binary, OpenBracket, CloseBracket, Comma, Chan}}, Lexemes.{Leaf, Lexeme, tok, ident, same}}
 use Rattle.rgo_grammar.specs.Grammar.{IsNames, IsType, IsBinding, Listed, IsNames.{one, more}, IsType.{named, pointer, slice, chan}, IsBinding.{binding as of_names}}
 use Rattle.rgo_grammar.specs.reading.{Read.{Reader}, Types.{type_by, a_type, names_by, names, typed_names, binding, bindings}}
-use Rattle.rgo_grammar.proofs.machine.{Table.{Sym, T, AType, NamesType, step, closer}, Runs.{run, closes}, Starts.{alike}}
+use Rattle.rgo_grammar.proofs.machine.{Table.{Sym, T, AType, NamesType, step}, Runs.{run, closes}, Starts.{alike}}
 use Rattle.rgo_grammar.proofs.reading.{Lists.{ListSyms, token_list}, Correct.{Correct, token_read, same_start, correct_bind, correct_given, correct_weaker, correct_token_then, correct_token_given, shorter, Empties, Correct.{done, stops}}, Next.{NotNext}}
 
 -- ---- types
 
-abbrev pub ATypeAt : List Lexeme → tree.TypeExpr → List Lexeme → Type 0
-ATypeAt z t w = IsType z t
-
 type_by_correct : (inner : Reader tree.TypeExpr) (k : Terminal) (i : Leaf) (m : List Lexeme)
-    → ((w : List Lexeme) → length w ≤ length m → Correct (AType ∷ []) (λ _. []) ATypeAt w (inner w))
-    → Correct (AType ∷ []) (λ _. []) ATypeAt (tok k i ∷ m) (type_by inner k i (tok k i ∷ m) m)
+    → ((w : List Lexeme) → length w ≤ length m → Empties (AType ∷ []) IsType w (inner w))
+    → Empties (AType ∷ []) IsType (tok k i ∷ m) (type_by inner k i (tok k i ∷ m) m)
 unfolding run step
 type_by_correct inner Name i m hi = done (tok Name i ∷ []) refl (named i) (λ s. refl)
 type_by_correct inner (Binary op.Mul) i m hi =
@@ -57,8 +54,8 @@ names_by_correct : (again : List Ident → Reader (List Ident)) (found : List Id
     (k : Terminal) (i : Leaf) (m : List Lexeme) → IsNames x found
     → ((ns : List Ident) (y w : List Lexeme) → length w < length m → IsNames y ns
     → Correct (NamesType ∷ []) (λ _. NamesType ∷ []) (AreNames y) w (again ns w))
-    → Correct (NamesType ∷ []) (λ _. NamesType ∷ []) (AreNames x) (tok k i ∷ m)
-    (names_by again found k (tok k i ∷ m) m)
+    → Correct (NamesType ∷ [])
+    (λ _. NamesType ∷ []) (AreNames x) (tok k i ∷ m) (names_by again found k (tok k i ∷ m) m)
 unfolding run step
 names_by_correct again found x Comma i m f hi =
     token_read (correct_token_then Name refl (λ j w c. correct_more j w c)) (λ s. refl)
@@ -100,8 +97,8 @@ typed_from n found x l h f =
     (λ y t u d. rw (← append_assoc) (of_names g.0 d))) (λ s. names_end w s g.1))
 
 pub typed_names_correct : (n : ℕ) (l : List Lexeme) → length l < n → (i : Leaf)
-    → Empties (NamesType ∷ []) (λ z b. IsBinding (tok Name i ∷ z) b) l
-    (typed_names n (ident i ∷ []) l)
+    → Empties (NamesType ∷ [])
+    (λ z b. IsBinding (tok Name i ∷ z) b) l (typed_names n (ident i ∷ []) l)
 typed_names_correct n l h i = typed_from n (ident i ∷ []) (tok Name i ∷ []) l h (one i)
 
 pub binding_correct : (n : ℕ) (l : List Lexeme) → length l < n
@@ -113,8 +110,8 @@ binding_correct n l h =
 pub bindings_correct : {separator closer : Terminal} {L E : Sym}
     → ListSyms separator closer ((Name, NamesType ∷ E ∷ []) ∷ []) L E → (n : ℕ) (l : List Lexeme)
     → length l < n
-    → Empties (L ∷ []) (λ z x. Listed IsBinding separator closer z x.0) l
-    (bindings separator closer n l)
+    → Empties (L ∷ [])
+    (λ z x. Listed IsBinding separator closer z x.0) l (bindings separator closer n l)
 bindings_correct syms n l h =
-    token_list (binding n) (length l) (λ m b. binding_correct n m (omega (arith, b, h))) syms n l h
-    (omega arith)
+    token_list (binding n) (length l)
+    (λ m b. binding_correct n m (omega (arith, b, h))) syms n l h (omega arith)

@@ -4,16 +4,16 @@ use Rattle.rgo_ast.specs.declared.names.ImportPath.{ImportPath}
 use Rattle.rgo_ast.specs.Tree as tree
 use Rattle.rgo_ast.specs.Tree.{Binding, TypeSpec, Function}
 use Rattle.rgo_lexer.specs.{declared.terminals.Terminal.{Terminal, TheVariants.{Name, Main, Text, OpenParen, CloseParen}}, declared.terminals.Terminal.TheVariants.{OpenBrace, CloseBrace, Comma, Semicolon, Package}, declared.terminals.Terminal.TheVariants.{Import, TypeWord, Struct, Var, Func}, Lexemes.{Leaf, Lexeme, ident, path}}
-use Rattle.rgo_grammar.specs.reading.{Read.{Reader, Read, Done, Failed, At, Starving, ◌>>=◌, given, first_of, token, listed, single, several}, Types.{a_type, binding, bindings}, Statements.{block}}
+use Rattle.rgo_grammar.specs.reading.{Read.{Reader, Read, Done, Failed, At, Starving, ◌>>=◌, given, first_of, token, single, several}, Types.{a_type, binding, bindings}, Statements.{block}}
 
 -- one item, or a group of them in parentheses
-abbrev pub group_by : {A : Type 0} → Reader A → ℕ → Terminal → List Lexeme → List Lexeme
-    → Read (List A)
+abbrev pub group_by : {A : Type 0} → Reader A → ℕ → Terminal → List Lexeme
+    → List Lexeme → Read (List A)
 group_by item n OpenParen l m = several Semicolon CloseParen item n [] m >>= given (λ x. x.0)
 group_by item n _ l m = single (item l)
 
-abbrev pub group_on : {A : Type 0} → Reader A → ℕ → List Lexeme → Option (Lexeme × List Lexeme)
-    → Read (List A)
+abbrev pub group_on : {A : Type 0} → Reader A → ℕ → List Lexeme
+    → Option (Lexeme × List Lexeme) → Read (List A)
 group_on item n l None = Failed (At l)
 group_on item n l (Some x) = group_by item n x.0.terminal l x.1
 
@@ -43,8 +43,8 @@ abbrev pub result_on : ℕ → List Lexeme → Option (Lexeme × List Lexeme) �
 result_on n l None = Failed (At l)
 result_on n l (Some x) = result_by n x.0.terminal l
 
-abbrev pub function : Leaf → Leaf → List Binding → Option tree.TypeExpr → List tree.Stmt → Leaf
-    → tree.Decl
+abbrev pub function : Leaf → Leaf → List Binding → Option tree.TypeExpr
+    → List tree.Stmt → Leaf → tree.Decl
 function i j ps r b end =
     tree.Func (record
     { name = ident j; params = ps; result_type = r; body = b; at = i.at; end = end.at })

@@ -9,7 +9,7 @@ use Rattle.rgo_ast.specs.Tree as tree
 use Rattle.rgo_ast.specs.Tree.{exprs_of, elements_of}
 use Rattle.rgo_lexer.specs.{Strings.{string_of}, declared.terminals.Terminal.{Terminal, TheVariants.{Name, New, Make, Number, Text, Binary, Bang}}, declared.terminals.Terminal.TheVariants.{Ampersand, Arrow, OpenParen, CloseParen}, declared.terminals.Terminal.TheVariants.{OpenBracket, CloseBracket, OpenBrace, CloseBrace}, declared.terminals.Terminal.TheVariants.{Comma, Colon, Dot, Chan}, Lexemes.{Leaf, Lexeme, ident}}
 use Rattle.rgo_grammar.specs.Grammar.{level}
-use Rattle.rgo_grammar.specs.reading.{Read.{Reader, Read, Done, Failed, At, Starving, ◌>>=◌, given, first_of, token, ended, listed, several}, Read.{Reader, single}, Types.{a_type}}
+use Rattle.rgo_grammar.specs.reading.{Read.{Reader, Read, Done, Failed, At, Starving, ◌>>=◌, given, first_of, token, ended, several}, Read.{Reader}, Types.{a_type}}
 
 -- [ "," ] ")"
 abbrev pub make_end_by : Terminal → List Lexeme → List Lexeme → Read Leaf
@@ -42,8 +42,8 @@ abbrev pub capacity : Reader tree.Expr → tree.TypeExpr → Leaf → List Lexem
 capacity inner t i l = capacity_on inner t i l (first_of l)
 
 -- after a channel's type
-abbrev pub sized_by : Reader tree.Expr → tree.TypeExpr → Leaf → Terminal → List Lexeme → List Lexeme
-    → Read tree.Expr
+abbrev pub sized_by : Reader tree.Expr → tree.TypeExpr → Leaf → Terminal → List Lexeme
+    → List Lexeme → Read tree.Expr
 sized_by inner t i CloseParen l m = Done (tree.MakeChan t tree.no_capacity i.at) m
 sized_by inner t i Comma l m = capacity inner t i m
 sized_by inner t i _ l m = Failed (At l)
@@ -61,15 +61,15 @@ abbrev pub make_slice : Reader tree.Expr → Leaf → tree.TypeExpr → List Lex
 make_slice inner i t l =
     token Comma l >>= λ _ w. inner w >>= λ v u. make_end u >>= given (λ _. tree.MakeSlice t v i.at)
 
-abbrev pub made_by : ℕ → Reader tree.Expr → Leaf → Terminal → List Lexeme → List Lexeme
-    → Read tree.Expr
+abbrev pub made_by : ℕ → Reader tree.Expr → Leaf → Terminal → List Lexeme
+    → List Lexeme → Read tree.Expr
 made_by n inner i OpenBracket l m =
     token CloseBracket m >>= λ _ w. a_type n w >>= make_slice inner i
 made_by n inner i Chan l m = a_type n m >>= λ t. sized inner t i
 made_by n inner i _ l m = Failed (At l)
 
-abbrev pub made_on : ℕ → Reader tree.Expr → Leaf → List Lexeme → Option (Lexeme × List Lexeme)
-    → Read tree.Expr
+abbrev pub made_on : ℕ → Reader tree.Expr → Leaf → List Lexeme
+    → Option (Lexeme × List Lexeme) → Read tree.Expr
 made_on n inner i l None = Failed (At l)
 made_on n inner i l (Some x) = made_by n inner i x.0.terminal l x.1
 
@@ -86,8 +86,8 @@ abbrev pub parens : Reader tree.Expr → Leaf → List Lexeme → Read tree.Expr
 parens inner i l = inner l >>= λ v w. token CloseParen w >>= given (λ _. tree.Paren v i.at)
 
 -- what a Primary begins with
-abbrev pub operand_by : ℕ → Reader tree.Expr → Terminal → Leaf → List Lexeme → List Lexeme
-    → Read tree.Expr
+abbrev pub operand_by : ℕ → Reader tree.Expr → Terminal → Leaf → List Lexeme
+    → List Lexeme → Read tree.Expr
 operand_by n inner Name i l m = Done (tree.Name (ident i)) m
 operand_by n inner (Number v) i l m = Done (tree.Number v i.at) m
 operand_by n inner Text i l m = Done (tree.Text (string_of i.word) i.at) m
@@ -96,8 +96,8 @@ operand_by n inner New i l m = new_at i m
 operand_by n inner Make i l m = token OpenParen m >>= λ _. made n inner i
 operand_by n inner _ i l m = Failed (At l)
 
-abbrev pub operand_on : ℕ → Reader tree.Expr → List Lexeme → Option (Lexeme × List Lexeme)
-    → Read tree.Expr
+abbrev pub operand_on : ℕ → Reader tree.Expr → List Lexeme
+    → Option (Lexeme × List Lexeme) → Read tree.Expr
 operand_on n inner l None = Failed (At l)
 operand_on n inner l (Some x) = operand_by n inner x.0.terminal x.0.leaf l x.1
 
@@ -178,8 +178,8 @@ post_on n inner again v l None = Done v l
 post_on n inner again v l (Some x) = post_by n inner again v x.0.terminal x.0.leaf l x.1
 
 -- `header`: no literal is allowed here
-abbrev pub literal_if : Bool → ℕ → Reader tree.Expr → Leaf → List Lexeme → List Lexeme
-    → Read tree.Expr
+abbrev pub literal_if : Bool → ℕ → Reader tree.Expr → Leaf → List Lexeme
+    → List Lexeme → Read tree.Expr
 literal_if true n inner i l m = Failed (At l)
 literal_if false n inner i l m = literal n inner i m
 
@@ -204,8 +204,8 @@ unary_on header n inner again primary l (Some x) =
 abbrev pub climb_by : (ℕ → Reader tree.Expr) → (tree.Expr → Reader tree.Expr) → ℕ → tree.Expr
     → Terminal → Leaf → List Lexeme → List Lexeme → Read tree.Expr
 climb_by right again least a (Binary o) i l m =
-    if nat_le least (level o) then right (level o + 1) m >>= (λ b. again (tree.Binary o a b i.at))
-    else Done a l
+    if nat_le least (level o) then right (level o + 1) m
+    >>= (λ b. again (tree.Binary o a b i.at)) else Done a l
 climb_by right again least a _ i l m = Done a l
 
 abbrev pub climb_on : (ℕ → Reader tree.Expr) → (tree.Expr → Reader tree.Expr) → ℕ → tree.Expr

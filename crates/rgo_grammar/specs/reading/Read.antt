@@ -51,8 +51,8 @@ abbrev pub ended : {A : Type 0} → Terminal → Terminal → (List A → Reader
 ended separator closer again found l = ended_on separator closer again found l (first_of l)
 
 abbrev pub listed_on : {A : Type 0} → Terminal → Terminal → Reader (List A)
-    → (List A → Reader (List A × Leaf)) → List A → List Lexeme → Option (Lexeme × List Lexeme)
-    → Read (List A × Leaf)
+    → (List A → Reader (List A × Leaf)) → List A → List Lexeme
+    → Option (Lexeme × List Lexeme) → Read (List A × Leaf)
 listed_on separator closer item again found l None = Failed (At l)
 listed_on separator closer item again found l (Some x) =
     if same closer x.0.terminal then Done (found, x.0.leaf) x.1 else
@@ -69,6 +69,6 @@ abbrev pub single : {A : Type 0} → Read A → Read (List A)
 single m = m >>= given (λ a. a ∷ [])
 
 -- items that are read one by one, up to what closes them, after those that were found
-unfoldable pub several : {A : Type 0} → Terminal → Terminal → Reader A → ℕ → List A → List Lexeme
-    → Read (List A × Leaf)
+unfoldable pub several : {A : Type 0} → Terminal → Terminal → Reader A → ℕ → List A
+    → List Lexeme → Read (List A × Leaf)
 several separator closer item n found l = listed separator closer (λ m. single (item m)) n found l

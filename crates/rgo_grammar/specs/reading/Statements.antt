@@ -9,15 +9,15 @@ use Rattle.rgo_grammar.specs.reading.{Read.{Reader, Read, Done, Failed, At, Star
 -- Below, `value` reads an expression: one of a header where the statement is in a header.
 
 -- what follows the first expression of a simple statement
-abbrev pub simple_by : Reader tree.Expr → tree.Expr → Terminal → Leaf → List Lexeme → List Lexeme
-    → Read tree.Stmt
+abbrev pub simple_by : Reader tree.Expr → tree.Expr → Terminal → Leaf → List Lexeme
+    → List Lexeme → Read tree.Stmt
 simple_by value a Arrow i l m = value m >>= given (λ b. tree.Send a b i.at)
 simple_by value a (Step o) i l m = Done (tree.Step o a i.at) m
 simple_by value a (Assign o) i l m = value m >>= given (λ b. tree.Assign o a b i.at)
 simple_by value a _ i l m = Done (tree.Plain a) l
 
-abbrev pub simple_on : Reader tree.Expr → tree.Expr → List Lexeme → Option (Lexeme × List Lexeme)
-    → Read tree.Stmt
+abbrev pub simple_on : Reader tree.Expr → tree.Expr → List Lexeme
+    → Option (Lexeme × List Lexeme) → Read tree.Stmt
 simple_on value a l None = Done (tree.Plain a) l
 simple_on value a l (Some x) = simple_by value a x.0.terminal x.0.leaf l x.1
 
@@ -26,23 +26,23 @@ abbrev pub valued : Reader tree.Expr → List Lexeme → Read tree.Stmt
 valued value l = value l >>= λ a w. simple_on value a w (first_of w)
 
 -- after a name that begins a statement
-abbrev pub named_by : Reader tree.Expr → Leaf → Terminal → Leaf → List Lexeme → List Lexeme
-    → Read tree.Stmt
+abbrev pub named_by : Reader tree.Expr → Leaf → Terminal → Leaf → List Lexeme
+    → List Lexeme → Read tree.Stmt
 named_by value i Define j l m = value m >>= given (λ v. tree.Define (ident i) v j.at)
 named_by value i _ j l m = valued value l
 
-abbrev pub named_on : Reader tree.Expr → Leaf → List Lexeme → Option (Lexeme × List Lexeme)
-    → Read tree.Stmt
+abbrev pub named_on : Reader tree.Expr → Leaf → List Lexeme
+    → Option (Lexeme × List Lexeme) → Read tree.Stmt
 named_on value i l None = valued value l
 named_on value i l (Some x) = named_by value i x.0.terminal x.0.leaf l x.1
 
-abbrev pub defining_by : Reader tree.Expr → Terminal → Leaf → List Lexeme → List Lexeme
-    → Read tree.Stmt
+abbrev pub defining_by : Reader tree.Expr → Terminal → Leaf → List Lexeme
+    → List Lexeme → Read tree.Stmt
 defining_by value Name i l m = named_on value i l (first_of m)
 defining_by value _ i l m = valued value l
 
-abbrev pub defining_on : Reader tree.Expr → List Lexeme → Option (Lexeme × List Lexeme)
-    → Read tree.Stmt
+abbrev pub defining_on : Reader tree.Expr → List Lexeme
+    → Option (Lexeme × List Lexeme) → Read tree.Stmt
 defining_on value l None = Failed (At l)
 defining_on value l (Some x) = defining_by value x.0.terminal x.0.leaf l x.1
 
@@ -63,15 +63,15 @@ initial value i t l None = Done (tree.Zero (bound (ident i ∷ []) t)) l
 initial value i t l (Some x) = initial_by value i t x.0.terminal x.0.leaf l x.1
 
 -- after the first name of a declaration of local variables
-abbrev pub local_by : ℕ → Reader tree.Expr → Leaf → Terminal → Leaf → List Lexeme → List Lexeme
-    → Read tree.LocalVar
+abbrev pub local_by : ℕ → Reader tree.Expr → Leaf → Terminal → Leaf → List Lexeme
+    → List Lexeme → Read tree.LocalVar
 local_by n value i Comma j l m = typed_names n (ident i ∷ []) l >>= given tree.Zero
 local_by n value i (Assign assign_op.Plain) j l m =
     value m >>= given (λ v. tree.Inferred (ident i) v j.at)
 local_by n value i _ j l m = a_type n l >>= λ t w. initial value i t w (first_of w)
 
-abbrev pub local_on : ℕ → Reader tree.Expr → Leaf → List Lexeme → Option (Lexeme × List Lexeme)
-    → Read tree.LocalVar
+abbrev pub local_on : ℕ → Reader tree.Expr → Leaf → List Lexeme
+    → Option (Lexeme × List Lexeme) → Read tree.LocalVar
 local_on n value i l None = Failed (At l)
 local_on n value i l (Some x) = local_by n value i x.0.terminal x.0.leaf l x.1
 
@@ -99,8 +99,8 @@ return_by value i Semicolon l = Done (tree.Return None i.at) l
 return_by value i CloseBrace l = Done (tree.Return None i.at) l
 return_by value i _ l = value l >>= given (λ v. tree.Return (Some v) i.at)
 
-abbrev pub return_on : Reader tree.Expr → Leaf → List Lexeme → Option (Lexeme × List Lexeme)
-    → Read tree.Stmt
+abbrev pub return_on : Reader tree.Expr → Leaf → List Lexeme
+    → Option (Lexeme × List Lexeme) → Read tree.Stmt
 return_on value i l None = Failed (At l)
 return_on value i l (Some x) = return_by value i x.0.terminal l
 
@@ -201,12 +201,12 @@ abbrev pub looped : Reader (List tree.Stmt × Leaf) → Leaf → Option tree.Stm
 looped block i s c p l =
     block l >>= given (λ b. tree.For (clause_of s) c (clause_of p) (stmts_of b.0) i.at)
 
-abbrev pub for_rest : Reader (List tree.Stmt × Leaf) → Reader tree.Expr → Leaf → Head → List Lexeme
-    → Read tree.Stmt
+abbrev pub for_rest : Reader (List tree.Stmt × Leaf) → Reader tree.Expr → Leaf → Head
+    → List Lexeme → Read tree.Stmt
 for_rest block value i (condition c) l = looped block i None (Some c) None l
 for_rest block value i (init s) l =
-    condition_on value l (first_of l) >>= λ c w. step_on value w (first_of w) >>= λ p. looped block
-    i s c p
+    condition_on value l (first_of l) >>= λ c w. step_on value w (first_of w)
+    >>= λ p. looped block i s c p
 
 abbrev pub for_by : Reader (List tree.Stmt × Leaf) → Reader tree.Expr → Leaf → Terminal
     → List Lexeme → Read tree.Stmt

@@ -5,10 +5,10 @@ use Rattle.rgo_ast.specs.declared.names.Ident.{Ident}
 use Rattle.rgo_ast.specs.Tree as tree
 use Rattle.rgo_ast.specs.Tree.{Binding}
 use Rattle.rgo_lexer.specs.{declared.terminals.Terminal.{Terminal, TheVariants.{Name, Binary, OpenBracket, CloseBracket, Comma}}, declared.terminals.Terminal.TheVariants.{Chan}, Lexemes.{Leaf, Lexeme, ident}}
-use Rattle.rgo_grammar.specs.reading.Read.{Reader, Read, Done, Failed, At, Starving, ◌>>=◌, given, first_of, token, listed, single, several}
+use Rattle.rgo_grammar.specs.reading.Read.{Reader, Read, Done, Failed, At, Starving, ◌>>=◌, given, first_of, token, several}
 
-abbrev pub type_by : Reader tree.TypeExpr → Terminal → Leaf → List Lexeme → List Lexeme
-    → Read tree.TypeExpr
+abbrev pub type_by : Reader tree.TypeExpr → Terminal → Leaf → List Lexeme
+    → List Lexeme → Read tree.TypeExpr
 type_by inner Name i l m = Done (tree.Named (ident i)) m
 type_by inner (Binary op.Mul) i l m = token Name m >>= given (λ j. tree.Pointer (ident j) i.at)
 type_by inner OpenBracket i l m =
@@ -16,8 +16,8 @@ type_by inner OpenBracket i l m =
 type_by inner Chan i l m = inner m >>= given (λ t. tree.Chan t i.at)
 type_by inner _ i l m = Failed (At l)
 
-abbrev pub type_on : Reader tree.TypeExpr → List Lexeme → Option (Lexeme × List Lexeme)
-    → Read tree.TypeExpr
+abbrev pub type_on : Reader tree.TypeExpr → List Lexeme
+    → Option (Lexeme × List Lexeme) → Read tree.TypeExpr
 type_on inner l None = Failed (At l)
 type_on inner l (Some x) = type_by inner x.0.terminal x.0.leaf l x.1
 
