@@ -1,5 +1,5 @@
 -- Where no node breaks a rule, each expression has a type.
-use Rattle.std.proofs.Common.{◌≡◌, ◌++◌, ◌&&◌, ℕ, zero, suc, ℤ, Bool, true, false, not, List, [], ◌∷◌, get_or}
+use Rattle.std.proofs.Common.{◌≡◌, ◌++◌, ◌&&◌, ℕ, ℤ, Bool, true, false, not, List, [], ◌∷◌}
 use Rattle.std.proofs.Common.{Option, Some, None, is_some, is_none, refl, ap, sym, ◌∙◌, true≢false}
 use Rattle.std.specs.List.{list_all}
 use Rattle.rgo_ast.specs.Tree as tree

@@ -1,5 +1,5 @@
 //! Binary operations, from their checked operands.
-#![tactic(auto, using(crate::proofs::Trees::terms))]
+#![tactic(auto)]
 
 ghost use Rattle.std.specs.Prelude.{◌≡◌, [], ◌∷◌, IfOk};
 ghost use Rattle.rgo_typed.specs.Tree as tree;
@@ -24,15 +24,17 @@ use std::alloc::{AllocError, Global};
 
 /// Refuses a binary operation for the first rule that it breaks. Returns its value where it is a
 /// constant.
-#[tactic(auto, using(crate::proofs::Trees::terms), unfolding(rgo_typing_rules::specs::Rules::broken))]
+#[tactic(auto, unfolding(rgo_typing_rules::specs::Rules::broken))]
 fn check_binary(
     op: BinaryOp,
     left: Shape<'_>,
     right: Shape<'_>,
     at: Place,
 ) -> Result<Option<i64>, TypeError>
-    ensures checked { Checks result ((at, node.Binary op (shape_of left.entry) (shape_of right.entry)) ∷ []) }
-    ensures value { IfOk result (λ n. n ≡ folded_shapes op (shape_of left.entry) (shape_of right.entry)) }
+    ensures checked { Checks result
+        ((at, node.Binary op (shape_of left.entry) (shape_of right.entry)) ∷ []) }
+    ensures value { IfOk result
+        (λ n. n ≡ folded_shapes op (shape_of left.entry) (shape_of right.entry)) }
 {
     check_node(at, &Node::Binary(op, left, right))?;
     match (left, right) {
@@ -102,7 +104,8 @@ fn operation(
     at: Place,
 ) -> Result<Term, AllocError>
     ensures { IfOk result (λ t. term_of t ≡ terms.operation op
-        (shape_of left.entry.shape) (shape_of right.entry.shape) (term_of left.entry.term) (term_of right.entry.term) at) }
+        (shape_of left.entry.shape) (shape_of right.entry.shape)
+        (term_of left.entry.term) (term_of right.entry.term) at) }
 {
     match op {
         BinaryOp::And => logic(alloc, Logical::And, left.term, right.term, at),
@@ -126,7 +129,8 @@ pub(crate) fn binary<'a>(
 ) -> Result<Checked<'a>, TypeError>
     ensures { ChecksTo result
         ((at, node.Binary op (shape_of left.entry.shape) (shape_of right.entry.shape)) ∷ [])
-        (types.constant_or (folded_shapes op (shape_of left.entry.shape) (shape_of right.entry.shape))
+        (types.constant_or
+        (folded_shapes op (shape_of left.entry.shape) (shape_of right.entry.shape))
         (shape.Value (types.binary_type op)))
         (terms.binary_term op (shape_of left.entry.shape) (shape_of right.entry.shape)
         (term_of left.entry.term) (term_of right.entry.term) at) }

@@ -1,5 +1,5 @@
 //! What a callee is, and which expressions may be statements or be assigned to.
-#![tactic(auto, using(crate::proofs::Trees::exprs))]
+#![tactic(auto)]
 
 ghost use Rattle.std.specs.Prelude.{◌≡◌, bytes_eq, codes};
 ghost use Rattle.rgo_ast.specs.Views.{expr_of};
@@ -105,10 +105,7 @@ impl<'p, 'a> Checker<'p, 'a> {
         ensures { result ≡ spec.names_package self.now (expr_of e.now) }
     {
         match e {
-            Expr::Name(x) => matches!(
-                self.meaning(x.name.bytes()),
-                Some(Meaning::Package(_))
-            ),
+            Expr::Name(x) => matches!(self.meaning(x.name.bytes()), Some(Meaning::Package(_))),
             _ => false,
         }
     }
@@ -146,8 +143,8 @@ impl<'p, 'a> Checker<'p, 'a> {
         }
     }
 
-    /// Whether it is a variable, a field or an element, and so may be assigned to (The Go Programming
-    /// Language Specification, "Assignment statements").
+    /// Whether it is a variable, a field or an element, and so may be assigned to (The Go
+    /// Programming Language Specification, "Assignment statements").
     pub fn is_place(&self, e: &Expr) -> bool
         ensures { result ≡ spec.is_place self.now (expr_of e.now) }
     {

@@ -1,5 +1,5 @@
 //! Calls, from their callee and their checked arguments.
-#![tactic(auto, using(crate::proofs::Trees::terms))]
+#![tactic(auto)]
 
 ghost use Rattle.std.specs.Prelude.{◌≡◌, [], ◌∷◌, IfOk, map};
 ghost use Rattle.rgo_typed.specs.Tree as tree;
@@ -42,6 +42,7 @@ fn result_or_int(alloc: Global, result_type: Option<Kind<'_>>) -> Result<Type, A
 }
 
 /// A call of a function.
+#[tactic(auto, using(crate::proofs::Trees::terms))]
 fn routine<'a>(
     alloc: Global,
     role: Role,
@@ -51,7 +52,11 @@ fn routine<'a>(
     at: Place,
 ) -> Result<Checked<'a>, TypeError>
     ensures { ChecksTo result
-        ((at, node.Call role (signature_of signature.now) (map shape_of args.entry.shapes.items)) ∷ [])
+        ((
+          at,
+          node.Call role (signature_of signature.now)
+              (map shape_of args.entry.shapes.items),
+        ) ∷ [])
         (types.result_shape (signature_of signature.now).result_type)
         (tree.Call number (tree.terms_of (map term_of args.entry.terms.items))
         (terms.result_or_int (signature_of signature.now).result_type) at) }
@@ -65,9 +70,11 @@ fn routine<'a>(
 }
 
 /// A call of `len`.
+#[tactic(auto, using(crate::proofs::Trees::terms))]
 fn length<'a>(alloc: Global, args: Values<'a>, at: Place) -> Result<Checked<'a>, TypeError>
     ensures { ChecksTo result ((at, node.CallLen (map shape_of args.entry.shapes.items)) ∷ [])
-        (shape.Value int) (tree.Apply Len (tree.terms_of (map term_of args.entry.terms.items)) int at) }
+        (shape.Value int)
+        (tree.Apply Len (tree.terms_of (map term_of args.entry.terms.items)) int at) }
 {
     check_node(at, &Node::CallLen(&args.shapes))?;
     let ty = plain(alloc, Base::Int);
@@ -88,7 +95,7 @@ fn nothing<'a>(alloc: Global, at: Place) -> Checked<'a>
 }
 
 /// A call (The Go Programming Language Specification, "Calls").
-#[tactic(auto, using(crate::proofs::Trees::terms), unfolding(rgo_typing_rules::specs::Rules::broken))]
+#[tactic(auto, unfolding(rgo_typing_rules::specs::Rules::broken))]
 pub fn call<'a>(
     alloc: Global,
     globals: &Package<'a>,
@@ -98,9 +105,13 @@ pub fn call<'a>(
     at: Place,
 ) -> Result<Checked<'a>, TypeError>
     ensures { ChecksTo result
-        ((call_place at callee, call_node globals.now role callee (map shape_of args.entry.shapes.items)) ∷ [])
+        ((
+          call_place at callee,
+          call_node globals.now role callee (map shape_of args.entry.shapes.items),
+        ) ∷ [])
         (types.call_shape globals.now callee)
-        (terms.call_term globals.now callee (tree.terms_of (map term_of args.entry.terms.items)) at) }
+        (terms.call_term globals.now callee
+        (tree.terms_of (map term_of args.entry.terms.items)) at) }
 {
     match callee {
         Callee::Missing(name_at) => {

@@ -40,11 +40,7 @@ impl<'p, 'a> Checker<'p, 'a> {
     }
 
     /// A checker of a package at a point with these local variables in scope.
-    pub fn with_scope(
-        alloc: Global,
-        globals: &'p Package<'a>,
-        scope: Scope<'a>,
-    ) -> Checker<'p, 'a>
+    pub fn with_scope(alloc: Global, globals: &'p Package<'a>, scope: Scope<'a>) -> Checker<'p, 'a>
         ensures { result ≡ record { globals = globals.now; scope = scope.entry } }
     {
         Checker {
@@ -86,7 +82,8 @@ impl<'p, 'a> Checker<'p, 'a> {
 
     /// Declares a local variable in the innermost block. On allocation failure nothing changes.
     pub fn declare(&mut self, name: &'a [u8], kind: Kind<'a>) -> Result<(), AllocError>
-        ensures declared { OnOk result (self.new ≡ in_scope (with_local name.now (kind_of kind.entry) self.old.scope) self.old) }
+        ensures declared { OnOk result (self.new
+            ≡ in_scope (with_local name.now (kind_of kind.entry) self.old.scope) self.old) }
         ensures err { OnErr result (self.new ≡ self.old) }
     {
         self.scope.declare(name, kind)

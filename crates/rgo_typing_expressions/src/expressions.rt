@@ -1,5 +1,5 @@
 //! Expressions: checked in the order of the text, parts before the whole, and made typed trees.
-#![tactic(auto, using(crate::proofs::Trees::exprs, crate::proofs::Trees::terms, rgo_typing_rules::proofs::Refusals::refusals))]
+#![tactic(auto)]
 
 ghost use Rattle.std.specs.Prelude.{◌≡◌, [], ◌∷◌, IfOk, map};
 ghost use Rattle.rgo_ast.specs.Tree as ast;
@@ -8,10 +8,9 @@ ghost use Rattle.rgo_typing_rules.specs.Checks.{Checks};
 ghost use Rattle.rgo_typing_rules.specs.Views.{kind_of, optional_kind_of};
 ghost use Rattle.rgo_typing_rules.specs.declared.roles.Role.TheVariants.{Value};
 ghost use Rattle.rgo_typing_expressions.specs.Checking as checking;
-ghost use Rattle.rgo_typing_expressions.specs.Results.{ChecksTo, ChecksToAll};
+ghost use Rattle.rgo_typing_expressions.specs.Results.{ChecksExpr, ChecksExprs, ChecksElements};
 ghost use Rattle.rgo_typing_expressions.specs.Scopes.{meaning_of};
 ghost use Rattle.rgo_typing_expressions.specs.Terms as terms;
-ghost use Rattle.rgo_typing_expressions.specs.Types as types;
 
 use crate::binary_operations::binary;
 use crate::callees::Callee;
@@ -24,7 +23,7 @@ use crate::operands::{known_term, number, text, wanted_term};
 use crate::operations::{index, select, unary};
 use crate::packages::Package;
 use crate::results::{Checked, Values};
-use rgo_ast::{Element, Expr, Ident};
+use rgo_ast::{Element, Expr, Ident, Place};
 use rgo_typing_rules::{Kind, Meaning, Node, Role, TypeError, check_node};
 
 /// No types.
@@ -70,9 +69,9 @@ impl<'p, 'a> Checker<'p, 'a> {
 
     /// Checks an expression (The Go Programming Language Specification, "Expressions").
     #[cycle(expressions)]
+    #[tactic(auto, using(crate::proofs::Trees::exprs, rgo_typing_rules::proofs::Refusals::refusals))]
     pub fn check_expr(&self, role: Role, e: &'a Expr) -> Result<Checked<'a>, TypeError>
-        ensures { ChecksTo result (checking.nodes self.now role (expr_of e.now))
-            (types.type_of self.now (expr_of e.now)) (terms.term_of self.now (expr_of e.now)) }
+        ensures { ChecksExpr result self.now role (expr_of e.now) }
     {
         let alloc = self.alloc();
         match e {
@@ -83,8 +82,8 @@ impl<'p, 'a> Checker<'p, 'a> {
             Expr::New(x, at) => new_object(alloc, self.check_base(x)?, *at),
             Expr::MakeSlice(element, size, at) => {
                 self.check_type(element)?;
-                let size = self.check_expr(Role::Value, size)?;
-                make_slice(alloc, Kind::Slice(element, self.resolve_base(element)), size, *at)
+                let kind = Kind::Slice(element, self.resolve_base(element));
+                make_slice(alloc, kind, self.check_expr(Role::Value, size)?, *at)
             }
             Expr::MakeChan(element, None, at) => {
                 self.check_type(element)?;
@@ -93,8 +92,8 @@ impl<'p, 'a> Checker<'p, 'a> {
             }
             Expr::MakeChan(element, Some(capacity), at) => {
                 self.check_type(element)?;
-                let capacity = self.check_expr(Role::Value, capacity)?;
-                make_buffered(alloc, Kind::Chan(element, self.resolve_base(element)), capacity, *at)
+                let kind = Kind::Chan(element, self.resolve_base(element));
+                make_buffered(alloc, kind, self.check_expr(Role::Value, capacity)?, *at)
             }
             Expr::Select(inner, field) => {
                 let inner = self.check_expr(Role::Value, inner)?;
@@ -121,23 +120,49 @@ impl<'p, 'a> Checker<'p, 'a> {
                 let right = self.check_expr(Role::Value, right)?;
                 binary(alloc, *op, left, right, *at)
             }
-            Expr::Literal(x, values, at) => {
-                let found = self.check_base(x)?;
-                let wanted = kinds_of(self.globals(), found);
-                let values = self.check_all(Role::Value, wanted, values)?;
-                literal(alloc, self.globals(), found, values, *at)
-            }
-            Expr::Keyed(x, elements, at) => {
-                let found = self.check_base(x)?;
-                let fields = find_named(alloc, self.globals(), found, elements)?;
-                let values = self.check_elements(&fields.kinds, elements)?;
-                keyed(alloc, found, elements, fields, values, *at)
-            }
+            Expr::Literal(x, values, at) => self.check_literal(x, values, *at),
+            Expr::Keyed(x, elements, at) => self.check_keyed(x, elements, *at),
         }
     }
 
-    /// Checks the parts of a callee that is not `fmt` followed by a name; the callee itself is checked
-    /// with its call.
+    /// Checks a literal by its values in order.
+    #[cycle(expressions)]
+    #[tactic(auto, using(rgo_typing_rules::proofs::Refusals::refusals))]
+    fn check_literal(
+        &self,
+        x: &'a Ident,
+        values: &'a [Expr],
+        at: Place,
+    ) -> Result<Checked<'a>, TypeError>
+        ensures { ChecksExpr result self.now Value
+            (ast.Literal x.now (ast.exprs_of (map expr_of values.now)) at) }
+    {
+        let found = self.check_base(x)?;
+        let wanted = kinds_of(self.globals(), found);
+        let values = self.check_all(Role::Value, wanted, values)?;
+        literal(self.alloc(), self.globals(), found, values, at)
+    }
+
+    /// Checks a literal by fields.
+    #[cycle(expressions)]
+    #[tactic(auto, using(rgo_typing_rules::proofs::Refusals::refusals))]
+    fn check_keyed(
+        &self,
+        x: &'a Ident,
+        elements: &'a [Element],
+        at: Place,
+    ) -> Result<Checked<'a>, TypeError>
+        ensures { ChecksExpr result self.now Value
+            (ast.Keyed x.now (ast.elements_of (map element_of elements.now)) at) }
+    {
+        let found = self.check_base(x)?;
+        let fields = find_named(self.alloc(), self.globals(), found, elements)?;
+        let values = self.check_elements(&fields.kinds, elements)?;
+        keyed(self.alloc(), found, elements, fields, values, at)
+    }
+
+    /// Checks the parts of a callee that is not `fmt` followed by a name; the callee itself is
+    /// checked with its call.
     #[cycle(expressions)]
     pub fn check_callee(&self, f: &'a Expr) -> Result<(), TypeError>
         ensures { Checks result (checking.callee_nodes self.now (expr_of f.now)) }
@@ -151,6 +176,7 @@ impl<'p, 'a> Checker<'p, 'a> {
 
     /// Checks the parts of an expression, and not the expression itself.
     #[cycle(expressions)]
+    #[tactic(auto, using(crate::proofs::Trees::exprs, rgo_typing_rules::proofs::Refusals::refusals))]
     fn check_parts(&self, e: &'a Expr) -> Result<(), TypeError>
         ensures { Checks result (checking.parts self.now (expr_of e.now)) }
     {
@@ -196,10 +222,8 @@ impl<'p, 'a> Checker<'p, 'a> {
         wanted: &[Kind<'a>],
         all: &'a [Expr],
     ) -> Result<Values<'a>, TypeError>
-        ensures { ChecksToAll result
-            (checking.all_nodes self.now role (ast.exprs_of (map expr_of all.now)))
-            (types.types_of self.now (ast.exprs_of (map expr_of all.now)))
-            (terms.all_terms self.now (map kind_of wanted.now) (ast.exprs_of (map expr_of all.now))) }
+        ensures { ChecksExprs result self.now role (map kind_of wanted.now)
+            (ast.exprs_of (map expr_of all.now)) }
     {
         let mut terms = Vec::new(self.alloc());
         let mut shapes = Vec::new(self.alloc());
@@ -212,7 +236,7 @@ impl<'p, 'a> Checker<'p, 'a> {
         Ok(Values { terms, shapes })
     }
 
-    /// Checks the values of a literal by fields, each as a value of its field's type, where there is
+    /// Checks the values of a literal by fields, each as a value of its field's type, if there is
     /// such a field.
     #[cycle(expressions)]
     fn check_elements(
@@ -220,11 +244,8 @@ impl<'p, 'a> Checker<'p, 'a> {
         known: &[Option<Kind<'a>>],
         elements: &'a [Element],
     ) -> Result<Values<'a>, TypeError>
-        ensures { ChecksToAll result
-            (checking.element_nodes self.now (ast.elements_of (map element_of elements.now)))
-            (types.types_of self.now (checking.values_of (ast.elements_of (map element_of elements.now))))
-            (terms.element_terms self.now (map optional_kind_of known.now)
-            (ast.elements_of (map element_of elements.now))) }
+        ensures { ChecksElements result self.now (map optional_kind_of known.now)
+            (ast.elements_of (map element_of elements.now)) }
     {
         let mut terms = Vec::new(self.alloc());
         let mut shapes = Vec::new(self.alloc());

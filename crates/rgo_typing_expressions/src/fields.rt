@@ -6,8 +6,8 @@ ghost use Rattle.rgo_typing_expressions.specs.Results.{found_field};
 ghost use Rattle.rgo_typing_expressions.specs.Types as spec;
 
 use crate::packages::{Fields, Package};
-use rgo_typing_rules::{Kind, Shape};
 use rgo_typed::Base;
+use rgo_typing_rules::{Kind, Shape};
 
 /// A field, by its number in the struct and its type.
 #[derive(Clone, Copy)]

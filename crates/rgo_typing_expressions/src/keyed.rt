@@ -1,5 +1,5 @@
 //! Composite literals by fields.
-#![tactic(auto, using(crate::proofs::Trees::exprs, crate::proofs::Trees::terms))]
+#![tactic(auto)]
 
 ghost use Rattle.std.specs.Prelude.{◌≡◌, [], ◌∷◌, IfOk, map};
 ghost use Rattle.rgo_ast.specs.Tree as ast;
@@ -36,7 +36,8 @@ fn fields_named<'a>(
     fields: &Fields<'a>,
     elements: &[Element],
 ) -> Result<Named<'a>, AllocError>
-    ensures { IfOk result (λ named. FieldsOf named fields.now (ast.elements_of (map element_of elements.now))) }
+    ensures { IfOk result (λ named. FieldsOf named fields.now
+        (ast.elements_of (map element_of elements.now))) }
 {
     let mut kinds = Vec::new(alloc);
     let mut numbers = Vec::new(alloc);
@@ -63,7 +64,8 @@ pub(crate) fn find_named<'a>(
     elements: &[Element],
 ) -> Result<Named<'a>, AllocError>
     ensures { IfOk result (λ named. FieldsOf named
-        (checking.struct_fields globals.now meaning) (ast.elements_of (map element_of elements.now))) }
+        (checking.struct_fields globals.now meaning)
+        (ast.elements_of (map element_of elements.now))) }
 {
     match globals.structs.get(struct_number(meaning)) {
         Some(fields) => fields_named(alloc, fields, elements),
@@ -79,7 +81,8 @@ pub(crate) fn find_named<'a>(
 
 /// Whether two elements name one field.
 fn has_twice(alloc: Global, elements: &[Element]) -> Result<bool, AllocError>
-    ensures { IfOk result (λ b. b ≡ checking.has_twice no_names (ast.elements_of (map element_of elements.now))) }
+    ensures { IfOk result
+        (λ b. b ≡ checking.has_twice no_names (ast.elements_of (map element_of elements.now))) }
 {
     let mut seen: Scopes<'_, usize> = Scopes::new(alloc);
     for element in elements {
@@ -93,7 +96,7 @@ fn has_twice(alloc: Global, elements: &[Element]) -> Result<bool, AllocError>
 
 /// `&T{f: a, g: b}`, from its checked values (The Go Programming Language Specification, "Composite
 /// literals").
-#[tactic(auto, using(crate::proofs::Trees::exprs, crate::proofs::Trees::terms), unfolding(rgo_typing_rules::specs::Rules::broken))]
+#[tactic(auto, using(crate::proofs::Trees::terms), unfolding(rgo_typing_rules::specs::Rules::broken))]
 pub(crate) fn keyed<'a>(
     alloc: Global,
     meaning: Option<Meaning>,
@@ -110,7 +113,8 @@ pub(crate) fn keyed<'a>(
           (map shape_of values.entry.shapes.items),
     ) ∷ [])
         (types.pointer_shape meaning)
-        (tree.Build (checking.struct_number meaning) (tree.terms_of (map term_of values.entry.terms.items))
+        (tree.Build (checking.struct_number meaning)
+        (tree.terms_of (map term_of values.entry.terms.items))
         named.entry.numbers.items at) }
 {
     let twice = has_twice(alloc, elements)?;

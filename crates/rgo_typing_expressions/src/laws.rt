@@ -1,8 +1,9 @@
-//! What holds of the typing of every expression, whatever judges it.
+//! The laws of the typing of expressions.
 
 ghost use Rattle.rgo_typing_expressions.specs.Laws.{TypedWhereUnbroken, TypedParts};
 
-/// Where no node breaks a rule an expression has a type, and so have the parts that a rule looks at.
+/// If no node breaks a rule, every expression has a type, and so has every part that a rule asks
+/// about.
 pub fn typed_where_unbroken()
     ensures whole { TypedWhereUnbroken }
     ensures parts { TypedParts }

@@ -1,4 +1,4 @@
-//! The typing of expressions: whether they keep the rules on meaning, and their typed trees if they do.
+//! The typing of expressions: whether they keep the rules on meaning, and their typed trees.
 #![tactic(auto)]
 
 mod binary_operations;

@@ -1,5 +1,5 @@
 //! Composite literals by their values in order.
-#![tactic(auto, using(crate::proofs::Trees::terms, crate::proofs::Numbers::numbers))]
+#![tactic(auto)]
 
 ghost use Rattle.std.specs.Prelude.{◌≡◌, [], ◌∷◌, IfOk, map, Some};
 ghost use Rattle.rgo_typed.specs.Tree as tree;
@@ -22,6 +22,7 @@ use rgo_typing_rules::{Meaning, Node, Shape, TypeError, check_node};
 use std::alloc::{AllocError, Global};
 
 /// The numbers below n.
+#[tactic(auto, using(crate::proofs::Numbers::numbers))]
 fn first_numbers(alloc: Global, n: usize) -> Result<Vec<usize>, AllocError>
     ensures { IfOk result (λ l. l.items ≡ terms.first_numbers n) }
 {
@@ -40,7 +41,11 @@ fn check_literal(
     at: Place,
 ) -> Result<(), TypeError>
     ensures { Checks result
-        ((at, node.Literal (Some (scopes.fields_at globals.now number).types) (map shape_of values.now)) ∷ []) }
+        ((
+          at,
+          node.Literal (Some (scopes.fields_at globals.now number).types)
+              (map shape_of values.now),
+        ) ∷ []) }
 {
     match globals.structs.get(number) {
         Some(fields) => check_node(at, &Node::Literal(Some(&fields.kinds), values)),
@@ -58,9 +63,14 @@ pub(crate) fn literal<'a>(
     at: Place,
 ) -> Result<Checked<'a>, TypeError>
     ensures { ChecksTo result
-        ((at, node.Literal (checking.struct_types globals.now meaning) (map shape_of values.entry.shapes.items)) ∷ [])
+        ((
+          at,
+          node.Literal (checking.struct_types globals.now meaning)
+              (map shape_of values.entry.shapes.items),
+        ) ∷ [])
         (types.pointer_shape meaning)
-        (terms.build (checking.struct_number meaning) (tree.terms_of (map term_of values.entry.terms.items)) at) }
+        (terms.build (checking.struct_number meaning)
+        (tree.terms_of (map term_of values.entry.terms.items)) at) }
 {
     let Some(Meaning::Struct(number)) = meaning else {
         check_node(at, &Node::Literal(None, &values.shapes))?;

@@ -1,5 +1,5 @@
 //! Objects, slices and channels that `new` and `make` make, from their checked parts.
-#![tactic(auto, using(crate::proofs::Trees::terms))]
+#![tactic(auto)]
 
 ghost use Rattle.std.specs.Prelude.{◌≡◌, [], ◌∷◌, IfOk, pos};
 ghost use Rattle.rgo_typed.specs.Tree as tree;
@@ -47,7 +47,8 @@ pub(crate) fn new_object<'a>(
     at: Place,
 ) -> Result<Checked<'a>, TypeError>
     ensures { ChecksTo result ((at, node.Pointed meaning) ∷ []) (types.pointer_shape meaning)
-        (terms.atom (action.New (checking.struct_number meaning)) (plain (scopes.pointer_base meaning)) at) }
+        (terms.atom (action.New (checking.struct_number meaning))
+        (plain (scopes.pointer_base meaning)) at) }
 {
     check_node(at, &Node::Pointed(meaning))?;
     let ty = plain(alloc, pointer_base(meaning));

@@ -3,8 +3,8 @@
 ghost use Rattle.std.specs.Prelude.{◌≡◌};
 ghost use Rattle.rgo_typing_expressions.specs.Scopes.{universe};
 
-use rgo_typing_rules::Meaning;
 use rgo_typed::Base;
+use rgo_typing_rules::Meaning;
 
 /// What a name means that each program has.
 pub(crate) fn universe(imported: bool, name: &[u8]) -> Option<Meaning>

@@ -1,5 +1,5 @@
 //! Operands: numbers, strings and names; and values as what is wanted of them.
-#![tactic(auto, using(crate::proofs::Trees::terms))]
+#![tactic(auto)]
 
 ghost use Rattle.std.specs.Prelude.{◌≡◌, [], ◌∷◌, IfOk, pos, map, drop};
 ghost use Rattle.rgo_typed.specs.Views.{term_of};
@@ -21,7 +21,7 @@ use rgo_typing_rules::{Kind, Meaning, Node, Role, Shape, TypeError, check_node};
 use std::alloc::{AllocError, Global};
 
 /// An integer literal.
-#[tactic(auto, using(crate::proofs::Trees::terms), unfolding(rgo_typing_rules::specs::Rules::broken))]
+#[tactic(auto, unfolding(rgo_typing_rules::specs::Rules::broken))]
 pub(crate) fn number<'a>(alloc: Global, value: u64, at: Place) -> Result<Checked<'a>, TypeError>
     ensures { ChecksTo result ((at, node.Number value) ∷ [])
         (shape.Constant (pos value)) (terms.constant (pos value) at) }
@@ -100,7 +100,8 @@ pub(crate) fn wanted_term(
     number: usize,
     term: Term,
 ) -> Result<Term, AllocError>
-    ensures { IfOk result (λ t. term_of t ≡ terms.with_first (map kind_of (drop number wanted.now)) (term_of term)) }
+    ensures { IfOk result (λ t. term_of t
+        ≡ terms.with_first (map kind_of (drop number wanted.now)) (term_of term)) }
 {
     match wanted.get(number) {
         Some(kind) => with_type(alloc, *kind, term),
@@ -108,14 +109,15 @@ pub(crate) fn wanted_term(
     }
 }
 
-/// The same, where not each type is known.
+/// The same, where some types are unknown.
 pub(crate) fn known_term(
     alloc: Global,
     known: &[Option<Kind<'_>>],
     number: usize,
     term: Term,
 ) -> Result<Term, AllocError>
-    ensures { IfOk result (λ t. term_of t ≡ terms.with_known (map optional_kind_of (drop number known.now)) (term_of term)) }
+    ensures { IfOk result (λ t. term_of t
+        ≡ terms.with_known (map optional_kind_of (drop number known.now)) (term_of term)) }
 {
     match known.get(number) {
         Some(Some(kind)) => with_type(alloc, *kind, term),

@@ -1,5 +1,5 @@
 //! Unary operations, index expressions and selectors, from their checked operands.
-#![tactic(auto, using(crate::proofs::Trees::terms))]
+#![tactic(auto)]
 
 ghost use Rattle.std.specs.Prelude.{◌≡◌, [], ◌∷◌, IfOk, is_some};
 ghost use Rattle.rgo_ast.specs.declared.ops.UnaryOp.TheVariants.{Plus, Minus, Not, Receive};
@@ -27,7 +27,7 @@ use std::alloc::{AllocError, Global};
 
 /// Refuses a unary operation for the first rule that it breaks. Returns its value where it is a
 /// constant.
-#[tactic(auto, using(crate::proofs::Trees::terms), unfolding(rgo_typing_rules::specs::Rules::broken))]
+#[tactic(auto, unfolding(rgo_typing_rules::specs::Rules::broken))]
 fn check_unary(op: UnaryOp, operand: Shape<'_>, at: Place) -> Result<Option<i64>, TypeError>
     ensures checked { Checks result ((at, node.Unary op (shape_of operand.entry)) ∷ []) }
     ensures value { IfOk result (λ n. n ≡ folded_shape op (shape_of operand.entry)) }
@@ -42,7 +42,8 @@ fn check_unary(op: UnaryOp, operand: Shape<'_>, at: Place) -> Result<Option<i64>
 /// `+x`: its operand, as an `int`.
 fn plus<'a>(operand: Checked<'a>, at: Place) -> Result<Checked<'a>, TypeError>
     ensures { ChecksTo result ((at, node.Unary Plus (shape_of operand.entry.shape)) ∷ [])
-        (types.constant_or (folded_shape Plus (shape_of operand.entry.shape)) (shape.Value scopes.int))
+        (types.constant_or (folded_shape Plus (shape_of operand.entry.shape))
+        (shape.Value scopes.int))
         (term_of operand.entry.term) }
 {
     let shape = match check_unary(UnaryOp::Plus, operand.shape, at)? {
@@ -63,7 +64,8 @@ fn negated<'a>(
     at: Place,
 ) -> Result<Checked<'a>, AllocError>
     ensures { IfOk result (λ e. Matches e (types.constant_or value (shape.Value scopes.int))
-        (terms.constant_or_term value at (tree.Apply action.Neg (terms.one (term_of operand)) scopes.int at))) }
+        (terms.constant_or_term value at
+        (tree.Apply action.Neg (terms.one (term_of operand)) scopes.int at))) }
 {
     match value {
         Some(n) => Ok(Checked {
@@ -84,7 +86,8 @@ fn negated<'a>(
 /// `-x`.
 fn minus<'a>(alloc: Global, operand: Checked<'a>, at: Place) -> Result<Checked<'a>, TypeError>
     ensures { ChecksTo result ((at, node.Unary Minus (shape_of operand.entry.shape)) ∷ [])
-        (types.constant_or (folded_shape Minus (shape_of operand.entry.shape)) (shape.Value scopes.int))
+        (types.constant_or (folded_shape Minus (shape_of operand.entry.shape))
+        (shape.Value scopes.int))
         (terms.unary_term Minus (shape_of operand.entry.shape) (term_of operand.entry.term) at) }
 {
     let value = check_unary(UnaryOp::Minus, operand.shape, at)?;
@@ -94,7 +97,8 @@ fn minus<'a>(alloc: Global, operand: Checked<'a>, at: Place) -> Result<Checked<'
 /// `!x`.
 fn not<'a>(alloc: Global, operand: Checked<'a>, at: Place) -> Result<Checked<'a>, TypeError>
     ensures { ChecksTo result ((at, node.Unary Not (shape_of operand.entry.shape)) ∷ [])
-        (types.constant_or (folded_shape Not (shape_of operand.entry.shape)) (shape.Value scopes.bool))
+        (types.constant_or (folded_shape Not (shape_of operand.entry.shape))
+        (shape.Value scopes.bool))
         (terms.unary_term Not (shape_of operand.entry.shape) (term_of operand.entry.term) at) }
 {
     check_unary(UnaryOp::Not, operand.shape, at)?;
@@ -107,7 +111,7 @@ fn not<'a>(alloc: Global, operand: Checked<'a>, at: Place) -> Result<Checked<'a>
 }
 
 /// `<-x`: a receive from a channel.
-#[tactic(auto, using(crate::proofs::Trees::terms), unfolding(rgo_typing_rules::specs::Rules::broken))]
+#[tactic(auto, unfolding(rgo_typing_rules::specs::Rules::broken))]
 fn received<'a>(alloc: Global, channel: Checked<'a>, at: Place) -> Result<Checked<'a>, TypeError>
     ensures { ChecksTo result ((at, node.Unary Receive (shape_of channel.entry.shape)) ∷ [])
         (types.element_shape (shape_of channel.entry.shape))
@@ -133,7 +137,8 @@ pub(crate) fn unary<'a>(
     at: Place,
 ) -> Result<Checked<'a>, TypeError>
     ensures { ChecksTo result ((at, node.Unary op (shape_of operand.entry.shape)) ∷ [])
-        (types.constant_or (folded_shape op (shape_of operand.entry.shape)) (types.unary_shape op (shape_of operand.entry.shape)))
+        (types.constant_or (folded_shape op (shape_of operand.entry.shape))
+        (types.unary_shape op (shape_of operand.entry.shape)))
         (terms.unary_term op (shape_of operand.entry.shape) (term_of operand.entry.term) at) }
 {
     match op {
@@ -145,7 +150,7 @@ pub(crate) fn unary<'a>(
 }
 
 /// An index expression.
-#[tactic(auto, using(crate::proofs::Trees::terms), unfolding(rgo_typing_rules::specs::Rules::broken))]
+#[tactic(auto, unfolding(rgo_typing_rules::specs::Rules::broken))]
 pub(crate) fn index<'a>(
     alloc: Global,
     slice: Checked<'a>,
@@ -171,7 +176,7 @@ pub(crate) fn index<'a>(
 }
 
 /// A selector.
-#[tactic(auto, using(crate::proofs::Trees::terms), unfolding(rgo_typing_rules::specs::Rules::broken))]
+#[tactic(auto, unfolding(rgo_typing_rules::specs::Rules::broken))]
 pub(crate) fn select<'a>(
     alloc: Global,
     globals: &Package<'a>,

@@ -77,7 +77,8 @@ impl<'a> Scope<'a> {
     /// Declares a local variable in the innermost block. On allocation failure the scope stays as
     /// it was.
     pub fn declare(&mut self, name: &'a [u8], kind: Kind<'a>) -> Result<(), AllocError>
-        ensures declared { OnOk result (self.new ≡ with_local name.now (kind_of kind.entry) self.old) }
+        ensures declared { OnOk result
+            (self.new ≡ with_local name.now (kind_of kind.entry) self.old) }
         ensures err { OnErr result (self.new ≡ self.old) }
     {
         let number = self.kinds.len();

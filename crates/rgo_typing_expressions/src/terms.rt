@@ -10,8 +10,8 @@ ghost use Rattle.rgo_typing_expressions.specs.Scopes as scopes;
 ghost use Rattle.rgo_typing_expressions.specs.Terms as spec;
 
 use rgo_ast::Place;
-use rgo_typing_rules::Kind;
 use rgo_typed::{Action, Base, Row, Term, Type};
+use rgo_typing_rules::Kind;
 use std::alloc::{AllocError, Global};
 
 /// A type without layers. Allocates nothing.
@@ -62,7 +62,8 @@ pub fn apply_two(
     ty: Type,
     at: Place,
 ) -> Result<Term, AllocError>
-    ensures { IfOk result (λ t. term_of t ≡ tree.Apply action (spec.two (term_of first) (term_of second)) ty at) }
+    ensures { IfOk result (λ t. term_of t
+        ≡ tree.Apply action (spec.two (term_of first) (term_of second)) ty at) }
 {
     let mut parts = Vec::new(alloc);
     parts.push(first)?;

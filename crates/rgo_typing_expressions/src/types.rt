@@ -1,5 +1,5 @@
 //! Types as they are written: what they mean, and whether they keep the rules.
-#![tactic(auto, using(crate::proofs::Trees::exprs))]
+#![tactic(auto)]
 
 ghost use Rattle.std.specs.Prelude.{◌≡◌};
 ghost use Rattle.rgo_ast.specs.Views.{type_expr_of};

@@ -20,7 +20,9 @@ pub fn broken(node: &Node<'_, '_, '_>) -> Option<Rule>
     match *node {
         Node::Import(again, path) => import(again, path),
         Node::Declared(again, name) => declared(again, name),
-        Node::End(has_result, is_terminating) => Rule::MissingReturn.when(has_result && !is_terminating),
+        Node::End(has_result, is_terminating) => Rule::MissingReturn.when(
+            has_result && !is_terminating,
+        ),
         Node::TextEnd(has_main) => Rule::NoMain.when(!has_main),
         Node::TypeName(meaning) => type_name(meaning),
         Node::BaseName(meaning) => base_name(meaning),

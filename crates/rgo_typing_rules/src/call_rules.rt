@@ -19,7 +19,8 @@ fn wants_value(role: Role) -> bool
 }
 
 pub(crate) fn called(role: Role, signature: &Signature<'_>, args: &[Shape<'_>]) -> Option<Rule>
-    ensures { result ≡ broken (spec.Call role (signature_of signature.now) (map shape_of args.now)) }
+    ensures { result
+        ≡ broken (spec.Call role (signature_of signature.now) (map shape_of args.now)) }
 {
     if has_misfit(&signature.params, args) {
         Some(Rule::NotAssignable)

@@ -1,6 +1,6 @@
-//! Types of values while a program is checked. A type with layers is borrowed from the syntax tree that
-//! spells it, so nothing is copied.
-#![tactic(auto, using(rgo_ast::proofs::Rows::rows))]
+//! Types of values while a program is checked. A type with layers is borrowed from the syntax tree
+//! that spells it, so nothing is copied.
+#![tactic(auto)]
 
 ghost use Rattle.std.specs.Prelude.{◌≡◌, ◌++◌, IfOk, OnOk};
 ghost use Rattle.rgo_ast.specs.Views.{type_expr_of};
@@ -36,7 +36,8 @@ fn same_bases(a: Base, b: Base) -> bool
 
 /// Whether two types are spelled alike except for the name inside.
 fn same_spellings(a: &TypeExpr, b: &TypeExpr) -> bool
-    ensures { result ≡ same_layers (layers_of (type_expr_of a.now)) (layers_of (type_expr_of b.now)) }
+    ensures { result
+        ≡ same_layers (layers_of (type_expr_of a.now)) (layers_of (type_expr_of b.now)) }
 {
     match (a, b) {
         (TypeExpr::Slice(a, _), TypeExpr::Slice(b, _)) => same_spellings(a, b),

@@ -1,4 +1,4 @@
-//! The rules on meaning, each a test of one node of a program, and the check of a node at its place.
+//! The rules on meaning, each a test of one node of a program; and the check of a node.
 #![tactic(auto)]
 
 mod breaking;

@@ -6,8 +6,9 @@ use crate::roles::Role;
 use crate::shapes::Shape;
 use rgo_ast::{BinaryOp, UnaryOp};
 
-/// A node of a program, with what the rules ask about it and its parts. Names and types are borrowed
-/// from the text (`'t`), wanted types from the package (`'p`), and values from the caller (`'v`).
+/// A node of a program, with what the rules ask about it and its parts. Names and types are
+/// borrowed from the text (`'t`), wanted types from the package (`'p`), and values from the caller
+/// (`'v`).
 #[derive(Clone, Copy)]
 pub enum Node<'t, 'p, 'v> {
     /// An import: whether its path was imported before, and the path.

@@ -86,7 +86,8 @@ pub(crate) fn divides(op: BinaryOp) -> bool
 
 /// Whether a constant operation leaves the range.
 fn leaves_range(op: BinaryOp, left: Shape<'_>, right: Shape<'_>) -> bool
-    ensures { result ≡ is_out_of_range (folded_shapes op (shape_of left.entry) (shape_of right.entry)) }
+    ensures { result
+        ≡ is_out_of_range (folded_shapes op (shape_of left.entry) (shape_of right.entry)) }
 {
     match (left, right) {
         (Shape::Constant(a), Shape::Constant(b)) => constants_leave_range(op, a, b),
@@ -117,7 +118,8 @@ fn compared(left: Shape<'_>, right: Shape<'_>) -> Option<Rule>
 }
 
 fn computed(op: BinaryOp, left: Shape<'_>, right: Shape<'_>) -> Option<Rule>
-    ensures { operands_of op ≡ ints → result ≡ broken (spec.Binary op (shape_of left.entry) (shape_of right.entry)) }
+    ensures { operands_of op ≡ ints
+        → result ≡ broken (spec.Binary op (shape_of left.entry) (shape_of right.entry)) }
 {
     if !(left.is_int() && right.is_int()) {
         Some(Rule::Mismatch)

@@ -28,7 +28,11 @@ pub(crate) fn literal(fields: Option<&[Kind<'_>]>, values: &[Shape<'_>]) -> Opti
     }
 }
 
-pub(crate) fn keyed(fields: Option<&[Option<Kind<'_>>]>, twice: bool, values: &[Shape<'_>]) -> Option<Rule>
+pub(crate) fn keyed(
+    fields: Option<&[Option<Kind<'_>>]>,
+    twice: bool,
+    values: &[Shape<'_>],
+) -> Option<Rule>
     ensures { result ≡ broken (spec.Keyed (known_of fields.entry) twice (map shape_of values.now)) }
 {
     match fields {
@@ -83,8 +87,14 @@ pub(crate) fn assigned(at_place: bool, left: Shape<'_>, right: Shape<'_>) -> Opt
     }
 }
 
-pub(crate) fn updated(op: BinaryOp, at_place: bool, left: Shape<'_>, right: Shape<'_>) -> Option<Rule>
-    ensures { result ≡ broken (spec.Update op at_place (shape_of left.entry) (shape_of right.entry)) }
+pub(crate) fn updated(
+    op: BinaryOp,
+    at_place: bool,
+    left: Shape<'_>,
+    right: Shape<'_>,
+) -> Option<Rule>
+    ensures { result
+        ≡ broken (spec.Update op at_place (shape_of left.entry) (shape_of right.entry)) }
 {
     if !(left.is_int() && right.is_int()) {
         Some(Rule::Mismatch)
@@ -96,7 +106,8 @@ pub(crate) fn updated(op: BinaryOp, at_place: bool, left: Shape<'_>, right: Shap
 }
 
 pub(crate) fn returned(wanted: Option<Kind<'_>>, given: Option<Shape<'_>>) -> Option<Rule>
-    ensures { result ≡ broken (spec.Return (optional_kind_of wanted.entry) (optional_shape_of given.entry)) }
+    ensures { result
+        ≡ broken (spec.Return (optional_kind_of wanted.entry) (optional_shape_of given.entry)) }
 {
     match (wanted, given) {
         (None, None) => None,
