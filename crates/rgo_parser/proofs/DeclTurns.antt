@@ -23,4 +23,6 @@ pub imports_starved : (n m : ℕ) (found : List Import) (l : List Lexeme) → m 
 unfolding imports
 imports_starved n m found l e = rw e refl
 
-pub ruleset decl_turns = (map-append, decls_more, decls_starved, imports_more, imports_starved)
+pub ruleset decl_turns = (map-append, decls_more, decls_starved)
+
+pub ruleset import_turns = (map-append, imports_more, imports_starved)

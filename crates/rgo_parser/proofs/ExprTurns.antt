@@ -1,17 +1,16 @@
 -- One turn of each reader of expressions, at a number of turns that is not 0, in the parts that the code reads at once.
 use Rattle.std.proofs.Common.{◌≡◌, ℕ, ◌+◌, ◌-◌, ◌<◌, nat_le, Bool, true, false, cond, List, [], ◌∷◌, ◌++◌, suc, Option, Some, None, refl, sym, ap, subst, ◌∙◌}
-use Rattle.std.proofs.lemmas.List.{map-append}
 use Rattle.rgo_ast.specs.declared.ops.BinaryOp.{BinaryOp}
 use Rattle.rgo_ast.specs.declared.ops.BinaryOp.TheVariants as op
-use Rattle.rgo_ast.specs.declared.ops.UnaryOp.{UnaryOp}
-use Rattle.rgo_ast.specs.declared.ops.UnaryOp.TheVariants as unary_op
 use Rattle.rgo_ast.specs.declared.names.Ident.{Ident}
+use Rattle.rgo_ast.specs.declared.expressions.Expr as code
 use Rattle.rgo_ast.specs.Tree as tree
+use Rattle.rgo_ast.proofs.Rows.{exprs_are, elements_are, capacity_is as no_capacity_is}
 use Rattle.rgo_lexer.specs.declared.terminals.Terminal.{Terminal}
 use Rattle.rgo_lexer.specs.declared.terminals.Terminal.TheVariants.{Name, New, Make, Number, Text, Binary, Bang, Ampersand, Arrow, OpenParen, CloseParen, OpenBracket, CloseBracket, OpenBrace, CloseBrace, Comma, Dot, Chan}
 use Rattle.rgo_lexer.specs.Lexemes.{Leaf, Lexeme, tok, ident}
 use Rattle.rgo_grammar.specs.Grammar.{level}
-use Rattle.rgo_grammar.specs.reading.Read.{Read, Done, Failed, At, Starving, ◌>>=◌, given, first_of, token, single, ended, listed, several}
+use Rattle.rgo_grammar.specs.reading.Read.{Read, Done, Failed, Starving, ◌>>=◌, given, first_of, token, single, ended, listed, several}
 use Rattle.rgo_grammar.specs.reading.Types.{a_type}
 use Rattle.rgo_grammar.specs.reading.Expressions as r
 use Rattle.rgo_parser.specs.Agrees.{leaf_at}
@@ -264,5 +263,16 @@ pub post_starved : (n : ℕ) (v : tree.Expr) (l : List Lexeme) → n ≡ 0 → r
 unfolding r.expr
 post_starved n v l e = rw e refl
 
-pub ruleset expr_turns =
-    (map-append, keyed_is, operand_is, expr_more, climb_more, unary_more, primary_more, post_more, expr_starved, climb_starved, unary_starved, primary_starved, post_starved)
+pub ruleset nodes = (no_capacity_is, code.the_lemmas)
+
+pub ruleset expr_turns = (expr_more, expr_starved)
+
+pub ruleset climb_turns = (climb_more, climb_starved, code.the_lemmas)
+
+pub ruleset unary_turns = (unary_more, unary_starved, code.the_lemmas)
+
+pub ruleset primary_turns = (primary_more, primary_starved, operand_is)
+
+pub ruleset post_turns = (post_more, post_starved, exprs_are, code.the_lemmas)
+
+pub ruleset literal_turns = (keyed_is, exprs_are, elements_are, code.the_lemmas)

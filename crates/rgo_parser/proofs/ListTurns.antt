@@ -3,7 +3,7 @@ use Rattle.std.proofs.Common.{◌≡◌, ℕ, ◌-◌, ◌<◌, Bool, true, fals
 use Rattle.std.proofs.lemmas.List.{map-append, append-nil}
 use Rattle.rgo_lexer.specs.declared.terminals.Terminal.{Terminal}
 use Rattle.rgo_lexer.specs.Lexemes.{Leaf, Lexeme, same}
-use Rattle.rgo_grammar.specs.reading.Read.{Read, Done, Failed, Starving, At, ◌>>=◌, first_of, single, ended, listed, several}
+use Rattle.rgo_grammar.specs.reading.Read.{Read, Done, Failed, Starving, At, ◌>>=◌, single, ended, listed, several}
 use Rattle.rgo_parser.specs.Lists.{closes, separated}
 use Rattle.rgo_parser.proofs.TypeTurns.{turn}
 
@@ -92,3 +92,5 @@ several_more separator closer item n found (t ∷ l) h =
 pub ruleset list_turns = (map-append, several_starved, several_more)
 
 pub ruleset listed_turns = (map-append, append-nil, listed_starved, listed_more)
+
+pub ruleset pushes = (map-append, append-nil)

@@ -1,14 +1,16 @@
 -- One turn of each reader of statements, at a number of turns that is not 0, in the parts that the code reads at once.
 use Rattle.std.proofs.Common.{◌≡◌, ℕ, zero, suc, ◌-◌, ◌<◌, true, false, List, [], ◌∷◌, Option, Some, None, refl, ap, ◌∙◌}
+use Rattle.rgo_ast.specs.declared.statements.Stmt as code
 use Rattle.rgo_ast.specs.Tree as tree
+use Rattle.rgo_ast.proofs.Rows.{stmts_are, clause_is}
 use Rattle.rgo_ast.specs.Tree.{stmts_of, clause_of}
 use Rattle.rgo_lexer.specs.declared.terminals.Terminal.{Terminal}
 use Rattle.rgo_lexer.specs.declared.terminals.Terminal.TheVariants.{OpenParen, OpenBrace, Semicolon, Var, Go, If, Else, For, Return, Break, Continue}
 use Rattle.rgo_lexer.specs.Lexemes.{Leaf, Lexeme}
-use Rattle.rgo_grammar.specs.reading.Read.{Read, Done, Failed, Starving, At, ◌>>=◌, given, first_of, single}
+use Rattle.rgo_grammar.specs.reading.Read.{Read, Done, Failed, Starving, ◌>>=◌, given, first_of, single}
 use Rattle.rgo_grammar.specs.reading.Expressions.{expr}
 use Rattle.rgo_grammar.specs.reading.Statements as r
-use Rattle.rgo_grammar.specs.reading.Declarations.{group, group_by, group_on}
+use Rattle.rgo_grammar.specs.reading.Declarations.{group, group_by}
 use Rattle.rgo_parser.specs.Agrees.{leaf_at}
 use Rattle.rgo_parser.specs.Headers as headers
 use Rattle.rgo_parser.specs.Statements as parts
@@ -16,7 +18,6 @@ use Rattle.rgo_parser.specs.Statements.{if_at, for_at}
 use Rattle.rgo_parser.specs.declared.openings.Else.{Else as CodeElse}
 use Rattle.rgo_parser.specs.declared.openings.Else.TheVariants as code_else
 use Rattle.rgo_parser.proofs.TypeTurns.{turn}
-use Rattle.rgo_parser.proofs.ExprTurns.{joined}
 
 -- Local variables are read as a group.
 
@@ -47,19 +48,19 @@ if_rest_is : (block : Block) (again : Ifs) (value : List Lexeme → Read tree.Ex
 if_rest_is block again value i (Done (r.condition c) l) = refl
 if_rest_is block again value i (Done (r.init s) l) = value_is (value l)
   where
-    value_is : (e : Read tree.Expr) → (e >>= r.branches block again i s) ≡ ((e >>= given (λ c. (s, c))) >>= λ x. r.branches block again i x.0 x.1)
+    value_is : (e : Read tree.Expr) → (e >>= r.branches block again i s) ≡ ((e >>= given (headers.if_parts s)) >>= λ x. r.branches block again i x.0 x.1)
     value_is (Done c w) = refl
     value_is (Failed f) = refl
 if_rest_is block again value i (Failed s) = refl
 
 post_is : (block : Block) (i : Leaf) (s : Option tree.Stmt) (c : Option tree.Expr) (e : Read (Option tree.Stmt))
-    → (e >>= λ p. r.looped block i s c p) ≡ ((e >>= given (λ p. (s, c, p))) >>= λ x. r.looped block i x.0 x.1 x.2)
+    → (e >>= λ p. r.looped block i s c p) ≡ ((e >>= given (headers.for_parts s c)) >>= λ x. r.looped block i x.0 x.1 x.2)
 post_is block i s c (Done p w) = refl
 post_is block i s c (Failed f) = refl
 
 condition_is : (block : Block) (value : List Lexeme → Read tree.Expr) (i : Leaf) (s : Option tree.Stmt) (e : Read (Option tree.Expr))
     → (e >>= λ c w. r.step_on value w (first_of w) >>= λ p. r.looped block i s c p)
-    ≡ ((e >>= λ c w. r.step_on value w (first_of w) >>= given (λ p. (s, c, p))) >>= λ x. r.looped block i x.0 x.1 x.2)
+    ≡ ((e >>= λ c w. r.step_on value w (first_of w) >>= given (headers.for_parts s c)) >>= λ x. r.looped block i x.0 x.1 x.2)
 condition_is block value i s (Done c w) = post_is block i s c (r.step_on value w (first_of w))
 condition_is block value i s (Failed f) = refl
 
@@ -170,4 +171,10 @@ pub if_starved : (n : ℕ) (i : Leaf) (l : List Lexeme) → n ≡ 0 → r.if_stm
 unfolding r.stmt
 if_starved n i l e = rw e refl
 
-pub ruleset stmt_turns = (else_is, stmt_more, stmt_starved, if_more, if_starved)
+pub ruleset nodes = (stmts_are, clause_is, code.the_lemmas)
+
+pub ruleset stmt_turns = (stmt_more, stmt_starved, nodes)
+
+pub ruleset if_turns = (if_more, if_starved, nodes)
+
+pub ruleset else_turns = (else_is, nodes)

@@ -1,6 +1,6 @@
 -- One turn of each reader of names and types, at a number of turns that is not 0.
 use Rattle.std.proofs.Common.{◌≡◌, ℕ, suc, ◌-◌, ◌<◌, List, refl, ap, arith}
-use Rattle.std.proofs.lemmas.List.{map-append}
+use Rattle.rgo_ast.specs.declared.types.TypeExpr as code
 use Rattle.rgo_ast.specs.declared.names.Ident.{Ident}
 use Rattle.rgo_lexer.specs.Lexemes.{Lexeme}
 use Rattle.rgo_grammar.specs.reading.Read.{Failed, Starving, first_of}
@@ -25,4 +25,6 @@ pub names_starved : (n : ℕ) (found : List Ident) (l : List Lexeme) → n ≡ 0
 unfolding names
 names_starved n found l e = rw e refl
 
-pub ruleset type_turns = (map-append, type_more, type_starved, names_more, names_starved)
+pub ruleset type_turns = (type_more, type_starved, code.the_lemmas)
+
+pub ruleset name_turns = (names_more, names_starved)

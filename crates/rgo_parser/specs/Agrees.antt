@@ -1,5 +1,5 @@
 -- What a reader returns agrees with what the reading functions read of the same lexemes, unless memory ran out.
-use Rattle.std.specs.Prelude.{◌≡◌, ◌≢◌, ℕ, List, [], Option, Some, None, Result, Ok, Err}
+use Rattle.std.specs.Prelude.{◌≡◌, ◌≢◌, ℕ, List, [], Result, Ok, Err}
 use denote.Ref.{Bor}
 use Rattle.rgo_ast.specs.declared.names.Ident.{Ident}
 use Rattle.rgo_lexer.specs.Lexemes.{Leaf, Lexeme}

@@ -24,11 +24,17 @@ if_of h = (boxed_stmt_of h.init, expr_of h.test.value)
 abbrev pub for_of : ForHeader → Option Stmt × Option Expr × Option Stmt
 for_of h = (boxed_stmt_of h.init, boxed_expr_of h.test, boxed_stmt_of h.post)
 
+abbrev pub if_parts : Option Stmt → Expr → Option Stmt × Expr
+if_parts s c = (s, c)
+
+abbrev pub for_parts : Option Stmt → Option Expr → Option Stmt → Option Stmt × Option Expr × Option Stmt
+for_parts s c p = (s, c, p)
+
 -- In what follows `value` reads an expression of a header.
 
 abbrev pub if_rest : (List Lexeme → Read Expr) → reading.Head → List Lexeme → Read (Option Stmt × Expr)
 if_rest value (reading.condition c) l = Done (None, c) l
-if_rest value (reading.init s) l = value l >>= given (λ c. (s, c))
+if_rest value (reading.init s) l = value l >>= given (if_parts s)
 
 abbrev pub if_header : (List Lexeme → Read Expr) → List Lexeme → Read (Option Stmt × Expr)
 if_header value l = reading.head value l >>= if_rest value
@@ -36,7 +42,7 @@ if_header value l = reading.head value l >>= if_rest value
 abbrev pub for_rest : (List Lexeme → Read Expr) → reading.Head → List Lexeme → Read (Option Stmt × Option Expr × Option Stmt)
 for_rest value (reading.condition c) l = Done (None, Some c, None) l
 for_rest value (reading.init s) l =
-    reading.condition_on value l (first_of l) >>= λ c w. reading.step_on value w (first_of w) >>= given (λ p. (s, c, p))
+    reading.condition_on value l (first_of l) >>= λ c w. reading.step_on value w (first_of w) >>= given (for_parts s c)
 
 abbrev pub for_by : (List Lexeme → Read Expr) → Terminal → List Lexeme → Read (Option Stmt × Option Expr × Option Stmt)
 for_by value OpenBrace l = Done (None, None, None) l

@@ -1,5 +1,4 @@
 //! Imports, and declarations of types, variables and functions.
-#![tactic(auto, using(rgo_ast::proofs::Rows::rows))]
 
 ghost use Rattle.std.specs.Prelude.{◌≡◌, option_map};
 ghost use Rattle.rgo_ast.specs.Views.{type_expr_of, type_spec_of, function_of, decl_of, import_of};
@@ -14,7 +13,7 @@ use crate::reader::{Fault, Read, Reader};
 use crate::statements::block;
 use crate::types::ty;
 use rgo_ast::{Binding, Decl, Function, Import, ImportPath, Name, TypeExpr, TypeSpec};
-use rgo_lexer::{Terminal, unquoted};
+use rgo_lexer::{Lexeme, Terminal, unquoted};
 use std::alloc::Global;
 
 impl Item for ImportPath {
@@ -25,7 +24,7 @@ impl Item for ImportPath {
     ghost reads = { λ _. reading.import_path };
 
     /// The path of an import.
-    fn read<'a>(alloc: Global, reader: &mut Reader<'a>, _turns: usize) -> Read<ImportPath> {
+    fn read(alloc: Global, reader: &mut Reader<'_, '_>, _turns: usize) -> Read<ImportPath> {
         let lexeme = reader.take(Terminal::Text)?;
         Ok(ImportPath {
             path: Name::new(unquoted(alloc, lexeme.word)?),
@@ -42,7 +41,7 @@ impl Item for TypeSpec {
     ghost reads = { reading.type_spec };
 
     /// A type with its name.
-    fn read<'a>(alloc: Global, reader: &mut Reader<'a>, turns: usize) -> Read<TypeSpec> {
+    fn read(alloc: Global, reader: &mut Reader<'_, '_>, turns: usize) -> Read<TypeSpec> {
         let name = reader.name(alloc)?;
         reader.take(Terminal::Struct)?;
         reader.take(Terminal::OpenBrace)?;
@@ -57,22 +56,22 @@ impl Item for TypeSpec {
     }
 }
 
-/// A declaration of imports after its `import`, which is at a place.
-pub(crate) fn import<'a>(
+/// A declaration of imports after its keyword, `word`.
+pub(crate) fn import(
     alloc: Global,
-    reader: &mut Reader<'a>,
+    reader: &mut Reader<'_, '_>,
     turns: usize,
-    at: usize,
+    word: &Lexeme<'_>,
 ) -> Read<Import>
     ensures { Agrees import_of result reader.new
-        (reading.import_decl turns (leaf_at at) reader.old) }
+        (reading.import_decl turns word.now.leaf reader.old) }
 {
     let paths = group::<ImportPath>(alloc, reader, turns)?;
-    Ok(Import { paths, at })
+    Ok(Import { paths, at: word.at })
 }
 
 // The type of a function's result, if it has one, up to the function's block.
-fn result_type<'a>(alloc: Global, reader: &mut Reader<'a>, turns: usize) -> Read<Option<TypeExpr>>
+fn result_type(alloc: Global, reader: &mut Reader<'_, '_>, turns: usize) -> Read<Option<TypeExpr>>
     ensures { Agrees (option_map type_expr_of) result reader.new
         (reading.result_on turns reader.old (first_of reader.old)) }
 {
@@ -86,7 +85,7 @@ fn result_type<'a>(alloc: Global, reader: &mut Reader<'a>, turns: usize) -> Read
 }
 
 // A function after its `func`, which is at a place.
-fn func<'a>(alloc: Global, reader: &mut Reader<'a>, turns: usize, at: usize) -> Read<Function>
+fn func(alloc: Global, reader: &mut Reader<'_, '_>, turns: usize, at: usize) -> Read<Function>
     ensures { Agrees (λ f. tree.Func (function_of f)) result reader.new
         (reading.func turns (leaf_at at) reader.old) }
 {
@@ -106,7 +105,7 @@ fn func<'a>(alloc: Global, reader: &mut Reader<'a>, turns: usize, at: usize) -> 
 }
 
 /// A declaration of types or variables, or of a function.
-pub(crate) fn decl<'a>(alloc: Global, reader: &mut Reader<'a>, turns: usize) -> Read<Decl>
+pub(crate) fn decl(alloc: Global, reader: &mut Reader<'_, '_>, turns: usize) -> Read<Decl>
     ensures { Agrees decl_of result reader.new
         (reading.decl_on turns reader.old (first_of reader.old)) }
 {

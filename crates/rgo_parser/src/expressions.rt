@@ -1,5 +1,4 @@
 //! Expressions, by precedence: the functions that read an expression within an expression.
-#![tactic(auto, using(rgo_ast::proofs::Rows::rows, crate::proofs::ListTurns::list_turns, crate::proofs::ExprTurns::expr_turns,))]
 
 ghost use Rattle.std.specs.Prelude.{◌≡◌, ◌-◌, ◌<◌, ◌++◌, ◌∷◌, [], IfOk, false, map};
 ghost use Rattle.rgo_ast.specs.Views.{expr_of, element_of};
@@ -21,6 +20,7 @@ use rgo_lexer::Terminal;
 use std::alloc::{AllocError, Global};
 
 // Adds an expression to a list.
+#[tactic(auto, using(crate::proofs::ListTurns::pushes))]
 fn push_expr(found: &mut Vec<Expr>, value: Box<Expr>) -> Result<(), AllocError>
     ensures { IfOk result (λ _. map expr_of found.new.items
         ≡ map expr_of found.old.items ++ expr_of value.value ∷ []) }
@@ -30,6 +30,7 @@ fn push_expr(found: &mut Vec<Expr>, value: Box<Expr>) -> Result<(), AllocError>
 }
 
 // Adds an element with its field to a list.
+#[tactic(auto, using(crate::proofs::ListTurns::pushes))]
 fn push_element(found: &mut Vec<Element>, field: Ident, value: Box<Expr>) -> Result<(), AllocError>
     ensures { IfOk result (λ _. map element_of found.new.items
         ≡ map element_of found.old.items ++ (ident (leaf_of field), expr_of value.value) ∷ []) }
@@ -41,10 +42,11 @@ fn push_element(found: &mut Vec<Element>, field: Ident, value: Box<Expr>) -> Res
 
 /// An expression whose operators bind at least as tightly as `least`; `header` says that it is between
 /// `if` or `for` and its block, outside brackets.
+#[tactic(auto, using(crate::proofs::ExprTurns::expr_turns))]
 #[cycle(expressions)]
-pub(crate) fn expr<'a>(
+pub(crate) fn expr(
     alloc: Global,
-    reader: &mut Reader<'a>,
+    reader: &mut Reader<'_, '_>,
     header: bool,
     turns: usize,
     least: u8,
@@ -59,10 +61,11 @@ pub(crate) fn expr<'a>(
 }
 
 // The operators after an expression that bind at least as tightly as `least`.
+#[tactic(auto, using(crate::proofs::ExprTurns::climb_turns))]
 #[cycle(expressions)]
-fn climb<'a>(
+fn climb(
     alloc: Global,
-    reader: &mut Reader<'a>,
+    reader: &mut Reader<'_, '_>,
     header: bool,
     turns: usize,
     least: u8,
@@ -83,8 +86,9 @@ fn climb<'a>(
 }
 
 // A unary expression.
+#[tactic(auto, using(crate::proofs::ExprTurns::unary_turns))]
 #[cycle(expressions)]
-fn unary<'a>(alloc: Global, reader: &mut Reader<'a>, header: bool, turns: usize) -> Read<Box<Expr>>
+fn unary(alloc: Global, reader: &mut Reader<'_, '_>, header: bool, turns: usize) -> Read<Box<Expr>>
     ensures { Agrees boxed_of result reader.new (reading.unary header turns reader.old) }
 {
     if turns == 0 {
@@ -101,8 +105,9 @@ fn unary<'a>(alloc: Global, reader: &mut Reader<'a>, header: bool, turns: usize)
 }
 
 // A primary expression: an operand and what comes after it.
+#[tactic(auto, using(crate::proofs::ExprTurns::primary_turns))]
 #[cycle(expressions)]
-fn primary<'a>(alloc: Global, reader: &mut Reader<'a>, turns: usize) -> Read<Box<Expr>>
+fn primary(alloc: Global, reader: &mut Reader<'_, '_>, turns: usize) -> Read<Box<Expr>>
     ensures { Agrees boxed_of result reader.new (reading.primary turns reader.old) }
 {
     if turns == 0 {
@@ -119,10 +124,11 @@ fn primary<'a>(alloc: Global, reader: &mut Reader<'a>, turns: usize) -> Read<Box
 }
 
 // What comes after a primary expression.
+#[tactic(auto, using(crate::proofs::ExprTurns::post_turns))]
 #[cycle(expressions)]
-fn post<'a>(
+fn post(
     alloc: Global,
-    reader: &mut Reader<'a>,
+    reader: &mut Reader<'_, '_>,
     turns: usize,
     value: Box<Expr>,
 ) -> Read<Box<Expr>>
@@ -153,13 +159,14 @@ fn post<'a>(
 }
 
 /// Expressions up to the lexeme that closes them.
+#[tactic(auto, using(crate::proofs::ListTurns::list_turns))]
 #[cycle(expressions)]
-pub(crate) fn exprs<'a>(
+pub(crate) fn exprs<'r, 'a>(
     alloc: Global,
-    reader: &mut Reader<'a>,
+    reader: &mut Reader<'r, 'a>,
     turns: usize,
     closer: Terminal,
-) -> Listed<'a, Expr>
+) -> Listed<'r, 'a, Expr>
     ensures { Agrees (listed_by expr_of) result reader.new
         (reading.exprs closer turns (reading.expr false turns 1) reader.old) }
 {
@@ -178,8 +185,13 @@ pub(crate) fn exprs<'a>(
 }
 
 // Elements with their fields up to the brace that closes them; their values are read with one turn less.
+#[tactic(auto, using(crate::proofs::ListTurns::list_turns))]
 #[cycle(expressions)]
-fn elements<'a>(alloc: Global, reader: &mut Reader<'a>, turns: usize) -> Listed<'a, Element>
+fn elements<'r, 'a>(
+    alloc: Global,
+    reader: &mut Reader<'r, 'a>,
+    turns: usize,
+) -> Listed<'r, 'a, Element>
     ensures { Agrees (listed_by element_of) result reader.new
         (several terminal.Comma terminal.CloseBrace (reading.element (reading.expr false (turns - 1) 1)) turns []
         reader.old) }
@@ -201,8 +213,9 @@ fn elements<'a>(alloc: Global, reader: &mut Reader<'a>, turns: usize) -> Listed<
 }
 
 // A composite literal after its `&`; its values are read with one turn less.
+#[tactic(auto, using(crate::proofs::ExprTurns::literal_turns))]
 #[cycle(expressions)]
-fn literal<'a>(alloc: Global, reader: &mut Reader<'a>, turns: usize, at: usize) -> Read<Box<Expr>>
+fn literal(alloc: Global, reader: &mut Reader<'_, '_>, turns: usize, at: usize) -> Read<Box<Expr>>
     requires { 0 < turns }
     ensures { Agrees boxed_of result reader.new
         (reading.literal (turns - 1) (reading.expr false (turns - 1) 1) (leaf_at at) reader.old) }

@@ -1,5 +1,4 @@
 //! The headers of `if` and `for`: what is between the keyword and the block.
-#![tactic(auto, using(rgo_ast::proofs::Rows::rows))]
 
 ghost use Rattle.std.specs.Prelude.{◌≡◌, true};
 ghost use Rattle.rgo_ast.specs.Views.{stmt_of, boxed_expr_of, boxed_stmt_of};
@@ -40,7 +39,7 @@ pub(crate) struct ForHeader {
 }
 
 // The end of a head, after its statement.
-fn head_end<'a>(reader: &mut Reader<'a>, stmt: Box<Stmt>) -> Read<Head>
+fn head_end(reader: &mut Reader<'_, '_>, stmt: Box<Stmt>) -> Read<Head>
     ensures { Agrees headers.head_of result reader.new
         (reading.head_end_on (stmt_of stmt.value) reader.old (first_of reader.old)) }
 {
@@ -61,7 +60,7 @@ fn head_end<'a>(reader: &mut Reader<'a>, stmt: Box<Stmt>) -> Read<Head>
 }
 
 // A header up to its block or its first `;`.
-fn read_head<'a>(alloc: Global, reader: &mut Reader<'a>, turns: usize) -> Read<Head>
+fn read_head(alloc: Global, reader: &mut Reader<'_, '_>, turns: usize) -> Read<Head>
     ensures { Agrees headers.head_of result reader.new
         (reading.head (reading_exprs.expr true turns 1) reader.old) }
 {
@@ -81,7 +80,7 @@ fn read_head<'a>(alloc: Global, reader: &mut Reader<'a>, turns: usize) -> Read<H
 }
 
 // The condition of a `for` and the `;` after it.
-fn condition<'a>(alloc: Global, reader: &mut Reader<'a>, turns: usize) -> Read<Option<Box<Expr>>>
+fn condition(alloc: Global, reader: &mut Reader<'_, '_>, turns: usize) -> Read<Option<Box<Expr>>>
     ensures { Agrees boxed_expr_of result reader.new
         (reading.condition_on (reading_exprs.expr true turns 1) reader.old (first_of reader.old)) }
 {
@@ -102,7 +101,7 @@ fn condition<'a>(alloc: Global, reader: &mut Reader<'a>, turns: usize) -> Read<O
 }
 
 // The post statement of a `for`, up to its block.
-fn post<'a>(alloc: Global, reader: &mut Reader<'a>, turns: usize) -> Read<Option<Box<Stmt>>>
+fn post(alloc: Global, reader: &mut Reader<'_, '_>, turns: usize) -> Read<Option<Box<Stmt>>>
     ensures { Agrees boxed_stmt_of result reader.new
         (reading.step_on (reading_exprs.expr true turns 1) reader.old (first_of reader.old)) }
 {
@@ -119,7 +118,7 @@ fn post<'a>(alloc: Global, reader: &mut Reader<'a>, turns: usize) -> Read<Option
 }
 
 /// The header of an `if`, up to its block.
-pub(crate) fn if_header<'a>(alloc: Global, reader: &mut Reader<'a>, turns: usize) -> Read<IfHeader>
+pub(crate) fn if_header(alloc: Global, reader: &mut Reader<'_, '_>, turns: usize) -> Read<IfHeader>
     ensures { Agrees headers.if_of result reader.new
         (headers.if_header (reading_exprs.expr true turns 1) reader.old) }
 {
@@ -133,9 +132,9 @@ pub(crate) fn if_header<'a>(alloc: Global, reader: &mut Reader<'a>, turns: usize
 }
 
 /// The header of a `for`, up to its block.
-pub(crate) fn for_header<'a>(
+pub(crate) fn for_header(
     alloc: Global,
-    reader: &mut Reader<'a>,
+    reader: &mut Reader<'_, '_>,
     turns: usize,
 ) -> Read<ForHeader>
     ensures { Agrees headers.for_of result reader.new

@@ -1,5 +1,4 @@
 //! Lists of items with a separator between them.
-#![tactic(auto, using(crate::proofs::ListTurns::list_turns))]
 
 ghost use Rattle.std.specs.Prelude.{◌≡◌, [], map, ℕ, List};
 ghost use Rattle.rgo_grammar.specs.reading.Read as reading;
@@ -13,10 +12,13 @@ use rgo_lexer::{Lexeme, Terminal};
 use std::alloc::Global;
 
 /// The items of a list, and the lexeme that closes it.
-pub(crate) type Listed<'a, T> = Read<(Vec<T>, &'a Lexeme<'a>)>;
+pub(crate) type Listed<'r, 'a, T> = Read<(Vec<T>, &'r Lexeme<'a>)>;
 
 /// What comes before an item of a list: the lexeme that closes the list, or none.
-pub(crate) fn closes<'a>(reader: &mut Reader<'a>, closer: Terminal) -> Read<Option<&'a Lexeme<'a>>>
+pub(crate) fn closes<'r, 'a>(
+    reader: &mut Reader<'r, 'a>,
+    closer: Terminal,
+) -> Read<Option<&'r Lexeme<'a>>>
     ensures { Agrees ending_of result reader.new (closes closer reader.old) }
 {
     match reader.peek() {
@@ -30,11 +32,11 @@ pub(crate) fn closes<'a>(reader: &mut Reader<'a>, closer: Terminal) -> Read<Opti
 }
 
 /// What follows an item of a list: the lexeme that closes the list, or none after a separator.
-pub(crate) fn separated<'a>(
-    reader: &mut Reader<'a>,
+pub(crate) fn separated<'r, 'a>(
+    reader: &mut Reader<'r, 'a>,
     separator: Terminal,
     closer: Terminal,
-) -> Read<Option<&'a Lexeme<'a>>>
+) -> Read<Option<&'r Lexeme<'a>>>
     ensures { Agrees ending_of result reader.new (separated separator closer reader.old) }
 {
     match reader.peek() {
@@ -59,18 +61,19 @@ pub(crate) trait Item: Drop {
     ghost reads: { ℕ → List lexemes.Lexeme → reading.Read Tree };
 
     /// One item.
-    fn read<'a>(alloc: Global, reader: &mut Reader<'a>, turns: usize) -> Read<Self>
+    fn read(alloc: Global, reader: &mut Reader<'_, '_>, turns: usize) -> Read<Self>
         ensures { Agrees tree_of result reader.new (reads turns reader.old) };
 }
 
 /// Items up to the lexeme that closes them.
-pub(crate) fn list<'a, T: Item>(
+#[tactic(auto, using(crate::proofs::ListTurns::list_turns))]
+pub(crate) fn list<'r, 'a, T: Item>(
     alloc: Global,
-    reader: &mut Reader<'a>,
+    reader: &mut Reader<'r, 'a>,
     turns: usize,
     separator: Terminal,
     closer: Terminal,
-) -> Listed<'a, T>
+) -> Listed<'r, 'a, T>
     ensures { Agrees (listed_by T.tree_of) result reader.new
         (reading.several separator closer (T.reads turns) turns [] reader.old) }
 {
@@ -89,9 +92,9 @@ pub(crate) fn list<'a, T: Item>(
 }
 
 /// One item, or a group of them in parentheses.
-pub(crate) fn group<'a, T: Item>(
+pub(crate) fn group<T: Item>(
     alloc: Global,
-    reader: &mut Reader<'a>,
+    reader: &mut Reader<'_, '_>,
     turns: usize,
 ) -> Read<Vec<T>>
     ensures { Agrees (λ x. map T.tree_of x.items) result reader.new

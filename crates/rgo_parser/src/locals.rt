@@ -1,5 +1,4 @@
 //! Declarations of local variables.
-#![tactic(auto, using(rgo_ast::proofs::Rows::rows, crate::proofs::StmtTurns::vars_are))]
 
 ghost use Rattle.std.specs.Prelude.{◌≡◌, false};
 ghost use Rattle.rgo_ast.specs.Tree as tree;
@@ -7,20 +6,20 @@ ghost use Rattle.rgo_ast.specs.Views.{type_expr_of, local_var_of, stmt_of};
 ghost use Rattle.rgo_grammar.specs.reading.Expressions as reading_exprs;
 ghost use Rattle.rgo_grammar.specs.reading.Statements as reading;
 ghost use Rattle.rgo_grammar.specs.reading.Read.{first_of};
-ghost use Rattle.rgo_parser.specs.Agrees.{Agrees, leaf_at, leaf_of};
+ghost use Rattle.rgo_parser.specs.Agrees.{Agrees, leaf_of};
 
 use crate::expressions::expr;
 use crate::lists::{Item, group};
 use crate::reader::{Fault, Read, Reader};
 use crate::types::{ty, typed_names};
 use rgo_ast::{AssignOp, Binding, Ident, LocalVar, Stmt, TypeExpr};
-use rgo_lexer::Terminal;
+use rgo_lexer::{Lexeme, Terminal};
 use std::alloc::Global;
 
 // After the one name of a declaration and its type: an initial value, or nothing.
-fn initial<'a>(
+fn initial(
     alloc: Global,
-    reader: &mut Reader<'a>,
+    reader: &mut Reader<'_, '_>,
     turns: usize,
     one: Ident,
     ty: TypeExpr,
@@ -49,7 +48,7 @@ impl Item for LocalVar {
     ghost reads = { λ n. reading.local n (reading_exprs.expr false n 1) };
 
     /// Names with their type or value.
-    fn read<'a>(alloc: Global, reader: &mut Reader<'a>, turns: usize) -> Read<LocalVar> {
+    fn read(alloc: Global, reader: &mut Reader<'_, '_>, turns: usize) -> Read<LocalVar> {
         let one = reader.name(alloc)?;
         let Some(lexeme) = reader.peek() else {
             return Err(Fault::Syntax);
@@ -69,16 +68,17 @@ impl Item for LocalVar {
     }
 }
 
-/// A declaration of local variables after its `var`.
-pub(crate) fn vars<'a>(
+/// A declaration of local variables after its keyword, `word`.
+#[tactic(auto, using(crate::proofs::StmtTurns::vars_are))]
+pub(crate) fn vars(
     alloc: Global,
-    reader: &mut Reader<'a>,
+    reader: &mut Reader<'_, '_>,
     turns: usize,
-    at: usize,
+    word: &Lexeme<'_>,
 ) -> Read<Stmt>
     ensures { Agrees stmt_of result reader.new
-        (reading.vars turns (reading_exprs.expr false turns 1) (leaf_at at) reader.old) }
+        (reading.vars turns (reading_exprs.expr false turns 1) word.now.leaf reader.old) }
 {
     let found = group::<LocalVar>(alloc, reader, turns)?;
-    Ok(Stmt::Var(found, at))
+    Ok(Stmt::Var(found, word.at))
 }

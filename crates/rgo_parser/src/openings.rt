@@ -1,5 +1,4 @@
 //! Statements that hold no other, and what the others begin with.
-#![tactic(auto, using(rgo_ast::proofs::Rows::rows))]
 
 ghost use Rattle.std.specs.Prelude.{◌≡◌, false};
 ghost use Rattle.rgo_ast.specs.Views.{stmt_of};
@@ -38,7 +37,7 @@ pub(crate) enum Else {
 }
 
 // A `return` statement after its keyword, which is at a place.
-fn returned<'a>(alloc: Global, reader: &mut Reader<'a>, turns: usize, at: usize) -> Read<Stmt>
+fn returned(alloc: Global, reader: &mut Reader<'_, '_>, turns: usize, at: usize) -> Read<Stmt>
     ensures { Agrees stmt_of result reader.new
         (reading.return_on (reading_exprs.expr false turns 1) (leaf_at at) reader.old
         (first_of reader.old)) }
@@ -56,7 +55,7 @@ fn returned<'a>(alloc: Global, reader: &mut Reader<'a>, turns: usize, at: usize)
 }
 
 // A `go` statement after its keyword, which is at a place.
-fn going<'a>(alloc: Global, reader: &mut Reader<'a>, turns: usize, at: usize) -> Read<Stmt>
+fn going(alloc: Global, reader: &mut Reader<'_, '_>, turns: usize, at: usize) -> Read<Stmt>
     ensures { Agrees stmt_of result reader.new
         (reading.going turns (reading_exprs.expr false turns 1) (leaf_at at) reader.old) }
 {
@@ -67,9 +66,9 @@ fn going<'a>(alloc: Global, reader: &mut Reader<'a>, turns: usize, at: usize) ->
 }
 
 /// A statement that holds no other, or what another one begins with.
-pub(crate) fn read_leading<'a>(
+pub(crate) fn read_leading(
     alloc: Global,
-    reader: &mut Reader<'a>,
+    reader: &mut Reader<'_, '_>,
     turns: usize,
 ) -> Read<Leading>
     ensures { Agrees statements.leading_of result reader.new (statements.leading turns reader.old) }
@@ -97,7 +96,7 @@ pub(crate) fn read_leading<'a>(
         }
         Terminal::Var => {
             reader.pass();
-            Ok(Leading::Whole(vars(alloc, reader, turns, at)?))
+            Ok(Leading::Whole(vars(alloc, reader, turns, lexeme)?))
         }
         Terminal::Return => {
             reader.pass();
@@ -117,7 +116,7 @@ pub(crate) fn read_leading<'a>(
 }
 
 /// What comes after the block of an `if`.
-pub(crate) fn else_word<'a>(reader: &mut Reader<'a>) -> Read<Else>
+pub(crate) fn else_word(reader: &mut Reader<'_, '_>) -> Read<Else>
     ensures { Agrees (λ x. x) result reader.new (statements.else_word reader.old) }
 {
     let Some(lexeme) = reader.peek() else {

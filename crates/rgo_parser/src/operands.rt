@@ -1,5 +1,4 @@
 //! Operands, up to the expression that they hold and from its end on.
-#![tactic(auto, using(rgo_ast::proofs::Rows::rows))]
 
 ghost use Rattle.std.specs.Prelude.{◌≡◌, IfOk};
 ghost use Rattle.rgo_ast.specs.Tree as tree;
@@ -33,7 +32,7 @@ pub(crate) enum Opening {
 }
 
 // `new(T)` after `new`.
-fn new_at<'a>(alloc: Global, reader: &mut Reader<'a>, at: usize) -> Read<Box<Expr>>
+fn new_at(alloc: Global, reader: &mut Reader<'_, '_>, at: usize) -> Read<Box<Expr>>
     ensures { Agrees parts.boxed_of result reader.new (reading.new_at (leaf_at at) reader.old) }
 {
     reader.take(Terminal::OpenParen)?;
@@ -43,6 +42,7 @@ fn new_at<'a>(alloc: Global, reader: &mut Reader<'a>, at: usize) -> Read<Box<Exp
 }
 
 // A channel with no capacity.
+#[tactic(auto, using(crate::proofs::ExprTurns::nodes))]
 fn plain_chan(alloc: Global, element: Box<TypeExpr>, at: usize) -> Result<Box<Expr>, AllocError>
     ensures { IfOk result
         (λ e. expr_of e.value ≡ tree.MakeChan (type_expr_of element.value) tree.no_capacity at) }
@@ -51,9 +51,9 @@ fn plain_chan(alloc: Global, element: Box<TypeExpr>, at: usize) -> Result<Box<Ex
 }
 
 // After the `,` after a channel's type.
-fn capacity<'a>(
+fn capacity(
     alloc: Global,
-    reader: &mut Reader<'a>,
+    reader: &mut Reader<'_, '_>,
     element: Box<TypeExpr>,
     at: usize,
 ) -> Read<Opening>
@@ -73,9 +73,9 @@ fn capacity<'a>(
 }
 
 // After a channel's type.
-fn sized<'a>(
+fn sized(
     alloc: Global,
-    reader: &mut Reader<'a>,
+    reader: &mut Reader<'_, '_>,
     element: Box<TypeExpr>,
     at: usize,
 ) -> Read<Opening>
@@ -99,7 +99,7 @@ fn sized<'a>(
 }
 
 // After `make(`.
-fn made<'a>(alloc: Global, reader: &mut Reader<'a>, turns: usize, at: usize) -> Read<Opening>
+fn made(alloc: Global, reader: &mut Reader<'_, '_>, turns: usize, at: usize) -> Read<Opening>
     ensures { Agrees parts.opening_of result reader.new (parts.made turns (leaf_at at) reader.old) }
 {
     let Some(lexeme) = reader.peek() else {
@@ -123,9 +123,9 @@ fn made<'a>(alloc: Global, reader: &mut Reader<'a>, turns: usize, at: usize) -> 
 }
 
 /// An operand, up to the expression that it holds.
-pub(crate) fn open_operand<'a>(
+pub(crate) fn open_operand(
     alloc: Global,
-    reader: &mut Reader<'a>,
+    reader: &mut Reader<'_, '_>,
     turns: usize,
 ) -> Read<Opening>
     ensures { Agrees parts.opening_of result reader.new (parts.opening turns reader.old) }
@@ -167,7 +167,7 @@ pub(crate) fn open_operand<'a>(
 }
 
 // The end of a `make`, perhaps with a comma before it.
-fn make_end<'a>(reader: &mut Reader<'a>) -> Read<&'a Lexeme<'a>>
+fn make_end<'r, 'a>(reader: &mut Reader<'r, 'a>) -> Read<&'r Lexeme<'a>>
     ensures { Agrees leaf_in result reader.new (reading.make_end reader.old) }
 {
     let Some(lexeme) = reader.peek() else {
@@ -184,9 +184,10 @@ fn make_end<'a>(reader: &mut Reader<'a>) -> Read<&'a Lexeme<'a>>
 }
 
 /// An operand from the end of the expression that it holds on.
-pub(crate) fn close_operand<'a>(
+#[tactic(auto, using(crate::proofs::ExprTurns::nodes))]
+pub(crate) fn close_operand(
     alloc: Global,
-    reader: &mut Reader<'a>,
+    reader: &mut Reader<'_, '_>,
     bracket: Bracket,
     value: Box<Expr>,
 ) -> Read<Box<Expr>>

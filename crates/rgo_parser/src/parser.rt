@@ -1,10 +1,11 @@
 //! Parsing the lexemes of a text.
 
-ghost use Rattle.std.specs.Prelude.{◌≡◌, IfErr, IfOk, MatchResult, map};
+ghost use Rattle.std.specs.Prelude.{◌≡◌, IfErr, IfOk, MatchResult, Some, map};
 ghost use Rattle.rgo_ast.specs.Views.{decl_of, import_of, program_of};
 ghost use Rattle.rgo_grammar.specs.FirstBad.{IsFirstBad};
 ghost use Rattle.rgo_grammar.specs.Grammar.{IsProgram};
-ghost use Rattle.rgo_parser.specs.Parsing.{IsParsed, Fails};
+ghost use Rattle.rgo_grammar.specs.Nesting.{deep_at};
+ghost use Rattle.rgo_parser.specs.Parsing.{limit, IsParsed, Refuses, Fails};
 ghost use Rattle.rgo_parser.specs.declared.parser.ParseError.TheVariants.{NoMemory};
 
 use crate::programs::program;
@@ -49,9 +50,9 @@ impl From<AllocError> for ParseError {
 
 // The imports and the declarations of a whole list of lexemes, or the number of the first with which no
 // program continues. The outer error says that memory ran out.
-fn whole<'a>(
+fn whole(
     alloc: Global,
-    lexemes: &'a [Lexeme<'a>],
+    lexemes: &[Lexeme<'_>],
 ) -> Result<Result<(Vec<Import>, Vec<Decl>), usize>, AllocError>
     ensures { IfOk result (λ read. MatchResult read
         (λ x. IsProgram lexemes.now (map import_of x.0.items) (map decl_of x.1.items))
@@ -66,28 +67,37 @@ fn whole<'a>(
     }
 }
 
+// The refusal of lexemes of which the one with number `deep` is the first that nests too deep. The error
+// says that memory ran out.
+fn refusal(alloc: Global, lexemes: &[Lexeme<'_>], deep: usize) -> Result<ParseRefusal, AllocError>
+    requires { Some deep ≡ deep_at limit lexemes.now }
+    ensures { IfOk result (Refuses lexemes.now) }
+{
+    prove!(deep < lexemes.len());
+    let read = whole(alloc, &lexemes[..deep + 1])?;
+    let Err(at) = read else {
+        return Ok(ParseRefusal::TooDeep { at: deep });
+    };
+    if at > deep {
+        return Ok(ParseRefusal::TooDeep { at: deep });
+    }
+    Ok(ParseRefusal::Syntax { at })
+}
+
 /// The program that the lexemes of a text are; `end` is the length of the text.
-pub fn parse<'a>(
-    alloc: Global,
-    end: Place,
-    lexemes: &'a [Lexeme<'a>],
-) -> Result<Program, ParseError>
+pub fn parse(alloc: Global, end: Place, lexemes: &[Lexeme<'_>]) -> Result<Program, ParseError>
     ensures parsed { IfOk result (λ program. IsParsed end lexemes.now (program_of program)) }
     ensures refused { IfErr result (Fails lexemes.now) }
 {
-    match deep_at(alloc, LIMIT, lexemes)? {
-        None => match whole(alloc, lexemes)? {
-            Ok((imports, decls)) => Ok(Program {
-                imports,
-                decls,
-                end,
-            }),
-            Err(at) => Err(ParseError::Refused(ParseRefusal::Syntax { at })),
-        },
-        Some(deep) => match whole(alloc, &lexemes[..deep + 1])? {
-            Ok(_) => Err(ParseError::Refused(ParseRefusal::TooDeep { at: deep })),
-            Err(at) if at > deep => Err(ParseError::Refused(ParseRefusal::TooDeep { at: deep })),
-            Err(at) => Err(ParseError::Refused(ParseRefusal::Syntax { at })),
-        },
+    if let Some(deep) = deep_at(alloc, LIMIT, lexemes)? {
+        return Err(ParseError::Refused(refusal(alloc, lexemes, deep)?));
+    }
+    match whole(alloc, lexemes)? {
+        Ok((imports, decls)) => Ok(Program {
+            imports,
+            decls,
+            end,
+        }),
+        Err(at) => Err(ParseError::Refused(ParseRefusal::Syntax { at })),
     }
 }

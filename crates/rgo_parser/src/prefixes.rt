@@ -1,5 +1,4 @@
 //! Operators before and between the operands of an expression.
-#![tactic(auto, using(rgo_ast::proofs::Rows::rows))]
 
 ghost use Rattle.std.specs.Prelude.{◌≡◌};
 ghost use Rattle.rgo_grammar.specs.Grammar.{level};
@@ -36,7 +35,7 @@ pub(crate) fn level(op: BinaryOp) -> u8
 
 /// A binary operator that binds at least as tightly as `least`, with its place; none where no such
 /// operator is next.
-pub(crate) fn operator<'a>(reader: &mut Reader<'a>, least: u8) -> Option<(BinaryOp, usize)>
+pub(crate) fn operator(reader: &mut Reader<'_, '_>, least: u8) -> Option<(BinaryOp, usize)>
     ensures { parts.operator least reader.old ≡ Done result reader.new }
 {
     let lexeme = reader.peek()?;
@@ -51,7 +50,7 @@ pub(crate) fn operator<'a>(reader: &mut Reader<'a>, least: u8) -> Option<(Binary
 }
 
 /// What comes before a unary expression; no literal may begin in a header.
-pub(crate) fn read_prefix<'a>(reader: &mut Reader<'a>, header: bool) -> Read<Prefix>
+pub(crate) fn read_prefix(reader: &mut Reader<'_, '_>, header: bool) -> Read<Prefix>
     ensures { Agrees (λ x. x) result reader.new (parts.read_prefix header reader.old) }
 {
     let Some(lexeme) = reader.peek() else {

@@ -1,5 +1,4 @@
 //! Whole programs.
-#![tactic(auto, using(rgo_ast::proofs::Rows::rows, crate::proofs::DeclTurns::decl_turns))]
 
 ghost use Rattle.std.specs.Prelude.{◌≡◌, [], map};
 ghost use Rattle.rgo_ast.specs.Views.{decl_of, import_of};
@@ -13,7 +12,8 @@ use rgo_lexer::{Lexeme, Terminal};
 use std::alloc::Global;
 
 // Declarations, each with its `;`, up to the end.
-fn decls<'a>(alloc: Global, reader: &mut Reader<'a>, turns: usize) -> Read<Vec<Decl>>
+#[tactic(auto, using(crate::proofs::DeclTurns::decl_turns))]
+fn decls(alloc: Global, reader: &mut Reader<'_, '_>, turns: usize) -> Read<Vec<Decl>>
     ensures { Agrees (λ x. map decl_of x.items) result reader.new
         (reading.decls turns turns [] reader.old) }
 {
@@ -30,7 +30,8 @@ fn decls<'a>(alloc: Global, reader: &mut Reader<'a>, turns: usize) -> Read<Vec<D
 }
 
 // Declarations of imports, each with its `;`, as long as one is next.
-fn imports<'a>(alloc: Global, reader: &mut Reader<'a>, turns: usize) -> Read<Vec<Import>>
+#[tactic(auto, using(crate::proofs::DeclTurns::import_turns))]
+fn imports(alloc: Global, reader: &mut Reader<'_, '_>, turns: usize) -> Read<Vec<Import>>
     ensures { Agrees (λ x. map import_of x.items) result reader.new
         (reading.imports turns turns [] reader.old) }
 {
@@ -43,7 +44,7 @@ fn imports<'a>(alloc: Global, reader: &mut Reader<'a>, turns: usize) -> Read<Vec
             return Ok(found);
         };
         reader.pass();
-        let one = import(alloc, reader, turns, lexeme.at)?;
+        let one = import(alloc, reader, turns, lexeme)?;
         found.push(one)?;
         reader.take(Terminal::Semicolon)?;
     }
@@ -51,7 +52,7 @@ fn imports<'a>(alloc: Global, reader: &mut Reader<'a>, turns: usize) -> Read<Vec
 }
 
 // `package main ;`, up to its last lexeme.
-fn head<'a>(reader: &mut Reader<'a>) -> Read<&'a Lexeme<'a>>
+fn head<'r, 'a>(reader: &mut Reader<'r, 'a>) -> Read<&'r Lexeme<'a>>
     ensures { Agrees leaf_in result reader.new (reading.head reader.old) }
 {
     reader.take(Terminal::Package)?;
@@ -60,9 +61,9 @@ fn head<'a>(reader: &mut Reader<'a>) -> Read<&'a Lexeme<'a>>
 }
 
 /// The imports and the declarations of a program.
-pub(crate) fn program<'a>(
+pub(crate) fn program(
     alloc: Global,
-    reader: &mut Reader<'a>,
+    reader: &mut Reader<'_, '_>,
     turns: usize,
 ) -> Read<(Vec<Import>, Vec<Decl>)>
     ensures { Agrees (λ x. (map import_of x.0.items, map decl_of x.1.items)) result reader.new

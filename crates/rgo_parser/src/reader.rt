@@ -50,12 +50,12 @@ pub(crate) type Read<T> = Result<T, Fault>;
 
 /// A text's lexemes from the next one on. Contracts see those that are left.
 #[derive(Drop)]
-pub(crate) struct Reader<'a> {
-    lexemes: &'a [Lexeme<'a>],
+pub(crate) struct Reader<'r, 'a> {
+    lexemes: &'r [Lexeme<'a>],
     at: usize,
 }
 
-impl<'a> Model for Reader<'a> {
+impl<'r, 'a> Model for Reader<'r, 'a> {
     ghost use Rattle.std.specs.Prelude.{List, drop};
     ghost use Rattle.rgo_lexer.specs.Lexemes.{Lexeme};
 
@@ -64,8 +64,8 @@ impl<'a> Model for Reader<'a> {
     ghost view = { λ r. drop r.at r.lexemes.now };
 }
 
-impl<'a> Reader<'a> {
-    pub(crate) fn new(lexemes: &'a [Lexeme<'a>]) -> Reader<'a>
+impl<'r, 'a> Reader<'r, 'a> {
+    pub(crate) fn new(lexemes: &'r [Lexeme<'a>]) -> Reader<'r, 'a>
         ensures { result ≡ lexemes.now }
     {
         Reader { lexemes, at: 0 }
@@ -79,7 +79,7 @@ impl<'a> Reader<'a> {
     }
 
     /// The next lexeme, which stays the next.
-    pub(crate) fn peek(&self) -> Option<&'a Lexeme<'a>>
+    pub(crate) fn peek(&self) -> Option<&'r Lexeme<'a>>
         ensures { MatchOption result (first_of self.now ≡ None)
             (λ l. first_of self.now ≡ Some (l.now, drop 1 self.now)) }
     {
@@ -87,7 +87,7 @@ impl<'a> Reader<'a> {
     }
 
     /// The lexeme after the next.
-    pub(crate) fn peek_second(&self) -> Option<&'a Lexeme<'a>>
+    pub(crate) fn peek_second(&self) -> Option<&'r Lexeme<'a>>
         ensures { MatchOption result (first_of (drop 1 self.now) ≡ None)
             (λ l. first_of (drop 1 self.now) ≡ Some (l.now, drop 2 self.now)) }
     {
@@ -104,7 +104,7 @@ impl<'a> Reader<'a> {
     }
 
     /// One lexeme, by its terminal.
-    pub(crate) fn take(&mut self, terminal: Terminal) -> Read<&'a Lexeme<'a>>
+    pub(crate) fn take(&mut self, terminal: Terminal) -> Read<&'r Lexeme<'a>>
         ensures { Agrees leaf_in result self.new (reading.token terminal self.old) }
     {
         match self.peek() {
@@ -126,7 +126,7 @@ impl<'a> Reader<'a> {
 }
 
 /// The name that a lexeme spells.
-pub(crate) fn ident<'a>(alloc: Global, lexeme: &Lexeme<'a>) -> Result<Ident, AllocError>
+pub(crate) fn ident(alloc: Global, lexeme: &Lexeme<'_>) -> Result<Ident, AllocError>
     ensures { IfOk result (λ i. leaf_of i ≡ lexeme.now.leaf) }
 {
     Ok(Ident {

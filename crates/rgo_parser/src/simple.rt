@@ -1,5 +1,4 @@
 //! Simple statements.
-#![tactic(auto, using(rgo_ast::proofs::Rows::rows))]
 
 ghost use Rattle.std.specs.Prelude.{◌≡◌};
 ghost use Rattle.rgo_ast.specs.Views.{stmt_of};
@@ -15,9 +14,9 @@ use std::alloc::Global;
 
 /// A simple statement that begins with an expression; `header` says that it is between `if` or `for`
 /// and its block.
-pub(crate) fn valued<'a>(
+pub(crate) fn valued(
     alloc: Global,
-    reader: &mut Reader<'a>,
+    reader: &mut Reader<'_, '_>,
     header: bool,
     turns: usize,
 ) -> Read<Stmt>
@@ -48,9 +47,9 @@ pub(crate) fn valued<'a>(
 }
 
 /// A simple statement that may be a definition; `header` as for `valued`.
-pub(crate) fn defining<'a>(
+pub(crate) fn defining(
     alloc: Global,
-    reader: &mut Reader<'a>,
+    reader: &mut Reader<'_, '_>,
     header: bool,
     turns: usize,
 ) -> Read<Stmt>

@@ -1,5 +1,4 @@
 //! Statements and blocks: the functions that read a statement within a statement.
-#![tactic(auto, using(rgo_ast::proofs::Rows::rows, crate::proofs::ListTurns::listed_turns, crate::proofs::StmtTurns::stmt_turns,))]
 
 ghost use Rattle.std.specs.Prelude.{◌≡◌};
 ghost use Rattle.rgo_ast.specs.Views.{stmt_of, boxed_stmt_of};
@@ -18,8 +17,9 @@ use rgo_lexer::Terminal;
 use std::alloc::Global;
 
 /// A statement, or none where it is empty.
+#[tactic(auto, using(crate::proofs::StmtTurns::stmt_turns))]
 #[cycle(statements)]
-fn stmt<'a>(alloc: Global, reader: &mut Reader<'a>, turns: usize) -> Read<Option<Stmt>>
+fn stmt(alloc: Global, reader: &mut Reader<'_, '_>, turns: usize) -> Read<Option<Stmt>>
     ensures { Agrees stmt_list_of result reader.new (reading.stmt turns reader.old) }
 {
     if turns == 0 {
@@ -38,8 +38,9 @@ fn stmt<'a>(alloc: Global, reader: &mut Reader<'a>, turns: usize) -> Read<Option
 }
 
 // An `if` statement after its keyword, which is at a place.
+#[tactic(auto, using(crate::proofs::StmtTurns::if_turns))]
 #[cycle(statements)]
-fn if_stmt<'a>(alloc: Global, reader: &mut Reader<'a>, turns: usize, at: usize) -> Read<Stmt>
+fn if_stmt(alloc: Global, reader: &mut Reader<'_, '_>, turns: usize, at: usize) -> Read<Stmt>
     ensures { Agrees stmt_of result reader.new (reading.if_stmt turns (leaf_at at) reader.old) }
 {
     if turns == 0 {
@@ -58,8 +59,9 @@ fn if_stmt<'a>(alloc: Global, reader: &mut Reader<'a>, turns: usize, at: usize) 
 }
 
 // After the block of an `if`.
+#[tactic(auto, using(crate::proofs::StmtTurns::else_turns))]
 #[cycle(statements)]
-fn otherwise<'a>(alloc: Global, reader: &mut Reader<'a>, turns: usize) -> Read<Option<Box<Stmt>>>
+fn otherwise(alloc: Global, reader: &mut Reader<'_, '_>, turns: usize) -> Read<Option<Box<Stmt>>>
     ensures { Agrees boxed_stmt_of result reader.new
         (reading.else_on (reading.block turns) (if_at turns) reader.old (first_of reader.old)) }
 {
@@ -77,8 +79,9 @@ fn otherwise<'a>(alloc: Global, reader: &mut Reader<'a>, turns: usize) -> Read<O
 }
 
 // A `for` statement after its keyword, which is at a place.
+#[tactic(auto, using(crate::proofs::StmtTurns::nodes))]
 #[cycle(statements)]
-fn for_stmt<'a>(alloc: Global, reader: &mut Reader<'a>, turns: usize, at: usize) -> Read<Stmt>
+fn for_stmt(alloc: Global, reader: &mut Reader<'_, '_>, turns: usize, at: usize) -> Read<Stmt>
     ensures { Agrees stmt_of result reader.new (for_at turns (leaf_at at) reader.old) }
 {
     let ForHeader { init, test, post } = for_header(alloc, reader, turns)?;
@@ -94,7 +97,11 @@ fn for_stmt<'a>(alloc: Global, reader: &mut Reader<'a>, turns: usize, at: usize)
 
 /// A block, from its `{` on.
 #[cycle(statements)]
-pub(crate) fn block<'a>(alloc: Global, reader: &mut Reader<'a>, turns: usize) -> Listed<'a, Stmt>
+pub(crate) fn block<'r, 'a>(
+    alloc: Global,
+    reader: &mut Reader<'r, 'a>,
+    turns: usize,
+) -> Listed<'r, 'a, Stmt>
     ensures { Agrees (listed_by stmt_of) result reader.new (reading.block turns reader.old) }
 {
     reader.take(Terminal::OpenBrace)?;
@@ -102,8 +109,9 @@ pub(crate) fn block<'a>(alloc: Global, reader: &mut Reader<'a>, turns: usize) ->
 }
 
 // Statements up to the `}` that closes them.
+#[tactic(auto, using(crate::proofs::ListTurns::listed_turns))]
 #[cycle(statements)]
-fn stmts<'a>(alloc: Global, reader: &mut Reader<'a>, turns: usize) -> Listed<'a, Stmt>
+fn stmts<'r, 'a>(alloc: Global, reader: &mut Reader<'r, 'a>, turns: usize) -> Listed<'r, 'a, Stmt>
     ensures { Agrees (listed_by stmt_of) result reader.new (reading.stmts turns reader.old) }
 {
     let mut found = Vec::new(alloc);

@@ -1,5 +1,4 @@
 //! What comes after a primary expression.
-#![tactic(auto, using(rgo_ast::proofs::Rows::rows))]
 
 ghost use Rattle.std.specs.Prelude.{◌≡◌};
 ghost use Rattle.rgo_grammar.specs.reading.Expressions as reading;
@@ -21,7 +20,7 @@ pub(crate) enum Suffix {
 }
 
 /// What comes after a primary expression.
-pub(crate) fn read_suffix<'a>(alloc: Global, reader: &mut Reader<'a>) -> Read<Suffix>
+pub(crate) fn read_suffix(alloc: Global, reader: &mut Reader<'_, '_>) -> Read<Suffix>
     ensures { Agrees (λ x. x) result reader.new (parts.read_suffix reader.old) }
 {
     let Some(lexeme) = reader.peek() else {
@@ -45,7 +44,7 @@ pub(crate) fn read_suffix<'a>(alloc: Global, reader: &mut Reader<'a>) -> Read<Su
 }
 
 /// Whether a name and a `:` are next.
-pub(crate) fn is_keyed<'a>(reader: &Reader<'a>) -> bool
+pub(crate) fn is_keyed(reader: &Reader<'_, '_>) -> bool
     ensures { result ≡ reading.is_keyed reader.now }
 {
     match (reader.peek(), reader.peek_second()) {

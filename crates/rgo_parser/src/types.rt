@@ -1,5 +1,4 @@
 //! Names and types.
-#![tactic(auto, using(rgo_ast::proofs::Rows::rows, crate::proofs::TypeTurns::type_turns))]
 
 ghost use Rattle.std.specs.Prelude.{◌≡◌, ◌∷◌, []};
 ghost use Rattle.rgo_ast.specs.Tree as tree;
@@ -14,7 +13,8 @@ use rgo_lexer::Terminal;
 use std::alloc::Global;
 
 /// A type.
-pub(crate) fn ty<'a>(alloc: Global, reader: &mut Reader<'a>, turns: usize) -> Read<TypeExpr>
+#[tactic(auto, using(crate::proofs::TypeTurns::type_turns))]
+pub(crate) fn ty(alloc: Global, reader: &mut Reader<'_, '_>, turns: usize) -> Read<TypeExpr>
     ensures { Agrees type_expr_of result reader.new (reading.a_type turns reader.old) }
 {
     if turns == 0 {
@@ -49,7 +49,8 @@ pub(crate) fn ty<'a>(alloc: Global, reader: &mut Reader<'a>, turns: usize) -> Re
 }
 
 // The names of a declaration, of which the first was read.
-fn names<'a>(alloc: Global, reader: &mut Reader<'a>, turns: usize, one: Ident) -> Read<Vec<Ident>>
+#[tactic(auto, using(crate::proofs::TypeTurns::name_turns))]
+fn names(alloc: Global, reader: &mut Reader<'_, '_>, turns: usize, one: Ident) -> Read<Vec<Ident>>
     ensures { Agrees (λ x. x.items) result reader.new (reading.names turns (one ∷ []) reader.old) }
 {
     let mut found = Vec::new(alloc);
@@ -67,9 +68,9 @@ fn names<'a>(alloc: Global, reader: &mut Reader<'a>, turns: usize, one: Ident) -
 }
 
 /// The names of a declaration, of which the first was read, and their type.
-pub(crate) fn typed_names<'a>(
+pub(crate) fn typed_names(
     alloc: Global,
-    reader: &mut Reader<'a>,
+    reader: &mut Reader<'_, '_>,
     turns: usize,
     one: Ident,
 ) -> Read<Binding>
@@ -88,7 +89,7 @@ impl Item for Binding {
     ghost reads = { reading.binding };
 
     /// Names and their type.
-    fn read<'a>(alloc: Global, reader: &mut Reader<'a>, turns: usize) -> Read<Binding> {
+    fn read(alloc: Global, reader: &mut Reader<'_, '_>, turns: usize) -> Read<Binding> {
         let one = reader.name(alloc)?;
         typed_names(alloc, reader, turns, one)
     }
