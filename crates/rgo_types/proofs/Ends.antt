@@ -4,8 +4,8 @@ use Rattle.rgo_ast.specs.Tree.{stmts_of}
 use Rattle.rgo_ast.specs.Views.{stmt_of}
 use Rattle.rgo_ast.specs.declared.statements.Stmt.{Stmt as CodeStmt}
 use Rattle.rgo_typed.specs.Tree.{Term, terms_of, a_term}
-use Rattle.rgo_types.specs.Statements.{ends, is_terminating}
-use Rattle.rgo_types.specs.Bodies.{ended}
+use Rattle.rgo_types.specs.Flow.{ends, is_terminating}
+use Rattle.rgo_types.specs.TypedStatements.{ended}
 
 unwrapped : {A : Type 0} (a b : A) → Some a ≡ Some b → a ≡ b
 unwrapped a b p = cc

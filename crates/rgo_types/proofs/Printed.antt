@@ -4,26 +4,14 @@ use Rattle.std.proofs.lemmas.List.{append_assoc, append-nil}
 use Rattle.rgo_ast.specs.Tree.{exprs_of}
 use Rattle.rgo_ast.specs.Views.{expr_of}
 use Rattle.rgo_ast.specs.declared.expressions.Expr.{Expr as CodeExpr}
-use Rattle.rgo_typed.specs.Tree.{Term, Terms, no_terms, a_term, terms_of}
+use Rattle.rgo_typed.specs.Tree.{Term, Terms, no_terms, a_term}
 use Rattle.rgo_typed.specs.Views.{term_of}
 use Rattle.rgo_typed.specs.declared.terms.Term.{Term as CodeTerm}
 use Rattle.rgo_typed.specs.declared.statements.Piece.{Piece}
 use Rattle.rgo_typing_expressions.specs.Callees.{bare}
-use Rattle.rgo_types.specs.Bodies.{pieces_of, piece_of, printed_terms, is_text, kept, unless_text}
+use Rattle.rgo_types.specs.TypedStatements.{pieces_of, piece_of, printed_terms, is_text, kept, unless_text}
+use Rattle.rgo_typing_expressions.proofs.Lists.{terms_before, one_more}
 use Rattle.rgo_types.proofs.Lists.{opened}
-
--- terms with more behind them
-abbrev pub terms_before : List Term → Terms → Terms
-terms_before [] more = more
-terms_before (t ∷ ts) more = a_term t (terms_before ts more)
-
-one_more : (ts : List Term) (t : Term) (more : Terms) → terms_before (ts ++ t ∷ []) more ≡ terms_before ts (a_term t more)
-one_more [] t more = refl
-one_more (u ∷ ts) t more = ap (a_term u) (one_more ts t more)
-
-pub no_more : (ts : List Term) → terms_before ts no_terms ≡ terms_of ts
-no_more [] = refl
-no_more (t ∷ ts) = ap (a_term t) (no_more ts)
 
 pub printed_none : (es : List CodeExpr) → printed_terms (exprs_of (map expr_of es)) no_terms ≡ no_terms
 printed_none [] = refl

@@ -1,20 +1,67 @@
--- One turn of a loop that judges the items of a list one after the other, each by its view.
-use Rattle.std.proofs.Common.{◌≡◌, ℕ, ◌+◌, ◌<◌, List, ◌∷◌, ◌++◌, length, drop, map, get_or, None, ap, ◌∙◌, sym, subst}
-use Rattle.rgo_typing_expressions.specs.declared.errors.TypeError.{TypeError}
-use Rattle.rgo_typing_expressions.specs.Sites.{Site, first_fault}
-use Rattle.rgo_typing_expressions.specs.Judges.{Fails}
-use Rattle.rgo_types.proofs.Failing.{fails_more, passes}
-use Rattle.rgo_types.proofs.Lists.{opened_map}
+-- Loops that check the items of a list one after another: what a turn keeps, and where one ends with a refusal.
+use Rattle.std.proofs.Common.{◌≡◌, ◌++◌, List, [], ◌∷◌, None, ap, ◌∙◌, sym, subst}
+use Rattle.std.proofs.lemmas.List.{append_assoc}
+use Rattle.rgo_typed.specs.Tree.{Stmt}
+use Rattle.rgo_typing_rules.specs.Checks.{Refuses}
+use Rattle.rgo_typing_rules.specs.Sites.{Site, first_refusal}
+use Rattle.rgo_typing_rules.specs.declared.errors.TypeError.{TypeError}
+use Rattle.rgo_typing_rules.proofs.Refusals.{refuses_first, none_first}
+use Rattle.rgo_typing_expressions.specs.Packages.{Context}
+use Rattle.rgo_types.specs.Outcomes.{Outcome, Passes}
 
-module _ {X Y : Type 0} (view : X → Y) (all : List X) (i : ℕ) (x : X) (q : x ≡ get_or all i x) (h : i < length all) where
-  pub turn : {Z : Type 0} (f : List Y → Z) → f (view x ∷ map view (drop (i + 1) all)) ≡ f (map view (drop i all))
-  turn f = ap f (sym (opened_map view all i x q h))
+-- ---- a loop that changes a state
 
-  -- the sites of a list are those of its first item, and then the rest
-  module _ (sites : List Y → List Site) (first rest : List Site)
-      (both : sites (view x ∷ map view (drop (i + 1) all)) ≡ first ++ rest) where
-    pub turn_fails : (e : TypeError) → Fails e (first_fault first) → Fails e (first_fault (sites (map view (drop i all))))
-    turn_fails e f = subst (λ l. Fails e (first_fault l)) (sym both ∙ turn sites) (fails_more e first rest f)
+-- `all` are checked from the state `start` on; `left` are left at the state `now`
+pub record Loop {S Y : Type 0} (sites : S → List Y → List Site) (after : S → List Y → S) (start : S) (all : List Y) (now : S) (left : List Y) : Type 0 where
+  pub refusal : first_refusal (sites now left) ≡ first_refusal (sites start all)
+  pub state : after now left ≡ after start all
 
-    pub turn_passes : first_fault first ≡ None → first_fault rest ≡ first_fault (sites (map view (drop i all)))
-    turn_passes f = sym (passes first rest f) ∙ ap first_fault (sym both ∙ turn sites)
+module _ {S Y : Type 0} {sites : S → List Y → List Site} {after : S → List Y → S} {start : S} {all : List Y} {now : S} {left : List Y}
+    (loop : Loop sites after start all now left) (y : Y) (rest : List Y) (here : left ≡ y ∷ rest) (first others : List Site)
+    (both : sites now (y ∷ rest) ≡ first ++ others) where
+  -- the next item is refused
+  pub refused : (e : TypeError) → Refuses e (first_refusal first) → Refuses e (first_refusal (sites start all))
+  refused e refuses =
+      subst (Refuses e) loop.refusal
+      (subst (λ l. Refuses e (first_refusal l)) (sym (ap (sites now) here ∙ both)) (refuses_first e first others refuses))
+
+  -- the next item breaks no rule
+  pub kept : {next after_first : S} → (first_refusal first ≡ None) × (next ≡ after_first)
+      → others ≡ sites after_first rest → after now (y ∷ rest) ≡ after after_first rest → Loop sites after start all next rest
+  kept passes others_are after_is = record {
+    refusal = ap (λ s. first_refusal (sites s rest)) passes.1 ∙ ap first_refusal (sym others_are)
+        ∙ sym (none_first first others passes.0) ∙ ap first_refusal (sym (ap (sites now) here ∙ both)) ∙ loop.refusal;
+    state = ap (λ s. after s rest) passes.1 ∙ sym after_is ∙ ap (after now) (sym here) ∙ loop.state;
+  }
+
+-- ---- a loop that appends typed trees
+
+-- the same for statements: `before` are the typed trees so far, and `at_start` those at the start
+pub record Appending {Y : Type 0} (outcome : Context → List Y → Outcome) (start : Context) (all : List Y) (at_start : List Stmt) (now : Context) (left : List Y) (before : List Stmt) : Type 0 where
+  pub refusal : first_refusal (outcome now left).sites ≡ first_refusal (outcome start all).sites
+  pub context : (outcome now left).after ≡ (outcome start all).after
+  pub typed : before ++ (outcome now left).typed ≡ at_start ++ (outcome start all).typed
+
+module _ {Y : Type 0} {outcome : Context → List Y → Outcome} {start : Context} {all : List Y} {at_start : List Stmt} {now : Context} {left : List Y} {before : List Stmt}
+    (loop : Appending outcome start all at_start now left before) (y : Y) (rest : List Y) (here : left ≡ y ∷ rest)
+    (first others : Outcome) (both : (outcome now (y ∷ rest)).sites ≡ first.sites ++ others.sites) where
+  pub refused_stmt : (e : TypeError) → Refuses e (first_refusal first.sites)
+      → Refuses e (first_refusal (outcome start all).sites)
+  refused_stmt e refuses =
+      subst (Refuses e) loop.refusal
+      (subst (λ l. Refuses e (first_refusal l)) (sym (ap (λ l. (outcome now l).sites) here ∙ both))
+      (refuses_first e first.sites others.sites refuses))
+
+  pub appended : {next : Context} {typed : List Stmt} → Passes first next before typed → others ≡ outcome first.after rest
+      → (outcome now (y ∷ rest)).after ≡ others.after → (outcome now (y ∷ rest)).typed ≡ first.typed ++ others.typed
+      → Appending outcome start all at_start next rest typed
+  appended {next} {typed} passes others_are after_is typed_is =
+      let next_is : outcome next rest ≡ others = ap (λ c. outcome c rest) passes.context ∙ sym others_are in
+      record {
+        refusal = ap (λ o. first_refusal o.sites) next_is ∙ sym (none_first first.sites others.sites passes.unbroken)
+            ∙ ap first_refusal (sym (ap (λ l. (outcome now l).sites) here ∙ both)) ∙ loop.refusal;
+        context = ap (λ o. o.after) next_is ∙ sym after_is ∙ ap (λ l. (outcome now l).after) (sym here) ∙ loop.context;
+        typed = ap (λ o. typed ++ o.typed) next_is ∙ ap (λ l. l ++ others.typed) passes.typed
+            ∙ append_assoc before first.typed others.typed ∙ ap (λ l. before ++ l) (sym typed_is)
+            ∙ ap (λ l. before ++ (outcome now l).typed) (sym here) ∙ loop.typed;
+      }

@@ -1,4 +1,4 @@
--- How much there is to judge in a statement: the measure by which judging it ends.
+-- The size of a statement: the measure by which its check ends.
 use Rattle.std.proofs.Common.{◌≡◌, ℕ, zero, suc, ◌+◌, ◌<◌, List, [], ◌∷◌, length, map, get_or, ap, arith, subst, sym}
 use Rattle.rgo_ast.specs.Tree as tree
 use Rattle.rgo_ast.specs.Tree.{Stmt, Stmts, Clause, stmts_of}
@@ -7,9 +7,9 @@ use Rattle.rgo_ast.specs.declared.statements.Stmt.{Stmt as CodeStmt}
 
 abbrev mutual
   pub weight : Stmt → ℕ
-  weight (tree.Block all at) = suc (suc (weights all))
-  weight (tree.If init test body other at) = suc (suc (clause_weight init + (weights body + clause_weight other)))
-  weight (tree.For init test post body at) = suc (suc (clause_weight init + (clause_weight post + weights body)))
+  weight (tree.Block all at) = suc (suc (suc (weights all)))
+  weight (tree.If init test body other at) = suc (suc (suc (clause_weight init + (weights body + clause_weight other))))
+  weight (tree.For init test post body at) = suc (suc (suc (clause_weight init + (clause_weight post + weights body))))
   weight _ = 0
 
   pub weights : Stmts → ℕ

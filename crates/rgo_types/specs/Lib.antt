@@ -1,4 +1,10 @@
-pub mod Bodies
+pub mod Flow
+pub mod Imports
+pub mod Names
+pub mod Numbering
+pub mod Outcomes
 pub mod Programs
+pub mod Signatures
 pub mod Statements
+pub mod TypedStatements
 pub mod Views

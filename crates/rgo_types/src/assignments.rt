@@ -1,20 +1,22 @@
-//! Assignments, of their judged sides.
-#![tactic(auto, using(rgo_typed::proofs::Rows::rows))]
+//! Typed trees of assignments, from their checked sides.
+#![tactic(auto, using(rgo_typing_expressions::proofs::Trees::terms))]
 
 ghost use Rattle.std.specs.Prelude.{◌≡◌, IfOk, map};
 ghost use Rattle.rgo_typed.specs.Tree.{terms_of};
 ghost use Rattle.rgo_typed.specs.Views.{term_of, stmt_of};
-ghost use Rattle.rgo_types.specs.Bodies as spec;
-ghost use Rattle.rgo_types.specs.Statements as statements;
+ghost use Rattle.rgo_typing_rules.specs.Views.{shape_of};
+ghost use Rattle.rgo_types.specs.Statements.{assign_op, step_op};
+ghost use Rattle.rgo_types.specs.TypedStatements as spec;
 
+use crate::locals::kind_in;
 use rgo_ast::{AssignOp, BinaryOp, Place, StepOp};
-use rgo_typing_expressions::{apply_two, plain};
-use rgo_typed::{Action, Base, Stmt, Term, Type};
+use rgo_typed::{Action, Base, Stmt, Term};
+use rgo_typing_expressions::{Checked, apply_two, plain, with_type};
 use std::alloc::{AllocError, Global};
 
 /// The operator of an assignment that computes first.
 pub(crate) fn assign_op(op: AssignOp) -> Option<BinaryOp>
-    ensures { result ≡ statements.assign_op op }
+    ensures { result ≡ assign_op op }
 {
     match op {
         AssignOp::Plain => None,
@@ -28,7 +30,7 @@ pub(crate) fn assign_op(op: AssignOp) -> Option<BinaryOp>
 
 /// The operator of `++` and `--`.
 pub(crate) fn step_op(op: StepOp) -> BinaryOp
-    ensures { result ≡ statements.step_op op }
+    ensures { result ≡ step_op op }
 {
     match op {
         StepOp::Increment => BinaryOp::Add,
@@ -36,7 +38,7 @@ pub(crate) fn step_op(op: StepOp) -> BinaryOp
     }
 }
 
-/// The write of what is read so.
+/// The write that belongs to a read.
 fn write_of(read: Action) -> Option<Action>
     ensures { result ≡ spec.write_of read }
 {
@@ -50,15 +52,16 @@ fn write_of(read: Action) -> Option<Action>
 
 /// The operands with one more at their end.
 fn ended(operands: Vec<Term>, value: Term) -> Result<Vec<Term>, AllocError>
-    ensures { IfOk result (λ all. terms_of (map term_of all.items) ≡ spec.ended (terms_of (map term_of operands.items)) (term_of value)) }
+    ensures { IfOk result (λ all. terms_of (map term_of all.items)
+        ≡ spec.ended (terms_of (map term_of operands.items)) (term_of value)) }
 {
     let mut all = operands;
     all.push(value)?;
     Ok(all)
 }
 
-/// The left side of an assignment is given a value.
-pub(crate) fn stored(alloc: Global, left: Term, value: Term, at: Place) -> Result<Stmt, AllocError>
+/// A value is assigned to the left side.
+fn stored(alloc: Global, left: Term, value: Term, at: Place) -> Result<Stmt, AllocError>
     ensures { IfOk result (λ s. stmt_of s ≡ spec.stored (term_of left) (term_of value) at) }
 {
     match left {
@@ -71,7 +74,7 @@ pub(crate) fn stored(alloc: Global, left: Term, value: Term, at: Place) -> Resul
     }
 }
 
-/// The left side of an assignment is read, computed with and written.
+/// The left side is read, computed with and written.
 pub(crate) fn changed(
     alloc: Global,
     op: BinaryOp,
@@ -84,14 +87,8 @@ pub(crate) fn changed(
     match left {
         Term::Local(number) => {
             let ty = plain(alloc, Base::Int);
-            let value = apply_two(
-                alloc,
-                Action::Binary(op),
-                Term::Local(number),
-                value,
-                ty,
-                at,
-            )?;
+            let read = Term::Local(number);
+            let value = apply_two(alloc, Action::Binary(op), read, value, ty, at)?;
             Ok(Stmt::Assign(number, Box::new(alloc, value)?, at))
         }
         Term::Apply(read, operands, ty, read_at) => match write_of(read) {
@@ -108,5 +105,27 @@ pub(crate) fn changed(
             None => Ok(Stmt::Discard(Box::new(alloc, value)?)),
         },
         _ => Ok(Stmt::Discard(Box::new(alloc, value)?)),
+    }
+}
+
+/// An assignment to a checked left side.
+pub(crate) fn assigned(
+    alloc: Global,
+    op: Option<BinaryOp>,
+    left: Checked<'_>,
+    value: Term,
+    at: Place,
+) -> Result<Stmt, AllocError>
+    ensures { IfOk result (λ s. stmt_of s
+        ≡ spec.assigned op (shape_of left.entry.shape) (term_of left.entry.term) (term_of value) at) }
+{
+    match op {
+        None => stored(
+            alloc,
+            left.term,
+            with_type(alloc, kind_in(left.shape), value)?,
+            at,
+        ),
+        Some(op) => changed(alloc, op, left.term, value, at),
     }
 }

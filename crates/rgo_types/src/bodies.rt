@@ -1,22 +1,21 @@
 //! Bodies of functions.
-#![tactic(auto, using(rgo_ast::proofs::Rows::rows, rgo_typed::proofs::Rows::rows, rgo_typing_expressions::proofs::Faults::faults))]
+#![tactic(auto, using(rgo_typing_rules::proofs::Refusals::refusals, std::proofs::lemmas::List::map_push))]
 
 ghost use Rattle.std.specs.Prelude.{◌≡◌, ◌++◌, IfOk, OnOk, map};
 ghost use Rattle.rgo_ast.specs.Views.{decl_of, function_of};
-ghost use Rattle.rgo_typing_rules.specs.Views.{optional_kind_of};
 ghost use Rattle.rgo_typed.specs.Views as typed;
-ghost use Rattle.rgo_typing_expressions.specs.Judges.{Judges};
-ghost use Rattle.rgo_typing_expressions.specs.Views.{package_of};
+ghost use Rattle.rgo_typing_rules.specs.Checks.{Checks};
+ghost use Rattle.rgo_typing_rules.specs.Views.{optional_kind_of};
 ghost use Rattle.rgo_types.specs.Programs as spec;
 
 use crate::flow::ends;
-use crate::locals::bound;
+use crate::names::{add_bindings, count};
 use crate::signatures::{copied, result_kind, types};
-use crate::statements::{Inside, judge_stmts};
+use crate::statements::{Enclosing, check_stmts};
 use rgo_ast::{Decl, Function as Source};
-use rgo_typing_expressions::{Package, Scope, TypeError, judge};
-use rgo_typing_rules::{Kind, Node};
 use rgo_typed::{Function, Type};
+use rgo_typing_expressions::{Checker, Scope};
+use rgo_typing_rules::{Kind, Node, TypeError, check_node};
 use std::alloc::{AllocError, Global};
 
 fn optional_type(alloc: Global, kind: Option<Kind<'_>>) -> Result<Option<Type>, AllocError>
@@ -28,67 +27,70 @@ fn optional_type(alloc: Global, kind: Option<Kind<'_>>) -> Result<Option<Type>, 
     }
 }
 
-/// Judges the statements of a function, and then its end.
-fn judge_body<'a>(
-    alloc: Global,
-    globals: &Package<'a>,
-    f: &'a Source,
-) -> Result<Function, TypeError>
-    ensures judged { Judges result (spec.body_sites (package_of globals.now) (function_of f.now)) }
-    ensures typed { IfOk result (λ t. typed.function_of t ≡ spec.typed_function (package_of globals.now) (function_of f.now)) }
+/// Where the body of a function begins, whose parameters were checked.
+fn at_body<'p, 'a>(top: &Checker<'p, 'a>, f: &'a Source) -> Result<Checker<'p, 'a>, AllocError>
+    ensures { IfOk result (λ c. c ≡ spec.at_body top.now (function_of f.now)) }
 {
-    let none = Scope::new(alloc);
-    let mut scope = bound(alloc, globals, &f.params)?;
-    let params = scope.kinds.len();
-    let result_type = result_kind(globals, &none, &f.result_type);
-    let inside = Inside {
+    let mut scope = Scope::new(top.alloc());
+    add_bindings(top, &mut scope, &f.params)?;
+    Ok(Checker::with_scope(top.alloc(), top.globals(), scope))
+}
+
+/// Checks the statements of a function, and then its end.
+fn check_body<'a>(top: &Checker<'_, 'a>, f: &'a Source) -> Result<Function, TypeError>
+    ensures checked { Checks result (spec.body_sites top.now (function_of f.now)) }
+    ensures typed { IfOk result (λ t. typed.function_of t ≡ spec.typed_function top.now (function_of f.now)) }
+{
+    let alloc = top.alloc();
+    let mut checker = at_body(top, f)?;
+    let params = count(checker.scope());
+    let result_type = result_kind(top, &f.result_type);
+    let around = Enclosing {
         result_type,
         in_loop: false,
     };
-    let body = judge_stmts(alloc, inside, globals, &mut scope, &f.body)?;
-    judge(f.end, &Node::End(f.result_type.is_some(), ends(&f.body)))?;
+    let body = check_stmts(&mut checker, around, &f.body)?;
+    check_node(f.end, &Node::End(f.result_type.is_some(), ends(&f.body)))?;
     Ok(Function {
         name: copied(alloc, &f.name.name)?,
         params,
-        locals: types(alloc, &scope.kinds)?,
+        locals: types(alloc, checker.scope().kinds())?,
         result_type: optional_type(alloc, result_type)?,
         body,
         end: f.end,
     })
 }
 
-/// Judges the body of a declaration, where it has one.
-fn judge_decl<'a>(
-    alloc: Global,
-    globals: &Package<'a>,
+/// Checks the body of a declaration, where it has one.
+fn check_decl<'a>(
+    top: &Checker<'_, 'a>,
     functions: &mut Vec<Function>,
     decl: &'a Decl,
 ) -> Result<(), TypeError>
-    ensures judged { Judges result (spec.body_of_decl (package_of globals.now) (decl_of decl.now)) }
+    ensures checked { Checks result (spec.decl_sites top.now (decl_of decl.now)) }
     ensures typed { OnOk result (map typed.function_of functions.new.items
-        ≡ map typed.function_of functions.old.items ++ spec.typed_decl (package_of globals.now) (decl_of decl.now)) }
+        ≡ map typed.function_of functions.old.items ++ spec.typed_decl top.now (decl_of decl.now)) }
 {
     match decl {
         Decl::Types(_, _) | Decl::Vars(_, _) => Ok(()),
         Decl::Func(f) => {
-            functions.push(judge_body(alloc, globals, f)?)?;
+            functions.push(check_body(top, f)?)?;
             Ok(())
         }
     }
 }
 
-/// Judges the bodies of all functions, in the order of the text.
-pub(crate) fn judge_bodies<'a>(
-    alloc: Global,
-    globals: &Package<'a>,
+/// Checks the bodies of all functions, in the order of the text.
+pub(crate) fn check_bodies<'a>(
+    top: &Checker<'_, 'a>,
     decls: &'a [Decl],
 ) -> Result<Vec<Function>, TypeError>
-    ensures judged { Judges result (spec.bodies_sites (package_of globals.now) (map decl_of decls.now)) }
-    ensures typed { IfOk result (λ v. map typed.function_of v.items ≡ spec.typed_functions (package_of globals.now) (map decl_of decls.now)) }
+    ensures checked { Checks result (spec.bodies_sites top.now (map decl_of decls.now)) }
+    ensures typed { IfOk result (λ v. map typed.function_of v.items ≡ spec.typed_functions top.now (map decl_of decls.now)) }
 {
-    let mut functions = Vec::new(alloc);
+    let mut functions = Vec::new(top.alloc());
     for decl in decls {
-        judge_decl(alloc, globals, &mut functions, decl)?;
+        check_decl(top, &mut functions, decl)?;
     }
     Ok(functions)
 }

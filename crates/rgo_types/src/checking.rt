@@ -1,25 +1,25 @@
 //! Whole programs.
-#![tactic(auto, using(rgo_ast::proofs::Rows::rows, rgo_typed::proofs::Rows::rows, rgo_typing_expressions::proofs::Faults::faults))]
+#![tactic(auto, using(rgo_typing_rules::proofs::Refusals::refusals))]
 
 ghost use Rattle.std.specs.Prelude.{◌≡◌, IfOk};
 ghost use Rattle.rgo_ast.specs.Views.{program_of};
 ghost use Rattle.rgo_typed.specs.Views.{typed_of};
-ghost use Rattle.rgo_typing_expressions.specs.Judges.{Judges};
-ghost use Rattle.rgo_typing_expressions.specs.Views.{package_of};
+ghost use Rattle.rgo_typing_rules.specs.Checks.{Checks};
 ghost use Rattle.rgo_types.specs.Programs.{has_main, sites_of, typed_program};
 
-use crate::bodies::judge_bodies;
+use crate::bodies::check_bodies;
+use crate::imports::check_imports;
 use crate::numbering::number_decls;
-use crate::signatures::{judge_decls, judge_imports};
+use crate::signatures::check_decls;
 use rgo_ast::Program;
-use rgo_typing_expressions::{Package, TypeError, judge};
-use rgo_typing_rules::{Meaning, Node};
 use rgo_typed::{Row, Typed};
+use rgo_typing_expressions::{Checker, Package};
+use rgo_typing_rules::{Meaning, Node, TypeError, check_node};
 use std::alloc::Global;
 
 /// Whether there is a function `main` without parameters and result.
 fn has_main(globals: &Package<'_>) -> bool
-    ensures { result ≡ has_main (package_of globals.now) }
+    ensures { result ≡ has_main globals.now }
 {
     match globals.names.get("main".as_bytes()) {
         Some(Meaning::Function(number)) => match globals.functions.get(number) {
@@ -31,19 +31,19 @@ fn has_main(globals: &Package<'_>) -> bool
 }
 
 /// The typed tree of a program that keeps the rules on meaning: names resolved, constants
-/// computed, parentheses gone.
+/// computed, no parentheses.
 ///
 /// # Errors
 ///
-/// `Refused` with the first node, in the order of judgement, that breaks a rule, and the first rule
-/// that it breaks. In that order come the imports, then types, package variables and signatures in
-/// the order of the text, then that there is a `main`, and then the bodies; of each, the parts
-/// from left to right before the whole. `NoMemory` where there is no memory for the tree.
+/// `Refused` with the first node, in the order of checking, that breaks a rule, and the first rule
+/// that it breaks. The order is: the imports; types, package variables and signatures in the order
+/// of the text; that there is a `main`; the bodies. Of each, the parts come from left to right
+/// before the whole. `NoMemory` when an allocation fails.
 pub fn check(alloc: Global, program: &Program) -> Result<Typed, TypeError>
-    ensures judged { Judges result (sites_of (program_of program.now)) }
+    ensures checked { Checks result (sites_of (program_of program.now)) }
     ensures typed { IfOk result (λ tree. typed_of tree ≡ typed_program (program_of program.now)) }
 {
-    let imported = judge_imports(&program.imports)?;
+    let imported = check_imports(&program.imports)?;
     let named = Package {
         imported,
         names: number_decls(alloc, &program.decls)?,
@@ -51,16 +51,16 @@ pub fn check(alloc: Global, program: &Program) -> Result<Typed, TypeError>
         variables: Vec::new(alloc),
         functions: Vec::new(alloc),
     };
-    let signatures = judge_decls(alloc, &named, &program.decls)?;
-    let globals = Package {
+    let signatures = check_decls(&Checker::new(alloc, &named), &program.decls)?;
+    let package = Package {
         imported,
         names: named.names,
         structs: signatures.structs,
         variables: signatures.variables,
         functions: signatures.functions,
     };
-    judge(program.end, &Node::TextEnd(has_main(&globals)))?;
-    let functions = judge_bodies(alloc, &globals, &program.decls)?;
+    check_node(program.end, &Node::TextEnd(has_main(&package)))?;
+    let functions = check_bodies(&Checker::new(alloc, &package), &program.decls)?;
     Ok(Typed {
         structs: Row::new(signatures.typed_structs),
         variables: Row::new(signatures.typed_variables),

@@ -1,14 +1,14 @@
-//! Where statements lead: which are terminating, and which leave the `for` round them.
-#![tactic(auto, using(rgo_ast::proofs::Rows::rows))]
+//! Which statements are terminating, and which contain a `break` that leaves the `for` around them.
+#![tactic(auto, using(crate::proofs::Trees::sources))]
 
 ghost use Rattle.std.specs.Prelude.{◌≡◌, map};
 ghost use Rattle.rgo_ast.specs.Tree as ast;
 ghost use Rattle.rgo_ast.specs.Views.{stmt_of, boxed_stmt_of};
-ghost use Rattle.rgo_types.specs.Statements as spec;
+ghost use Rattle.rgo_types.specs.Flow as spec;
 
 use rgo_ast::Stmt;
 
-/// Whether a `break` in it leaves the `for` round it.
+/// Whether a `break` in it leaves the `for` around it.
 #[cycle(breaks)]
 fn has_break(s: &Stmt) -> bool
     ensures { result ≡ spec.has_break (stmt_of s.now) }

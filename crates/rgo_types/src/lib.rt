@@ -1,4 +1,4 @@
-//! The typing: whether a program keeps the rules on meaning, and its typed tree where it does.
+//! The typing: whether a program keeps the rules on meaning, and its typed tree if it does.
 #![tactic(auto)]
 
 mod assignments;
@@ -6,11 +6,15 @@ mod bodies;
 mod calls;
 mod checking;
 mod flow;
+mod imports;
 mod locals;
+mod names;
+mod nested;
 mod numbering;
 mod prints;
 mod signatures;
+mod simple;
 mod statements;
 
 pub use checking::check;
-pub use rgo_typing_expressions::{TypeError, TypeRefusal};
+pub use rgo_typing_rules::{TypeError, TypeRefusal};

@@ -1,156 +1,72 @@
-//! Declarations of names: local variables, parameters, fields.
-#![tactic(auto, using(rgo_ast::proofs::Rows::rows, rgo_typed::proofs::Rows::rows, rgo_typing_expressions::proofs::Faults::faults))]
+//! Declarations of local variables.
+#![tactic(auto, using(rgo_typing_rules::proofs::Refusals::refusals, std::proofs::lemmas::List::map_push))]
 
-ghost use Rattle.std.specs.Prelude.{◌≡◌, [], ◌∷◌, ◌++◌, OnOk, IfOk, map, length};
-ghost use Rattle.rgo_ast.specs.Views.{binding_of, local_var_of, expr_of, type_expr_of};
-ghost use Rattle.rgo_typing_rules.specs.Nodes as node;
-ghost use Rattle.rgo_typing_rules.specs.Views.{kind_of, shape_of};
-ghost use Rattle.rgo_typing_rules.specs.declared.roles.Role.TheVariants.{Value};
-ghost use Rattle.rgo_typed.specs.Tree as tree;
-ghost use Rattle.rgo_typed.specs.Views.{stmt_of, term_of};
-ghost use Rattle.rgo_typing_expressions.specs.Judges.{Judges};
-ghost use Rattle.rgo_typing_expressions.specs.Judging.{nodes};
-ghost use Rattle.rgo_typing_expressions.specs.Scopes.{with_local, resolved, no_locals};
-ghost use Rattle.rgo_typing_expressions.specs.Terms as terms;
-ghost use Rattle.rgo_typing_expressions.specs.Types.{type_of};
-ghost use Rattle.rgo_typing_expressions.specs.Views.{package_of, scope_of};
-ghost use Rattle.rgo_types.specs.Bodies as bodies;
-ghost use Rattle.rgo_types.specs.Programs as programs;
+ghost use Rattle.std.specs.Prelude.{◌≡◌, [], ◌∷◌, map};
+ghost use Rattle.rgo_ast.specs.Tree.{Zero};
+ghost use Rattle.rgo_ast.specs.Views.{binding_of, local_var_of, expr_of};
+ghost use Rattle.rgo_typing_rules.specs.Checks.{Checks};
+ghost use Rattle.rgo_typing_rules.specs.Views.{kind_of, optional_kind_of, shape_of};
+ghost use Rattle.rgo_typing_expressions.specs.Terms.{type_in};
+ghost use Rattle.rgo_types.specs.Names.{name_site};
+ghost use Rattle.rgo_types.specs.Outcomes.{Appends, ChecksInto, var_outcome, vars_outcome, define_outcome, zeros_outcome};
 ghost use Rattle.rgo_types.specs.Statements as spec;
 
+use crate::names::{check_name, count};
 use rgo_ast::{Binding, Expr, Ident, LocalVar, Place};
-use rgo_typing_expressions::{
-    Judged, Package, Scope, TypeError, judge, judge_expr, judge_type, resolve, with_type,
-};
-use rgo_typing_rules::{Kind, Node, Role, Shape};
 use rgo_typed::{Base, Stmt};
-use std::alloc::{AllocError, Global};
+use rgo_typing_expressions::{Checker, with_type};
+use rgo_typing_rules::{Kind, Node, Role, Shape, TypeError, check_node};
 
-/// Declares a name in the innermost block.
-pub(crate) fn declare_name<'a>(
-    scope: &mut Scope<'a>,
+/// Declares a local variable in the innermost block.
+fn declare_local<'a>(
+    checker: &mut Checker<'_, 'a>,
     kind: Kind<'a>,
     x: &'a Ident,
 ) -> Result<(), TypeError>
-    ensures judged { Judges result (spec.declared_site (scope_of scope.old) x.now ∷ []) }
-    ensures scope { OnOk result (scope_of scope.new ≡ with_local x.now.name (kind_of kind.entry) (scope_of scope.old)) }
+    ensures { ChecksInto result (name_site checker.old.scope x.now ∷ [])
+        checker.new (spec.with_variable x.now (kind_of kind.entry) checker.old) }
 {
-    let again = scope.locals.is_declared_here(x.name.bytes());
-    judge(x.at, &Node::Declared(again, x.name.bytes()))?;
-    scope.declare(x.name.bytes(), kind)?;
+    check_name(checker.scope(), x)?;
+    checker.declare(x.name.bytes(), kind)?;
     Ok(())
-}
-
-/// Declares names one after the other with one type.
-pub(crate) fn declare_names<'a>(
-    scope: &mut Scope<'a>,
-    kind: Kind<'a>,
-    names: &'a [Ident],
-) -> Result<(), TypeError>
-    ensures judged { Judges result (spec.name_sites (kind_of kind.entry) (scope_of scope.old) names.now) }
-    ensures scope { OnOk result (scope_of scope.new ≡ spec.with_locals (kind_of kind.entry) (scope_of scope.old) names.now) }
-{
-    for x in names {
-        declare_name(scope, kind, x)?;
-    }
-    Ok(())
-}
-
-/// Declares names with one type, which is written where no local variable is in scope.
-pub(crate) fn bind<'a>(
-    globals: &Package<'_>,
-    none: &Scope<'_>,
-    scope: &mut Scope<'a>,
-    binding: &'a Binding,
-) -> Result<(), TypeError>
-    ensures judged { Judges result (spec.binding_sites (package_of globals.now) (scope_of none.now) (scope_of scope.old) (binding_of binding.now)) }
-    ensures scope { OnOk result (scope_of scope.new
-        ≡ spec.with_binding (package_of globals.now) (scope_of none.now) (scope_of scope.old) (binding_of binding.now)) }
-{
-    let kind = resolve(globals, none, &binding.ty);
-    declare_names(scope, kind, &binding.names)?;
-    judge_type(globals, none, &binding.ty)
-}
-
-/// Names in scope of one type, one after the other, without judging them.
-fn bind_names<'a>(
-    scope: &mut Scope<'a>,
-    kind: Kind<'a>,
-    names: &'a [Ident],
-) -> Result<(), AllocError>
-    ensures { OnOk result (scope_of scope.new ≡ spec.with_locals (kind_of kind.entry) (scope_of scope.old) names.now) }
-{
-    for x in names {
-        scope.declare(x.name.bytes(), kind)?;
-    }
-    Ok(())
-}
-
-/// The scope of the parameters of a function, whose signature was judged.
-pub(crate) fn bound<'a>(
-    alloc: Global,
-    globals: &Package<'_>,
-    bindings: &'a [Binding],
-) -> Result<Scope<'a>, AllocError>
-    ensures { IfOk result (λ g. scope_of g ≡ programs.bound (package_of globals.now) no_locals (map binding_of bindings.now)) }
-{
-    let none = Scope::new(alloc);
-    let mut scope = Scope::new(alloc);
-    for binding in bindings {
-        bind_names(
-            &mut scope,
-            resolve(globals, &none, &binding.ty),
-            &binding.names,
-        )?;
-    }
-    Ok(scope)
 }
 
 /// Declares local variables that begin with the zero of their type.
 fn declare_zeros<'a>(
-    alloc: Global,
-    scope: &mut Scope<'a>,
+    checker: &mut Checker<'_, 'a>,
     out: &mut Vec<Stmt>,
     kind: Kind<'a>,
     names: &'a [Ident],
 ) -> Result<(), TypeError>
-    ensures judged { Judges result (spec.name_sites (kind_of kind.entry) (scope_of scope.old) names.now) }
-    ensures scope { OnOk result (scope_of scope.new ≡ spec.with_locals (kind_of kind.entry) (scope_of scope.old) names.now) }
-    ensures typed { OnOk result (map stmt_of out.new.items
-        ≡ map stmt_of out.old.items ++ bodies.zeros (length (scope_of scope.old).types) (kind_of kind.entry) names.now) }
+    ensures { Appends result (zeros_outcome checker.old (kind_of kind.entry) names.now)
+        checker.new out.old.items out.new.items }
 {
     for x in names {
-        let number = scope.kinds.len();
-        declare_name(scope, kind, x)?;
-        out.push(Stmt::Zero(number, kind.to_type(alloc)?, x.at))?;
+        let number = count(checker.scope());
+        declare_local(checker, kind, x)?;
+        out.push(Stmt::Zero(number, kind.to_type(checker.alloc())?, x.at))?;
     }
     Ok(())
 }
 
+/// `var a, b T`: the type is checked after the names, but they are not in its scope.
 fn declare_zero<'a>(
-    alloc: Global,
-    globals: &Package<'a>,
-    scope: &mut Scope<'a>,
+    checker: &mut Checker<'_, 'a>,
     out: &mut Vec<Stmt>,
     binding: &'a Binding,
 ) -> Result<(), TypeError>
-    ensures judged { Judges result (spec.binding_sites (package_of globals.now) (scope_of scope.old) (scope_of scope.old) (binding_of binding.now)) }
-    ensures scope { OnOk result (scope_of scope.new
-        ≡ spec.with_binding (package_of globals.now) (scope_of scope.old) (scope_of scope.old) (binding_of binding.now)) }
-    ensures typed { OnOk result (map stmt_of out.new.items ≡ map stmt_of out.old.items
-        ++ bodies.zeros (length (scope_of scope.old).types)
-        (resolved (package_of globals.now) (scope_of scope.old) (binding_of binding.now).ty) binding.now.names.items) }
+    ensures { Appends result (var_outcome checker.old (Zero (binding_of binding.now)))
+        checker.new out.old.items out.new.items }
 {
-    // The type is written where the names are not in scope yet, and is judged behind them.
-    let kind = resolve(globals, scope, &binding.ty);
-    let ty = judge_type(globals, scope, &binding.ty);
-    declare_zeros(alloc, scope, out, kind, &binding.names)?;
+    let kind = checker.resolve(&binding.ty);
+    let ty = checker.check_type(&binding.ty);
+    declare_zeros(checker, out, kind, &binding.names)?;
     ty
 }
 
-/// The type that a variable has of its value.
-fn kind_in(shape: Shape<'_>) -> Kind<'_>
-    ensures { kind_of result ≡ terms.type_in (shape_of shape.entry) }
+/// The type that a value of this shape has in a variable.
+pub(crate) fn kind_in(shape: Shape<'_>) -> Kind<'_>
+    ensures { kind_of result ≡ type_in (shape_of shape.entry) }
 {
     match shape {
         Shape::Value(kind) => kind,
@@ -158,119 +74,80 @@ fn kind_in(shape: Shape<'_>) -> Kind<'_>
     }
 }
 
-/// Declares a local variable with a judged value.
-fn declare_value<'a>(
-    alloc: Global,
-    scope: &mut Scope<'a>,
-    kind: Kind<'a>,
-    x: &'a Ident,
-    value: Judged<'a>,
-    at: Place,
-) -> Result<Stmt, TypeError>
-    ensures judged { Judges result (spec.declared_site (scope_of scope.old) x.now ∷ []) }
-    ensures scope { OnOk result (scope_of scope.new ≡ with_local x.now.name (kind_of kind.entry) (scope_of scope.old)) }
-    ensures typed { IfOk result (λ s. stmt_of s ≡ tree.Declare (length (scope_of scope.old).types) (kind_of kind.entry)
-        (terms.with_type (kind_of kind.entry) (term_of value.entry.term)) at) }
+/// The type of a variable that is declared with this type, if any, and a value of this shape.
+fn kind_or<'a>(wanted: Option<Kind<'a>>, shape: Shape<'a>) -> Kind<'a>
+    ensures { kind_of result ≡ spec.type_or (optional_kind_of wanted.entry) (shape_of shape.entry) }
 {
-    let number = scope.kinds.len();
-    declare_name(scope, kind, x)?;
-    let value = with_type(alloc, kind, value.term)?;
-    let ty = kind.to_type(alloc)?;
-    Ok(Stmt::Declare(number, ty, Box::new(alloc, value)?, at))
+    match wanted {
+        Some(kind) => kind,
+        None => kind_in(shape),
+    }
 }
 
-/// `a := x`, and `var a = x`, at the operator (The Go Programming Language Specification, "Short
-/// variable declarations").
+/// Checks the declaration of a variable with a value.
+fn check_definition(wanted: Option<Kind<'_>>, shape: Shape<'_>, at: Place) -> Result<(), TypeError>
+    ensures { Checks result ((at, spec.define_node (optional_kind_of wanted.entry) (shape_of shape.entry)) ∷ []) }
+{
+    match wanted {
+        None => check_node(at, &Node::Define(shape)),
+        Some(kind) => check_node(at, &Node::DefineAs(kind, shape)),
+    }
+}
+
+/// `a := x`, `var a = x` and `var a T = x`, at the operator (The Go Programming Language
+/// Specification, "Short variable declarations").
 pub(crate) fn define<'a>(
-    alloc: Global,
-    globals: &Package<'a>,
-    scope: &mut Scope<'a>,
+    checker: &mut Checker<'_, 'a>,
+    out: &mut Vec<Stmt>,
     x: &'a Ident,
+    wanted: Option<Kind<'a>>,
     value: &'a Expr,
     at: Place,
-) -> Result<Stmt, TypeError>
-    ensures judged { Judges result (nodes (package_of globals.now) (scope_of scope.old) Value (expr_of value.now)
-        ++ spec.declared_site (scope_of scope.old) x.now
-        ∷ (at, node.Define (type_of (package_of globals.now) (scope_of scope.old) (expr_of value.now))) ∷ []) }
-    ensures scope { OnOk result (scope_of scope.new ≡ with_local x.now.name
-        (spec.declared_type (package_of globals.now) (scope_of scope.old) (expr_of value.now)) (scope_of scope.old)) }
-    ensures typed { IfOk result (λ s. stmt_of s ≡ bodies.declare (package_of globals.now) (scope_of scope.old)
-        (spec.declared_type (package_of globals.now) (scope_of scope.old) (expr_of value.now)) (expr_of value.now) at) }
+) -> Result<(), TypeError>
+    ensures { Appends result (define_outcome checker.old x.now (optional_kind_of wanted.entry) (expr_of value.now) at)
+        checker.new out.old.items out.new.items }
 {
-    let value = judge_expr(alloc, globals, scope, Role::Value, value)?;
-    let shape = value.shape;
-    let stmt = declare_value(alloc, scope, kind_in(shape), x, value, at)?;
-    judge(at, &Node::Define(shape))?;
-    Ok(stmt)
-}
-
-fn define_as<'a>(
-    alloc: Global,
-    globals: &Package<'a>,
-    scope: &mut Scope<'a>,
-    x: &'a Ident,
-    kind: Kind<'a>,
-    value: &'a Expr,
-    at: Place,
-) -> Result<Stmt, TypeError>
-    ensures judged { Judges result (nodes (package_of globals.now) (scope_of scope.old) Value (expr_of value.now)
-        ++ spec.declared_site (scope_of scope.old) x.now
-        ∷ (at, node.DefineAs (kind_of kind.entry) (type_of (package_of globals.now) (scope_of scope.old) (expr_of value.now))) ∷ []) }
-    ensures scope { OnOk result (scope_of scope.new ≡ with_local x.now.name (kind_of kind.entry) (scope_of scope.old)) }
-    ensures typed { IfOk result (λ s. stmt_of s ≡ bodies.declare (package_of globals.now) (scope_of scope.old)
-        (kind_of kind.entry) (expr_of value.now) at) }
-{
-    let value = judge_expr(alloc, globals, scope, Role::Value, value)?;
-    let shape = value.shape;
-    let stmt = declare_value(alloc, scope, kind, x, value, at)?;
-    judge(at, &Node::DefineAs(kind, shape))?;
-    Ok(stmt)
+    let value = checker.check_expr(Role::Value, value)?;
+    let kind = kind_or(wanted, value.shape);
+    let number = count(checker.scope());
+    declare_local(checker, kind, x)?;
+    check_definition(wanted, value.shape, at)?;
+    let alloc = checker.alloc();
+    let value = Box::new(alloc, with_type(alloc, kind, value.term)?)?;
+    out.push(Stmt::Declare(number, kind.to_type(alloc)?, value, at))?;
+    Ok(())
 }
 
 /// A declaration of local variables (The Go Programming Language Specification, "Variable
 /// declarations").
 fn declare_var<'a>(
-    alloc: Global,
-    globals: &Package<'a>,
-    scope: &mut Scope<'a>,
+    checker: &mut Checker<'_, 'a>,
     out: &mut Vec<Stmt>,
     var: &'a LocalVar,
 ) -> Result<(), TypeError>
-    ensures judged { Judges result (spec.var_sites (package_of globals.now) (scope_of scope.old) (local_var_of var.now)) }
-    ensures scope { OnOk result (scope_of scope.new ≡ spec.after_var (package_of globals.now) (scope_of scope.old) (local_var_of var.now)) }
-    ensures typed { OnOk result (map stmt_of out.new.items ≡ map stmt_of out.old.items
-        ++ bodies.var_stmts (package_of globals.now) (scope_of scope.old) (local_var_of var.now)) }
+    ensures { Appends result (var_outcome checker.old (local_var_of var.now)) checker.new out.old.items out.new.items }
 {
     match var {
-        LocalVar::Zero(binding) => declare_zero(alloc, globals, scope, out, binding),
+        LocalVar::Zero(binding) => declare_zero(checker, out, binding),
         LocalVar::Typed(x, ty, value, at) => {
-            judge_type(globals, scope, ty)?;
-            let kind = resolve(globals, scope, ty);
-            out.push(define_as(alloc, globals, scope, x, kind, value, *at)?)?;
-            Ok(())
+            checker.check_type(ty)?;
+            let kind = checker.resolve(ty);
+            define(checker, out, x, Some(kind), value, *at)
         }
-        LocalVar::Inferred(x, value, at) => {
-            out.push(define(alloc, globals, scope, x, value, *at)?)?;
-            Ok(())
-        }
+        LocalVar::Inferred(x, value, at) => define(checker, out, x, None, value, *at),
     }
 }
 
 /// Declarations of local variables, in order.
 pub(crate) fn declare_vars<'a>(
-    alloc: Global,
-    globals: &Package<'a>,
-    scope: &mut Scope<'a>,
+    checker: &mut Checker<'_, 'a>,
     out: &mut Vec<Stmt>,
     vars: &'a [LocalVar],
 ) -> Result<(), TypeError>
-    ensures judged { Judges result (spec.vars_sites (package_of globals.now) (scope_of scope.old) (map local_var_of vars.now)) }
-    ensures scope { OnOk result (scope_of scope.new ≡ spec.after_vars (package_of globals.now) (scope_of scope.old) (map local_var_of vars.now)) }
-    ensures typed { OnOk result (map stmt_of out.new.items ≡ map stmt_of out.old.items
-        ++ bodies.vars_stmts (package_of globals.now) (scope_of scope.old) (map local_var_of vars.now)) }
+    ensures { Appends result (vars_outcome checker.old (map local_var_of vars.now)) checker.new out.old.items out.new.items }
 {
     for var in vars {
-        declare_var(alloc, globals, scope, out, var)?;
+        declare_var(checker, out, var)?;
     }
     Ok(())
 }

@@ -1,18 +1,17 @@
-//! The names of the package: each means what the first of its declarations says.
-#![tactic(auto, using(rgo_ast::proofs::Rows::rows))]
+//! The names of a package: each means what the first of its declarations says.
+#![tactic(auto)]
 
 ghost use Rattle.std.specs.Prelude.{◌≡◌, ◌+◌, OnOk, IfOk, map};
 ghost use Rattle.rgo_ast.specs.Views.{binding_of, decl_of, function_of, type_spec_of};
-ghost use Rattle.rgo_types.specs.Programs as spec;
-ghost use Rattle.rgo_types.specs.Programs.{first_meaning};
+ghost use Rattle.rgo_types.specs.Numbering as spec;
 ghost use Rattle.rgo_types.specs.Views.{numbering_of};
 
 use rgo_ast::{Binding, Decl, Function, Ident, TypeSpec};
-use rgo_typing_rules::Meaning;
 use rgo_scopes::Scopes;
+use rgo_typing_rules::Meaning;
 use std::alloc::{AllocError, Global};
 
-/// The names so far, and how many of each kind there were.
+/// The names so far, and the number of each kind.
 #[derive(Drop)]
 pub(crate) struct Numbering<'a> {
     pub(crate) names: Scopes<'a, Meaning>,
@@ -27,7 +26,7 @@ fn declare_first<'a>(
     name: &'a [u8],
     meaning: Meaning,
 ) -> Result<(), AllocError>
-    ensures { OnOk result (names.new ≡ first_meaning name.now meaning names.old) }
+    ensures { OnOk result (names.new ≡ spec.first_meaning name.now meaning names.old) }
 {
     if names.get(name).is_some() {
         Ok(())
@@ -36,7 +35,7 @@ fn declare_first<'a>(
     }
 }
 
-/// The number behind this one: as many names as there are numbers fit in no memory.
+/// The next number. No memory holds as many names as there are numbers.
 fn next(number: usize) -> Result<usize, AllocError>
     ensures { IfOk result (λ n. n ≡ number + 1) }
 {

@@ -1,19 +1,19 @@
-//! Prints, of their judged operands.
-#![tactic(auto, using(rgo_ast::proofs::Rows::rows, rgo_typed::proofs::Rows::rows))]
+//! Typed trees of prints, from their checked operands.
+#![tactic(auto, using(rgo_typing_expressions::proofs::Trees::exprs, std::proofs::lemmas::List::map_push))]
 
 ghost use Rattle.std.specs.Prelude.{◌≡◌, ◌++◌, IfOk, OnOk, map};
 ghost use Rattle.rgo_ast.specs.Tree as ast;
 ghost use Rattle.rgo_ast.specs.Views.{expr_of};
 ghost use Rattle.rgo_typed.specs.Tree as tree;
 ghost use Rattle.rgo_typed.specs.Views.{term_of, stmt_of};
-ghost use Rattle.rgo_types.specs.Bodies as spec;
+ghost use Rattle.rgo_types.specs.TypedStatements as spec;
 
 use rgo_ast::{Expr, Name, Place};
-use rgo_typing_expressions::bare;
 use rgo_typed::{Piece, Row, Stmt, Term};
+use rgo_typing_expressions::bare;
 use std::alloc::{AllocError, Global};
 
-/// What a print writes of an operand without parentheses.
+/// What a print writes for an operand without parentheses.
 fn piece(alloc: Global, e: &Expr) -> Result<Piece, AllocError>
     ensures { IfOk result (λ p. p ≡ spec.piece_of (expr_of e.now)) }
 {
@@ -43,7 +43,7 @@ fn pieces(alloc: Global, args: &[Expr]) -> Result<Row<Piece>, AllocError>
     Ok(Row::new(pieces))
 }
 
-/// Puts the term of an operand behind the others, unless it is a string.
+/// Appends the term of an operand, unless it is a string.
 fn keep(values: &mut Vec<Term>, is_text: bool, term: Term) -> Result<(), AllocError>
     ensures { OnOk result (map term_of values.new.items ≡ map term_of values.old.items ++ spec.kept is_text (term_of term)) }
 {
@@ -69,7 +69,7 @@ fn values(alloc: Global, args: &[Expr], terms: Vec<Term>) -> Result<Vec<Term>, A
     Ok(values)
 }
 
-/// A print, of its operands and their terms.
+/// A print, from its operands and their terms.
 pub(crate) fn print(
     alloc: Global,
     args: &[Expr],

@@ -1,81 +1,20 @@
-//! Imports, and what the package declares: structs, package variables and signatures, judged in
-//! the order of the text.
-#![tactic(auto, using(rgo_ast::proofs::Rows::rows, rgo_typed::proofs::Rows::rows, rgo_typing_expressions::proofs::Faults::faults))]
+//! What a package declares, but for the bodies of its functions.
+#![tactic(auto, using(rgo_typing_rules::proofs::Refusals::refusals, std::proofs::lemmas::List::map_push))]
 
-ghost use Rattle.std.specs.Prelude.{◌≡◌, ◌++◌, [], ◌∷◌, false, OnOk, IfOk, map, bytes_eq, codes};
-ghost use Rattle.rgo_ast.specs.Tree.{Func};
-ghost use Rattle.rgo_ast.specs.Views.{binding_of, decl_of, function_of, import_of, type_spec_of, type_expr_of};
+ghost use Rattle.std.specs.Prelude.{◌≡◌, IfOk, OnOk, map};
+ghost use Rattle.rgo_ast.specs.Views.{binding_of, decl_of, function_of, type_spec_of, type_expr_of};
+ghost use Rattle.rgo_typing_rules.specs.Checks.{Checks};
 ghost use Rattle.rgo_typing_rules.specs.Views.{kind_of, optional_kind_of};
-ghost use Rattle.rgo_typing_expressions.specs.Judges.{Judges};
-ghost use Rattle.rgo_typing_expressions.specs.Scopes.{no_locals, resolved};
-ghost use Rattle.rgo_typing_expressions.specs.Views.{package_of, scope_of};
-ghost use Rattle.rgo_types.specs.Programs as spec;
+ghost use Rattle.rgo_types.specs.Outcomes.{ChecksInto};
+ghost use Rattle.rgo_types.specs.Signatures as spec;
 ghost use Rattle.rgo_types.specs.Views.{signatures_of, optional_type_expr_of};
 
-use crate::locals::{bind, declare_name, declare_names};
-use rgo_ast::{Binding, Decl, Function, Ident, Import, ImportPath, Name, TypeExpr, TypeSpec};
-use rgo_typing_expressions::{Fields, Package, Scope, TypeError, judge, judge_type, resolve};
-use rgo_typing_rules::{Kind, Node, Signature};
+use crate::names::{declare_bindings, declare_name, declare_names};
+use rgo_ast::{Binding, Decl, Function, Ident, Name, TypeExpr, TypeSpec};
 use rgo_typed::{Base, Row, Struct, Type, Variable};
+use rgo_typing_expressions::{Checker, Fields, Scope};
+use rgo_typing_rules::{Kind, Signature, TypeError};
 use std::alloc::{AllocError, Global};
-
-fn is_fmt(path: &[u8]) -> bool
-    ensures { result ≡ spec.is_fmt path.now }
-{
-    path == "fmt".as_bytes()
-}
-
-fn judge_paths(before: bool, paths: &[ImportPath]) -> Result<bool, TypeError>
-    ensures judged { Judges result (spec.path_sites before paths.now) }
-    ensures value { IfOk result (λ b. b ≡ spec.imports_fmt before paths.now) }
-{
-    let mut imported = before;
-    for import in paths {
-        judge(import.at, &Node::Import(imported, import.path.bytes()))?;
-        imported = imported || is_fmt(import.path.bytes());
-    }
-    Ok(imported)
-}
-
-/// Judges the imports, and answers whether `fmt` is among them (The Go Programming Language
-/// Specification, "Import declarations").
-pub(crate) fn judge_imports(imports: &[Import]) -> Result<bool, TypeError>
-    ensures judged { Judges result (spec.import_sites false (map import_of imports.now)) }
-    ensures value { IfOk result (λ b. b ≡ spec.all_import_fmt false (map import_of imports.now)) }
-{
-    let mut imported = false;
-    for import in imports {
-        imported = judge_paths(imported, &import.paths)?;
-    }
-    Ok(imported)
-}
-
-/// What the package declares, and the same as typed trees.
-#[derive(Drop)]
-pub(crate) struct Signatures<'a> {
-    pub(crate) structs: Vec<Fields<'a>>,
-    pub(crate) variables: Vec<Kind<'a>>,
-    pub(crate) functions: Vec<Signature<'a>>,
-    pub(crate) typed_structs: Vec<Struct>,
-    pub(crate) typed_variables: Vec<Variable>,
-}
-
-/// Declares the names of a list of fields or parameters.
-pub(crate) fn judge_bindings<'a>(
-    alloc: Global,
-    globals: &Package<'_>,
-    bindings: &'a [Binding],
-) -> Result<Scope<'a>, TypeError>
-    ensures judged { Judges result (spec.bindings_sites (package_of globals.now) no_locals (map binding_of bindings.now)) }
-    ensures scope { IfOk result (λ g. scope_of g ≡ spec.bound (package_of globals.now) no_locals (map binding_of bindings.now)) }
-{
-    let none = Scope::new(alloc);
-    let mut scope = Scope::new(alloc);
-    for binding in bindings {
-        bind(globals, &none, &mut scope, binding)?;
-    }
-    Ok(scope)
-}
 
 /// The same name again.
 pub(crate) fn copied(alloc: Global, name: &Name) -> Result<Name, AllocError>
@@ -96,71 +35,100 @@ pub(crate) fn types(alloc: Global, kinds: &[Kind<'_>]) -> Result<Row<Type>, Allo
     Ok(Row::new(types))
 }
 
-/// The result of a function, where it has one.
-pub(crate) fn result_kind<'a>(
-    globals: &Package<'_>,
-    none: &Scope<'_>,
-    result_type: &'a Option<TypeExpr>,
-) -> Option<Kind<'a>>
-    ensures { scope_of none.now ≡ no_locals → optional_kind_of result ≡ spec.result_of (package_of globals.now) (optional_type_expr_of result_type.now) }
+/// Checks the result type of a function, if it has one.
+fn check_result(top: &Checker<'_, '_>, result_type: &Option<TypeExpr>) -> Result<(), TypeError>
+    ensures { Checks result (spec.result_sites top.now (optional_type_expr_of result_type.now)) }
 {
     match result_type {
-        None => None,
-        Some(ty) => Some(resolve(globals, none, ty)),
+        None => Ok(()),
+        Some(ty) => top.check_type(ty),
     }
 }
 
+/// The result type of a function, if it has one.
+pub(crate) fn result_kind<'a>(
+    top: &Checker<'_, '_>,
+    result_type: &'a Option<TypeExpr>,
+) -> Option<Kind<'a>>
+    ensures { optional_kind_of result ≡ spec.result_of top.now (optional_type_expr_of result_type.now) }
+{
+    match result_type {
+        None => None,
+        Some(ty) => Some(top.resolve(ty)),
+    }
+}
+
+/// What the package declares so far, and structs and variables as typed trees.
+#[derive(Drop)]
+pub(crate) struct Signatures<'a> {
+    /// The names of the package.
+    pub(crate) seen: Scope<'a>,
+    pub(crate) structs: Vec<Fields<'a>>,
+    pub(crate) variables: Vec<Kind<'a>>,
+    pub(crate) functions: Vec<Signature<'a>>,
+    pub(crate) typed_structs: Vec<Struct>,
+    pub(crate) typed_variables: Vec<Variable>,
+}
+
 impl<'a> Signatures<'a> {
-    fn judge_struct(
+    fn new(alloc: Global) -> Signatures<'a>
+        ensures { signatures_of result ≡ spec.no_signatures }
+    {
+        Signatures {
+            seen: Scope::new(alloc),
+            structs: Vec::new(alloc),
+            variables: Vec::new(alloc),
+            functions: Vec::new(alloc),
+            typed_structs: Vec::new(alloc),
+            typed_variables: Vec::new(alloc),
+        }
+    }
+
+    /// Declares a struct.
+    fn add_struct(
         &mut self,
-        alloc: Global,
-        globals: &Package<'_>,
-        seen: &mut Scope<'a>,
+        top: &Checker<'_, '_>,
         declared: &'a TypeSpec,
     ) -> Result<(), TypeError>
-        ensures judged { Judges result (spec.struct_sites (package_of globals.now) (scope_of seen.old) (type_spec_of declared.now)) }
-        ensures seen { OnOk result (scope_of seen.new ≡ spec.seen (scope_of seen.old) declared.now.name) }
-        ensures told { OnOk result (signatures_of self.new ≡ spec.with_type_spec (package_of globals.now) (signatures_of self.old) (type_spec_of declared.now)) }
+        ensures { ChecksInto result (spec.struct_sites top.now (signatures_of self.old) (type_spec_of declared.now))
+            (signatures_of self.new) (spec.with_struct top.now (signatures_of self.old) (type_spec_of declared.now)) }
     {
-        declare_name(seen, Kind::Plain(Base::Int), &declared.name)?;
-        let fields = judge_bindings(alloc, globals, &declared.fields)?;
+        let alloc = top.alloc();
+        declare_name(&mut self.seen, Kind::Plain(Base::Int), &declared.name)?;
+        let mut fields = Scope::new(alloc);
+        declare_bindings(top, &mut fields, &declared.fields)?;
         let name = copied(alloc, &declared.name.name)?;
-        let types = types(alloc, &fields.kinds)?;
+        let types = types(alloc, fields.kinds())?;
         self.typed_structs.push(Struct {
             name,
             fields: types,
         })?;
-        self.structs.push(Fields {
-            numbers: fields.locals,
-            kinds: fields.kinds,
-        })?;
+        self.structs.push(fields.into_fields())?;
         Ok(())
     }
 
-    fn judge_structs(
+    fn add_structs(
         &mut self,
-        alloc: Global,
-        globals: &Package<'_>,
-        seen: &mut Scope<'a>,
+        top: &Checker<'_, '_>,
         types: &'a [TypeSpec],
     ) -> Result<(), TypeError>
-        ensures judged { Judges result (spec.type_sites (package_of globals.now) (scope_of seen.old) (map type_spec_of types.now)) }
-        ensures seen { OnOk result (scope_of seen.new ≡ spec.seen_types (scope_of seen.old) (map type_spec_of types.now)) }
-        ensures told { OnOk result (signatures_of self.new ≡ spec.with_types (package_of globals.now) (signatures_of self.old) (map type_spec_of types.now)) }
+        ensures { ChecksInto result (spec.structs_sites top.now (signatures_of self.old) (map type_spec_of types.now))
+            (signatures_of self.new) (spec.with_structs top.now (signatures_of self.old) (map type_spec_of types.now)) }
     {
         for declared in types {
-            self.judge_struct(alloc, globals, seen, declared)?;
+            self.add_struct(top, declared)?;
         }
         Ok(())
     }
 
+    /// Adds package variables whose names and type were checked.
     fn push_variables(
         &mut self,
         alloc: Global,
         kind: Kind<'a>,
         names: &'a [Ident],
     ) -> Result<(), AllocError>
-        ensures { OnOk result (signatures_of self.new ≡ spec.with_names (signatures_of self.old) (kind_of kind.entry) names.now) }
+        ensures { OnOk result (signatures_of self.new ≡ spec.with_variables (signatures_of self.old) (kind_of kind.entry) names.now) }
     {
         for x in names {
             let name = copied(alloc, &x.name)?;
@@ -171,91 +139,84 @@ impl<'a> Signatures<'a> {
         Ok(())
     }
 
-    fn judge_variables(
+    /// Declares package variables of one type.
+    fn add_binding(
         &mut self,
-        alloc: Global,
-        globals: &Package<'_>,
-        seen: &mut Scope<'a>,
+        top: &Checker<'_, '_>,
+        binding: &'a Binding,
+    ) -> Result<(), TypeError>
+        ensures { ChecksInto result (spec.binding_sites top.now (signatures_of self.old) (binding_of binding.now))
+            (signatures_of self.new) (spec.with_binding top.now (signatures_of self.old) (binding_of binding.now)) }
+    {
+        declare_names(&mut self.seen, Kind::Plain(Base::Int), &binding.names)?;
+        top.check_type(&binding.ty)?;
+        let kind = top.resolve(&binding.ty);
+        self.push_variables(top.alloc(), kind, &binding.names)?;
+        Ok(())
+    }
+
+    fn add_bindings(
+        &mut self,
+        top: &Checker<'_, '_>,
         vars: &'a [Binding],
     ) -> Result<(), TypeError>
-        ensures judged { Judges result (spec.vars_sites (package_of globals.now) (scope_of seen.old) (map binding_of vars.now)) }
-        ensures seen { OnOk result (scope_of seen.new ≡ spec.seen_vars (scope_of seen.old) (map binding_of vars.now)) }
-        ensures told { OnOk result (signatures_of self.new ≡ spec.with_vars (package_of globals.now) (signatures_of self.old) (map binding_of vars.now)) }
+        ensures { ChecksInto result (spec.vars_sites top.now (signatures_of self.old) (map binding_of vars.now))
+            (signatures_of self.new) (spec.with_vars top.now (signatures_of self.old) (map binding_of vars.now)) }
     {
-        let none = Scope::new(alloc);
         for binding in vars {
-            declare_names(seen, Kind::Plain(Base::Int), &binding.names)?;
-            judge_type(globals, &none, &binding.ty)?;
-            let kind = resolve(globals, &none, &binding.ty);
-            self.push_variables(alloc, kind, &binding.names)?;
+            self.add_binding(top, binding)?;
         }
         Ok(())
     }
 
-    fn judge_function(
-        &mut self,
-        alloc: Global,
-        globals: &Package<'_>,
-        seen: &mut Scope<'a>,
-        f: &'a Function,
-    ) -> Result<(), TypeError>
-        ensures judged { Judges result (spec.decl_sites (package_of globals.now) (scope_of seen.old) (Func (function_of f.now))) }
-        ensures seen { OnOk result (scope_of seen.new ≡ spec.seen (scope_of seen.old) f.now.name) }
-        ensures told { OnOk result (signatures_of self.new ≡ spec.with_signature (package_of globals.now) (signatures_of self.old) (function_of f.now)) }
+    /// Declares a function.
+    fn add_function(&mut self, top: &Checker<'_, '_>, f: &'a Function) -> Result<(), TypeError>
+        ensures { ChecksInto result (spec.function_sites top.now (signatures_of self.old) (function_of f.now))
+            (signatures_of self.new) (spec.with_function top.now (signatures_of self.old) (function_of f.now)) }
     {
-        let none = Scope::new(alloc);
-        declare_name(seen, Kind::Plain(Base::Int), &f.name)?;
-        let params = judge_bindings(alloc, globals, &f.params)?;
-        if let Some(ty) = &f.result_type {
-            judge_type(globals, &none, ty)?;
-        }
-        let result_type = result_kind(globals, &none, &f.result_type);
+        declare_name(&mut self.seen, Kind::Plain(Base::Int), &f.name)?;
+        let mut params = Scope::new(top.alloc());
+        declare_bindings(top, &mut params, &f.params)?;
+        check_result(top, &f.result_type)?;
+        let params = params.into_fields();
         self.functions.push(Signature {
             params: params.kinds,
-            result_type,
+            result_type: result_kind(top, &f.result_type),
         })?;
         Ok(())
     }
 
-    fn judge_decl(
-        &mut self,
-        alloc: Global,
-        globals: &Package<'_>,
-        seen: &mut Scope<'a>,
-        decl: &'a Decl,
-    ) -> Result<(), TypeError>
-        ensures judged { Judges result (spec.decl_sites (package_of globals.now) (scope_of seen.old) (decl_of decl.now)) }
-        ensures seen { OnOk result (scope_of seen.new ≡ spec.seen_decl (scope_of seen.old) (decl_of decl.now)) }
-        ensures told { OnOk result (signatures_of self.new ≡ spec.with_signatures (package_of globals.now) (signatures_of self.old) (decl_of decl.now)) }
+    fn add_decl(&mut self, top: &Checker<'_, '_>, decl: &'a Decl) -> Result<(), TypeError>
+        ensures { ChecksInto result (spec.decl_sites top.now (signatures_of self.old) (decl_of decl.now))
+            (signatures_of self.new) (spec.with_decl top.now (signatures_of self.old) (decl_of decl.now)) }
     {
         match decl {
-            Decl::Types(types, _) => self.judge_structs(alloc, globals, seen, types),
-            Decl::Vars(vars, _) => self.judge_variables(alloc, globals, seen, vars),
-            Decl::Func(f) => self.judge_function(alloc, globals, seen, f),
+            Decl::Types(types, _) => self.add_structs(top, types),
+            Decl::Vars(vars, _) => self.add_bindings(top, vars),
+            Decl::Func(f) => self.add_function(top, f),
         }
+    }
+
+    fn add_decls(&mut self, top: &Checker<'_, '_>, decls: &'a [Decl]) -> Result<(), TypeError>
+        ensures { ChecksInto result (spec.decls_sites top.now (signatures_of self.old) (map decl_of decls.now))
+            (signatures_of self.new) (spec.with_decls top.now (signatures_of self.old) (map decl_of decls.now)) }
+    {
+        for decl in decls {
+            self.add_decl(top, decl)?;
+        }
+        Ok(())
     }
 }
 
-/// Judges what the package declares, but for the bodies, where the names mean what they do in this
-/// package.
-pub(crate) fn judge_decls<'a>(
-    alloc: Global,
-    globals: &Package<'_>,
+/// Checks what the package declares, but for the bodies, with the meanings of names that `top` has.
+pub(crate) fn check_decls<'a>(
+    top: &Checker<'_, '_>,
     decls: &'a [Decl],
 ) -> Result<Signatures<'a>, TypeError>
-    ensures judged { Judges result (spec.decls_sites (package_of globals.now) no_locals (map decl_of decls.now)) }
-    ensures told { IfOk result (λ told. signatures_of told ≡ spec.all_signatures (package_of globals.now) spec.no_signatures (map decl_of decls.now)) }
+    ensures checked { Checks result (spec.decls_sites top.now spec.no_signatures (map decl_of decls.now)) }
+    ensures value { IfOk result (λ s. signatures_of s ≡ spec.with_decls top.now spec.no_signatures (map decl_of decls.now)) }
 {
-    let mut signatures = Signatures {
-        structs: Vec::new(alloc),
-        variables: Vec::new(alloc),
-        functions: Vec::new(alloc),
-        typed_structs: Vec::new(alloc),
-        typed_variables: Vec::new(alloc),
-    };
-    let mut seen = Scope::new(alloc);
-    for decl in decls {
-        signatures.judge_decl(alloc, globals, &mut seen, decl)?;
-    }
+    let mut signatures = Signatures::new(top.alloc());
+    signatures.add_decls(top, decls)?;
     Ok(signatures)
 }

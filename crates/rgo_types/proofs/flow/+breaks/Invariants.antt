@@ -1,7 +1,7 @@
 use Rattle.std.proofs.Common.{◌≡◌, map, drop}
 use Rattle.rgo_ast.specs.Tree.{stmts_of}
 use Rattle.rgo_ast.specs.Views.{stmt_of}
-use Rattle.rgo_types.specs.Statements.{any_break}
+use Rattle.rgo_types.specs.Flow.{any_break}
 use Rattle.rgo_types.proofs.flow.+breaks.Given as goal
 
 abbrev pub invariant-any_break-loop-s : goal.invariant-any_break-loop-s

@@ -1,30 +1,31 @@
-use Rattle.std.proofs.Common.{◌≡◌, ◌∙◌, map, subst, arith, rules}
+-- Declarations of local variables: the first that is refused ends the loop, and a turn passes one.
+use Rattle.std.proofs.Common.{◌+◌, map, drop, refl, arith, rules}
 use Rattle.rgo_ast.specs.Views.{local_var_of}
-use Rattle.rgo_typed.specs.Views.{stmt_of}
-use Rattle.rgo_typing_expressions.specs.Judges.{Fails}
-use Rattle.rgo_typing_expressions.specs.Sites.{first_fault}
-use Rattle.rgo_typing_expressions.specs.Views.{package_of, scope_of}
-use Rattle.rgo_types.specs.Statements.{vars_sites}
-use Rattle.rgo_types.proofs.Vars.{vars_fail, vars_pass, vars_go_on, vars_typed}
+use Rattle.rgo_typing_rules.specs.Checks.{Refuses}
+use Rattle.rgo_typing_rules.specs.Sites.{first_refusal}
+use Rattle.rgo_types.specs.Outcomes.{var_outcome, vars_outcome}
+use Rattle.rgo_types.specs.Statements.{vars_sites, after_var}
+use Rattle.rgo_types.proofs.Lists.{opened_map}
+use Rattle.rgo_types.proofs.Turns.{refused_stmt, appended}
 use Rattle.rgo_types.proofs.locals.declare_vars.Goals as goal
 
-pub returns-in_err-declare_var-clause-judged : goal.returns-in_err-declare_var-clause-judged
-returns-in_err-declare_var-clause-judged c =
-    let p = package_of c.args.globals.now in
-    let g = scope_of c.loop-var.scope in
+pub returns-in_err-declare_var : goal.returns-in_err-declare_var
+returns-in_err-declare_var c =
     let e = c.in_err-declare_var.field-0.0 in
-    let here : Fails e (first_fault (vars_sites p (scope_of c.args.scope.now) (map local_var_of c.args.vars.now))) =
-    subst (Fails e) c.loop-var.invariant.0
-    (vars_fail p g c.args.vars.now c.loop-var.var-index c.var-item.result c.var-item.is (omega arith) e c.in_err-declare_var.ensures.judged) in
+    let k = c.loop-var.checker in
+    let v = c.var-item.result in
+    let rest = map local_var_of (drop (c.loop-var.var-index + 1) c.args.vars.now) in
+    let here = opened_map local_var_of c.args.vars.now c.loop-var.var-index v c.var-item.is (omega arith) in
+    let refuses : Refuses e (first_refusal (vars_sites c.args.checker.now (map local_var_of c.args.vars.now))) =
+    refused_stmt c.loop-var.invariant (local_var_of v) rest here
+    (var_outcome k (local_var_of v)) (vars_outcome (after_var k (local_var_of v)) rest) refl e c.in_err-declare_var.ensures in
     search rules
 
 pub loop-var-preserved : goal.loop-var-preserved
 loop-var-preserved c =
-    let p = package_of c.args.globals.now in
-    let g = scope_of c.loop-var.scope in
-    let o = map stmt_of c.loop-var.out.items in
-    rw (c.in_ok-declare_var.ensures.scope, c.in_ok-declare_var.ensures.typed) (
-      vars_pass p g c.args.vars.now c.loop-var.var-index c.var-item.result c.var-item.is (omega arith) c.in_ok-declare_var.ensures.judged ∙ c.loop-var.invariant.0,
-      vars_go_on p g c.args.vars.now c.loop-var.var-index c.var-item.result c.var-item.is (omega arith) ∙ c.loop-var.invariant.1,
-      vars_typed p g c.args.vars.now c.loop-var.var-index c.var-item.result c.var-item.is (omega arith) o ∙ c.loop-var.invariant.2,
-    )
+    let k = c.loop-var.checker in
+    let v = c.var-item.result in
+    let rest = map local_var_of (drop (c.loop-var.var-index + 1) c.args.vars.now) in
+    let here = opened_map local_var_of c.args.vars.now c.loop-var.var-index v c.var-item.is (omega arith) in
+    appended c.loop-var.invariant (local_var_of v) rest here
+    (var_outcome k (local_var_of v)) (vars_outcome (after_var k (local_var_of v)) rest) refl c.in_ok-declare_var.ensures refl refl refl

@@ -1,17 +1,11 @@
-use Rattle.std.proofs.Common.{◌≡◌, ◌++◌, ◌+◌, map, drop, length}
-use Rattle.rgo_typing_rules.specs.Views.{kind_of}
-use Rattle.rgo_typing_expressions.specs.Views.{scope_of}
-use Rattle.rgo_typing_expressions.specs.Sites.{first_fault}
+use Rattle.std.proofs.Common.{map, drop}
 use Rattle.rgo_typed.specs.Views.{stmt_of}
-use Rattle.rgo_types.specs.Bodies.{zeros}
-use Rattle.rgo_types.specs.Statements.{name_sites, with_locals}
+use Rattle.rgo_typing_rules.specs.Views.{kind_of}
+use Rattle.rgo_types.specs.Outcomes.{zeros_outcome}
+use Rattle.rgo_types.proofs.Turns.{Appending}
 use Rattle.rgo_types.proofs.locals.declare_zeros.Given as goal
 
 abbrev pub invariant-loop-x : goal.invariant-loop-x
 invariant-loop-x l =
-    (first_fault (name_sites (kind_of l.kind) (scope_of l.scope) (drop l.x-index l.names))
-    ≡ first_fault (name_sites (kind_of l.kind) (scope_of l.initial.scope) l.names))
-    × (with_locals (kind_of l.kind) (scope_of l.scope) (drop l.x-index l.names)
-    ≡ with_locals (kind_of l.kind) (scope_of l.initial.scope) l.names)
-    × (map stmt_of l.out.items ++ zeros (length (scope_of l.scope).types) (kind_of l.kind) (drop l.x-index l.names)
-    ≡ map stmt_of l.initial.out.items ++ zeros (length (scope_of l.initial.scope).types) (kind_of l.kind) l.names)
+    Appending (λ c names. zeros_outcome c (kind_of l.kind) names) l.initial.checker l.names (map stmt_of l.initial.out.items)
+    l.checker (drop l.x-index l.names) (map stmt_of l.out.items)

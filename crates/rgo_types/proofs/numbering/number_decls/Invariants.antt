@@ -1,6 +1,6 @@
 use Rattle.std.proofs.Common.{◌≡◌, map, drop}
 use Rattle.rgo_ast.specs.Views.{decl_of}
-use Rattle.rgo_types.specs.Programs.{numbered, no_numbers}
+use Rattle.rgo_types.specs.Numbering.{numbered, no_numbers}
 use Rattle.rgo_types.specs.Views.{numbering_of}
 use Rattle.rgo_types.proofs.numbering.number_decls.Given as goal
 

@@ -1,7 +1,7 @@
 use Rattle.std.proofs.Common.{◌≡◌, ◌++◌, map, drop}
 use Rattle.rgo_ast.specs.Tree.{exprs_of}
 use Rattle.rgo_ast.specs.Views.{expr_of}
-use Rattle.rgo_types.specs.Bodies.{pieces_of}
+use Rattle.rgo_types.specs.TypedStatements.{pieces_of}
 use Rattle.rgo_types.proofs.prints.pieces.Given as goal
 
 abbrev pub invariant-loop-arg : goal.invariant-loop-arg

@@ -5,9 +5,10 @@ use Rattle.rgo_ast.specs.Tree.{exprs_of}
 use Rattle.rgo_ast.specs.Views.{expr_of}
 use Rattle.rgo_typed.specs.Tree.{no_terms, terms_of}
 use Rattle.rgo_typed.specs.Views.{term_of}
-use Rattle.rgo_types.specs.Bodies.{printed_terms, is_text, kept}
+use Rattle.rgo_types.specs.TypedStatements.{printed_terms, is_text, kept}
 use Rattle.rgo_typing_expressions.specs.Callees.{bare}
-use Rattle.rgo_types.proofs.Printed.{terms_before, one_operand, printed_none, no_more, no_items, one_less}
+use Rattle.rgo_typing_expressions.proofs.Lists.{terms_before, no_more}
+use Rattle.rgo_types.proofs.Printed.{one_operand, printed_none, no_items, one_less}
 use Rattle.rgo_types.proofs.prints.values.Goals as goal
 
 pub returns-in-None : goal.returns-in-None

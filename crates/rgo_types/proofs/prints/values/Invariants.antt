@@ -4,8 +4,8 @@ use Rattle.rgo_ast.specs.Tree.{exprs_of}
 use Rattle.rgo_ast.specs.Views.{expr_of}
 use Rattle.rgo_typed.specs.Tree.{terms_of}
 use Rattle.rgo_typed.specs.Views.{term_of}
-use Rattle.rgo_types.specs.Bodies.{printed_terms}
-use Rattle.rgo_types.proofs.Printed.{terms_before}
+use Rattle.rgo_types.specs.TypedStatements.{printed_terms}
+use Rattle.rgo_typing_expressions.proofs.Lists.{terms_before}
 use Rattle.rgo_types.proofs.prints.values.Given as goal
 
 abbrev pub invariant-loop-arg : goal.invariant-loop-arg

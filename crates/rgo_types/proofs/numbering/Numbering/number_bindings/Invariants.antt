@@ -1,6 +1,6 @@
 use Rattle.std.proofs.Common.{◌≡◌, map, drop}
 use Rattle.rgo_ast.specs.Views.{binding_of}
-use Rattle.rgo_types.specs.Programs.{with_bindings}
+use Rattle.rgo_types.specs.Numbering.{with_bindings}
 use Rattle.rgo_types.specs.Views.{numbering_of}
 use Rattle.rgo_types.proofs.numbering.Numbering.number_bindings.Given as goal
 

@@ -1,6 +1,6 @@
 use Rattle.std.proofs.Common.{◌≡◌, map, drop}
 use Rattle.rgo_ast.specs.Views.{type_spec_of}
-use Rattle.rgo_types.specs.Programs.{with_structs}
+use Rattle.rgo_types.specs.Numbering.{with_structs}
 use Rattle.rgo_types.specs.Views.{numbering_of}
 use Rattle.rgo_types.proofs.numbering.Numbering.number_structs.Given as goal
 

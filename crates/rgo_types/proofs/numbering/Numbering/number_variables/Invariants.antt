@@ -1,5 +1,5 @@
 use Rattle.std.proofs.Common.{◌≡◌, drop}
-use Rattle.rgo_types.specs.Programs.{with_variables}
+use Rattle.rgo_types.specs.Numbering.{with_variables}
 use Rattle.rgo_types.specs.Views.{numbering_of}
 use Rattle.rgo_types.proofs.numbering.Numbering.number_variables.Given as goal
 

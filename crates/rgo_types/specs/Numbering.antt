@@ -1,0 +1,66 @@
+-- The names of a package: each means what the first of its declarations says, and is numbered among those of its kind.
+use Rattle.std.specs.Prelude.{ℕ, ◌+◌, List, [], ◌∷◌, is_some, if◌then◌else◌}
+use Rattle.rgo_ast.specs.Tree as tree
+use Rattle.rgo_ast.specs.Tree.{Decl, TypeSpec, Binding}
+use Rattle.rgo_ast.specs.declared.names.Ident.{Ident}
+use Rattle.rgo_typing_rules.specs.declared.meanings.Meaning.{Meaning}
+use Rattle.rgo_typing_rules.specs.declared.meanings.Meaning.TheVariants as meaning
+use Rattle.rgo_scopes.specs.Blocks.{Blocks, no_names, declared, found}
+
+-- the names so far, and the number of each kind
+pub record Numbering : Type 0 where
+  pub names : Blocks Meaning
+  pub structs : ℕ
+  pub variables : ℕ
+  pub functions : ℕ
+
+abbrev pub no_numbers : Numbering
+no_numbers = record { names = no_names; structs = 0; variables = 0; functions = 0 }
+
+abbrev pub first_meaning : List ℕ → Meaning → Blocks Meaning → Blocks Meaning
+first_meaning name m names = if is_some (found name names) then names else declared name m names
+
+abbrev pub with_struct : Numbering → TypeSpec → Numbering
+with_struct n t = record {
+  names = first_meaning t.name.name (meaning.Struct n.structs) n.names;
+  structs = n.structs + 1;
+  variables = n.variables;
+  functions = n.functions;
+}
+
+abbrev pub with_variable : Numbering → Ident → Numbering
+with_variable n x = record {
+  names = first_meaning x.name (meaning.Global n.variables) n.names;
+  structs = n.structs;
+  variables = n.variables + 1;
+  functions = n.functions;
+}
+
+abbrev pub with_function : Numbering → tree.Function → Numbering
+with_function n f = record {
+  names = first_meaning f.name.name (meaning.Function n.functions) n.names;
+  structs = n.structs;
+  variables = n.variables;
+  functions = n.functions + 1;
+}
+
+abbrev pub with_structs : Numbering → List TypeSpec → Numbering
+with_structs n [] = n
+with_structs n (t ∷ l) = with_structs (with_struct n t) l
+
+abbrev pub with_variables : Numbering → List Ident → Numbering
+with_variables n [] = n
+with_variables n (x ∷ l) = with_variables (with_variable n x) l
+
+abbrev pub with_bindings : Numbering → List Binding → Numbering
+with_bindings n [] = n
+with_bindings n (b ∷ l) = with_bindings (with_variables n b.names) l
+
+abbrev pub with_decl : Numbering → Decl → Numbering
+with_decl n (tree.Types types at) = with_structs n types
+with_decl n (tree.Vars vars at) = with_bindings n vars
+with_decl n (tree.Func f) = with_function n f
+
+abbrev pub numbered : Numbering → List Decl → Numbering
+numbered n [] = n
+numbered n (d ∷ l) = numbered (with_decl n d) l

@@ -1,0 +1,145 @@
+//! Typed trees of statements that contain others.
+#![tactic(auto, using(crate::proofs::Trees::stmts, rgo_typing_rules::proofs::Refusals::refusals, std::proofs::lemmas::List::map_push))]
+
+ghost use Rattle.std.specs.Prelude.{◌≡◌, [], ◌∷◌, ◌++◌, IfOk, OnOk, map};
+ghost use Rattle.rgo_ast.specs.Views.{boxed_expr_of};
+ghost use Rattle.rgo_typed.specs.Tree as tree;
+ghost use Rattle.rgo_typed.specs.Views.{stmt_of, term_of, boxed_term_of};
+ghost use Rattle.rgo_typing_rules.specs.Checks.{Checks};
+ghost use Rattle.rgo_typing_rules.specs.Nodes.{Condition};
+ghost use Rattle.rgo_typing_rules.specs.Views.{shape_of};
+ghost use Rattle.rgo_types.specs.Outcomes.{ChecksToOptional, ChecksStmt};
+ghost use Rattle.rgo_types.specs.Statements as spec;
+ghost use Rattle.rgo_types.specs.TypedStatements as typed;
+ghost use Rattle.rgo_types.specs.Views.{optional_shape_of, optional_term_of};
+
+use rgo_ast::{Expr, Place};
+use rgo_typed::{Stmt, Term};
+use rgo_typing_expressions::{Checked, Checker};
+use rgo_typing_rules::{Node, Role, TypeError, check_node};
+use std::alloc::{AllocError, Global};
+
+/// A block of these statements.
+fn block(all: Vec<Stmt>) -> Stmt
+    ensures { stmt_of result ≡ tree.Block (tree.stmts_of (map stmt_of all.items)) }
+{
+    Stmt::Block(all)
+}
+
+/// Appends a block of these statements.
+pub(crate) fn push_block(out: &mut Vec<Stmt>, all: Vec<Stmt>) -> Result<(), AllocError>
+    ensures { OnOk result (map stmt_of out.new.items
+        ≡ map stmt_of out.old.items ++ tree.Block (tree.stmts_of (map stmt_of all.items)) ∷ []) }
+{
+    out.push(block(all))?;
+    Ok(())
+}
+
+/// A block of statements with one more at their end.
+fn block_of(init: Vec<Stmt>, stmt: Stmt) -> Result<Stmt, AllocError>
+    ensures { IfOk result (λ s. stmt_of s ≡ tree.Block (tree.stmts_of (map stmt_of init.items ++ stmt_of stmt ∷ []))) }
+{
+    let mut all = init;
+    all.push(stmt)?;
+    Ok(block(all))
+}
+
+/// Appends a statement, in a block with its header where it has one.
+pub(crate) fn push_headed(
+    out: &mut Vec<Stmt>,
+    has_init: bool,
+    init: Vec<Stmt>,
+    stmt: Stmt,
+) -> Result<(), AllocError>
+    ensures { OnOk result (map stmt_of out.new.items
+        ≡ map stmt_of out.old.items ++ typed.headed has_init (map stmt_of init.items) (stmt_of stmt)) }
+{
+    let whole = if has_init {
+        block_of(init, stmt)?
+    } else {
+        stmt
+    };
+    out.push(whole)?;
+    Ok(())
+}
+
+/// Checks the condition of an `if`, and makes the statement.
+pub(crate) fn if_of(
+    alloc: Global,
+    test: Checked<'_>,
+    body: Vec<Stmt>,
+    has_other: bool,
+    other: Vec<Stmt>,
+    at: Place,
+) -> Result<Stmt, TypeError>
+    ensures { ChecksStmt result ((at, Condition (shape_of test.entry.shape)) ∷ [])
+        (typed.branches has_other (term_of test.entry.term) (map stmt_of body.items) (map stmt_of other.items) at) }
+{
+    check_node(at, &Node::Condition(test.shape))?;
+    let test = Box::new(alloc, test.term)?;
+    if has_other {
+        Ok(Stmt::IfElse(test, body, other, at))
+    } else {
+        Ok(Stmt::If(test, body, at))
+    }
+}
+
+/// The condition of a `for`, if it has one.
+pub(crate) fn check_test<'a>(
+    checker: &Checker<'_, 'a>,
+    test: &'a Option<Box<Expr>>,
+) -> Result<Option<Checked<'a>>, TypeError>
+    ensures { ChecksToOptional result (spec.optional_nodes checker.now (boxed_expr_of test.now))
+        (spec.optional_type checker.now (boxed_expr_of test.now))
+        (typed.optional_term checker.now (boxed_expr_of test.now)) }
+{
+    match test {
+        None => Ok(None),
+        Some(test) => {
+            let test = checker.check_expr(Role::Value, test)?;
+            Ok(Some(test))
+        }
+    }
+}
+
+/// Checks that a condition is a `bool`, if there is one.
+fn check_condition(test: &Option<Checked<'_>>, at: Place) -> Result<(), TypeError>
+    ensures { Checks result (spec.condition_sites (optional_shape_of test.now) at) }
+{
+    match test {
+        None => Ok(()),
+        Some(test) => check_node(at, &Node::Condition(test.shape)),
+    }
+}
+
+/// The term of a condition, if there is one.
+fn boxed_term(alloc: Global, test: Option<Checked<'_>>) -> Result<Option<Box<Term>>, AllocError>
+    ensures { IfOk result (λ t. boxed_term_of t ≡ optional_term_of test.entry) }
+{
+    match test {
+        None => Ok(None),
+        Some(test) => Ok(Some(Box::new(alloc, test.term)?)),
+    }
+}
+
+/// Checks the condition of a `for`, and makes the loop.
+pub(crate) fn loop_of(
+    alloc: Global,
+    test: Option<Checked<'_>>,
+    body: Vec<Stmt>,
+    post: Vec<Stmt>,
+    at: Place,
+) -> Result<Stmt, TypeError>
+    ensures { ChecksStmt result (spec.condition_sites (optional_shape_of test.entry) at)
+        (tree.Loop (optional_term_of test.entry) (tree.stmts_of (map stmt_of body.items))
+        (tree.stmts_of (map stmt_of post.items)) at) }
+{
+    check_condition(&test, at)?;
+    let test = boxed_term(alloc, test)?;
+    Ok(Stmt::Loop {
+        test,
+        body,
+        post,
+        at,
+    })
+}
