@@ -1,5 +1,5 @@
 -- The last of some statements, and the write at the end of an assignment's operands.
-use Rattle.std.proofs.Common.{◌≡◌, ℕ, suc, ◌-◌, List, [], ◌∷◌, ◌++◌, length, map, slice_get, Option, Some, None, refl, ap, ◌∙◌, sym, subst, arith}
+use Rattle.std.proofs.Common.{◌≡◌, suc, ◌-◌, List, [], ◌∷◌, ◌++◌, length, map, slice_get, Some, refl, ap, subst, arith}
 use Rattle.rgo_ast.specs.Tree.{stmts_of}
 use Rattle.rgo_ast.specs.Views.{stmt_of}
 use Rattle.rgo_ast.specs.declared.statements.Stmt.{Stmt as CodeStmt}

@@ -1,12 +1,10 @@
 -- Prints: the operands that were seen, and those that are left.
-use Rattle.std.proofs.Common.{◌≡◌, ℕ, ◌+◌, ◌<◌, ◌≤◌, Bool, true, false, List, [], ◌∷◌, ◌++◌, length, drop, map, get_or, refl, ap, ◌∙◌, sym, arith}
+use Rattle.std.proofs.Common.{◌≡◌, ℕ, ◌+◌, ◌<◌, Bool, true, false, List, [], ◌∷◌, ◌++◌, length, drop, map, get_or, refl, ap, ◌∙◌, sym, arith}
 use Rattle.std.proofs.lemmas.List.{append_assoc, append-nil}
 use Rattle.rgo_ast.specs.Tree.{exprs_of}
 use Rattle.rgo_ast.specs.Views.{expr_of}
 use Rattle.rgo_ast.specs.declared.expressions.Expr.{Expr as CodeExpr}
 use Rattle.rgo_typed.specs.Tree.{Term, Terms, no_terms, a_term}
-use Rattle.rgo_typed.specs.Views.{term_of}
-use Rattle.rgo_typed.specs.declared.terms.Term.{Term as CodeTerm}
 use Rattle.rgo_typed.specs.declared.statements.Piece.{Piece}
 use Rattle.rgo_typing_expressions.specs.Callees.{bare}
 use Rattle.rgo_types.specs.TypedStatements.{pieces_of, piece_of, printed_terms, is_text, kept, unless_text}

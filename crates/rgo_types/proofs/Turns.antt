@@ -1,5 +1,5 @@
 -- Loops that check the items of a list one after another: what a turn keeps, and where one ends with a refusal.
-use Rattle.std.proofs.Common.{◌≡◌, ◌++◌, List, [], ◌∷◌, None, ap, ◌∙◌, sym, subst}
+use Rattle.std.proofs.Common.{◌≡◌, ◌++◌, List, ◌∷◌, None, ap, ◌∙◌, sym, subst}
 use Rattle.std.proofs.lemmas.List.{append_assoc}
 use Rattle.rgo_typed.specs.Tree.{Stmt}
 use Rattle.rgo_typing_rules.specs.Checks.{Refuses}

@@ -112,14 +112,18 @@ typed_functions c (d ∷ l) = typed_decl c d ++ typed_functions c l
 
 -- ---- the program
 
--- all checked nodes in the order of checking: imports; types, package variables and signatures; that there is a `main`;
--- bodies
+-- the checked nodes in the order of checking: those of imports, and of types, package variables and signatures
+abbrev pub package_sites : Program → List Site
+package_sites program =
+    import_sites false program.imports
+    ++ decls_sites (outside_functions (named_package program)) no_signatures program.decls
+
+-- all of them: that there is a `main` comes next, and then the bodies
 abbrev pub sites_of : Program → List Site
 sites_of program =
-    import_sites false program.imports
-    ++ (decls_sites (outside_functions (named_package program)) no_signatures program.decls
-    ++ ((program.end, node.TextEnd (has_main (package_of program)))
-    ∷ bodies_sites (outside_functions (package_of program)) program.decls))
+    package_sites program
+    ++ (program.end, node.TextEnd (has_main (package_of program)))
+    ∷ bodies_sites (outside_functions (package_of program)) program.decls
 
 abbrev pub typed_program : Program → Typed
 typed_program program = record {

@@ -1,6 +1,7 @@
 -- The views: of what the code keeps while it checks, the plain data that contracts speak of.
-use Rattle.std.specs.Prelude.{map, Option, Some, None}
+use Rattle.std.specs.Prelude.{◌≡◌, map, Option, Some, None}
 use Rattle.rgo_ast.specs.Tree as tree
+use Rattle.rgo_ast.specs.Tree.{Program}
 use Rattle.rgo_ast.specs.Views.{type_expr_of}
 use Rattle.rgo_ast.specs.declared.types.TypeExpr.{TypeExpr}
 use Rattle.rgo_typed.specs.Tree.{Term}
@@ -9,8 +10,10 @@ use Rattle.rgo_typing_rules.specs.Shapes.{Shape}
 use Rattle.rgo_typing_rules.specs.Views.{kind_of, optional_kind_of, shape_of, signature_of}
 use Rattle.rgo_typing_expressions.specs.declared.results.Checked.{Checked}
 use Rattle.rgo_types.specs.Numbering.{Numbering}
+use Rattle.rgo_types.specs.Programs.{package_of, signatures_in}
 use Rattle.rgo_types.specs.Signatures.{Signatures}
 use Rattle.rgo_types.specs.Statements.{Enclosing}
+use Rattle.rgo_types.specs.declared.checking.Declared.{Declared}
 use Rattle.rgo_types.specs.declared.numbering.Numbering.{Numbering as CodeNumbering}
 use Rattle.rgo_types.specs.declared.signatures.Signatures.{Signatures as CodeSignatures}
 use Rattle.rgo_types.specs.declared.statements.Enclosing.{Enclosing as CodeEnclosing}
@@ -49,3 +52,10 @@ signatures_of s = record {
 abbrev pub optional_type_expr_of : Option TypeExpr → Option tree.TypeExpr
 optional_type_expr_of None = None
 optional_type_expr_of (Some ty) = Some (type_expr_of ty)
+
+-- what the declarations outside of functions come to
+abbrev pub Declares : Declared → Program → Type 0
+Declares d program =
+    (d.package ≡ package_of program)
+    × (d.structs.items ≡ (signatures_in program).typed_structs)
+    × (d.variables.items ≡ (signatures_in program).typed_variables)

@@ -1,5 +1,5 @@
 //! Typed trees of assignments, from their checked sides.
-#![tactic(auto, using(rgo_typing_expressions::proofs::Trees::terms))]
+#![tactic(auto)]
 
 ghost use Rattle.std.specs.Prelude.{◌≡◌, IfOk, map};
 ghost use Rattle.rgo_typed.specs.Tree.{terms_of};
@@ -61,6 +61,7 @@ fn ended(operands: Vec<Term>, value: Term) -> Result<Vec<Term>, AllocError>
 }
 
 /// A value is assigned to the left side.
+#[tactic(auto, using(rgo_typing_expressions::proofs::Trees::terms))]
 fn stored(alloc: Global, left: Term, value: Term, at: Place) -> Result<Stmt, AllocError>
     ensures { IfOk result (λ s. stmt_of s ≡ spec.stored (term_of left) (term_of value) at) }
 {
@@ -75,6 +76,7 @@ fn stored(alloc: Global, left: Term, value: Term, at: Place) -> Result<Stmt, All
 }
 
 /// The left side is read, computed with and written.
+#[tactic(auto, using(rgo_typing_expressions::proofs::Trees::terms))]
 pub(crate) fn changed(
     alloc: Global,
     op: BinaryOp,

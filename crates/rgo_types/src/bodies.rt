@@ -1,5 +1,5 @@
 //! Bodies of functions.
-#![tactic(auto, using(rgo_typing_rules::proofs::Refusals::refusals, std::proofs::lemmas::List::map_push))]
+#![tactic(auto)]
 
 ghost use Rattle.std.specs.Prelude.{◌≡◌, ◌++◌, IfOk, OnOk, map};
 ghost use Rattle.rgo_ast.specs.Views.{decl_of, function_of};
@@ -37,6 +37,7 @@ fn at_body<'p, 'a>(top: &Checker<'p, 'a>, f: &'a Source) -> Result<Checker<'p, '
 }
 
 /// Checks the statements of a function, and then its end.
+#[tactic(auto, using(rgo_typing_rules::proofs::Refusals::refusals))]
 fn check_body<'a>(top: &Checker<'_, 'a>, f: &'a Source) -> Result<Function, TypeError>
     ensures checked { Checks result (spec.body_sites top.now (function_of f.now)) }
     ensures typed { IfOk result (λ t. typed.function_of t ≡ spec.typed_function top.now (function_of f.now)) }
@@ -62,6 +63,7 @@ fn check_body<'a>(top: &Checker<'_, 'a>, f: &'a Source) -> Result<Function, Type
 }
 
 /// Checks the body of a declaration, where it has one.
+#[tactic(auto, using(std::proofs::lemmas::List::map_push))]
 fn check_decl<'a>(
     top: &Checker<'_, 'a>,
     functions: &mut Vec<Function>,

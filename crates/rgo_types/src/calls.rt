@@ -1,5 +1,5 @@
 //! Calls as statements.
-#![tactic(auto, using(rgo_typing_expressions::proofs::Trees::exprs, rgo_typing_expressions::proofs::Trees::terms, rgo_typing_rules::proofs::Refusals::refusals, std::proofs::lemmas::List::map_push))]
+#![tactic(auto)]
 
 ghost use Rattle.std.specs.Prelude.{◌≡◌, [], ◌∷◌, IfOk, map};
 ghost use Rattle.rgo_ast.specs.Tree as ast;
@@ -28,6 +28,7 @@ use rgo_typing_rules::{Node, Role, Shape, Signature, TypeError, check_node};
 use std::alloc::{AllocError, Global};
 
 /// A call of a function or of `len`, for what it does.
+#[tactic(auto, using(rgo_typing_expressions::proofs::Trees::terms))]
 fn routine(alloc: Global, called: Checked<'_>) -> Result<Stmt, AllocError>
     ensures { IfOk result (λ s. stmt_of s ≡ typed.called_stmt (shape_of called.entry.shape) (term_of called.entry.term)) }
 {
@@ -71,6 +72,7 @@ fn call_stmt<'a>(
 }
 
 /// A call as a statement.
+#[tactic(auto, using(rgo_typing_expressions::proofs::Trees::exprs, rgo_typing_rules::proofs::Refusals::refusals))]
 fn called<'a>(
     checker: &Checker<'_, 'a>,
     f: &'a Expr,
@@ -98,6 +100,7 @@ fn discarded<'a>(checker: &Checker<'_, 'a>, e: &'a Expr) -> Result<Stmt, TypeErr
 }
 
 /// An expression without parentheses as a statement.
+#[tactic(auto, using(rgo_typing_expressions::proofs::Trees::exprs))]
 fn alone<'a>(checker: &Checker<'_, 'a>, e: &'a Expr) -> Result<Stmt, TypeError>
     ensures { ChecksStmt result (nodes checker.now Alone (expr_of e.now))
         (typed.bare_plain checker.now (expr_of e.now)) }
@@ -109,6 +112,7 @@ fn alone<'a>(checker: &Checker<'_, 'a>, e: &'a Expr) -> Result<Stmt, TypeError>
 }
 
 /// An expression statement (The Go Programming Language Specification, "Expression statements").
+#[tactic(auto, using(rgo_typing_rules::proofs::Refusals::refusals, std::proofs::lemmas::List::map_push))]
 pub(crate) fn plain<'a>(
     checker: &Checker<'_, 'a>,
     out: &mut Vec<Stmt>,
@@ -175,6 +179,7 @@ fn started<'a>(
 }
 
 /// `go f(a, b)`, at `go` (The Go Programming Language Specification, "Go statements").
+#[tactic(auto, using(rgo_typing_rules::proofs::Refusals::refusals, std::proofs::lemmas::List::map_push))]
 pub(crate) fn go<'a>(
     checker: &Checker<'_, 'a>,
     out: &mut Vec<Stmt>,

@@ -1,5 +1,5 @@
 //! Imports.
-#![tactic(auto, using(rgo_typing_rules::proofs::Refusals::refusals))]
+#![tactic(auto)]
 
 ghost use Rattle.std.specs.Prelude.{◌≡◌, false, IfOk, map};
 ghost use Rattle.rgo_ast.specs.Views.{import_of};

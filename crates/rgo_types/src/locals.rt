@@ -1,5 +1,5 @@
 //! Declarations of local variables.
-#![tactic(auto, using(rgo_typing_rules::proofs::Refusals::refusals, std::proofs::lemmas::List::map_push))]
+#![tactic(auto)]
 
 ghost use Rattle.std.specs.Prelude.{◌≡◌, [], ◌∷◌, map};
 ghost use Rattle.rgo_ast.specs.Tree.{Zero};
@@ -32,6 +32,7 @@ fn declare_local<'a>(
 }
 
 /// Declares local variables that begin with the zero of their type.
+#[tactic(auto, using(std::proofs::lemmas::List::map_push))]
 fn declare_zeros<'a>(
     checker: &mut Checker<'_, 'a>,
     out: &mut Vec<Stmt>,
@@ -50,6 +51,7 @@ fn declare_zeros<'a>(
 }
 
 /// `var a, b T`: the type is checked after the names, but they are not in its scope.
+#[tactic(auto, using(rgo_typing_rules::proofs::Refusals::refusals))]
 fn declare_zero<'a>(
     checker: &mut Checker<'_, 'a>,
     out: &mut Vec<Stmt>,
@@ -96,6 +98,7 @@ fn check_definition(wanted: Option<Kind<'_>>, shape: Shape<'_>, at: Place) -> Re
 
 /// `a := x`, `var a = x` and `var a T = x`, at the operator (The Go Programming Language
 /// Specification, "Short variable declarations").
+#[tactic(auto, using(rgo_typing_rules::proofs::Refusals::refusals, std::proofs::lemmas::List::map_push))]
 pub(crate) fn define<'a>(
     checker: &mut Checker<'_, 'a>,
     out: &mut Vec<Stmt>,
@@ -120,6 +123,7 @@ pub(crate) fn define<'a>(
 
 /// A declaration of local variables (The Go Programming Language Specification, "Variable
 /// declarations").
+#[tactic(auto, using(rgo_typing_rules::proofs::Refusals::refusals))]
 fn declare_var<'a>(
     checker: &mut Checker<'_, 'a>,
     out: &mut Vec<Stmt>,

@@ -1,5 +1,5 @@
 //! Names that are declared in a scope: fields, parameters, local variables, and the names of a package.
-#![tactic(auto, using(rgo_typing_rules::proofs::Refusals::refusals))]
+#![tactic(auto)]
 
 ghost use Rattle.std.specs.Prelude.{◌≡◌, [], ◌∷◌, OnOk, map, length};
 ghost use Rattle.rgo_ast.specs.Views.{binding_of};
@@ -59,6 +59,7 @@ pub(crate) fn declare_names<'a>(
 }
 
 /// Declares names with one type.
+#[tactic(auto, using(rgo_typing_rules::proofs::Refusals::refusals))]
 fn declare_binding<'a>(
     top: &Checker<'_, '_>,
     scope: &mut Scope<'a>,

@@ -1,5 +1,5 @@
 //! Typed trees of statements that contain others.
-#![tactic(auto, using(crate::proofs::Trees::stmts, rgo_typing_rules::proofs::Refusals::refusals, std::proofs::lemmas::List::map_push))]
+#![tactic(auto)]
 
 ghost use Rattle.std.specs.Prelude.{◌≡◌, [], ◌∷◌, ◌++◌, IfOk, OnOk, map};
 ghost use Rattle.rgo_ast.specs.Views.{boxed_expr_of};
@@ -20,6 +20,7 @@ use rgo_typing_rules::{Node, Role, TypeError, check_node};
 use std::alloc::{AllocError, Global};
 
 /// A block of these statements.
+#[tactic(auto, using(crate::proofs::Trees::stmts))]
 fn block(all: Vec<Stmt>) -> Stmt
     ensures { stmt_of result ≡ tree.Block (tree.stmts_of (map stmt_of all.items)) }
 {
@@ -27,6 +28,7 @@ fn block(all: Vec<Stmt>) -> Stmt
 }
 
 /// Appends a block of these statements.
+#[tactic(auto, using(std::proofs::lemmas::List::map_push))]
 pub(crate) fn push_block(out: &mut Vec<Stmt>, all: Vec<Stmt>) -> Result<(), AllocError>
     ensures { OnOk result (map stmt_of out.new.items
         ≡ map stmt_of out.old.items ++ tree.Block (tree.stmts_of (map stmt_of all.items)) ∷ []) }
@@ -36,6 +38,7 @@ pub(crate) fn push_block(out: &mut Vec<Stmt>, all: Vec<Stmt>) -> Result<(), Allo
 }
 
 /// A block of statements with one more at their end.
+#[tactic(auto, using(std::proofs::lemmas::List::map_push))]
 fn block_of(init: Vec<Stmt>, stmt: Stmt) -> Result<Stmt, AllocError>
     ensures { IfOk result (λ s. stmt_of s ≡ tree.Block (tree.stmts_of (map stmt_of init.items ++ stmt_of stmt ∷ []))) }
 {
@@ -45,6 +48,7 @@ fn block_of(init: Vec<Stmt>, stmt: Stmt) -> Result<Stmt, AllocError>
 }
 
 /// Appends a statement, in a block with its header where it has one.
+#[tactic(auto, using(std::proofs::lemmas::List::map_push))]
 pub(crate) fn push_headed(
     out: &mut Vec<Stmt>,
     has_init: bool,
@@ -64,6 +68,7 @@ pub(crate) fn push_headed(
 }
 
 /// Checks the condition of an `if`, and makes the statement.
+#[tactic(auto, using(crate::proofs::Trees::stmts))]
 pub(crate) fn if_of(
     alloc: Global,
     test: Checked<'_>,
@@ -123,6 +128,7 @@ fn boxed_term(alloc: Global, test: Option<Checked<'_>>) -> Result<Option<Box<Ter
 }
 
 /// Checks the condition of a `for`, and makes the loop.
+#[tactic(auto, using(crate::proofs::Trees::stmts))]
 pub(crate) fn loop_of(
     alloc: Global,
     test: Option<Checked<'_>>,

@@ -1,5 +1,5 @@
 //! Typed trees of prints, from their checked operands.
-#![tactic(auto, using(rgo_typing_expressions::proofs::Trees::exprs, std::proofs::lemmas::List::map_push))]
+#![tactic(auto)]
 
 ghost use Rattle.std.specs.Prelude.{◌≡◌, ◌++◌, IfOk, OnOk, map};
 ghost use Rattle.rgo_ast.specs.Tree as ast;
@@ -14,6 +14,7 @@ use rgo_typing_expressions::bare;
 use std::alloc::{AllocError, Global};
 
 /// What a print writes for an operand without parentheses.
+#[tactic(auto, using(rgo_typing_expressions::proofs::Trees::exprs))]
 fn piece(alloc: Global, e: &Expr) -> Result<Piece, AllocError>
     ensures { IfOk result (λ p. p ≡ spec.piece_of (expr_of e.now)) }
 {
@@ -26,6 +27,7 @@ fn piece(alloc: Global, e: &Expr) -> Result<Piece, AllocError>
     }
 }
 
+#[tactic(auto, using(rgo_typing_expressions::proofs::Trees::exprs))]
 fn is_text(e: &Expr) -> bool
     ensures { result ≡ spec.is_text (expr_of e.now) }
 {
@@ -44,6 +46,7 @@ fn pieces(alloc: Global, args: &[Expr]) -> Result<Row<Piece>, AllocError>
 }
 
 /// Appends the term of an operand, unless it is a string.
+#[tactic(auto, using(std::proofs::lemmas::List::map_push))]
 fn keep(values: &mut Vec<Term>, is_text: bool, term: Term) -> Result<(), AllocError>
     ensures { OnOk result (map term_of values.new.items ≡ map term_of values.old.items ++ spec.kept is_text (term_of term)) }
 {

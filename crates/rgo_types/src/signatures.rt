@@ -1,5 +1,5 @@
 //! What a package declares, but for the bodies of its functions.
-#![tactic(auto, using(rgo_typing_rules::proofs::Refusals::refusals, std::proofs::lemmas::List::map_push))]
+#![tactic(auto)]
 
 ghost use Rattle.std.specs.Prelude.{◌≡◌, IfOk, OnOk, map};
 ghost use Rattle.rgo_ast.specs.Views.{binding_of, decl_of, function_of, type_spec_of, type_expr_of};
@@ -85,11 +85,8 @@ impl<'a> Signatures<'a> {
     }
 
     /// Declares a struct.
-    fn add_struct(
-        &mut self,
-        top: &Checker<'_, '_>,
-        declared: &'a TypeSpec,
-    ) -> Result<(), TypeError>
+    #[tactic(auto, using(rgo_typing_rules::proofs::Refusals::refusals, std::proofs::lemmas::List::map_push))]
+    fn add_struct(&mut self, top: &Checker<'_, '_>, declared: &'a TypeSpec) -> Result<(), TypeError>
         ensures { ChecksInto result (spec.struct_sites top.now (signatures_of self.old) (type_spec_of declared.now))
             (signatures_of self.new) (spec.with_struct top.now (signatures_of self.old) (type_spec_of declared.now)) }
     {
@@ -107,11 +104,7 @@ impl<'a> Signatures<'a> {
         Ok(())
     }
 
-    fn add_structs(
-        &mut self,
-        top: &Checker<'_, '_>,
-        types: &'a [TypeSpec],
-    ) -> Result<(), TypeError>
+    fn add_structs(&mut self, top: &Checker<'_, '_>, types: &'a [TypeSpec]) -> Result<(), TypeError>
         ensures { ChecksInto result (spec.structs_sites top.now (signatures_of self.old) (map type_spec_of types.now))
             (signatures_of self.new) (spec.with_structs top.now (signatures_of self.old) (map type_spec_of types.now)) }
     {
@@ -122,6 +115,7 @@ impl<'a> Signatures<'a> {
     }
 
     /// Adds package variables whose names and type were checked.
+    #[tactic(auto, using(std::proofs::lemmas::List::map_push))]
     fn push_variables(
         &mut self,
         alloc: Global,
@@ -140,11 +134,8 @@ impl<'a> Signatures<'a> {
     }
 
     /// Declares package variables of one type.
-    fn add_binding(
-        &mut self,
-        top: &Checker<'_, '_>,
-        binding: &'a Binding,
-    ) -> Result<(), TypeError>
+    #[tactic(auto, using(rgo_typing_rules::proofs::Refusals::refusals))]
+    fn add_binding(&mut self, top: &Checker<'_, '_>, binding: &'a Binding) -> Result<(), TypeError>
         ensures { ChecksInto result (spec.binding_sites top.now (signatures_of self.old) (binding_of binding.now))
             (signatures_of self.new) (spec.with_binding top.now (signatures_of self.old) (binding_of binding.now)) }
     {
@@ -155,11 +146,7 @@ impl<'a> Signatures<'a> {
         Ok(())
     }
 
-    fn add_bindings(
-        &mut self,
-        top: &Checker<'_, '_>,
-        vars: &'a [Binding],
-    ) -> Result<(), TypeError>
+    fn add_bindings(&mut self, top: &Checker<'_, '_>, vars: &'a [Binding]) -> Result<(), TypeError>
         ensures { ChecksInto result (spec.vars_sites top.now (signatures_of self.old) (map binding_of vars.now))
             (signatures_of self.new) (spec.with_vars top.now (signatures_of self.old) (map binding_of vars.now)) }
     {
@@ -170,6 +157,7 @@ impl<'a> Signatures<'a> {
     }
 
     /// Declares a function.
+    #[tactic(auto, using(rgo_typing_rules::proofs::Refusals::refusals, std::proofs::lemmas::List::map_push))]
     fn add_function(&mut self, top: &Checker<'_, '_>, f: &'a Function) -> Result<(), TypeError>
         ensures { ChecksInto result (spec.function_sites top.now (signatures_of self.old) (function_of f.now))
             (signatures_of self.new) (spec.with_function top.now (signatures_of self.old) (function_of f.now)) }

@@ -1,5 +1,5 @@
 //! Statements that contain no others and declare nothing.
-#![tactic(auto, using(rgo_typing_rules::proofs::Refusals::refusals, std::proofs::lemmas::List::map_push))]
+#![tactic(auto)]
 
 ghost use Rattle.std.specs.Prelude.{◌≡◌, [], ◌∷◌, IfOk};
 ghost use Rattle.rgo_ast.specs.Views.{expr_of, boxed_expr_of};
@@ -35,6 +35,7 @@ fn sent(alloc: Global, channel: Checked<'_>, value: Term, at: Place) -> Result<S
 }
 
 /// `c <- x` (The Go Programming Language Specification, "Send statements").
+#[tactic(auto, using(rgo_typing_rules::proofs::Refusals::refusals, std::proofs::lemmas::List::map_push))]
 pub(crate) fn send<'a>(
     checker: &Checker<'_, 'a>,
     out: &mut Vec<Stmt>,
@@ -82,6 +83,7 @@ fn check_assignment(
 
 /// `x = y`, or an assignment that computes first (The Go Programming Language Specification,
 /// "Assignment statements").
+#[tactic(auto, using(rgo_typing_rules::proofs::Refusals::refusals, std::proofs::lemmas::List::map_push))]
 pub(crate) fn assign<'a>(
     checker: &Checker<'_, 'a>,
     out: &mut Vec<Stmt>,
@@ -106,6 +108,7 @@ pub(crate) fn assign<'a>(
 
 /// `x++` and `x--`: as `x += 1` and `x -= 1` (The Go Programming Language Specification, "IncDec
 /// statements").
+#[tactic(auto, using(rgo_typing_rules::proofs::Refusals::refusals, std::proofs::lemmas::List::map_push))]
 pub(crate) fn step<'a>(
     checker: &Checker<'_, 'a>,
     out: &mut Vec<Stmt>,
@@ -139,6 +142,7 @@ fn as_result(alloc: Global, result_type: Option<Kind<'_>>, value: Term) -> Resul
 }
 
 /// A "return" statement (The Go Programming Language Specification, "Return statements").
+#[tactic(auto, using(rgo_typing_rules::proofs::Refusals::refusals, std::proofs::lemmas::List::map_push))]
 pub(crate) fn return_value<'a>(
     checker: &Checker<'_, 'a>,
     out: &mut Vec<Stmt>,
@@ -168,6 +172,7 @@ pub(crate) fn return_value<'a>(
 }
 
 /// A "break" or a "continue" statement, which changes nothing that `checker` holds.
+#[tactic(auto, using(std::proofs::lemmas::List::map_push))]
 pub(crate) fn branch(
     checker: &Checker<'_, '_>,
     out: &mut Vec<Stmt>,

@@ -1,4 +1,4 @@
-use Rattle.std.proofs.Common.{◌≡◌, ◌∙◌, sym, rules}
+use Rattle.std.proofs.Common.{◌∙◌, sym, rules}
 use Rattle.rgo_types.proofs.Ends.{ends_last}
 use Rattle.rgo_types.proofs.flow.+ends.Goals as goal
 
