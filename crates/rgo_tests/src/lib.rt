@@ -23,6 +23,8 @@ mod parser;
 #[cfg(test)]
 mod rounds;
 #[cfg(test)]
+mod rule_names;
+#[cfg(test)]
 mod run;
 #[cfg(test)]
 mod scopes;

@@ -1,205 +1,8 @@
-//! Texts that break rules on meaning, with the rule and the place, and texts that pass. They are worked out from the
-//! words of the rules, and stand behind the head of the other texts where they are not whole.
+//! Lines after the head that break rules on meaning, with the rule and the place, worked out from the
+//! words of the rules.
 
-// For each rule a text that breaks it, and the nearest that passes.
-pub const RULES: [(u8, &str, &str, &str); 33] = [
-    (
-        2,
-        "4:16",
-        "var x int; var x int; func main() {  }",
-        "var x int; var y int; func main() {  }",
-    ),
-    (
-        3,
-        "4:15",
-        "func main() { len := 1 }",
-        "func main() { lens := 1 }",
-    ),
-    (
-        4,
-        "4:27",
-        "func main() { fmt.Println(x) }",
-        "func main() { x := 1; fmt.Println(x) }",
-    ),
-    (
-        5,
-        "4:18",
-        "var x int; var y x; func main() {  }",
-        "var x int; var y int; func main() {  }",
-    ),
-    (
-        6,
-        "4:7",
-        "var x N; func main() {  }",
-        "var x *N; func main() {  }",
-    ),
-    (
-        7,
-        "4:7",
-        "var x *int; func main() {  }",
-        "var x *N; func main() {  }",
-    ),
-    (
-        8,
-        "4:20",
-        "func main() { x := N }",
-        "func main() { x := new(N) }",
-    ),
-    (
-        9,
-        "4:20",
-        "func main() { x := \"a\" }",
-        "func main() { fmt.Println(\"a\") }",
-    ),
-    (
-        10,
-        "4:22",
-        "func main() { x := 1 + true }",
-        "func main() { x := 1 + 2 }",
-    ),
-    (
-        11,
-        "4:38",
-        "func main() { var a, b []int; x := a == b }",
-        "func main() { var a, b []int; x := a == nil }",
-    ),
-    (
-        12,
-        "4:17",
-        "func main() { x := nil }",
-        "func main() { var x *N = nil }",
-    ),
-    (
-        13,
-        "4:25",
-        "func main() { var x int = true }",
-        "func main() { var x bool = true }",
-    ),
-    (
-        14,
-        "4:17",
-        "func main() { 1 = 2 }",
-        "func main() { x := 1; x = 2 }",
-    ),
-    (
-        15,
-        "4:35",
-        "func main() { p := new(N); x := p.w }",
-        "func main() { p := new(N); x := p.v }",
-    ),
-    (
-        16,
-        "4:29",
-        "func main() { n := 1; x := n[0] }",
-        "func main() { n := make([]int, 1); x := n[0] }",
-    ),
-    (
-        17,
-        "4:24",
-        "func main() { n := 1; n() }",
-        "func n() {}; func main() { n() }",
-    ),
-    (
-        18,
-        "4:37",
-        "func f(a, b int) {}; func main() { f(1) }",
-        "func f(a, b int) {}; func main() { f(1, 2) }",
-    ),
-    (
-        19,
-        "4:34",
-        "func f() {}; func main() { x := f() }",
-        "func f() int { return 1 }; func main() { x := f() }",
-    ),
-    (
-        20,
-        "4:17",
-        "func main() { 1 + 2 }",
-        "func main() { fmt.Println(1 + 2) }",
-    ),
-    (
-        21,
-        "4:42",
-        "func f() int { return 1 }; func main() { go f() }",
-        "func f() {}; func main() { go f() }",
-    ),
-    (
-        22,
-        "4:25",
-        "func main() { c := 1; c <- 1 }",
-        "func main() { c := make(chan int); c <- 1 }",
-    ),
-    (
-        23,
-        "4:15",
-        "func main() { if 1 {} }",
-        "func main() { if true {} }",
-    ),
-    (
-        24,
-        "4:20",
-        "func main() { s := make([]int, true) }",
-        "func main() { s := make([]int, 1) }",
-    ),
-    (
-        25,
-        "4:41",
-        "func main() { x := -9223372036854775807 - 2 }",
-        "func main() { x := -9223372036854775807 - 1 }",
-    ),
-    (
-        26,
-        "4:37",
-        "func main() { x := 1; fmt.Println(x / 0) }",
-        "func main() { x := 1; fmt.Println(x / 1) }",
-    ),
-    (
-        27,
-        "4:42",
-        "func main() { s := make([]int, 3); x := s[-1] }",
-        "func main() { s := make([]int, 3); x := s[0] }",
-    ),
-    (
-        28,
-        "4:20",
-        "func main() { s := make([]int, -1) }",
-        "func main() { s := make([]int, 0) }",
-    ),
-    (
-        29,
-        "4:20",
-        "func main() { x := &N{1} }",
-        "func main() { x := &N{1, nil} }",
-    ),
-    (
-        30,
-        "4:39",
-        "func main() { p := new(N); fmt.Println(p) }",
-        "func main() { p := new(N); fmt.Println(p.v) }",
-    ),
-    (
-        31,
-        "4:15",
-        "func main() { return 1 }",
-        "func main() { return }",
-    ),
-    (
-        32,
-        "4:16",
-        "func f() int { }; func main() {  }",
-        "func f() int { return 1 }; func main() {  }",
-    ),
-    (
-        33,
-        "4:15",
-        "func main() { break }",
-        "func main() { for { break } }",
-    ),
-    (34, "5:1", "func f() {}", "func f() {}\nfunc main() {}"),
-];
-
-// What is declared, and the names of types.
-pub const DECLARATIONS: [(u8, &str, &str); 44] = [
+/// Declarations, and the names of types.
+pub(super) static DECLARATIONS: [(u8, &str, &str); 44] = [
     (2, "4:6", "type N struct {}; func main() {  }"),
     (
         2,
@@ -262,8 +65,8 @@ pub const DECLARATIONS: [(u8, &str, &str); 44] = [
     (4, "4:25", "func main() { x := &int{zz} }"),
 ];
 
-// Which of several faults is the first, and strings.
-pub const ORDER: [(u8, &str, &str); 31] = [
+/// Lines that break several rules, with the first, and strings.
+pub(super) static ORDER: [(u8, &str, &str); 31] = [
     (4, "4:29", "func main() { zz() }; var x Q"),
     (4, "4:12", "func f() { zz() }; func main() {  }"),
     (34, "5:1", "func f() { zz() }"),
@@ -301,8 +104,8 @@ pub const ORDER: [(u8, &str, &str); 31] = [
     (6, "3:19", "type int struct {}; func main() {  }"),
 ];
 
-// Values, operators and constants.
-pub const OPERATORS: [(u8, &str, &str); 44] = [
+/// Values, operators and constants.
+pub(super) static OPERATORS: [(u8, &str, &str); 44] = [
     (8, "4:20", "func main() { x := int }"),
     (8, "4:27", "func main() { fmt.Println(main) }"),
     (8, "4:20", "func main() { x := len }"),
@@ -381,8 +184,8 @@ pub const OPERATORS: [(u8, &str, &str); 44] = [
     (24, "4:20", "func main() { c := make(chan int, nil) }"),
 ];
 
-// What is assigned, called, returned, and how bodies end.
-pub const STATEMENTS: [(u8, &str, &str); 87] = [
+/// What is assigned, called and returned, and how bodies end.
+pub(super) static STATEMENTS: [(u8, &str, &str); 87] = [
     (13, "4:25", "func main() { x := 1; x = true }"),
     (13, "4:30", "func main() { var x []int; x = 1 }"),
     (13, "4:25", "func main() { x := 1; x = nil }"),
@@ -530,76 +333,4 @@ pub const STATEMENTS: [(u8, &str, &str); 87] = [
     ),
     (33, "4:25", "func main() { if true { continue } }"),
     (33, "4:24", "func main() { for { }; break }"),
-];
-
-// Texts that the grammar refuses.
-pub const SYNTAX: [(&str, &str); 5] = [
-    ("4:27", "func main() { x := 1; (x) := 1 }"),
-    ("4:19", "func main() { new := 1 }"),
-    ("4:5", "var new int"),
-    ("4:21", "func main() { go fmt.Println(1) }"),
-    ("4:30", "func main() { x := &N{1, nil}.v }"),
-];
-
-// Texts that pass.
-pub const PASSING: [&str; 23] = [
-    "func f(a int) {}; func main() { (f)(1) }",
-    "func main() { (fmt.Println)(1) }",
-    "func main() { (fmt).Println(1) }",
-    "func main() { x := 1; (x)++; (x) = 2; ((x)) += 3 }",
-    "func main() { c := make(chan int); (<-c); <-c }",
-    "func main() { fmt.Println((\"a\"), 1) }",
-    "func f() {}; func main() { (f()); go f() }",
-    "func f(a int) { { var a int } }; func main() {  }",
-    "func main() { if x := 1; x > 0 { x := 2; fmt.Println(x) } }",
-    "func main() { for i := 0; i < 2; i++ { i := i; fmt.Println(i) } }",
-    "func main() { f() }; func f() { fmt.Println(v) }; var v int",
-    "func main() { p := &N{}; q := &N{p: nil, v: 1}; p.p = q; p = nil; fmt.Println(p == q, p != nil) }",
-    "type E struct {}; func main() { x := &E{}; y := new(E); fmt.Println(x == y) }",
-    "func f() int { for {} }; func g() int { { return 1 };; }; func main() {  }",
-    "func f() int { for { for { break } } }; func main() {  }",
-    "func f(a bool) int { if a { return 1 } else if !a { return 2 } else { for {} } }; func main() {  }",
-    "func main() { x := (-9223372036854775807 - 1) % -1 }",
-    "func main() { x := 7; x %= 2; x -= -x; x--; y := x / (1 + 1) }",
-    "func main() { var a chan []*N; var b chan []*N = a; c := make(chan []*N, 1 * 2); fmt.Println(a == b, b == c, c != nil) }",
-    "func main() { var s []int; s = nil; s = make([]int, len(s)); s[0] += 1; fmt.Println(len(s), s == nil, nil != s) }",
-    "func main() { c := make(chan bool); go g(c); if <-c { close(c) } }; func g(c chan bool) { c <- true; return }",
-    "func main() { n := 1; { n := n == 1; fmt.Println(n) }; fmt.Println(n) }",
-    "var x int; type x2 struct { x, y int }; func f(x int) int { return x }; func main() { x := f(x); fmt.Println(x) }",
-];
-
-// Whole texts that break a rule.
-pub const WHOLE: [(u8, &str, &str); 8] = [
-    (1, "2:8", "package main\nimport \"os\"\nfunc main() {}"),
-    (
-        2,
-        "3:8",
-        "package main\nimport \"fmt\"\nimport \"fmt\"\nfunc main() {}",
-    ),
-    (
-        2,
-        "2:17",
-        "package main\nimport ( \"fmt\"; \"fmt\" )\nfunc main() {}",
-    ),
-    (4, "2:15", "package main\nfunc main() { fmt.Println(1) }"),
-    (4, "2:27", "package main\nfunc main() { fmt.Println(zz) }"),
-    (4, "2:20", "package main\nfunc main() { x := fmt.Println }"),
-    (
-        1,
-        "2:8",
-        "package main\nimport \"os\"\nimport \"os\"\nfunc main() { zz() }",
-    ),
-    (
-        2,
-        "3:8",
-        "package main\nimport \"fmt\"\nimport \"fmt\"\nimport \"os\"\nfunc main() {}",
-    ),
-];
-
-// Whole texts that pass.
-pub const WHOLE_PASSING: [&str; 4] = [
-    "package main\nimport \"fmt\"\nfunc main() {}",
-    "package main\nimport ()\nfunc main() {}",
-    "package main\nfunc main() {}",
-    "package main\nimport \"fmt\"\nfunc main() { x := 1 }",
 ];

@@ -1,0 +1,95 @@
+//! Calls with other words, and calls over other sources and sinks.
+
+use super::calls::with_head;
+use crate::checks::same;
+use crate::lines::words_of;
+use crate::slow_sinks::SlowSink;
+use rgo_outside::{MemSink, NoFaultSink, NoFaultSource, NoGate, StdSink, StdSource, read_all};
+use rgo_run::rgo;
+use std::process::Abort;
+use std::test::Fail;
+
+const USAGE: &str =
+    "usage: rgo run [--steps N] [--pages N] [--page-words N] [--regions N] [--goroutines N] [--workers N] [--stats] | check | emit | code | big N\n";
+
+static OTHER_WORDS: [&str; 12] = [
+    "rgo",
+    "rgo emit",
+    "rgo help",
+    "rgo --help",
+    "rgo run --steps",
+    "rgo run --steps 0",
+    "rgo run --goroutines 1000001",
+    "rgo check run",
+    "rgo Run",
+    "rgo run ",
+    "rgo run run",
+    "rgo  run",
+];
+
+fn usage_is_reported<R: Abort + AllocGlobal>(rt: &R, line: &str) -> Result<(), Fail> {
+    let alloc = rt.alloc();
+    let words = words_of(alloc, line, ' ')?;
+    let mut source = NoFaultSource::new(b"text".as_slice().to_vec(alloc)?);
+    let mut err = MemSink::new(alloc, 1000, Vec::new(alloc))?;
+    let status = rgo(
+        alloc,
+        &words,
+        &mut source,
+        &mut NoFaultSink,
+        &mut err,
+        &NoGate,
+    );
+    same(rt, line, &status, &64);
+    same(rt, line, &err.bytes(), &USAGE.as_bytes());
+    let left = read_all(alloc, &mut source, 4)?;
+    same(rt, line, &left.as_slice(), &b"text".as_slice());
+    Ok(())
+}
+
+#[test]
+fn other_words_have_the_usage_reported(rt: HostRuntime) -> Result<(), Fail> {
+    for line in &OTHER_WORDS {
+        usage_is_reported(&rt, line)?;
+    }
+    Ok(())
+}
+
+#[test]
+fn a_slow_sink_gets_every_byte(rt: HostRuntime) -> Result<(), Fail> {
+    let alloc = rt.alloc();
+    let words = words_of(alloc, "rgo run", ' ')?;
+    let line = "func main() { fmt.Println(\"hi\", 1, true); fmt.Println(2, 3) }";
+    let text = with_head(alloc, line)?;
+    let mut source = StdSource::new(text.as_slice());
+    let mut out = SlowSink::new(16);
+    let status = rgo(
+        alloc,
+        &words,
+        &mut source,
+        &mut out,
+        &mut NoFaultSink,
+        &NoGate,
+    );
+    same(&rt, "status", &status, &0);
+    let wanted = b"hi 1 true\n2 3\n\0\0".as_slice();
+    same(&rt, "out", &out.bytes.as_slice(), &wanted);
+    Ok(())
+}
+
+#[test]
+fn streams_of_std_are_read_and_written(rt: HostRuntime) -> Result<(), Fail> {
+    let alloc = rt.alloc();
+    let words = words_of(alloc, "rgo run", ' ')?;
+    let mut source = StdSource::new(b"x".as_slice());
+    let mut printed: Vec<u8> = Vec::new(alloc);
+    let mut reported: Vec<u8> = Vec::new(alloc);
+    let mut out = StdSink::new(&mut printed);
+    let mut err = StdSink::new(&mut reported);
+    let status = rgo(alloc, &words, &mut source, &mut out, &mut err, &NoGate);
+    same(&rt, "status", &status, &1);
+    same(&rt, "out", &printed.len(), &0);
+    let wanted = b"rgo: 1:1: syntax\n".as_slice();
+    same(&rt, "err", &reported.as_slice(), &wanted);
+    Ok(())
+}
