@@ -14,7 +14,7 @@ pub struct Position {
 /// How a call ended, by which its status and its line on `err` are determined.
 #[derive(Clone, Copy, Debug, PartialEq, Eq)]
 pub enum Ending {
-    /// `main` returned; or the text was only to be judged, and is within the rules.
+    /// `main` returned; or the text was only to be checked, and is valid.
     Exit,
     /// A goroutine trapped: why, and where.
     Trap { trap: Trap, at: Position },
