@@ -44,15 +44,16 @@ fn is_read<R: Abort + AllocGlobal, S: Source>(
     wanted: &Result<&str, ReadEnd>,
 ) {
     assert!(rt; limit < 1000);
-    match read_all(rt.alloc(), source, limit) {
-        Ok(bytes) => same(
-            rt,
-            "read",
-            &Ok(str::from_utf8(&bytes).unwrap_or("?")),
-            wanted,
-        ),
-        Err(end) => same(rt, "read", &Err(end), wanted),
-    }
+    let (bytes, end) = match read_all(rt.alloc(), source, limit) {
+        Ok(bytes) => (bytes, None),
+        Err(end) => (Vec::new(rt.alloc()), Some(end)),
+    };
+    let (text, wanted_end) = match wanted {
+        Ok(text) => (*text, None),
+        Err(end) => ("", Some(*end)),
+    };
+    assert!(rt; bytes.as_slice() == text.as_bytes(), "the bytes of {text}");
+    same(rt, text, &end, &wanted_end);
 }
 
 /// Texts, how many bytes a read returns at most, which read fails, the limit, and what is read.

@@ -1,10 +1,9 @@
-//! Types, lists and a program of typed trees.
+//! Types, lists and actions of typed trees.
 
 use crate::checks::same;
-use crate::texts::typed;
 use crate::typed_trees::{two, ty};
 use rgo_ast::BinaryOp;
-use rgo_typed::{Action, Base, Layer, Row, Stmt};
+use rgo_typed::{Action, Base, Layer, Row};
 use std::test::Fail;
 
 #[test]
@@ -37,37 +36,6 @@ fn pointers_slices_and_channels_may_be_nil(rt: HostRuntime) -> Result<(), Fail> 
         let ty = ty(rt.alloc(), layers, *base)?;
         same(&rt, "a type", &ty.is_pointer_like(), wanted);
     }
-    Ok(())
-}
-
-const PROGRAM: &str = "\
-package main
-import \"fmt\"
-type N struct { value int; next *N }
-var b bool
-func main() { if true && !b { b = true }; fmt.Println(\"a\", 7) }
-";
-
-/// The numbers of statements, pieces and operands of the branch and of the print that are a body.
-fn sizes(body: &[Stmt]) -> Option<(usize, usize, usize)> {
-    match body {
-        [Stmt::If(_, inner, 88), Stmt::Print(pieces, values, 127)] => {
-            Some((inner.len(), pieces.items().len(), values.len()))
-        }
-        _ => None,
-    }
-}
-
-#[test]
-fn programs_have_their_parts(rt: HostRuntime) -> Result<(), Fail> {
-    let program = typed(rt.alloc(), PROGRAM)?;
-    same(&rt, "structs", &program.structs.items().len(), &1);
-    same(&rt, "variables", &program.variables.items().len(), &1);
-    let Some(main) = program.functions.first() else {
-        return Err(Fail::new("no function"));
-    };
-    same(&rt, "main", &main.name.bytes(), &b"main".as_slice());
-    same(&rt, "the body", &sizes(&main.body), &Some((1, 2, 1)));
     Ok(())
 }
 

@@ -6,7 +6,6 @@ mod plain;
 mod samples;
 
 use crate::checks::same;
-use crate::rule_names::NAMES;
 use crate::typed_trees::name_of;
 use plain::Row;
 use rgo_ast::{BinaryOp, Ident, TypeExpr, UnaryOp};
@@ -16,51 +15,6 @@ use samples::{Sample, node_of};
 use std::alloc::Global;
 use std::process::Abort;
 use std::test::Fail;
-
-static RULES: [Rule; 34] = [
-    Rule::BadImport,
-    Rule::Redeclared,
-    Rule::ReservedName,
-    Rule::NoSuchName,
-    Rule::NotType,
-    Rule::StructByValue,
-    Rule::PointerBase,
-    Rule::NotValue,
-    Rule::StringPlace,
-    Rule::Mismatch,
-    Rule::SliceCompare,
-    Rule::BareNil,
-    Rule::NotAssignable,
-    Rule::NotPlace,
-    Rule::NoSuchField,
-    Rule::NotIndexable,
-    Rule::NotCall,
-    Rule::ArgCount,
-    Rule::NoResult,
-    Rule::NotStatement,
-    Rule::GoTarget,
-    Rule::NotChannel,
-    Rule::NotBool,
-    Rule::NotInt,
-    Rule::ConstRange,
-    Rule::ConstZeroDivisor,
-    Rule::ConstIndex,
-    Rule::ConstSize,
-    Rule::LiteralFields,
-    Rule::PrintType,
-    Rule::ReturnCount,
-    Rule::MissingReturn,
-    Rule::LoopOutside,
-    Rule::NoMain,
-];
-
-#[test]
-fn rules_have_their_numbers_and_names(rt: HostRuntime) {
-    for ((rule, name), number) in RULES.iter().zip(NAMES.iter()).zip(1_u8..) {
-        same(&rt, name, &rule.number(), &number);
-        same(&rt, name, &rule.name(), name);
-    }
-}
 
 fn rows_hold<R: Abort>(rt: &R, rows: &[Row]) {
     for (rule, bad, good) in rows {

@@ -40,9 +40,9 @@ enum Outcome {
     Broken(Rule, usize),
 }
 
-fn outcome_of(shape: Shape<'_>) -> Outcome {
+fn outcome_of(shape: &Shape<'_>) -> Outcome {
     match shape {
-        Shape::Constant(n) => Outcome::Constant(n),
+        Shape::Constant(n) => Outcome::Constant(*n),
         Shape::NoResult => Outcome::NoResult,
         _ => Outcome::OtherShape,
     }
@@ -54,7 +54,7 @@ fn checked(alloc: Global, role: Role, expr: &str) -> Result<Outcome, Fail> {
     let globals = package(alloc);
     let checker = Checker::new(alloc, &globals);
     match checker.check_expr(role, assigned(first_stmt(&program)?)?) {
-        Ok(checked) => Ok(outcome_of(checked.shape)),
+        Ok(checked) => Ok(outcome_of(&checked.shape)),
         Err(TypeError::Refused(TypeRefusal { rule, at })) => {
             Ok(Outcome::Broken(rule, at.saturating_sub(BEFORE.len())))
         }
