@@ -48,18 +48,24 @@ fn outcome_of(shape: &Shape<'_>) -> Outcome {
     }
 }
 
-/// Checks an expression where nothing is declared.
-fn checked(alloc: Global, role: Role, expr: &str) -> Result<Outcome, Fail> {
-    let program = with_expr(alloc, expr)?;
+/// Checks the expression that a program assigns first, where nothing is declared.
+fn checked_in(alloc: Global, role: Role, program: &Program) -> Result<Outcome, Fail> {
+    let expr = assigned(first_stmt(program)?)?;
     let globals = package(alloc);
     let checker = Checker::new(alloc, &globals);
-    match checker.check_expr(role, assigned(first_stmt(&program)?)?) {
+    match checker.check_expr(role, expr) {
         Ok(checked) => Ok(outcome_of(&checked.shape)),
         Err(TypeError::Refused(TypeRefusal { rule, at })) => {
             Ok(Outcome::Broken(rule, at.saturating_sub(BEFORE.len())))
         }
         Err(TypeError::NoMemory) => Err(Fail::from("out of memory")),
     }
+}
+
+/// Checks an expression where nothing is declared.
+fn checked(alloc: Global, role: Role, expr: &str) -> Result<Outcome, Fail> {
+    let program = with_expr(alloc, expr)?;
+    checked_in(alloc, role, &program)
 }
 
 #[test]
