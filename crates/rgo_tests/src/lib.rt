@@ -1,6 +1,8 @@
 //! The tests above all other crates: whole calls, runs, the typing of programs, sources and sinks. Each test calls
-//! public functions only, with values that were worked out by hand or come from another program. What needs no
-//! whole program is tested in `rgo_layer_tests`.
+//! public functions only, with values that were worked out by hand or come from another program.
+//!
+//! There are three crates of tests, which are proved beside each other: this one, `rgo_text_tests` and
+//! `rgo_typing_tests`.
 #![tactic(auto)]
 
 #[cfg(test)]

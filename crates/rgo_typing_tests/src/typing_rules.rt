@@ -89,7 +89,10 @@ fn literals_of_no_struct_break_a_rule(rt: HostRuntime) {
     same(&rt, "fields", &broken(&Node::Keyed(None, true, &[])), &rule);
 }
 
-fn call_breaks<'a>(signature: &'a Signature<'a>, args: &'a [Shape<'a>]) -> [Option<Rule>; 3] {
+fn call_breaks<'t, 'p, 'v>(
+    signature: &'p Signature<'t>,
+    args: &'v [Shape<'t>],
+) -> [Option<Rule>; 3] {
     [
         broken(&Node::Call(Role::Alone, signature, args)),
         broken(&Node::Call(Role::Value, signature, args)),
