@@ -1,40 +1,46 @@
--- What all machines share. A goroutine is a stack of frames. A machine says what the newest frame of a goroutine does,
--- where it stands at a channel, and how a caller goes on.
+-- Machines: goroutines over one memory, each a stack of frames. A machine says what a frame does by itself, where it
+-- stands, and how a caller goes on; what goroutines do to each other is the same for all machines and is said here.
 use Rattle.std.specs.Prelude.{ℕ, zero, suc, ◌==◌, List, [], ◌∷◌, ◌++◌, Option, Some, None, slice_get, slice_set}
 use Rattle.std.specs.Prelude.{if◌then◌else◌, option_and_then}
-use Rattle.rgo_values.specs.declared.values.Value.{Value}
-use Rattle.rgo_values.specs.declared.traps.Trap.{Trap}
+use Rattle.std.specs.Option.{option_map}
+use Rattle.rgo_memory.specs.declared.values.Value.{Value}
+use Rattle.rgo_memory.specs.declared.values.Value.TheVariants.{Nil}
+use Rattle.rgo_memory.specs.declared.traps.Trap.{Trap}
+use Rattle.rgo_memory.specs.Channels.{receive, send, close, meets_at}
+use Rattle.rgo_memory.specs.Effects.{Effect, Does}
+use Rattle.rgo_memory.specs.Effects as effect
+use Rattle.rgo_memory.specs.Memory.{Memory}
 use Rattle.rgo_machine.specs.declared.picks.Pick.{Pick}
 use Rattle.rgo_machine.specs.declared.picks.Pick.TheVariants.{One, Meet}
 use Rattle.rgo_machine.specs.declared.picks.End.{End}
 use Rattle.rgo_machine.specs.declared.picks.End.TheVariants as the_end
-use Rattle.rgo_memory.specs.Memory.{Memory}
-use Rattle.rgo_memory.specs.Channels.{meets_at}
 
--- what the newest frame of a goroutine does
+-- what a frame does by itself
 pub data Act (F : Type 0) : Type 0 where
-  -- it goes on, over this memory
+  -- it continues, over this memory
   Moves : (memory : Memory) (frame : F) → Act F
-  -- it calls a function, which has this frame
-  Calls : (frame callee : F) → Act F
   -- its function returns, with a value or without one
   Returns : (value : Option Value) → Act F
-  -- it starts a goroutine, which has this frame
-  Starts : (frame child : F) → Act F
   -- it prints
   Prints : (frame : F) (bytes : List ℕ) → Act F
   -- it traps, at a place of the text
   Traps : (trap : Trap) (place : ℕ) → Act F
-  -- it has no step alone
-  Waits : Act F
 
--- where a frame stands: before a receive, before a send, or elsewhere
+-- where a frame stands, and how it continues from there
 pub data Stand (F : Type 0) : Type 0 where
-  AtReceive : (channel : Value) (go_on : Value → F) → Stand F
-  AtSend : (channel value : Value) (go_on : F) → Stand F
+  -- before a receive; a closed channel gives `blank`
+  AtReceive : (channel blank : Value) (go_on : Value → F) → Stand F
+  -- before a send, or a close, at a place of the text
+  AtSend : (channel value : Value) (place : ℕ) (go_on : F) → Stand F
+  AtClose : (channel : Value) (place : ℕ) (go_on : F) → Stand F
+  -- before the call of a function, or the start of a goroutine, which begins with this frame
+  AtCall : (go_on callee : F) → Stand F
+  AtStart : (go_on child : F) → Stand F
+  -- before what it does by itself
   Elsewhere : Stand F
 
 pub record Machine (F : Type 0) : Type 0 where
+  -- what a frame does by itself, where it stands elsewhere
   pub act : Memory → F → Act F
   pub stand : F → Stand F
   -- a caller, when the callee has returned
@@ -54,34 +60,54 @@ end_of_return zero = Some the_end.Exit
 end_of_return (suc g) = None
 
 module _ {F : Type 0} where
+  -- a run that begins with this memory and the frames of `main`
+  abbrev pub start_of : Memory → List F → State F
+  start_of memory frames = record { memory = memory; goroutines = frames ∷ []; printed = []; ended = None }
+
   abbrev pub with_frames : State F → ℕ → List F → State F
   with_frames s g frames = record s { goroutines = slice_set s.goroutines g frames }
 
-  -- a goroutine's newest frame has returned to the others
+  abbrev pub trapped : State F → Trap → ℕ → State F
+  trapped s trap place = record s { ended = Some (the_end.Trap trap place) }
+
+  -- the newest frame of a goroutine has returned to its callers
   abbrev pub returned : Machine F → State F → ℕ → List F → Option Value → State F
   returned machine s g [] value = record (with_frames s g []) { ended = end_of_return g }
   returned machine s g (caller ∷ callers) value = with_frames s g (machine.resume caller value ∷ callers)
 
-  -- the state behind an act of a goroutine that has these callers
-  abbrev pub behind : Machine F → State F → ℕ → List F → Act F → Option (State F)
-  behind machine s g callers (Moves m f) = Some (record (with_frames s g (f ∷ callers)) { memory = m })
-  behind machine s g callers (Calls f callee) = Some (with_frames s g (callee ∷ f ∷ callers))
-  behind machine s g callers (Returns value) = Some (returned machine s g callers value)
-  behind machine s g callers (Starts f child) =
-      Some (record s { goroutines = slice_set s.goroutines g (f ∷ callers) ++ (child ∷ []) ∷ [] })
-  behind machine s g callers (Prints f bytes) =
-      Some (record (with_frames s g (f ∷ callers)) { printed = s.printed ++ bytes })
-  behind machine s g callers (Traps trap place) = Some (record s { ended = Some (the_end.Trap trap place) })
-  behind machine s g callers Waits = None
+  -- a goroutine that has these callers did this
+  abbrev pub acted : Machine F → State F → ℕ → List F → Act F → State F
+  acted machine s g callers (Moves m f) = record (with_frames s g (f ∷ callers)) { memory = m }
+  acted machine s g callers (Returns value) = returned machine s g callers value
+  acted machine s g callers (Prints f bytes) = record (with_frames s g (f ∷ callers)) { printed = s.printed ++ bytes }
+  acted machine s g callers (Traps trap place) = trapped s trap place
+
+  -- an operation on a channel had this effect; a trap is at that place
+  abbrev pub operated : State F → ℕ → List F → (Value → F) → ℕ → Effect → State F
+  operated s g callers go_on place (Does m v) = record (with_frames s g (go_on v ∷ callers)) { memory = m }
+  operated s g callers go_on place (effect.Traps trap) = trapped s trap place
+
+  -- the state after the step of a goroutine whose newest frame stands there; none where it waits
+  abbrev pub stepped : Machine F → State F → ℕ → F → List F → Stand F → Option (State F)
+  stepped machine s g f callers (AtReceive channel blank go_on) =
+      option_map (operated s g callers go_on 0) (receive s.memory channel blank)
+  stepped machine s g f callers (AtSend channel v place next) =
+      option_map (operated s g callers (λ _. next) place) (send s.memory channel v)
+  stepped machine s g f callers (AtClose channel place next) =
+      Some (operated s g callers (λ _. next) place (close s.memory channel))
+  stepped machine s g f callers (AtCall next callee) = Some (with_frames s g (callee ∷ next ∷ callers))
+  stepped machine s g f callers (AtStart next child) =
+      Some (record s { goroutines = slice_set s.goroutines g (next ∷ callers) ++ (child ∷ []) ∷ [] })
+  stepped machine s g f callers Elsewhere = Some (acted machine s g callers (machine.act s.memory f))
 
   -- one goroutine alone
   abbrev pub alone : Machine F → State F → ℕ → List F → Option (State F)
   alone machine s g [] = None
-  alone machine s g (f ∷ callers) = behind machine s g callers (machine.act s.memory f)
+  alone machine s g (f ∷ callers) = stepped machine s g f callers (machine.stand f)
 
-  -- both sides go on where they stand at one open channel without a buffer, the receiver with the value
+  -- both sides continue where they stand at one open channel without a buffer, the receiver with the value
   abbrev pub met : State F → ℕ → ℕ → List F → List F → Stand F → Stand F → Option (State F)
-  met s r t receivers senders (AtReceive c receiver) (AtSend d value sender) =
+  met s r t receivers senders (AtReceive c blank receiver) (AtSend d value place sender) =
       if meets_at s.memory c d
       then Some (with_frames (with_frames s r (receiver value ∷ receivers)) t (sender ∷ senders)) else None
   met s r t receivers senders _ _ = None

@@ -1,6 +1,19 @@
-//! What all machines of the language share: goroutines over one memory that step one at a time or meet at a channel.
+//! Machines: what the source machine and every machine below it have in common. Goroutines, each a stack of frames, run
+//! over one memory; they step one at a time, or two of them meet at a channel.
 #![tactic(auto)]
 
+mod laws;
+mod limits;
+mod machines;
 mod picks;
+mod states;
+mod steps;
+mod turns;
 
+pub use laws::{deadlocks_wait, print_grows};
+pub use limits::Limits;
+pub use machines::{Did, Machine, Stand};
 pub use picks::{End, Pick, Stepped};
+pub use states::{Goroutine, State, standing};
+pub use steps::step;
+pub use turns::{Stop, Turned, turn};

@@ -1,7 +1,7 @@
 //! Picks, ends, and what a step answers.
 
 use rgo_ast::Place;
-use rgo_values::Trap;
+use rgo_memory::Trap;
 
 /// Which step of a machine is taken next. Goroutines are numbered from 0, in the order of their
 /// start; `main` is 0.

@@ -3,8 +3,8 @@ use Rattle.std.proofs.Common.{◌≡◌, ◌==◌, ℕ, Bool, true, false, List,
 use Rattle.std.proofs.Common.{Option, Some, None, slice_get, slice_set, refl, ap, sym, ◌∙◌}
 use Rattle.std.specs.Prelude.{option_and_then}
 use Rattle.rgo_typed.specs.Tree.{Typed}
-use Rattle.rgo_values.specs.declared.values.Value.{Value}
-use Rattle.rgo_values.specs.declared.values.Value.TheVariants.{Nil}
+use Rattle.rgo_memory.specs.declared.values.Value.{Value}
+use Rattle.rgo_memory.specs.declared.values.Value.TheVariants.{Nil}
 use Rattle.rgo_memory.specs.Channels.{meets_at}
 use Rattle.rgo_memory.specs.Views.{memory_of}
 use Rattle.rgo_machine.specs.declared.picks.Pick.TheVariants.{Meet}

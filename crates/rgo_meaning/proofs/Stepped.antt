@@ -12,8 +12,8 @@ use Rattle.rgo_machine.specs.Machines.{returned, end_of_return}
 use Rattle.rgo_machine.specs.Machines as machines
 use Rattle.rgo_memory.specs.Memory.{Memory}
 use Rattle.rgo_memory.specs.Views.{memory_of}
-use Rattle.rgo_values.specs.declared.traps.Trap.{Trap}
-use Rattle.rgo_values.specs.declared.values.Value.{Value}
+use Rattle.rgo_memory.specs.declared.traps.Trap.{Trap}
+use Rattle.rgo_memory.specs.declared.values.Value.{Value}
 use Rattle.rgo_meaning.specs.declared.source.SourceState.{SourceState as CodeState}
 use Rattle.rgo_meaning.specs.declared.frames.Frame.{Frame as CodeFrame}
 use Rattle.rgo_meaning.specs.declared.source.Goroutine.{Goroutine}

@@ -9,7 +9,7 @@ use Rattle.rgo_typed.specs.declared.types.Base.TheVariants as base
 use Rattle.rgo_typed.specs.declared.types.Layer.TheVariants.{Chan}
 use Rattle.rgo_typed.specs.Tree.{Term, Terms, Local, Apply, Call, no_terms, a_term, Stmt, Stmts, Function, Typed}
 use Rattle.rgo_typed.specs.Tree as tree
-use Rattle.rgo_values.specs.declared.traps.Trap.TheVariants.{DivideZero, NilPointer, SendClosed}
+use Rattle.rgo_memory.specs.declared.traps.Trap.TheVariants.{DivideZero, NilPointer, SendClosed}
 use Rattle.rgo_memory.specs.Memory.{Object, Channel}
 use Rattle.rgo_machine.specs.declared.picks.Pick.TheVariants.{One, Meet}
 use Rattle.rgo_machine.specs.declared.picks.End.{End}

@@ -5,9 +5,9 @@ use Rattle.rgo_typed.specs.declared.actions.Logical.{Logical}
 use Rattle.rgo_typed.specs.declared.statements.Piece.{Piece}
 use Rattle.rgo_typed.specs.declared.types.Type.{«Type»}
 use Rattle.rgo_typed.specs.Tree.{Term, Terms, Stmt, Stmts, Function, stmts_of}
-use Rattle.rgo_values.specs.declared.values.Value.{Value}
-use Rattle.rgo_values.specs.declared.values.Value.TheVariants.{Nil}
-use Rattle.rgo_values.specs.Values.{zero_of}
+use Rattle.rgo_memory.specs.declared.values.Value.{Value}
+use Rattle.rgo_memory.specs.declared.values.Value.TheVariants.{Nil}
+use Rattle.rgo_memory.specs.Values.{zero_of}
 
 -- One thing to do. What gives a value puts it on the frame's values; what takes values takes the newest.
 pub data Todo : Type 0 where

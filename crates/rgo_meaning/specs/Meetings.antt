@@ -2,8 +2,8 @@
 use Rattle.std.specs.Prelude.{ℕ, Bool, true, false, List, [], ◌∷◌, drop, Option, Some, None, slice_get}
 use Rattle.rgo_typed.specs.declared.actions.Action.{Action}
 use Rattle.rgo_typed.specs.declared.actions.Action.TheVariants.{Recv, Send}
-use Rattle.rgo_values.specs.declared.values.Value.{Value}
-use Rattle.rgo_values.specs.declared.values.Value.TheVariants.{Nil}
+use Rattle.rgo_memory.specs.declared.values.Value.{Value}
+use Rattle.rgo_memory.specs.declared.values.Value.TheVariants.{Nil}
 use Rattle.rgo_machine.specs.Machines.{Stand, AtReceive, AtSend}
 use Rattle.rgo_machine.specs.Machines as machines
 use Rattle.rgo_meaning.specs.declared.meetings.Waiting.{Waiting}

@@ -1,6 +1,6 @@
 -- What a goroutine does next, as far as a limit or a meeting turns on it.
 use Rattle.std.specs.Prelude.{ℕ, List, [], ◌∷◌, length, Option, Some, None, slice_get}
-use Rattle.rgo_values.specs.declared.values.Value.{Value}
+use Rattle.rgo_memory.specs.declared.values.Value.{Value}
 use Rattle.rgo_meaning.specs.declared.meetings.Waiting.{Waiting}
 use Rattle.rgo_meaning.specs.declared.meetings.Waiting.TheVariants.{Receiving, Sending, Elsewhere}
 use Rattle.rgo_meaning.specs.declared.next.Next.{Next}

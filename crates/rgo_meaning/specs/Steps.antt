@@ -7,10 +7,10 @@ use Rattle.rgo_typed.specs.declared.programs.Struct.{Struct}
 use Rattle.rgo_typed.specs.declared.types.Type.{«Type»}
 use Rattle.rgo_typed.specs.Tree as tree
 use Rattle.rgo_typed.specs.Tree.{Term, Terms, Stmts, Function, Typed}
-use Rattle.rgo_values.specs.declared.values.Value.{Value}
-use Rattle.rgo_values.specs.declared.values.Value.TheVariants as value
+use Rattle.rgo_memory.specs.declared.values.Value.{Value}
+use Rattle.rgo_memory.specs.declared.values.Value.TheVariants as value
 use Rattle.rgo_typed.specs.declared.types.Base.TheVariants.{Int}
-use Rattle.rgo_values.specs.Values.{zero_of}
+use Rattle.rgo_memory.specs.Values.{zero_of}
 use Rattle.rgo_memory.specs.Memory.{Memory}
 use Rattle.rgo_memory.specs.Effects.{Effect, Does}
 use Rattle.rgo_memory.specs.Effects as effect

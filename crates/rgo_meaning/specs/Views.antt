@@ -21,7 +21,7 @@ use Rattle.rgo_meaning.specs.Frames as todo
 use Rattle.rgo_meaning.specs.Frames.{Todo, Frame}
 use Rattle.rgo_meaning.specs.Source.{SourceState}
 use Rattle.rgo_meaning.specs.Steps.{resumed}
-use Rattle.rgo_values.specs.declared.values.Value.{Value}
+use Rattle.rgo_memory.specs.declared.values.Value.{Value}
 
 abbrev pub todo_of : CodeTodo → Todo
 todo_of (code.Evaluate t) = todo.Evaluate (typed.term_of t.now)

@@ -21,7 +21,7 @@ use crate::todos::{each, evaluate, execute, sequence, turn};
 use rgo_ast::Place;
 use rgo_memory::{Effect, Memory, perform};
 use rgo_typed::{Action, Base, Logical, Piece, Row, Stmt, Struct, Term, Type, Typed};
-use rgo_values::{Trap, Value, zero};
+use rgo_memory::{Trap, Value, zero};
 use std::alloc::{AllocError, Global};
 
 /// What a frame did.

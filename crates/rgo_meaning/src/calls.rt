@@ -3,14 +3,14 @@
 
 ghost use Rattle.std.specs.Prelude.{◌≡◌, ◌++◌, IfOk, OnOk, drop, map};
 ghost use Rattle.rgo_typed.specs.Views.{function_of};
-ghost use Rattle.rgo_values.specs.Values.{zero_of};
+ghost use Rattle.rgo_memory.specs.Values.{zero_of};
 ghost use Rattle.rgo_meaning.specs.Frames as spec;
 ghost use Rattle.rgo_meaning.specs.Views.{frame_of};
 
 use crate::frames::{Frame, Todo};
 use crate::stack::Stack;
 use rgo_typed::{Function, Type};
-use rgo_values::{Value, zero};
+use rgo_memory::{Value, zero};
 use std::alloc::{AllocError, Global};
 
 /// The types behind the first so many.

@@ -3,7 +3,7 @@
 use crate::stack::Stack;
 use rgo_ast::Place;
 use rgo_typed::{Action, Logical, Piece, Stmt, Term, Type};
-use rgo_values::Value;
+use rgo_memory::Value;
 
 /// One thing to do. What gives a value puts it on the frame's values; what takes values takes the
 /// newest.

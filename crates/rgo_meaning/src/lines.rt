@@ -5,7 +5,7 @@ ghost use Rattle.rgo_meaning.specs.Lines as spec;
 ghost use Rattle.rgo_meaning.specs.Lines.{spaced};
 
 use rgo_typed::Piece;
-use rgo_values::{Value, write_value};
+use rgo_memory::{Value, write_value};
 use std::alloc::{AllocError, Global};
 
 /// The operands in order, each with a space behind it.

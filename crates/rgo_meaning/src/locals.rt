@@ -3,7 +3,7 @@
 ghost use Rattle.std.specs.Prelude.{◌≡◌, OnOk};
 ghost use Rattle.rgo_meaning.specs.Frames.{local_at, with_local};
 
-use rgo_values::Value;
+use rgo_memory::Value;
 use std::alloc::AllocError;
 
 /// The value of a local variable.

@@ -6,7 +6,7 @@ ghost use Rattle.rgo_meaning.specs.Views.{frame_of};
 
 use crate::frames::{Frame, Todo};
 use rgo_typed::Action;
-use rgo_values::Value;
+use rgo_memory::Value;
 use std::alloc::AllocError;
 
 /// Where a frame stands; at a channel also how many values it takes, and whether it gives one.

@@ -8,7 +8,7 @@ ghost use Rattle.rgo_meaning.specs.Views.{frame_of, frames_of, state_of};
 use crate::frames::{Frame, Todo};
 use crate::meetings::{Waiting, find_waiting};
 use crate::source::{Goroutine, SourceState};
-use rgo_values::Value;
+use rgo_memory::Value;
 
 /// What a goroutine does next.
 #[derive(Clone, Copy, Debug, PartialEq, Eq)]

@@ -19,7 +19,7 @@ use crate::stack::Stack;
 use rgo_machine::{End, Pick, Stepped};
 use rgo_memory::{Memory, meets_at};
 use rgo_typed::{Function, Typed};
-use rgo_values::Value;
+use rgo_memory::Value;
 use std::alloc::{AllocError, Global};
 use std::mem::replace;
 

@@ -1,10 +1,10 @@
 -- Elements of slices, read and written, and lengths. A slice that is nil has none.
 use Rattle.std.specs.Prelude.{List, length, ℤ, pos, negsuc, Option, Some, None, Result, Ok, Err}
 use Rattle.std.specs.Prelude.{nat_lt, slice_get, slice_set, if◌then◌else◌}
-use Rattle.rgo_values.specs.declared.values.Value.{Value}
-use Rattle.rgo_values.specs.declared.values.Value.TheVariants as value
-use Rattle.rgo_values.specs.declared.traps.Trap.{Trap}
-use Rattle.rgo_values.specs.declared.traps.Trap.TheVariants.{IndexRange}
+use Rattle.rgo_memory.specs.declared.values.Value.{Value}
+use Rattle.rgo_memory.specs.declared.values.Value.TheVariants as value
+use Rattle.rgo_memory.specs.declared.traps.Trap.{Trap}
+use Rattle.rgo_memory.specs.declared.traps.Trap.TheVariants.{IndexRange}
 use Rattle.rgo_memory.specs.Memory.{Object, SliceObject, Memory}
 use Rattle.rgo_memory.specs.Effects.{Outcome, Does, Traps, Effect, nothing, at_object}
 

@@ -1,9 +1,9 @@
 -- Fields of structs, read and written.
 use Rattle.std.specs.Prelude.{ℕ, Option, Some, None, Result, Ok, Err, slice_get, slice_set}
-use Rattle.rgo_values.specs.declared.values.Value.{Value}
-use Rattle.rgo_values.specs.declared.values.Value.TheVariants as value
-use Rattle.rgo_values.specs.declared.traps.Trap.{Trap}
-use Rattle.rgo_values.specs.declared.traps.Trap.TheVariants.{NilPointer}
+use Rattle.rgo_memory.specs.declared.values.Value.{Value}
+use Rattle.rgo_memory.specs.declared.values.Value.TheVariants as value
+use Rattle.rgo_memory.specs.declared.traps.Trap.{Trap}
+use Rattle.rgo_memory.specs.declared.traps.Trap.TheVariants.{NilPointer}
 use Rattle.rgo_memory.specs.Memory.{Object, StructObject, Memory}
 use Rattle.rgo_memory.specs.Effects.{Outcome, Does, Traps, Effect, nothing, at_object}
 

@@ -5,5 +5,9 @@ pub mod Fields
 pub mod Making
 pub mod Memory
 pub mod Opening
+pub mod Operators
 pub mod Perform
+pub mod Shown
+pub mod Traps
+pub mod Values
 pub mod Views

@@ -3,10 +3,10 @@ use Rattle.std.specs.Prelude.{ℕ, false, List, [], ◌∷◌, ◌++◌, map, le
 use Rattle.std.specs.Prelude.{slice_get}
 use Rattle.rgo_typed.specs.declared.types.Type.{«Type»}
 use Rattle.rgo_typed.specs.declared.programs.Struct.{Struct}
-use Rattle.rgo_values.specs.declared.values.Value.{Value}
-use Rattle.rgo_values.specs.declared.values.Value.TheVariants as value
-use Rattle.rgo_values.specs.declared.traps.Trap.TheVariants.{BadSize}
-use Rattle.rgo_values.specs.Values.{zero_of, element_zero}
+use Rattle.rgo_memory.specs.declared.values.Value.{Value}
+use Rattle.rgo_memory.specs.declared.values.Value.TheVariants as value
+use Rattle.rgo_memory.specs.declared.traps.Trap.TheVariants.{BadSize}
+use Rattle.rgo_memory.specs.Values.{zero_of, element_zero}
 use Rattle.rgo_memory.specs.Memory.{Object, StructObject, SliceObject, Channel, Memory}
 use Rattle.rgo_memory.specs.Effects.{Does, Traps, Effect, nothing}
 

@@ -1,6 +1,6 @@
 -- Objects and the memory that holds them, as plain data.
 use Rattle.std.specs.Prelude.{ℕ, Bool, List, slice_set}
-use Rattle.rgo_values.specs.declared.values.Value.{Value}
+use Rattle.rgo_memory.specs.declared.values.Value.{Value}
 
 -- the cells of a struct or of a slice; or a channel, with what was sent and not yet received, the oldest first
 pub data Object : Type 0 where

@@ -1,7 +1,7 @@
 -- The memory as a program starts.
 use Rattle.std.specs.Prelude.{List, [], map}
 use Rattle.rgo_typed.specs.declared.programs.Variable.{Variable}
-use Rattle.rgo_values.specs.Values.{zero_of}
+use Rattle.rgo_memory.specs.Values.{zero_of}
 use Rattle.rgo_memory.specs.Memory.{Memory}
 
 -- no object, and each package variable the zero of its type

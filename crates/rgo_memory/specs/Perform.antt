@@ -1,19 +1,18 @@
--- What each action does, by how many operands it has.
+-- What each action does, by how many operands it has. Receive, send and close are no actions of one goroutine alone:
+-- see Channels.
 use Rattle.std.specs.Prelude.{ℕ, List, [], ◌∷◌, slice_get, slice_set}
 use Rattle.rgo_typed.specs.declared.types.Type.{«Type»}
 use Rattle.rgo_typed.specs.declared.programs.Struct.{Struct}
 use Rattle.rgo_typed.specs.declared.actions.Action.{Action}
 use Rattle.rgo_typed.specs.declared.actions.Action.TheVariants as action
-use Rattle.rgo_values.specs.declared.values.Value.{Value}
-use Rattle.rgo_values.specs.declared.values.Value.TheVariants as value
-use Rattle.rgo_values.specs.Values.{zero_of}
-use Rattle.rgo_values.specs.Operators.{binary_of, negated, inverted, nil_test}
+use Rattle.rgo_memory.specs.declared.values.Value.{Value}
+use Rattle.rgo_memory.specs.declared.values.Value.TheVariants as value
+use Rattle.rgo_memory.specs.Operators.{binary_of, negated, inverted, nil_test}
 use Rattle.rgo_memory.specs.Memory.{Memory}
 use Rattle.rgo_memory.specs.Effects.{Does, Effect, nothing, answered}
 use Rattle.rgo_memory.specs.Fields.{or_nil, load, store}
 use Rattle.rgo_memory.specs.Elements.{element_at, length_of, put}
 use Rattle.rgo_memory.specs.Making.{new_struct, new_slice, new_channel}
-use Rattle.rgo_memory.specs.Channels.{receive, send, close}
 
 abbrev pub set_variable : ℕ → Value → Memory → Effect
 set_variable n v m = Does (record m { variables = slice_set m.variables n v }) value.Nil
@@ -37,8 +36,6 @@ on_one action.Len ty v m = Does m (length_of m v)
 on_one (action.Load k) ty v m = answered m (load m v k)
 on_one action.Slice ty v m = new_slice ty v m
 on_one action.Chan ty v m = new_channel v m
-on_one action.Recv ty v m = receive m v (zero_of ty)
-on_one action.Close ty v m = close m v
 on_one (action.Set n) ty v m = set_variable n v m
 on_one _ ty v m = nothing m
 
@@ -47,7 +44,6 @@ abbrev pub on_two : Action → Value → Value → Memory → Effect
 on_two (action.Binary op) v w m = answered m (binary_of op v w)
 on_two (action.Store k) v w m = store m v k w
 on_two action.At v w m = answered m (element_at m v w)
-on_two action.Send v w m = send m v w
 on_two _ v w m = nothing m
 
 -- with three

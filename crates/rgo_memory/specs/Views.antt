@@ -1,16 +1,16 @@
 -- The views: of the code's objects and memory, the plain data that contracts say of them, and what an answer
 -- of the code says of a definition's.
-use Rattle.std.specs.Prelude.{◌≡◌, ⊤, map, Result, Ok, Err}
+use Rattle.std.specs.Prelude.{◌≡◌, map, Option, Some, None, Result, Ok, Err}
 use Rattle.std.specs.declared.alloc.AllocError.{AllocError}
-use Rattle.rgo_values.specs.declared.values.Value.{Value}
-use Rattle.rgo_values.specs.declared.traps.Trap.{Trap}
+use Rattle.rgo_memory.specs.declared.values.Value.{Value}
+use Rattle.rgo_memory.specs.declared.traps.Trap.{Trap}
 use Rattle.rgo_memory.specs.declared.objects.Object.{Object as CodeObject}
 use Rattle.rgo_memory.specs.declared.objects.Object.TheVariants as code
 use Rattle.rgo_memory.specs.declared.memory.Memory.{Memory as CodeMemory}
 use Rattle.rgo_memory.specs.declared.effects.Effect.{Effect as CodeEffect}
 use Rattle.rgo_memory.specs.declared.effects.Effect.TheVariants as effect
 use Rattle.rgo_memory.specs.Memory.{Object, StructObject, SliceObject, Channel, Memory}
-use Rattle.rgo_memory.specs.Effects.{Outcome, Does, Traps, Waits}
+use Rattle.rgo_memory.specs.Effects.{Outcome, Does, Traps}
 
 abbrev pub object_of : CodeObject → Object
 object_of (code.Struct cells) = StructObject cells.items
@@ -29,9 +29,18 @@ effect_of (Err trap) = effect.Traps trap
 abbrev pub Leaves : {S : Type 0} → CodeEffect → S → S → Outcome S → Type 0
 Leaves (effect.Gives v) before after outcome = outcome ≡ Does after v
 Leaves (effect.Traps trap) before after outcome = (outcome ≡ Traps trap) × (after ≡ before)
-Leaves effect.Waits before after outcome = (outcome ≡ Waits) × (after ≡ before)
 
--- the same; want of memory says nothing
+-- the same; on allocation failure nothing changed
 abbrev pub Performs : {S : Type 0} → Result CodeEffect AllocError → S → S → Outcome S → Type 0
 Performs (Ok answer) before after outcome = Leaves answer before after outcome
-Performs (Err e) before after outcome = ⊤
+Performs (Err e) before after outcome = after ≡ before
+
+-- the same of an operation on a channel that may not be ready; then nothing changed
+abbrev pub LeavesIfReady : {S : Type 0} → Option CodeEffect → S → S → Option (Outcome S) → Type 0
+LeavesIfReady None before after outcome = (outcome ≡ None) × (after ≡ before)
+LeavesIfReady (Some (effect.Gives v)) before after outcome = outcome ≡ Some (Does after v)
+LeavesIfReady (Some (effect.Traps trap)) before after outcome = (outcome ≡ Some (Traps trap)) × (after ≡ before)
+
+abbrev pub PerformsIfReady : {S : Type 0} → Result (Option CodeEffect) AllocError → S → S → Option (Outcome S) → Type 0
+PerformsIfReady (Ok answer) before after outcome = LeavesIfReady answer before after outcome
+PerformsIfReady (Err e) before after outcome = after ≡ before

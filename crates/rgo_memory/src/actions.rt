@@ -3,16 +3,17 @@
 ghost use Rattle.std.specs.Prelude.{◌≡◌};
 ghost use Rattle.rgo_memory.specs.Perform.{set_variable, on_none, on_one, on_two, on_three};
 ghost use Rattle.rgo_memory.specs.Perform.{perform};
+ghost use Rattle.rgo_memory.specs.Channels.{SameChannels};
 ghost use Rattle.rgo_memory.specs.Views.{Leaves, Performs, memory_of};
 
-use crate::channels::{close, receive, send};
 use crate::effects::{Effect, answered};
 use crate::elements::{element_at, length_of, put};
 use crate::fields::{load, store};
 use crate::making::{new_channel, new_slice, new_struct};
 use crate::memory::Memory;
 use rgo_typed::{Action, Struct, Type};
-use rgo_values::{Value, binary, inverted, is_nil, negated, zero};
+use crate::operators::{binary, inverted, is_nil, negated};
+use crate::values::Value;
 use std::alloc::{AllocError, Global};
 
 fn set_variable(memory: &mut Memory, number: usize, value: Value) -> Effect
@@ -63,23 +64,20 @@ fn on_one(
         Action::Load(field) => Ok(answered(load(memory, x, field))),
         Action::Slice => new_slice(alloc, memory, ty, x),
         Action::Chan => new_channel(alloc, memory, x),
-        Action::Recv => Ok(receive(memory, x, zero(ty))),
-        Action::Close => Ok(close(memory, x)),
         Action::Set(n) => Ok(set_variable(memory, n, x)),
         _ => Ok(Effect::Gives(Value::Nil)),
     }
 }
 
-fn on_two(memory: &mut Memory, action: Action, x: Value, y: Value) -> Result<Effect, AllocError>
-    ensures { Performs result (memory_of memory.old) (memory_of memory.new)
+fn on_two(memory: &mut Memory, action: Action, x: Value, y: Value) -> Effect
+    ensures { Leaves result (memory_of memory.old) (memory_of memory.new)
         (on_two action x y (memory_of memory.old)) }
 {
     match action {
-        Action::Binary(op) => Ok(answered(binary(op, x, y))),
-        Action::Store(field) => Ok(store(memory, x, field, y)),
-        Action::At => Ok(answered(element_at(memory, x, y))),
-        Action::Send => send(memory, x, y),
-        _ => Ok(Effect::Gives(Value::Nil)),
+        Action::Binary(op) => answered(binary(op, x, y)),
+        Action::Store(field) => store(memory, x, field, y),
+        Action::At => answered(element_at(memory, x, y)),
+        _ => Effect::Gives(Value::Nil),
     }
 }
 
@@ -96,9 +94,11 @@ fn on_three(memory: &mut Memory, action: Action, x: Value, y: Value, z: Value) -
 /// What an action does with these operands, where its value is of this type. The structs are those
 /// of the program. `nil` where the action takes another number of operands or other values.
 ///
+/// Receive, send and close are not among them: see `receive`, `send`, `close`.
+///
 /// # Errors
 ///
-/// Where there is no memory for a new object, or for a value that is sent.
+/// Where there is no memory for a new object. Then nothing changed.
 pub fn perform(
     alloc: Global,
     memory: &mut Memory,
@@ -107,13 +107,14 @@ pub fn perform(
     ty: &Type,
     operands: &[Value],
 ) -> Result<Effect, AllocError>
-    ensures { Performs result (memory_of memory.old) (memory_of memory.new)
+    ensures performs { Performs result (memory_of memory.old) (memory_of memory.new)
         (perform structs.now action ty.now operands.now (memory_of memory.old)) }
+    ensures channels { SameChannels (memory_of memory.old) (memory_of memory.new) }
 {
     match operands {
         [] => on_none(alloc, memory, structs, action),
         [x] => on_one(alloc, memory, action, ty, *x),
-        [x, y] => on_two(memory, action, *x, *y),
+        [x, y] => Ok(on_two(memory, action, *x, *y)),
         [x, y, z] => Ok(on_three(memory, action, *x, *y, *z)),
         _ => Ok(Effect::Gives(Value::Nil)),
     }

@@ -4,72 +4,79 @@
 ghost use Rattle.std.specs.Prelude.{◌≡◌};
 ghost use Rattle.rgo_memory.specs.Channels.{received, receive, sent, send, shut, close};
 ghost use Rattle.rgo_memory.specs.Channels.{is_meeting_place, meets_at};
-ghost use Rattle.rgo_memory.specs.Views.{Leaves, Performs, object_of, memory_of};
+ghost use Rattle.rgo_memory.specs.Views.{Leaves, LeavesIfReady, PerformsIfReady, object_of, memory_of};
 
 use crate::effects::Effect;
 use crate::memory::Memory;
 use crate::objects::Object;
-use rgo_values::{Trap, Value};
+use crate::traps::Trap;
+use crate::values::Value;
 use std::alloc::AllocError;
 
-fn receive_from(object: &mut Object, blank: Value) -> Effect
-    ensures { Leaves result (object_of object.old) (object_of object.new)
+fn receive_from(object: &mut Object, blank: Value) -> Option<Effect>
+    ensures { LeavesIfReady result (object_of object.old) (object_of object.new)
         (received blank (object_of object.old)) }
 {
     let Object::Channel(channel) = object else {
-        return Effect::Gives(Value::Nil);
+        return Some(Effect::Gives(Value::Nil));
     };
     match channel.queue.pop_front() {
-        Some(value) => Effect::Gives(value),
-        None if channel.closed => Effect::Gives(blank),
-        None => Effect::Waits,
+        Some(value) => Some(Effect::Gives(value)),
+        None if channel.closed => Some(Effect::Gives(blank)),
+        None => None,
     }
 }
 
-/// A receive. A closed channel gives what it still has, and then `blank`.
-pub(crate) fn receive(memory: &mut Memory, channel: Value, blank: Value) -> Effect
-    ensures { Leaves result (memory_of memory.old) (memory_of memory.new)
+/// A receive: `None` where the channel is open and empty, or nil, so that the receiver has to wait. A closed channel
+/// gives what it still has, and then `blank`.
+pub fn receive(memory: &mut Memory, channel: Value, blank: Value) -> Option<Effect>
+    ensures { LeavesIfReady result (memory_of memory.old) (memory_of memory.new)
         (receive (memory_of memory.old) channel blank) }
 {
     match channel {
-        Value::Nil => Effect::Waits,
+        Value::Nil => None,
         Value::Object(n) => match memory.objects.get_mut(n) {
             Some(object) => receive_from(object, blank),
-            None => Effect::Gives(Value::Nil),
+            None => Some(Effect::Gives(Value::Nil)),
         },
-        _ => Effect::Gives(Value::Nil),
+        _ => Some(Effect::Gives(Value::Nil)),
     }
 }
 
-fn send_to(object: &mut Object, value: Value) -> Result<Effect, AllocError>
-    ensures { Performs result (object_of object.old) (object_of object.new)
+fn send_to(object: &mut Object, value: Value) -> Result<Option<Effect>, AllocError>
+    ensures { PerformsIfReady result (object_of object.old) (object_of object.new)
         (sent value (object_of object.old)) }
 {
     let Object::Channel(channel) = object else {
-        return Ok(Effect::Gives(Value::Nil));
+        return Ok(Some(Effect::Gives(Value::Nil)));
     };
     if channel.closed {
-        return Ok(Effect::Traps(Trap::SendClosed));
+        return Ok(Some(Effect::Traps(Trap::SendClosed)));
     }
     if channel.queue.len() >= channel.capacity {
-        return Ok(Effect::Waits);
+        return Ok(None);
     }
     channel.queue.push_back(value)?;
-    Ok(Effect::Gives(Value::Nil))
+    Ok(Some(Effect::Gives(Value::Nil)))
 }
 
-/// A send to the buffer.
-pub(crate) fn send(memory: &mut Memory, channel: Value, value: Value) -> Result<Effect, AllocError>
-    ensures { Performs result (memory_of memory.old) (memory_of memory.new)
+/// A send to the buffer: `None` where it is full, or the channel is nil, so that the sender has to wait. A send to a
+/// closed channel traps.
+///
+/// # Errors
+///
+/// Where there is no memory for the value. Then nothing changed.
+pub fn send(memory: &mut Memory, channel: Value, value: Value) -> Result<Option<Effect>, AllocError>
+    ensures { PerformsIfReady result (memory_of memory.old) (memory_of memory.new)
         (send (memory_of memory.old) channel value) }
 {
     match channel {
-        Value::Nil => Ok(Effect::Waits),
+        Value::Nil => Ok(None),
         Value::Object(n) => match memory.objects.get_mut(n) {
             Some(object) => send_to(object, value),
-            None => Ok(Effect::Gives(Value::Nil)),
+            None => Ok(Some(Effect::Gives(Value::Nil))),
         },
-        _ => Ok(Effect::Gives(Value::Nil)),
+        _ => Ok(Some(Effect::Gives(Value::Nil))),
     }
 }
 
@@ -87,8 +94,8 @@ fn shut(object: &mut Object) -> Effect
     Effect::Gives(Value::Nil)
 }
 
-/// A close.
-pub(crate) fn close(memory: &mut Memory, channel: Value) -> Effect
+/// A close. A close of nil, or of a closed channel, traps.
+pub fn close(memory: &mut Memory, channel: Value) -> Effect
     ensures { Leaves result (memory_of memory.old) (memory_of memory.new)
         (close (memory_of memory.old) channel) }
 {

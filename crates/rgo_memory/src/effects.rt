@@ -3,7 +3,8 @@
 ghost use Rattle.std.specs.Prelude.{◌≡◌};
 ghost use Rattle.rgo_memory.specs.Views.{effect_of};
 
-use rgo_values::{Trap, Value};
+use crate::traps::Trap;
+use crate::values::Value;
 
 /// What an action does.
 #[derive(Clone, Copy, Debug, PartialEq, Eq)]
@@ -12,8 +13,6 @@ pub enum Effect {
     Gives(Value),
     /// It traps, and changes nothing.
     Traps(Trap),
-    /// It is on a channel that is not ready, and changes nothing.
-    Waits,
 }
 
 /// The effect of what reads only.

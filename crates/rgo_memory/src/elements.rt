@@ -8,7 +8,8 @@ ghost use Rattle.rgo_memory.specs.Views.{Leaves, object_of, memory_of};
 use crate::effects::Effect;
 use crate::memory::Memory;
 use crate::objects::Object;
-use rgo_values::{Trap, Value};
+use crate::traps::Trap;
+use crate::values::Value;
 
 fn element(cells: &[Value], index: i64) -> Result<Value, Trap>
     ensures { result ≡ element cells.now index }

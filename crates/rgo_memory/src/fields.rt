@@ -7,7 +7,8 @@ ghost use Rattle.rgo_memory.specs.Views.{Leaves, object_of, memory_of};
 use crate::effects::Effect;
 use crate::memory::Memory;
 use crate::objects::Object;
-use rgo_values::{Trap, Value};
+use crate::traps::Trap;
+use crate::values::Value;
 
 /// A field's value.
 pub(crate) fn load(memory: &Memory, pointer: Value, field: usize) -> Result<Value, Trap>

@@ -1,4 +1,4 @@
-//! The memory of a running program: its objects and package variables, and what each action does.
+//! Values and the memory of a running program: what the operators, the actions and the operations on channels do.
 #![tactic(auto)]
 
 mod actions;
@@ -9,9 +9,17 @@ mod fields;
 mod making;
 mod memory;
 mod objects;
+mod operators;
+mod printing;
+mod traps;
+mod values;
 
 pub use actions::perform;
-pub use channels::meets_at;
+pub use channels::{close, meets_at, receive, send};
 pub use effects::Effect;
 pub use memory::Memory;
 pub use objects::{Channel, Object};
+pub use operators::{binary, inverted, is_nil, negated};
+pub use printing::write_value;
+pub use traps::Trap;
+pub use values::{Value, element_zero, zero};

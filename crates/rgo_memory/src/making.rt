@@ -2,7 +2,7 @@
 //! maps and channels").
 
 ghost use Rattle.std.specs.Prelude.{◌≡◌, map, IfOk};
-ghost use Rattle.rgo_values.specs.Values.{zero_of};
+ghost use Rattle.rgo_memory.specs.Values.{zero_of};
 ghost use Rattle.rgo_memory.specs.Making.{made, new_struct, new_slice, new_channel};
 ghost use Rattle.rgo_memory.specs.Views.{Performs, object_of, memory_of};
 
@@ -10,7 +10,8 @@ use crate::effects::Effect;
 use crate::memory::Memory;
 use crate::objects::{Channel, Object};
 use rgo_typed::{Struct, Type};
-use rgo_values::{Trap, Value, element_zero, zero};
+use crate::traps::Trap;
+use crate::values::{Value, element_zero, zero};
 use std::alloc::{AllocError, Global};
 use std::collections::VecDeque;
 

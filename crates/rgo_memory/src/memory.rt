@@ -1,13 +1,13 @@
 //! The memory of a running program.
 
 ghost use Rattle.std.specs.Prelude.{◌≡◌, map, IfOk};
-ghost use Rattle.rgo_values.specs.Values.{zero_of};
+ghost use Rattle.rgo_memory.specs.Values.{zero_of};
 ghost use Rattle.rgo_memory.specs.Opening.{opening};
 ghost use Rattle.rgo_memory.specs.Views.{memory_of};
 
 use crate::objects::Object;
 use rgo_typed::Variable;
-use rgo_values::{Value, zero};
+use crate::values::{Value, zero};
 use std::alloc::{AllocError, Global};
 
 /// The objects that were made, each numbered by its position, and the package variables. No object

@@ -1,6 +1,6 @@
 //! Objects: what pointers, slices and channels stand for.
 
-use rgo_values::Value;
+use crate::values::Value;
 use std::collections::VecDeque;
 
 /// A channel. What was sent and not yet received stands in the queue, the oldest first.

@@ -1,12 +1,12 @@
 -- The claims of the whole, from what its parts leave: the source that was run or judged, and the report of its ending.
 use Rattle.std.proofs.Common.{◌≡◌, true, ℕ, ◌⊎◌, inl, inr, List, [], Option, None, Some, IfSome, refl, sym, subst}
 use Rattle.rgo_typed.specs.Tree.{Typed}
-use Rattle.rgo_rounds.specs.declared.ends.Limits.{Limits as RunLimits}
-use Rattle.rgo_rounds.specs.declared.ends.RunEnd.{RunEnd}
-use Rattle.rgo_rounds.specs.declared.ends.RunEnd.TheVariants as run_end
-use Rattle.rgo_rounds.specs.Runs.{Runs}
-use Rattle.rgo_words.specs.declared.limits.Limits.{Limits}
-use Rattle.rgo_words.specs.Commands.{command_of}
+use Rattle.rgo_driver.specs.declared.ends.Limits.{Limits as RunLimits}
+use Rattle.rgo_driver.specs.declared.ends.RunEnd.{RunEnd}
+use Rattle.rgo_driver.specs.declared.ends.RunEnd.TheVariants as run_end
+use Rattle.rgo_driver.specs.Runs.{Runs}
+use Rattle.rgo_command_line.specs.declared.limits.Limits.{Limits}
+use Rattle.rgo_command_line.specs.Commands.{command_of}
 use Rattle.rgo_run.specs.declared.endings.Ending.{Ending}
 use Rattle.rgo_run.specs.declared.endings.Ending.TheVariants.{Usage, ReadFault, TooLong, Lexical, Syntax, Nesting, Typing}
 use Rattle.rgo_run.specs.declared.endings.Ending.TheVariants.{Exit, Trap, Deadlock, WriteFault, NoMemory}

@@ -2,7 +2,7 @@
 use Rattle.std.proofs.Common.{ℕ, List, Option}
 use Rattle.rgo_outside.specs.Moves.{ReadsAll}
 use Rattle.rgo_outside.proofs.ToldLemmas.{ReadsAll-told}
-use Rattle.rgo_words.specs.declared.limits.Limits.{Limits}
+use Rattle.rgo_command_line.specs.declared.limits.Limits.{Limits}
 use Rattle.rgo_run.specs.declared.endings.Ending.{Ending}
 use Rattle.rgo_run.specs.declared.endings.Ending.TheVariants.{Usage, ReadFault, TooLong, Lexical, Syntax, Nesting, Typing, Exit, NoMemory}
 use Rattle.rgo_run.specs.Verdicts.{text_limit}

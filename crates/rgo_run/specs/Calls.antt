@@ -2,10 +2,10 @@
 use Rattle.std.specs.Prelude.{◌≡◌, ℕ, List, Option, Some}
 use Rattle.std.specs.Io.KnownBytes.{Appends}
 use Rattle.rgo_outside.specs.Causes.{Rose}
-use Rattle.rgo_words.specs.declared.commands.Command.{Command}
-use Rattle.rgo_words.specs.declared.commands.Command.TheVariants.{Run, Check}
-use Rattle.rgo_words.specs.declared.limits.Limits.{Limits}
-use Rattle.rgo_words.specs.Commands.{command_of}
+use Rattle.rgo_command_line.specs.declared.commands.Command.{Command}
+use Rattle.rgo_command_line.specs.declared.commands.Command.TheVariants.{Run, Check}
+use Rattle.rgo_command_line.specs.declared.limits.Limits.{Limits}
+use Rattle.rgo_command_line.specs.Commands.{command_of}
 
 -- what the source had left, where it tells, and its count of faults before and after
 pub record SourceUse : Type 0 where

@@ -2,7 +2,7 @@
 use Rattle.std.specs.Prelude.{ℕ, Bool, ◌||◌, List, [], ◌++◌, codes, decimal, if◌then◌else◌, ◌==◌}
 use Rattle.rgo_lexer.specs.LexicalKinds as kinds
 use Rattle.rgo_typing_rules.specs.RuleNames as rules
-use Rattle.rgo_values.specs.Traps as traps
+use Rattle.rgo_memory.specs.Traps as traps
 use Rattle.rgo_run.specs.declared.endings.Position.{Position}
 use Rattle.rgo_run.specs.declared.endings.Ending.{Ending}
 use Rattle.rgo_run.specs.declared.endings.Ending.TheVariants.{Usage, ReadFault, TooLong}

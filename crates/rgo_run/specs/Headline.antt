@@ -3,13 +3,13 @@ use Rattle.std.specs.Prelude.{◌≡◌, ℕ, ◌⊎◌, List, [], None, IfSome}
 use Rattle.rgo_typed.specs.Tree.{Typed}
 use Rattle.rgo_machine.specs.declared.picks.Pick.{Pick}
 use Rattle.rgo_meaning.specs.Source.{SourceState, IsRun as IsSourceRun}
-use Rattle.rgo_rounds.specs.declared.ends.Limits.{Limits as RunLimits}
-use Rattle.rgo_rounds.specs.declared.ends.RunEnd.{RunEnd}
-use Rattle.rgo_rounds.specs.declared.ends.RunEnd.TheVariants as run_end
-use Rattle.rgo_rounds.specs.Runs as rounds
-use Rattle.rgo_words.specs.declared.commands.Command.{Command}
-use Rattle.rgo_words.specs.declared.limits.Limits.{Limits}
-use Rattle.rgo_words.specs.Commands.{command_of}
+use Rattle.rgo_driver.specs.declared.ends.Limits.{Limits as RunLimits}
+use Rattle.rgo_driver.specs.declared.ends.RunEnd.{RunEnd}
+use Rattle.rgo_driver.specs.declared.ends.RunEnd.TheVariants as run_end
+use Rattle.rgo_driver.specs.Runs as rounds
+use Rattle.rgo_command_line.specs.declared.commands.Command.{Command}
+use Rattle.rgo_command_line.specs.declared.limits.Limits.{Limits}
+use Rattle.rgo_command_line.specs.Commands.{command_of}
 use Rattle.rgo_run.specs.declared.endings.Ending.{Ending}
 use Rattle.rgo_run.specs.declared.endings.Ending.TheVariants.{Usage, ReadFault}
 use Rattle.rgo_run.specs.declared.endings.Ending.TheVariants.{Exit, Trap, Deadlock, WriteFault, NoMemory}

@@ -1,11 +1,11 @@
 -- The run of a text: its limits, the ending that tells of its end, and what it leaves.
 use Rattle.std.specs.Prelude.{◌≡◌, ℕ, List, Option}
 use Rattle.rgo_typed.specs.Tree.{Typed}
-use Rattle.rgo_words.specs.declared.limits.Limits.{Limits as Asked}
-use Rattle.rgo_rounds.specs.declared.ends.Limits.{Limits}
-use Rattle.rgo_rounds.specs.declared.ends.RunEnd.{RunEnd}
-use Rattle.rgo_rounds.specs.declared.ends.RunEnd.TheVariants as run_end
-use Rattle.rgo_rounds.specs.Runs.{Runs}
+use Rattle.rgo_command_line.specs.declared.limits.Limits.{Limits as Asked}
+use Rattle.rgo_driver.specs.declared.ends.Limits.{Limits}
+use Rattle.rgo_driver.specs.declared.ends.RunEnd.{RunEnd}
+use Rattle.rgo_driver.specs.declared.ends.RunEnd.TheVariants as run_end
+use Rattle.rgo_driver.specs.Runs.{Runs}
 use Rattle.rgo_run.specs.declared.endings.Ending.{Ending}
 use Rattle.rgo_run.specs.declared.endings.Ending.TheVariants as ending
 use Rattle.rgo_run.specs.Positions.{position_of}

@@ -1,7 +1,7 @@
 -- What reading and judging or running a source leaves, by its ending, before anything is told of it.
 use Rattle.std.specs.Prelude.{ℕ, ◌⊎◌, List, [], Option, IfSome}
 use Rattle.std.specs.Io.KnownBytes.{Appends}
-use Rattle.rgo_words.specs.declared.limits.Limits.{Limits}
+use Rattle.rgo_command_line.specs.declared.limits.Limits.{Limits}
 use Rattle.rgo_run.specs.declared.endings.Ending.{Ending}
 use Rattle.rgo_run.specs.declared.endings.Ending.TheVariants.{Usage, ReadFault, Exit, NoMemory}
 use Rattle.rgo_run.specs.declared.endings.Ending.TheVariants.{TooLong, Lexical, Syntax, Nesting, Typing}

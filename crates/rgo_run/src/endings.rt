@@ -2,7 +2,7 @@
 
 use rgo_lexer::LexicalKind;
 use rgo_typing_rules::Rule;
-use rgo_values::Trap;
+use rgo_memory::Trap;
 
 /// A line and a column of a text, both from 1. Columns are bytes.
 #[derive(Clone, Copy, Debug, PartialEq, Eq)]

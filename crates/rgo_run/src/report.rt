@@ -8,7 +8,7 @@ use crate::endings::{Ending, Position};
 use rgo_lexer::LexicalKind;
 use rgo_outside::{Sink, write_all};
 use rgo_typing_rules::Rule;
-use rgo_values::Trap;
+use rgo_memory::Trap;
 use std::alloc::{AllocError, Global};
 
 const USAGE: &[u8] =

@@ -8,8 +8,8 @@ ghost use Rattle.rgo_lexer.specs.Refusals.{Fails};
 ghost use Rattle.rgo_ast.specs.Views.{program_of};
 ghost use Rattle.rgo_typed.specs.Views.{typed_of};
 ghost use Rattle.rgo_parser.specs.Parsing.{Fails as ParseFails};
-ghost use Rattle.rgo_words.specs.Commands.{command_of};
-ghost use Rattle.rgo_words.specs.declared.commands.Command.TheVariants.{Check};
+ghost use Rattle.rgo_command_line.specs.Commands.{command_of};
+ghost use Rattle.rgo_command_line.specs.declared.commands.Command.TheVariants.{Check};
 ghost use Rattle.rgo_typing_rules.specs.Checks.{Refuses as TypeRefuses};
 ghost use Rattle.rgo_typing_rules.specs.Sites.{first_refusal};
 ghost use Rattle.rgo_types.specs.Programs.{sites_of};
@@ -29,11 +29,11 @@ use rgo_ast::Program;
 use rgo_lexer::{LexError, Lexeme, lex};
 use rgo_outside::{Gate, ReadEnd, Sink, Source, read_all};
 use rgo_parser::{ParseError, ParseRefusal, parse};
-use rgo_rounds::{RunEnd, run};
+use rgo_driver::{RunEnd, run};
 use rgo_typed::Typed;
 use rgo_types::check;
 use rgo_typing_rules::TypeError;
-use rgo_words::{Command, Limits, WordsError, read_words};
+use rgo_command_line::{Command, Limits, WordsError, read_words};
 use std::alloc::Global;
 
 /// The most bytes of a text.
@@ -136,10 +136,10 @@ fn check_text(alloc: Global, text: &[u8]) -> Ending
     }
 }
 
-fn limits_of(limits: Limits) -> rgo_rounds::Limits
+fn limits_of(limits: Limits) -> rgo_driver::Limits
     ensures { result ≡ limits_of limits }
 {
-    rgo_rounds::Limits {
+    rgo_driver::Limits {
         steps: limits.steps,
         goroutines: limits.goroutines,
     }

@@ -5,7 +5,7 @@ use crate::texts::typed;
 use rgo_machine::{End, Pick, Stepped};
 use rgo_meaning::{Next, SourceState, next_act, printed, start, step};
 use rgo_typed::Typed;
-use rgo_values::{Trap, Value};
+use rgo_memory::{Trap, Value};
 use std::alloc::Global;
 use std::process::Abort;
 use std::test::Fail;

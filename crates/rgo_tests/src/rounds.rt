@@ -3,8 +3,8 @@
 use crate::checks::same;
 use crate::texts::typed;
 use rgo_outside::MemSink;
-use rgo_rounds::{Limits, RunEnd, run};
-use rgo_values::Trap;
+use rgo_driver::{Limits, RunEnd, run};
+use rgo_memory::Trap;
 use std::alloc::Global;
 use std::process::Abort;
 use std::test::Fail;

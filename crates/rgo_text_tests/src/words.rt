@@ -2,7 +2,7 @@
 
 use crate::checks::same;
 use crate::lines::words_of;
-use rgo_words::{Command, Limits, WordsError, read_words};
+use rgo_command_line::{Command, Limits, WordsError, read_words};
 use std::process::Abort;
 use std::test::Fail;
 

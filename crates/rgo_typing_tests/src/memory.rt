@@ -5,7 +5,7 @@ use crate::typed_trees::{name_of, two, ty};
 use rgo_ast::BinaryOp;
 use rgo_memory::{Effect, Memory, meets_at, perform};
 use rgo_typed::{Action, Base, Layer, Row, Struct, Variable};
-use rgo_values::{Trap, Value};
+use rgo_memory::{Trap, Value};
 use std::alloc::Global;
 use std::process::Abort;
 use std::test::Fail;

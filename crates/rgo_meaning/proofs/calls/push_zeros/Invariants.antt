@@ -1,5 +1,5 @@
 use Rattle.std.proofs.Common.{◌≡◌, ◌++◌, map, drop}
-use Rattle.rgo_values.specs.Values.{zero_of}
+use Rattle.rgo_memory.specs.Values.{zero_of}
 use Rattle.rgo_meaning.proofs.calls.push_zeros.Given as goal
 
 abbrev pub invariant-loop-ty : goal.invariant-loop-ty

@@ -1,0 +1,111 @@
+-- The words behind a command's name are judged at that command's own level alone.
+use Rattle.std.proofs.Common.{◌≡◌, ◌∙◌, refl, sym, ap, ap₂, codes, cond, true}
+use Rattle.std.proofs.Common.{false, List, [], ◌∷◌, ◌++◌, Option, Some, None}
+use Rattle.std.proofs.Common.{append-nil, append_assoc, option_map}
+use Rattle.std.specs.List.{fold}
+use Rattle.std.specs.Prelude.{is_some}
+use Rattle.std.specs.Str.{bytes_eq}
+use Rattle.clap.specs.Words.{App, Kinds, Row, Shape, Text, built}
+use Rattle.clap.specs.Kinds.{or_else}
+use Rattle.clap.specs.Simple.{built_leaf, entered, inherited, names_of, new_shape}
+use Rattle.clap.specs.Walk.{Names, Walk, finished, nothing_held, rows_after, settled, walk_from, walked}
+use Rattle.clap.specs.Faults.{check_fault, defaults_fault, entered_fault, level_fault}
+use Rattle.clap.specs.Faults.{settle_fault, walk_fault}
+use Rattle.clap.proofs.OnLiterals.{clap_on_literals}
+use Rattle.rgo_command_line.specs.Commands.{command_met, command_of, has_fault}
+use Rattle.rgo_command_line.specs.Limits.{limits_of}
+use Rattle.rgo_command_line.specs.Parser.{bare_parser, parser, run_parser}
+use Rattle.rgo_command_line.specs.declared.commands.Command.{Command}
+use Rattle.rgo_command_line.specs.declared.commands.Command.TheVariants.{Run, Check}
+use Rattle.rgo_command_line.proofs.StrayLemmas.{stray, with_first}
+
+abbrev app : App
+app = built parser
+
+abbrev top : Shape
+top = app.top
+
+abbrev names : Names
+names = names_of app
+
+-- the commands, as they are built
+abbrev pub run_leaf : Shape
+run_leaf = built_leaf (inherited bare_parser.top run_parser.top)
+
+abbrev check_leaf : Shape
+check_leaf = built_leaf (inherited bare_parser.top (new_shape (codes "check")))
+
+-- the walk over the words stands still once it has met a command
+abbrev stopped_at : Text → List Text → Walk
+stopped_at n acc = record (walk_from nothing_held) { stopped = Some (n, acc) }
+
+stands : (n : Text) (acc rest : List Text)
+    → fold (walked top.rules names) (stopped_at n acc) rest ≡ stopped_at n (acc ++ rest)
+unfolding clap_on_literals
+stands n acc [] = ap (stopped_at n) (sym (append-nil acc))
+stands n acc (x ∷ xs) = stands n (acc ++ x ∷ []) xs ∙ ap (stopped_at n) (append_assoc acc (x ∷ []) xs)
+
+no_fault : (n : Text) (acc rest : List Text) → walk_fault top names (stopped_at n acc) rest ≡ []
+unfolding clap_on_literals
+no_fault n acc [] = refl
+no_fault n acc (x ∷ xs) = no_fault n (acc ++ x ∷ []) xs
+
+-- what is wrong behind the walk, by where it ended
+abbrev end_fault : Walk → Kinds
+end_fault w =
+    or_else (settle_fault top.rules top.args_override_self w.held)
+    (or_else (defaults_fault (settled top.rules w.held).rows top.rules)
+    (check_fault top (finished top.rules w.held) (is_some (entered app w.stopped))))
+
+-- the command by where the walk ended, and by what was wrong on its way
+abbrev whole : Walk → Kinds → Option Command
+whole w k =
+    cond (has_fault (or_else k (or_else (entered_fault app w.stopped) (end_fault w))))
+    None (command_met (entered app w.stopped))
+
+just_one : (k : Kinds) → has_fault (or_else k []) ≡ has_fault k
+just_one [] = refl
+just_one (x ∷ xs) = refl
+
+-- what is wrong with the words behind a command
+abbrev pub rest_fault : Shape → List Text → Kinds
+rest_fault leaf rest = level_fault leaf [] nothing_held rest false []
+
+-- what the words behind `run` ask for, where nothing is wrong with them
+abbrev pub run_met : List Row → Option Command
+run_met rows = option_map Run (limits_of rows)
+
+pub behind_run : (program : Text) (rest : List Text)
+    → command_of (program ∷ codes "run" ∷ rest)
+    ≡ cond (has_fault (rest_fault run_leaf rest)) None (run_met (rows_after run_leaf.rules [] rest))
+unfolding clap_on_literals
+behind_run program rest =
+    ap₂ whole (stands (codes "run") [] rest) (no_fault (codes "run") [] rest)
+    ∙ ap (λ b. cond b None (run_met (rows_after run_leaf.rules [] rest))) (just_one (rest_fault run_leaf rest))
+
+behind_check : (program : Text) (rest : List Text)
+    → command_of (program ∷ codes "check" ∷ rest) ≡ cond (has_fault (rest_fault check_leaf rest)) None (Some Check)
+unfolding clap_on_literals
+behind_check program rest =
+    ap₂ whole (stands (codes "check") [] rest) (no_fault (codes "check") [] rest)
+    ∙ ap (λ b. cond b None (Some Check)) (just_one (rest_fault check_leaf rest))
+
+refused : (program : Text) (rest : List Text)
+    → has_fault (rest_fault check_leaf rest) ≡ true
+    → command_of (program ∷ codes "check" ∷ rest) ≡ None
+refused program rest e = behind_check program rest ∙ ap (λ b. cond b None (Some Check)) e
+
+-- a word behind `check` that is no `--`
+pub other_rest : (program x : Text) (xs : List Text)
+    → bytes_eq x (codes "--") ≡ false
+    → command_of (program ∷ codes "check" ∷ x ∷ xs) ≡ None
+unfolding clap_on_literals
+other_rest program x xs e =
+    refused program (x ∷ xs)
+    (with_first _ _ (with_first _ _ (stray check_leaf [] None false true [] x refl e tt)))
+
+-- a word behind the `--`
+pub more_rest : (program x : Text) (xs : List Text)
+    → command_of (program ∷ codes "check" ∷ codes "--" ∷ x ∷ xs) ≡ None
+unfolding clap_on_literals
+more_rest program x xs = refused program (codes "--" ∷ x ∷ xs) refl

@@ -1,0 +1,15 @@
+use Rattle.std.proofs.Common.{ap}
+use Rattle.std.proofs.lemmas.Result.{IfOk-weaker}
+use Rattle.clap.specs.Words.{App}
+use Rattle.rgo_command_line.proofs.ParserLemmas.{with_command, with_settings}
+use Rattle.rgo_command_line.proofs.parser.parser.Goals as goal
+
+pub returns : goal.returns
+returns c =
+    let top = with_settings _ _ _ _ c.disable_help_flag.ensures c.disable_version_flag.ensures
+    c.disable_help_subcommand.ensures c.new.ensures.app in
+    let run = with_command _ _ _ _ _ c.in_ok-subcommand.ensures c.in_ok-run.ensures.local top
+    (ap (λ (a : App). a.top) c.in_ok-run.ensures.app) in
+    IfOk-weaker c.subcommand-2.result _ _
+    (λ r adds. with_command _ _ _ _ _ adds c.new-2.ensures.local run
+    (ap (λ (a : App). a.top) c.new-2.ensures.app)) c.subcommand-2.ensures

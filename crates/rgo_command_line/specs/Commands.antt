@@ -1,0 +1,45 @@
+-- What the words of a command line ask for, and what a reader of them answers.
+use Rattle.std.specs.Prelude.{⊤, ◌≡◌, Bool, true, false, List, [], ◌∷◌, Option, Some, None, Result, MatchResult, codes}
+use Rattle.std.specs.Prelude.{if◌then◌else◌, option_and_then, option_map}
+use Rattle.std.specs.Str.{bytes_eq}
+use Rattle.clap.specs.Words.{Kinds, Row, Text, fault_of, subcommand_of}
+use Rattle.rgo_command_line.specs.Limits.{LieInBounds, limits_of}
+use Rattle.rgo_command_line.specs.Parser.{parser}
+use Rattle.rgo_command_line.specs.declared.commands.Command.{Command}
+use Rattle.rgo_command_line.specs.declared.commands.Command.TheVariants.{Run, Check}
+use Rattle.rgo_command_line.specs.declared.commands.WordsError.{WordsError}
+use Rattle.rgo_command_line.specs.declared.commands.WordsError.TheVariants.{Usage}
+
+-- the command of a name, by what was found for its options
+abbrev pub command_named : Text → List Row → Option Command
+command_named name rows =
+    if bytes_eq name (codes "run") then option_map Run (limits_of rows)
+    else (if bytes_eq name (codes "check") then Some Check else None)
+
+-- the command of the subcommand that was met, if any
+abbrev pub command_met : Option (Text × List Row) → Option Command
+command_met = option_and_then (λ met. command_named met.0 met.1)
+
+-- there is something to refuse the words for
+abbrev pub has_fault : Kinds → Bool
+has_fault [] = false
+has_fault (kind ∷ rest) = true
+
+-- `clap` refuses the words, whatever memory there is
+abbrev pub is_refused : List Text → Bool
+is_refused words = has_fault (fault_of parser words)
+
+-- what the words ask for, if anything; the first is the program's name
+abbrev pub command_of : List Text → Option Command
+command_of words = if is_refused words then None else command_met (subcommand_of parser words)
+
+-- the answer is what the words ask for, and `Usage` only where they ask for nothing
+abbrev pub Reads : List Text → Result Command WordsError → Type 0
+Reads words answer = MatchResult answer
+    (λ command. command_of words ≡ Some command)
+    (λ error. error ≡ Usage → command_of words ≡ None)
+
+-- the limits of a command lie in their bounds
+abbrev pub KeepsBounds : Command → Type 0
+KeepsBounds (Run limits) = LieInBounds limits
+KeepsBounds Check = ⊤

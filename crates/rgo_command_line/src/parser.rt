@@ -1,0 +1,39 @@
+//! The command line as `clap` is given it.
+
+ghost use Rattle.std.specs.Prelude.{◌≡◌, IfOk, false};
+ghost use Rattle.clap.specs.Words.{app_of, rule_of};
+ghost use Rattle.clap.specs.declared.builder.command.Command.TheViews.{out-Command};
+ghost use Rattle.rgo_command_line.specs.Parser.{number_option, parser, run_parser};
+
+use clap::{Arg, ArgAction, Command};
+use std::alloc::{AllocError, Global};
+
+// An option `--name N`.
+fn number_option<'a>(alloc: Global, name: &'a str) -> Arg<'a>
+    ensures rule { rule_of result ≡ number_option name.entry.now }
+    ensures local { result.global ≡ false }
+{
+    Arg::new(alloc, name).long(name).action(ArgAction::Set)
+}
+
+fn run_parser<'a>(alloc: Global) -> Result<Command<'a>, AllocError>
+    ensures app { IfOk result (λ command. app_of command ≡ run_parser) }
+    ensures local { IfOk result (λ command. (out-Command command).has_globals ≡ false) }
+{
+    Command::new(alloc, "run")
+        .arg(number_option(alloc, "steps"))?
+        .arg(number_option(alloc, "goroutines"))
+}
+
+/// One level of subcommands. Help and versions are off, since none of `clap`'s texts is printed.
+pub(crate) fn parser<'a>(alloc: Global) -> Result<Command<'a>, AllocError>
+    ensures { IfOk result (λ command. app_of command ≡ parser) }
+{
+    let run = run_parser(alloc)?;
+    Command::new(alloc, "rgo")
+        .disable_help_flag(true)
+        .disable_version_flag(true)
+        .disable_help_subcommand(true)
+        .subcommand(run)?
+        .subcommand(Command::new(alloc, "check"))
+}

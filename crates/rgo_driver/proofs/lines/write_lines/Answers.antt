@@ -1,0 +1,26 @@
+use Rattle.std.proofs.Common.{◌≡◌, ◌-◌, ◌+◌, arith, drop, take, length, length-drop}
+use Rattle.std.proofs.lemmas.List.{take_all}
+use Rattle.rgo_driver.proofs.Given.{line_more}
+use Rattle.rgo_driver.proofs.lines.write_lines.Goals as goal
+
+pub loop-written-preserved : goal.loop-written-preserved
+loop-written-preserved g c =
+    let bytes = c.args.bytes.now in
+    let written = c.loop-written.written in
+    let whole : take (length bytes - written) (drop written bytes) ≡ drop written bytes =
+    take_all _ _ (omega (arith, length-drop written bytes)) in
+    let line = rw whole at c.in-Ok.ensures.line in
+    record {
+      within = omega (arith, line.1, length-drop written bytes, c.loop-written.invariant.within);
+      out = line_more written c.in-Ok.count bytes _ _ _ c.loop-written.invariant.out line.2;
+      later = omega (arith, c.loop-written.invariant.later, c.in-Ok.ensures.later);
+    }
+
+pub returns-in-Err-clause-part : goal.returns-in-Err-clause-part
+returns-in-Err-clause-part g c =
+    let bytes = c.args.bytes.now in
+    let written = c.loop-written.written in
+    let whole : take (length bytes - written) (drop written bytes) ≡ drop written bytes =
+    take_all _ _ (omega (arith, length-drop written bytes)) in
+    let part = rw whole at c.in-Err.ensures.part in
+    (written + part.0, line_more written part.0 bytes _ _ _ c.loop-written.invariant.out part.1)

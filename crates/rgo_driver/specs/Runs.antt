@@ -1,0 +1,45 @@
+-- Runs: how a run may end, and what it has given out by then.
+use Rattle.std.specs.Prelude.{◌≡◌, ◌≤◌, ◌<◌, ℕ, max, List, ◌++◌, concat, length, take, Option, Some, None, ⊤}
+use Rattle.std.specs.Io.KnownBytes.{Appends}
+use Rattle.rgo_machine.specs.declared.limits.Limits.{Limits}
+use Rattle.rgo_machine.specs.declared.picks.Pick.{Pick}
+use Rattle.rgo_machine.specs.Deadlocks.{IsDeadlock}
+use Rattle.rgo_machine.specs.Limits.{LeadsWithin, IsTooDeep, IsFull}
+use Rattle.rgo_machine.specs.Machines.{Machine, State}
+use Rattle.rgo_driver.specs.declared.ends.RunEnd.{RunEnd}
+use Rattle.rgo_driver.specs.declared.ends.RunEnd.TheVariants as run_end
+use Rattle.rgo_driver.specs.Rounds.{AreRounds, IsBegunRound}
+
+-- why a run ended so in a state, after so many steps, of which so many were taken before its last round
+abbrev pub Ends : {F : Type 0} → Machine F → Limits → (before steps : ℕ) → State F → RunEnd → Type 0
+Ends machine limits before steps s (run_end.Ended e) = s.ended ≡ Some e
+Ends machine limits before steps s run_end.Deadlock = IsDeadlock machine s
+Ends machine limits before steps s run_end.CallsTooDeep = (s.ended ≡ None) × IsTooDeep machine s
+Ends machine limits before steps s run_end.StepsSpent =
+    (s.ended ≡ None) × (limits.steps ≤ steps) × (before < max 1 limits.steps)
+Ends machine limits before steps s run_end.GoroutinesSpent = (s.ended ≡ None) × IsFull machine limits s
+Ends machine limits before steps s run_end.WriteFault = ⊤
+Ends machine limits before steps s run_end.NoMemory = ⊤
+
+-- the first bytes of these were added, some or all
+abbrev pub AppendsSome : Option (List ℕ) → Option (List ℕ) → List ℕ → Type 0
+AppendsSome old new bytes = (n : ℕ) × Appends old new (take n bytes)
+
+-- the whole print was given out; some of it where a write failed
+abbrev pub Gives : RunEnd → List ℕ → Option (List ℕ) → Option (List ℕ) → Type 0
+Gives run_end.WriteFault print old new = AppendsSome old new print
+Gives _ print old new = Appends old new print
+
+-- some run from a state ends so, in rounds and within the limits, and its print was given out
+pub record Runs
+    {F : Type 0} (machine : Machine F) (limits : Limits) (start : State F) (end : RunEnd) (old new : Option (List ℕ))
+    : Type 0 where
+  -- the steps of the rounds before the last, and of the last
+  pub rounds : List (List Pick)
+  pub last : List Pick
+  pub begun state : State F
+  pub went : AreRounds machine limits start rounds begun
+  pub goes : IsBegunRound machine limits begun last state
+  pub ran : LeadsWithin machine limits start (concat rounds ++ last) state
+  pub ends : Ends machine limits (length (concat rounds)) (length (concat rounds ++ last)) state end
+  pub gives : Gives end state.printed old new

@@ -1,0 +1,57 @@
+//! What a run has printed goes out line by line.
+
+ghost use Rattle.std.specs.Prelude.{◌≤◌, ◌<◌, length, take, IfOk, OnOk, OnErr};
+ghost use Rattle.std.specs.Io.KnownBytes.{Appends};
+ghost use Rattle.rgo_outside.specs.Causes.{Rose};
+ghost use Rattle.rgo_driver.specs.Runs.{AppendsSome};
+
+use rgo_outside::{Failed, Sink, write_all};
+
+/// The length of the first line, with its newline; of all bytes where there is none.
+fn line_length(bytes: &[u8]) -> usize
+    requires { 0 < length bytes.now }
+    ensures some { 0 < result }
+    ensures within { result ≤ length bytes.now }
+{
+    match bytes.iter().position(|b| *b == b'\n') {
+        Some(at) => at + 1,
+        None => bytes.len(),
+    }
+}
+
+/// Writes the first line of the bytes in one piece, and answers its length.
+fn write_line<K: Sink>(bytes: &[u8], out: &mut K) -> Result<usize, Failed>
+    requires { 0 < length bytes.now }
+    ensures line { IfOk result (λ n. (0 < n) × (n ≤ length bytes.now)
+        × Appends (K.contents out.old) (K.contents out.new) (take n bytes.now)) }
+    ensures part { OnErr result (AppendsSome (K.contents out.old) (K.contents out.new) bytes.now) }
+    ensures fault { OnErr result (Rose (K.faults out.old) (K.faults out.new)) }
+    ensures later { K.faults out.old ≤ K.faults out.new }
+{
+    let count = line_length(bytes);
+    match write_all(out, &bytes[..count]) {
+        Ok(()) => Ok(count),
+        Err(_) => Err(Failed),
+    }
+}
+
+/// Writes the bytes, each line in one piece.
+///
+/// # Errors
+///
+/// Where a write failed. Nothing more was written then.
+pub(crate) fn write_lines<K: Sink>(bytes: &[u8], out: &mut K) -> Result<(), Failed>
+    ensures whole { OnOk result (Appends (K.contents out.old) (K.contents out.new) bytes.now) }
+    ensures part { OnErr result (AppendsSome (K.contents out.old) (K.contents out.new) bytes.now) }
+    ensures fault { OnErr result (Rose (K.faults out.old) (K.faults out.new)) }
+    ensures later { K.faults out.old ≤ K.faults out.new }
+{
+    let mut written = 0;
+    while written < bytes.len() {
+        match write_line(&bytes[written..], out) {
+            Ok(count) => written += count,
+            Err(_) => return Err(Failed),
+        }
+    }
+    Ok(())
+}

@@ -1,0 +1,33 @@
+//! Runs, round by round.
+
+ghost use Rattle.std.specs.Prelude.{◌≡◌, ◌≤◌, true, None};
+ghost use Rattle.rgo_outside.specs.Causes.{Rose};
+ghost use Rattle.rgo_machine.specs.Limits.{is_within};
+ghost use Rattle.rgo_driver.specs.Runs.{Runs};
+
+use crate::ends::RunEnd;
+use rgo_machine::{Limits, Machine, State};
+use rgo_outside::Sink;
+use std::alloc::Global;
+
+/// Runs a machine from a state, in rounds: in each, every goroutine that can step has a turn of up to 1,000 steps. What
+/// a goroutine printed goes out after its turn, each line in one piece. After a failed write nothing more is written.
+///
+/// Answers how the run ended. Whether the limit of steps is reached is seen at the end of a round; the other limits are
+/// looked at before each step. Where memory runs out, what went out is the whole print of a shorter run.
+pub fn run<M: Machine, K: Sink>(
+    alloc: Global,
+    machine: &M,
+    state: State<M::Frame>,
+    limits: Limits,
+    out: &mut K,
+) -> RunEnd
+    requires running { state.entry.ended ≡ None }
+    requires within { is_within limits state.entry ≡ true }
+    requires silent { state.entry.printed ≡ [] }
+    ensures runs { Runs (M.machine machine.now) limits state.entry result (K.contents out.old) (K.contents out.new) }
+    ensures fault { result ≡ RunEnd.WriteFault → Rose (K.faults out.old) (K.faults out.new) }
+    ensures later { K.faults out.old ≤ K.faults out.new }
+{
+    RunEnd::NoMemory
+}

@@ -1,0 +1,60 @@
+-- What limits a run, and the runs within the limits.
+use Rattle.std.specs.Prelude.{◌≡◌, ◌≤◌, ℕ, max, Bool, ◌&&◌, nat_le, List, [], ◌∷◌, length, Option, Some, None, slice_get}
+use Rattle.std.specs.Prelude.{if◌then◌else◌, option_and_then}
+use Rattle.std.specs.List.{list_all}
+use Rattle.rgo_machine.specs.declared.limits.Limits.{Limits}
+use Rattle.rgo_machine.specs.declared.picks.Pick.{Pick}
+use Rattle.rgo_machine.specs.Machines.{Machine, State, Stand, AtCall, AtStart, step_by}
+use Rattle.rgo_machine.specs.Runs.{Leads}
+
+-- the most frames of a goroutine
+abbrev pub deepest : ℕ
+deepest = 100000
+
+-- the most goroutines of a run, those that have returned included; there is always `main`
+abbrev pub most_goroutines : Limits → ℕ
+most_goroutines limits = max 1 limits.goroutines
+
+module _ {F : Type 0} where
+  abbrev pub has_room : List F → Bool
+  has_room frames = nat_le (length frames) deepest
+
+  abbrev pub is_within : Limits → State F → Bool
+  is_within limits s = nat_le (length s.goroutines) (most_goroutines limits) && list_all has_room s.goroutines
+
+  abbrev pub if_within : Limits → State F → Option (State F)
+  if_within limits s = if is_within limits s then Some s else None
+
+  -- the steps that stay within the limits
+  abbrev pub limited_step : Machine F → Limits → State F → Pick → Option (State F)
+  limited_step machine limits s pick = option_and_then (if_within limits) (step_by machine s pick)
+
+  -- the picks lead from the one state to the other, always within the limits
+  abbrev pub LeadsWithin : Machine F → Limits → State F → List Pick → State F → Type 0
+  LeadsWithin machine limits s picks t = Leads (limited_step machine limits) s picks t
+
+  abbrev pub IsAtCall : Stand F → Type 0
+  IsAtCall (AtCall next callee) = Unit {0}
+  IsAtCall _ = ⊥
+
+  abbrev pub IsAtStart : Stand F → Type 0
+  IsAtStart (AtStart next child) = Unit {0}
+  IsAtStart _ = ⊥
+
+  -- some goroutine has 100,000 frames, and stands before a call
+  pub record IsTooDeep (machine : Machine F) (s : State F) : Type 0 where
+    pub goroutine : ℕ
+    pub frame : F
+    pub callers : List F
+    pub frames : slice_get s.goroutines goroutine ≡ Some (frame ∷ callers)
+    pub deep : length (frame ∷ callers) ≡ deepest
+    pub calls : IsAtCall (machine.stand frame)
+
+  -- there are as many goroutines as there may be, and some goroutine stands before the start of another
+  pub record IsFull (machine : Machine F) (limits : Limits) (s : State F) : Type 0 where
+    pub full : length s.goroutines ≡ most_goroutines limits
+    pub goroutine : ℕ
+    pub frame : F
+    pub callers : List F
+    pub frames : slice_get s.goroutines goroutine ≡ Some (frame ∷ callers)
+    pub starts : IsAtStart (machine.stand frame)

@@ -1,0 +1,37 @@
+-- Turns: up to n steps of one goroutine in a row.
+use Rattle.std.specs.Prelude.{◌≡◌, ◌≤◌, ◌<◌, ℕ, List, replicate, Option, Some, None}
+use Rattle.rgo_memory.specs.Channels.{SameChannels, SameChannelsBut}
+use Rattle.rgo_memory.specs.Memory.{Memory}
+use Rattle.rgo_machine.specs.declared.limits.Limits.{Limits}
+use Rattle.rgo_machine.specs.declared.picks.Pick.TheVariants.{One}
+use Rattle.rgo_machine.specs.declared.turns.Stop.{Stop}
+use Rattle.rgo_machine.specs.declared.turns.Stop.TheVariants as stop
+use Rattle.rgo_machine.specs.declared.turns.Turned.{Turned}
+use Rattle.rgo_machine.specs.Limits.{LeadsWithin, IsTooDeep, IsFull}
+use Rattle.rgo_machine.specs.Machines.{Machine, State, step_by}
+
+module _ {F : Type 0} where
+  -- why a turn of at most so many steps is over in a state, after so many steps
+  abbrev pub IsOver : Machine F → Limits → State F → ℕ → (at_most steps : ℕ) → Stop → Type 0
+  IsOver machine limits t g at_most steps stop.Spent = (t.ended ≡ None) × (steps ≡ at_most)
+  IsOver machine limits t g at_most steps stop.Waits = (t.ended ≡ None) × (step_by machine t (One g) ≡ None)
+  IsOver machine limits t g at_most steps stop.Printed = (t.ended ≡ None) × (0 < steps)
+  IsOver machine limits t g at_most steps (stop.Operated channel) = (t.ended ≡ None) × (0 < steps)
+  IsOver machine limits t g at_most steps (stop.Ended e) = (t.ended ≡ Some e) × (0 < steps)
+  IsOver machine limits t g at_most steps stop.TooDeep = (t.ended ≡ None) × IsTooDeep machine t
+  IsOver machine limits t g at_most steps stop.Full = (t.ended ≡ None) × IsFull machine limits t
+  IsOver machine limits t g at_most steps stop.NoMemory = t.ended ≡ None
+
+-- which channels a turn has changed: at most one, that which it tells of
+abbrev pub ChangesChannels : Stop → Memory → Memory → Type 0
+ChangesChannels (stop.Operated channel) before after = SameChannelsBut channel before after
+ChangesChannels _ before after = SameChannels before after
+
+-- a turn of a goroutine from one state to another
+pub record Turns
+    {F : Type 0} (machine : Machine F) (limits : Limits) (s t : State F) (g at_most : ℕ) (turned : Turned)
+    : Type 0 where
+  pub leads : LeadsWithin machine limits s (replicate turned.steps (One g)) t
+  pub within : turned.steps ≤ at_most
+  pub over : IsOver machine limits t g at_most turned.steps turned.stop
+  pub channels : ChangesChannels turned.stop s.memory t.memory

@@ -1,0 +1,67 @@
+-- What the operators give for values. An operator gives nil for values that it does not take.
+use Rattle.std.specs.Prelude.{Bool, true, false, not, ℤ, pos, int_lt, int_le, int_rem, ◌==◌, if◌then◌else◌}
+use Rattle.std.specs.Int.{w64, int_wrapping_add, int_wrapping_sub, int_wrapping_mul, int_wrapping_div, int_wrapping_neg}
+use Rattle.std.specs.Ordering.{int_eq}
+use Rattle.std.specs.Prelude.{Result, Ok, Err}
+use Rattle.rgo_ast.specs.declared.ops.BinaryOp.{BinaryOp}
+use Rattle.rgo_ast.specs.declared.ops.BinaryOp.TheVariants.{Mul, Div, Rem, Add, Sub, Eq, Ne, Lt, Le, Gt, Ge}
+use Rattle.rgo_memory.specs.declared.values.Value.{Value}
+use Rattle.rgo_memory.specs.declared.values.Value.TheVariants as value
+use Rattle.rgo_memory.specs.declared.traps.Trap.{Trap}
+use Rattle.rgo_memory.specs.declared.traps.Trap.TheVariants.{DivideZero}
+
+-- `==` and `!=`, from whether the values are equal
+abbrev pub is_equal : BinaryOp → Bool → Value
+is_equal Eq same = value.Bool same
+is_equal Ne same = value.Bool (not same)
+is_equal _ same = value.Nil
+
+abbrev pub int : ℤ → Result Value Trap
+int z = Ok (value.Int z)
+
+abbrev pub truth : Bool → Result Value Trap
+truth b = Ok (value.Bool b)
+
+-- by y
+abbrev pub divided : ℤ → ℤ → Result Value Trap
+divided y z = if int_eq y (pos 0) then Err DivideZero else int z
+
+-- a quotient and a remainder are truncated towards zero
+abbrev pub on_ints : BinaryOp → ℤ → ℤ → Result Value Trap
+on_ints Add x y = int (int_wrapping_add w64 x y)
+on_ints Sub x y = int (int_wrapping_sub w64 x y)
+on_ints Mul x y = int (int_wrapping_mul w64 x y)
+on_ints Div x y = divided y (int_wrapping_div w64 x y)
+on_ints Rem x y = divided y (int_rem x y)
+on_ints Lt x y = truth (int_lt x y)
+on_ints Le x y = truth (int_le x y)
+on_ints Gt x y = truth (int_lt y x)
+on_ints Ge x y = truth (int_le y x)
+on_ints op x y = Ok (is_equal op (int_eq x y))
+
+abbrev pub same_bool : Bool → Bool → Bool
+same_bool true b = b
+same_bool false b = not b
+
+abbrev pub binary_of : BinaryOp → Value → Value → Result Value Trap
+binary_of op (value.Int x) (value.Int y) = on_ints op x y
+binary_of op (value.Bool a) (value.Bool b) = Ok (is_equal op (same_bool a b))
+binary_of op (value.Object m) (value.Object n) = Ok (is_equal op (m == n))
+binary_of op value.Nil value.Nil = Ok (is_equal op true)
+binary_of op value.Nil (value.Object n) = Ok (is_equal op false)
+binary_of op (value.Object m) value.Nil = Ok (is_equal op false)
+binary_of op _ _ = Ok value.Nil
+
+abbrev pub negated : Value → Value
+negated (value.Int x) = value.Int (int_wrapping_neg w64 x)
+negated _ = value.Nil
+
+abbrev pub inverted : Value → Value
+inverted (value.Bool b) = value.Bool (not b)
+inverted _ = value.Nil
+
+-- `x == nil`
+abbrev pub nil_test : Value → Value
+nil_test value.Nil = value.Bool true
+nil_test (value.Object n) = value.Bool false
+nil_test _ = value.Nil

@@ -1,4 +1,0 @@
-pub mod Operators
-pub mod Shown
-pub mod Traps
-pub mod Values
