@@ -1,5 +1,5 @@
 -- Deadlocks: the run has not ended, and no pick has a step.
-use Rattle.std.specs.Prelude.{◌≡◌, ◌⊎◌, ℕ, List, [], ◌∷◌, Some, None, slice_get}
+use Rattle.std.specs.Prelude.{◌≡◌, ℕ, List, [], ◌∷◌, Some, None, slice_get}
 use Rattle.rgo_memory.specs.Channels.{receive, send}
 use Rattle.rgo_memory.specs.Memory.{Memory}
 use Rattle.rgo_machine.specs.Machines.{Machine, State, Stand, AtReceive, AtSend, step_by}

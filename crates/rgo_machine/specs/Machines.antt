@@ -4,7 +4,6 @@ use Rattle.std.specs.Prelude.{ℕ, zero, suc, ◌==◌, List, [], ◌∷◌, ◌
 use Rattle.std.specs.Prelude.{if◌then◌else◌, option_and_then}
 use Rattle.std.specs.Option.{option_map}
 use Rattle.rgo_memory.specs.declared.values.Value.{Value}
-use Rattle.rgo_memory.specs.declared.values.Value.TheVariants.{Nil}
 use Rattle.rgo_memory.specs.declared.traps.Trap.{Trap}
 use Rattle.rgo_memory.specs.Channels.{receive, send, close, meets_at}
 use Rattle.rgo_memory.specs.Effects.{Effect, Does}

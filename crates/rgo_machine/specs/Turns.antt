@@ -1,5 +1,5 @@
 -- Turns: up to n steps of one goroutine in a row.
-use Rattle.std.specs.Prelude.{◌≡◌, ◌≤◌, ◌<◌, ℕ, List, replicate, Option, Some, None}
+use Rattle.std.specs.Prelude.{◌≡◌, ◌≤◌, ◌<◌, ℕ, replicate, Some, None}
 use Rattle.rgo_memory.specs.Channels.{SameChannels, SameChannelsBut}
 use Rattle.rgo_memory.specs.Memory.{Memory}
 use Rattle.rgo_machine.specs.declared.limits.Limits.{Limits}

@@ -8,7 +8,10 @@ use std::alloc::{AllocError, Global};
 #[derive(Clone, Copy, Debug, PartialEq, Eq)]
 pub enum Stand {
     /// Before a receive from this channel. A closed channel gives `blank`.
-    Receive { channel: Value, blank: Value },
+    Receive {
+        channel: Value,
+        blank: Value,
+    },
     /// Before a send of the value to this channel, at this place of the text.
     Send {
         channel: Value,
@@ -16,7 +19,10 @@ pub enum Stand {
         place: Place,
     },
     /// Before a close of this channel.
-    Close { channel: Value, place: Place },
+    Close {
+        channel: Value,
+        place: Place,
+    },
     /// Before the call of a function.
     Call,
     /// Before the start of a goroutine.

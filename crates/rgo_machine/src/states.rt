@@ -58,7 +58,7 @@ impl<F: Drop> State<F> {
     ///
     /// On allocation failure.
     pub fn new(alloc: Global, memory: Memory, main: Option<F>) -> Result<State<F>, AllocError>
-        ensures { IfOk result (λ s. s ≡ start_of (memory_of memory.entry) (option_to_list main.entry)) }
+        ensures { IfOk result (λ s. s ≡ start_of (memory_of memory) (option_to_list main)) }
     {
         let mut frames = Vec::new(alloc);
         if let Some(frame) = main {
@@ -96,11 +96,22 @@ impl<F: Drop> State<F> {
     }
 }
 
+/// Where the newest frame of a goroutine stands; `None` where it has returned.
+fn newest_stand<M: Machine>(machine: &M, goroutine: &Goroutine<M::Frame>) -> Option<Stand>
+    ensures { result ≡ acting.newest_stand (M.machine machine.now) goroutine.now }
+{
+    match goroutine.frames.last() {
+        Some(frame) => Some(machine.stand(frame)),
+        None => None,
+    }
+}
+
 /// Where a goroutine stands: `None` where it has returned, or does not exist.
 pub fn standing<M: Machine>(machine: &M, state: &State<M::Frame>, g: usize) -> Option<Stand>
     ensures { result ≡ acting.standing (M.machine machine.now) state.now g }
 {
-    let goroutine = state.goroutines.get(g)?;
-    let frame = goroutine.frames.last()?;
-    Some(machine.stand(frame))
+    match state.goroutines.get(g) {
+        Some(goroutine) => newest_stand(machine, goroutine),
+        None => None,
+    }
 }

@@ -11,9 +11,9 @@ use crate::elements::{element_at, length_of, put};
 use crate::fields::{load, store};
 use crate::making::{new_channel, new_slice, new_struct};
 use crate::memory::Memory;
-use rgo_typed::{Action, Struct, Type};
 use crate::operators::{binary, inverted, is_nil, negated};
 use crate::values::Value;
+use rgo_typed::{Action, Struct, Type};
 use std::alloc::{AllocError, Global};
 
 fn set_variable(memory: &mut Memory, number: usize, value: Value) -> Effect

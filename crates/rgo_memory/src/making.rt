@@ -9,9 +9,9 @@ ghost use Rattle.rgo_memory.specs.Views.{Performs, object_of, memory_of};
 use crate::effects::Effect;
 use crate::memory::Memory;
 use crate::objects::{Channel, Object};
-use rgo_typed::{Struct, Type};
 use crate::traps::Trap;
 use crate::values::{Value, element_zero, zero};
+use rgo_typed::{Struct, Type};
 use std::alloc::{AllocError, Global};
 use std::collections::VecDeque;
 

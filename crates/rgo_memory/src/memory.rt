@@ -6,8 +6,8 @@ ghost use Rattle.rgo_memory.specs.Opening.{opening};
 ghost use Rattle.rgo_memory.specs.Views.{memory_of};
 
 use crate::objects::Object;
-use rgo_typed::Variable;
 use crate::values::{Value, zero};
+use rgo_typed::Variable;
 use std::alloc::{AllocError, Global};
 
 /// The objects that were made, each numbered by its position, and the package variables. No object

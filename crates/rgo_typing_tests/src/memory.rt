@@ -3,22 +3,40 @@
 use crate::checks::same;
 use crate::typed_trees::{name_of, two, ty};
 use rgo_ast::BinaryOp;
-use rgo_memory::{Effect, Memory, meets_at, perform};
-use rgo_typed::{Action, Base, Layer, Row, Struct, Variable};
-use rgo_memory::{Trap, Value};
+use rgo_memory::{Effect, Memory, Trap, Value, close, meets_at, perform, receive, send, zero};
+use rgo_typed::{Action, Base, Layer, Row, Struct, Type, Variable};
 use std::alloc::Global;
 use std::process::Abort;
 use std::test::Fail;
 
-type Step<'a> = (Action, &'a [Value], Effect);
+type Step<'a> = (Action, &'a [Value], Option<Effect>);
 
 /// The effect of an action without a value.
-const DONE: Effect = Effect::Gives(Value::Nil);
+const DONE: Option<Effect> = Some(Effect::Gives(Value::Nil));
+
+/// The answer of an operation on a channel that is not ready.
+const WAITS: Option<Effect> = None;
 
 const NIL: Value = Value::Nil;
 
 /// The object that is made first.
 const FIRST: Value = Value::Object(0);
+
+/// What an action does, the operations on channels among them.
+fn done(
+    alloc: Global,
+    memory: &mut Memory,
+    ty: &Type,
+    action: Action,
+    operands: &[Value],
+) -> Result<Option<Effect>, Fail> {
+    match (action, operands) {
+        (Action::Recv, [channel]) => Ok(receive(memory, *channel, zero(ty))),
+        (Action::Send, [channel, value]) => Ok(send(memory, *channel, *value)?),
+        (Action::Close, [channel]) => Ok(Some(close(memory, *channel))),
+        _ => Ok(Some(perform(alloc, memory, &[], action, ty, operands)?)),
+    }
+}
 
 /// Performs the actions one after another, and compares their effects. `layers` and `base` are the
 /// type of each result.
@@ -31,7 +49,7 @@ fn steps_hold<R: Abort + AllocGlobal>(
 ) -> Result<(), Fail> {
     let ty = ty(rt.alloc(), layers, base)?;
     for (action, operands, expected) in steps {
-        let effect = perform(rt.alloc(), memory, &[], *action, &ty, *operands)?;
+        let effect = done(rt.alloc(), memory, &ty, *action, *operands)?;
         same(rt, "an action", &effect, expected);
     }
     Ok(())
@@ -41,33 +59,33 @@ static FIRST_IN_FIRST_OUT: [Step<'static>; 16] = [
     (
         Action::Chan,
         &[Value::Int(-1)],
-        Effect::Traps(Trap::BadSize),
+        Some(Effect::Traps(Trap::BadSize)),
     ),
-    (Action::Chan, &[Value::Int(2)], Effect::Gives(FIRST)),
-    (Action::Recv, &[FIRST], Effect::Waits),
+    (Action::Chan, &[Value::Int(2)], Some(Effect::Gives(FIRST))),
+    (Action::Recv, &[FIRST], WAITS),
     (Action::Send, &[FIRST, Value::Int(7)], DONE),
     (Action::Send, &[FIRST, Value::Int(8)], DONE),
-    (Action::Send, &[FIRST, Value::Int(9)], Effect::Waits),
-    (Action::Recv, &[FIRST], Effect::Gives(Value::Int(7))),
+    (Action::Send, &[FIRST, Value::Int(9)], WAITS),
+    (Action::Recv, &[FIRST], Some(Effect::Gives(Value::Int(7)))),
     (Action::Send, &[FIRST, Value::Int(9)], DONE),
     (Action::Close, &[FIRST], DONE),
-    (Action::Close, &[FIRST], Effect::Traps(Trap::CloseClosed)),
+    (Action::Close, &[FIRST], Some(Effect::Traps(Trap::CloseClosed))),
     (
         Action::Send,
         &[FIRST, Value::Int(6)],
-        Effect::Traps(Trap::SendClosed),
+        Some(Effect::Traps(Trap::SendClosed)),
     ),
-    (Action::Recv, &[FIRST], Effect::Gives(Value::Int(8))),
-    (Action::Recv, &[FIRST], Effect::Gives(Value::Int(9))),
-    (Action::Recv, &[FIRST], Effect::Gives(Value::Int(0))),
-    (Action::Recv, &[FIRST], Effect::Gives(Value::Int(0))),
-    (Action::IsNil, &[FIRST], Effect::Gives(Value::Bool(false))),
+    (Action::Recv, &[FIRST], Some(Effect::Gives(Value::Int(8)))),
+    (Action::Recv, &[FIRST], Some(Effect::Gives(Value::Int(9)))),
+    (Action::Recv, &[FIRST], Some(Effect::Gives(Value::Int(0)))),
+    (Action::Recv, &[FIRST], Some(Effect::Gives(Value::Int(0)))),
+    (Action::IsNil, &[FIRST], Some(Effect::Gives(Value::Bool(false)))),
 ];
 
 static CHANNELS_THAT_ARE_NIL: [Step<'static>; 3] = [
-    (Action::Recv, &[NIL], Effect::Waits),
-    (Action::Send, &[NIL, Value::Int(1)], Effect::Waits),
-    (Action::Close, &[NIL], Effect::Traps(Trap::CloseNil)),
+    (Action::Recv, &[NIL], WAITS),
+    (Action::Send, &[NIL, Value::Int(1)], WAITS),
+    (Action::Close, &[NIL], Some(Effect::Traps(Trap::CloseNil))),
 ];
 
 #[test]
@@ -81,9 +99,9 @@ const SECOND: Value = Value::Object(1);
 
 /// A channel without a buffer, and one with.
 static MADE: [Step<'static>; 3] = [
-    (Action::Chan, &[Value::Int(0)], Effect::Gives(FIRST)),
-    (Action::Send, &[FIRST, Value::Int(1)], Effect::Waits),
-    (Action::Chan, &[Value::Int(1)], Effect::Gives(SECOND)),
+    (Action::Chan, &[Value::Int(0)], Some(Effect::Gives(FIRST))),
+    (Action::Send, &[FIRST, Value::Int(1)], WAITS),
+    (Action::Chan, &[Value::Int(1)], Some(Effect::Gives(SECOND))),
 ];
 
 static CLOSED: [Step<'static>; 1] = [(Action::Close, &[FIRST], DONE)];
@@ -121,14 +139,14 @@ static ELEMENTS: [Step<'static>; 12] = [
     (
         Action::Slice,
         &[Value::Int(-1)],
-        Effect::Traps(Trap::BadSize),
+        Some(Effect::Traps(Trap::BadSize)),
     ),
-    (Action::Slice, &[Value::Int(3)], Effect::Gives(FIRST)),
-    (Action::Len, &[FIRST], Effect::Gives(Value::Int(3))),
+    (Action::Slice, &[Value::Int(3)], Some(Effect::Gives(FIRST))),
+    (Action::Len, &[FIRST], Some(Effect::Gives(Value::Int(3)))),
     (
         Action::At,
         &[FIRST, Value::Int(2)],
-        Effect::Gives(Value::Bool(false)),
+        Some(Effect::Gives(Value::Bool(false))),
     ),
     (
         Action::Put,
@@ -138,33 +156,33 @@ static ELEMENTS: [Step<'static>; 12] = [
     (
         Action::At,
         &[FIRST, Value::Int(2)],
-        Effect::Gives(Value::Bool(true)),
+        Some(Effect::Gives(Value::Bool(true))),
     ),
     (
         Action::At,
         &[FIRST, Value::Int(1)],
-        Effect::Gives(Value::Bool(false)),
+        Some(Effect::Gives(Value::Bool(false))),
     ),
     (
         Action::At,
         &[FIRST, Value::Int(3)],
-        Effect::Traps(Trap::IndexRange),
+        Some(Effect::Traps(Trap::IndexRange)),
     ),
     (
         Action::At,
         &[FIRST, Value::Int(-1)],
-        Effect::Traps(Trap::IndexRange),
+        Some(Effect::Traps(Trap::IndexRange)),
     ),
     (
         Action::Put,
         &[FIRST, Value::Int(3), NIL],
-        Effect::Traps(Trap::IndexRange),
+        Some(Effect::Traps(Trap::IndexRange)),
     ),
-    (Action::Len, &[NIL], Effect::Gives(Value::Int(0))),
+    (Action::Len, &[NIL], Some(Effect::Gives(Value::Int(0)))),
     (
         Action::At,
         &[NIL, Value::Int(0)],
-        Effect::Traps(Trap::IndexRange),
+        Some(Effect::Traps(Trap::IndexRange)),
     ),
 ];
 
@@ -185,15 +203,15 @@ fn a_slice_needs_memory_for_its_elements(rt: HostRuntime) -> Result<(), Fail> {
 }
 
 static FIELDS: [Step<'static>; 6] = [
-    (Action::Load(0), &[FIRST], Effect::Gives(Value::Int(0))),
+    (Action::Load(0), &[FIRST], Some(Effect::Gives(Value::Int(0)))),
     (Action::Store(1), &[FIRST, FIRST], DONE),
-    (Action::Load(0), &[FIRST], Effect::Gives(Value::Int(0))),
-    (Action::Load(1), &[FIRST], Effect::Gives(FIRST)),
-    (Action::Load(0), &[NIL], Effect::Traps(Trap::NilPointer)),
+    (Action::Load(0), &[FIRST], Some(Effect::Gives(Value::Int(0)))),
+    (Action::Load(1), &[FIRST], Some(Effect::Gives(FIRST))),
+    (Action::Load(0), &[NIL], Some(Effect::Traps(Trap::NilPointer))),
     (
         Action::Store(0),
         &[NIL, Value::Int(1)],
-        Effect::Traps(Trap::NilPointer),
+        Some(Effect::Traps(Trap::NilPointer)),
     ),
 ];
 
@@ -219,21 +237,21 @@ fn fields_are_read_and_written(rt: HostRuntime) -> Result<(), Fail> {
 }
 
 static VARIABLES: [Step<'static>; 9] = [
-    (Action::Get(0), &[], Effect::Gives(Value::Int(0))),
+    (Action::Get(0), &[], Some(Effect::Gives(Value::Int(0)))),
     (Action::Set(0), &[Value::Int(5)], DONE),
-    (Action::Get(0), &[], Effect::Gives(Value::Int(5))),
-    (Action::Int(-3), &[], Effect::Gives(Value::Int(-3))),
-    (Action::Copy, &[Value::Int(4)], Effect::Gives(Value::Int(4))),
-    (Action::Neg, &[Value::Int(4)], Effect::Gives(Value::Int(-4))),
+    (Action::Get(0), &[], Some(Effect::Gives(Value::Int(5)))),
+    (Action::Int(-3), &[], Some(Effect::Gives(Value::Int(-3)))),
+    (Action::Copy, &[Value::Int(4)], Some(Effect::Gives(Value::Int(4)))),
+    (Action::Neg, &[Value::Int(4)], Some(Effect::Gives(Value::Int(-4)))),
     (
         Action::Binary(BinaryOp::Sub),
         &[Value::Int(4), Value::Int(6)],
-        Effect::Gives(Value::Int(-2)),
+        Some(Effect::Gives(Value::Int(-2))),
     ),
     (
         Action::Binary(BinaryOp::Rem),
         &[Value::Int(4), Value::Int(0)],
-        Effect::Traps(Trap::DivideZero),
+        Some(Effect::Traps(Trap::DivideZero)),
     ),
     // Too few operands.
     (Action::Neg, &[], DONE),

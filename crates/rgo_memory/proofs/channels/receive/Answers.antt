@@ -1,10 +1,11 @@
-use Rattle.rgo_memory.proofs.InPlace.{changed, not_there}
+use Rattle.rgo_memory.proofs.InPlace.{changed_if_ready, none_ready}
 use Rattle.rgo_memory.proofs.channels.receive.Goals as goal
 
 pub returns-in-Some : goal.returns-in-Some
 returns-in-Some c =
     let item = c.in-Some.ensures.item in
-    rw c.in-Object.is (changed _ c.args.memory.now _ c.in-Some.object.now _ _ item.3.0 item.1 c.receive_from.ensures)
+    rw c.in-Object.is
+    (changed_if_ready _ c.args.memory.now _ c.in-Some.object.now _ _ item.3.0 item.1 c.receive_from.ensures)
 
 pub returns-in-None : goal.returns-in-None
-returns-in-None c = rw c.in-Object.is (not_there c.args.memory.now _ _ c.in-None.ensures.item.3)
+returns-in-None c = rw c.in-Object.is (none_ready c.args.memory.now _ _ c.in-None.ensures.item.3)
