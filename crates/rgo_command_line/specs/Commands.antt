@@ -1,4 +1,4 @@
--- What the words of a command line ask for, and what a reader of them answers.
+-- What the words of a command line ask for, and what a reader of them returns.
 use Rattle.std.specs.Prelude.{⊤, ◌≡◌, Bool, true, false, List, [], ◌∷◌, Option, Some, None, Result, MatchResult, codes}
 use Rattle.std.specs.Prelude.{if◌then◌else◌, option_and_then, option_map}
 use Rattle.std.specs.Str.{bytes_eq}
@@ -33,7 +33,7 @@ is_refused words = has_fault (fault_of parser words)
 abbrev pub command_of : List Text → Option Command
 command_of words = if is_refused words then None else command_met (subcommand_of parser words)
 
--- the answer is what the words ask for, and `Usage` only where they ask for nothing
+-- the command that the words ask for is returned, and `Usage` only where they ask for nothing
 abbrev pub Reads : List Text → Result Command WordsError → Type 0
 Reads words answer = MatchResult answer
     (λ command. command_of words ≡ Some command)

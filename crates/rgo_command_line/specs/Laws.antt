@@ -28,7 +28,7 @@ SetLimits limits words = (steps goroutines : Option Text)
 abbrev pub IsEnd : List Text → Type 0
 IsEnd words = (words ≡ []) ⊎ (words ≡ codes "--" ∷ [])
 
--- any name of the program, the command's name, its options, and nothing or a `--` behind them
+-- any name of the program, the command's name, its options, and nothing or a `--` after them
 abbrev pub AreWordsOf : Command → List Text → Type 0
 AreWordsOf (Run limits) words = (program : Text) × (options ending : List Text)
     × SetLimits limits options × IsEnd ending
@@ -41,11 +41,11 @@ abbrev pub AskExactly : Type 0
 AskExactly = (words : List Text) (command : Command)
     → (command_of words ≡ Some command) ↔ AreWordsOf command words
 
--- behind any name of the program these words ask for this
+-- after any name of the program these words ask for this
 abbrev pub Ask : List Text → Option Command → Type 0
 Ask words wanted = (program : Text) → command_of (program ∷ words) ≡ wanted
 
--- behind any name of the program these words ask for a run with these limits
+-- after any name of the program these words ask for a run with these limits
 abbrev pub AskForRun : List Text → Limits → Type 0
 AskForRun words limits = Ask (codes "run" ∷ words) (Some (Run limits))
 

@@ -19,7 +19,7 @@ pub record LieInBounds (limits : Limits) : Type 0 where
   pub steps : LiesIn step_bounds limits.steps
   pub goroutines : LiesIn goroutine_bounds limits.goroutines
 
--- the limit that an option sets by its value, or by not standing in the words
+-- the limit that an option sets by its value; the default without one
 abbrev pub limit_by : Bounds → Option Text → Option ℕ
 limit_by bounds None = Some bounds.default
 limit_by bounds (Some text) = within bounds.least bounds.most (number_of text)

@@ -1,4 +1,4 @@
-//! What the words of a command line ask for.
+//! The command that the words of a command line ask for.
 
 ghost use Rattle.std.specs.Prelude.{◌≡◌, IfOk, IfSome, map, string_bytes};
 ghost use Rattle.clap.specs.Words.{found_of, rows_of, subcommand_rows_of};
@@ -15,16 +15,16 @@ use thiserror::Error;
 /// What the program is asked to do.
 #[derive(Clone, Copy, Debug, PartialEq, Eq)]
 pub enum Command {
-    /// `run`: reads a text and runs it, within these limits.
+    /// `run`: reads a text and runs its program, within these limits.
     Run(Limits),
-    /// `check`: reads a text and judges it.
+    /// `check`: reads a text and checks it.
     Check,
 }
 
-/// Why words were read as no command.
+/// Why the words are no command.
 #[derive(Clone, Copy, Debug, PartialEq, Eq, Error)]
 pub enum WordsError {
-    /// Memory ran out. It may come at any words, also at those that ask for nothing.
+    /// Memory ran out. It may be returned for any words, also for those that ask for nothing.
     #[error("out of memory")]
     NoMemory,
     /// The words ask for nothing, or for a limit out of its range.
@@ -59,13 +59,13 @@ fn command_met(matches: &ArgMatches<'_>) -> Option<Command>
     command_named(name, matches)
 }
 
-/// The command that the words ask for. The first word is the program's name, and is not looked at.
+/// The command that the words ask for. The first word is the program's name, and is ignored.
 ///
 /// `run` takes the options `--steps N` and `--goroutines N`, also written `--steps=N`, each at most
-/// once and in any order. `N` is one or more decimal digits, in the range that `Limits` tells.
+/// once and in any order. `N` is one or more decimal digits, in the range that `Limits` documents.
 /// `check` takes none. A `--` may end the words.
 ///
-/// `Usage` comes only where they ask for nothing; `NoMemory` may come at any words.
+/// `Usage` is returned only where they ask for nothing; `NoMemory` may be returned for any words.
 pub fn read_words(alloc: Global, words: &[String]) -> Result<Command, WordsError>
     ensures asked { Reads (map string_bytes words.now) result }
     ensures bounds { IfOk result KeepsBounds }

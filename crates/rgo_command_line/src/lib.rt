@@ -1,4 +1,4 @@
-//! The words of the command line: which command they ask for.
+//! The command line: which command its words ask for, within which limits.
 #![tactic(auto)]
 
 mod commands;

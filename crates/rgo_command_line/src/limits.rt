@@ -1,4 +1,4 @@
-//! What a run may use, as the options of `run` say it.
+//! What limits a run, as the options of `run` set it.
 
 ghost use Rattle.std.specs.Prelude.{◌≡◌, IfSome};
 ghost use Rattle.clap.specs.Words.{found_of, rows_of};
@@ -7,18 +7,18 @@ ghost use Rattle.rgo_command_line.specs.Limits.{LieInBounds, LiesIn, limit_of, l
 use crate::numbers::number_within;
 use clap::ArgMatches;
 
-/// What a run may use.
+/// What limits a run. The words have a type of their own for this: the command line is read without
+/// a machine, and this crate is proved beside the machines, not above them.
 #[derive(Clone, Copy, Debug, PartialEq, Eq)]
 pub struct Limits {
     /// How many basic steps all goroutines may take together: from 1 to 4,398,046,511,104, which
-    /// is also what stands where `--steps` does not.
+    /// is also the default.
     pub steps: u64,
-    /// How many goroutines there may be, main among them: from 1 to 1,000,000, and 100,000 where
-    /// `--goroutines` does not stand.
+    /// How many goroutines there may be, `main` included: from 1 to 1,000,000, by default 100,000.
     pub goroutines: usize,
 }
 
-/// The numbers that an option takes, and the one that stands where the option does not.
+/// The numbers that an option takes, and its default.
 #[derive(Clone, Copy)]
 pub(crate) struct Bounds {
     pub least: u64,

@@ -28,9 +28,9 @@ fn in_range(number: u64, least: u64, most: u64) -> Option<u64>
     }
 }
 
-/// The number that one or more decimal digits write, where it is from `least` to `most`.
+/// The number that one or more decimal digits write, if it is from `least` to `most`.
 ///
-/// Any count of leading zeros may stand before it, and no sign.
+/// Leading zeros are allowed, a sign is not.
 pub(crate) fn number_within(text: &str, least: u64, most: u64) -> Option<u64>
     ensures value { result ≡ within least most (number_of text.now) }
     ensures range { IfSome result (λ number. (least ≤ number) × (number ≤ most)) }
@@ -41,7 +41,7 @@ pub(crate) fn number_within(text: &str, least: u64, most: u64) -> Option<u64>
     }
     match text.parse::<u64>() {
         Ok(number) => in_range(number, least, most),
-        // The digits write a number that no word holds.
+        // The digits write a number that no `u64` holds.
         Err(_) => None,
     }
 }

@@ -2,8 +2,9 @@
 
 ghost use Rattle.std.specs.Prelude.{◌≡◌, ◌+◌, ◌<◌, ◌≤◌, ◌^◌, length, IfOk, IfErr, OnOk, OnErr, IsErrOf};
 ghost use Rattle.std.specs.Io.KnownBytes.{Appends, Keeps};
-ghost use Rattle.rgo_outside.specs.Causes.{HasCause, Rose};
+ghost use Rattle.rgo_outside.specs.Causes.{Breaks, HasCause, Rose};
 ghost use Rattle.rgo_outside.specs.Moves.{ReadsAll, ReadsBehind, GivesTooMany, GivesWithin, WritesFirst};
+ghost use Rattle.rgo_outside.specs.Pieces.{AddsOnly, IsEndOf};
 
 use crate::faults::Failed;
 use crate::sinks::Sink;
@@ -45,16 +46,19 @@ fn read_behind<S: Source>(source: &mut S, room: &mut [u8], filled: usize) -> Res
     source.read(&mut room[filled..])
 }
 
-/// Reads a source to its end, and answers all that was left, at most `limit` bytes. The room for
+/// Reads a source to its end, and returns all that was left, at most `limit` bytes. The room for
 /// them, and for the byte that is one too many, is taken before the first read.
 pub fn read_all<S: Source>(alloc: Global, source: &mut S, limit: usize) -> Result<Vec<u8>, ReadEnd>
     requires { limit + 1 < 2 ^ 63 }
     ensures ok { IfOk result (λ bytes.
         ReadsAll limit (S.left source.old) (S.left source.new) bytes.items) }
+    ensures kept { OnOk result (S.faults source.new ≡ S.faults source.old) }
 
     // One byte more than the limit was given where the end is `TooLong`, and not at any other end.
     ensures too_long { IsErrOf result ReadEnd.TooLong →
         GivesTooMany limit (S.left source.old) (S.left source.new) }
+    ensures kept_too_long { IsErrOf result ReadEnd.TooLong →
+        S.faults source.new ≡ S.faults source.old }
     ensures within { IsErrOf result ReadEnd.Fault →
         GivesWithin limit (S.left source.old) (S.left source.new) }
     ensures fault { IsErrOf result ReadEnd.Fault →
@@ -79,14 +83,16 @@ pub fn read_all<S: Source>(alloc: Global, source: &mut S, limit: usize) -> Resul
     Err(ReadEnd::TooLong)
 }
 
-/// Writes all the bytes, in as many pieces as the sink takes them. It takes no memory.
+/// Writes all the bytes, in as many pieces as the sink takes them. After a failed write nothing more
+/// is written. It takes no memory.
 pub fn write_all<K: Sink>(sink: &mut K, bytes: &[u8]) -> Result<(), WriteFault>
     ensures ok { OnOk result (Appends (K.contents sink.old) (K.contents sink.new) bytes.now) }
     ensures written { IfErr result (λ fault.
         WritesFirst fault.written bytes.now (K.contents sink.old) (K.contents sink.new)) }
     ensures short { IfErr result (λ fault. fault.written < length bytes.now) }
-    ensures fault { OnErr result (Rose (K.faults sink.old) (K.faults sink.new)) }
-    ensures later { K.faults sink.old ≤ K.faults sink.new }
+    ensures cause { HasCause (K.faults sink.old) (K.faults sink.new) result }
+    ensures breaks { Breaks result bytes.now (K.broken sink.old) (K.broken sink.new) }
+    ensures pieces { AddsOnly (IsEndOf bytes.now) (K.pieces sink.old) (K.pieces sink.new) }
 {
     let mut written = 0;
     while written < bytes.len() {

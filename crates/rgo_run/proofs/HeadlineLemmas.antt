@@ -1,416 +1,494 @@
--- The claims of the whole, from what its parts leave: the source that was run or judged, and the report of its ending.
-use Rattle.std.proofs.Common.{◌≡◌, true, ℕ, ◌⊎◌, inl, inr, List, [], Option, None, Some, IfSome, refl, sym, subst}
+-- The claims of the whole, from what its parts leave: the text that was read and checked or run, and the report of the
+-- ending.
+use Rattle.std.proofs.Common.{◌≡◌, Bool, true, false, ℕ, ◌⊎◌, inl, inr, List, [], Option, None, Some, refl, sym, ◌∙◌, ap, subst}
 use Rattle.rgo_typed.specs.Tree.{Typed}
-use Rattle.rgo_driver.specs.declared.ends.Limits.{Limits as RunLimits}
+use Rattle.rgo_machine.specs.declared.limits.Limits.{Limits as RunLimits}
+use Rattle.rgo_machine.specs.declared.picks.End.TheVariants as the_end
 use Rattle.rgo_driver.specs.declared.ends.RunEnd.{RunEnd}
 use Rattle.rgo_driver.specs.declared.ends.RunEnd.TheVariants as run_end
-use Rattle.rgo_driver.specs.Runs.{Runs}
+use Rattle.rgo_command_line.specs.declared.commands.Command.{Command}
+use Rattle.rgo_command_line.specs.declared.commands.Command.TheVariants.{Run, Check}
 use Rattle.rgo_command_line.specs.declared.limits.Limits.{Limits}
 use Rattle.rgo_command_line.specs.Commands.{command_of}
 use Rattle.rgo_run.specs.declared.endings.Ending.{Ending}
-use Rattle.rgo_run.specs.declared.endings.Ending.TheVariants.{Usage, ReadFault, TooLong, Lexical, Syntax, Nesting, Typing}
-use Rattle.rgo_run.specs.declared.endings.Ending.TheVariants.{Exit, Trap, Deadlock, WriteFault, NoMemory}
-use Rattle.rgo_run.specs.declared.endings.Ending.TheVariants.{CallsTooDeep, StepsSpent, GoroutinesSpent}
-use Rattle.rgo_run.specs.Calls.{AsksRun, Call, IsRun, IsCheck, SourceFailed, Failed, Grew}
-use Rattle.rgo_run.specs.Endings.{status_of, is_run_status, line_of}
+use Rattle.rgo_run.specs.declared.endings.Ending.TheVariants.{Valid, Ran, Usage, ReadFault, TooLong}
+use Rattle.rgo_run.specs.declared.endings.Ending.TheVariants.{Lexical, Syntax, Nesting, Typing, NoMemory}
+use Rattle.rgo_run.specs.Calls.{AsksRun, Call, Asks, IsRun, IsCheck, SourceFailed, SourceHeld, Failed, Held, Grew, IsUntouched}
+use Rattle.rgo_run.specs.Endings.{status_of, status_of_run, is_run_status, is_fault_status, line_of}
 use Rattle.rgo_run.specs.Reports.{Tells, HasPlace, Reports}
-use Rattle.rgo_run.specs.Runs.{limits_of, ending_of}
+use Rattle.rgo_run.specs.Runs.{limits_of, ProgramRuns, RunsTo}
+use Rattle.rgo_run.specs.Texts.{IsTextOf, IsRead, AskSome, NotRead, Fails, Checks, Performs}
 use Rattle.rgo_run.specs.Verdicts.{Passes, IsProgram, Refused}
-use Rattle.rgo_run.specs.Sources.{Fails, SourceChecks, Ends, SourceEnds}
-use Rattle.rgo_run.specs.Headline.{IsOfRun, EndsRun, Gives, Suffices, RunsWhole, MustRunWhole, IsSilent, Headline}
+use Rattle.rgo_run.specs.Headline.{EndsRun, Refusal, Print, End, Faults, Suffices, RunsWhole, MustRunWhole, IsSilent, Complete, Headline}
 use Rattle.rgo_run.proofs.VerdictLemmas as verdicts
 
--- what follows from a fact on the text that a source tells
-of_told : (left : Option (List ℕ)) (P Q : List ℕ → Type 0) → ((text : List ℕ) → P text → Q text) → IfSome left P → IfSome left Q
-of_told None P Q f h = tt
-of_told (Some text) P Q f h = f text h
+-- how a call ended that read its text, or had no memory for that
+abbrev pub Outcome : Call → List ℕ → Ending → Type 0
+Outcome call text e =
+    ((e ≡ Valid) × IsCheck call × Passes text × IsUntouched call.out)
+    ⊎ (((limits : Limits) × IsRun call limits × RunsTo limits text e call.out) ⊎ (Fails text e × IsUntouched call.out))
 
-every : (left : Option (List ℕ)) (Q : List ℕ → Type 0) → ((text : List ℕ) → Q text) → IfSome left Q
-every None Q f = tt
-every (Some text) Q f = f text
+pub record Went (call : Call) (text : List ℕ) (e : Ending) : Type 0 where
+  pub is_text : IsTextOf call.source.left text
+  pub held : SourceHeld call.source
+  pub asks : AskSome call.words ⊎ (e ≡ NoMemory)
+  pub outcome : Outcome call text e
 
-abbrev pub Told : Call → Ending → Type 0
-Told call e = Tells (line_of e) (status_of e) call.status call.err.old call.err.new call.err.faults_old call.err.faults_new
-
-told_whole : (call : Call) (e : Ending) → Told call e → (Failed call.err → ⊥) → (call.status ≡ status_of e) × Grew call.err (line_of e)
-told_whole call e (inl t) n = t
-told_whole call e (inr t) n = absurd (n t.1)
+told_whole : (call : Call) (text : List ℕ) (e : Ending) → Tells text e call.status call.err → (Failed call.err → ⊥)
+    → (call.status ≡ status_of e) × Grew call.err (line_of text e)
+told_whole call text e (inl t) n = (t.0, t.1)
+told_whole call text e (inr t) n = absurd (n t.1)
 
 passes : (text : List ℕ) (program : Typed) → IsProgram text program → Passes text
 passes text program p = (p.tree, p.is_well_typed)
 
--- ---- a text that was not taken
+same_limits : (call : Call) (a b : Limits) → IsRun call a → IsRun call b → a ≡ b
+same_limits call a b c d = cc
+
+not_both : (call : Call) (limits : Limits) → IsCheck call → IsRun call limits → ⊥
+not_both call limits c d = cc
+
+-- ---- endings that do not fit
+
+fails_no_usage : (text : List ℕ) (e : Ending) → Fails text e → e ≡ Usage → ⊥
+fails_no_usage text e f u = subst (Fails text) u f
+
+fails_no_fault : (text : List ℕ) (e : Ending) → Fails text e → e ≡ ReadFault → ⊥
+fails_no_fault text e f u = subst (Fails text) u f
+
+fails_not_valid : (text : List ℕ) (e : Ending) → Fails text e → e ≡ Valid → ⊥
+fails_not_valid text e f u = subst (Fails text) u f
+
+fails_no_run : (text : List ℕ) (e : Ending) (end : RunEnd) → Fails text e → e ≡ Ran end → ⊥
+fails_no_run text e end f u = subst (Fails text) u f
+
+fails_memory : (text : List ℕ) (e : Ending) → Fails text e → EndsRun e → e ≡ NoMemory
+fails_memory text NoMemory f m = refl
+fails_memory text (Ran end) f m = absurd f
+fails_memory text _ f m = absurd m
 
 is_refused : (text : List ℕ) (e : Ending) → Fails text e → status_of e ≡ 1 → Refused text e
 is_refused text NoMemory f s = cc
 is_refused text e f s = f
 
--- what refuses the text is the answer
-abbrev First : Ending → List ℕ → Type 0
-First e text = (why : Ending) → Refused text why → (e ≡ why) ⊎ (e ≡ NoMemory)
+-- the status of a run is none of a refusal or of a failed read
+not_status_1 : (end : RunEnd) → status_of_run end ≡ 1 → ⊥
+not_status_1 (run_end.Ended the_end.Exit) s = cc
+not_status_1 (run_end.Ended (the_end.Trap trap at)) s = cc
+not_status_1 run_end.Deadlock s = cc
+not_status_1 run_end.CallsTooDeep s = cc
+not_status_1 run_end.StepsSpent s = cc
+not_status_1 run_end.GoroutinesSpent s = cc
+not_status_1 run_end.WriteFault s = cc
+not_status_1 run_end.NoMemory s = cc
 
-fails_first : (text : List ℕ) (e : Ending) → Fails text e → First e text
+-- with status 9 a read failed
+read_fault : (e : Ending) → status_of e ≡ 9 → e ≡ ReadFault
+read_fault ReadFault s = refl
+read_fault (Ran (run_end.Ended the_end.Exit)) s = cc
+read_fault (Ran (run_end.Ended (the_end.Trap trap at))) s = cc
+read_fault (Ran run_end.Deadlock) s = cc
+read_fault (Ran run_end.CallsTooDeep) s = cc
+read_fault (Ran run_end.StepsSpent) s = cc
+read_fault (Ran run_end.GoroutinesSpent) s = cc
+read_fault (Ran run_end.WriteFault) s = cc
+read_fault (Ran run_end.NoMemory) s = cc
+read_fault Valid s = cc
+read_fault Usage s = cc
+read_fault TooLong s = cc
+read_fault (Lexical refusal) s = cc
+read_fault (Syntax at) s = cc
+read_fault (Nesting at) s = cc
+read_fault (Typing refusal) s = cc
+read_fault NoMemory s = cc
+
+-- with status 10 of an ending a write to `out` failed
+write_fault : (e : Ending) → status_of e ≡ 10 → e ≡ Ran run_end.WriteFault
+write_fault (Ran run_end.WriteFault) s = refl
+write_fault (Ran (run_end.Ended the_end.Exit)) s = cc
+write_fault (Ran (run_end.Ended (the_end.Trap trap at))) s = cc
+write_fault (Ran run_end.Deadlock) s = cc
+write_fault (Ran run_end.CallsTooDeep) s = cc
+write_fault (Ran run_end.StepsSpent) s = cc
+write_fault (Ran run_end.GoroutinesSpent) s = cc
+write_fault (Ran run_end.NoMemory) s = cc
+write_fault ReadFault s = cc
+write_fault Valid s = cc
+write_fault Usage s = cc
+write_fault TooLong s = cc
+write_fault (Lexical refusal) s = cc
+write_fault (Syntax at) s = cc
+write_fault (Nesting at) s = cc
+write_fault (Typing refusal) s = cc
+write_fault NoMemory s = cc
+
+-- ---- the refusal
+
+usage : (call : Call) (text : List ℕ) (e : Ending) → Outcome call text e → e ≡ Usage → command_of call.words ≡ None
+usage call text e (inl v) u = absurd (let is = v.0 in cc)
+usage call text e (inr (inl r)) u = absurd (let is = r.2.is_end in cc)
+usage call text e (inr (inr f)) u = absurd (fails_no_usage text e f.0 u)
+
+unknown : (call : Call) (e : Ending) → AskSome call.words ⊎ (e ≡ NoMemory) → command_of call.words ≡ None
+    → (e ≡ Usage) ⊎ (e ≡ NoMemory)
+unknown call e (inl asked) n = absurd (let some = asked.1 in cc)
+unknown call e (inr is) n = inr is
+
+refused : (call : Call) (text : List ℕ) (e : Ending) → Outcome call text e → status_of e ≡ 1 → Refused text e
+refused call text e (inl v) s = absurd (let t = subst (λ x. status_of x ≡ 1) v.0 s in cc)
+refused call text e (inr (inl r)) s = absurd (not_status_1 r.2.run_end (subst (λ x. status_of x ≡ 1) r.2.is_end s))
+refused call text e (inr (inr f)) s = is_refused text e f.0 s
+
+valid : (call : Call) (text : List ℕ) (e : Ending) → Outcome call text e → e ≡ Valid → IsCheck call × Passes text
+valid call text e (inl v) x = (v.1, v.2)
+valid call text e (inr (inl r)) x = absurd (let is = r.2.is_end in cc)
+valid call text e (inr (inr f)) x = absurd (fails_not_valid text e f.0 x)
+
+fails_first : (text : List ℕ) (e : Ending) → Fails text e → (why : Ending) → Refused text why → (e ≡ why) ⊎ (e ≡ NoMemory)
 fails_first text NoMemory f why w = inr refl
 fails_first text e f why w = inl (verdicts.one_refusal text e why f w)
 
-passes_first : (text : List ℕ) (e : Ending) → Passes text → First e text
-passes_first text e p why w = absurd (verdicts.never_both text why p w)
+first : (call : Call) (text : List ℕ) (e : Ending) → Outcome call text e → (why : Ending) → Refused text why
+    → (e ≡ why) ⊎ (e ≡ NoMemory)
+first call text e (inl v) why w = absurd (verdicts.never_both text why v.2 w)
+first call text e (inr (inl r)) why w = absurd (verdicts.never_both text why (passes text r.2.program r.2.is_program) w)
+first call text e (inr (inr f)) why w = fails_first text e f.0 why w
 
-of_memory_first : (call : Call) → IfSome call.source.left (First NoMemory)
-of_memory_first call = every call.source.left (First NoMemory) (λ text why w. inr refl)
+untouched : (call : Call) (text : List ℕ) (e : Ending) → Outcome call text e → (AsksRun call.words × EndsRun e → ⊥)
+    → IsUntouched call.out
+untouched call text e (inl v) m = v.3
+untouched call text e (inr (inl r)) m = absurd (m ((r.0, r.1), subst EndsRun (sym r.2.is_end) tt))
+untouched call text e (inr (inr f)) m = f.1
 
--- memory ran out for a text within the rules
-fails_memory : (call : Call) (text : List ℕ) (e : Ending) → Fails text e → Passes text → Told call e → (Failed call.err → ⊥) → call.status ≡ 11
-fails_memory call text NoMemory f p t n = (told_whole call NoMemory t n).0
-fails_memory call text e f p t n = absurd (verdicts.never_both text e p f)
+-- ---- the print and the end
 
--- ---- calls of `run`
+print : (call : Call) (text : List ℕ) (e : Ending) → Outcome call text e → Print call text e
+print call text e (inl v) limits c m = absurd (subst EndsRun v.0 m)
+print call text e (inr (inl r)) limits c m =
+    inl (subst (λ l. RunsTo l text e call.out) (same_limits call r.0 limits r.1 c) r.2)
+print call text e (inr (inr f)) limits c m = inr (fails_memory text e f.0 m, f.1)
 
--- how such a call went, before its report
-pub record Ran (limits : Limits) (call : Call) (e : Ending) : Type 0 where
-  pub is_run : IsRun call limits
-  pub ends : SourceEnds limits call.source.left e call.out.old call.out.new
-  pub still : (EndsRun e → ⊥) → Grew call.out []
-  pub read_failed : e ≡ ReadFault → SourceFailed call
-  pub write_failed : e ≡ WriteFault → Failed call.out
+not_read_fault : (call : Call) (text : List ℕ) (e : Ending) → Outcome call text e → e ≡ ReadFault → ⊥
+not_read_fault call text e (inl v) x = let is = v.0 in cc
+not_read_fault call text e (inr (inl r)) x = let is = r.2.is_end in cc
+not_read_fault call text e (inr (inr f)) x = fails_no_fault text e f.0 x
 
-same_limits : (call : Call) (a b : Limits) → IsRun call a → IsRun call b → a ≡ b
-same_limits call a b c d = cc
+write_failed : (call : Call) (text : List ℕ) (e : Ending) → Outcome call text e → e ≡ Ran run_end.WriteFault
+    → Failed call.out
+write_failed call text e (inl v) x = absurd (let is = v.0 in cc)
+write_failed call text e (inr (inl r)) x =
+    let is = r.2.is_end in let same : r.2.run_end ≡ run_end.WriteFault = cc in r.2.failed same
+write_failed call text e (inr (inr f)) x = absurd (fails_no_run text e run_end.WriteFault f.0 x)
 
-abbrev Ended : Limits → Call → Ending → List ℕ → Type 0
-Ended limits call e text = Ends limits text e call.out.old call.out.new
+ran : (call : Call) (text : List ℕ) (e : Ending) → Outcome call text e → (end : RunEnd) → e ≡ Ran end
+    → AsksRun call.words
+ran call text e (inl v) end x = absurd (let is = v.0 in cc)
+ran call text e (inr (inl r)) end x = (r.0, r.1)
+ran call text e (inr (inr f)) end x = absurd (fails_no_run text e end f.0 x)
 
--- how the text ended, where it was read
-ended : (limits : Limits) (call : Call) (e : Ending) → Ran limits call e → (e ≡ ReadFault → ⊥) → IfSome call.source.left (Ended limits call e)
-ended limits call Usage r n = absurd r.ends
-ended limits call ReadFault r n = absurd (n refl)
-ended limits call e r n = r.ends
+-- ---- faults
 
-usage : (limits : Limits) (call : Call) (e : Ending) → Ran limits call e → e ≡ Usage → command_of call.words ≡ None
-usage limits call e r u = absurd (subst (λ x. SourceEnds limits call.source.left x call.out.old call.out.new) u r.ends)
+status_9 : (call : Call) (text : List ℕ) (e : Ending) → Tells text e call.status call.err → call.status ≡ 9 → e ≡ ReadFault
+status_9 call text e (inl t) s = read_fault e (sym t.0 ∙ s)
+status_9 call text e (inr t) s = absurd (let ten = t.0 in cc)
 
-unknown : (limits : Limits) (call : Call) (e : Ending) → Ran limits call e → command_of call.words ≡ None → (e ≡ Usage) ⊎ (e ≡ NoMemory)
-unknown limits call e r n = absurd (let c = r.is_run in cc)
+status_10 : (call : Call) (text : List ℕ) (e : Ending) → Tells text e call.status call.err → call.status ≡ 10
+    → (e ≡ Ran run_end.WriteFault) ⊎ Failed call.err
+status_10 call text e (inl t) s = inl (write_fault e (sym t.0 ∙ s))
+status_10 call text e (inr t) s = inr t.1
 
--- no run is told as a refusal
-not_refusal : (text : List ℕ) (end : RunEnd) → status_of (ending_of text end) ≡ 1 → ⊥
-not_refusal text run_end.Exit s = cc
-not_refusal text (run_end.Trap trap place) s = cc
-not_refusal text run_end.Deadlock s = cc
-not_refusal text run_end.CallsTooDeep s = cc
-not_refusal text run_end.StepsSpent s = cc
-not_refusal text run_end.GoroutinesSpent s = cc
-not_refusal text run_end.WriteFault s = cc
-not_refusal text run_end.NoMemory s = cc
+err_held : (call : Call) (text : List ℕ) (e : Ending) → Tells text e call.status call.err
+    → is_fault_status call.status ≡ false → Held call.err × (call.status ≡ status_of e)
+err_held call text e (inl t) s = (t.2, t.0)
+err_held call text e (inr t) s = absurd (let ten = subst (λ n. is_fault_status n ≡ false) t.0 s in cc)
 
-ended_refused : (limits : Limits) (call : Call) (e : Ending) (text : List ℕ) → status_of e ≡ 1 → Ended limits call e text → Refused text e
-ended_refused limits call e text s (inl r) = absurd (not_refusal text r.run_end (subst (λ x. status_of x ≡ 1) r.told s))
-ended_refused limits call e text s (inr f) = is_refused text e f.0 s
+not_write_fault : (call : Call) (e : Ending) → call.status ≡ status_of e → is_fault_status call.status ≡ false
+    → e ≡ Ran run_end.WriteFault → ⊥
+not_write_fault call e t s x =
+    let ten = subst (λ n. is_fault_status n ≡ false) (t ∙ ap status_of x) s in cc
 
-refused : (limits : Limits) (call : Call) (e : Ending) → Ran limits call e → status_of e ≡ 1 → IfSome call.source.left (λ text. Refused text e)
-refused limits call e r s =
-    of_told call.source.left (Ended limits call e) (λ text. Refused text e) (λ text h. ended_refused limits call e text s h)
-    (ended limits call e r (λ x. let t = subst (λ y. status_of y ≡ 1) x s in cc))
+out_held : (call : Call) (text : List ℕ) (e : Ending) → Outcome call text e → (e ≡ Ran run_end.WriteFault → ⊥)
+    → Held call.out
+out_held call text e (inl v) n = v.3.1
+out_held call text e (inr (inl r)) n = r.2.held (λ w. n (r.2.is_end ∙ ap Ran w))
+out_held call text e (inr (inr f)) n = f.1.1
 
-ended_first : (limits : Limits) (call : Call) (e : Ending) (text : List ℕ) → Ended limits call e text → First e text
-ended_first limits call e text (inl r) = passes_first text e (passes text r.program r.is_program)
-ended_first limits call e text (inr f) = fails_first text e f.0
+faults_write : (call : Call) (text : List ℕ) (e : Ending) → Outcome call text e
+    → (e ≡ Ran run_end.WriteFault) ⊎ Failed call.err → Failed call.out ⊎ Failed call.err
+faults_write call text e o (inl w) = inl (write_failed call text e o w)
+faults_write call text e o (inr f) = inr f
 
-first : (limits : Limits) (call : Call) (e : Ending) → Ran limits call e → (SourceFailed call → ⊥) → IfSome call.source.left (First e)
-first limits call e r n =
-    of_told call.source.left (Ended limits call e) (First e) (λ text h. ended_first limits call e text h)
-    (ended limits call e r (λ x. n (r.read_failed x)))
+faults : (call : Call) (text : List ℕ) (e : Ending) → Went call text e → Tells text e call.status call.err → Faults call
+faults call text e went t = record {
+  read = λ s. absurd (not_read_fault call text e went.outcome (status_9 call text e t s));
+  write = λ s. faults_write call text e went.outcome (status_10 call text e t s);
+  none = λ s. let h = err_held call text e t s in
+      (went.held, out_held call text e went.outcome (not_write_fault call e h.1 s), h.0);
+}
 
-no_run : (text : List ℕ) (e : Ending) → EndsRun e → Fails text e → e ≡ NoMemory
-no_run text NoMemory m f = refl
-no_run text Exit m f = absurd f
-no_run text (Trap trap at) m f = absurd f
-no_run text Deadlock m f = absurd f
-no_run text CallsTooDeep m f = absurd f
-no_run text StepsSpent m f = absurd f
-no_run text GoroutinesSpent m f = absurd f
-no_run text WriteFault m f = absurd f
-no_run text _ m f = absurd m
-
-ended_printed : (limits : Limits) (call : Call) (e : Ending) (text : List ℕ) → EndsRun e → Ended limits call e text → Gives limits call e text
-ended_printed limits call e text m (inl r) = inl r
-ended_printed limits call e text m (inr f) = inr (no_run text e m f.0, f.1)
-
-printed : (limits : Limits) (call : Call) (e : Ending) → Ran limits call e → EndsRun e → IfSome call.source.left (Gives limits call e)
-printed limits call e r m =
-    of_told call.source.left (Ended limits call e) (Gives limits call e) (λ text h. ended_printed limits call e text m h)
-    (ended limits call e r (λ x. subst EndsRun x m))
+-- ---- completeness
 
 runs_whole : (limits : RunLimits) (call : Call) (text : List ℕ) (program : Typed) (end : RunEnd)
-    → Runs program limits end call.out.old call.out.new → Suffices limits program
-    → (call.status ≡ status_of (ending_of text end)) × Grew call.err (line_of (ending_of text end))
-    → (ending_of text end ≡ WriteFault → ⊥) → RunsWhole limits call text program ⊎ (call.status ≡ 11)
-runs_whole limits call text program run_end.Exit r s t w =
-    inl (record { run_end = run_end.Exit; is_own = tt; runs = r; told = t.1; status = t.0 })
-runs_whole limits call text program (run_end.Trap trap place) r s t w =
-    inl (record { run_end = run_end.Trap trap place; is_own = tt; runs = r; told = t.1; status = t.0 })
+    → ProgramRuns program limits end call.out → Suffices limits program
+    → (call.status ≡ status_of (Ran end)) × Grew call.err (line_of text (Ran end))
+    → (end ≡ run_end.WriteFault → ⊥) → RunsWhole limits call text program ⊎ (call.status ≡ 11)
+runs_whole limits call text program (run_end.Ended end) r s t w =
+    inl (record { run_end = run_end.Ended end; is_own = tt; runs = r; told = t.1; status = t.0 })
 runs_whole limits call text program run_end.Deadlock r s t w =
     inl (record { run_end = run_end.Deadlock; is_own = tt; runs = r; told = t.1; status = t.0 })
-runs_whole limits call text program run_end.CallsTooDeep r s t w = absurd (s.calls r.picks r.state r.ran r.ends)
-runs_whole limits call text program run_end.StepsSpent r s t w = absurd (s.steps r.picks r.state r.ran r.ends)
-runs_whole limits call text program run_end.GoroutinesSpent r s t w = absurd (s.goroutines r.picks r.state r.ran r.ends)
+runs_whole limits call text program run_end.CallsTooDeep r s t w = absurd (s.calls _ _ r.state r.ran r.ends)
+runs_whole limits call text program run_end.StepsSpent r s t w = absurd (s.steps _ _ r.state r.ran r.ends)
+runs_whole limits call text program run_end.GoroutinesSpent r s t w = absurd (s.goroutines _ _ r.state r.ran r.ends)
 runs_whole limits call text program run_end.WriteFault r s t w = absurd (w refl)
 runs_whole limits call text program run_end.NoMemory r s t w = inr t.0
 
-ended_whole : (limits : Limits) (call : Call) (e : Ending) (text : List ℕ) → Told call e → (e ≡ WriteFault → ⊥) → (Failed call.err → ⊥)
-    → Ended limits call e text → MustRunWhole (limits_of limits) call text
-ended_whole limits call e text t o n (inl r) program p s =
-    runs_whole (limits_of limits) call text program r.run_end
-    (subst (λ q. Runs q (limits_of limits) r.run_end call.out.old call.out.new) (verdicts.one_program text r.program program r.is_program p) r.runs) s
-    (subst (λ x. (call.status ≡ status_of x) × Grew call.err (line_of x)) r.told (told_whole call e t n)) (subst (λ x. x ≡ WriteFault → ⊥) r.told o)
-ended_whole limits call e text t o n (inr f) program p s = inr (fails_memory call text e f.0 (passes text program p) t n)
+-- the text is a program: then only memory kept it from being one
+must_be_memory : (call : Call) (text : List ℕ) (e : Ending) → Fails text e → Passes text
+    → Tells text e call.status call.err → (Failed call.err → ⊥) → call.status ≡ 11
+must_be_memory call text NoMemory f p t n = (told_whole call text NoMemory t n).0
+must_be_memory call text e f p t n = absurd (verdicts.never_both text e p f)
 
-completed : (limits : Limits) (call : Call) (e : Ending) → Ran limits call e → Told call e → (SourceFailed call → ⊥) → (Failed call.out → ⊥) → (Failed call.err → ⊥)
-    → IfSome call.source.left (MustRunWhole (limits_of limits) call)
-completed limits call e r t s o n =
-    of_told call.source.left (Ended limits call e) (MustRunWhole (limits_of limits) call) (λ text h. ended_whole limits call e text t (λ x. o (r.write_failed x)) n h)
-    (ended limits call e r (λ x. s (r.read_failed x)))
+complete_run : (call : Call) (text : List ℕ) (e : Ending) → Outcome call text e → Tells text e call.status call.err
+    → (limits : Limits) → IsRun call limits → (Failed call.out → ⊥) → (Failed call.err → ⊥)
+    → MustRunWhole (limits_of limits) call text
+complete_run call text e (inl v) t limits c o n program p s = absurd (not_both call limits v.1 c)
+complete_run call text e (inr (inl r)) t limits c o n program p s =
+    let l = same_limits call r.0 limits r.1 c in
+    let q = verdicts.one_program text r.2.program program r.2.is_program p in
+    runs_whole (limits_of limits) call text program r.2.run_end
+    (subst (λ x. ProgramRuns program (limits_of x) r.2.run_end call.out) l
+    (subst (λ x. ProgramRuns x (limits_of r.0) r.2.run_end call.out) q r.2.runs))
+    s
+    (subst (λ x. (call.status ≡ status_of x) × Grew call.err (line_of text x)) r.2.is_end (told_whole call text e t n))
+    (λ w. o (r.2.failed w))
+complete_run call text e (inr (inr f)) t limits c o n program p s =
+    inr (must_be_memory call text e f.0 (passes text program p) t n)
 
-told_so : (limits : Limits) (call : Call) (e : Ending) → Ran limits call e → Told call e → Headline call
-told_so limits call e r t = record {
+complete_check : (call : Call) (text : List ℕ) (e : Ending) → Outcome call text e → Tells text e call.status call.err
+    → IsCheck call → (Failed call.err → ⊥) → Passes text → IsSilent call ⊎ (call.status ≡ 11)
+complete_check call text e (inl v) t c n p =
+    let told = subst (λ x. (call.status ≡ status_of x) × Grew call.err (line_of text x)) v.0 (told_whole call text e t n) in
+    inl (record { status = told.0; untouched = v.3; silent = told.1 })
+complete_check call text e (inr (inl r)) t c n p = absurd (not_both call r.0 c r.1)
+complete_check call text e (inr (inr f)) t c n p = inr (must_be_memory call text e f.0 p t n)
+
+-- ---- calls that read their text, or had no memory for that
+
+headline_told : (call : Call) (text : List ℕ) (e : Ending) → Went call text e → Tells text e call.status call.err → Headline call
+headline_told call text e went t = record {
+  text = text;
+  is_text = went.is_text;
   ending = e;
   refusal = record {
-    usage = usage limits call e r;
-    unknown = unknown limits call e r;
-    refused = refused limits call e r;
-    passes = λ c x. absurd (let c' = r.is_run in cc);
-    first = λ command c n. first limits call e r n;
-    untouched = λ m. r.still (λ x. m ((limits, r.is_run), x));
+    usage = usage call text e went.outcome;
+    unknown = unknown call e went.asks;
+    refused = refused call text e went.outcome;
+    passes = valid call text e went.outcome;
+    first = λ command c n. first call text e went.outcome;
+    untouched = untouched call text e went.outcome;
   };
-  print = λ other c m. subst (λ l. IfSome call.source.left (Gives l call e)) (same_limits call limits other r.is_run c) (printed limits call e r m);
-  end = record { read_failed = r.read_failed; write_failed = r.write_failed; ran = λ x. (limits, r.is_run); told = t };
-  regions = tt;
-  complete = record {
-    run = λ other c s o n. subst (λ l. IfSome call.source.left (MustRunWhole (limits_of l) call)) (same_limits call limits other r.is_run c) (completed limits call e r t s o n);
-    check = λ c s n. absurd (let c' = r.is_run in cc);
-  };
-}
-
--- where there was no memory for the line, that is the ending
-no_line_run : (limits : RunLimits) (text : List ℕ) (program : Typed) (e : Ending) (end : RunEnd) (old new : Option (List ℕ))
-    → HasPlace e → e ≡ ending_of text end → Runs program limits end old new → Runs program limits run_end.NoMemory old new
-no_line_run limits text program e (run_end.Trap trap place) old new h t r = record { picks = r.picks; state = r.state; ran = r.ran; ends = tt; gives = r.gives }
-no_line_run limits text program e _ old new h t r = absurd (subst HasPlace t h)
-
-no_line_ended : (limits : Limits) (call : Call) (e : Ending) (text : List ℕ) → HasPlace e → Ended limits call e text → Ended limits call NoMemory text
-no_line_ended limits call e text h (inl r) = inl (record {
-  program = r.program;
-  is_program = r.is_program;
-  run_end = run_end.NoMemory;
-  runs = no_line_run (limits_of limits) text r.program e r.run_end call.out.old call.out.new h r.told r.runs;
-  told = refl;
-})
-no_line_ended limits call e text h (inr f) = inr (tt, f.1)
-
-no_line : (limits : Limits) (call : Call) (e : Ending) → HasPlace e → Ran limits call e → Ran limits call NoMemory
-no_line limits call e h r = record {
-  is_run = r.is_run;
-  ends = of_told call.source.left (Ended limits call e) (Ended limits call NoMemory) (λ text g. no_line_ended limits call e text h g) (ended limits call e r (λ x. subst HasPlace x h));
-  still = λ m. absurd (m tt);
-  read_failed = λ x. cc;
-  write_failed = λ x. cc;
-}
-
-pub headline_of_run : (limits : Limits) (call : Call) (e : Ending) → Ran limits call e → Reports e call.status call.err.old call.err.new call.err.faults_old call.err.faults_new → Headline call
-headline_of_run limits call e r (inl t) = told_so limits call e r t
-headline_of_run limits call e r (inr t) = told_so limits call NoMemory (no_line limits call e t.0 r) t.1
-
--- nothing is given out before the run
-is_still : (e : Ending) (P : Type 0) → (status_of e ≡ 1 → P) → (e ≡ ReadFault → P) → (e ≡ Usage → P) → (EndsRun e → ⊥) → P
-is_still TooLong P one read usage m = one refl
-is_still (Lexical kind at) P one read usage m = one refl
-is_still (Syntax at) P one read usage m = one refl
-is_still (Nesting at) P one read usage m = one refl
-is_still (Typing rule at) P one read usage m = one refl
-is_still ReadFault P one read usage m = read refl
-is_still Usage P one read usage m = usage refl
-is_still _ P one read usage m = absurd (m tt)
-
-pub ran : (limits : Limits) (call : Call) (e : Ending) → IsRun call limits → SourceEnds limits call.source.left e call.out.old call.out.new → (status_of e ≡ 1 → Grew call.out [])
-    → (e ≡ ReadFault → Grew call.out []) → (e ≡ ReadFault → SourceFailed call) → (e ≡ WriteFault → Failed call.out) → Ran limits call e
-ran limits call e c ends one unread read write = record {
-  is_run = c;
-  ends = ends;
-  still = is_still e (Grew call.out []) one unread (λ u. absurd (subst (λ x. SourceEnds limits call.source.left x call.out.old call.out.new) u ends));
-  read_failed = read;
-  write_failed = write;
-}
-
--- ---- calls of `check`
-
--- how such a call went, before its report
-pub record Checked (call : Call) (e : Ending) : Type 0 where
-  pub is_check : IsCheck call
-  pub ends : SourceChecks call.source.left e
-  pub still : Grew call.out []
-  pub read_failed : e ≡ ReadFault → SourceFailed call
-
-not_usage : (call : Call) (e : Ending) → Checked call e → e ≡ Usage → ⊥
-not_usage call e r u = subst (λ x. SourceChecks call.source.left x) u r.ends
-
-not_of_run : (call : Call) (e : Ending) → Checked call e → IsOfRun e → ⊥
-not_of_run call (Trap trap at) r m = r.ends
-not_of_run call Deadlock r m = r.ends
-not_of_run call CallsTooDeep r m = r.ends
-not_of_run call StepsSpent r m = r.ends
-not_of_run call GoroutinesSpent r m = r.ends
-not_of_run call WriteFault r m = r.ends
-not_of_run call _ r m = m
-
-check_refused : (call : Call) (e : Ending) → Checked call e → status_of e ≡ 1 → IfSome call.source.left (λ text. Refused text e)
-check_refused call TooLong r s = r.ends
-check_refused call (Lexical kind at) r s = r.ends
-check_refused call (Syntax at) r s = r.ends
-check_refused call (Nesting at) r s = r.ends
-check_refused call (Typing rule at) r s = r.ends
-check_refused call Exit r s = cc
-check_refused call ReadFault r s = cc
-check_refused call NoMemory r s = cc
-check_refused call _ r s = absurd r.ends
-
-check_passes : (call : Call) (e : Ending) → Checked call e → e ≡ Exit → IfSome call.source.left Passes
-check_passes call e r x = subst (λ y. SourceChecks call.source.left y) x r.ends
-
-is_first : (call : Call) (e : Ending) → IfSome call.source.left (λ text. Refused text e) → IfSome call.source.left (First e)
-is_first call e h = of_told call.source.left (λ text. Refused text e) (First e) (λ text f why w. inl (verdicts.one_refusal text e why f w)) h
-
-check_first : (call : Call) (e : Ending) → Checked call e → (SourceFailed call → ⊥) → IfSome call.source.left (First e)
-check_first call TooLong r n = is_first call TooLong r.ends
-check_first call (Lexical kind at) r n = is_first call (Lexical kind at) r.ends
-check_first call (Syntax at) r n = is_first call (Syntax at) r.ends
-check_first call (Nesting at) r n = is_first call (Nesting at) r.ends
-check_first call (Typing rule at) r n = is_first call (Typing rule at) r.ends
-check_first call Exit r n = of_told call.source.left Passes (First Exit) (λ text p. passes_first text Exit p) r.ends
-check_first call ReadFault r n = absurd (n (r.read_failed refl))
-check_first call NoMemory r n = of_memory_first call
-check_first call _ r n = absurd r.ends
-
--- what is within the rules passes
-abbrev Lets : Call → List ℕ → Type 0
-Lets call text = Passes text → IsSilent call ⊎ (call.status ≡ 11)
-
-told_silent : (call : Call) → Grew call.out [] → (call.status ≡ 0) × Grew call.err [] → IsSilent call
-told_silent call g t = record { status = t.0; untouched = g; silent = t.1 }
-
-not_let : (call : Call) (e : Ending) → IfSome call.source.left (λ text. Refused text e) → IfSome call.source.left (Lets call)
-not_let call e h = of_told call.source.left (λ text. Refused text e) (Lets call) (λ text w p. absurd (verdicts.never_both text e p w)) h
-
-memory_let : (call : Call) → Told call NoMemory → (Failed call.err → ⊥) → IfSome call.source.left (Lets call)
-memory_let call t n = every call.source.left (Lets call) (λ text p. inr (told_whole call NoMemory t n).0)
-
-check_complete : (call : Call) (e : Ending) → Checked call e → Told call e → (SourceFailed call → ⊥) → (Failed call.err → ⊥) → IfSome call.source.left (Lets call)
-check_complete call TooLong r t s n = not_let call TooLong r.ends
-check_complete call (Lexical kind at) r t s n = not_let call (Lexical kind at) r.ends
-check_complete call (Syntax at) r t s n = not_let call (Syntax at) r.ends
-check_complete call (Nesting at) r t s n = not_let call (Nesting at) r.ends
-check_complete call (Typing rule at) r t s n = not_let call (Typing rule at) r.ends
-check_complete call Exit r t s n = every call.source.left (Lets call) (λ text p. inl (told_silent call r.still (told_whole call Exit t n)))
-check_complete call ReadFault r t s n = absurd (s (r.read_failed refl))
-check_complete call NoMemory r t s n = memory_let call t n
-check_complete call _ r t s n = absurd r.ends
-
-check_told : (call : Call) (e : Ending) → Checked call e → Told call e → Headline call
-check_told call e r t = record {
-  ending = e;
-  refusal = record {
-    usage = λ u. absurd (not_usage call e r u);
-    unknown = λ n. absurd (let c = r.is_check in cc);
-    refused = check_refused call e r;
-    passes = λ c x. check_passes call e r x;
-    first = λ command c n. check_first call e r n;
-    untouched = λ m. r.still;
-  };
-  print = λ limits c m. absurd (let c' = r.is_check in cc);
+  print = print call text e went.outcome;
   end = record {
-    read_failed = r.read_failed;
-    write_failed = λ x. absurd (not_of_run call e r (subst IsOfRun (sym x) tt));
-    ran = λ m. absurd (not_of_run call e r m);
+    read_failed = λ x. absurd (not_read_fault call text e went.outcome x);
+    write_failed = write_failed call text e went.outcome;
+    ran = ran call text e went.outcome;
     told = t;
   };
-  regions = tt;
-  complete = record { run = λ limits c s o n. absurd (let c' = r.is_check in cc); check = λ c. check_complete call e r t };
+  faults = faults call text e went t;
+  complete = record {
+    run = λ limits c s o n. complete_run call text e went.outcome t limits c o n;
+    check = λ c s n. complete_check call text e went.outcome t c n;
+  };
 }
 
-not_read_fault : (call : Call) (e : Ending) → HasPlace e → Checked call e → Checked call NoMemory
-not_read_fault call e h r = record { is_check = r.is_check; ends = tt; still = r.still; read_failed = λ x. cc }
+-- a run whose line had no memory counts as one that ran out of memory
+no_line_run : (limits : Limits) (text : List ℕ) (call : Call) (e : Ending) (end : RunEnd) → (r : RunsTo limits text e call.out)
+    → r.run_end ≡ end → HasPlace (Ran end) → RunsTo limits text (Ran run_end.NoMemory) call.out
+no_line_run limits text call e (run_end.Ended (the_end.Trap trap at)) r same h =
+    let runs = subst (λ x. ProgramRuns r.program (limits_of limits) x call.out) same r.runs in
+    record {
+      program = r.program;
+      is_program = r.is_program;
+      run_end = run_end.NoMemory;
+      is_end = refl;
+      runs = record {
+        rounds = runs.rounds;
+        last = runs.last;
+        begun = runs.begun;
+        state = runs.state;
+        went = runs.went;
+        goes = runs.goes;
+        ran = runs.ran;
+        ends = tt;
+        gives = runs.gives;
+      };
+      waits = λ x. cc;
+      failed = λ x. cc;
+      held = λ _. r.held (λ w. cc);
+    }
+no_line_run limits text call e (run_end.Ended the_end.Exit) r same h = absurd h
+no_line_run limits text call e run_end.Deadlock r same h = absurd h
+no_line_run limits text call e run_end.CallsTooDeep r same h = absurd h
+no_line_run limits text call e run_end.StepsSpent r same h = absurd h
+no_line_run limits text call e run_end.GoroutinesSpent r same h = absurd h
+no_line_run limits text call e run_end.WriteFault r same h = absurd h
+no_line_run limits text call e run_end.NoMemory r same h = absurd h
 
-pub headline_of_check : (call : Call) (e : Ending) → Checked call e → Reports e call.status call.err.old call.err.new call.err.faults_old call.err.faults_new → Headline call
-headline_of_check call e r (inl t) = check_told call e r t
-headline_of_check call e r (inr t) = check_told call NoMemory (not_read_fault call e t.0 r) t.1
+no_line : (call : Call) (text : List ℕ) (e : Ending) → Went call text e → Outcome call text e → HasPlace e
+    → Tells text NoMemory call.status call.err → Headline call
+no_line call text e went (inl v) h t = absurd (subst HasPlace v.0 h)
+no_line call text e went (inr (inl r)) h t =
+    headline_told call text (Ran run_end.NoMemory) (record {
+      is_text = went.is_text;
+      held = went.held;
+      asks = inl (Run r.0, r.1);
+      outcome = inr (inl (r.0, r.1, no_line_run r.0 text call e r.2.run_end r.2 refl (subst HasPlace r.2.is_end h)));
+    }) t
+no_line call text e went (inr (inr f)) h t =
+    headline_told call text NoMemory (record {
+      is_text = went.is_text;
+      held = went.held;
+      asks = inr refl;
+      outcome = inr (inr (tt, f.1));
+    }) t
 
-pub checked : (call : Call) (e : Ending) → IsCheck call → SourceChecks call.source.left e → Grew call.out [] → (e ≡ ReadFault → SourceFailed call) → Checked call e
-checked call e c ends still read = record { is_check = c; ends = ends; still = still; read_failed = read }
+pub headline_of : (call : Call) (text : List ℕ) (e : Ending) → Went call text e → Reports text e call.status call.err → Headline call
+headline_of call text e went (inl t) = headline_told call text e went t
+headline_of call text e went (inr t) = no_line call text e went went.outcome t.0 t.1
+
+checked_outcome : (call : Call) (text : List ℕ) (e : Ending) → IsCheck call → Checks text e → IsUntouched call.out → Outcome call text e
+checked_outcome call text Valid c p u = inl (refl, c, p, u)
+checked_outcome call text e c p u = inr (inr (p, u))
+
+performed_outcome : (call : Call) (command : Command) (text : List ℕ) (e : Ending) → Asks call command
+    → Performs command text e call.out → Outcome call text e
+performed_outcome call Check text e c p = checked_outcome call text e c p.0 p.1
+performed_outcome call (Run limits) text e c (inl r) = inr (inl (limits, c, r))
+performed_outcome call (Run limits) text e c (inr f) = inr (inr f)
+
+-- a call whose text was read
+pub headline_of_text : (call : Call) (command : Command) (text : List ℕ) (e : Ending)
+    → IsRead call.words call.source command text → Performs command text e call.out
+    → Reports text e call.status call.err → Headline call
+headline_of_text call command text e read performs reports =
+    headline_of call text e (record {
+      is_text = read.is_text;
+      held = read.held;
+      asks = inl (command, read.asked);
+      outcome = performed_outcome call command text e read.asked performs;
+    }) reports
 
 -- ---- other calls
 
--- words that ask for nothing
-pub headline_of_usage : (call : Call) → command_of call.words ≡ None → Grew call.out [] → Reports Usage call.status call.err.old call.err.new call.err.faults_old call.err.faults_new → Headline call
-headline_of_usage call n g (inl t) = record {
-  ending = Usage;
-  refusal = record {
-    usage = λ _. n;
-    unknown = λ _. inl refl;
-    refused = λ s. cc;
-    passes = λ c x. cc;
-    first = λ command c _. absurd (let c' = c in cc);
-    untouched = λ _. g;
-  };
-  print = λ limits c m. absurd m;
-  end = record { read_failed = λ x. cc; write_failed = λ x. cc; ran = λ m. absurd m; told = t };
-  regions = tt;
-  complete = record { run = λ limits c s o e. absurd (let c' = c in cc); check = λ c s e. absurd (let c' = c in cc) };
-}
-headline_of_usage call n g (inr t) = absurd t.0
+-- a text that is consistent with what the source reports
+abbrev some_text : Option (List ℕ) → List ℕ
+some_text None = []
+some_text (Some text) = text
 
--- words for which there was no memory
-pub headline_of_memory : (call : Call) → Grew call.out [] → Reports NoMemory call.status call.err.old call.err.new call.err.faults_old call.err.faults_new → Headline call
-headline_of_memory call g (inl t) = record {
-  ending = NoMemory;
+is_some_text : (left : Option (List ℕ)) → IsTextOf left (some_text left)
+is_some_text None = tt
+is_some_text (Some text) = refl
+
+-- an ending that has nothing to do with a text
+pub record IsOutside (e : Ending) : Type 0 where
+  pub not_refused : status_of e ≡ 1 → ⊥
+  pub not_valid : e ≡ Valid → ⊥
+  pub no_run : EndsRun e → ⊥
+  pub no_write_fault : e ≡ Ran run_end.WriteFault → ⊥
+  pub not_ran : (end : RunEnd) → e ≡ Ran end → ⊥
+
+-- a call that did not read its text: its words ask for nothing, or a read failed
+headline_outside : (call : Call) (e : Ending) → IsOutside e → IsUntouched call.out → Tells (some_text call.source.left) e call.status call.err
+    → (e ≡ Usage → command_of call.words ≡ None)
+    → (command_of call.words ≡ None → (e ≡ Usage) ⊎ (e ≡ NoMemory))
+    → (e ≡ ReadFault → SourceFailed call.source)
+    → (is_fault_status (status_of e) ≡ false → SourceHeld call.source)
+    → ((command : Command) → Asks call command → (SourceFailed call.source → ⊥) → ⊥)
+    → Headline call
+headline_outside call e outside u t of_usage to_usage of_fault kept only = record {
+  text = some_text call.source.left;
+  is_text = is_some_text call.source.left;
+  ending = e;
   refusal = record {
-    usage = λ x. cc;
-    unknown = λ _. inr refl;
-    refused = λ s. cc;
-    passes = λ c x. cc;
-    first = λ command c n. of_memory_first call;
-    untouched = λ _. g;
+    usage = of_usage;
+    unknown = to_usage;
+    refused = λ s. absurd (outside.not_refused s);
+    passes = λ x. absurd (outside.not_valid x);
+    first = λ command c n. absurd (only command c n);
+    untouched = λ _. u;
   };
-  print = λ limits c m. every call.source.left (Gives limits call NoMemory) (λ text. inr (refl, g));
-  end = record { read_failed = λ x. cc; write_failed = λ x. cc; ran = λ m. absurd m; told = t };
-  regions = tt;
+  print = λ limits c m. absurd (outside.no_run m);
+  end = record {
+    read_failed = of_fault;
+    write_failed = λ x. absurd (outside.no_write_fault x);
+    ran = λ end x. absurd (outside.not_ran end x);
+    told = t;
+  };
+  faults = record {
+    read = λ s. of_fault (status_9 call _ e t s);
+    write = λ s. elim (status_10 call _ e t s) [ inl w ↦ absurd (outside.no_write_fault w) | inr f ↦ inr f ];
+    none = λ s. let h = err_held call _ e t s in (kept (subst (λ n. is_fault_status n ≡ false) h.1 s), u.1, h.0);
+  };
   complete = record {
-    run = λ limits c s o n. every call.source.left (MustRunWhole (limits_of limits) call) (λ text program p q. inr (told_whole call NoMemory t n).0);
-    check = λ c s n. memory_let call t n;
+    run = λ limits c s o n. absurd (only (Run limits) c s);
+    check = λ c s n. absurd (only Check c s);
   };
 }
-headline_of_memory call g (inr t) = absurd t.0
+
+usage_outside : IsOutside Usage
+usage_outside = record { not_refused = λ s. cc; not_valid = λ x. cc; no_run = λ m. m; no_write_fault = λ x. cc; not_ran = λ end x. cc }
+
+fault_outside : IsOutside ReadFault
+fault_outside = record { not_refused = λ s. cc; not_valid = λ x. cc; no_run = λ m. m; no_write_fault = λ x. cc; not_ran = λ end x. cc }
+
+none_asked : (call : Call) → command_of call.words ≡ None → (command : Command) → Asks call command → ⊥
+none_asked call n command c = cc
+
+some_asked : (call : Call) → AskSome call.words → command_of call.words ≡ None → ⊥
+some_asked call some n = let c = some.1 in cc
+
+pub headline_of_words : (call : Call) (e : Ending) → NotRead call.words call.source e → IsUntouched call.out
+    → Reports [] e call.status call.err → Headline call
+headline_of_words call Usage n u (inl t) =
+    headline_outside call Usage usage_outside u t (λ _. n.0) (λ _. inl refl) (λ x. cc) (λ _. n.1)
+    (λ command c _. none_asked call n.0 command c)
+headline_of_words call ReadFault n u (inl t) =
+    headline_outside call ReadFault fault_outside u t (λ x. cc) (λ none. absurd (some_asked call n.0 none)) (λ _. n.1)
+    (λ s. cc) (λ command c no. no n.1)
+headline_of_words call TooLong n u (inl t) =
+    headline_told call n.2 TooLong (record { is_text = n.3; held = n.1; asks = inl n.0; outcome = inr (inr (n.4, u)) }) t
+headline_of_words call NoMemory n u (inl t) =
+    headline_told call (some_text call.source.left) NoMemory (record {
+      is_text = is_some_text call.source.left;
+      held = n;
+      asks = inr refl;
+      outcome = inr (inr (tt, u));
+    }) t
+headline_of_words call Usage n u (inr t) = absurd t.0
+headline_of_words call ReadFault n u (inr t) = absurd t.0
+headline_of_words call TooLong n u (inr t) = absurd t.0
+headline_of_words call NoMemory n u (inr t) = absurd t.0
+headline_of_words call _ n u t = absurd n
 
 -- ---- what a status alone says
 
-of_status : (e : Ending) → is_run_status (status_of e) ≡ true → IsOfRun e
-of_status (Trap trap at) s = tt
-of_status Deadlock s = tt
-of_status CallsTooDeep s = tt
-of_status StepsSpent s = tt
-of_status GoroutinesSpent s = tt
-of_status WriteFault s = tt
-of_status Exit s = cc
-of_status NoMemory s = cc
-of_status Usage s = cc
-of_status ReadFault s = cc
-of_status TooLong s = cc
-of_status (Lexical kind at) s = cc
-of_status (Syntax at) s = cc
-of_status (Nesting at) s = cc
-of_status (Typing rule at) s = cc
+run_of_status : (e : Ending) → is_run_status (status_of e) ≡ true → (end : RunEnd) × (e ≡ Ran end)
+run_of_status (Ran end) s = (end, refl)
+run_of_status Valid s = cc
+run_of_status NoMemory s = cc
+run_of_status Usage s = cc
+run_of_status ReadFault s = cc
+run_of_status TooLong s = cc
+run_of_status (Lexical refusal) s = cc
+run_of_status (Syntax at) s = cc
+run_of_status (Nesting at) s = cc
+run_of_status (Typing refusal) s = cc
 
-told_run : (call : Call) (e : Ending) → Told call e → (IsOfRun e → AsksRun call.words) → is_run_status call.status ≡ true → AsksRun call.words
-told_run call e (inl t) r s = r (of_status e (subst (λ n. is_run_status n ≡ true) t.0 s))
-told_run call e (inr t) r s = absurd (let ten = subst (λ n. is_run_status n ≡ true) t.0 s in cc)
+told_run : (call : Call) (text : List ℕ) (e : Ending) → Tells text e call.status call.err
+    → ((end : RunEnd) → e ≡ Ran end → AsksRun call.words) → is_run_status call.status ≡ true → AsksRun call.words
+told_run call text e (inl t) r s =
+    let run = run_of_status e (subst (λ n. is_run_status n ≡ true) t.0 s) in r run.0 run.1
+told_run call text e (inr t) r s = absurd (let ten = subst (λ n. is_run_status n ≡ true) t.0 s in cc)
 
 pub ran_by_status : (call : Call) → Headline call → is_run_status call.status ≡ true → AsksRun call.words
-ran_by_status call h s = told_run call h.ending h.end.told h.end.ran s
+ran_by_status call h s = told_run call h.text h.ending h.end.told h.end.ran s

@@ -1,3 +1,3 @@
-pub mod VerdictLemmas
 pub mod HeadlineLemmas
-pub mod SourceLemmas
+pub mod TextLemmas
+pub mod VerdictLemmas

@@ -1,11 +1,10 @@
 -- Each text is at most one program, and is valid or has one refusal, never both.
 use Rattle.std.proofs.Common.{◌≡◌, ℕ, ◌<◌, ◌≤◌, ◌⊎◌, inl, inr, List, length, Option, Some, None, refl, sym, ap, ◌∙◌, subst, arith}
 use Rattle.std.proofs.lemmas.Bool.{cases_lt}
-use Rattle.rgo_lexer.specs.declared.refusals.LexicalKind.{LexicalKind}
 use Rattle.rgo_lexer.specs.declared.refusals.LexRefusal.{LexRefusal}
 use Rattle.rgo_lexer.specs.Lexemes.{Lexeme}
 use Rattle.rgo_lexer.specs.Lexing.{LexesAs}
-use Rattle.rgo_lexer.specs.Refusals.{Refuses as LexRefuses, refusal}
+use Rattle.rgo_lexer.specs.Refusals.{Refuses as LexRefuses}
 use Rattle.rgo_lexer.proofs.OneReading as lexer
 use Rattle.rgo_ast.specs.Tree.{Program}
 use Rattle.rgo_parser.specs.Parsing.{IsParsed, Refuses}
@@ -13,13 +12,11 @@ use Rattle.rgo_parser.specs.declared.parser.ParseRefusal.{ParseRefusal}
 use Rattle.rgo_parser.specs.declared.parser.ParseRefusal.TheVariants as parse
 use Rattle.rgo_typing_rules.specs.Sites.{first_refusal}
 use Rattle.rgo_typing_rules.specs.declared.errors.TypeRefusal.{TypeRefusal}
-use Rattle.rgo_typing_rules.specs.declared.rules.Rule.{Rule}
 use Rattle.rgo_typed.specs.Tree.{Typed}
 use Rattle.rgo_types.specs.Programs.{sites_of, typed_program}
-use Rattle.rgo_run.specs.declared.endings.Position.{Position}
 use Rattle.rgo_run.specs.declared.endings.Ending.{Ending}
 use Rattle.rgo_run.specs.declared.endings.Ending.TheVariants.{TooLong, Lexical, Syntax, Nesting, Typing}
-use Rattle.rgo_run.specs.Positions.{position_of, place_of}
+use Rattle.rgo_run.specs.Positions.{place_of}
 use Rattle.rgo_run.specs.Verdicts.{text_limit, IsTree, IsWellTyped, Passes, IsProgram, IsRefused, IsMistyped, Refused, OneVerdict}
 use Rattle.rgo_parser.proofs.Answered as parser
 
@@ -38,109 +35,101 @@ one_program text p q a b = a.typed ∙ ap typed_program (one_tree text a.tree b.
 not_lexical : (text : List ℕ) (tree : Program) (r : LexRefusal) → IsTree text tree → LexRefuses text r → ⊥
 not_lexical text tree r a w = lexer.never_both text a.lexemes r a.lexed w
 
-not_refused : (text : List ℕ) (tree : Program) (r : ParseRefusal) (k : ℕ) (at : Position) → IsTree text tree → IsRefused text r k at → ⊥
+not_refused : (text : List ℕ) (tree : Program) (r : ParseRefusal) (k at : ℕ) → IsTree text tree → IsRefused text r k at → ⊥
 not_refused text tree r k at a w =
     parser.never_both (length text) w.lexemes tree r (moved text a.lexemes w.lexemes (λ t. IsParsed (length text) t tree) a.lexed w.lexed a.parsed) w.refused
 
 -- the first broken rule of a tree is that of each tree of the text
-moved_rule : (text : List ℕ) (tree : Program) (rule : Rule) (at : Position) → IsTree text tree → (w : IsMistyped text rule at) → first_refusal (sites_of tree) ≡ Some (record { rule = rule; at = w.place })
-moved_rule text tree rule at a w = subst (λ t. first_refusal (sites_of t) ≡ Some (record { rule = rule; at = w.place })) (one_tree text w.tree tree w.is_tree a) w.broken
+moved_rule : (text : List ℕ) (tree : Program) (refusal : TypeRefusal) → IsTree text tree → (w : IsMistyped text refusal)
+    → first_refusal (sites_of tree) ≡ Some refusal
+moved_rule text tree refusal a w =
+    subst (λ t. first_refusal (sites_of t) ≡ Some refusal) (one_tree text w.tree tree w.is_tree a) w.broken
 
-not_mistyped : (text : List ℕ) (tree : Program) (rule : Rule) (at : Position) → IsWellTyped text tree → IsMistyped text rule at → ⊥
-not_mistyped text tree rule at a w = let broken = moved_rule text tree rule at a.is_tree w in let none = a.unbroken in cc
+not_mistyped : (text : List ℕ) (tree : Program) (refusal : TypeRefusal) → IsWellTyped text tree → IsMistyped text refusal → ⊥
+not_mistyped text tree refusal a w = let broken = moved_rule text tree refusal a.is_tree w in let none = a.unbroken in cc
 
 -- what is within the rules breaks none
 keeps : (text : List ℕ) (tree : Program) (why : Ending) → IsWellTyped text tree → Refused text why → ⊥
 keeps text tree TooLong a r = omega (arith, a.is_tree.within)
-keeps text tree (Lexical kind at) a r = not_lexical text tree (refusal kind r.1) a.is_tree r.2
+keeps text tree (Lexical refusal) a r = not_lexical text tree refusal a.is_tree r.1
 keeps text tree (Syntax at) a r = not_refused text tree (parse.Syntax r.0) r.0 at a.is_tree r.1
 keeps text tree (Nesting at) a r = not_refused text tree (parse.TooDeep r.0) r.0 at a.is_tree r.1
-keeps text tree (Typing rule at) a r = not_mistyped text tree rule at a r
+keeps text tree (Typing refusal) a r = not_mistyped text tree refusal a r
 keeps text tree _ a r = r
 
 pub never_both : (text : List ℕ) (why : Ending) → Passes text → Refused text why → ⊥
 never_both text why t r = keeps text t.0 why t.1 r
 
 -- one lexical refusal
-same_lexical : (text : List ℕ) (j k : LexicalKind) (a b : Position) (p q : ℕ) → LexRefuses text (refusal j p) → LexRefuses text (refusal k q) → a ≡ position_of text p → b ≡ position_of text q → Lexical j a ≡ Lexical k b
-same_lexical text j k a b p q r s e f =
-    let same = lexer.one_refusal text (refusal j p) (refusal k q) r s in
-    let kinds : j ≡ k = ap (λ (x : LexRefusal). x.kind) same in
-    let places : p ≡ q = ap (λ (x : LexRefusal). x.at) same in
-    let at : a ≡ b = e ∙ ap (position_of text) places ∙ sym f in
-    cc
+same_lexical : (text : List ℕ) (p q : LexRefusal) → LexRefuses text p → LexRefuses text q → Lexical p ≡ Lexical q
+same_lexical text p q r s = ap Lexical (lexer.one_refusal text p q r s)
 
 -- one refusal of the lexemes
-same_refusal : (text : List ℕ) (r s : ParseRefusal) (j k : ℕ) (a b : Position) → IsRefused text r j a → IsRefused text s k b → r ≡ s
+same_refusal : (text : List ℕ) (r s : ParseRefusal) (j k a b : ℕ) → IsRefused text r j a → IsRefused text s k b → r ≡ s
 same_refusal text r s j k a b v w =
     parser.one_refusal w.lexemes r s (moved text v.lexemes w.lexemes (λ t. Refuses t r) v.lexed w.lexed v.refused) w.refused
 
-same_position : (text : List ℕ) (r s : ParseRefusal) (j k : ℕ) (a b : Position) → IsRefused text r j a → IsRefused text s k b → j ≡ k → a ≡ b
-same_position text r s j k a b v w e =
-    v.position ∙ ap (λ l. position_of text (place_of text l j)) (lexer.one_list text v.lexemes w.lexemes v.lexed w.lexed)
-    ∙ ap (λ n. position_of text (place_of text w.lexemes n)) e ∙ sym w.position
+same_place : (text : List ℕ) (r s : ParseRefusal) (j k a b : ℕ) → IsRefused text r j a → IsRefused text s k b → j ≡ k → a ≡ b
+same_place text r s j k a b v w e =
+    v.place ∙ ap (λ l. place_of text l j) (lexer.one_list text v.lexemes w.lexemes v.lexed w.lexed)
+    ∙ ap (λ n. place_of text w.lexemes n) e ∙ sym w.place
 
-same_syntax : (text : List ℕ) (j k : ℕ) (a b : Position) → IsRefused text (parse.Syntax j) j a → IsRefused text (parse.Syntax k) k b → Syntax a ≡ Syntax b
+same_syntax : (text : List ℕ) (j k a b : ℕ) → IsRefused text (parse.Syntax j) j a → IsRefused text (parse.Syntax k) k b → Syntax a ≡ Syntax b
 same_syntax text j k a b v w =
     let same = same_refusal text (parse.Syntax j) (parse.Syntax k) j k a b v w in
     let numbers : j ≡ k = cc in
-    ap Syntax (same_position text (parse.Syntax j) (parse.Syntax k) j k a b v w numbers)
+    ap Syntax (same_place text (parse.Syntax j) (parse.Syntax k) j k a b v w numbers)
 
-same_nesting : (text : List ℕ) (j k : ℕ) (a b : Position) → IsRefused text (parse.TooDeep j) j a → IsRefused text (parse.TooDeep k) k b → Nesting a ≡ Nesting b
+same_nesting : (text : List ℕ) (j k a b : ℕ) → IsRefused text (parse.TooDeep j) j a → IsRefused text (parse.TooDeep k) k b → Nesting a ≡ Nesting b
 same_nesting text j k a b v w =
     let same = same_refusal text (parse.TooDeep j) (parse.TooDeep k) j k a b v w in
     let numbers : j ≡ k = cc in
-    ap Nesting (same_position text (parse.TooDeep j) (parse.TooDeep k) j k a b v w numbers)
+    ap Nesting (same_place text (parse.TooDeep j) (parse.TooDeep k) j k a b v w numbers)
 
-not_both_ways : (text : List ℕ) (j k : ℕ) (a b : Position) → IsRefused text (parse.Syntax j) j a → IsRefused text (parse.TooDeep k) k b → ⊥
+not_both_ways : (text : List ℕ) (j k a b : ℕ) → IsRefused text (parse.Syntax j) j a → IsRefused text (parse.TooDeep k) k b → ⊥
 not_both_ways text j k a b v w = let same = same_refusal text (parse.Syntax j) (parse.TooDeep k) j k a b v w in cc
 
-not_both_orders : (text : List ℕ) (r : LexRefusal) (s : ParseRefusal) (k : ℕ) (at : Position) → LexRefuses text r → IsRefused text s k at → ⊥
+not_both_orders : (text : List ℕ) (r : LexRefusal) (s : ParseRefusal) (k at : ℕ) → LexRefuses text r → IsRefused text s k at → ⊥
 not_both_orders text r s k at v w = lexer.never_both text w.lexemes r w.lexed v
 
 abbrev refusal_or : TypeRefusal → Option TypeRefusal → TypeRefusal
 refusal_or r None = r
 refusal_or r (Some s) = s
 
-same_rule : (text : List ℕ) (i j : Rule) (a b : Position) → IsMistyped text i a → IsMistyped text j b → Typing i a ≡ Typing j b
-same_rule text i j a b v w =
-    let same = ap (refusal_or (record { rule = i; at = v.place })) (sym (moved_rule text w.tree i a w.is_tree v) ∙ w.broken) in
-    let rules : i ≡ j = ap (λ (r : TypeRefusal). r.rule) same in
-    let places : v.place ≡ w.place = ap (λ (r : TypeRefusal). r.at) same in
-    let at : a ≡ b = v.position ∙ ap (position_of text) places ∙ sym w.position in
-    cc
+same_rule : (text : List ℕ) (p q : TypeRefusal) → IsMistyped text p → IsMistyped text q → Typing p ≡ Typing q
+same_rule text p q v w = ap (λ r. Typing (refusal_or p r)) (sym (moved_rule text w.tree p w.is_tree v) ∙ w.broken)
 
 pub one_refusal : (text : List ℕ) (a b : Ending) → Refused text a → Refused text b → a ≡ b
 one_refusal text TooLong TooLong r s = refl
-one_refusal text TooLong (Lexical k b) r s = absurd (omega (arith, s.0))
+one_refusal text TooLong (Lexical q) r s = absurd (omega (arith, s.0))
 one_refusal text TooLong (Syntax b) r s = absurd (omega (arith, s.1.within))
 one_refusal text TooLong (Nesting b) r s = absurd (omega (arith, s.1.within))
-one_refusal text TooLong (Typing j b) r s = absurd (omega (arith, s.is_tree.within))
-one_refusal text (Lexical j a) TooLong r s = absurd (omega (arith, r.0))
-one_refusal text (Lexical j a) (Lexical k b) r s = same_lexical text j k a b r.1 s.1 r.2 s.2 r.3 s.3
-one_refusal text (Lexical j a) (Syntax b) r s = absurd (not_both_orders text (refusal j r.1) (parse.Syntax s.0) s.0 b r.2 s.1)
-one_refusal text (Lexical j a) (Nesting b) r s = absurd (not_both_orders text (refusal j r.1) (parse.TooDeep s.0) s.0 b r.2 s.1)
-one_refusal text (Lexical j a) (Typing k b) r s = absurd (not_lexical text s.tree (refusal j r.1) s.is_tree r.2)
+one_refusal text TooLong (Typing q) r s = absurd (omega (arith, s.is_tree.within))
+one_refusal text (Lexical p) TooLong r s = absurd (omega (arith, r.0))
+one_refusal text (Lexical p) (Lexical q) r s = same_lexical text p q r.1 s.1
+one_refusal text (Lexical p) (Syntax b) r s = absurd (not_both_orders text p (parse.Syntax s.0) s.0 b r.1 s.1)
+one_refusal text (Lexical p) (Nesting b) r s = absurd (not_both_orders text p (parse.TooDeep s.0) s.0 b r.1 s.1)
+one_refusal text (Lexical p) (Typing q) r s = absurd (not_lexical text s.tree p s.is_tree r.1)
 one_refusal text (Syntax a) TooLong r s = absurd (omega (arith, r.1.within))
-one_refusal text (Syntax a) (Lexical k b) r s = absurd (not_both_orders text (refusal k s.1) (parse.Syntax r.0) r.0 a s.2 r.1)
+one_refusal text (Syntax a) (Lexical q) r s = absurd (not_both_orders text q (parse.Syntax r.0) r.0 a s.1 r.1)
 one_refusal text (Syntax a) (Syntax b) r s = same_syntax text r.0 s.0 a b r.1 s.1
 one_refusal text (Syntax a) (Nesting b) r s = absurd (not_both_ways text r.0 s.0 a b r.1 s.1)
-one_refusal text (Syntax a) (Typing k b) r s = absurd (not_refused text s.tree (parse.Syntax r.0) r.0 a s.is_tree r.1)
+one_refusal text (Syntax a) (Typing q) r s = absurd (not_refused text s.tree (parse.Syntax r.0) r.0 a s.is_tree r.1)
 one_refusal text (Nesting a) TooLong r s = absurd (omega (arith, r.1.within))
-one_refusal text (Nesting a) (Lexical k b) r s = absurd (not_both_orders text (refusal k s.1) (parse.TooDeep r.0) r.0 a s.2 r.1)
+one_refusal text (Nesting a) (Lexical q) r s = absurd (not_both_orders text q (parse.TooDeep r.0) r.0 a s.1 r.1)
 one_refusal text (Nesting a) (Syntax b) r s = absurd (not_both_ways text s.0 r.0 b a s.1 r.1)
 one_refusal text (Nesting a) (Nesting b) r s = same_nesting text r.0 s.0 a b r.1 s.1
-one_refusal text (Nesting a) (Typing k b) r s = absurd (not_refused text s.tree (parse.TooDeep r.0) r.0 a s.is_tree r.1)
-one_refusal text (Typing j a) TooLong r s = absurd (omega (arith, r.is_tree.within))
-one_refusal text (Typing j a) (Lexical k b) r s = absurd (not_lexical text r.tree (refusal k s.1) r.is_tree s.2)
-one_refusal text (Typing j a) (Syntax b) r s = absurd (not_refused text r.tree (parse.Syntax s.0) s.0 b r.is_tree s.1)
-one_refusal text (Typing j a) (Nesting b) r s = absurd (not_refused text r.tree (parse.TooDeep s.0) s.0 b r.is_tree s.1)
-one_refusal text (Typing j a) (Typing k b) r s = same_rule text j k a b r s
+one_refusal text (Nesting a) (Typing q) r s = absurd (not_refused text s.tree (parse.TooDeep r.0) r.0 a s.is_tree r.1)
+one_refusal text (Typing p) TooLong r s = absurd (omega (arith, r.is_tree.within))
+one_refusal text (Typing p) (Lexical q) r s = absurd (not_lexical text r.tree q r.is_tree s.1)
+one_refusal text (Typing p) (Syntax b) r s = absurd (not_refused text r.tree (parse.Syntax s.0) s.0 b r.is_tree s.1)
+one_refusal text (Typing p) (Nesting b) r s = absurd (not_refused text r.tree (parse.TooDeep s.0) s.0 b r.is_tree s.1)
+one_refusal text (Typing p) (Typing q) r s = same_rule text p q r s
 one_refusal text TooLong _ r s = absurd s
-one_refusal text (Lexical j a) _ r s = absurd s
+one_refusal text (Lexical p) _ r s = absurd s
 one_refusal text (Syntax a) _ r s = absurd s
 one_refusal text (Nesting a) _ r s = absurd s
-one_refusal text (Typing j a) _ r s = absurd s
+one_refusal text (Typing p) _ r s = absurd s
 one_refusal text _ b r s = absurd r
 
 abbrev pub Judged : List ℕ → Type 0
@@ -148,14 +137,14 @@ Judged text = Passes text ⊎ ((why : Ending) × Refused text why)
 
 of_rule : (text : List ℕ) (tree : Program) (broken : Option TypeRefusal) → IsTree text tree → first_refusal (sites_of tree) ≡ broken → Judged text
 of_rule text tree None t e = inl (tree, record { is_tree = t; unbroken = e })
-of_rule text tree (Some r) t e = inr (Typing r.rule (position_of text r.at), record { tree = tree; is_tree = t; place = r.at; broken = e; position = refl })
+of_rule text tree (Some r) t e = inr (Typing r, record { tree = tree; is_tree = t; broken = e })
 
-refused_at : (text : List ℕ) (lexemes : List Lexeme) (r : ParseRefusal) (k : ℕ) → length text ≤ text_limit → LexesAs text lexemes → Refuses lexemes r → IsRefused text r k (position_of text (place_of text lexemes k))
-refused_at text lexemes r k h t w = record { within = h; lexemes = lexemes; lexed = t; refused = w; position = refl }
+refused_at : (text : List ℕ) (lexemes : List Lexeme) (r : ParseRefusal) (k : ℕ) → length text ≤ text_limit → LexesAs text lexemes → Refuses lexemes r → IsRefused text r k (place_of text lexemes k)
+refused_at text lexemes r k h t w = record { within = h; lexemes = lexemes; lexed = t; refused = w; place = refl }
 
 of_refusal : (text : List ℕ) (lexemes : List Lexeme) (r : ParseRefusal) → length text ≤ text_limit → LexesAs text lexemes → Refuses lexemes r → Judged text
-of_refusal text lexemes (parse.Syntax k) h t w = inr (Syntax (position_of text (place_of text lexemes k)), (k, refused_at text lexemes (parse.Syntax k) k h t w))
-of_refusal text lexemes (parse.TooDeep k) h t w = inr (Nesting (position_of text (place_of text lexemes k)), (k, refused_at text lexemes (parse.TooDeep k) k h t w))
+of_refusal text lexemes (parse.Syntax k) h t w = inr (Syntax (place_of text lexemes k), (k, refused_at text lexemes (parse.Syntax k) k h t w))
+of_refusal text lexemes (parse.TooDeep k) h t w = inr (Nesting (place_of text lexemes k), (k, refused_at text lexemes (parse.TooDeep k) k h t w))
 
 of_answer : (text : List ℕ) (lexemes : List Lexeme) → length text ≤ text_limit → LexesAs text lexemes
     → ((tree : Program) × IsParsed (length text) lexemes tree) ⊎ ((r : ParseRefusal) × Refuses lexemes r) → Judged text
@@ -164,7 +153,7 @@ of_answer text lexemes h t (inr r) = of_refusal text lexemes r.0 h t r.1
 
 of_tokens : (text : List ℕ) → length text ≤ text_limit → ((lexemes : List Lexeme) × LexesAs text lexemes) ⊎ ((r : LexRefusal) × LexRefuses text r) → Judged text
 of_tokens text h (inl t) = of_answer text t.0 h t.1 (parser.one_of_both (length text) t.0)
-of_tokens text h (inr r) = inr (Lexical r.0.kind (position_of text r.0.at), (h, r.0.at, r.1, refl))
+of_tokens text h (inr r) = inr (Lexical r.0, (h, r.1))
 
 of_length : (text : List ℕ) → (text_limit < length text) ⊎ (length text ≤ text_limit) → Judged text
 of_length text (inl h) = inr (TooLong, h)

@@ -1,5 +1,5 @@
 -- One call of `rgo`, by what it was given and what it left.
-use Rattle.std.specs.Prelude.{◌≡◌, ℕ, List, Option, Some}
+use Rattle.std.specs.Prelude.{◌≡◌, ℕ, Bool, true, List, [], Option, Some}
 use Rattle.std.specs.Io.KnownBytes.{Appends}
 use Rattle.rgo_outside.specs.Causes.{Rose}
 use Rattle.rgo_command_line.specs.declared.commands.Command.{Command}
@@ -7,22 +7,31 @@ use Rattle.rgo_command_line.specs.declared.commands.Command.TheVariants.{Run, Ch
 use Rattle.rgo_command_line.specs.declared.limits.Limits.{Limits}
 use Rattle.rgo_command_line.specs.Commands.{command_of}
 
--- what the source had left, where it tells, and its count of faults before and after
+-- what the source had left, where it reports it, and its count of faults before and after
 pub record SourceUse : Type 0 where
   pub left : Option (List ℕ)
   pub faults_old : ℕ
   pub faults_new : ℕ
 
--- what a sink held before and after, where it tells, and its count of faults
+-- what a sink held before and after, where it reports it, its count of faults, and whether its last write failed
 pub record SinkUse : Type 0 where
   pub old : Option (List ℕ)
   pub new : Option (List ℕ)
   pub faults_old : ℕ
   pub faults_new : ℕ
+  pub broken : Bool
 
--- the words ask for a run, within some limits
-abbrev pub AsksRun : List (List ℕ) → Type 0
-AsksRun words = (limits : Limits) × (command_of words ≡ Some (Run limits))
+abbrev pub source_use : Option (List ℕ) → (faults_old faults_new : ℕ) → SourceUse
+source_use left faults_old faults_new = record { left = left; faults_old = faults_old; faults_new = faults_new }
+
+abbrev pub sink_use : (old new : Option (List ℕ)) (faults_old faults_new : ℕ) (broken : Bool) → SinkUse
+sink_use old new faults_old faults_new broken = record {
+  old = old;
+  new = new;
+  faults_old = faults_old;
+  faults_new = faults_new;
+  broken = broken;
+}
 
 pub record Call : Type 0 where
   pub words : List (List ℕ)
@@ -30,6 +39,10 @@ pub record Call : Type 0 where
   pub out : SinkUse
   pub err : SinkUse
   pub status : ℕ
+
+-- the words ask for a run, within some limits
+abbrev pub AsksRun : List (List ℕ) → Type 0
+AsksRun words = (limits : Limits) × (command_of words ≡ Some (Run limits))
 
 -- the words ask for this
 abbrev pub Asks : Call → Command → Type 0
@@ -41,12 +54,27 @@ IsRun call limits = Asks call (Run limits)
 abbrev pub IsCheck : Call → Type 0
 IsCheck call = Asks call Check
 
-abbrev pub SourceFailed : Call → Type 0
-SourceFailed call = Rose call.source.faults_old call.source.faults_new
+-- a read failed
+abbrev pub SourceFailed : SourceUse → Type 0
+SourceFailed source = Rose source.faults_old source.faults_new
 
-abbrev pub Failed : SinkUse → Type 0
-Failed sink = Rose sink.faults_old sink.faults_new
+-- no read failed
+abbrev pub SourceHeld : SourceUse → Type 0
+SourceHeld source = source.faults_new ≡ source.faults_old
 
--- the sink holds these bytes behind what it held, where it tells
+-- a write failed, and nothing was written after it
+pub record Failed (sink : SinkUse) : Type 0 where
+  pub counted : Rose sink.faults_old sink.faults_new
+  pub broken : sink.broken ≡ true
+
+-- no write failed
+abbrev pub Held : SinkUse → Type 0
+Held sink = sink.faults_new ≡ sink.faults_old
+
+-- the sink holds these bytes after what it held, where it reports it
 abbrev pub Grew : SinkUse → List ℕ → Type 0
 Grew sink bytes = Appends sink.old sink.new bytes
+
+-- nothing was written
+abbrev pub IsUntouched : SinkUse → Type 0
+IsUntouched sink = Grew sink [] × Held sink

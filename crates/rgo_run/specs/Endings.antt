@@ -1,58 +1,79 @@
 -- The status of each ending, and its line on `err`.
-use Rattle.std.specs.Prelude.{ℕ, Bool, ◌||◌, List, [], ◌++◌, codes, decimal, if◌then◌else◌, ◌==◌}
+use Rattle.std.specs.Prelude.{ℕ, Bool, ◌||◌, List, [], ◌++◌, codes, decimal, ◌==◌}
 use Rattle.rgo_lexer.specs.LexicalKinds as kinds
 use Rattle.rgo_typing_rules.specs.RuleNames as rules
 use Rattle.rgo_memory.specs.Traps as traps
-use Rattle.rgo_run.specs.declared.endings.Position.{Position}
+use Rattle.rgo_machine.specs.declared.picks.End.TheVariants as the_end
+use Rattle.rgo_driver.specs.declared.ends.RunEnd.{RunEnd}
+use Rattle.rgo_driver.specs.declared.ends.RunEnd.TheVariants as run_end
 use Rattle.rgo_run.specs.declared.endings.Ending.{Ending}
-use Rattle.rgo_run.specs.declared.endings.Ending.TheVariants.{Usage, ReadFault, TooLong}
-use Rattle.rgo_run.specs.declared.endings.Ending.TheVariants.{Lexical, Syntax, Nesting, Typing}
-use Rattle.rgo_run.specs.declared.endings.Ending.TheVariants.{Exit, Trap, Deadlock, WriteFault, NoMemory}
-use Rattle.rgo_run.specs.declared.endings.Ending.TheVariants.{CallsTooDeep, StepsSpent, GoroutinesSpent}
+use Rattle.rgo_run.specs.declared.endings.Ending.TheVariants.{Valid, Ran, Usage, ReadFault, TooLong}
+use Rattle.rgo_run.specs.declared.endings.Ending.TheVariants.{Lexical, Syntax, Nesting, Typing, NoMemory}
+use Rattle.rgo_run.specs.Positions.{position_of}
+
+abbrev pub status_of_run : RunEnd → ℕ
+status_of_run (run_end.Ended the_end.Exit) = 0
+status_of_run (run_end.Ended (the_end.Trap trap at)) = 2
+status_of_run run_end.Deadlock = 3
+status_of_run run_end.CallsTooDeep = 7
+status_of_run run_end.StepsSpent = 8
+status_of_run run_end.GoroutinesSpent = 12
+status_of_run run_end.WriteFault = 10
+status_of_run run_end.NoMemory = 11
 
 abbrev pub status_of : Ending → ℕ
-status_of Exit = 0
-status_of (Trap trap at) = 2
-status_of Deadlock = 3
-status_of CallsTooDeep = 7
-status_of StepsSpent = 8
-status_of GoroutinesSpent = 12
+status_of Valid = 0
+status_of (Ran end) = status_of_run end
 status_of Usage = 64
 status_of ReadFault = 9
 status_of TooLong = 1
-status_of (Lexical kind at) = 1
+status_of (Lexical refusal) = 1
 status_of (Syntax at) = 1
 status_of (Nesting at) = 1
-status_of (Typing rule at) = 1
-status_of WriteFault = 10
+status_of (Typing refusal) = 1
 status_of NoMemory = 11
 
--- only a run answers with such a status
+-- only a run ends with such a status
 abbrev pub is_run_status : ℕ → Bool
 is_run_status status = status == 2 || status == 3 || status == 7 || status == 8 || status == 12
 
--- `rgo: LINE:COLUMN: ` and what is wrong there
-abbrev pub at_position : Position → List ℕ → List ℕ
-at_position at message =
-    codes "rgo: " ++ (decimal at.line ++ (codes ":" ++ (decimal at.column ++ (codes ": " ++ message))))
+-- a read or a write failed
+abbrev pub is_fault_status : ℕ → Bool
+is_fault_status status = status == 9 || status == 10
 
--- one line, or nothing where `main` returned or a text was only judged and is within the rules
-abbrev pub line_of : Ending → List ℕ
-line_of Exit = []
-line_of (Trap trap at) =
-    at_position at (codes "trap " ++ (decimal (traps.number_of trap) ++ (codes " " ++ (traps.name_of trap ++ codes "\n"))))
-line_of Deadlock = codes "rgo: deadlock\n"
-line_of CallsTooDeep = codes "rgo: calls too deep\n"
-line_of StepsSpent = codes "rgo: steps spent\n"
-line_of GoroutinesSpent = codes "rgo: goroutines spent\n"
-line_of Usage = codes "usage: rgo run [--steps N] [--pages N] [--page-words N] [--regions N] [--goroutines N] [--workers N] [--stats] | check | emit | code | big N\n"
-line_of ReadFault = codes "rgo: read failed\n"
-line_of TooLong = codes "rgo: text longer than 1048576 bytes\n"
-line_of (Lexical kind at) =
-    at_position at (codes "lexical " ++ (decimal (kinds.number_of kind) ++ (codes " " ++ (kinds.name_of kind ++ codes "\n"))))
-line_of (Syntax at) = at_position at (codes "syntax\n")
-line_of (Nesting at) = at_position at (codes "nesting\n")
-line_of (Typing rule at) =
-    at_position at (codes "type " ++ (decimal (rules.number_of rule) ++ (codes " " ++ (rules.name_of rule ++ codes "\n"))))
-line_of WriteFault = codes "rgo: write failed\n"
-line_of NoMemory = codes "rgo: out of memory\n"
+-- `rgo: LINE:COLUMN: ` and what is wrong at a place of the text
+abbrev pub positioned : List ℕ → ℕ → List ℕ → List ℕ
+positioned text at message =
+    codes "rgo: " ++ (decimal (position_of text at).line
+    ++ (codes ":" ++ (decimal (position_of text at).column ++ (codes ": " ++ (message ++ codes "\n")))))
+
+-- a kind, and the number and the name of one of that kind
+abbrev pub numbered : List ℕ → ℕ → List ℕ → List ℕ
+numbered kind number name = kind ++ (codes " " ++ (decimal number ++ (codes " " ++ name)))
+
+-- one line, or nothing where `main` returned
+abbrev pub line_of_run : List ℕ → RunEnd → List ℕ
+line_of_run text (run_end.Ended the_end.Exit) = []
+line_of_run text (run_end.Ended (the_end.Trap trap at)) =
+    positioned text at (numbered (codes "trap") (traps.number_of trap) (traps.name_of trap))
+line_of_run text run_end.Deadlock = codes "rgo: deadlock\n"
+line_of_run text run_end.CallsTooDeep = codes "rgo: calls too deep\n"
+line_of_run text run_end.StepsSpent = codes "rgo: steps spent\n"
+line_of_run text run_end.GoroutinesSpent = codes "rgo: goroutines spent\n"
+line_of_run text run_end.WriteFault = codes "rgo: write failed\n"
+line_of_run text run_end.NoMemory = codes "rgo: out of memory\n"
+
+-- one line, or nothing where `main` returned or a text was only checked and is valid
+abbrev pub line_of : List ℕ → Ending → List ℕ
+line_of text Valid = []
+line_of text (Ran end) = line_of_run text end
+line_of text Usage = codes "usage: rgo run [--steps N] [--pages N] [--page-words N] [--regions N] [--goroutines N] [--workers N] [--stats] | check | emit | code | big N\n"
+line_of text ReadFault = codes "rgo: read failed\n"
+line_of text TooLong = codes "rgo: text longer than 1048576 bytes\n"
+line_of text (Lexical refusal) =
+    positioned text refusal.at (numbered (codes "lexical") (kinds.number_of refusal.kind) (kinds.name_of refusal.kind))
+line_of text (Syntax at) = positioned text at (codes "syntax")
+line_of text (Nesting at) = positioned text at (codes "nesting")
+line_of text (Typing refusal) =
+    positioned text refusal.at (numbered (codes "type") (rules.number_of refusal.rule) (rules.name_of refusal.rule))
+line_of text NoMemory = codes "rgo: out of memory\n"

@@ -1,8 +1,9 @@
 pub mod Calls
 pub mod Endings
+pub mod Errors
 pub mod Headline
 pub mod Positions
 pub mod Reports
 pub mod Runs
-pub mod Sources
+pub mod Texts
 pub mod Verdicts

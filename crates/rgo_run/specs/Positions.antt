@@ -2,7 +2,7 @@
 use Rattle.std.specs.Prelude.{ℕ, ◌+◌, ◌==◌, Bool, not, List, length, take, None, Some, count_by}
 use Rattle.std.specs.List.{suffix_len, slice_get}
 use Rattle.rgo_lexer.specs.Lexemes.{Lexeme}
-use Rattle.rgo_run.specs.declared.endings.Position.{Position}
+use Rattle.rgo_run.specs.declared.positions.Position.{Position}
 
 abbrev pub is_in_line : ℕ → Bool
 is_in_line b = not (b == 10)

@@ -1,29 +1,33 @@
 -- What a report leaves: the status, and the line on `err`.
-use Rattle.std.specs.Prelude.{◌≡◌, ℕ, ◌⊎◌, List, take, Option}
-use Rattle.std.specs.Io.KnownBytes.{Appends}
-use Rattle.rgo_outside.specs.Causes.{Rose}
+use Rattle.std.specs.Prelude.{◌≡◌, ℕ, ◌⊎◌, List, take}
+use Rattle.rgo_machine.specs.declared.picks.End.TheVariants.{Trap}
+use Rattle.rgo_driver.specs.declared.ends.RunEnd.TheVariants.{Ended}
 use Rattle.rgo_run.specs.declared.endings.Ending.{Ending}
-use Rattle.rgo_run.specs.declared.endings.Ending.TheVariants.{Lexical, Syntax, Nesting, Typing, Trap, NoMemory}
+use Rattle.rgo_run.specs.declared.endings.Ending.TheVariants.{Ran, Lexical, Syntax, Nesting, Typing, NoMemory}
+use Rattle.rgo_run.specs.Calls.{SinkUse, Failed, Held, Grew}
 use Rattle.rgo_run.specs.Endings.{status_of, line_of}
 
--- `err` took the whole line, and the answer is the status; or it failed, took the first bytes of the line, and the
--- answer is 10
-abbrev pub Tells : List ℕ → ℕ → ℕ → Option (List ℕ) → Option (List ℕ) → ℕ → ℕ → Type 0
-Tells line status answer old new faults_old faults_new =
-    ((answer ≡ status) × Appends old new line)
-    ⊎ ((answer ≡ 10) × Rose faults_old faults_new × (n : ℕ) × Appends old new (take n line))
+-- `err` took the whole line, and the answer is the status; or a write failed, `err` took the first bytes of the line,
+-- and the answer is 10
+abbrev pub Writes : List ℕ → ℕ → ℕ → SinkUse → Type 0
+Writes line status answer err =
+    ((answer ≡ status) × Grew err line × Held err)
+    ⊎ ((answer ≡ 10) × Failed err × (n : ℕ) × Grew err (take n line))
 
--- an ending whose line has numbers in it, and so wants memory
+-- the line of the ending was written so
+abbrev pub Tells : List ℕ → Ending → ℕ → SinkUse → Type 0
+Tells text ending answer err = Writes (line_of text ending) (status_of ending) answer err
+
+-- an ending whose line has numbers in it, and so needs memory
 abbrev pub HasPlace : Ending → Type 0
-HasPlace (Lexical kind at) = Unit {0}
+HasPlace (Ran (Ended (Trap trap at))) = Unit {0}
+HasPlace (Lexical refusal) = Unit {0}
 HasPlace (Syntax at) = Unit {0}
 HasPlace (Nesting at) = Unit {0}
-HasPlace (Typing rule at) = Unit {0}
-HasPlace (Trap trap at) = Unit {0}
+HasPlace (Typing refusal) = Unit {0}
 HasPlace _ = ⊥
 
--- the line of the ending was told, or that memory ran out for it
-abbrev pub Reports : Ending → ℕ → Option (List ℕ) → Option (List ℕ) → ℕ → ℕ → Type 0
-Reports ending answer old new faults_old faults_new =
-    Tells (line_of ending) (status_of ending) answer old new faults_old faults_new
-    ⊎ (HasPlace ending × Tells (line_of NoMemory) (status_of NoMemory) answer old new faults_old faults_new)
+-- the line of the ending was written, or on allocation failure for it, that memory ran out
+abbrev pub Reports : List ℕ → Ending → ℕ → SinkUse → Type 0
+Reports text ending answer err =
+    Tells text ending answer err ⊎ (HasPlace ending × Tells text NoMemory answer err)

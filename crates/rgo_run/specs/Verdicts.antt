@@ -2,19 +2,18 @@
 use Rattle.std.specs.Prelude.{◌≡◌, ℕ, ◌<◌, ◌≤◌, ◌⊎◌, List, length, Some, None}
 use Rattle.rgo_lexer.specs.Lexemes.{Lexeme}
 use Rattle.rgo_lexer.specs.Lexing.{LexesAs}
-use Rattle.rgo_lexer.specs.Refusals.{Refuses as LexRefuses, refusal}
+use Rattle.rgo_lexer.specs.Refusals.{Refuses as LexRefuses}
 use Rattle.rgo_ast.specs.Tree.{Program}
 use Rattle.rgo_parser.specs.Parsing.{IsParsed, Refuses}
 use Rattle.rgo_parser.specs.declared.parser.ParseRefusal.{ParseRefusal}
 use Rattle.rgo_parser.specs.declared.parser.ParseRefusal.TheVariants as parse
 use Rattle.rgo_typing_rules.specs.Sites.{first_refusal}
-use Rattle.rgo_typing_rules.specs.declared.rules.Rule.{Rule}
+use Rattle.rgo_typing_rules.specs.declared.errors.TypeRefusal.{TypeRefusal}
 use Rattle.rgo_typed.specs.Tree.{Typed}
 use Rattle.rgo_types.specs.Programs.{sites_of, typed_program}
-use Rattle.rgo_run.specs.declared.endings.Position.{Position}
 use Rattle.rgo_run.specs.declared.endings.Ending.{Ending}
 use Rattle.rgo_run.specs.declared.endings.Ending.TheVariants.{TooLong, Lexical, Syntax, Nesting, Typing}
-use Rattle.rgo_run.specs.Positions.{position_of, place_of}
+use Rattle.rgo_run.specs.Positions.{place_of}
 
 -- the most bytes of a text
 abbrev pub text_limit : ℕ
@@ -42,31 +41,28 @@ pub record IsProgram (text : List ℕ) (program : Typed) : Type 0 where
   pub is_well_typed : IsWellTyped text tree
   pub typed : program ≡ typed_program tree
 
--- the text is within the limit, and its lexemes are refused, at this position
-pub record IsRefused (text : List ℕ) (refusal : ParseRefusal) (number : ℕ) (at : Position) : Type 0 where
+-- the text is within the limit, and its lexemes are refused: the lexeme with this number, which begins at this place
+pub record IsRefused (text : List ℕ) (refusal : ParseRefusal) (number : ℕ) (at : ℕ) : Type 0 where
   pub within : length text ≤ text_limit
   pub lexemes : List Lexeme
   pub lexed : LexesAs text lexemes
   pub refused : Refuses lexemes refusal
-  pub position : at ≡ position_of text (place_of text lexemes number)
+  pub place : at ≡ place_of text lexemes number
 
--- the text is a tree of which a node breaks a typing rule: in the order of checking the first that breaks one, and the
--- first rule that it breaks, at this position
-pub record IsMistyped (text : List ℕ) (rule : Rule) (at : Position) : Type 0 where
+-- the text is a tree of which a node breaks a typing rule: the first in the order of checking, and the first rule that
+-- it breaks
+pub record IsMistyped (text : List ℕ) (refusal : TypeRefusal) : Type 0 where
   pub tree : Program
   pub is_tree : IsTree text tree
-  pub place : ℕ
-  pub broken : first_refusal (sites_of tree) ≡ Some (record { rule = rule; at = place })
-  pub position : at ≡ position_of text place
+  pub broken : first_refusal (sites_of tree) ≡ Some refusal
 
 -- why a text is refused: the first place at which it breaks a rule, as the ending that reports it
 abbrev pub Refused : List ℕ → Ending → Type 0
 Refused text TooLong = text_limit < length text
-Refused text (Lexical kind at) =
-    (length text ≤ text_limit) × (place : ℕ) × LexRefuses text (refusal kind place) × (at ≡ position_of text place)
+Refused text (Lexical refusal) = (length text ≤ text_limit) × LexRefuses text refusal
 Refused text (Syntax at) = (k : ℕ) × IsRefused text (parse.Syntax k) k at
 Refused text (Nesting at) = (k : ℕ) × IsRefused text (parse.TooDeep k) k at
-Refused text (Typing rule at) = IsMistyped text rule at
+Refused text (Typing refusal) = IsMistyped text refusal
 Refused text _ = ⊥
 
 -- Each text is at most one program, and is valid or has one refusal, never both.

@@ -1,31 +1,23 @@
 //! How a call of `rgo` ends.
 
-use rgo_lexer::LexicalKind;
-use rgo_typing_rules::Rule;
-use rgo_memory::Trap;
+ghost use Rattle.std.specs.Prelude.{◌≡◌};
+ghost use Rattle.rgo_run.specs.Errors.{command_error, lex_error, read_error, type_error};
 
-/// A line and a column of a text, both from 1. Columns are bytes.
-#[derive(Clone, Copy, Debug, PartialEq, Eq)]
-pub struct Position {
-    pub line: usize,
-    pub column: usize,
-}
+use rgo_ast::Place;
+use rgo_command_line::WordsError;
+use rgo_driver::RunEnd;
+use rgo_lexer::{LexError, LexRefusal};
+use rgo_outside::ReadEnd;
+use rgo_typing_rules::{TypeError, TypeRefusal};
 
-/// How a call ended, by which its status and its line on `err` are determined.
+/// How a call ended, which determines its status and its line on `err`. Places are those of the
+/// text, in bytes from its beginning.
 #[derive(Clone, Copy, Debug, PartialEq, Eq)]
 pub enum Ending {
-    /// `main` returned; or the text was only to be checked, and is valid.
-    Exit,
-    /// A goroutine trapped: why, and where.
-    Trap { trap: Trap, at: Position },
-    /// No goroutine can step, alone or with another, and `main` has not returned.
-    Deadlock,
-    /// A goroutine that has 100,000 calls open makes another.
-    CallsTooDeep,
-    /// As many steps were taken as the run may take.
-    StepsSpent,
-    /// There are as many goroutines as there may be, and one starts another.
-    GoroutinesSpent,
+    /// The text was only to be checked, and is a valid program.
+    Valid,
+    /// The text's program was run, and its run ended so.
+    Ran(RunEnd),
     /// The words name no command.
     Usage,
     /// A read of the source failed.
@@ -33,15 +25,58 @@ pub enum Ending {
     /// The source gave more bytes than a text may have.
     TooLong,
     /// The text has no lexemes: what is wrong first, and where.
-    Lexical { kind: LexicalKind, at: Position },
+    Lexical(LexRefusal),
     /// The text is not a program: where the first token is with which no program continues.
-    Syntax { at: Position },
+    Syntax { at: Place },
     /// The program is nested too deep: where the first token is after which it is.
-    Nesting { at: Position },
+    Nesting { at: Place },
     /// The program breaks a typing rule: the first that it breaks, and where.
-    Typing { rule: Rule, at: Position },
-    /// A write to `out` failed.
-    WriteFault,
-    /// Memory ran out.
+    Typing(TypeRefusal),
+    /// Memory ran out before the run.
     NoMemory,
+}
+
+impl From<WordsError> for Ending {
+    ghost from_gives = { λ error ending. ending ≡ command_error error };
+
+    fn from(error: WordsError) -> Ending {
+        match error {
+            WordsError::Usage => Ending::Usage,
+            WordsError::NoMemory => Ending::NoMemory,
+        }
+    }
+}
+
+impl From<ReadEnd> for Ending {
+    ghost from_gives = { λ error ending. ending ≡ read_error error };
+
+    fn from(error: ReadEnd) -> Ending {
+        match error {
+            ReadEnd::Fault => Ending::ReadFault,
+            ReadEnd::TooLong => Ending::TooLong,
+            ReadEnd::NoMemory => Ending::NoMemory,
+        }
+    }
+}
+
+impl From<LexError> for Ending {
+    ghost from_gives = { λ error ending. ending ≡ lex_error error };
+
+    fn from(error: LexError) -> Ending {
+        match error {
+            LexError::Refused(refusal) => Ending::Lexical(refusal),
+            LexError::NoMemory => Ending::NoMemory,
+        }
+    }
+}
+
+impl From<TypeError> for Ending {
+    ghost from_gives = { λ error ending. ending ≡ type_error error };
+
+    fn from(error: TypeError) -> Ending {
+        match error {
+            TypeError::Refused(refusal) => Ending::Typing(refusal),
+            TypeError::NoMemory => Ending::NoMemory,
+        }
+    }
 }

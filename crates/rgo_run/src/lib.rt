@@ -1,18 +1,20 @@
-//! The compiler and its runtime as one call: `rgo` reads a text, judges or runs it, and answers with
-//! a status.
+//! The compiler and its runtime as one call: `rgo` reads a text, checks or runs it, and returns a
+//! status.
 #![tactic(auto)]
 
+mod compile;
 mod endings;
 mod laws;
 mod positions;
 mod report;
 mod top;
 
-pub use endings::{Ending, Position};
+pub use endings::Ending;
 pub use laws::one_verdict;
-pub use rgo_lexer::LexicalKind;
-pub use rgo_driver::{Limits as RunLimits, RunEnd};
-pub use rgo_typing_rules::Rule;
+pub use rgo_driver::RunEnd;
+pub use rgo_lexer::{LexRefusal, LexicalKind};
+pub use rgo_machine::End;
+pub use rgo_typing_rules::{Rule, TypeRefusal};
 pub use rgo_memory::Trap;
 pub use rgo_command_line::{Command, Limits};
 pub use top::rgo;

@@ -4,7 +4,12 @@ ghost use Rattle.std.specs.Prelude.{◌≡◌, ◌≤◌, ◌<◌, ◌^◌, ◌=
 ghost use Rattle.std.specs.List.{suffix_len};
 ghost use Rattle.rgo_run.specs.Positions.{position_of, is_in_line};
 
-use crate::endings::Position;
+/// A line and a column of a text, both from 1. Columns are bytes.
+#[derive(Clone, Copy, Debug, PartialEq, Eq)]
+pub(crate) struct Position {
+    pub line: usize,
+    pub column: usize,
+}
 
 fn newlines(bytes: &[u8]) -> usize
     ensures value { result ≡ count_by (λ b. b == 10) bytes.now }
@@ -13,7 +18,7 @@ fn newlines(bytes: &[u8]) -> usize
     bytes.iter().filter(|b| **b == b'\n').count()
 }
 
-// How many bytes stand behind the last newline.
+// How many bytes follow the last newline.
 fn since_newline(bytes: &[u8]) -> usize
     ensures value { result ≡ suffix_len is_in_line bytes.now }
     ensures within { result ≤ length bytes.now }
@@ -30,7 +35,7 @@ fn since_newline(bytes: &[u8]) -> usize
 }
 
 /// The line and the column of a place, which is a number of bytes from the text's beginning; of one
-/// behind its end, those of the end.
+/// after its end, those of the end.
 pub(crate) fn position_of(text: &[u8], place: usize) -> Position
     requires { length text.now < 2 ^ 63 }
     ensures { result ≡ position_of text.now place }

@@ -1,69 +1,62 @@
 //! The report of an ending: its line on `err`, and its status.
 
-ghost use Rattle.std.specs.Prelude.{◌≡◌, IfOk, string_bytes};
-ghost use Rattle.rgo_run.specs.Endings.{line_of};
-ghost use Rattle.rgo_run.specs.Reports.{Tells, Reports};
+ghost use Rattle.std.specs.Prelude.{◌≡◌, ◌<◌, ◌^◌, [], length, IfOk, MatchResult, string_bytes};
+ghost use Rattle.rgo_run.specs.Calls.{sink_use};
+ghost use Rattle.rgo_run.specs.Endings.{line_of, numbered, positioned};
+ghost use Rattle.rgo_run.specs.Reports.{Reports, Writes};
 
-use crate::endings::{Ending, Position};
-use rgo_lexer::LexicalKind;
+use crate::endings::Ending;
+use crate::positions::position_of;
+use rgo_ast::Place;
+use rgo_driver::RunEnd;
+use rgo_machine::End;
 use rgo_outside::{Sink, write_all};
-use rgo_typing_rules::Rule;
-use rgo_memory::Trap;
 use std::alloc::{AllocError, Global};
 
 const USAGE: &[u8] =
     b"usage: rgo run [--steps N] [--pages N] [--page-words N] [--regions N] [--goroutines N] [--workers N] [--stats] | check | emit | code | big N\n";
 
-fn lexical_line(alloc: Global, kind: LexicalKind, at: Position) -> Result<String, AllocError>
-    ensures { IfOk result (λ line. string_bytes line ≡ line_of (Ending.Lexical kind at)) }
+const NO_MEMORY: &[u8] = b"rgo: out of memory\n";
+
+// What is wrong at a place.
+fn line_at(
+    alloc: Global,
+    text: &[u8],
+    at: Place,
+    message: &str,
+) -> Result<String, AllocError>
+    requires { length text.now < 2 ^ 63 }
+    ensures { IfOk result (λ line. string_bytes line ≡ positioned text.now at message.now) }
 {
-    let line = at.line;
-    let column = at.column;
-    let number = kind.number();
-    let name = kind.name();
-    format!(in alloc; "rgo: {line}:{column}: lexical {number} {name}\n")
+    let position = position_of(text, at);
+    let line = position.line;
+    let column = position.column;
+    format!(in alloc; "rgo: {line}:{column}: {message}\n")
 }
 
-fn syntax_line(alloc: Global, at: Position) -> Result<String, AllocError>
-    ensures { IfOk result (λ line. string_bytes line ≡ line_of (Ending.Syntax at)) }
+// What is wrong at a place, by the number and the name of its kind.
+fn numbered_line_at(
+    alloc: Global,
+    text: &[u8],
+    at: Place,
+    kind: &str,
+    number: u8,
+    name: &str,
+) -> Result<String, AllocError>
+    requires { length text.now < 2 ^ 63 }
+    ensures { IfOk result (λ line.
+        string_bytes line ≡ positioned text.now at (numbered kind.now number name.now)) }
 {
-    let line = at.line;
-    let column = at.column;
-    format!(in alloc; "rgo: {line}:{column}: syntax\n")
+    let position = position_of(text, at);
+    let line = position.line;
+    let column = position.column;
+    format!(in alloc; "rgo: {line}:{column}: {kind} {number} {name}\n")
 }
 
-fn nesting_line(alloc: Global, at: Position) -> Result<String, AllocError>
-    ensures { IfOk result (λ line. string_bytes line ≡ line_of (Ending.Nesting at)) }
-{
-    let line = at.line;
-    let column = at.column;
-    format!(in alloc; "rgo: {line}:{column}: nesting\n")
-}
-
-fn typing_line(alloc: Global, rule: Rule, at: Position) -> Result<String, AllocError>
-    ensures { IfOk result (λ line. string_bytes line ≡ line_of (Ending.Typing rule at)) }
-{
-    let line = at.line;
-    let column = at.column;
-    let number = rule.number();
-    let name = rule.name();
-    format!(in alloc; "rgo: {line}:{column}: type {number} {name}\n")
-}
-
-fn trap_line(alloc: Global, trap: Trap, at: Position) -> Result<String, AllocError>
-    ensures { IfOk result (λ line. string_bytes line ≡ line_of (Ending.Trap trap at)) }
-{
-    let line = at.line;
-    let column = at.column;
-    let number = trap.number();
-    let name = trap.name();
-    format!(in alloc; "rgo: {line}:{column}: trap {number} {name}\n")
-}
-
-// Tries the line once. Where it fails, the status is 10.
-fn tell<E: Sink>(err: &mut E, line: &[u8], status: u8) -> u8
-    ensures { Tells line.now status result
-        (E.contents err.old) (E.contents err.new) (E.faults err.old) (E.faults err.new) }
+// Writes the line once. If that fails, the status is 10.
+fn write<E: Sink>(err: &mut E, line: &[u8], status: u8) -> u8
+    ensures { Writes line.now status result (sink_use (E.contents err.old) (E.contents err.new)
+        (E.faults err.old) (E.faults err.new) (E.broken err.new)) }
 {
     if write_all(err, line).is_ok() {
         status
@@ -72,50 +65,73 @@ fn tell<E: Sink>(err: &mut E, line: &[u8], status: u8) -> u8
     }
 }
 
-// Tells that memory ran out, also where it did for a line.
-fn tell_no_memory<E: Sink>(err: &mut E) -> u8
-    ensures { Tells (line_of Ending.NoMemory) 11 result
-        (E.contents err.old) (E.contents err.new) (E.faults err.old) (E.faults err.new) }
+// Writes the line; on allocation failure, that memory ran out.
+fn write_or_no_memory<E: Sink>(err: &mut E, line: Result<String, AllocError>, status: u8) -> u8
+    ensures { MatchResult line
+        (λ line. Writes (string_bytes line) status result (sink_use (E.contents err.old)
+            (E.contents err.new) (E.faults err.old) (E.faults err.new) (E.broken err.new)))
+        (λ _. Writes (line_of [] Ending.NoMemory) 11 result (sink_use (E.contents err.old)
+            (E.contents err.new) (E.faults err.old) (E.faults err.new) (E.broken err.new))) }
 {
-    tell(err, b"rgo: out of memory\n", 11)
+    match line {
+        Ok(line) => write(err, line.as_bytes(), status),
+        Err(_) => write(err, NO_MEMORY, 11),
+    }
 }
 
-/// Writes the line of an ending, and answers with its status. Where there is no memory for the
-/// line, that is the ending.
-pub(crate) fn report<E: Sink>(alloc: Global, ending: Ending, err: &mut E) -> u8
-    ensures { Reports ending result
-        (E.contents err.old) (E.contents err.new) (E.faults err.old) (E.faults err.new) }
+fn report_run<E: Sink>(alloc: Global, text: &[u8], end: RunEnd, err: &mut E) -> u8
+    requires { length text.now < 2 ^ 63 }
+    ensures { Reports text.now (Ending.Ran end) result (sink_use (E.contents err.old)
+        (E.contents err.new) (E.faults err.old) (E.faults err.new) (E.broken err.new)) }
+{
+    match end {
+        RunEnd::Ended(End::Exit) => 0,
+        RunEnd::Ended(End::Trap(trap, at)) => {
+            let line = numbered_line_at(alloc, text, at, "trap", trap.number(), trap.name());
+            write_or_no_memory(err, line, 2)
+        }
+        RunEnd::Deadlock => write(err, b"rgo: deadlock\n", 3),
+        RunEnd::CallsTooDeep => write(err, b"rgo: calls too deep\n", 7),
+        RunEnd::StepsSpent => write(err, b"rgo: steps spent\n", 8),
+        RunEnd::GoroutinesSpent => write(err, b"rgo: goroutines spent\n", 12),
+        RunEnd::WriteFault => write(err, b"rgo: write failed\n", 10),
+        RunEnd::NoMemory => write(err, NO_MEMORY, 11),
+    }
+}
+
+/// Writes the line of an ending, and returns its status. On allocation failure for the line, the
+/// call ends as one that ran out of memory.
+pub(crate) fn report<E: Sink>(alloc: Global, text: &[u8], ending: Ending, err: &mut E) -> u8
+    requires { length text.now < 2 ^ 63 }
+    ensures { Reports text.now ending result (sink_use (E.contents err.old) (E.contents err.new)
+        (E.faults err.old) (E.faults err.new) (E.broken err.new)) }
 {
     match ending {
-        Ending::Exit => 0,
-        Ending::Trap { trap, at } => match trap_line(alloc, trap, at) {
-            Ok(line) => tell(err, line.as_bytes(), 2),
-            Err(_) => tell_no_memory(err),
-        },
-        Ending::Deadlock => tell(err, b"rgo: deadlock\n", 3),
-        Ending::CallsTooDeep => tell(err, b"rgo: calls too deep\n", 7),
-        Ending::StepsSpent => tell(err, b"rgo: steps spent\n", 8),
-        Ending::GoroutinesSpent => tell(err, b"rgo: goroutines spent\n", 12),
-        Ending::Usage => tell(err, USAGE, 64),
-        Ending::ReadFault => tell(err, b"rgo: read failed\n", 9),
-        Ending::TooLong => tell(err, b"rgo: text longer than 1048576 bytes\n", 1),
-        Ending::Lexical { kind, at } => match lexical_line(alloc, kind, at) {
-            Ok(line) => tell(err, line.as_bytes(), 1),
-            Err(_) => tell_no_memory(err),
-        },
-        Ending::Syntax { at } => match syntax_line(alloc, at) {
-            Ok(line) => tell(err, line.as_bytes(), 1),
-            Err(_) => tell_no_memory(err),
-        },
-        Ending::Nesting { at } => match nesting_line(alloc, at) {
-            Ok(line) => tell(err, line.as_bytes(), 1),
-            Err(_) => tell_no_memory(err),
-        },
-        Ending::Typing { rule, at } => match typing_line(alloc, rule, at) {
-            Ok(line) => tell(err, line.as_bytes(), 1),
-            Err(_) => tell_no_memory(err),
-        },
-        Ending::WriteFault => tell(err, b"rgo: write failed\n", 10),
-        Ending::NoMemory => tell_no_memory(err),
+        Ending::Valid => 0,
+        Ending::Ran(end) => report_run(alloc, text, end, err),
+        Ending::Usage => write(err, USAGE, 64),
+        Ending::ReadFault => write(err, b"rgo: read failed\n", 9),
+        Ending::TooLong => write(err, b"rgo: text longer than 1048576 bytes\n", 1),
+        Ending::Lexical(refusal) => {
+            let kind = refusal.kind;
+            let line =
+                numbered_line_at(alloc, text, refusal.at, "lexical", kind.number(), kind.name());
+            write_or_no_memory(err, line, 1)
+        }
+        Ending::Syntax { at } => {
+            let line = line_at(alloc, text, at, "syntax");
+            write_or_no_memory(err, line, 1)
+        }
+        Ending::Nesting { at } => {
+            let line = line_at(alloc, text, at, "nesting");
+            write_or_no_memory(err, line, 1)
+        }
+        Ending::Typing(refusal) => {
+            let rule = refusal.rule;
+            let line =
+                numbered_line_at(alloc, text, refusal.at, "type", rule.number(), rule.name());
+            write_or_no_memory(err, line, 1)
+        }
+        Ending::NoMemory => write(err, NO_MEMORY, 11),
     }
 }

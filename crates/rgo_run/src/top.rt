@@ -1,233 +1,124 @@
 //! The whole: the words, the text, its run and the report of its ending.
 
-ghost use Rattle.std.specs.Prelude.{◌≡◌, ◌≤◌, ◌⊎◌, ◌<◌, ◌^◌, true, map, length, string_bytes};
-ghost use Rattle.std.specs.Prelude.{IfErr, IfOk, Some, None};
+ghost use Rattle.std.specs.Prelude.{◌≡◌, ◌≤◌, ◌⊎◌, true, false, map, length, string_bytes};
+ghost use Rattle.std.specs.Prelude.{IfErr, IfOk, IsErrOf, Some, None};
 ghost use Rattle.rgo_outside.specs.Causes.{Rose};
-ghost use Rattle.rgo_lexer.specs.Lexing.{LexesAs};
-ghost use Rattle.rgo_lexer.specs.Refusals.{Fails};
-ghost use Rattle.rgo_ast.specs.Views.{program_of};
 ghost use Rattle.rgo_typed.specs.Views.{typed_of};
-ghost use Rattle.rgo_parser.specs.Parsing.{Fails as ParseFails};
 ghost use Rattle.rgo_command_line.specs.Commands.{command_of};
-ghost use Rattle.rgo_command_line.specs.declared.commands.Command.TheVariants.{Check};
-ghost use Rattle.rgo_typing_rules.specs.Checks.{Refuses as TypeRefuses};
-ghost use Rattle.rgo_typing_rules.specs.Sites.{first_refusal};
-ghost use Rattle.rgo_types.specs.Programs.{sites_of};
-ghost use Rattle.rgo_run.specs.Positions.{place_of};
-ghost use Rattle.rgo_run.specs.Verdicts.{IsTree, IsProgram, text_limit};
-ghost use Rattle.rgo_run.specs.Runs.{limits_of, ending_of};
-ghost use Rattle.rgo_run.specs.Sources.{Checks, Ends, IsTextEnding, SourceChecks, SourceEnds};
-ghost use Rattle.rgo_run.specs.Sources.{Fails as TextFails};
-ghost use Rattle.rgo_run.specs.Calls.{AsksRun};
-ghost use Rattle.rgo_run.specs.Endings.{status_of, is_run_status};
+ghost use Rattle.rgo_command_line.specs.declared.commands.Command.TheVariants.{Check, Run};
+ghost use Rattle.rgo_run.specs.Verdicts.{IsProgram, text_limit};
+ghost use Rattle.rgo_run.specs.Runs.{RunsTo, limits_of};
+ghost use Rattle.rgo_run.specs.Texts.{Checks, IsRead, NotRead, Performs};
+ghost use Rattle.rgo_run.specs.Calls.{AsksRun, IsUntouched, sink_use, source_use};
+ghost use Rattle.rgo_run.specs.Endings.{status_of, is_fault_status, is_run_status};
 ghost use Rattle.rgo_run.specs.Headline.{Headline};
 
+use crate::compile::compile;
 use crate::endings::Ending;
-use crate::positions::position_of;
 use crate::report::report;
-use rgo_ast::Program;
-use rgo_lexer::{LexError, Lexeme, lex};
-use rgo_outside::{Gate, ReadEnd, Sink, Source, read_all};
-use rgo_parser::{ParseError, ParseRefusal, parse};
-use rgo_driver::{RunEnd, run};
+use rgo_command_line::{Command, Limits, read_words};
+use rgo_driver::run;
+use rgo_meaning::{SourceMachine, start};
+use rgo_outside::{Gate, Sink, Source, read_all};
 use rgo_typed::Typed;
-use rgo_types::check;
-use rgo_typing_rules::TypeError;
-use rgo_command_line::{Command, Limits, WordsError, read_words};
 use std::alloc::Global;
 
 /// The most bytes of a text.
 const TEXT_LIMIT: usize = 1_048_576;
 
-// Where a lexeme begins; for the number of lexemes, the text's end.
-fn place_of(text: &[u8], lexemes: &[Lexeme<'_>], k: usize) -> usize
-    ensures { result ≡ place_of text.now lexemes.now k }
+// Reads the words and the text.
+fn read<S: Source>(
+    alloc: Global,
+    words: &[String],
+    source: &mut S,
+) -> Result<(Command, Vec<u8>), Ending>
+    ensures ok { IfOk result (λ r. IsRead (map string_bytes words.now)
+        (source_use (S.left source.old) (S.faults source.old) (S.faults source.new))
+        r.0 r.1.items) }
+    ensures err { IfErr result (NotRead (map string_bytes words.now)
+        (source_use (S.left source.old) (S.faults source.old) (S.faults source.new))) }
+    ensures usage { IsErrOf result Ending.Usage → source.new ≡ source.old }
 {
-    match lexemes.get(k) {
-        Some(lexeme) => lexeme.at,
-        None => text.len(),
-    }
+    let command = read_words(alloc, words)?;
+    let text = read_all(alloc, source, TEXT_LIMIT)?;
+    Ok((command, text))
 }
 
-fn lex_ending(text: &[u8], error: LexError) -> Ending
-    requires fails { Fails text.now error }
-    requires within { length text.now ≤ text_limit }
-    ensures { TextFails text.now result }
-{
-    match error {
-        LexError::NoMemory => Ending::NoMemory,
-        LexError::Refused(refusal) => Ending::Lexical {
-            kind: refusal.kind,
-            at: position_of(text, refusal.at),
-        },
-    }
-}
-
-fn parse_ending(text: &[u8], lexemes: &[Lexeme<'_>], error: ParseError) -> Ending
-    requires lexed { LexesAs text.now lexemes.now }
-    requires fails { ParseFails lexemes.now error }
-    requires within { length text.now ≤ text_limit }
-    ensures { TextFails text.now result }
-{
-    match error {
-        ParseError::NoMemory => Ending::NoMemory,
-        ParseError::Refused(ParseRefusal::Syntax { at }) => Ending::Syntax {
-            at: position_of(text, place_of(text, lexemes, at)),
-        },
-        ParseError::Refused(ParseRefusal::TooDeep { at }) => Ending::Nesting {
-            at: position_of(text, place_of(text, lexemes, at)),
-        },
-    }
-}
-
-// The tree of a text, or why there is none.
-fn tree_of(alloc: Global, text: &[u8]) -> Result<Program, Ending>
-    requires { length text.now ≤ text_limit }
-    ensures ok { IfOk result (λ tree. IsTree text.now (program_of tree)) }
-    ensures err { IfErr result (TextFails text.now) }
-{
-    match lex(alloc, text) {
-        Ok(lexemes) => match parse(alloc, text.len(), &lexemes) {
-            Ok(tree) => Ok(tree),
-            Err(error) => Err(parse_ending(text, &lexemes, error)),
-        },
-        Err(error) => Err(lex_ending(text, error)),
-    }
-}
-
-fn type_ending(text: &[u8], tree: &Program, error: TypeError) -> Ending
-    requires tree { IsTree text.now (program_of tree.now) }
-    requires fails { TypeRefuses error (first_refusal (sites_of (program_of tree.now))) }
-    requires within { length text.now ≤ text_limit }
-    ensures { TextFails text.now result }
-{
-    match error {
-        TypeError::NoMemory => Ending::NoMemory,
-        TypeError::Refused(refusal) => Ending::Typing {
-            rule: refusal.rule,
-            at: position_of(text, refusal.at),
-        },
-    }
-}
-
-// The program of a text, or why there is none.
-fn compile(alloc: Global, text: &[u8]) -> Result<Typed, Ending>
-    requires { length text.now ≤ text_limit }
-    ensures ok { IfOk result (λ program. IsProgram text.now (typed_of program)) }
-    ensures err { IfErr result (TextFails text.now) }
-{
-    match tree_of(alloc, text) {
-        Ok(tree) => match check(alloc, &tree) {
-            Ok(program) => Ok(program),
-            Err(error) => Err(type_ending(text, &tree, error)),
-        },
-        Err(ending) => Err(ending),
-    }
-}
-
-// Judges a text.
+// Checks a text.
 fn check_text(alloc: Global, text: &[u8]) -> Ending
     requires { length text.now ≤ text_limit }
     ensures { Checks text.now result }
 {
     match compile(alloc, text) {
-        Ok(_) => Ending::Exit,
+        Ok(_) => Ending::Valid,
         Err(why) => why,
     }
 }
 
-fn limits_of(limits: Limits) -> rgo_driver::Limits
+fn limits_of(limits: Limits) -> rgo_machine::Limits
     ensures { result ≡ limits_of limits }
 {
-    rgo_driver::Limits {
+    rgo_machine::Limits {
         steps: limits.steps,
         goroutines: limits.goroutines,
     }
 }
 
-// The ending that tells of the end of a run.
-fn run_ending(text: &[u8], end: RunEnd) -> Ending
-    requires { length text.now ≤ text_limit }
-    ensures { result ≡ ending_of text.now end }
+// Runs the program of a text.
+fn run_program<K: Sink>(alloc: Global, limits: Limits, program: &Typed, out: &mut K) -> Ending
+    ensures performs { (text : List ℕ) → IsProgram text (typed_of program.now)
+        → Performs (Run limits) text result (sink_use (K.contents out.old) (K.contents out.new)
+            (K.faults out.old) (K.faults out.new) (K.broken out.new)) }
+    ensures refused { status_of result ≡ 1 → out.new ≡ out.old }
 {
-    match end {
-        RunEnd::Exit => Ending::Exit,
-        RunEnd::Trap(trap, place) => Ending::Trap {
-            trap,
-            at: position_of(text, place),
-        },
-        RunEnd::Deadlock => Ending::Deadlock,
-        RunEnd::CallsTooDeep => Ending::CallsTooDeep,
-        RunEnd::StepsSpent => Ending::StepsSpent,
-        RunEnd::GoroutinesSpent => Ending::GoroutinesSpent,
-        RunEnd::WriteFault => Ending::WriteFault,
-        RunEnd::NoMemory => Ending::NoMemory,
+    match start(alloc, program) {
+        Ok(state) => {
+            let machine = SourceMachine::new(program);
+            Ending::Ran(run(alloc, &machine, state, limits_of(limits), out))
+        }
+        Err(_) => Ending::NoMemory,
     }
 }
 
 // Runs a text.
 fn run_text<K: Sink>(alloc: Global, limits: Limits, text: &[u8], out: &mut K) -> Ending
     requires { length text.now ≤ text_limit }
-    ensures kind { IsTextEnding result }
-    ensures ends { Ends limits text.now result (K.contents out.old) (K.contents out.new) }
-    ensures untouched { status_of result ≡ 1 → out.new ≡ out.old }
-    ensures write_failed { result ≡ Ending.WriteFault → Rose (K.faults out.old) (K.faults out.new) }
+    ensures performs { Performs (Run limits) text.now result (sink_use (K.contents out.old)
+        (K.contents out.new) (K.faults out.old) (K.faults out.new) (K.broken out.new)) }
+    ensures refused { status_of result ≡ 1 → out.new ≡ out.old }
 {
     match compile(alloc, text) {
-        Ok(program) => run_ending(text, run(alloc, &program, limits_of(limits), out)),
-        Err(ending) => ending,
+        Ok(program) => run_program(alloc, limits, &program, out),
+        Err(why) => why,
     }
 }
 
-// Reads the text and judges it.
-fn check_source<S: Source>(alloc: Global, source: &mut S) -> Ending
-    ensures ends { SourceChecks (S.left source.old) result }
-    ensures read_failed { result ≡ Ending.ReadFault
-        → Rose (S.faults source.old) (S.faults source.new) }
+// Checks or runs a text.
+fn perform<K: Sink>(alloc: Global, command: Command, text: &[u8], out: &mut K) -> Ending
+    requires { length text.now ≤ text_limit }
+    ensures performs { Performs command text.now result (sink_use (K.contents out.old)
+        (K.contents out.new) (K.faults out.old) (K.faults out.new) (K.broken out.new)) }
+    ensures checked { command ≡ Check → out.new ≡ out.old }
+    ensures refused { status_of result ≡ 1 → out.new ≡ out.old }
 {
-    match read_all(alloc, source, TEXT_LIMIT) {
-        Ok(text) => check_text(alloc, &text),
-        Err(ReadEnd::Fault) => Ending::ReadFault,
-        Err(ReadEnd::TooLong) => Ending::TooLong,
-        Err(ReadEnd::NoMemory) => Ending::NoMemory,
+    match command {
+        Command::Run(limits) => run_text(alloc, limits, text, out),
+        Command::Check => check_text(alloc, text),
     }
 }
 
-// Reads the text and runs it.
-fn run_source<S: Source, K: Sink>(
-    alloc: Global,
-    limits: Limits,
-    source: &mut S,
-    out: &mut K,
-) -> Ending
-    ensures ends { SourceEnds limits (S.left source.old) result
-        (K.contents out.old) (K.contents out.new) }
-    ensures untouched { status_of result ≡ 1 → out.new ≡ out.old }
-    ensures read_failed { result ≡ Ending.ReadFault
-        → Rose (S.faults source.old) (S.faults source.new) }
-    ensures not_run { result ≡ Ending.ReadFault → out.new ≡ out.old }
-    ensures write_failed { result ≡ Ending.WriteFault → Rose (K.faults out.old) (K.faults out.new) }
-{
-    match read_all(alloc, source, TEXT_LIMIT) {
-        Ok(text) => run_text(alloc, limits, &text, out),
-        Err(ReadEnd::Fault) => Ending::ReadFault,
-        Err(ReadEnd::TooLong) => Ending::TooLong,
-        Err(ReadEnd::NoMemory) => Ending::NoMemory,
-    }
-}
-
-/// All that the program does: reads the words and the text, judges or runs it, and answers with the
+/// All that the program does: reads the words and the text, checks or runs it, and returns the
 /// status.
 ///
-/// The words are the program's name, at which nothing looks, and `check`, or `run` with its options
-/// `--steps N` and `--goroutines N`, with nothing or a `--` behind them. The text is what the source
-/// has left, at most 1,048,576 bytes. `run` gives its print to `out`, line by line; `check` leaves
-/// `out` as it was. At most one line goes to `err`. After a failed write nothing more goes to that
-/// sink.
+/// The words are the program's name, which is ignored, and `check`, or `run` with its options
+/// `--steps N` and `--goroutines N`, followed by nothing or a `--`. The text is what the source
+/// has left, at most 1,048,576 bytes. `run` writes its print to `out`, line by line; `check` leaves
+/// `out` as it was. At most one line is written to `err`. After a failed write nothing more is
+/// written to that sink.
 ///
 /// | status | where |
 /// |---|---|
-/// | 0 | `main` returned; for `check` the text is within the rules |
+/// | 0 | `main` returned; for `check` the text is a valid program |
 /// | 1 | the text is too long, or breaks a rule: `err` says which, and at which line and column |
 /// | 2 | a goroutine trapped: `err` says why, and at which line and column |
 /// | 3 | no goroutine can step, alone or with another, and `main` has not returned |
@@ -248,27 +139,15 @@ pub fn rgo<S: Source, K: Sink, E: Sink, G: Gate + Sync>(
 ) -> u8
     ensures headline { Headline (record {
       words = map string_bytes words.now;
-      source = record {
-        left = S.left source.old;
-        faults_old = S.faults source.old;
-        faults_new = S.faults source.new;
-      };
-      out = record {
-        old = K.contents out.old;
-        new = K.contents out.new;
-        faults_old = K.faults out.old;
-        faults_new = K.faults out.new;
-      };
-      err = record {
-        old = E.contents err.old;
-        new = E.contents err.new;
-        faults_old = E.faults err.old;
-        faults_new = E.faults err.new;
-      };
+      source = source_use (S.left source.old) (S.faults source.old) (S.faults source.new);
+      out = sink_use (K.contents out.old) (K.contents out.new) (K.faults out.old)
+          (K.faults out.new) (K.broken out.new);
+      err = sink_use (E.contents err.old) (E.contents err.new) (E.faults err.old)
+          (E.faults err.new) (E.broken err.new);
       status = result;
     }) }
 
-    // What holds also over a source and sinks that tell nothing.
+    // What follows of the status alone.
     ensures usage { result ≡ 64 → command_of (map string_bytes words.now) ≡ None }
     ensures not_read { result ≡ 64 → source.new ≡ source.old }
     ensures checked { command_of (map string_bytes words.now) ≡ Some Check → out.new ≡ out.old }
@@ -277,14 +156,17 @@ pub fn rgo<S: Source, K: Sink, E: Sink, G: Gate + Sync>(
     ensures refused { result ≡ 1 → out.new ≡ out.old }
     ensures unread { result ≡ 9 → out.new ≡ out.old }
     ensures read_failed { result ≡ 9 → Rose (S.faults source.old) (S.faults source.new) }
-    ensures write_failed { result ≡ 10 → Rose (K.faults out.old) (K.faults out.new)
-        ⊎ Rose (E.faults err.old) (E.faults err.new) }
+    ensures write_failed { result ≡ 10
+        → (Rose (K.faults out.old) (K.faults out.new) × (K.broken out.new ≡ true))
+        ⊎ (Rose (E.faults err.old) (E.faults err.new) × (E.broken err.new ≡ true)) }
+    ensures held { is_fault_status result ≡ false → (S.faults source.new ≡ S.faults source.old)
+        × (K.faults out.new ≡ K.faults out.old) × (E.faults err.new ≡ E.faults err.old) }
 {
-    let ending = match read_words(alloc, words) {
-        Ok(Command::Run(limits)) => run_source(alloc, limits, source, out),
-        Ok(Command::Check) => check_source(alloc, source),
-        Err(WordsError::Usage) => Ending::Usage,
-        Err(WordsError::NoMemory) => Ending::NoMemory,
-    };
-    report(alloc, ending, err)
+    match read(alloc, words, source) {
+        Ok((command, text)) => {
+            let ending = perform(alloc, command, &text, out);
+            report(alloc, &text, ending, err)
+        }
+        Err(ending) => report(alloc, &[], ending, err),
+    }
 }

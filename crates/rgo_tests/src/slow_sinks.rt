@@ -11,6 +11,7 @@ pub(crate) struct SlowSink {
     filled: usize,
     room: usize,
     faults: u64,
+    broken: bool,
 }
 
 impl SlowSink {
@@ -21,6 +22,7 @@ impl SlowSink {
             filled: 0,
             room: room.min(16),
             faults: 0,
+            broken: false,
         }
     }
 }
@@ -30,14 +32,20 @@ impl Sink for SlowSink {
 
     ghost faults = { λ s. s.faults };
 
+    ghost broken = { λ s. s.broken };
+
+    ghost pieces = { λ _. None };
+
     fn write(&mut self, bytes: &[u8]) -> Result<usize, Failed> {
         if bytes.is_empty() {
             return Ok(0);
         }
         if self.filled >= self.room.min(16) {
             self.faults = self.faults.saturating_add(1);
+            self.broken = true;
             return Err(Failed);
         }
+        self.broken = false;
         self.bytes[self.filled] = bytes[0];
         self.filled += 1;
         Ok(1)

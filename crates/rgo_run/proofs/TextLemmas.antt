@@ -1,0 +1,47 @@
+-- What the parts of the compiler say of a text, as the endings that report it.
+use Rattle.std.proofs.Common.{◌≡◌, ℕ, ◌≤◌, inl, List, [], length, Option, None, Some, refl, arith, subst}
+use Rattle.rgo_outside.specs.Moves.{ReadsAll, GivesTooMany}
+use Rattle.rgo_outside.proofs.ToldLemmas.{ReadsAll-told, GivesTooMany-told}
+use Rattle.rgo_lexer.specs.Refusals.{Fails as LexFails}
+use Rattle.rgo_lexer.specs.declared.refusals.LexError.{LexError}
+use Rattle.rgo_lexer.specs.declared.refusals.LexError.TheVariants as lex
+use Rattle.rgo_ast.specs.Tree.{Program}
+use Rattle.rgo_typing_rules.specs.Checks.{Refuses as TypeRefuses}
+use Rattle.rgo_typing_rules.specs.Sites.{first_refusal}
+use Rattle.rgo_typing_rules.specs.declared.errors.TypeError.{TypeError}
+use Rattle.rgo_typing_rules.specs.declared.errors.TypeError.TheVariants as type
+use Rattle.rgo_typed.specs.Tree.{Typed}
+use Rattle.rgo_types.specs.Programs.{sites_of}
+use Rattle.rgo_machine.specs.Machines.{State}
+use Rattle.rgo_meaning.specs.Source.{source, source_start}
+use Rattle.rgo_driver.specs.Runs.{Ends}
+use Rattle.rgo_driver.specs.declared.ends.RunEnd.{RunEnd}
+use Rattle.rgo_driver.specs.declared.ends.RunEnd.TheVariants.{Deadlock, WriteFault}
+use Rattle.rgo_command_line.specs.declared.commands.Command.TheVariants.{Run}
+use Rattle.rgo_command_line.specs.declared.limits.Limits.{Limits}
+use Rattle.rgo_run.specs.declared.endings.Ending.TheVariants.{Ran, TooLong}
+use Rattle.rgo_run.specs.Calls.{SinkUse, Failed, Held}
+use Rattle.rgo_run.specs.Errors.{lex_error, type_error}
+use Rattle.rgo_run.specs.Runs.{limits_of, ProgramRuns}
+use Rattle.rgo_run.specs.Texts.{IsTextOf, Fails, Performs}
+use Rattle.rgo_run.specs.Verdicts.{IsTree, IsProgram, Refused, text_limit}
+
+-- the bytes that were read to the end are the text
+pub is_text : (left rest : Option (List ℕ)) (bytes : List ℕ) → ReadsAll text_limit left rest bytes → IsTextOf left bytes
+is_text left rest bytes read = ReadsAll-told text_limit left rest bytes (λ text. bytes ≡ text) read refl
+
+-- too many bytes are the beginning of a text that is too long
+pub too_long : (left rest : Option (List ℕ)) → GivesTooMany text_limit left rest
+    → (text : List ℕ) × IsTextOf left text × Refused text TooLong
+too_long None rest gave = (gave.0, tt, omega (arith, gave.1))
+too_long (Some text) rest gave = (text, refl, GivesTooMany-told text_limit (Some text) rest gave)
+
+pub lex_fails : (text : List ℕ) (error : LexError) → length text ≤ text_limit → LexFails text error
+    → Fails text (lex_error error)
+lex_fails text lex.NoMemory within fails = tt
+lex_fails text (lex.Refused refusal) within fails = (within, fails)
+
+pub type_fails : (text : List ℕ) (tree : Program) (error : TypeError) → IsTree text tree
+    → TypeRefuses error (first_refusal (sites_of tree)) → Fails text (type_error error)
+type_fails text tree type.NoMemory is_tree fails = tt
+type_fails text tree (type.Refused refusal) is_tree fails = record { tree = tree; is_tree = is_tree; broken = fails }

@@ -1,0 +1,70 @@
+//! A text as the program that it is, or why it is none.
+
+ghost use Rattle.std.specs.Prelude.{◌≡◌, ◌≤◌, length, IfErr, IfOk};
+ghost use Rattle.rgo_lexer.specs.Lexing.{LexesAs};
+ghost use Rattle.rgo_ast.specs.Views.{program_of};
+ghost use Rattle.rgo_typed.specs.Views.{typed_of};
+ghost use Rattle.rgo_parser.specs.Parsing.{Fails as ParseFails};
+ghost use Rattle.rgo_run.specs.Positions.{place_of};
+ghost use Rattle.rgo_run.specs.Texts.{Fails};
+ghost use Rattle.rgo_run.specs.Verdicts.{IsTree, IsProgram, text_limit};
+
+use crate::endings::Ending;
+use rgo_ast::{Place, Program};
+use rgo_lexer::{Lexeme, lex};
+use rgo_parser::{ParseError, ParseRefusal, parse};
+use rgo_typed::Typed;
+use rgo_types::check;
+use std::alloc::Global;
+
+// Where a lexeme begins; for the number of lexemes, the text's end.
+fn place_of(text: &[u8], lexemes: &[Lexeme<'_>], k: usize) -> Place
+    ensures { result ≡ place_of text.now lexemes.now k }
+{
+    match lexemes.get(k) {
+        Some(lexeme) => lexeme.at,
+        None => text.len(),
+    }
+}
+
+// The ending for lexemes that are not a program, by the place of the one that is wrong.
+fn parse_ending(text: &[u8], lexemes: &[Lexeme<'_>], error: ParseError) -> Ending
+    requires lexed { LexesAs text.now lexemes.now }
+    requires fails { ParseFails lexemes.now error }
+    requires within { length text.now ≤ text_limit }
+    ensures { Fails text.now result }
+{
+    match error {
+        ParseError::NoMemory => Ending::NoMemory,
+        ParseError::Refused(ParseRefusal::Syntax { at }) => Ending::Syntax {
+            at: place_of(text, lexemes, at),
+        },
+        ParseError::Refused(ParseRefusal::TooDeep { at }) => Ending::Nesting {
+            at: place_of(text, lexemes, at),
+        },
+    }
+}
+
+// The tree of a text's lexemes.
+fn tree_of(alloc: Global, text: &[u8], lexemes: &[Lexeme<'_>]) -> Result<Program, Ending>
+    requires lexed { LexesAs text.now lexemes.now }
+    requires within { length text.now ≤ text_limit }
+    ensures ok { IfOk result (λ tree. IsTree text.now (program_of tree)) }
+    ensures err { IfErr result (Fails text.now) }
+{
+    match parse(alloc, text.len(), lexemes) {
+        Ok(tree) => Ok(tree),
+        Err(error) => Err(parse_ending(text, lexemes, error)),
+    }
+}
+
+/// The program of a text, or why there is none.
+pub(crate) fn compile(alloc: Global, text: &[u8]) -> Result<Typed, Ending>
+    requires { length text.now ≤ text_limit }
+    ensures ok { IfOk result (λ program. IsProgram text.now (typed_of program)) }
+    ensures err { IfErr result (Fails text.now) }
+{
+    let lexemes = lex(alloc, text)?;
+    let tree = tree_of(alloc, text, &lexemes)?;
+    Ok(check(alloc, &tree)?)
+}
