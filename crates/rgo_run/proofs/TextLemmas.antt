@@ -1,6 +1,8 @@
 -- What the parts of the compiler say of a text, as the endings that report it.
 use Rattle.std.proofs.Common.{◌≡◌, ℕ, ◌≤◌, inl, List, [], length, Option, None, Some, refl, arith, subst}
 use Rattle.rgo_outside.specs.Moves.{ReadsAll, GivesTooMany}
+use Rattle.rgo_outside.specs.declared.whole.ReadEnd.{ReadEnd}
+use Rattle.rgo_outside.specs.declared.whole.ReadEnd.TheVariants as read
 use Rattle.rgo_outside.proofs.ToldLemmas.{ReadsAll-told, GivesTooMany-told}
 use Rattle.rgo_lexer.specs.Refusals.{Fails as LexFails}
 use Rattle.rgo_lexer.specs.declared.refusals.LexError.{LexError}
@@ -17,13 +19,16 @@ use Rattle.rgo_meaning.specs.Source.{source, source_start}
 use Rattle.rgo_driver.specs.Runs.{Ends}
 use Rattle.rgo_driver.specs.declared.ends.RunEnd.{RunEnd}
 use Rattle.rgo_driver.specs.declared.ends.RunEnd.TheVariants.{Deadlock, WriteFault}
+use Rattle.rgo_command_line.specs.Commands.{command_of}
 use Rattle.rgo_command_line.specs.declared.commands.Command.TheVariants.{Run}
+use Rattle.rgo_command_line.specs.declared.commands.WordsError.{WordsError}
+use Rattle.rgo_command_line.specs.declared.commands.WordsError.TheVariants as words
 use Rattle.rgo_command_line.specs.declared.limits.Limits.{Limits}
-use Rattle.rgo_run.specs.declared.endings.Ending.TheVariants.{Ran, TooLong}
-use Rattle.rgo_run.specs.Calls.{SinkUse, Failed, Held}
-use Rattle.rgo_run.specs.Errors.{lex_error, type_error}
+use Rattle.rgo_run.specs.declared.endings.Ending.TheVariants.{Ran, Usage, TooLong}
+use Rattle.rgo_run.specs.Calls.{SourceUse, SourceFailed, SourceHeld, SinkUse, Failed, Held}
+use Rattle.rgo_run.specs.Errors.{command_error, read_error, lex_error, type_error}
 use Rattle.rgo_run.specs.Runs.{limits_of, ProgramRuns}
-use Rattle.rgo_run.specs.Texts.{IsTextOf, Fails, Performs}
+use Rattle.rgo_run.specs.Texts.{IsTextOf, AskSome, NotRead, Fails, Performs}
 use Rattle.rgo_run.specs.Verdicts.{IsTree, IsProgram, Refused, text_limit}
 
 -- the bytes that were read to the end are the text
@@ -35,6 +40,25 @@ pub too_long : (left rest : Option (List ℕ)) → GivesTooMany text_limit left 
     → (text : List ℕ) × IsTextOf left text × Refused text TooLong
 too_long None rest gave = (gave.0, tt, omega (arith, gave.1))
 too_long (Some text) rest gave = (text, refl, GivesTooMany-told text_limit (Some text) rest gave)
+
+pub no_words : (w : List (List ℕ)) (source : SourceUse) (error : WordsError)
+    → (error ≡ words.Usage → command_of w ≡ None) → SourceHeld source → NotRead w source (command_error error)
+no_words w source words.Usage asked held = (asked refl, held)
+no_words w source words.NoMemory asked held = held
+
+pub no_text : (w : List (List ℕ)) (source : SourceUse) (rest : Option (List ℕ)) (end : ReadEnd) → AskSome w
+    → (end ≡ read.Fault → SourceFailed source)
+    → (end ≡ read.TooLong → SourceHeld source × GivesTooMany text_limit source.left rest)
+    → (end ≡ read.NoMemory → SourceHeld source) → NotRead w source (read_error end)
+no_text w source rest read.Fault asked fault long memory = (asked, fault refl)
+no_text w source rest read.TooLong asked fault long memory =
+    let h = long refl in let t = too_long source.left rest h.1 in (asked, h.0, t.0, t.1, t.2)
+no_text w source rest read.NoMemory asked fault long memory = memory refl
+
+pub no_usage : (end : ReadEnd) → read_error end ≡ Usage → ⊥
+no_usage read.Fault x = cc
+no_usage read.TooLong x = cc
+no_usage read.NoMemory x = cc
 
 pub lex_fails : (text : List ℕ) (error : LexError) → length text ≤ text_limit → LexFails text error
     → Fails text (lex_error error)
