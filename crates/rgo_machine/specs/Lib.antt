@@ -1,4 +1,5 @@
 pub mod Acting
+pub mod Alone
 pub mod Deadlocks
 pub mod Growing
 pub mod Limits

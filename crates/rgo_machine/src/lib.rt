@@ -2,6 +2,7 @@
 //! over one memory; they step one at a time, or two of them meet at a channel.
 #![tactic(auto)]
 
+mod goroutines;
 mod limits;
 mod machines;
 mod picks;
