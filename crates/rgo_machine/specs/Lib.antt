@@ -5,4 +5,5 @@ pub mod Growing
 pub mod Limits
 pub mod Machines
 pub mod Runs
+pub mod Turning
 pub mod Turns
