@@ -1,13 +1,13 @@
 -- The frames of a goroutine after operations, calls and returns.
-use Rattle.std.proofs.Common.{◌≡◌, ◌<◌, ◌≤◌, ◌+◌, ◌-◌, ℕ, zero, suc, Bool, true, false, List, [], ◌∷◌, ◌++◌, length, drop, reverse}
-use Rattle.std.proofs.Common.{Option, Some, None, Result, Ok, Err, get_or, slice_set, option_map, refl, ap, sym, ◌∙◌, arith, subst}
+use Rattle.std.proofs.Common.{◌≡◌, ◌≤◌, ◌+◌, ℕ, List, [], ◌∷◌, length, drop, reverse}
+use Rattle.std.proofs.Common.{Option, Some, None, Result, Ok, Err, get_or, slice_set, option_map, refl, ap, sym, ◌∙◌, arith}
 use Rattle.std.specs.declared.alloc.AllocError.{AllocError}
 use Rattle.std.proofs.lemmas.List.{length-reverse}
 use Rattle.rgo_memory.specs.declared.values.Value.{Value}
 use Rattle.rgo_machine.specs.Acting.{passed, entered, Enters}
 use Rattle.std.specs.Result.{IsErr}
 use Rattle.rgo_machine.specs.Alone.{after_operation, after_return, entered_by, onto, EntersNewest, Begins, with_child}
-use Rattle.rgo_machine.specs.Machines.{Machine, Stand}
+use Rattle.rgo_machine.specs.Machines.{Machine}
 use Rattle.rgo_machine.proofs.Newest.{newest, renewed, below, renewed_below}
 
 module _ {F : Type 0} (machine : Machine F) where

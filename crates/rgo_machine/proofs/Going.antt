@@ -1,6 +1,6 @@
 -- What one goroutine does, as a step of the machine.
-use Rattle.std.proofs.Common.{◌≡◌, ℕ, zero, suc, Bool, true, false, List, [], ◌∷◌, ◌++◌, Option, Some, None, Result, Ok, Err}
-use Rattle.std.proofs.Common.{option_map, slice_get, slice_set, refl, ap, sym, ◌∙◌, subst, ◌+◌, length, reverse, drop, get_or}
+use Rattle.std.proofs.Common.{◌≡◌, ℕ, zero, suc, Bool, true, false, List, [], ◌∷◌, Option, Some, None, Result, Ok}
+use Rattle.std.proofs.Common.{option_map, slice_set, refl, ap, sym, ◌∙◌, subst, ◌+◌, length, reverse, drop, get_or}
 use Rattle.std.specs.declared.alloc.AllocError.{AllocError}
 use Rattle.rgo_memory.specs.declared.effects.Effect.{Effect as CodeEffect}
 use Rattle.rgo_memory.specs.declared.effects.Effect.TheVariants as effect
@@ -16,11 +16,9 @@ use Rattle.rgo_memory.proofs.Operating.{ChangesOnly}
 use Rattle.rgo_machine.proofs.Newest.{newest, renewed}
 use Rattle.rgo_machine.specs.declared.goroutines.Happened.{Happened}
 use Rattle.rgo_machine.specs.declared.goroutines.Happened.TheVariants as happened
-use Rattle.rgo_machine.specs.declared.machines.Did.{Did}
 use Rattle.rgo_machine.specs.declared.machines.Did.TheVariants as did
 use Rattle.rgo_machine.specs.declared.machines.Stand.{Stand as CodeStand}
 use Rattle.rgo_machine.specs.declared.machines.Stand.TheVariants as code
-use Rattle.rgo_machine.specs.declared.picks.End.{End}
 use Rattle.rgo_machine.specs.declared.picks.End.TheVariants as the_end
 use Rattle.rgo_machine.specs.Acting.{stand_of, passed, entered, newest_stand, Acts}
 use Rattle.rgo_machine.specs.Alone.{happened_by, ChangesAt, after_effect, after_return, ended_by_return, after_call, onto, with_callee}

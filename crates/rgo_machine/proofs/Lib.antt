@@ -1,3 +1,4 @@
+pub mod Advancing
 pub mod Frames
 pub mod Going
 pub mod Limited

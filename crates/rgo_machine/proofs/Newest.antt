@@ -1,6 +1,6 @@
 -- A list of which contracts see the last item first.
 use Rattle.std.proofs.Common.{◌≡◌, ◌+◌, ℕ, List, [], ◌∷◌, ◌++◌, length, drop, reverse, get_or}
-use Rattle.std.proofs.Common.{Option, Some, None, slice_set, refl, ap, sym, ◌∙◌, arith, append-nil}
+use Rattle.std.proofs.Common.{Option, Some, None, slice_set, ap, sym, ◌∙◌, arith, append-nil}
 use Rattle.std.specs.Option.{option_to_list, MatchOption}
 use Rattle.std.proofs.lemmas.List.{reverse-append, reverse-reverse, length-reverse, set_at, get_or_at}
 

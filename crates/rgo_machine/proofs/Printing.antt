@@ -1,6 +1,6 @@
 -- Steps do not look at what was printed before, so that the print only grows.
-use Rattle.std.proofs.Common.{◌≡◌, ℕ, zero, suc, Bool, true, false, List, [], ◌∷◌, ◌++◌, Option, Some, None}
-use Rattle.std.proofs.Common.{slice_get, slice_set, option_map, refl, ap, sym, ◌∙◌, subst, append_assoc, append-nil}
+use Rattle.std.proofs.Common.{◌≡◌, ℕ, Bool, true, false, List, [], ◌∷◌, ◌++◌, Option, Some, None}
+use Rattle.std.proofs.Common.{slice_get, option_map, refl, ap, sym, ◌∙◌, append_assoc, append-nil}
 use Rattle.std.specs.Prelude.{option_and_then, if◌then◌else◌, ◌==◌}
 use Rattle.rgo_memory.specs.declared.values.Value.{Value}
 use Rattle.rgo_memory.specs.Channels.{receive, send, close, meets_at}
@@ -14,8 +14,8 @@ use Rattle.rgo_machine.specs.Growing.{PrintGrows}
 use Rattle.rgo_machine.specs.Limits.{if_within, is_within, limited_step, LeadsWithin}
 use Rattle.rgo_machine.specs.Machines.{Act, Moves, Returns, Prints, Traps}
 use Rattle.rgo_machine.specs.Machines.{Stand, AtReceive, AtSend, AtClose, AtCall, AtStart, Elsewhere}
-use Rattle.rgo_machine.specs.Machines.{Machine, State, acted, operated, returned, stepped, alone, met, met_by, meet, picked, unless_ended, step_by}
-use Rattle.rgo_machine.specs.Runs.{run, Leads}
+use Rattle.rgo_machine.specs.Machines.{Machine, State, acted, operated, returned, stepped, alone, met, met_by, picked, unless_ended, step_by}
+use Rattle.rgo_machine.specs.Runs.{run}
 
 -- ---- steps do not look at the print
 

@@ -1,5 +1,5 @@
 -- Runs one after the other, and runs within the limits as runs.
-use Rattle.std.proofs.Common.{◌≡◌, ℕ, Bool, true, false, List, [], ◌∷◌, ◌++◌, Option, Some, None, refl, ap, sym, ◌∙◌}
+use Rattle.std.proofs.Common.{◌≡◌, Bool, true, false, List, [], ◌∷◌, ◌++◌, Option, Some, None, refl, ap, sym, ◌∙◌}
 use Rattle.std.specs.Prelude.{option_and_then, if◌then◌else◌}
 use Rattle.rgo_machine.specs.declared.limits.Limits.{Limits}
 use Rattle.rgo_machine.specs.declared.picks.Pick.{Pick}

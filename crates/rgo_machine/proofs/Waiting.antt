@@ -1,12 +1,12 @@
 -- Who has no step alone: a goroutine that has returned, or waits at a channel. It still waits where its channel is the
 -- same.
-use Rattle.std.proofs.Common.{◌≡◌, ℕ, zero, suc, Bool, true, false, List, [], ◌∷◌, ◌++◌, Option, Some, None}
-use Rattle.std.proofs.Common.{slice_get, option_map, refl, ap, sym, ◌∙◌, subst}
+use Rattle.std.proofs.Common.{◌≡◌, ℕ, Bool, true, false, List, [], ◌∷◌, ◌++◌, Option, Some, None}
+use Rattle.std.proofs.Common.{slice_get, option_map, refl, ap, sym, ◌∙◌}
 use Rattle.std.specs.Prelude.{option_and_then, nat_lt, length, if◌then◌else◌}
 use Rattle.rgo_memory.specs.declared.values.Value.{Value}
 use Rattle.rgo_memory.specs.declared.values.Value.TheVariants as value
 use Rattle.rgo_memory.specs.Channels.{receive, received, send, sent, channel_in, channel_at, SameChannels, SameChannelsBut}
-use Rattle.rgo_memory.specs.Effects.{Outcome, Does, Effect, in_memory_if_ready, to_object_if_ready}
+use Rattle.rgo_memory.specs.Effects.{Outcome, Does, in_memory_if_ready, to_object_if_ready}
 use Rattle.rgo_memory.specs.Memory.{Object, StructObject, SliceObject, Channel, Memory}
 use Rattle.rgo_machine.specs.declared.picks.End.{End}
 use Rattle.rgo_machine.specs.declared.picks.Pick.TheVariants.{One}

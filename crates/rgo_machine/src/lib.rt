@@ -3,6 +3,7 @@
 #![tactic(auto)]
 
 mod goroutines;
+mod laws;
 mod limits;
 mod machines;
 mod picks;
@@ -10,6 +11,7 @@ mod states;
 mod steps;
 mod turns;
 
+pub use laws::{deadlocks_wait, print_grows};
 pub use limits::Limits;
 pub use machines::{Did, Machine, Stand};
 pub use picks::{End, Pick, Stepped};

@@ -99,11 +99,13 @@ fn sends_at(stand: Option<Stand>) -> Option<(Value, Value)>
     ensures { result ≡ alone.sends_at stand }
 {
     match stand {
-        Some(Stand::Send {
-            channel,
-            value,
-            place: _,
-        }) => Some((channel, value)),
+        Some(
+            Stand::Send {
+                channel,
+                value,
+                place: _,
+            },
+        ) => Some((channel, value)),
         _ => None,
     }
 }

@@ -67,11 +67,26 @@ fn turn_of(happened: Happened) -> Turned
     ensures { result ≡ turning.turn_of happened }
 {
     match happened {
-        Happened::Waits => Turned { steps: 0, stop: Stop::Waits },
-        Happened::Moves => Turned { steps: 1, stop: Stop::Spent },
-        Happened::Prints => Turned { steps: 1, stop: Stop::Printed },
-        Happened::Operates(channel) => Turned { steps: 1, stop: Stop::Operated(channel) },
-        Happened::Ends(end) => Turned { steps: 1, stop: Stop::Ended(end) },
+        Happened::Waits => Turned {
+            steps: 0,
+            stop: Stop::Waits,
+        },
+        Happened::Moves => Turned {
+            steps: 1,
+            stop: Stop::Spent,
+        },
+        Happened::Prints => Turned {
+            steps: 1,
+            stop: Stop::Printed,
+        },
+        Happened::Operates(channel) => Turned {
+            steps: 1,
+            stop: Stop::Operated(channel),
+        },
+        Happened::Ends(end) => Turned {
+            steps: 1,
+            stop: Stop::Ended(end),
+        },
     }
 }
 
@@ -88,14 +103,20 @@ fn advance<M: Machine>(
     ensures { Turns (M.machine machine.now) limits state.old state.new g 1 result }
 {
     let Some(stand) = standing(machine, state, g) else {
-        return Turned { steps: 0, stop: Stop::Waits };
+        return Turned {
+            steps: 0,
+            stop: Stop::Waits,
+        };
     };
     if let Some(stop) = limit_at(state, limits, g, stand) {
         return Turned { steps: 0, stop };
     }
     match step_alone(alloc, machine, state, g, stand) {
         Ok(happened) => turn_of(happened),
-        Err(_) => Turned { steps: 0, stop: Stop::NoMemory },
+        Err(_) => Turned {
+            steps: 0,
+            stop: Stop::NoMemory,
+        },
     }
 }
 

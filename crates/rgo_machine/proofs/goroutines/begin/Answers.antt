@@ -1,4 +1,4 @@
-use Rattle.std.proofs.Common.{◌∙◌, ◌≡◌, ◌∷◌, [], ◌++◌, reverse, refl, ap, sym}
+use Rattle.std.proofs.Common.{◌∙◌, ◌∷◌, [], ◌++◌, reverse, refl, ap}
 use Rattle.rgo_machine.proofs.Frames.{not_begun, begun, none_begun}
 use Rattle.rgo_machine.proofs.goroutines.begin.Goals as goal
 use Rattle.rgo_machine.proofs.goroutines.begin.Goals.{in-Some, in-None}
@@ -20,11 +20,11 @@ returns g c =
     let goroutine = c.args.goroutine.now in
     elim c.match-branch-3.branch [
       | in-Some w ↦
-        rw w.result-is
-        (begun machine frames goroutine (reverse c.enter.new.frames.items) w.in-Some.child w.push_reserved.new.self.items
-        c.goroutine.view_is (rw w.in-Some.is at entered)
-        (w.push_reserved.ensures.items ∙ ap (λ l. l ++ w.in-Some.child ∷ []) c.in_ok-frames.ensures.items))
+          rw w.result-is
+          (begun machine frames goroutine (reverse c.enter.new.frames.items) w.in-Some.child w.push_reserved.new.self.items
+          c.goroutine.view_is (rw w.in-Some.is at entered)
+          (w.push_reserved.ensures.items ∙ ap (λ l. l ++ w.in-Some.child ∷ []) c.in_ok-frames.ensures.items))
       | in-None w ↦
-        rw w.result-is
-        (none_begun machine frames goroutine (reverse c.enter.new.frames.items) c.goroutine.view_is (rw w.in-None.is at entered))
+          rw w.result-is
+          (none_begun machine frames goroutine (reverse c.enter.new.frames.items) c.goroutine.view_is (rw w.in-None.is at entered))
     ]

@@ -1,7 +1,6 @@
-use Rattle.std.proofs.Common.{◌∙◌, ◌≡◌, ap, sym, refl, Some}
+use Rattle.std.proofs.Common.{◌∙◌, ap, refl, Some}
 use Rattle.rgo_memory.specs.Views.{memory_of}
 use Rattle.rgo_memory.proofs.Operating.{sent_only, closed_only}
-use Rattle.rgo_machine.specs.Acting.{newest_stand}
 use Rattle.rgo_machine.specs.declared.machines.Stand.TheVariants as stand
 use Rattle.rgo_machine.proofs.Going.{operates, changes_of, ready}
 use Rattle.rgo_machine.proofs.goroutines.go.Goals as goal

@@ -1,4 +1,4 @@
-use Rattle.std.proofs.Common.{◌∙◌, ◌≡◌, sym, ap, Some}
+use Rattle.std.proofs.Common.{◌∙◌, sym, ap}
 use Rattle.rgo_memory.specs.Views.{memory_of}
 use Rattle.rgo_machine.specs.Alone as alone
 use Rattle.rgo_machine.proofs.Meetings.{met_so}

@@ -1,4 +1,3 @@
-use Rattle.std.proofs.Common.{◌∙◌, ◌≡◌, sym, ap, arith}
 use Rattle.rgo_machine.proofs.Meetings.{passed_in, passed_past}
 use Rattle.rgo_machine.proofs.steps.pass_at.Goals as goal
 
