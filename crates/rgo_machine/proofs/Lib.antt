@@ -1,1 +1,11 @@
+pub mod Advancing
+pub mod Frames
+pub mod Going
+pub mod Limited
+pub mod Meetings
 pub mod Newest
+pub mod Others
+pub mod Printing
+pub mod Runs
+pub mod Stepping
+pub mod Waiting

@@ -1,7 +1,7 @@
 -- A list of which contracts see the last item first.
 use Rattle.std.proofs.Common.{◌≡◌, ◌+◌, ℕ, List, [], ◌∷◌, ◌++◌, length, drop, reverse, get_or}
-use Rattle.std.proofs.Common.{Option, Some, None, slice_set, refl, ap, sym, ◌∙◌, arith, append-nil}
-use Rattle.std.specs.Option.{option_to_list}
+use Rattle.std.proofs.Common.{Option, Some, None, slice_set, ap, sym, ◌∙◌, arith, append-nil}
+use Rattle.std.specs.Option.{option_to_list, MatchOption}
 use Rattle.std.proofs.lemmas.List.{reverse-append, reverse-reverse, length-reverse, set_at, get_or_at}
 
 module _ {A : Type 0} where
@@ -76,10 +76,10 @@ module _ {A : Type 0} where
       ∙ set_below (reverse l) y n (omega (arith, e, length-reverse l))
 
   -- without the last item
-  pub popped : (l m : List A) (o : Option A) → l ≡ m ++ option_to_list o → (o ≡ None → length l ≡ 0)
-      → reverse m ≡ drop 1 (reverse l)
-  popped l m None e none = both_empty l m (e ∙ append-nil m) (none refl) where
+  pub popped : (l m : List A) (o : Option A) (k j : ℕ) → k ≡ length l → l ≡ m ++ option_to_list o
+      → MatchOption o ((k ≡ 0) × (j ≡ 0)) (λ _. j + 1 ≡ k) → reverse m ≡ drop 1 (reverse l)
+  popped l m None k j len e cases = both_empty l m (e ∙ append-nil m) (sym len ∙ cases.0) where
     both_empty : (l m : List A) → l ≡ m → length l ≡ 0 → reverse m ≡ drop 1 (reverse l)
     both_empty [] m same empty = ap reverse (sym same)
     both_empty (x ∷ l) m same empty = absurd (omega (arith, empty))
-  popped l m (Some x) e none = sym (ap (λ k. drop 1 (reverse k)) e ∙ ap (drop 1) (pushed m x))
+  popped l m (Some x) k j len e cases = sym (ap (λ k. drop 1 (reverse k)) e ∙ ap (drop 1) (pushed m x))

@@ -2,6 +2,8 @@
 //! over one memory; they step one at a time, or two of them meet at a channel.
 #![tactic(auto)]
 
+mod goroutines;
+mod laws;
 mod limits;
 mod machines;
 mod picks;
@@ -9,6 +11,7 @@ mod states;
 mod steps;
 mod turns;
 
+pub use laws::{deadlocks_wait, print_grows};
 pub use limits::Limits;
 pub use machines::{Did, Machine, Stand};
 pub use picks::{End, Pick, Stepped};

@@ -1,13 +1,175 @@
 //! One step of a run.
 
-ghost use Rattle.std.specs.Prelude.{◌≡◌, None};
+ghost use Rattle.std.specs.Prelude.{◌≡◌, Some, None};
+ghost use Rattle.rgo_machine.specs.Acting as acting;
 ghost use Rattle.rgo_machine.specs.Acting.{Steps};
-ghost use Rattle.rgo_machine.specs.Machines.{step_by};
+ghost use Rattle.rgo_machine.specs.Alone as alone;
+ghost use Rattle.rgo_machine.specs.Alone.{StepsAlone, ChangesAt, MeetsSo, after_pass};
+ghost use Rattle.rgo_machine.specs.Machines.{step_by, picked};
+ghost use Rattle.rgo_machine.specs.declared.machines.Stand.TheVariants as stand;
+ghost use Rattle.rgo_machine.specs.declared.picks.Pick.TheVariants.{One, Meet};
 
-use crate::machines::Machine;
+use crate::goroutines::{Happened, begin, go, pass};
+use crate::machines::{Machine, Stand};
 use crate::picks::{Pick, Stepped};
-use crate::states::State;
+use crate::states::{Goroutine, State, standing};
+use rgo_memory::{Value, meets_at};
 use std::alloc::{AllocError, Global};
+
+fn is_start(stand: Stand) -> bool
+    ensures { result ≡ alone.is_start stand }
+{
+    match stand {
+        Stand::Start => true,
+        _ => false,
+    }
+}
+
+/// A goroutine starts another.
+fn start<M: Machine>(
+    alloc: Global,
+    machine: &M,
+    state: &mut State<M::Frame>,
+    g: usize,
+) -> Result<Happened, AllocError>
+    requires running { state.old.ended ≡ None }
+    requires stands { acting.standing (M.machine machine.now) state.old g ≡ Some stand.Start }
+    ensures steps { StepsAlone result state.old state.new (picked (M.machine machine.now) state.old (One g)) }
+    ensures channels { ChangesAt result state.old.memory state.new.memory }
+{
+    state.goroutines.reserve(1)?;
+    let Some(goroutine) = state.goroutines.get_mut(g) else {
+        return Ok(Happened::Waits);
+    };
+    match begin(alloc, machine, goroutine)? {
+        Some(child) => {
+            state.goroutines.push_reserved(child);
+            Ok(Happened::Moves)
+        }
+        None => Ok(Happened::Waits),
+    }
+}
+
+/// A goroutine steps alone, whose newest frame stands there.
+pub(crate) fn step_alone<M: Machine>(
+    alloc: Global,
+    machine: &M,
+    state: &mut State<M::Frame>,
+    g: usize,
+    stand: Stand,
+) -> Result<Happened, AllocError>
+    requires running { state.old.ended ≡ None }
+    requires stands { acting.standing (M.machine machine.now) state.old g ≡ Some stand }
+    ensures steps { StepsAlone result state.old state.new (picked (M.machine machine.now) state.old (One g)) }
+    ensures channels { ChangesAt result state.old.memory state.new.memory }
+{
+    if is_start(stand) {
+        return start(alloc, machine, state, g);
+    }
+    let Some(goroutine) = state.goroutines.get_mut(g) else {
+        return Ok(Happened::Waits);
+    };
+    let happened = go(
+        alloc,
+        machine,
+        &mut state.memory,
+        goroutine,
+        &mut state.printed,
+        g,
+        stand,
+    )?;
+    if let Happened::Ends(end) = happened {
+        state.ended = Some(end);
+    }
+    Ok(happened)
+}
+
+/// The channel from which a goroutine receives next, where it stands there.
+fn receives_at(stand: Option<Stand>) -> Option<Value>
+    ensures { result ≡ alone.receives_at stand }
+{
+    match stand {
+        Some(Stand::Receive { channel, blank: _ }) => Some(channel),
+        _ => None,
+    }
+}
+
+/// The channel to which a goroutine sends next, where it stands there, and the value.
+fn sends_at(stand: Option<Stand>) -> Option<(Value, Value)>
+    ensures { result ≡ alone.sends_at stand }
+{
+    match stand {
+        Some(
+            Stand::Send {
+                channel,
+                value,
+                place: _,
+            },
+        ) => Some((channel, value)),
+        _ => None,
+    }
+}
+
+/// A goroutine continues with this value after an operation on a channel.
+fn pass_at<M: Machine>(
+    machine: &M,
+    goroutines: &mut Vec<Goroutine<M::Frame>>,
+    g: usize,
+    value: Value,
+)
+    ensures { goroutines.new.items ≡ after_pass (M.machine machine.now) value goroutines.old.items g }
+{
+    if let Some(goroutine) = goroutines.get_mut(g) {
+        pass(machine, goroutine, value);
+    }
+}
+
+/// A receiver and a sender continue together.
+fn meet<M: Machine>(
+    machine: &M,
+    state: &mut State<M::Frame>,
+    receiver: usize,
+    sender: usize,
+) -> bool
+    requires { state.old.ended ≡ None }
+    ensures { MeetsSo result state.old state.new (picked (M.machine machine.now) state.old (Meet receiver sender)) }
+{
+    if receiver == sender {
+        return false;
+    }
+    let Some(channel) = receives_at(standing(machine, state, receiver)) else {
+        return false;
+    };
+    let Some((other, value)) = sends_at(standing(machine, state, sender)) else {
+        return false;
+    };
+    if !meets_at(&state.memory, channel, other) {
+        return false;
+    }
+    pass_at(machine, &mut state.goroutines, receiver, value);
+    pass_at(machine, &mut state.goroutines, sender, Value::Nil);
+    true
+}
+
+/// A goroutine steps alone, if it can.
+fn step_one<M: Machine>(
+    alloc: Global,
+    machine: &M,
+    state: &mut State<M::Frame>,
+    g: usize,
+) -> Result<Stepped, AllocError>
+    requires { state.old.ended ≡ None }
+    ensures { Steps result state.old state.new (picked (M.machine machine.now) state.old (One g)) }
+{
+    let Some(stand) = standing(machine, state, g) else {
+        return Ok(Stepped::NotEnabled);
+    };
+    match step_alone(alloc, machine, state, g, stand)? {
+        Happened::Waits => Ok(Stepped::NotEnabled),
+        Happened::Ends(end) => Ok(Stepped::Ended(end)),
+        Happened::Moves | Happened::Prints | Happened::Operates(_) => Ok(Stepped::Advanced),
+    }
+}
 
 /// One step of the run.
 ///
@@ -22,5 +184,14 @@ pub fn step<M: Machine>(
 ) -> Result<Stepped, AllocError>
     ensures { Steps result state.old state.new (step_by (M.machine machine.now) state.old pick) }
 {
-    Err(AllocError)
+    if state.ended.is_some() {
+        return Ok(Stepped::NotEnabled);
+    }
+    match pick {
+        Pick::One(g) => step_one(alloc, machine, state, g),
+        Pick::Meet(receiver, sender) => match meet(machine, state, receiver, sender) {
+            true => Ok(Stepped::Advanced),
+            false => Ok(Stepped::NotEnabled),
+        },
+    }
 }

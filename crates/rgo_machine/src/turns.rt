@@ -2,12 +2,15 @@
 
 ghost use Rattle.std.specs.Prelude.{◌≡◌, true, None};
 ghost use Rattle.rgo_machine.specs.Limits.{is_within};
+ghost use Rattle.rgo_machine.specs.Turning as turning;
 ghost use Rattle.rgo_machine.specs.Turns.{Turns};
 
-use crate::limits::Limits;
-use crate::machines::Machine;
+use crate::goroutines::Happened;
+use crate::limits::{DEEPEST, Limits};
+use crate::machines::{Machine, Stand};
 use crate::picks::End;
-use crate::states::State;
+use crate::states::{State, standing};
+use crate::steps::step_alone;
 use std::alloc::Global;
 
 /// Why a turn was over.
@@ -38,6 +41,85 @@ pub struct Turned {
     pub stop: Stop,
 }
 
+/// How many frames a goroutine has.
+fn depth_of<F>(state: &State<F>, g: usize) -> usize
+    ensures { result ≡ turning.depth_of state.now g }
+{
+    match state.goroutines.get(g) {
+        Some(goroutine) => goroutine.frames.len(),
+        None => 0,
+    }
+}
+
+/// The limit that a goroutine meets which stands there, if there is one.
+fn limit_at<F>(state: &State<F>, limits: Limits, g: usize, stand: Stand) -> Option<Stop>
+    ensures { result ≡ turning.limit_at limits state.now g stand }
+{
+    match stand {
+        Stand::Call if depth_of(state, g) >= DEEPEST => Some(Stop::TooDeep),
+        Stand::Start if state.goroutines.len() >= limits.goroutines.max(1) => Some(Stop::Full),
+        _ => None,
+    }
+}
+
+/// Why a turn of one step is over, by what the goroutine did.
+fn turn_of(happened: Happened) -> Turned
+    ensures { result ≡ turning.turn_of happened }
+{
+    match happened {
+        Happened::Waits => Turned {
+            steps: 0,
+            stop: Stop::Waits,
+        },
+        Happened::Moves => Turned {
+            steps: 1,
+            stop: Stop::Spent,
+        },
+        Happened::Prints => Turned {
+            steps: 1,
+            stop: Stop::Printed,
+        },
+        Happened::Operates(channel) => Turned {
+            steps: 1,
+            stop: Stop::Operated(channel),
+        },
+        Happened::Ends(end) => Turned {
+            steps: 1,
+            stop: Stop::Ended(end),
+        },
+    }
+}
+
+/// A turn of at most one step.
+fn advance<M: Machine>(
+    alloc: Global,
+    machine: &M,
+    state: &mut State<M::Frame>,
+    limits: Limits,
+    g: usize,
+) -> Turned
+    requires running { state.old.ended ≡ None }
+    requires within { is_within limits state.old ≡ true }
+    ensures { Turns (M.machine machine.now) limits state.old state.new g 1 result }
+{
+    let Some(stand) = standing(machine, state, g) else {
+        return Turned {
+            steps: 0,
+            stop: Stop::Waits,
+        };
+    };
+    if let Some(stop) = limit_at(state, limits, g, stand) {
+        return Turned { steps: 0, stop };
+    }
+    match step_alone(alloc, machine, state, g, stand) {
+        Ok(happened) => turn_of(happened),
+        Err(_) => Turned {
+            steps: 0,
+            stop: Stop::NoMemory,
+        },
+    }
+}
+
 /// A goroutine steps alone, up to `at_most` times. The turn is over early where it has no step, prints, operates on a
 /// channel, ends the run, meets a limit, or memory runs out; the state is then as the steps that were taken left it.
 pub fn turn<M: Machine>(
@@ -52,8 +134,20 @@ pub fn turn<M: Machine>(
     requires within { is_within limits state.old ≡ true }
     ensures { Turns (M.machine machine.now) limits state.old state.new g at_most result }
 {
+    for steps in 0..at_most {
+        let done = advance(alloc, machine, state, limits, g);
+        match done.stop {
+            Stop::Spent => {}
+            stop => {
+                return Turned {
+                    steps: steps + done.steps,
+                    stop,
+                };
+            }
+        }
+    }
     Turned {
-        steps: 0,
-        stop: Stop::NoMemory,
+        steps: at_most,
+        stop: Stop::Spent,
     }
 }

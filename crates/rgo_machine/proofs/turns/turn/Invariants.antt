@@ -1,0 +1,8 @@
+use Rattle.rgo_machine.specs.declared.turns.Stop.TheVariants.{Spent}
+use Rattle.rgo_machine.specs.Turns.{Turns}
+use Rattle.rgo_machine.proofs.turns.turn.Given as goal
+
+abbrev pub invariant-loop-steps : goal.invariant-loop-steps
+invariant-loop-steps g l =
+    Turns (g.M.Machine.machine l.machine) l.limits l.initial.state l.state l.g l.steps
+    (record { steps = l.steps; stop = Spent })
