@@ -1,3 +1,3 @@
-pub mod Examples
+pub mod ExampleProofs
 pub mod Parts
 pub mod Types

@@ -1,4 +1,4 @@
-use Rattle.rgo_wellformed.proofs.Examples.{well, ill, programs}
+use Rattle.rgo_wellformed.proofs.ExampleProofs.{well, ill, programs}
 use Rattle.rgo_wellformed.proofs.laws.examples.Goals as goal
 
 pub returns : goal.returns
