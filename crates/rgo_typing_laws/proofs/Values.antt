@@ -38,7 +38,6 @@ use Rattle.rgo_typing_rules.specs.declared.rules.Rule.TheVariants as rule
 use Rattle.rgo_typing_rules.proofs.Unbroken.{keeps}
 use Rattle.rgo_typing_laws.proofs.Fitting.{Fits, fitted, have_one}
 
-
 -- a signature as the typed tree declares it
 abbrev pub declared_signature : Signature → TypeRules.Signature
 declared_signature s = record { params = s.params; result_type = s.result_type }
