@@ -89,15 +89,49 @@ grows_vars c (v ∷ vars) =
 
 -- ---- statements
 
+-- after a block, an `if` or a `for` the names are those before it
+block_restores : (c : Context) (l : Stmts) → Extends (in_block c) (after_all (in_block c) l)
+    → Restores c (after_block c l)
+block_restores c l body = leaves c (after_all (in_block c) l) body
+
+if_restores : (c : Context) (init : Clause) (body : Stmts) (other : Clause) → Extends (in_block c) (header c init)
+    → Extends (in_block (header c init)) (after_all (in_block (header c init)) body)
+    → Extends (after_block (header c init) body) (after_clause (after_block (header c init) body) other)
+    → Restores c (out_of_block (after_clause (after_block (header c init) body) other))
+if_restores c init body other first then_part else_part =
+    let h = header c init in
+    let b = after_block h body in
+    leaves c (after_clause b other)
+    (extends_trans (in_block c) h (after_clause b other) first
+    (extends_trans h b (after_clause b other) (restored h b (block_restores h body then_part)) else_part))
+
+for_restores : (c : Context) (init post : Clause) (body : Stmts) → Extends (in_block c) (header c init)
+    → Extends (header c init) (after_clause (header c init) post)
+    → Extends (in_block (after_clause (header c init) post)) (after_all (in_block (after_clause (header c init) post)) body)
+    → Restores c (out_of_block (after_block (after_clause (header c init) post) body))
+for_restores c init post body first last inner =
+    let h = header c init in
+    let q = after_clause h post in
+    let b = after_block q body in
+    leaves c b
+    (extends_trans (in_block c) h b first (extends_trans h q b last (restored q b (block_restores q body inner))))
+
 mutual
   pub grows : (c : Context) (s : Stmt) → Extends c (after c s)
-  grows c (tree.Block all at) = restored c (after_block c all) (after_the_block c all)
+  grows c (tree.Block all at) =
+      restored c (after_block c all) (block_restores c all (grows_all (in_block c) all))
   grows c (tree.Define x e at) =
       record { globals = refl; outer = refl; types = begins_more c.scope.types (type_or None (type_of c e) ∷ []) }
   grows c (tree.If init test body other at) =
-      restored c (after c (tree.If init test body other at)) (after_if c init test body other at)
+      let h = header c init in
+      restored c (after c (tree.If init test body other at))
+      (if_restores c init body other (grows_clause (in_block c) init) (grows_all (in_block h) body)
+      (grows_clause (after_block h body) other))
   grows c (tree.For init test post body at) =
-      restored c (after c (tree.For init test post body at)) (after_for c init test post body at)
+      let h = header c init in
+      restored c (after c (tree.For init test post body at))
+      (for_restores c init post body (grows_clause (in_block c) init) (grows_clause h post)
+      (grows_all (in_block (after_clause h post)) body))
   grows c (tree.Var vars at) = grows_vars c vars
   grows c (tree.Plain e) = same_context c
   grows c (tree.Send a b at) = same_context c
@@ -117,25 +151,19 @@ mutual
   grows_clause c tree.no_clause = same_context c
   grows_clause c (tree.a_clause s) = grows c s
 
-  -- after a block, an `if` or a `for` the names are those before it
-  pub after_the_block : (c : Context) (l : Stmts) → Restores c (after_block c l)
-  after_the_block c l = leaves c (after_all (in_block c) l) (grows_all (in_block c) l)
+pub after_the_block : (c : Context) (l : Stmts) → Restores c (after_block c l)
+after_the_block c l = block_restores c l (grows_all (in_block c) l)
 
-  pub after_if : (c : Context) (init : Clause) (test : Expr) (body : Stmts) (other : Clause) (at : ℕ)
-      → Restores c (after c (tree.If init test body other at))
-  after_if c init test body other at =
-      let h = header c init in
-      let b = after_block h body in
-      leaves c (after_clause b other)
-      (extends_trans (in_block c) h (after_clause b other) (grows_clause (in_block c) init)
-      (extends_trans h b (after_clause b other) (restored h b (after_the_block h body)) (grows_clause b other)))
+pub after_if : (c : Context) (init : Clause) (test : Expr) (body : Stmts) (other : Clause) (at : ℕ)
+    → Restores c (after c (tree.If init test body other at))
+after_if c init test body other at =
+    let h = header c init in
+    if_restores c init body other (grows_clause (in_block c) init) (grows_all (in_block h) body)
+    (grows_clause (after_block h body) other)
 
-  pub after_for : (c : Context) (init : Clause) (test : Option Expr) (post : Clause) (body : Stmts) (at : ℕ)
-      → Restores c (after c (tree.For init test post body at))
-  after_for c init test post body at =
-      let h = header c init in
-      let q = after_clause h post in
-      let b = after_block q body in
-      leaves c b
-      (extends_trans (in_block c) h b (grows_clause (in_block c) init)
-      (extends_trans h q b (grows_clause h post) (restored q b (after_the_block q body))))
+pub after_for : (c : Context) (init : Clause) (test : Option Expr) (post : Clause) (body : Stmts) (at : ℕ)
+    → Restores c (after c (tree.For init test post body at))
+after_for c init test post body at =
+    let h = header c init in
+    for_restores c init post body (grows_clause (in_block c) init) (grows_clause h post)
+    (grows_all (in_block (after_clause h post)) body)

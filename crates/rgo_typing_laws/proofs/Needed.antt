@@ -4,6 +4,7 @@ use Rattle.rgo_ast.specs.Tree as tree
 use Rattle.rgo_ast.specs.Tree.{Program, Stmt}
 use Rattle.rgo_ast.specs.declared.names.Ident.{Ident}
 use Rattle.rgo_ast.specs.declared.ops.AssignOp.TheVariants.{Plain}
+use Rattle.rgo_typing_rules.specs.Rules.{broken}
 use Rattle.rgo_typing_rules.specs.Sites.{first_refusal}
 use Rattle.rgo_types.specs.Programs.{sites_of, typed_program}
 use Rattle.rgo_wellformed.specs.WellFormed.{IsWellFormed}
@@ -32,6 +33,7 @@ loops = record {
 }
 
 unbroken : first_refusal (sites_of loops) ≡ None
+unfolding broken
 unbroken = refl
 
 not_well : IsWellFormed (typed_program loops) → ⊥
