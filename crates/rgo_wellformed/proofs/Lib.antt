@@ -1,0 +1,3 @@
+pub mod ExampleProofs
+pub mod Parts
+pub mod Types

@@ -1,0 +1,137 @@
+-- Typed statements and programs that are well-formed, and some that are not.
+use Rattle.std.specs.Prelude.{ℕ, codes, pos, true, false, List, [], ◌∷◌, Some, None}
+use Rattle.rgo_ast.specs.declared.ops.BinaryOp.TheVariants.{Add, Eq}
+use Rattle.rgo_typed.specs.declared.actions.Action.{Action}
+use Rattle.rgo_typed.specs.declared.actions.Action.TheVariants as action
+use Rattle.rgo_typed.specs.declared.actions.Logical.TheVariants.{And}
+use Rattle.rgo_typed.specs.declared.statements.Piece.TheVariants.{Value}
+use Rattle.rgo_typed.specs.declared.types.Type.{«Type»}
+use Rattle.rgo_typed.specs.Tree.{Term, Terms, Stmt, stmts_of, terms_of, Function, Typed}
+use Rattle.rgo_typed.specs.Tree as tree
+use Rattle.rgo_wellformed.specs.TypeRules.{int, bool, slice_of, pointer_to, Declared}
+use Rattle.rgo_wellformed.specs.WellFormed.{Environment, InScope, IsStmt, AreStmts, IsWellFormed}
+
+-- `type S struct { v int; next *S }`, `var count int`, `func f(n int) int`, `func g()`
+abbrev pub declared : Declared
+declared = record {
+  structs = (int ∷ pointer_to 0 ∷ []) ∷ [];
+  variables = int ∷ [];
+  functions =
+      record { params = int ∷ []; result_type = Some int } ∷ record { params = []; result_type = None } ∷ [];
+}
+
+-- in a function with an int result, whose local variables are 0 of type int, 1 bool, 2 []int, 3 *S
+abbrev pub environment : Environment
+environment = record {
+  declared = declared;
+  locals = int ∷ bool ∷ slice_of int ∷ pointer_to 0 ∷ [];
+  result_type = Some int;
+  in_loop = false;
+}
+
+abbrev pub number : Term
+number = tree.Apply (action.Int (pos 7)) tree.no_terms int 0
+
+abbrev pub truth : Term
+truth = tree.Apply (action.Bool true) tree.no_terms bool 0
+
+abbrev pub nil : «Type» → Term
+nil ty = tree.Apply action.Nil tree.no_terms ty 0
+
+abbrev pub local : ℕ → Term
+local n = tree.Local n
+
+abbrev pub apply : Action → List Term → «Type» → Term
+apply a parts ty = tree.Apply a (terms_of parts) ty 0
+
+-- with these variables in scope
+abbrev pub Is : InScope → Stmt → Type 0
+Is g s = IsStmt environment g s
+
+abbrev pub Are : InScope → List Stmt → Type 0
+Are g l = AreStmts environment g (stmts_of l)
+
+abbrev pub IsNot : InScope → Stmt → Type 0
+IsNot g s = Is g s → ⊥
+
+abbrev pub AreNot : InScope → List Stmt → Type 0
+AreNot g l = Are g l → ⊥
+
+pub record WellFormedExamples : Type 0 where
+  -- x := 7
+  pub declared : Is [] (tree.Declare 0 int number 0)
+  -- x = x + 7
+  pub added : Is (0 ∷ []) (tree.Assign 0 (apply (action.Binary Add) (local 0 ∷ number ∷ []) int) 0)
+  -- b = s == nil && x == 7
+  pub compared : Is (0 ∷ 1 ∷ 2 ∷ []) (tree.Assign 1 (tree.Logic And (apply action.IsNil (local 2 ∷ []) bool)
+      (apply (action.Binary Eq) (local 0 ∷ number ∷ []) bool) 0) 0)
+  -- p = &S{next: p}
+  pub built : Is (3 ∷ []) (tree.Assign 3 (tree.Build 0 (terms_of (local 3 ∷ [])) (1 ∷ []) 0) 0)
+  -- p.next = nil
+  pub stored : Is (3 ∷ []) (tree.Perform (action.Store 1) (terms_of (local 3 ∷ nil (pointer_to 0) ∷ [])) 0)
+  -- return f(7)
+  pub returned : Is [] (tree.Return (Some (tree.Call 0 (terms_of (number ∷ [])) int 0)) 0)
+  -- go g()
+  pub started : Is [] (tree.Go 1 tree.no_terms 0)
+  -- for { break }
+  pub left : Is [] (tree.Loop None (stmts_of (tree.Break 0 ∷ [])) tree.no_stmts 0)
+  -- { x := 7 }; { x := 7 }
+  pub again : Are [] (tree.Block (stmts_of (tree.Declare 0 int number 0 ∷ [])) ∷ tree.Block (stmts_of (tree.Declare 0 int number 0 ∷ [])) ∷ [])
+  -- fmt.Println(x)
+  pub printed : Is (0 ∷ []) (tree.Print (Value ∷ []) (terms_of (local 0 ∷ [])) 0)
+
+pub record IllFormedExamples : Type 0 where
+  -- a local variable that is not in scope, or no longer in scope after its block
+  pub undeclared : IsNot [] (tree.Assign 0 number 0)
+  pub after_its_block : AreNot [] (tree.Block (stmts_of (tree.Declare 0 int number 0 ∷ [])) ∷ tree.Assign 0 number 0 ∷ [])
+  -- declared while in scope
+  pub twice : IsNot (0 ∷ []) (tree.Declare 0 int number 0)
+  -- a value of the wrong type; `nil` as an int
+  pub bool_to_int : IsNot (0 ∷ []) (tree.Assign 0 truth 0)
+  pub nil_to_int : IsNot [] (tree.Declare 0 int (nil int) 0)
+  -- operands of the wrong type; a comparison of slices
+  pub bool_added : IsNot (1 ∷ []) (tree.Discard (apply (action.Binary Add) (local 1 ∷ number ∷ []) int))
+  pub slices_compared : IsNot (2 ∷ []) (tree.Discard (apply (action.Binary Eq) (local 2 ∷ local 2 ∷ []) bool))
+  -- a field that does not exist
+  pub no_field : IsNot (3 ∷ []) (tree.Discard (apply (action.Load 2) (local 3 ∷ []) int))
+  -- too few arguments; a function that does not exist; a call without result as a value, and `go` of one with a result
+  pub no_argument : IsNot [] (tree.Discard (tree.Call 0 tree.no_terms int 0))
+  pub no_function : IsNot [] (tree.Invoke 2 tree.no_terms 0)
+  pub no_value : IsNot [] (tree.Discard (tree.Call 1 tree.no_terms int 0))
+  pub with_result : IsNot [] (tree.Go 0 (terms_of (number ∷ [])) 0)
+  -- a `return` without a value in a function with a result, or with one of the wrong type
+  pub no_result : IsNot [] (tree.Return None 0)
+  pub other_result : IsNot [] (tree.Return (Some truth) 0)
+  -- a `break` outside a loop
+  pub no_loop : IsNot [] (tree.Break 0)
+  -- a pointer that is printed; a piece without its value
+  pub pointer_printed : IsNot (3 ∷ []) (tree.Print (Value ∷ []) (terms_of (local 3 ∷ [])) 0)
+  pub no_piece : IsNot [] (tree.Print (Value ∷ []) tree.no_terms 0)
+
+-- ---- programs
+
+-- a function without parameters and result, with these local variables
+abbrev pub function : List ℕ → List «Type» → List Stmt → Function
+function name locals body = record { name = name; params = 0; locals = locals; result_type = None; body = body; end = 0 }
+
+abbrev pub of_functions : List Function → Typed
+of_functions functions = record { structs = []; variables = []; functions = functions }
+
+pub record ProgramExamples : Type 0 where
+  -- func main() { x := 7; fmt.Println(x) }
+  pub prints : IsWellFormed (of_functions (function (codes "main") (int ∷ [])
+      (tree.Declare 0 int number 0 ∷ tree.Print (Value ∷ []) (terms_of (local 0 ∷ [])) 0 ∷ []) ∷ []))
+  -- no `main`, or one with a parameter
+  pub no_main : IsWellFormed (of_functions (function (codes "g") [] [] ∷ [])) → ⊥
+  pub main_takes : IsWellFormed (of_functions (record {
+    name = codes "main";
+    params = 1;
+    locals = int ∷ [];
+    result_type = None;
+    body = [];
+    end = 0;
+  } ∷ [])) → ⊥
+  -- two functions with one name
+  pub twice : IsWellFormed (of_functions (function (codes "main") [] [] ∷ function (codes "main") [] [] ∷ [])) → ⊥
+  -- a local variable that points to a struct that does not exist
+  pub no_struct : IsWellFormed (of_functions (function (codes "main") (pointer_to 0 ∷ []) [] ∷ [])) → ⊥
