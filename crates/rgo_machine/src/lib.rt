@@ -3,6 +3,7 @@
 #![tactic(auto)]
 
 mod limits;
+mod lines;
 mod machines;
 mod picks;
 mod states;
@@ -10,6 +11,7 @@ mod steps;
 mod turns;
 
 pub use limits::Limits;
+pub use lines::line;
 pub use machines::{Did, Machine, Stand};
 pub use picks::{End, Pick, Stepped};
 pub use states::{Goroutine, State, standing};

@@ -1,7 +1,7 @@
 use Rattle.std.proofs.Common.{rules, ◌∙◌, ◌∷◌, [], ◌++◌, ap, arith}
-use Rattle.rgo_meaning.specs.Lines.{filled}
-use Rattle.rgo_meaning.proofs.Spaces.{trimmed_of}
-use Rattle.rgo_meaning.proofs.lines.line.Goals as goal
+use Rattle.rgo_machine.specs.Lines.{filled}
+use Rattle.rgo_machine.proofs.Spaces.{trimmed_of}
+use Rattle.rgo_machine.proofs.lines.line.Goals as goal
 
 pub returns : goal.returns
 returns c =

@@ -1,14 +1,14 @@
 //! What `fmt.Println` writes.
 
 ghost use Rattle.std.specs.Prelude.{◌≡◌, ◌++◌, IfOk, OnOk};
-ghost use Rattle.rgo_meaning.specs.Lines as spec;
-ghost use Rattle.rgo_meaning.specs.Lines.{spaced};
+ghost use Rattle.rgo_machine.specs.Lines as spec;
+ghost use Rattle.rgo_machine.specs.Lines.{spaced};
 
-use rgo_typed::Piece;
 use rgo_memory::{Value, write_value};
+use rgo_typed::Piece;
 use std::alloc::{AllocError, Global};
 
-/// The operands in order, each with a space behind it.
+/// The operands in order, each followed by a space.
 fn write_operands(bytes: &mut Vec<u8>, pieces: &[Piece], values: &[Value]) -> Result<(), AllocError>
     ensures { OnOk result (bytes.new.items ≡ bytes.old.items ++ spaced (spec.filled pieces.now values.now)) }
 {

@@ -1,6 +1,6 @@
 use Rattle.std.proofs.Common.{◌≡◌, ◌++◌, drop}
-use Rattle.rgo_meaning.specs.Lines.{filled, spaced}
-use Rattle.rgo_meaning.proofs.lines.write_operands.Given as goal
+use Rattle.rgo_machine.specs.Lines.{filled, spaced}
+use Rattle.rgo_machine.proofs.lines.write_operands.Given as goal
 
 abbrev pub invariant-loop-piece : goal.invariant-loop-piece
 invariant-loop-piece l =

@@ -1,7 +1,7 @@
 use Rattle.std.proofs.Common.{◌≡◌, map, drop, codes}
 use Rattle.rgo_typed.specs.Views.{function_of}
 use Rattle.rgo_meaning.specs.Source.{function_named}
-use Rattle.rgo_meaning.proofs.source.main_goroutine.Given as goal
+use Rattle.rgo_meaning.proofs.machine.main_frame.Given as goal
 
 abbrev pub invariant-loop-function : goal.invariant-loop-function
 invariant-loop-function l =

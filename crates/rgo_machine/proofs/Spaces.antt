@@ -3,7 +3,7 @@ use Rattle.std.proofs.Common.{◌≡◌, ◌-◌, ◌∙◌, ℕ, List, [], ◌�
 use Rattle.std.proofs.lemmas.List.{length-append}
 use Rattle.std.proofs.Math.Seq.{take-append_seam}
 use Rattle.std.specs.List.{join_with_byte}
-use Rattle.rgo_meaning.specs.Lines.{spaced}
+use Rattle.rgo_machine.specs.Lines.{spaced}
 
 -- all but the last space
 joined : (x : List ℕ) (xs : List (List ℕ)) → spaced (x ∷ xs) ≡ join_with_byte 32 (x ∷ xs) ++ 32 ∷ []
