@@ -23,16 +23,21 @@ at_function at None count todo f = Elsewhere
 at_function at (Some callee) count todo f =
     at (going f count [] todo) (called callee (last_values count f.values))
 
-abbrev pub stand_at : Typed → List Todo → Frame → Stand Frame
-stand_at program (Perform action count ty place ∷ todo) f =
+abbrev pub stand_before : Typed → Todo → List Todo → Frame → Stand Frame
+stand_before program (Perform action count ty place) todo f =
     at_channel action (zero_of ty) place (giving f count todo) (last_values count f.values)
-stand_at program (Affect action count place ∷ todo) f =
+stand_before program (Affect action count place) todo f =
     at_channel action (zero_of no_type) place (leaving f count todo) (last_values count f.values)
-stand_at program (Enter function count ∷ todo) f =
+stand_before program (Enter function count) todo f =
     at_function AtCall (slice_get program.functions function) count todo f
-stand_at program (Start function count ∷ todo) f =
+stand_before program (Start function count) todo f =
     at_function AtStart (slice_get program.functions function) count todo f
-stand_at program _ f = Elsewhere
+stand_before program _ todo f = Elsewhere
+
+-- before the first of several things to do
+abbrev pub stand_at : Typed → List Todo → Frame → Stand Frame
+stand_at program [] f = Elsewhere
+stand_at program (item ∷ todo) f = stand_before program item todo f
 
 abbrev pub stand : Typed → Frame → Stand Frame
 stand program f = stand_at program f.todo f

@@ -40,7 +40,7 @@ impl<'a> Machine for SourceMachine<'a> {
     }
 
     fn pass(&self, frame: &mut Frame<'a>, value: Value) {
-        pass(self.program, frame, value)
+        pass(frame, value)
     }
 
     fn enter(
