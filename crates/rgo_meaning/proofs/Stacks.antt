@@ -1,9 +1,10 @@
 -- A list that grows and shrinks at its end, seen with the newest first.
 use Rattle.std.proofs.Common.{◌≡◌, ◌<◌, ◌≤◌, ◌⊎◌, List, [], ◌∷◌, ◌++◌, ℕ, ◌-◌, drop, take, reverse, inl, inr}
-use Rattle.std.proofs.Common.{length, arith, ap, sym, refl, suc, ◌∙◌, ◌+◌, get_or, set, take-append-drop, append_assoc}
+use Rattle.std.proofs.Common.{length, arith, ap, sym, refl, zero, suc, None, ◌∙◌, ◌+◌, get_or, set, take-append-drop, append_assoc}
 use Rattle.std.proofs.lemmas.List.{reverse-append, reverse-reverse, length-reverse, length-drop, take_all, drop_all, take_more, take_more_set}
 use Rattle.std.proofs.lemmas.Bool.{cases_lt}
 use Rattle.std.proofs.Math.Seq.{take-append_seam, drop-append_seam}
+use Rattle.std.specs.Prelude.{slice_get}
 use Rattle.rgo_meaning.specs.Frames.{replaced}
 
 pub pushed : {A : Type 0} (l : List A) (x : A) → reverse (l ++ x ∷ []) ≡ x ∷ reverse l
@@ -96,5 +97,12 @@ put_more items l n x h is =
     ap (λ r. take n items ++ r) (pushed l x)
     ∙ sym (append_assoc (take n items) (x ∷ []) (reverse l))
     ∙ ap (λ r. r ++ reverse l) (ap (λ y. take n items ++ y ∷ []) is ∙ sym (take_more items n x h))
+
+-- where nothing is, there is what is taken in its place
+pub none_there : {A : Type 0} (l : List A) (n : ℕ) (d : A) → slice_get l n ≡ None → d ≡ get_or l n d
+none_there [] zero d e = refl
+none_there [] (suc n) d e = refl
+none_there (x ∷ l) zero d e = cc
+none_there (x ∷ l) (suc n) d e = none_there l n d e
 
 pub ruleset stacks = (pushed)

@@ -1,8 +1,8 @@
 -- How the logic stores a frame: as a tree of numbers, from which the frame can be told.
 use Rattle.std.specs.Prelude.{◌≡◌, ℕ, zero, suc, List, [], ◌∷◌, Option, Some, None, refl}
-use Rattle.std.proofs.Common.{ap}
+use Rattle.std.proofs.Common.{ap, arith}
 use Rattle.std.specs.Coded.{Coded, code_by, coded×, coded_ℕ, coded_list, coded_option}
-use base.Stored.{Gv, gnil, gnum, gcons}
+use base.Stored.{Gv, gnil, gnum, gcons, num}
 use Rattle.rgo_ast.specs.contracts.ops.BinaryOp as operator
 use Rattle.rgo_ast.specs.declared.ops.BinaryOp.{BinaryOp}
 use Rattle.rgo_typed.specs.contracts.actions.Action as the_action
@@ -35,6 +35,10 @@ tail (gcons a b) = b
 abbrev part : ℕ → Gv → Gv
 part zero g = head g
 part (suc n) g = part n (tail g)
+
+-- the number of its constructor
+abbrev tag : Gv → ℕ
+tag g = num (head g)
 
 abbrev row : List Gv → Gv
 row [] = gnil
@@ -93,13 +97,13 @@ mutual
   term_inj (tree.Call a b c d) (tree.Call a2 b2 c2 d2) p = λ i.
       tree.Call (coded_ℕ.inj a a2 (ap (part 1) p) i) (terms_inj b b2 (ap (part 2) p) i)
       (types.inj c c2 (ap (part 3) p) i) (coded_ℕ.inj d d2 (ap (part 4) p) i)
-  term_inj x y p = cc
+  term_inj x y p = absurd (omega (arith, ap tag p))
 
   pub terms_inj : (x y : Terms) → terms_code x ≡ terms_code y → x ≡ y
   terms_inj tree.no_terms tree.no_terms p = refl
   terms_inj (tree.a_term a b) (tree.a_term a2 b2) p = λ i.
       tree.a_term (term_inj a a2 (ap (part 1) p) i) (terms_inj b b2 (ap (part 2) p) i)
-  terms_inj x y p = cc
+  terms_inj x y p = absurd (omega (arith, ap tag p))
 
 abbrev pub option_code : Option Term → Gv
 option_code None = node 0 []
@@ -108,7 +112,7 @@ option_code (Some a) = node 1 (term_code a ∷ [])
 pub option_inj : (x y : Option Term) → option_code x ≡ option_code y → x ≡ y
 option_inj None None p = refl
 option_inj (Some a) (Some a2) p = λ i. Some (term_inj a a2 (ap (part 1) p) i)
-option_inj x y p = cc
+option_inj x y p = absurd (omega (arith, ap tag p))
 
 abbrev pub change_code : Change → Gv
 change_code c =
@@ -191,13 +195,13 @@ mutual
   stmt_inj (tree.Continue a) (tree.Continue a2) p = λ i. tree.Continue (coded_ℕ.inj a a2 (ap (part 1) p) i)
   stmt_inj (tree.Return a b) (tree.Return a2 b2) p = λ i.
       tree.Return (option_inj a a2 (ap (part 1) p) i) (coded_ℕ.inj b b2 (ap (part 2) p) i)
-  stmt_inj x y p = cc
+  stmt_inj x y p = absurd (omega (arith, ap tag p))
 
   pub stmts_inj : (x y : Stmts) → stmts_code x ≡ stmts_code y → x ≡ y
   stmts_inj tree.no_stmts tree.no_stmts p = refl
   stmts_inj (tree.a_stmt a b) (tree.a_stmt a2 b2) p = λ i.
       tree.a_stmt (stmt_inj a a2 (ap (part 1) p) i) (stmts_inj b b2 (ap (part 2) p) i)
-  stmts_inj x y p = cc
+  stmts_inj x y p = absurd (omega (arith, ap tag p))
 
 -- ---- what is to do
 
@@ -272,7 +276,7 @@ todo_inj (todo.Again a b c) (todo.Again a2 b2 c2) p = λ i.
     todo.Again (option_inj a a2 (ap (part 1) p) i) (stmts_inj b b2 (ap (part 2) p) i)
     (stmts_inj c c2 (ap (part 3) p) i)
 todo_inj todo.Leave todo.Leave p = refl
-todo_inj x y p = cc
+todo_inj x y p = absurd (omega (arith, ap tag p))
 
 abbrev pub coded_todo : Coded Todo
 coded_todo = record { code = todo_code; inj = todo_inj }

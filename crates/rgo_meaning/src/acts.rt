@@ -144,7 +144,7 @@ fn write(
 /// What changes only the frame.
 fn move_on<'a>(frame: &mut Frame<'a>, todo: Todo<'a>) -> Result<(), AllocError>
     ensures { Changes result frame.old frame.new
-        (spec.moved (todo_of todo) (drop 1 frame.old.todo) frame.old) }
+        (spec.moved (todo_of todo.entry) (drop 1 frame.old.todo) frame.old) }
 {
     match todo {
         Todo::Evaluate(term) => evaluate(frame, term),
@@ -199,7 +199,7 @@ fn do_one<'a>(
     requires { 0 < length frame.old.todo }
     ensures acts { Acts result (memory_of memory.old) (memory_of memory.new) frame.old frame.new
         out.old.items out.new.items
-        (spec.done (typed_of program.now) (memory_of memory.old) (todo_of todo) (drop 1 frame.old.todo) frame.old) }
+        (spec.done (typed_of program.now) (memory_of memory.old) (todo_of todo.entry) (drop 1 frame.old.todo) frame.old) }
     ensures channels { SameChannels (memory_of memory.old) (memory_of memory.new) }
 {
     let structs = program.structs.items();

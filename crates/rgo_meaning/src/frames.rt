@@ -153,7 +153,7 @@ impl<'a> Frame<'a> {
     /// This is to do in the place of the first thing.
     pub(crate) fn set_first(&mut self, item: Todo<'a>)
         requires { 0 < length self.old.todo }
-        ensures { self.new ≡ spec.going self.old 0 [] (todo_of item ∷ drop 1 self.old.todo) }
+        ensures { self.new ≡ spec.going self.old 0 [] (todo_of item.entry ∷ drop 1 self.old.todo) }
     {
         self.todo.replace(0, item);
     }

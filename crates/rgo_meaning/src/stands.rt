@@ -43,7 +43,7 @@ fn at_channel(action: Action, blank: Value, at: Place, values: &[Value]) -> Stan
 
 fn stand_before(program: &Typed, frame: &Frame<'_>, todo: Todo<'_>) -> Stand
     ensures { result ≡ stand_of
-        (spec.stand_before (typed_of program.now) (todo_of todo) (drop 1 frame.now.todo) frame.now) }
+        (spec.stand_before (typed_of program.now) (todo_of todo.entry) (drop 1 frame.now.todo) frame.now) }
 {
     match todo {
         Todo::Perform(action, count, ty, at) => {
@@ -86,7 +86,7 @@ fn given(action: Action, values: &[Value], value: Value) -> Option<Value>
 
 fn pass_before(frame: &mut Frame<'_>, todo: Todo<'_>, value: Value)
     ensures { (program : tree.Typed) → frame.new ≡ passed frame.old value
-        (spec.stand_before program (todo_of todo) (drop 1 frame.old.todo) frame.old) }
+        (spec.stand_before program (todo_of todo.entry) (drop 1 frame.old.todo) frame.old) }
 {
     match todo {
         Todo::Perform(action, count, _, _) => {
@@ -141,7 +141,7 @@ fn enter_before<'a>(
     todo: Todo<'a>,
 ) -> Result<Option<Frame<'a>>, AllocError>
     ensures { Enters result frame.old frame.new
-        (spec.stand_before (typed_of program.now) (todo_of todo) (drop 1 frame.old.todo) frame.old) }
+        (spec.stand_before (typed_of program.now) (todo_of todo.entry) (drop 1 frame.old.todo) frame.old) }
 {
     match todo {
         Todo::Enter(function, count) => enter_function(alloc, program, frame, function, count),

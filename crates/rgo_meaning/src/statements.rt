@@ -153,6 +153,7 @@ fn return_with<'a>(frame: &mut Frame<'a>, value: &'a Option<Box<Term>>) -> Resul
 }
 
 /// A statement that branches or jumps, or holds others.
+#[tactic(auto, using(rgo_typed::proofs::Rows::rows))]
 fn execute_flow<'a>(frame: &mut Frame<'a>, stmt: &'a Stmt) -> Result<(), AllocError>
     ensures { Changes result frame.old frame.new (going frame.old 0 []
         (todos.flow_todo (typed.stmt_of stmt.now) (drop 1 frame.old.todo))) }
@@ -223,6 +224,12 @@ pub fn execute<'a>(frame: &mut Frame<'a>, stmt: &'a Stmt) -> Result<(), AllocErr
             0,
             &[Todo::Each(values), Todo::Write(pieces.items(), values.len())],
         ),
-        _ => execute_flow(frame, stmt),
+        Stmt::Block(_)
+        | Stmt::If(_, _, _)
+        | Stmt::IfElse(_, _, _, _)
+        | Stmt::Loop { .. }
+        | Stmt::Break(_)
+        | Stmt::Continue(_)
+        | Stmt::Return(_, _) => execute_flow(frame, stmt),
     }
 }
