@@ -1,7 +1,7 @@
 -- How the logic stores a frame: as a tree of numbers, from which the frame can be told.
 use Rattle.std.specs.Prelude.{◌≡◌, ℕ, zero, suc, List, [], ◌∷◌, Option, Some, None, refl}
 use Rattle.std.proofs.Common.{ap, arith}
-use Rattle.std.specs.Coded.{Coded, code_by, coded×, coded_ℕ, coded_list, coded_option}
+use Rattle.std.specs.Coded.{Coded, code_by, coded×, coded_ℕ, coded_list}
 use base.Stored.{Gv, gnil, gnum, gcons, num}
 use Rattle.rgo_ast.specs.contracts.ops.BinaryOp as operator
 use Rattle.rgo_ast.specs.declared.ops.BinaryOp.{BinaryOp}

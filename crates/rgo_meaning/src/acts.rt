@@ -115,7 +115,14 @@ fn fill<'a>(
     };
     let ty = no_type(alloc);
     let operands = [target, frame.value(fields.len())];
-    match perform(alloc, memory, structs, Action::Store(*field), &ty, &operands)? {
+    match perform(
+        alloc,
+        memory,
+        structs,
+        Action::Store(*field),
+        &ty,
+        &operands,
+    )? {
         Effect::Gives(_) => {
             frame.set_first(Todo::Fill(count, rest, at));
             Ok(Did::Moves)
@@ -210,7 +217,16 @@ fn do_one<'a>(
         Todo::Affect(action, count, at) => affect(alloc, structs, memory, frame, action, count, at),
         Todo::Create(number) => {
             let ty = no_type(alloc);
-            give_value(alloc, structs, memory, frame, Action::New(number), 0, &ty, 0)
+            give_value(
+                alloc,
+                structs,
+                memory,
+                frame,
+                Action::New(number),
+                0,
+                &ty,
+                0,
+            )
         }
         Todo::Fill(count, fields, at) => fill(alloc, structs, memory, frame, count, fields, at),
         Todo::Write(pieces, count) => write(alloc, frame, pieces, count, out),

@@ -40,10 +40,7 @@ pub fn called<'a>(
     ensures { IfOk result (λ f. f ≡ spec.called (function_of function.now) arguments.now) }
 {
     let mut locals = Vec::from_slice(alloc, arguments)?;
-    push_zeros(
-        &mut locals,
-        after(function.locals.items(), arguments.len()),
-    )?;
+    push_zeros(&mut locals, after(function.locals.items(), arguments.len()))?;
     let mut todo = Stack::new(alloc);
     todo.push(Todo::Sequence(&function.body))?;
     Ok(Frame {

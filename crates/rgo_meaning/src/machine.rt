@@ -43,11 +43,7 @@ impl<'a> Machine for SourceMachine<'a> {
         pass(frame, value)
     }
 
-    fn enter(
-        &self,
-        alloc: Global,
-        frame: &mut Frame<'a>,
-    ) -> Result<Option<Frame<'a>>, AllocError> {
+    fn enter(&self, alloc: Global, frame: &mut Frame<'a>) -> Result<Option<Frame<'a>>, AllocError> {
         enter(alloc, self.program, frame)
     }
 
@@ -70,10 +66,7 @@ impl<'a> Machine for SourceMachine<'a> {
 }
 
 /// The frame of `main`, the first function of that name.
-fn main_frame<'a>(
-    alloc: Global,
-    functions: &'a [Function],
-) -> Result<Option<Frame<'a>>, AllocError>
+fn main_frame<'a>(alloc: Global, functions: &'a [Function]) -> Result<Option<Frame<'a>>, AllocError>
     ensures { IfOk result (λ frame. option_to_list frame
         ≡ spec.main_frames (spec.function_named (codes "main") (map function_of functions.now))) }
 {

@@ -85,8 +85,7 @@ impl<T: Copy + Drop> Stack<T> {
     pub fn remove(&mut self, count: usize)
         ensures { self.new ≡ drop count self.old }
     {
-        self.items
-            .truncate(self.items.len().saturating_sub(count));
+        self.items.truncate(self.items.len().saturating_sub(count));
     }
 
     /// Puts an item on top. On allocation failure nothing changes.
@@ -111,8 +110,7 @@ impl<T: Copy + Drop> Stack<T> {
         ensures { Changes result self.old self.new (items.now ++ drop count self.old) }
     {
         self.items.reserve(items.len())?;
-        self.items
-            .truncate(self.items.len().saturating_sub(count));
+        self.items.truncate(self.items.len().saturating_sub(count));
         let mut left = items.len();
         while left > 0 {
             left -= 1;

@@ -72,7 +72,10 @@ pub fn turn<'a>(
     match test {
         None => frame.advance_to(0, &[Todo::Sequence(body), Todo::Again(test, body, post)]),
         Some(condition) => {
-            frame.advance_to(0, &[Todo::Evaluate(condition), Todo::Test(test, body, post)])
+            frame.advance_to(
+                0,
+                &[Todo::Evaluate(condition), Todo::Test(test, body, post)],
+            )
         }
     }
 }
@@ -111,7 +114,11 @@ pub fn again<'a>(
 {
     frame.advance_to(
         0,
-        &[Todo::Sequence(post), Todo::Onward, Todo::Turn(test, body, post)],
+        &[
+            Todo::Sequence(post),
+            Todo::Onward,
+            Todo::Turn(test, body, post),
+        ],
     )
 }
 
@@ -164,9 +171,12 @@ fn execute_flow<'a>(frame: &mut Frame<'a>, stmt: &'a Stmt) -> Result<(), AllocEr
         Stmt::IfElse(test, body, other, _) => {
             frame.advance_to(0, &[Todo::Evaluate(test), Todo::Choose(body, other)])
         }
-        Stmt::Loop { test, body, post, at: _ } => {
-            frame.advance_to(0, &[Todo::Turn(test, body, post)])
-        }
+        Stmt::Loop {
+            test,
+            body,
+            post,
+            at: _,
+        } => { frame.advance_to(0, &[Todo::Turn(test, body, post)]) }
         Stmt::Break(_) => {
             frame.advance(0);
             leave_loop(frame);
@@ -198,9 +208,21 @@ pub fn execute<'a>(frame: &mut Frame<'a>, stmt: &'a Stmt) -> Result<(), AllocErr
         Stmt::Zero(n, ty, _) => frame.advance_to(0, &[Todo::Clear(*n, ty)]),
         Stmt::Perform(action, operands, at) => frame.advance_to(
             0,
-            &[Todo::Each(operands), Todo::Affect(*action, operands.len(), *at)],
+            &[
+                Todo::Each(operands),
+                Todo::Affect(*action, operands.len(), *at),
+            ],
         ),
-        Stmt::Update { operands, read, ty, read_at, op, value, write, at } => frame.advance_to(
+        Stmt::Update {
+            operands,
+            read,
+            ty,
+            read_at,
+            op,
+            value,
+            write,
+            at,
+        } => frame.advance_to(
             0,
             &[
                 Todo::Each(operands),
@@ -214,15 +236,24 @@ pub fn execute<'a>(frame: &mut Frame<'a>, stmt: &'a Stmt) -> Result<(), AllocErr
         Stmt::Discard(value) => frame.advance_to(0, &[Todo::Evaluate(value), Todo::Forget]),
         Stmt::Invoke(function, arguments, _) => frame.advance_to(
             0,
-            &[Todo::Each(arguments), Todo::Enter(*function, arguments.len())],
+            &[
+                Todo::Each(arguments),
+                Todo::Enter(*function, arguments.len()),
+            ],
         ),
         Stmt::Go(function, arguments, _) => frame.advance_to(
             0,
-            &[Todo::Each(arguments), Todo::Start(*function, arguments.len())],
+            &[
+                Todo::Each(arguments),
+                Todo::Start(*function, arguments.len()),
+            ],
         ),
         Stmt::Print(pieces, values, _) => frame.advance_to(
             0,
-            &[Todo::Each(values), Todo::Write(pieces.items(), values.len())],
+            &[
+                Todo::Each(values),
+                Todo::Write(pieces.items(), values.len()),
+            ],
         ),
         Stmt::Block(_)
         | Stmt::If(_, _, _)

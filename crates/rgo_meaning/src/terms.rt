@@ -26,7 +26,10 @@ pub fn evaluate<'a>(frame: &mut Frame<'a>, term: &'a Term) -> Result<(), AllocEr
         }
         Term::Apply(action, parts, ty, at) => frame.advance_to(
             0,
-            &[Todo::Each(parts), Todo::Perform(*action, parts.len(), ty, *at)],
+            &[
+                Todo::Each(parts),
+                Todo::Perform(*action, parts.len(), ty, *at),
+            ],
         ),
         Term::Logic(op, left, right, _) => frame.advance_to(
             0,
@@ -42,7 +45,10 @@ pub fn evaluate<'a>(frame: &mut Frame<'a>, term: &'a Term) -> Result<(), AllocEr
         ),
         Term::Call(function, arguments, _, _) => frame.advance_to(
             0,
-            &[Todo::Each(arguments), Todo::Enter(*function, arguments.len())],
+            &[
+                Todo::Each(arguments),
+                Todo::Enter(*function, arguments.len()),
+            ],
         ),
     }
 }
