@@ -7,5 +7,6 @@ pub mod Newest
 pub mod Others
 pub mod Printing
 pub mod Runs
+pub mod Spaces
 pub mod Stepping
 pub mod Waiting

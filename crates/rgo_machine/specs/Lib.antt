@@ -3,6 +3,7 @@ pub mod Alone
 pub mod Deadlocks
 pub mod Growing
 pub mod Limits
+pub mod Lines
 pub mod Machines
 pub mod Runs
 pub mod Turning

@@ -5,6 +5,7 @@
 mod goroutines;
 mod laws;
 mod limits;
+mod lines;
 mod machines;
 mod picks;
 mod states;
@@ -13,6 +14,7 @@ mod turns;
 
 pub use laws::{deadlocks_wait, print_grows};
 pub use limits::Limits;
+pub use lines::line;
 pub use machines::{Did, Machine, Stand};
 pub use picks::{End, Pick, Stepped};
 pub use states::{Goroutine, State, standing};

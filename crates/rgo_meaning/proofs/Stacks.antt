@@ -1,9 +1,11 @@
 -- A list that grows and shrinks at its end, seen with the newest first.
 use Rattle.std.proofs.Common.{◌≡◌, ◌<◌, ◌≤◌, ◌⊎◌, List, [], ◌∷◌, ◌++◌, ℕ, ◌-◌, drop, take, reverse, inl, inr}
-use Rattle.std.proofs.Common.{length, arith, ap, sym, ◌∙◌, take-append-drop}
-use Rattle.std.proofs.lemmas.List.{reverse-append, reverse-reverse, length-reverse, length-drop, take_all, drop_all}
+use Rattle.std.proofs.Common.{length, arith, ap, sym, refl, zero, suc, None, ◌∙◌, ◌+◌, get_or, set, take-append-drop, append_assoc}
+use Rattle.std.proofs.lemmas.List.{reverse-append, reverse-reverse, length-reverse, length-drop, take_all, drop_all, take_more, take_more_set}
 use Rattle.std.proofs.lemmas.Bool.{cases_lt}
 use Rattle.std.proofs.Math.Seq.{take-append_seam, drop-append_seam}
+use Rattle.std.specs.Prelude.{slice_get}
+use Rattle.rgo_meaning.specs.Frames.{replaced}
 
 pub pushed : {A : Type 0} (l : List A) (x : A) → reverse (l ++ x ∷ []) ≡ x ∷ reverse l
 pushed l x = reverse-append l (x ∷ [])
@@ -67,5 +69,40 @@ more_of l k m is =
     ap (λ r. reverse (l ++ r))
     (take_all (length l - m) (drop m l) (omega (arith, length-drop m l)) ∙ ap (λ n. drop n l) is)
     ∙ once_more l k
+
+-- the newest k below the newest
+pub below_of : {A : Type 0} (l m n : List A) (k t from : ℕ) → m ≡ take t l → t ≡ length l - 1 → from ≡ length m - k
+    → n ≡ take (length m - from) (drop from m) → n ≡ reverse (take k (drop 1 (reverse l)))
+below_of l m n k t from is top from_is n_is =
+    n_is ∙ last_of m k from from_is
+    ∙ ap (λ r. reverse (take k r)) (ap reverse is ∙ older_of l 1 t top)
+
+-- one item in place of the newest and of k below it
+replaced_by : {A : Type 0} (x : A) (k : ℕ) (l : List A) → 0 < length l → replaced x k l ≡ x ∷ drop (suc k) l
+replaced_by x k [] h = absurd (omega arith)
+replaced_by x k (y ∷ l) h = refl
+
+pub replaced_of : {A : Type 0} (l : List A) (x : A) (k kept : ℕ) → 0 < length l → kept ≡ (length l - 1) - k
+    → reverse (take (kept + 1) (set l kept x)) ≡ replaced x k (reverse l)
+replaced_of l x k kept some is =
+    ap reverse (take_more_set l kept x (omega arith))
+    ∙ pushed (take kept l) x
+    ∙ ap (λ m. x ∷ m) (older_of l (suc k) kept (omega arith))
+    ∙ sym (replaced_by x k (reverse l) (omega (arith, length-reverse l)))
+
+-- the last of the items that are left goes on top
+pub put_more : {A : Type 0} (items l : List A) (n : ℕ) (x : A) → n < length items → x ≡ get_or items n x
+    → take n items ++ reverse (l ++ x ∷ []) ≡ take (n + 1) items ++ reverse l
+put_more items l n x h is =
+    ap (λ r. take n items ++ r) (pushed l x)
+    ∙ sym (append_assoc (take n items) (x ∷ []) (reverse l))
+    ∙ ap (λ r. r ++ reverse l) (ap (λ y. take n items ++ y ∷ []) is ∙ sym (take_more items n x h))
+
+-- where nothing is, there is what is taken in its place
+pub none_there : {A : Type 0} (l : List A) (n : ℕ) (d : A) → slice_get l n ≡ None → d ≡ get_or l n d
+none_there [] zero d e = refl
+none_there [] (suc n) d e = refl
+none_there (x ∷ l) zero d e = cc
+none_there (x ∷ l) (suc n) d e = none_there l n d e
 
 pub ruleset stacks = (pushed)

@@ -1,5 +1,5 @@
 -- Frames: a function that was called, with what it has still to do.
-use Rattle.std.specs.Prelude.{ℕ, zero, suc, Bool, is_some, List, [], ◌∷◌, ◌++◌, get_or, length, drop, map, reverse, take, Option}
+use Rattle.std.specs.Prelude.{ℕ, zero, suc, List, [], ◌∷◌, ◌++◌, get_or, length, drop, map, reverse, take, Option}
 use Rattle.rgo_typed.specs.declared.actions.Action.{Action}
 use Rattle.rgo_typed.specs.declared.actions.Logical.{Logical}
 use Rattle.rgo_typed.specs.declared.statements.Piece.{Piece}
@@ -52,10 +52,9 @@ pub data Todo : Type 0 where
   Again : (test : Option Term) → (body post : Stmts) → Todo
   -- the function returns, with a value
   Leave : Todo
-  -- the end of the function's body: without a result it returns there, with one it never comes there
-  AtEnd : (has_result : Bool) → Todo
 
--- the local variables by number; the values that wait to be used, the newest first; and what is to do, in order
+-- the local variables by number; the values that wait to be used, the newest first; and what is to do, in order. Where
+-- nothing is to do the function returns, without a value
 pub record Frame : Type 0 where
   pub locals : List Value
   pub values : List Value
@@ -75,13 +74,25 @@ with_local (u ∷ locals) (suc n) v = u ∷ with_local locals n v
 
 -- ---- values
 
--- the last values, so many, in the order in which they came
+-- the value below so many newer ones; nil where there is none, as in no typed program
+abbrev pub value_below : List Value → ℕ → Value
+value_below values newer = get_or values newer Nil
+
+abbrev pub newest : List Value → Value
+newest values = value_below values 0
+
+-- the last n values, in the order in which they came
 abbrev pub last_values : ℕ → List Value → List Value
 last_values n values = reverse (take n values)
 
--- the frame with other things to do, after so many values were taken and some were put
+-- the frame with other things to do, after `taken` values were taken and some were put
 abbrev pub going : Frame → ℕ → List Value → List Todo → Frame
 going f taken put todo = record { locals = f.locals; values = put ++ drop taken f.values; todo = todo }
+
+-- this item in place of the newest and of up to `count` below it
+abbrev pub replaced : {A : Type 0} → A → ℕ → List A → List A
+replaced x count [] = []
+replaced x count (y ∷ below) = x ∷ drop count below
 
 -- ---- calls
 
@@ -90,5 +101,5 @@ abbrev pub called : Function → List Value → Frame
 called f arguments = record {
   locals = arguments ++ map zero_of (drop (length arguments) f.locals);
   values = [];
-  todo = Sequence (stmts_of f.body) ∷ AtEnd (is_some f.result_type) ∷ [];
+  todo = Sequence (stmts_of f.body) ∷ [];
 }

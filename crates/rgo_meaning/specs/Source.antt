@@ -1,31 +1,22 @@
 -- The source machine: what a program means. Goroutines walk its typed tree, over a heap that never frees.
-use Rattle.std.specs.Prelude.{ℕ, Bool, true, false, List, [], ◌∷◌, slice_get, Option, Some, None, codes, bytes_eq, if◌then◌else◌}
+use Rattle.std.specs.Prelude.{ℕ, List, [], ◌∷◌, Option, Some, None, codes, bytes_eq, if◌then◌else◌}
 use Rattle.rgo_typed.specs.Tree.{Function, Typed}
 use Rattle.rgo_memory.specs.Opening.{opening}
 use Rattle.rgo_machine.specs.declared.picks.Pick.{Pick}
-use Rattle.rgo_machine.specs.Machines.{Machine, State, step_by}
+use Rattle.rgo_machine.specs.Machines.{Machine, State, start_of, step_by}
 use Rattle.rgo_machine.specs.Runs.{Leads}
 use Rattle.rgo_meaning.specs.Frames.{Frame, called}
-use Rattle.rgo_meaning.specs.Meetings.{stand}
+use Rattle.rgo_meaning.specs.Stands.{stand}
 use Rattle.rgo_meaning.specs.Steps.{act, resumed}
 
 abbrev pub SourceState : Type 0
 SourceState = State Frame
 
 abbrev pub source : Typed → Machine Frame
-source program = record { act = act program; stand = stand; resume = resumed }
+source program = record { act = act program; stand = stand program; resume = resumed }
 
 abbrev pub source_step : Typed → SourceState → Pick → Option SourceState
 source_step program = step_by (source program)
-
--- a goroutine that has not returned has frames
-abbrev pub has_frames : Option (List Frame) → Bool
-has_frames None = false
-has_frames (Some []) = false
-has_frames (Some (f ∷ callers)) = true
-
-abbrev pub is_running : List (List Frame) → ℕ → Bool
-is_running goroutines g = has_frames (slice_get goroutines g)
 
 -- ---- the state in which a run begins
 
@@ -39,12 +30,8 @@ main_frames None = []
 main_frames (Some f) = called f [] ∷ []
 
 abbrev pub source_start : Typed → SourceState
-source_start program = record {
-  memory = opening program.variables;
-  goroutines = main_frames (function_named (codes "main") program.functions) ∷ [];
-  printed = [];
-  ended = None;
-}
+source_start program =
+    start_of (opening program.variables) (main_frames (function_named (codes "main") program.functions))
 
 -- the picks lead from the beginning to the state
 abbrev pub IsRun : Typed → List Pick → SourceState → Type 0

@@ -1,10 +1,10 @@
 -- What terms and statements leave to do, before the things that follow them.
-use Rattle.std.specs.Prelude.{ℕ, suc, false, List, [], ◌∷◌, Option, Some, None}
+use Rattle.std.specs.Prelude.{ℕ, suc, List, [], ◌∷◌, Option, Some, None}
 use Rattle.rgo_typed.specs.declared.actions.Action.TheVariants.{Binary}
 use Rattle.rgo_typed.specs.Tree as tree
 use Rattle.rgo_typed.specs.Tree.{Term, Terms, Stmt, Stmts, Change}
 use Rattle.rgo_meaning.specs.Frames.{Todo, Evaluate, Each, Perform, Affect, Settle, Decide, Create, Fill, Repeat, Give, Forget}
-use Rattle.rgo_meaning.specs.Frames.{Clear, Enter, Start, Write, Sequence, When, Choose, Close, Turn, Test, Again, Leave, AtEnd}
+use Rattle.rgo_meaning.specs.Frames.{Clear, Enter, Start, Write, Sequence, When, Choose, Close, Turn, Test, Again, Leave}
 
 abbrev pub count : Terms → ℕ
 count tree.no_terms = 0
@@ -31,7 +31,7 @@ turn_todo (Some test) body post todo = Evaluate test ∷ Test (Some test) body p
 
 -- nothing else is to do in the function
 abbrev pub return_todo : Option Term → List Todo
-return_todo None = AtEnd false ∷ []
+return_todo None = []
 return_todo (Some value) = Evaluate value ∷ Leave ∷ []
 
 -- what follows the innermost loop
@@ -46,8 +46,18 @@ after_continue [] = []
 after_continue (Again test body post ∷ todo) = Again test body post ∷ todo
 after_continue (item ∷ todo) = after_continue todo
 
+-- of a statement that branches or jumps, or holds others
+abbrev pub flow_todo : Stmt → List Todo → List Todo
+flow_todo (tree.Block all) todo = Sequence all ∷ Close ∷ todo
+flow_todo (tree.If test body at) todo = Evaluate test ∷ When body ∷ todo
+flow_todo (tree.IfElse test body other at) todo = Evaluate test ∷ Choose body other ∷ todo
+flow_todo (tree.Loop test body post at) todo = Turn test body post ∷ todo
+flow_todo (tree.Break at) todo = after_break todo
+flow_todo (tree.Continue at) todo = after_continue todo
+flow_todo (tree.Return value at) todo = return_todo value
+flow_todo _ todo = todo
+
 abbrev pub statement_todo : Stmt → List Todo → List Todo
-statement_todo (tree.Block all) todo = Sequence all ∷ Close ∷ todo
 statement_todo (tree.Declare n ty value at) todo = Evaluate value ∷ Give n ∷ todo
 statement_todo (tree.Zero n ty at) todo = Clear n ty ∷ todo
 statement_todo (tree.Assign n value at) todo = Evaluate value ∷ Give n ∷ todo
@@ -57,9 +67,4 @@ statement_todo (tree.Discard value) todo = Evaluate value ∷ Forget ∷ todo
 statement_todo (tree.Invoke function arguments at) todo = Each arguments ∷ Enter function (count arguments) ∷ todo
 statement_todo (tree.Go function arguments at) todo = Each arguments ∷ Start function (count arguments) ∷ todo
 statement_todo (tree.Print pieces values at) todo = Each values ∷ Write pieces (count values) ∷ todo
-statement_todo (tree.If test body at) todo = Evaluate test ∷ When body ∷ todo
-statement_todo (tree.IfElse test body other at) todo = Evaluate test ∷ Choose body other ∷ todo
-statement_todo (tree.Loop test body post at) todo = Turn test body post ∷ todo
-statement_todo (tree.Break at) todo = after_break todo
-statement_todo (tree.Continue at) todo = after_continue todo
-statement_todo (tree.Return value at) todo = return_todo value
+statement_todo s todo = flow_todo s todo

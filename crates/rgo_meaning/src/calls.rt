@@ -1,20 +1,18 @@
 //! The frame of a function that is called.
-#![tactic(auto)]
 
 ghost use Rattle.std.specs.Prelude.{◌≡◌, ◌++◌, IfOk, OnOk, drop, map};
 ghost use Rattle.rgo_typed.specs.Views.{function_of};
 ghost use Rattle.rgo_memory.specs.Values.{zero_of};
 ghost use Rattle.rgo_meaning.specs.Frames as spec;
-ghost use Rattle.rgo_meaning.specs.Views.{frame_of};
 
 use crate::frames::{Frame, Todo};
 use crate::stack::Stack;
-use rgo_typed::{Function, Type};
 use rgo_memory::{Value, zero};
+use rgo_typed::{Function, Type};
 use std::alloc::{AllocError, Global};
 
-/// The types behind the first so many.
-fn behind(types: &[Type], count: usize) -> &[Type]
+/// The types after the first `count`.
+fn after(types: &[Type], count: usize) -> &[Type]
     ensures { result.now ≡ drop count types.now }
 {
     if count < types.len() {
@@ -39,15 +37,11 @@ pub fn called<'a>(
     function: &'a Function,
     arguments: &[Value],
 ) -> Result<Frame<'a>, AllocError>
-    ensures { IfOk result (λ f. frame_of f ≡ spec.called (function_of function.now) arguments.now) }
+    ensures { IfOk result (λ f. f ≡ spec.called (function_of function.now) arguments.now) }
 {
     let mut locals = Vec::from_slice(alloc, arguments)?;
-    push_zeros(
-        &mut locals,
-        behind(function.locals.items(), arguments.len()),
-    )?;
+    push_zeros(&mut locals, after(function.locals.items(), arguments.len()))?;
     let mut todo = Stack::new(alloc);
-    todo.push(Todo::AtEnd(function.result_type.is_some()))?;
     todo.push(Todo::Sequence(&function.body))?;
     Ok(Frame {
         locals,

@@ -1,9 +1,17 @@
 //! Frames: a function that was called, with what it has still to do.
 
+ghost use Rattle.std.specs.Prelude.{◌≡◌, ◌<◌, [], ◌∷◌, ◌++◌, drop, take, length, map, MatchOption};
+ghost use Rattle.rgo_meaning.specs.Changes.{Changes};
+ghost use Rattle.rgo_meaning.specs.Frames as spec;
+ghost use Rattle.rgo_meaning.specs.Views.{todo_of};
+
+use crate::locals::{local, set_local};
 use crate::stack::Stack;
 use rgo_ast::Place;
-use rgo_typed::{Action, Logical, Piece, Stmt, Term, Type};
 use rgo_memory::Value;
+use rgo_typed::{Action, Logical, Piece, Stmt, Term, Type};
+use std::alloc::AllocError;
+use std::marker::Model;
 
 /// One thing to do. What gives a value puts it on the frame's values; what takes values takes the
 /// newest.
@@ -59,14 +67,139 @@ pub enum Todo<'a> {
     Again(&'a Option<Box<Term>>, &'a [Stmt], &'a [Stmt]),
     /// The function returns, with a value.
     Leave,
-    /// The end of the body of a function with a result, or without one.
-    AtEnd(bool),
 }
 
-/// The local variables by number, the values that wait to be used, and what is to do.
+/// The local variables by number, the values that wait to be used, and what is to do. Where nothing is to do the
+/// function returns.
 #[derive(Drop)]
 pub struct Frame<'a> {
-    pub locals: Vec<Value>,
-    pub values: Stack<Value>,
-    pub todo: Stack<Todo<'a>>,
+    pub(crate) locals: Vec<Value>,
+    pub(crate) values: Stack<Value>,
+    pub(crate) todo: Stack<Todo<'a>>,
+}
+
+impl<'a> Model for Frame<'a> {
+    ghost use Rattle.std.specs.Prelude.{map};
+    ghost use Rattle.rgo_meaning.specs.Codes.{coded_frame};
+    ghost use Rattle.rgo_meaning.specs.Frames.{Frame as Meaning};
+    ghost use Rattle.rgo_meaning.specs.Views.{todo_of};
+
+    ghost Value = { Meaning };
+
+    ghost coded = { coded_frame };
+
+    ghost view = { λ f. record { locals = f.locals.items; values = f.values; todo = map todo_of f.todo } };
+}
+
+impl<'a> Frame<'a> {
+    /// The first thing to do.
+    pub(crate) fn first(&self) -> Option<Todo<'a>>
+        ensures { MatchOption result (self.now.todo ≡ [])
+            (λ item. self.now.todo ≡ todo_of item ∷ drop 1 self.now.todo) }
+    {
+        self.todo.first()
+    }
+
+    /// The value of a local variable.
+    pub(crate) fn local(&self, n: usize) -> Value
+        ensures { result ≡ spec.local_at self.now.locals n }
+    {
+        local(&self.locals, n)
+    }
+
+    /// The value below so many newer ones; nil where there is none.
+    pub(crate) fn value(&self, newer: usize) -> Value
+        ensures { result ≡ spec.value_below self.now.values newer }
+    {
+        match self.values.below(newer) {
+            Some(value) => value,
+            None => Value::Nil,
+        }
+    }
+
+    /// The newest values, up to `count`, in the order in which they came.
+    pub(crate) fn last(&self, count: usize) -> &[Value]
+        ensures { result.now ≡ spec.last_values count self.now.values }
+    {
+        self.values.last(count)
+    }
+
+    /// The values below the newest, up to `count`, in the order in which they came.
+    pub(crate) fn below_first(&self, count: usize) -> &[Value]
+        ensures { result.now ≡ spec.last_values count (drop 1 self.now.values) }
+    {
+        self.values.below_first(count)
+    }
+
+    /// The first thing is done, and has taken up to `count` values.
+    pub(crate) fn advance(&mut self, count: usize)
+        ensures { self.new ≡ spec.going self.old count [] (drop 1 self.old.todo) }
+    {
+        self.todo.remove(1);
+        self.values.remove(count);
+    }
+
+    /// The first thing gives way to these, and has taken up to `count` values. On allocation failure nothing
+    /// changes.
+    pub(crate) fn advance_to(&mut self, count: usize, items: &[Todo<'a>]) -> Result<(), AllocError>
+        ensures { Changes result self.old self.new
+            (spec.going self.old count [] (map todo_of items.now ++ drop 1 self.old.todo)) }
+    {
+        self.todo.put(1, items)?;
+        self.values.remove(count);
+        Ok(())
+    }
+
+    /// This is to do in the place of the first thing.
+    pub(crate) fn set_first(&mut self, item: Todo<'a>)
+        requires { 0 < length self.old.todo }
+        ensures { self.new ≡ spec.going self.old 0 [] (todo_of item.entry ∷ drop 1 self.old.todo) }
+    {
+        self.todo.replace(0, item);
+    }
+
+    /// Nothing is to do but these. On allocation failure nothing changes.
+    pub(crate) fn end_with(&mut self, items: &[Todo<'a>]) -> Result<(), AllocError>
+        ensures { Changes result self.old self.new (spec.going self.old 0 [] (map todo_of items.now)) }
+    {
+        let all = self.todo.len();
+        self.todo.put(all, items)
+    }
+
+    /// Puts a value on the others. On allocation failure nothing changes.
+    pub(crate) fn push(&mut self, value: Value) -> Result<(), AllocError>
+        ensures { Changes result self.old self.new (spec.going self.old 0 (value ∷ []) self.old.todo) }
+    {
+        self.values.push(value)
+    }
+
+    /// Puts the newest values, up to `count`, on the others once more. On allocation failure nothing changes.
+    pub(crate) fn repeat(&mut self, count: usize) -> Result<(), AllocError>
+        ensures { Changes result self.old self.new
+            (spec.going self.old 0 (take count self.old.values) self.old.todo) }
+    {
+        self.values.repeat(count)
+    }
+
+    /// Lets the newest value go.
+    pub(crate) fn pop(&mut self)
+        ensures { self.new ≡ spec.going self.old 1 [] self.old.todo }
+    {
+        self.values.remove(1);
+    }
+
+    /// Replaces the newest value, and up to `count` below it, by this one.
+    pub(crate) fn replace(&mut self, count: usize, value: Value)
+        ensures { self.new ≡ record self.old { values = spec.replaced value count self.old.values } }
+    {
+        self.values.replace(count, value);
+    }
+
+    /// Sets a local variable. On allocation failure nothing changes.
+    pub(crate) fn set_local(&mut self, n: usize, value: Value) -> Result<(), AllocError>
+        ensures { Changes result self.old self.new
+            (record self.old { locals = spec.with_local self.old.locals n value }) }
+    {
+        set_local(&mut self.locals, n, value)
+    }
 }

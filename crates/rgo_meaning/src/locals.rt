@@ -1,6 +1,7 @@
 //! Local variables by number.
 
-ghost use Rattle.std.specs.Prelude.{◌≡◌, OnOk};
+ghost use Rattle.std.specs.Prelude.{◌≡◌};
+ghost use Rattle.rgo_meaning.specs.Changes.{Changes};
 ghost use Rattle.rgo_meaning.specs.Frames.{local_at, with_local};
 
 use rgo_memory::Value;
@@ -16,17 +17,21 @@ pub fn local(locals: &[Value], n: usize) -> Value
     }
 }
 
-/// Gives a local variable a value.
+/// Sets a local variable. On allocation failure nothing changes.
 pub fn set_local(locals: &mut Vec<Value>, n: usize, value: Value) -> Result<(), AllocError>
-    ensures { OnOk result (locals.new.items ≡ with_local locals.old.items n value) }
+    ensures { Changes result locals.old.items locals.new.items (with_local locals.old.items n value) }
 {
     if n < locals.len() {
         locals[n] = value;
         return Ok(());
     }
+    let Some(missing) = (n - locals.len()).checked_add(1) else {
+        return Err(AllocError);
+    };
+    locals.reserve(missing)?;
     while locals.len() < n {
-        locals.push(Value::Nil)?;
+        locals.push_reserved(Value::Nil);
     }
-    locals.push(value)?;
+    locals.push_reserved(value);
     Ok(())
 }

@@ -1,7 +1,9 @@
 //! A list that grows and shrinks at one end. Contracts see it with the newest first.
 #![tactic(auto, using(crate::proofs::Stacks::stacks))]
 
-ghost use Rattle.std.specs.Prelude.{◌≡◌, [], ◌∷◌, ◌++◌, drop, take, reverse, slice_get, MatchOption, OnOk};
+ghost use Rattle.std.specs.Prelude.{◌≡◌, [], ◌∷◌, ◌++◌, drop, take, length, reverse, slice_get, MatchOption};
+ghost use Rattle.rgo_meaning.specs.Changes.{Changes};
+ghost use Rattle.rgo_meaning.specs.Frames.{replaced};
 
 use std::alloc::{AllocError, Global};
 use std::marker::Model;
@@ -35,6 +37,13 @@ impl<T> Stack<T> {
 }
 
 impl<T: Copy + Drop> Stack<T> {
+    /// How many items there are.
+    pub fn len(&self) -> usize
+        ensures { result ≡ length self.now }
+    {
+        self.items.len()
+    }
+
     /// The newest item.
     pub fn first(&self) -> Option<T>
         ensures { MatchOption result (self.now ≡ []) (λ x. self.now ≡ x ∷ drop 1 self.now) }
@@ -45,25 +54,19 @@ impl<T: Copy + Drop> Stack<T> {
         }
     }
 
-    /// The newest items, so many or all, in the order in which they came.
+    /// The newest items, up to `count`, in the order in which they came.
     pub fn last(&self, count: usize) -> &[T]
         ensures { result.now ≡ reverse (take count self.now) }
     {
         &self.items[self.items.len().saturating_sub(count)..]
     }
 
-    /// Lets the newest item go, where there is one.
-    pub fn pop(&mut self)
-        ensures { self.new ≡ drop 1 self.old }
+    /// The items below the newest, up to `count`, in the order in which they came.
+    pub fn below_first(&self, count: usize) -> &[T]
+        ensures { result.now ≡ reverse (take count (drop 1 self.now)) }
     {
-        self.items.pop();
-    }
-
-    /// Lets the newest items go, so many or all.
-    pub fn let_go(&mut self, count: usize)
-        ensures { self.new ≡ drop count self.old }
-    {
-        self.items.truncate(self.items.len().saturating_sub(count));
+        let below = &self.items[..self.items.len().saturating_sub(1)];
+        &below[below.len().saturating_sub(count)..]
     }
 
     /// The item below so many newer ones.
@@ -78,26 +81,53 @@ impl<T: Copy + Drop> Stack<T> {
         }
     }
 
-    /// Puts the newest items, so many or all, on top once more.
+    /// Removes the newest items, up to `count`.
+    pub fn remove(&mut self, count: usize)
+        ensures { self.new ≡ drop count self.old }
+    {
+        self.items.truncate(self.items.len().saturating_sub(count));
+    }
+
+    /// Puts an item on top. On allocation failure nothing changes.
+    pub fn push(&mut self, item: T) -> Result<(), AllocError>
+        ensures { Changes result self.old self.new (item ∷ self.old) }
+    {
+        self.items.push(item)?;
+        Ok(())
+    }
+
+    /// Puts the newest items, up to `count`, on top once more. On allocation failure nothing changes.
     pub fn repeat(&mut self, count: usize) -> Result<(), AllocError>
-        ensures { OnOk result (self.new ≡ take count self.old ++ self.old) }
+        ensures { Changes result self.old self.new (take count self.old ++ self.old) }
     {
         let from = self.items.len().saturating_sub(count);
         self.items.extend_from_within(from..)
     }
 
-    /// Lets all items go.
-    pub fn clear(&mut self)
-        ensures { self.new ≡ [] }
+    /// Replaces the newest items, up to `count`, by these, of which the first is then the newest. On
+    /// allocation failure nothing changes.
+    pub fn put(&mut self, count: usize, items: &[T]) -> Result<(), AllocError>
+        ensures { Changes result self.old self.new (items.now ++ drop count self.old) }
     {
-        self.items.clear();
+        self.items.reserve(items.len())?;
+        self.items.truncate(self.items.len().saturating_sub(count));
+        let mut left = items.len();
+        while left > 0 {
+            left -= 1;
+            self.items.push_reserved(items[left]);
+        }
+        Ok(())
     }
 
-    /// Puts an item on top.
-    pub fn push(&mut self, item: T) -> Result<(), AllocError>
-        ensures { OnOk result (self.new ≡ item ∷ self.old) }
+    /// Replaces the newest item, and up to `count` below it, by this one. Nothing where there is no item.
+    pub fn replace(&mut self, count: usize, item: T)
+        ensures { self.new ≡ replaced item count self.old }
     {
-        self.items.push(item)?;
-        Ok(())
+        let n = self.items.len();
+        if n > 0 {
+            let kept = (n - 1).saturating_sub(count);
+            self.items[kept] = item;
+            self.items.truncate(kept + 1);
+        }
     }
 }

@@ -2,18 +2,23 @@
 
 use crate::checks::same;
 use crate::texts::typed;
-use rgo_machine::{End, Pick, Stepped};
-use rgo_meaning::{Next, SourceState, next_act, printed, start, step};
-use rgo_typed::Typed;
+use rgo_machine::{End, Pick, Stand, State, Stepped, standing, step};
+use rgo_meaning::{Frame, SourceMachine, start};
 use rgo_memory::{Trap, Value};
+use rgo_typed::Typed;
 use std::alloc::Global;
 use std::process::Abort;
 use std::test::Fail;
 
 /// Steps one goroutine as long as it advances, and returns what the last step reported.
-fn run_alone(alloc: Global, state: &mut SourceState<'_>, g: usize) -> Result<Stepped, Fail> {
+fn run_alone<'a>(
+    alloc: Global,
+    machine: &SourceMachine<'a>,
+    state: &mut State<Frame<'a>>,
+    g: usize,
+) -> Result<Stepped, Fail> {
     for _ in 0..1000 {
-        let stepped = step(alloc, state, Pick::One(g))?;
+        let stepped = step(alloc, machine, state, Pick::One(g))?;
         if stepped != Stepped::Advanced {
             return Ok(stepped);
         }
@@ -21,12 +26,13 @@ fn run_alone(alloc: Global, state: &mut SourceState<'_>, g: usize) -> Result<Ste
     Ok(Stepped::Advanced)
 }
 
-fn is_not_enabled<R: Abort + AllocGlobal>(
+fn is_not_enabled<'a, R: Abort + AllocGlobal>(
     rt: &R,
-    state: &mut SourceState<'_>,
+    machine: &SourceMachine<'a>,
+    state: &mut State<Frame<'a>>,
     pick: Pick,
 ) -> Result<(), Fail> {
-    let stepped = step(rt.alloc(), state, pick)?;
+    let stepped = step(rt.alloc(), machine, state, pick)?;
     same(rt, "a pick", &stepped, &Stepped::NotEnabled);
     Ok(())
 }
@@ -50,12 +56,13 @@ fn no_step_follows_the_end(rt: HostRuntime) -> Result<(), Fail> {
     let alloc = rt.alloc();
     for (a, b, print, end) in &DIVISIONS {
         let program = division(alloc, *a, *b)?;
+        let machine = SourceMachine::new(&program);
         let mut state = start(alloc, &program)?;
-        let last = run_alone(alloc, &mut state, 0)?;
+        let last = run_alone(alloc, &machine, &mut state, 0)?;
         same(&rt, print, &last, &Stepped::Ended(*end));
-        same(&rt, print, &printed(&state), &print.as_bytes());
-        is_not_enabled(&rt, &mut state, Pick::One(0))?;
-        is_not_enabled(&rt, &mut state, Pick::Meet(0, 1))?;
+        same(&rt, print, &state.printed(), &print.as_bytes());
+        is_not_enabled(&rt, &machine, &mut state, Pick::One(0))?;
+        is_not_enabled(&rt, &machine, &mut state, Pick::Meet(0, 1))?;
     }
     Ok(())
 }
@@ -67,23 +74,39 @@ func f(c chan int) { c <- 7 }
 func main() { c := make(chan int); go f(c); fmt.Println(\"a b\", <-c) }
 ";
 
+/// The place of `<-` in its send.
+const SENT_AT: usize = 49;
+
+/// Where goroutine 0 stands when it waits.
+const RECEIVES: Stand = Stand::Receive {
+    channel: Value::Object(0),
+    blank: Value::Int(0),
+};
+
+/// Where goroutine 1 stands when it waits.
+const SENDS: Stand = Stand::Send {
+    channel: Value::Object(0),
+    value: Value::Int(7),
+    place: SENT_AT,
+};
+
 /// Goroutine 0 waits to receive, and goroutine 1 to send.
-fn both_wait<R: Abort + AllocGlobal>(rt: &R, state: &mut SourceState<'_>) -> Result<(), Fail> {
-    is_not_enabled(rt, state, Pick::One(1))?;
-    let last = run_alone(rt.alloc(), state, 0)?;
+fn both_wait<'a, R: Abort + AllocGlobal>(
+    rt: &R,
+    machine: &SourceMachine<'a>,
+    state: &mut State<Frame<'a>>,
+) -> Result<(), Fail> {
+    is_not_enabled(rt, machine, state, Pick::One(1))?;
+    let last = run_alone(rt.alloc(), machine, state, 0)?;
     same(rt, "a receiver", &last, &Stepped::NotEnabled);
-    let receives = Next::Receive(Value::Object(0));
-    same(rt, "a receiver", &next_act(state, 0), &receives);
-    same(rt, "not yet a sender", &next_act(state, 1), &Next::Other);
-    is_not_enabled(rt, state, Pick::Meet(0, 1))?;
-    let last = run_alone(rt.alloc(), state, 1)?;
+    same(rt, "a receiver", &standing(machine, state, 0), &Some(RECEIVES));
+    let elsewhere = Some(Stand::Elsewhere);
+    same(rt, "not yet a sender", &standing(machine, state, 1), &elsewhere);
+    is_not_enabled(rt, machine, state, Pick::Meet(0, 1))?;
+    let last = run_alone(rt.alloc(), machine, state, 1)?;
     same(rt, "a sender", &last, &Stepped::NotEnabled);
-    same(
-        rt,
-        "a sender",
-        &next_act(state, 1),
-        &Next::Send(Value::Object(0)),
-    );
+    same(rt, "a sender", &standing(machine, state, 1), &Some(SENDS));
+    same(rt, "nobody", &standing(machine, state, 2), &None);
     Ok(())
 }
 
@@ -94,15 +117,16 @@ static NO_PAIRS: [(usize, usize); 4] = [(1, 0), (0, 0), (1, 1), (0, 2)];
 fn only_a_receiver_and_a_sender_meet(rt: HostRuntime) -> Result<(), Fail> {
     let alloc = rt.alloc();
     let program = typed(alloc, MEETING)?;
+    let machine = SourceMachine::new(&program);
     let mut state = start(alloc, &program)?;
-    both_wait(&rt, &mut state)?;
+    both_wait(&rt, &machine, &mut state)?;
     for (receiver, sender) in &NO_PAIRS {
-        is_not_enabled(&rt, &mut state, Pick::Meet(*receiver, *sender))?;
+        is_not_enabled(&rt, &machine, &mut state, Pick::Meet(*receiver, *sender))?;
     }
-    let met = step(alloc, &mut state, Pick::Meet(0, 1))?;
+    let met = step(alloc, &machine, &mut state, Pick::Meet(0, 1))?;
     same(&rt, "both", &met, &Stepped::Advanced);
-    let last = run_alone(alloc, &mut state, 0)?;
+    let last = run_alone(alloc, &machine, &mut state, 0)?;
     same(&rt, "the end", &last, &Stepped::Ended(End::Exit));
-    same(&rt, "the end", &printed(&state), &b"a b 7\n".as_slice());
+    same(&rt, "the end", &state.printed(), &b"a b 7\n".as_slice());
     Ok(())
 }

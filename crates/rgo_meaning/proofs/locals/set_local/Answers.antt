@@ -8,14 +8,15 @@ returns-then-n-len c = sym (written c.args.locals.now.items c.args.n c.args.valu
 
 pub loop-locals-preserved : goal.loop-locals-preserved
 loop-locals-preserved c = (
-  ap (λ l. with_local l c.args.n c.args.value) c.in_ok-push.ensures.items
+  ap (λ l. with_local l c.args.n c.args.value) c.push_reserved.ensures.items
       ∙ filled_up c.loop-locals.locals.items c.args.n c.args.value (omega arith)
       ∙ c.loop-locals.invariant.0,
-  omega (arith, c.in_ok-push.ensures.len),
+  omega (arith, c.push_reserved.ensures.len),
+  omega (arith, c.push_reserved.ensures.capacity),
 )
 
 pub returns : goal.returns
 returns c =
-    c.in_ok-push-2.ensures.items
+    c.push_reserved-2.ensures.items
     ∙ sym (put_last c.loop-locals.locals.items c.args.n c.args.value (omega (arith, c.loop-locals.invariant.1)))
     ∙ c.loop-locals.invariant.0

@@ -1,8 +1,0 @@
-use Rattle.std.proofs.Common.{◌≡◌, ◌++◌, drop}
-use Rattle.rgo_meaning.specs.Lines.{filled, spaced}
-use Rattle.rgo_meaning.proofs.lines.write_operands.Given as goal
-
-abbrev pub invariant-loop-piece : goal.invariant-loop-piece
-invariant-loop-piece l =
-    l.bytes.items ++ spaced (filled (drop l.piece-index l.pieces) l.rest)
-    ≡ l.fn.bytes.items ++ spaced (filled l.pieces l.values)

@@ -1,0 +1,103 @@
+//! What terms leave to do.
+
+ghost use Rattle.std.specs.Prelude.{◌≡◌, [], drop, map};
+ghost use Rattle.rgo_typed.specs.Views as typed;
+ghost use Rattle.rgo_typed.specs.Tree.{terms_of};
+ghost use Rattle.rgo_meaning.specs.Changes.{Changes};
+ghost use Rattle.rgo_meaning.specs.Frames.{going, newest};
+ghost use Rattle.rgo_meaning.specs.Steps as spec;
+
+use crate::frames::{Frame, Todo};
+use rgo_memory::Value;
+use rgo_typed::{Logical, Term};
+use std::alloc::AllocError;
+
+/// A term is evaluated: a local variable gives its value, any other term its parts first.
+#[tactic(auto, using(rgo_typed::proofs::Rows::rows, crate::proofs::Counts::counted))]
+pub fn evaluate<'a>(frame: &mut Frame<'a>, term: &'a Term) -> Result<(), AllocError>
+    ensures { Changes result frame.old frame.new
+        (spec.evaluated (typed.term_of term.now) (drop 1 frame.old.todo) frame.old) }
+{
+    match term {
+        Term::Local(n) => {
+            frame.push(frame.local(*n))?;
+            frame.advance(0);
+            Ok(())
+        }
+        Term::Apply(action, parts, ty, at) => frame.advance_to(
+            0,
+            &[
+                Todo::Each(parts),
+                Todo::Perform(*action, parts.len(), ty, *at),
+            ],
+        ),
+        Term::Logic(op, left, right, _) => frame.advance_to(
+            0,
+            &[Todo::Evaluate(left), Todo::Settle, Todo::Decide(*op, right)],
+        ),
+        Term::Build(number, parts, fields, at) => frame.advance_to(
+            0,
+            &[
+                Todo::Each(parts),
+                Todo::Create(*number),
+                Todo::Fill(parts.len(), fields.items(), *at),
+            ],
+        ),
+        Term::Call(function, arguments, _, _) => frame.advance_to(
+            0,
+            &[
+                Todo::Each(arguments),
+                Todo::Enter(*function, arguments.len()),
+            ],
+        ),
+    }
+}
+
+/// The terms of a list, one after the other.
+pub fn each<'a>(frame: &mut Frame<'a>, terms: &'a [Term]) -> Result<(), AllocError>
+    ensures { Changes result frame.old frame.new (going frame.old 0 []
+        (spec.each (terms_of (map typed.term_of terms.now)) (drop 1 frame.old.todo))) }
+{
+    match terms.split_first() {
+        Some((first, rest)) => frame.advance_to(0, &[Todo::Evaluate(first), Todo::Each(rest)]),
+        None => {
+            frame.advance(0);
+            Ok(())
+        }
+    }
+}
+
+fn is_true(value: Value) -> bool
+    ensures { result ≡ spec.is_true value }
+{
+    match value {
+        Value::Bool(truth) => truth,
+        _ => false,
+    }
+}
+
+/// Whether the newest value is true.
+pub fn is_newest_true(frame: &Frame<'_>) -> bool
+    ensures { result ≡ spec.is_true (newest frame.now.values) }
+{
+    is_true(frame.value(0))
+}
+
+/// The right side of `&&` or `||`, or nothing.
+pub fn decide<'a>(frame: &mut Frame<'a>, op: Logical, right: &'a Term) -> Result<(), AllocError>
+    ensures { Changes result frame.old frame.new
+        (spec.decided op (typed.term_of right.now) (drop 1 frame.old.todo) frame.old
+        (spec.is_true (newest frame.old.values))) }
+{
+    let truth = is_newest_true(frame);
+    let goes_right = match op {
+        Logical::And => truth,
+        Logical::Or => !truth,
+    };
+    if goes_right {
+        frame.advance_to(1, &[Todo::Evaluate(right), Todo::Settle])
+    } else {
+        frame.advance(0);
+        Ok(())
+    }
+}
