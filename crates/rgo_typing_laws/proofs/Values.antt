@@ -8,7 +8,7 @@ use Rattle.rgo_ast.specs.Tree.{Exprs, Elements}
 use Rattle.rgo_typed.specs.declared.actions.Action.TheVariants as action
 use Rattle.rgo_typed.specs.declared.types.Type.{«Type»}
 use Rattle.rgo_typed.specs.Tree.{Terms, Apply, Build, Call, a_term}
-use Rattle.rgo_typing_rules.specs.Types.{element_of, same}
+use Rattle.rgo_typing_rules.specs.Types.{element_of}
 use Rattle.rgo_typing_rules.specs.Shapes as shape
 use Rattle.rgo_typing_rules.specs.Shapes.{Shape, fits, has_misfit, has_known_misfit, is_slice_shape}
 use Rattle.rgo_typing_rules.specs.Meanings.{Signature}

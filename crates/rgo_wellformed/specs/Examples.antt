@@ -6,7 +6,7 @@ use Rattle.rgo_typed.specs.declared.actions.Action.TheVariants as action
 use Rattle.rgo_typed.specs.declared.actions.Logical.TheVariants.{And}
 use Rattle.rgo_typed.specs.declared.statements.Piece.TheVariants.{Value}
 use Rattle.rgo_typed.specs.declared.types.Type.{«Type»}
-use Rattle.rgo_typed.specs.Tree.{Term, Terms, Stmt, stmts_of, terms_of, Function, Typed}
+use Rattle.rgo_typed.specs.Tree.{Term, Stmt, stmts_of, terms_of, Function, Typed}
 use Rattle.rgo_typed.specs.Tree as tree
 use Rattle.rgo_wellformed.specs.TypeRules.{int, bool, slice_of, pointer_to, Declared}
 use Rattle.rgo_wellformed.specs.WellFormed.{Environment, InScope, IsStmt, AreStmts, IsWellFormed}
