@@ -1,5 +1,7 @@
 -- The examples of the definitions, by computation.
-use Rattle.std.proofs.Common.{◌≡◌, ℕ, Bool, true, false, List, [], ◌∷◌, slice_get, Option, Some, None, is_some, refl, ap, sym, ◌∙◌, subst, true≢false, zero-lt-suc, zero, suc, zero-le, bytes_eq, nat_eq, codes, arith}
+use Rattle.std.proofs.Common.{◌≡◌, ℕ, Bool, true, false, List, [], ◌∷◌, slice_get, Option, Some, None, is_some, refl}
+use Rattle.std.proofs.Common.{ap, sym, ◌∙◌, subst, true≢false, zero-lt-suc, zero, suc, zero-le, bytes_eq, nat_eq}
+use Rattle.std.proofs.Common.{codes, arith}
 use Rattle.rgo_typed.specs.declared.types.Base.{Base}
 use Rattle.rgo_typed.specs.declared.types.Base.TheVariants as base
 use Rattle.rgo_typed.specs.declared.types.Type.{«Type»}
@@ -56,7 +58,13 @@ well = record {
   );
   stored = (
     pointer_to 0 ∷ pointer_to 0 ∷ [],
-    (pointer_to 0, pointer_to 0 ∷ [], refl, (refl, refl), (pointer_to 0, [], refl, (refl, zero-lt-suc 0, [], refl, (refl, refl)), refl)),
+    (
+      pointer_to 0,
+      pointer_to 0 ∷ [],
+      refl,
+      (refl, refl),
+      (pointer_to 0, [], refl, (refl, zero-lt-suc 0, [], refl, (refl, refl)), refl),
+    ),
     (0, pointer_to 0, refl, (int ∷ pointer_to 0 ∷ [], refl, refl)),
   );
   returned = (
@@ -72,7 +80,10 @@ well = record {
   );
   started = (record { params = []; result_type = None }, refl, refl, refl);
   left = (tt, (refl, tt), tt);
-  again = ((((refl, refl), (refl, tt, [], refl, (refl, refl))), tt), ((((refl, refl), (refl, tt, [], refl, (refl, refl))), tt), tt));
+  again = (
+    (((refl, refl), (refl, tt, [], refl, (refl, refl))), tt),
+    ((((refl, refl), (refl, tt, [], refl, (refl, refl))), tt), tt),
+  );
   printed = (int ∷ [], (int, [], refl, (refl, refl), refl), (int, [], refl, refl, refl));
 }
 
@@ -127,7 +138,8 @@ ill = record {
   slices_compared = λ h. true≢false (ap is_slice (ap type_in h.1.3.3.1 ∙ ap first (sym h.1.3.2 ∙ h.1.4.1)) ∙ h.1.4.2);
   no_field = λ h.
       let at : 0 ≡ h.1.4.0 = ap (λ t. target_in t.base) (ap type_in h.1.3.3.1 ∙ ap first (sym h.1.3.2 ∙ h.1.4.1)) in
-      let fields : int ∷ pointer_to 0 ∷ [] ≡ h.1.4.2.0 = ap fields_in (subst (λ n. slice_get declared.structs n ≡ Some h.1.4.2.0) (sym at) h.1.4.2.1) in
+      let fields : int ∷ pointer_to 0 ∷ [] ≡ h.1.4.2.0 =
+      ap fields_in (subst (λ n. slice_get declared.structs n ≡ Some h.1.4.2.0) (sym at) h.1.4.2.1) in
       true≢false (sym (ap is_some (subst (λ l. slice_get l 2 ≡ Some int) (sym fields) h.1.4.2.2)));
   no_argument = λ h. true≢false (ap is_some_type (ap params_in h.1.2 ∙ h.1.3));
   no_function = λ h. true≢false (sym (ap is_some h.1));
@@ -169,8 +181,12 @@ programs = record {
     function_names = (tt, tt);
     has_main = (0, _, refl, record { name = refl; params = refl; result_type = refl });
   };
-  no_main = λ h. true≢false (sym (ap (λ f. bytes_eq f.name (codes "main")) (alone _ h.has_main.0 h.has_main.1 h.has_main.2) ∙ ap (λ n. bytes_eq n (codes "main")) h.has_main.3.name));
-  main_takes = λ h. true≢false (ap (λ f. nat_eq f.params 1) (alone _ h.has_main.0 h.has_main.1 h.has_main.2) ∙ ap (λ n. nat_eq n 1) h.has_main.3.params);
+  no_main =
+      λ h. true≢false (sym (ap (λ f. bytes_eq f.name (codes "main")) (alone _ h.has_main.0 h.has_main.1 h.has_main.2)
+      ∙ ap (λ n. bytes_eq n (codes "main")) h.has_main.3.name));
+  main_takes =
+      λ h. true≢false (ap (λ f. nat_eq f.params 1) (alone _ h.has_main.0 h.has_main.1 h.has_main.2) ∙ ap
+      (λ n. nat_eq n 1) h.has_main.3.params);
   twice = λ h. true≢false h.function_names.0.0;
   no_struct = λ h. absurd (omega (arith, h.functions.0.locals.0));
 }

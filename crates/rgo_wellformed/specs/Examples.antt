@@ -44,6 +44,10 @@ local n = tree.Local n
 abbrev pub apply : Action → List Term → «Type» → Term
 apply a parts ty = tree.Apply a (terms_of parts) ty 0
 
+-- { x := 7 }
+abbrev pub block : Stmt
+block = tree.Block (stmts_of (tree.Declare 0 int number 0 ∷ []))
+
 -- with these variables in scope
 abbrev pub Is : InScope → Stmt → Type 0
 Is g s = IsStmt environment g s
@@ -76,14 +80,14 @@ pub record WellFormedExamples : Type 0 where
   -- for { break }
   pub left : Is [] (tree.Loop None (stmts_of (tree.Break 0 ∷ [])) tree.no_stmts 0)
   -- { x := 7 }; { x := 7 }
-  pub again : Are [] (tree.Block (stmts_of (tree.Declare 0 int number 0 ∷ [])) ∷ tree.Block (stmts_of (tree.Declare 0 int number 0 ∷ [])) ∷ [])
+  pub again : Are [] (block ∷ block ∷ [])
   -- fmt.Println(x)
   pub printed : Is (0 ∷ []) (tree.Print (Value ∷ []) (terms_of (local 0 ∷ [])) 0)
 
 pub record IllFormedExamples : Type 0 where
   -- a local variable that is not in scope, or no longer in scope after its block
   pub undeclared : IsNot [] (tree.Assign 0 number 0)
-  pub after_its_block : AreNot [] (tree.Block (stmts_of (tree.Declare 0 int number 0 ∷ [])) ∷ tree.Assign 0 number 0 ∷ [])
+  pub after_its_block : AreNot [] (block ∷ tree.Assign 0 number 0 ∷ [])
   -- declared while in scope
   pub twice : IsNot (0 ∷ []) (tree.Declare 0 int number 0)
   -- a value of the wrong type; `nil` as an int
@@ -112,7 +116,8 @@ pub record IllFormedExamples : Type 0 where
 
 -- a function without parameters and result, with these local variables
 abbrev pub function : List ℕ → List «Type» → List Stmt → Function
-function name locals body = record { name = name; params = 0; locals = locals; result_type = None; body = body; end = 0 }
+function name locals body =
+    record { name = name; params = 0; locals = locals; result_type = None; body = body; end = 0 }
 
 abbrev pub of_functions : List Function → Typed
 of_functions functions = record { structs = []; variables = []; functions = functions }
