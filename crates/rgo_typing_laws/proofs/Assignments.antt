@@ -28,7 +28,8 @@ use Rattle.rgo_typing_expressions.specs.Scopes.{meaning_of, variable_at, local_a
 use Rattle.rgo_typing_rules.specs.Sites.{first_refusal}
 use Rattle.rgo_typing_expressions.specs.Types.{type_of, shape_of_meaning, element_shape, field_of, field_shape}
 use Rattle.rgo_typing_expressions.specs.Terms.{two, with_type, type_in, element_type, term_of, name_term, field_term}
-use Rattle.rgo_types.specs.TypedStatements.{ended, write_of, stored, stored_by, changed, changed_by, assign_stmt, send_stmt}
+use Rattle.rgo_types.specs.TypedStatements.{ended, write_of, stored, stored_by, changed, changed_by, assign_stmt}
+use Rattle.rgo_types.specs.TypedStatements.{send_stmt}
 use Rattle.rgo_types.specs.Statements.{assign_sites, send_sites}
 use Rattle.rgo_wellformed.specs.TypeRules.{Declared, Returns, Takes, Computes}
 use Rattle.rgo_wellformed.specs.WellFormed.{InScope, HasType, HaveTypes, Environment, IsStmt, scope_after}
@@ -53,26 +54,50 @@ IsRead d (typed.Apply read parts u at) ty =
 IsRead d _ ty = ⊥
 
 module _ (env : Environment) (here : InScope) where
-  have_ended : (parts : Terms) (types : List «Type») (t : Term) (ty : «Type») → HaveTypes env.declared env.locals here parts types
-      → HasType env.declared env.locals here t ty → HaveTypes env.declared env.locals here (ended parts t) (types ++ ty ∷ [])
+  have_ended : (parts : Terms) (types : List «Type») (t : Term) (ty : «Type»)
+      → HaveTypes env.declared env.locals here parts types
+      → HasType env.declared env.locals here t ty
+      → HaveTypes env.declared env.locals here (ended parts t) (types ++ ty ∷ [])
   have_ended no_terms types t ty h k = (ty, [], ap (λ l. l ++ ty ∷ []) h, k, refl)
   have_ended (a_term u l) types t ty h k =
       (h.0, h.1 ++ ty ∷ [], ap (λ x. x ++ ty ∷ []) h.2, h.3, have_ended l h.1 t ty h.4 k)
 
-  pub stored_well : (t value : Term) (ty : «Type») (at : ℕ) → HasType env.declared env.locals here t ty → IsRead env.declared t ty
+  pub stored_well : (t value : Term) (ty : «Type») (at : ℕ) → HasType env.declared env.locals here t ty
+      → IsRead env.declared t ty
       → HasType env.declared env.locals here value ty → Stays env here (stored t value at)
   stored_well (typed.Local n) value ty at h r k = ((ty, h.0, h.1, k), refl)
   stored_well (typed.Apply read parts u read_at) value ty at h r k =
-      subst (λ o. Stays env here (stored_by o parts value at)) (sym r.1)
-      ((h.2 ++ ty ∷ [], have_ended parts h.2 value ty h.3 k, r.2 h.2 (subst (Returns env.declared read h.2) h.0 h.4)), refl)
+      subst (λ o. Stays env here (stored_by o parts value at)) (sym r.1) (
+        (
+          h.2 ++ ty ∷ [],
+          have_ended parts h.2 value ty h.3 k,
+          r.2 h.2 (subst (Returns env.declared read h.2) h.0 h.4),
+        ),
+        refl,
+      )
   stored_well (typed.Logic op a b read_at) value ty at h r k = absurd r
   stored_well (typed.Build n parts fields read_at) value ty at h r k = absurd r
   stored_well (typed.Call n parts u read_at) value ty at h r k = absurd r
 
-  pub changed_well : (op : BinaryOp) (t value : Term) (at : ℕ) → Computes op (int ∷ int ∷ []) int → HasType env.declared env.locals here t int
-      → IsRead env.declared t int → HasType env.declared env.locals here value int → Stays env here (changed op t value at)
-  changed_well op (typed.Local n) value at computes h r k =
-      ((int, h.0, h.1, (refl, tt, int ∷ int ∷ [], have_two env.declared env.locals here (typed.Local n) value int int h k, computes)), refl)
+  pub changed_well : (op : BinaryOp) (t value : Term) (at : ℕ) → Computes op (int ∷ int ∷ []) int
+      → HasType env.declared env.locals here t int
+      → IsRead env.declared t int → HasType env.declared env.locals here value int
+      → Stays env here (changed op t value at)
+  changed_well op (typed.Local n) value at computes h r k = (
+    (
+      int,
+      h.0,
+      h.1,
+      (
+        refl,
+        tt,
+        int ∷ int ∷ [],
+        have_two env.declared env.locals here (typed.Local n) value int int h k,
+        computes,
+      ),
+    ),
+    refl,
+  )
   changed_well op (typed.Apply read parts u read_at) value at computes h r k =
       subst (λ o. Stays env here (changed_by o read parts u read_at op value at)) (sym r.1) (
         (
@@ -82,7 +107,8 @@ module _ (env : Environment) (here : InScope) where
           h.4,
           subst (HasType env.declared env.locals here value) (sym h.0) k,
           subst (λ v. Computes op (v ∷ v ∷ []) v) (sym h.0) computes,
-          subst (λ v. Takes env.declared r.0 (h.2 ++ v ∷ [])) (sym h.0) (r.2 h.2 (subst (Returns env.declared read h.2) h.0 h.4)),
+          subst (λ v. Takes env.declared r.0 (h.2 ++ v ∷ [])) (sym h.0)
+              (r.2 h.2 (subst (Returns env.declared read h.2) h.0 h.4)),
         ),
         refl,
       )
@@ -110,19 +136,34 @@ module _ (c : Context) (d : Declared) (result : Option «Type») (locals : List 
   name_place : (m : Option Meaning) (at : ℕ) → is_variable m ≡ true
       → (ty : «Type») × (shape_of_meaning c m ≡ shape.Value ty) × IsRead d (name_term c m at) ty
   name_place (Some (meaning.Local n)) at v = (local_at c.scope n, refl, tt)
-  name_place (Some (meaning.Global n)) at v =
-      (variable_at c.globals n, refl, (action.Set n, refl, λ operands gives. (variable_at c.globals n, ap (λ l. l ++ variable_at c.globals n ∷ []) gives.0, gives.1)))
+  name_place (Some (meaning.Global n)) at v = (
+    variable_at c.globals n,
+    refl,
+    (
+      action.Set n,
+      refl,
+      λ operands gives. (variable_at c.globals n, ap (λ l. l ++ variable_at c.globals n ∷ []) gives.0, gives.1),
+    ),
+  )
   name_place None at v = absurd (true≢false (sym v))
   name_place (Some m) at v = absurd (true≢false (sym v))
 
   field_place : (o : Option (ℕ × «Type»)) (t : Term) (at : ℕ) → broken (node.Selector (is_some o)) ≡ None
       → (ty : «Type») × (field_shape o ≡ shape.Value ty) × IsRead d (field_term o t at) ty
   field_place None t at br = absurd (true≢false (keeps rule.NoSuchField (node.Selector false) br))
-  field_place (Some field) t at br =
-      (field.1, refl, (action.Store field.0, refl, λ operands gives. (gives.0, field.1, ap (λ l. l ++ field.1 ∷ []) gives.1, gives.2)))
+  field_place (Some field) t at br = (
+    field.1,
+    refl,
+    (
+      action.Store field.0,
+      refl,
+      λ operands gives. (gives.0, field.1, ap (λ l. l ++ field.1 ∷ []) gives.1, gives.2),
+    ),
+  )
 
   index_place : (s i : Shape) (a b : Term) (at : ℕ) → broken (node.Index s i) ≡ None
-      → (ty : «Type») × (element_shape s ≡ shape.Value ty) × IsRead d (typed.Apply action.At (two a b) (element_type s) at) ty
+      → (ty : «Type») × (element_shape s ≡ shape.Value ty)
+      × IsRead d (typed.Apply action.At (two a b) (element_type s) at) ty
   index_place (shape.Value u) i a b at br =
       (element_of u, refl, (action.Put, refl, λ operands gives. (element_of u, ap (λ l. l ++ element_of u ∷ []) gives)))
   index_place s i a b at br = absurd (true≢false (keeps rule.NotIndexable (node.Index s i) br))
@@ -132,10 +173,12 @@ module _ (c : Context) (d : Declared) (result : Option «Type») (locals : List 
   place (tree.Paren e at) r v h = place e r v h
   place (tree.Select e field) r v h =
       field_place (field_of c.globals (type_of c e) field.name) (term_of c e) field.at
-      (alone field.at (node.Selector (is_some (field_of c.globals (type_of c e) field.name))) (right (nodes c role.Value e) (own c r (tree.Select e field)) h))
+      (alone field.at (node.Selector (is_some (field_of c.globals (type_of c e) field.name)))
+      (right (nodes c role.Value e) (own c r (tree.Select e field)) h))
   place (tree.Index a i at) r v h =
       index_place (type_of c a) (type_of c i) (term_of c a) (term_of c i) at
-      (alone at (node.Index (type_of c a) (type_of c i)) (right (parts c (tree.Index a i at)) (own c r (tree.Index a i at)) h))
+      (alone at (node.Index (type_of c a) (type_of c i))
+      (right (parts c (tree.Index a i at)) (own c r (tree.Index a i at)) h))
   place e r v h = absurd (true≢false (sym v))
 
   -- ---- assignments
@@ -145,11 +188,13 @@ module _ (c : Context) (d : Declared) (result : Option «Type») (locals : List 
   and_false false b h k = absurd (true≢false (sym k))
 
   value_assigned : (ty : «Type») (t : Shape) (a b : Term) (at : ℕ) (in_loop : Bool) → IsRead d a ty
-      → broken (node.Assign true (shape.Value ty) t) ≡ None → Fits d locals here (shape.Value ty) a → Fits d locals here t b
+      → broken (node.Assign true (shape.Value ty) t) ≡ None → Fits d locals here (shape.Value ty) a
+      → Fits d locals here t b
       → Stays (env in_loop) here (stored a (with_type ty b) at)
   value_assigned ty t a b at in_loop r br h k =
       stored_well (env in_loop) here a (with_type ty b) ty at h.0 r
-      (fitted d locals here ty t b (not_false (fits ty t) (keeps rule.NotAssignable (node.Assign true (shape.Value ty) t) br)) h.1 k)
+      (fitted d locals here ty t b (not_false (fits ty t)
+      (keeps rule.NotAssignable (node.Assign true (shape.Value ty) t) br)) h.1 k)
 
   pub assigned_well : (a b : Expr) (at : ℕ) (in_loop : Bool) → first_refusal (assign_sites c None a b at) ≡ None
       → Stays (env in_loop) here (assign_stmt c None a b at)
@@ -162,7 +207,8 @@ module _ (c : Context) (d : Declared) (result : Option «Type») (locals : List 
       subst (λ s. broken (node.Assign true s (type_of c b)) ≡ None → Fits d locals here s (term_of c a)
       → Stays (env in_loop) here (stored (term_of c a) (with_type (type_in s) (term_of c b)) at))
       (sym left_side.1)
-      (λ unbroken fit. value_assigned left_side.0 (type_of c b) (term_of c a) (term_of c b) at in_loop left_side.2 unbroken fit value)
+      (λ unbroken fit. value_assigned left_side.0 (type_of c b) (term_of c a)
+      (term_of c b) at in_loop left_side.2 unbroken fit value)
       (subst (λ x. broken (node.Assign x (type_of c a) (type_of c b)) ≡ None) at_place parts.2)
       (well a role.Target parts.0)
 
@@ -193,7 +239,8 @@ module _ (c : Context) (d : Declared) (result : Option «Type») (locals : List 
       let element = element_of u in
       let chan : is_chan u ≡ true = not_false (is_chan u) (keeps rule.NotChannel n br) in
       let fit : fits element t ≡ true =
-      not_false (fits element t) (and_false (is_chan u) (not (fits element t)) (keeps rule.NotAssignable n br) chan) in (
+      not_false (fits element t) (and_false (is_chan u) (not (fits element t))
+      (keeps rule.NotAssignable n br) chan) in (
         (
           u ∷ element ∷ [],
           have_two d locals here a (with_type element b) u element h.0 (fitted d locals here element t b fit h.1 k),

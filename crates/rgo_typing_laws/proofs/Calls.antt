@@ -12,7 +12,8 @@ use Rattle.rgo_typed.specs.Tree as typed
 use Rattle.rgo_typed.specs.Tree.{Term, Terms}
 use Rattle.rgo_typing_rules.specs.Types.{element_of}
 use Rattle.rgo_typing_rules.specs.Shapes as shape
-use Rattle.rgo_typing_rules.specs.Shapes.{Shape, fits, has_misfit, has_nil, has_pointer, is_bool_shape, is_chan_shape, is_nil_shape, is_pointer_shape}
+use Rattle.rgo_typing_rules.specs.Shapes.{Shape, fits, has_misfit, has_nil, has_pointer, is_bool_shape, is_chan_shape}
+use Rattle.rgo_typing_rules.specs.Shapes.{is_nil_shape, is_pointer_shape}
 use Rattle.rgo_typing_rules.specs.Constants.{folded_shape, folded_shapes}
 use Rattle.rgo_typing_rules.specs.declared.meanings.Meaning.{Meaning}
 use Rattle.rgo_typing_rules.specs.declared.meanings.Meaning.TheVariants as meaning
@@ -23,7 +24,8 @@ use Rattle.rgo_typing_rules.specs.Nodes.{is_target}
 use Rattle.rgo_typing_rules.specs.Rules.{broken}
 use Rattle.rgo_typing_expressions.specs.declared.callees.Callee.{Callee}
 use Rattle.rgo_typing_expressions.specs.declared.callees.Callee.TheVariants as callee
-use Rattle.rgo_typing_expressions.specs.Callees.{callee_of, bare, args_role, role_if, bare_may_stand, has_effect, is_package_selector, selects_println}
+use Rattle.rgo_typing_expressions.specs.Callees.{callee_of, bare, args_role, role_if, bare_may_stand, has_effect}
+use Rattle.rgo_typing_expressions.specs.Callees.{is_package_selector, selects_println}
 use Rattle.rgo_typing_expressions.specs.Checking.{own, parts, nodes, all_nodes, callee_nodes, call_node, call_place}
 use Rattle.rgo_typing_expressions.specs.Laws.{is_typed}
 use Rattle.rgo_typing_expressions.specs.Packages.{Context}
@@ -31,10 +33,13 @@ use Rattle.rgo_typing_rules.specs.declared.rules.Rule.TheVariants as rule
 use Rattle.rgo_typing_rules.proofs.Unbroken.{keeps}
 use Rattle.rgo_typing_expressions.specs.Scopes.{meaning_of, signature_at, int, bool}
 use Rattle.rgo_typing_rules.specs.Sites.{first_refusal}
-use Rattle.rgo_typing_expressions.specs.Types.{type_of, types_of, shape_of_meaning, element_shape, field_of, field_shape, constant_or, unary_shape, binary_type, result_shape, call_shape}
+use Rattle.rgo_typing_expressions.specs.Types.{type_of, types_of, shape_of_meaning, element_shape, field_of}
+use Rattle.rgo_typing_expressions.specs.Types.{field_shape, constant_or, unary_shape, binary_type, result_shape}
+use Rattle.rgo_typing_expressions.specs.Types.{call_shape}
 use Rattle.rgo_typing_expressions.specs.Terms.{one, term_of, all_terms, wanted_of, result_or_int, unary_term}
 use Rattle.rgo_typing_expressions.proofs.Typed.{typed_where_unbroken}
-use Rattle.rgo_types.specs.TypedStatements.{bare_plain, call_stmt, called_stmt, pieces_of, piece_of, printed_terms, unless_text, is_text, go_stmt, returned}
+use Rattle.rgo_types.specs.TypedStatements.{bare_plain, call_stmt, called_stmt, pieces_of, piece_of, printed_terms}
+use Rattle.rgo_types.specs.TypedStatements.{unless_text, is_text, go_stmt, returned}
 use Rattle.rgo_types.specs.Statements.{go_site, optional_type, optional_nodes}
 use Rattle.rgo_wellformed.specs.TypeRules.{Declared, Takes}
 use Rattle.rgo_wellformed.specs.WellFormed.{InScope, HasType, HaveTypes, Environment, MatchPieces, IsPrinted, IsResult}
@@ -109,7 +114,7 @@ module _ (c : Context) (d : Declared) (result : Option «Type») (locals : List 
       let unbroken = alone at go br in (
         (
           declared_signature s,
-          k.there,
+          k.listed,
           arguments n args role.Value k h (keeps rule.NotAssignable go unbroken) (keeps rule.ArgCount go unbroken),
           no_result s.result_type (keeps rule.GoTarget go unbroken),
         ),
@@ -117,7 +122,8 @@ module _ (c : Context) (d : Declared) (result : Option «Type») (locals : List 
       )
   go_well (callee.Missing name_at) args at in_loop k h br =
       absurd (true≢false (keeps rule.NoSuchName node.CallMissing (alone name_at node.CallMissing br)))
-  go_well f args at in_loop k h br = absurd (true≢false (keeps rule.GoTarget node.GoNothing (alone at node.GoNothing br)))
+  go_well f args at in_loop k h br =
+      absurd (true≢false (keeps rule.GoTarget node.GoNothing (alone at node.GoNothing br)))
 
   close_takes : (l : Exprs) (r : Role) → AllFit c d locals here l → broken (node.CallClose r (types_of c l)) ≡ None
       → (types : List «Type») × HaveTypes d locals here (all_terms c [] l) types × Takes d action.Close types
@@ -188,8 +194,10 @@ module _ (c : Context) (d : Declared) (result : Option «Type») (locals : List 
   no_text (tree.Select e field) h = field_no_text (field_of c.globals (type_of c e) field.name)
   no_text (tree.Index a i at) h = element_no_text (type_of c a)
   no_text (tree.Called f args at) h = call_no_text (callee_of c f)
-  no_text (tree.Unary op e at) h = constant_no_text (folded_shape op (type_of c e)) (unary_shape op (type_of c e)) (unary_no_text op (type_of c e))
-  no_text (tree.Binary op a b at) h = constant_no_text (folded_shapes op (type_of c a) (type_of c b)) (shape.Value (binary_type op)) refl
+  no_text (tree.Unary op e at) h =
+      constant_no_text (folded_shape op (type_of c e)) (unary_shape op (type_of c e)) (unary_no_text op (type_of c e))
+  no_text (tree.Binary op a b at) h =
+      constant_no_text (folded_shapes op (type_of c a) (type_of c b)) (shape.Value (binary_type op)) refl
   no_text (tree.Literal x values at) h = refl
   no_text (tree.Keyed x members at) h = refl
 
@@ -197,7 +205,8 @@ module _ (c : Context) (d : Declared) (result : Option «Type») (locals : List 
   not_target true = refl
   not_target false = refl
 
-  printed : (s : Shape) (t : Term) (b : Bool) → Fits d locals here s t → is_typed (role_if b) s ≡ true → is_nil_shape s ≡ false
+  printed : (s : Shape) (t : Term) (b : Bool) → Fits d locals here s t → is_typed (role_if b) s ≡ true
+      → is_nil_shape s ≡ false
       → is_pointer_shape s ≡ false → is_text_shape s ≡ false → (ty : «Type») × HasType d locals here t ty × IsPrinted ty
   printed (shape.Constant n) t b h ty nil ptr text = (int, h, refl)
   printed (shape.Value u) t b h ty nil ptr text = (u, h.0, ptr)
@@ -210,15 +219,18 @@ module _ (c : Context) (d : Declared) (result : Option «Type») (locals : List 
   one_printed : (x : Expr) (t : Term) (terms : Terms) (pieces : List Piece)
       → (is_text x ≡ false → (ty : «Type») × HasType d locals here t ty × IsPrinted ty)
       → (types : List «Type») × HaveTypes d locals here terms types × MatchPieces pieces types
-      → (types : List «Type») × HaveTypes d locals here (unless_text (is_text x) t terms) types × MatchPieces (piece_of x ∷ pieces) types
+      → (types : List «Type») × HaveTypes d locals here (unless_text (is_text x) t terms) types
+      × MatchPieces (piece_of x ∷ pieces) types
   one_printed (tree.Text bytes at) t terms pieces value rest = rest
   one_printed x t terms pieces value rest =
       let v = value refl in
       (v.0 ∷ rest.0, (v.0, rest.0, refl, v.1, rest.1), (v.0, rest.0, refl, v.2, rest.2))
 
-  print_well : (l : Exprs) (b : Bool) → first_refusal (all_nodes c (role_if b) l) ≡ None → has_nil (types_of c l) ≡ false
+  print_well : (l : Exprs) (b : Bool) → first_refusal (all_nodes c (role_if b) l) ≡ None
+      → has_nil (types_of c l) ≡ false
       → has_pointer (types_of c l) ≡ false
-      → (types : List «Type») × HaveTypes d locals here (printed_terms l (all_terms c [] l)) types × MatchPieces (pieces_of l) types
+      → (types : List «Type») × HaveTypes d locals here (printed_terms l (all_terms c [] l)) types
+      × MatchPieces (pieces_of l) types
   print_well tree.no_exprs b h nil ptr = ([], refl, refl)
   print_well (tree.an_expr e l) b h nil ptr =
       let in_e = left (nodes c (role_if b) e) (all_nodes c (role_if b) l) h in
@@ -238,9 +250,9 @@ module _ (c : Context) (d : Declared) (result : Option «Type») (locals : List 
       → HaveTypes d locals here terms (signature_at c.globals n).params
       → Stays (env in_loop) here (called_stmt (result_shape o) (typed.Call n terms (result_or_int o) at))
   routine_well n terms at in_loop None is k h =
-      ((declared_signature (signature_at c.globals n), k.there, h, is), refl)
+      ((declared_signature (signature_at c.globals n), k.listed, h, is), refl)
   routine_well n terms at in_loop (Some t) is k h =
-      ((t, (refl, declared_signature (signature_at c.globals n), k.there, h, is)), refl)
+      ((t, (refl, declared_signature (signature_at c.globals n), k.listed, h, is)), refl)
 
   call_well : (f : Callee) (b : Bool) (args : Exprs) (at : ℕ) (in_loop : Bool) → Calls c.globals d f
       → first_refusal (all_nodes c (role_if b) args) ≡ None
@@ -262,7 +274,8 @@ module _ (c : Context) (d : Declared) (result : Option «Type») (locals : List 
   call_well callee.Nothing b args at in_loop k h br e = absurd (true≢false (keeps rule.NotCall node.CallNothing br))
 
   received : (s : Shape) (t : Term) (at : ℕ) (in_loop : Bool) → broken (node.Unary unary.Receive s) ≡ None
-      → Fits d locals here (constant_or (folded_shape unary.Receive s) (element_shape s)) (unary_term unary.Receive s t at)
+      → Fits d locals here (constant_or (folded_shape unary.Receive s) (element_shape s))
+      (unary_term unary.Receive s t at)
       → Stays (env in_loop) here (typed.Discard (unary_term unary.Receive s t at))
   received (shape.Value u) t at in_loop br h = ((element_of u, h.0), refl)
   received s t at in_loop br h = absurd (true≢false (keeps rule.NotChannel (node.Unary unary.Receive s) br))

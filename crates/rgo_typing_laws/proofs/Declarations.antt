@@ -31,7 +31,8 @@ use Rattle.rgo_types.specs.TypedStatements.{zeros, define_stmt, var_stmts, vars_
 use Rattle.rgo_wellformed.specs.TypeRules.{Declared, IsType}
 use Rattle.rgo_wellformed.specs.WellFormed.{InScope, HasType, Environment, AreStmts, IsResult}
 use Rattle.rgo_typing_laws.proofs.Unbroken.{not_false, left, right, in_three}
-use Rattle.rgo_typing_laws.proofs.Growth.{Begins, begins_more, begins_trans, Extends, grows_names, grows_var, grows_vars}
+use Rattle.rgo_typing_laws.proofs.Growth.{Begins, begins_more, begins_trans, Extends, grows_names, grows_var}
+use Rattle.rgo_typing_laws.proofs.Growth.{grows_vars}
 use Rattle.rgo_typing_laws.proofs.Fitting.{Fits, retyped, fitted}
 use Rattle.rgo_typing_laws.proofs.Expressions.{well_term, base_known}
 use Rattle.rgo_typing_laws.proofs.Scopes.{Describes, describes_more, declares, means}
@@ -128,7 +129,8 @@ module _ (d : Declared) (locals : List «Type») (result : Option «Type») wher
   defined_fits here None shape.Nil t k br is h = absurd (true≢false (keeps rule.BareNil (node.Define shape.Nil) br))
   defined_fits here None s t k br is h = absurd (true≢false (sym is))
 
-  pub define_well : (in_loop : Bool) (here : InScope) (c : Context) (x : Ident) (wanted : Option «Type») (e : Expr) (at : ℕ)
+  pub define_well : (in_loop : Bool) (here : InScope) (c : Context) (x : Ident) (wanted : Option «Type») (e : Expr)
+      (at : ℕ)
       → IsResult d wanted → Room (after_define c x wanted e) → Describes d c here
       → first_refusal (define_sites c x wanted e at) ≡ None
       → Steps in_loop here (after_define c x wanted e) (define_stmt c wanted e at ∷ [])

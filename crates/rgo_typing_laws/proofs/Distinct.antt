@@ -19,15 +19,18 @@ use Rattle.rgo_typing_expressions.specs.Checking.{type_expr_sites}
 use Rattle.rgo_typing_expressions.specs.Packages.{Scope, Context}
 use Rattle.rgo_typing_expressions.specs.Scopes.{with_local, no_locals, int, resolved}
 use Rattle.rgo_types.specs.Names.{name_site, name_sites, with_names, bindings_sites}
-use Rattle.rgo_types.specs.Signatures.{Signatures, no_signatures, with_struct, with_structs, with_variable, with_variables}
+use Rattle.rgo_types.specs.Signatures.{Signatures, no_signatures, with_struct, with_structs, with_variable}
+use Rattle.rgo_types.specs.Signatures.{with_variables}
 use Rattle.rgo_types.specs.Signatures.{with_binding, with_vars, with_function, with_decls, with_seen, in_seen}
-use Rattle.rgo_types.specs.Signatures.{struct_sites, structs_sites, binding_sites, vars_sites, result_sites, decl_sites, decls_sites}
+use Rattle.rgo_types.specs.Signatures.{struct_sites, structs_sites, binding_sites, vars_sites, result_sites}
+use Rattle.rgo_types.specs.Signatures.{decl_sites, decls_sites}
 use Rattle.rgo_wellformed.specs.WellFormed.{AreDistinct}
 use Rattle.rgo_typing_laws.proofs.Unbroken.{left, right, alone}
 use Rattle.rgo_typing_laws.proofs.Lists.{holds_push}
 use Rattle.rgo_typing_laws.proofs.Numbering.{same_name, names_of}
 
-distinct_push : (l : List (List ℕ)) (x : List ℕ) → AllByRecursion (λ y. bytes_eq y x ≡ false) l → AreDistinct l → AreDistinct (l ++ x ∷ [])
+distinct_push : (l : List (List ℕ)) (x : List ℕ) → AllByRecursion (λ y. bytes_eq y x ≡ false) l → AreDistinct l
+    → AreDistinct (l ++ x ∷ [])
 unfolding IsDistinct
 distinct_push [] x h k = (tt, tt)
 distinct_push (y ∷ l) x h k = (holds_push (λ z. bytes_eq y z ≡ false) l x k.0 h.0, distinct_push l x h.1 k.1)
@@ -45,7 +48,8 @@ one_kept g x y ty h = go (bytes_eq x y)
     go true = refl
     go false = h
 
-all_kept : (g : Scope) (x : List ℕ) (ty : «Type») (l : List (List ℕ)) → AllByRecursion (λ y. is_some (found_in y g.locals.here) ≡ true) l
+all_kept : (g : Scope) (x : List ℕ) (ty : «Type») (l : List (List ℕ))
+    → AllByRecursion (λ y. is_some (found_in y g.locals.here) ≡ true) l
     → AllByRecursion (λ y. is_some (found_in y (with_local x ty g).locals.here) ≡ true) l
 all_kept g x ty [] h = tt
 all_kept g x ty (y ∷ l) h = (one_kept g x y ty h.0, all_kept g x ty l h.1)
@@ -67,9 +71,11 @@ others g x (y ∷ l) new h = (go (bytes_eq y x) refl, others g x l new h.1)
   where
     go : (b : Bool) → bytes_eq y x ≡ b → bytes_eq y x ≡ false
     go false e = e
-    go true e = absurd (true≢false (sym (subst (λ n. is_some (found_in n g.locals.here) ≡ true) (same_name y x e) h.0) ∙ new))
+    go true e =
+        absurd (true≢false (sym (subst (λ n. is_some (found_in n g.locals.here) ≡ true) (same_name y x e) h.0) ∙ new))
 
-one_more : (g : Scope) (x : Ident) (ty : «Type») (l : List (List ℕ)) → first_refusal (name_site g x ∷ []) ≡ None → AreSeen g l
+one_more : (g : Scope) (x : Ident) (ty : «Type») (l : List (List ℕ)) → first_refusal (name_site g x ∷ []) ≡ None
+    → AreSeen g l
     → AreSeen (with_local x.name ty g) (l ++ x.name ∷ [])
 one_more g x ty l h old =
     let n = node.Declared (is_some (found_in x.name g.locals.here)) x.name in
@@ -102,7 +108,8 @@ module _ (c : Context) where
       let g = with_seen s.seen t.name in
       let rest = structs_sites c (with_struct c s t) l in
       let new = one_more s.seen t.name int (struct_names s)
-      (left (name_site s.seen t.name ∷ []) (bindings_sites c no_locals t.fields) (left (struct_sites c s t) rest h)) a.structs in
+      (left (name_site s.seen t.name ∷ []) (bindings_sites c no_locals t.fields)
+      (left (struct_sites c s t) rest h)) a.structs in
       structs_apart (with_struct c s t) f l (right (struct_sites c s t) rest h)
       (record {
         structs = subst (AreSeen g) (sym (map-append (λ (t : Struct). t.name) s.typed_structs (_ ∷ []))) new;
@@ -142,7 +149,8 @@ module _ (c : Context) where
       let old : Apart s.seen seen f =
       record { structs = a.structs; variables = a.variables; functions = a.functions } in
       let new : Apart g (with_variables seen ty b.names) f =
-      variables_apart s.seen seen f ty b.names (left (name_sites int s.seen b.names) (type_expr_sites c b.ty) first) old in
+      variables_apart s.seen seen f ty b.names
+      (left (name_sites int s.seen b.names) (type_expr_sites c b.ty) first) old in
       vars_apart (with_binding c s b) f l (right (binding_sites c s b) rest h)
       (subst (λ x. Apart x (with_variables seen ty b.names) f) (sym (seen_kept seen ty b.names)) new)
 

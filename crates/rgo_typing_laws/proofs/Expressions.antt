@@ -20,12 +20,16 @@ use Rattle.rgo_typing_rules.specs.Nodes as node
 use Rattle.rgo_typing_rules.specs.Rules.{broken}
 use Rattle.rgo_scopes.specs.Blocks.{found, no_names}
 use Rattle.rgo_typing_expressions.specs.declared.callees.Callee.TheVariants as callee
-use Rattle.rgo_typing_expressions.specs.Callees.{callee_of, bare_callee, named_callee, selected_callee, package_callee, bare, args_role}
-use Rattle.rgo_typing_expressions.specs.Checking.{own, parts, nodes, all_nodes, element_nodes, capacity_nodes, capacity_own, callee_nodes}
-use Rattle.rgo_typing_expressions.specs.Checking.{call_node, call_place, type_expr_sites, base_site, values_of, has_twice, struct_types, element_types, struct_number}
+use Rattle.rgo_typing_expressions.specs.Callees.{callee_of, bare_callee, named_callee, selected_callee}
+use Rattle.rgo_typing_expressions.specs.Callees.{package_callee, bare, args_role}
+use Rattle.rgo_typing_expressions.specs.Checking.{own, parts, nodes, all_nodes, element_nodes, capacity_nodes}
+use Rattle.rgo_typing_expressions.specs.Checking.{capacity_own, callee_nodes}
+use Rattle.rgo_typing_expressions.specs.Checking.{call_node, call_place, type_expr_sites, base_site, values_of}
+use Rattle.rgo_typing_expressions.specs.Checking.{has_twice, struct_types, element_types, struct_number}
 use Rattle.rgo_typing_expressions.specs.Scopes.{meaning_of, fields_at, int, resolved, base_of, basic_base, pointer_base}
 use Rattle.rgo_typing_rules.specs.Sites.{first_refusal}
-use Rattle.rgo_typing_expressions.specs.Types.{type_of, types_of, shape_of_meaning, field_of, field_of_struct, field_shape, numbered_field, struct_in}
+use Rattle.rgo_typing_expressions.specs.Types.{type_of, types_of, shape_of_meaning, field_of, field_of_struct}
+use Rattle.rgo_typing_expressions.specs.Types.{field_shape, numbered_field, struct_in}
 use Rattle.rgo_typing_expressions.specs.Types.{pointer_shape}
 use Rattle.rgo_typing_expressions.specs.Terms.{atom, one, name_term, field_term}
 use Rattle.rgo_typing_expressions.specs.Terms.{term_of, capacity_term}
@@ -42,16 +46,20 @@ use Rattle.rgo_typing_laws.proofs.Values.{IsStruct, Calls, Means, AllFit, EachFi
 module _ (c : Context) (d : Declared) (locals : List «Type») (here : InScope) where
   -- ---- names and fields
 
-  name_fits : (m : Option Meaning) (at : ℕ) → Means c d locals here m → Fits d locals here (shape_of_meaning c m) (name_term c m at)
+  name_fits : (m : Option Meaning) (at : ℕ) → Means c d locals here m
+      → Fits d locals here (shape_of_meaning c m) (name_term c m at)
   name_fits (Some (meaning.Local n)) at k = ((k.0, k.1), k.2)
   name_fits (Some (meaning.Global n)) at k = ((refl, k.1, [], refl, (refl, k.0)), k.1)
   name_fits (Some (meaning.Truth b)) at k = ((refl, tt, [], refl, (refl, refl)), tt)
   name_fits (Some meaning.Nil) at k = (at, int, refl)
   name_fits m at k = tt
 
-  load_fits : (n : ℕ) (name : List ℕ) (t : Term) (at : ℕ) (o : Option ℕ) → found name (fields_at c.globals n).numbers ≡ o → IsStruct c.globals d n
-      → HasType d locals here t (pointer_to n) → broken (node.Selector (is_some (numbered_field (fields_at c.globals n) o))) ≡ None
-      → Fits d locals here (field_shape (numbered_field (fields_at c.globals n) o)) (field_term (numbered_field (fields_at c.globals n) o) t at)
+  load_fits : (n : ℕ) (name : List ℕ) (t : Term) (at : ℕ) (o : Option ℕ)
+      → found name (fields_at c.globals n).numbers ≡ o → IsStruct c.globals d n
+      → HasType d locals here t (pointer_to n)
+      → broken (node.Selector (is_some (numbered_field (fields_at c.globals n) o))) ≡ None
+      → Fits d locals here (field_shape (numbered_field (fields_at c.globals n) o)) (field_term
+      (numbered_field (fields_at c.globals n) o) t at)
   load_fits n name t at None is s h br = absurd (true≢false (keeps rule.NoSuchField (node.Selector false) br))
   load_fits n name t at (Some k) is s h br = (
     (
@@ -59,21 +67,25 @@ module _ (c : Context) (d : Declared) (locals : List «Type») (here : InScope) 
       (s.fields name k is).1,
       pointer_to n ∷ [],
       have_one d locals here t (pointer_to n) h,
-      (n, refl, ((fields_at c.globals n).types, s.there, (s.fields name k is).0)),
+      (n, refl, ((fields_at c.globals n).types, s.listed, (s.fields name k is).0)),
     ),
     (s.fields name k is).1,
   )
 
-  select_in : (layers : List Layer) (b : Base) (name : List ℕ) (t : Term) (at : ℕ) → ((n : ℕ) → n < length d.structs → IsStruct c.globals d n)
+  select_in : (layers : List Layer) (b : Base) (name : List ℕ) (t : Term) (at : ℕ)
+      → ((n : ℕ) → n < length d.structs → IsStruct c.globals d n)
       → HasType d locals here t (ty_in layers b) → IsBase d b
       → broken (node.Selector (is_some (field_of_struct c.globals (struct_in layers b) name))) ≡ None
-      → Fits d locals here (field_shape (field_of_struct c.globals (struct_in layers b) name)) (field_term (field_of_struct c.globals (struct_in layers b) name) t at)
+      → Fits d locals here (field_shape (field_of_struct c.globals (struct_in layers b) name)) (field_term
+      (field_of_struct c.globals (struct_in layers b) name) t at)
   select_in [] (base.Pointer n) name t at structs h k br =
       load_fits n name t at (found name (fields_at c.globals n).numbers) refl (structs n k) h br
   select_in [] b name t at structs h k br = absurd (true≢false (keeps rule.NoSuchField (node.Selector false) br))
-  select_in (layer ∷ layers) b name t at structs h k br = absurd (true≢false (keeps rule.NoSuchField (node.Selector false) br))
+  select_in (layer ∷ layers) b name t at structs h k br =
+      absurd (true≢false (keeps rule.NoSuchField (node.Selector false) br))
 
-  select_fits : (s : Shape) (name : List ℕ) (t : Term) (at : ℕ) → ((n : ℕ) → n < length d.structs → IsStruct c.globals d n)
+  select_fits : (s : Shape) (name : List ℕ) (t : Term) (at : ℕ)
+      → ((n : ℕ) → n < length d.structs → IsStruct c.globals d n)
       → Fits d locals here s t → broken (node.Selector (is_some (field_of c.globals s name))) ≡ None
       → Fits d locals here (field_shape (field_of c.globals s name)) (field_term (field_of c.globals s name) t at)
   select_fits (shape.Value u) name t at structs h br = select_in u.layers u.base name t at structs h.0 h.1 br
@@ -101,7 +113,8 @@ module _ (c : Context) (d : Declared) (locals : List «Type») (here : InScope) 
   selected_calls (tree.Name x) name = package_calls x.at (meaning_of c x.name) name
   selected_calls e name = tt
 
-  module _ (means : (name : List ℕ) → Means c d locals here (meaning_of c name)) (structs : (n : ℕ) → n < length d.structs → IsStruct c.globals d n) where
+  module _ (means : (name : List ℕ) → Means c d locals here (meaning_of c name))
+      (structs : (n : ℕ) → n < length d.structs → IsStruct c.globals d n) where
     pub bare_calls : (e : Expr) → Calls c.globals d (bare_callee c e)
     bare_calls (tree.Name x) = named_calls x.at (meaning_of c x.name) (means x.name)
     bare_calls (tree.Select e field) = selected_calls (bare e) field.name
@@ -131,26 +144,32 @@ module _ (c : Context) (d : Declared) (locals : List «Type») (here : InScope) 
     new_fits None at k br = absurd (true≢false (keeps rule.PointerBase (node.Pointed None) br))
     new_fits (Some m) at k br = absurd (true≢false (keeps rule.PointerBase (node.Pointed (Some m)) br))
 
-    slice_fits : (ty : tree.TypeExpr) (s : Shape) (t : Term) (at : ℕ) → broken (node.Size s) ≡ None → Fits d locals here s t
-        → Fits d locals here (shape.Value (slice_of (resolved c ty))) (Apply action.Slice (one t) (slice_of (resolved c ty)) at)
+    slice_fits : (ty : tree.TypeExpr) (s : Shape) (t : Term) (at : ℕ) → broken (node.Size s) ≡ None
+        → Fits d locals here s t
+        → Fits d locals here (shape.Value (slice_of (resolved c ty))) (Apply action.Slice (one t)
+        (slice_of (resolved c ty)) at)
     slice_fits ty s t at br h = (
       (
         refl,
         base_known ty,
         int ∷ [],
-        have_one d locals here t int (int_fits d locals here s t (not_false (is_int_shape s) (keeps rule.NotInt (node.Size s) br)) h),
+        have_one d locals here t int (int_fits d locals here s t
+            (not_false (is_int_shape s) (keeps rule.NotInt (node.Size s) br)) h),
         (refl, resolved c ty, refl),
       ),
       base_known ty,
     )
 
     chan_fits : (ty : tree.TypeExpr) (t : Term) (at : ℕ) → HasType d locals here t int
-        → Fits d locals here (shape.Value (chan_of (resolved c ty))) (Apply action.Chan (one t) (chan_of (resolved c ty)) at)
+        → Fits d locals here (shape.Value (chan_of (resolved c ty))) (Apply action.Chan (one t)
+        (chan_of (resolved c ty)) at)
     chan_fits ty t at h =
         ((refl, base_known ty, int ∷ [], have_one d locals here t int h, (refl, resolved c ty, refl)), base_known ty)
 
-    room_fits : (ty : tree.TypeExpr) (s : Shape) (t : Term) → broken (node.Size s) ≡ None → Fits d locals here s t → HasType d locals here t int
-    room_fits ty s t br h = int_fits d locals here s t (not_false (is_int_shape s) (keeps rule.NotInt (node.Size s) br)) h
+    room_fits : (ty : tree.TypeExpr) (s : Shape) (t : Term) → broken (node.Size s) ≡ None → Fits d locals here s t
+        → HasType d locals here t int
+    room_fits ty s t br h =
+        int_fits d locals here s t (not_false (is_int_shape s) (keeps rule.NotInt (node.Size s) br)) h
 
     -- ---- expressions
 

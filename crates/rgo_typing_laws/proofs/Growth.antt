@@ -107,7 +107,8 @@ if_restores c init body other first then_part else_part =
 
 for_restores : (c : Context) (init post : Clause) (body : Stmts) → Extends (in_block c) (header c init)
     → Extends (header c init) (after_clause (header c init) post)
-    → Extends (in_block (after_clause (header c init) post)) (after_all (in_block (after_clause (header c init) post)) body)
+    → Extends (in_block (after_clause (header c init) post)) (after_all
+    (in_block (after_clause (header c init) post)) body)
     → Restores c (out_of_block (after_block (after_clause (header c init) post) body))
 for_restores c init post body first last inner =
     let h = header c init in

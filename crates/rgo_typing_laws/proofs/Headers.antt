@@ -16,7 +16,8 @@ simple_headers (grammar.IsSimple.step o i e) = tt
 simple_headers (grammar.IsSimple.assign o i a b) = tt
 simple_headers (grammar.IsSimple.define i j e) = tt
 
-simple_init : {header defines : Bool} {x : List Lexeme} {s : tree.Stmt} → IsSimple header defines x s → IsInit (tree.a_clause s)
+simple_init : {header defines : Bool} {x : List Lexeme} {s : tree.Stmt} → IsSimple header defines x s
+    → IsInit (tree.a_clause s)
 simple_init (grammar.IsSimple.plain e) = tt
 simple_init (grammar.IsSimple.send i a b) = tt
 simple_init (grammar.IsSimple.step o i e) = tt
@@ -84,5 +85,6 @@ decls_headers (grammar.Each.next j d rest) = (decl_headers d, decls_headers rest
 pub grammar_has_headers : GrammarHasHeaders
 grammar_has_headers l imports decls h = go h
   where
-    go : {l : List Lexeme} {imports : List tree.Import} {decls : List Decl} → IsProgram l imports decls → AllByRecursion DeclHasHeaders decls
+    go : {l : List Lexeme} {imports : List tree.Import} {decls : List Decl} → IsProgram l imports decls
+        → AllByRecursion DeclHasHeaders decls
     go (grammar.IsProgram.program i j k x y) = decls_headers y

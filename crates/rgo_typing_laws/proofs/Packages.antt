@@ -1,5 +1,6 @@
 -- Everything that a package declares exists: the structs that its types name, and the fields of its structs.
-use Rattle.std.proofs.Common.{◌≡◌, ◌++◌, ◌<◌, ℕ, zero, suc, Bool, true, false, List, [], ◌∷◌, length, bytes_eq, codes, if◌then◌else◌}
+use Rattle.std.proofs.Common.{◌≡◌, ◌++◌, ◌<◌, ℕ, zero, suc, Bool, true, false, List, [], ◌∷◌, length, bytes_eq, codes}
+use Rattle.std.proofs.Common.{if◌then◌else◌}
 use Rattle.std.proofs.Common.{Option, Some, None, refl, sym, ◌∙◌, subst, arith, true≢false, eqb-true, eq-eqb}
 use Rattle.std.proofs.Common.{lt_of_not-le, le_antisymm, le_of_suc-le-suc, ◌||◌, nat_eq}
 use Rattle.std.specs.Prelude.{⊤}
@@ -19,7 +20,8 @@ use Rattle.rgo_types.specs.Names.{with_names, with_bindings}
 use Rattle.rgo_types.specs.Names as names
 use Rattle.rgo_types.specs.Programs.{outside_functions}
 use Rattle.rgo_types.specs.Signatures.{Signatures, fields_of, with_struct, with_structs, with_variable, with_variables}
-use Rattle.rgo_types.specs.Signatures.{with_binding, with_vars, with_function, with_decls, result_of, params_of, in_seen}
+use Rattle.rgo_types.specs.Signatures.{with_binding, with_vars, with_function, with_decls, result_of, params_of}
+use Rattle.rgo_types.specs.Signatures.{in_seen}
 use Rattle.rgo_wellformed.specs.TypeRules.{Declared, IsType, IsBase}
 use Rattle.rgo_wellformed.specs.WellFormed.{InScope, is_in_scope, IsResult, first_numbers}
 use Rattle.rgo_typing_laws.proofs.Scopes.{Scoped, scoped_more, is_below, newest, older}
@@ -98,7 +100,8 @@ module _ (p : Package) (d : Declared)
 
   -- ---- fields and parameters
 
-  names_scoped : (ty : «Type») (g : Scope) (l : List Ident) → IsType d ty → HasScope d g → HasScope d (with_names ty g l)
+  names_scoped : (ty : «Type») (g : Scope) (l : List Ident) → IsType d ty → HasScope d g
+      → HasScope d (with_names ty g l)
   names_scoped ty g [] k s = s
   names_scoped ty g (x ∷ l) k s =
       names_scoped ty (with_local x.name ty g) l k (length g.types ∷ s.0, scoped_more d g s.0 x.name ty k s.1)
@@ -155,7 +158,8 @@ is_in_push : (l : InScope) (m n : ℕ) → is_in_scope l n ≡ true → is_in_sc
 is_in_push [] m n h = absurd (true≢false (sym h))
 is_in_push (a ∷ l) m n h = go (nat_eq a n) (is_in_push l m n) h
   where
-    go : (b : Bool) → (is_in_scope l n ≡ true → is_in_scope (l ++ m ∷ []) n ≡ true) → b || is_in_scope l n ≡ true → b || is_in_scope (l ++ m ∷ []) n ≡ true
+    go : (b : Bool) → (is_in_scope l n ≡ true → is_in_scope (l ++ m ∷ []) n ≡ true) → b || is_in_scope l n ≡ true
+        → b || is_in_scope (l ++ m ∷ []) n ≡ true
     go true more k = refl
     go false more k = more k
 
@@ -170,8 +174,11 @@ numbers_in : (k n : ℕ) → n < k → is_in_scope (first_numbers k) n ≡ true
 numbers_in zero n h = absurd (omega arith)
 numbers_in (suc k) n h = go (nat_eq n k) refl (numbers_in k n)
   where
-    go : (b : Bool) → nat_eq n k ≡ b → (n < k → is_in_scope (first_numbers k) n ≡ true) → is_in_scope (first_numbers k ++ k ∷ []) n ≡ true
-    go true e more = subst (λ x. is_in_scope (first_numbers k ++ k ∷ []) x ≡ true) (sym (eqb-true n k e)) (is_in_last (first_numbers k) k)
+    go : (b : Bool) → nat_eq n k ≡ b → (n < k → is_in_scope (first_numbers k) n ≡ true)
+        → is_in_scope (first_numbers k ++ k ∷ []) n ≡ true
+    go true e more =
+        subst (λ x. is_in_scope (first_numbers k ++ k ∷ []) x ≡ true) (sym (eqb-true n k e))
+        (is_in_last (first_numbers k) k)
     go false e more =
         let o : n ≡ k → ⊥ = λ q. true≢false (sym (eq-eqb n k q) ∙ e) in
         is_in_push (first_numbers k) k n (more (lt_of_not_eq n k h o))
@@ -182,9 +189,11 @@ weaker (a ∷ l) k h = (omega (arith, h.0), weaker l k h.1)
 
 numbers_below : (k : ℕ) → AllByRecursion (λ m. m < k) (first_numbers k)
 numbers_below zero = tt
-numbers_below (suc k) = holds_push (λ m. m < suc k) (first_numbers k) k (weaker (first_numbers k) k (numbers_below k)) (omega arith)
+numbers_below (suc k) =
+    holds_push (λ m. m < suc k) (first_numbers k) k (weaker (first_numbers k) k (numbers_below k)) (omega arith)
 
-pub from_the_first : (d : Declared) (g : Scope) (here : InScope) → Scoped d g here → Scoped d g (first_numbers (length g.types))
+pub from_the_first : (d : Declared) (g : Scope) (here : InScope) → Scoped d g here
+    → Scoped d g (first_numbers (length g.types))
 from_the_first d g here s =
     record {
       known = λ name n h. numbers_in (length g.types) n (is_below here (length g.types) n s.below (s.known name n h));

@@ -1,5 +1,6 @@
 -- Where no node of a program breaks a rule, its typed tree is well-formed.
-use Rattle.std.proofs.Common.{◌≡◌, ◌+◌, ◌<◌, ◌&&◌, ℕ, true, false, not, List, [], ◌∷◌, length, map, slice_get, codes, length-append}
+use Rattle.std.proofs.Common.{◌≡◌, ◌+◌, ◌<◌, ◌&&◌, ℕ, true, false, not, List, [], ◌∷◌, length, map, slice_get, codes}
+use Rattle.std.proofs.Common.{length-append}
 use Rattle.std.proofs.Common.{Option, Some, None, is_some, refl, ap, sym, ◌∙◌, subst, arith, true≢false}
 use Rattle.std.specs.List.{AllByRecursion}
 use Rattle.std.proofs.lemmas.List.{length-map}
@@ -22,27 +23,33 @@ use Rattle.rgo_typing_expressions.specs.Scopes.{no_fields, no_signature, int, fi
 use Rattle.rgo_types.specs.Flow.{ends}
 use Rattle.rgo_types.specs.Imports.{import_sites}
 use Rattle.rgo_types.specs.Numbering.{no_numbers, numbered}
-use Rattle.rgo_types.specs.Programs.{outside_functions, named_package, signatures_in, package_of, has_main, is_main, is_plain}
-use Rattle.rgo_types.specs.Programs.{are_none, in_function, at_body, body_sites, bodies_sites, typed_function, typed_functions}
+use Rattle.rgo_types.specs.Programs.{outside_functions, named_package, signatures_in, package_of, has_main, is_main}
+use Rattle.rgo_types.specs.Programs.{is_plain}
+use Rattle.rgo_types.specs.Programs.{are_none, in_function, at_body, body_sites, bodies_sites, typed_function}
+use Rattle.rgo_types.specs.Programs.{typed_functions}
 use Rattle.rgo_types.specs.Programs.{package_sites, typed_program}
 use Rattle.rgo_types.specs.Signatures.{Signatures, no_signatures, decls_sites, params_of, result_of}
 use Rattle.rgo_types.specs.Statements.{all_sites, after_all}
 use Rattle.rgo_types.specs.TypedStatements.{typed_all}
 use Rattle.rgo_wellformed.specs.Endings.{Ends, EndsWith}
 use Rattle.rgo_wellformed.specs.TypeRules.{Declared, IsType}
-use Rattle.rgo_wellformed.specs.WellFormed.{first_numbers, signature_of, declared_by, IsFunction, IsMain, IsResult, AreDistinct}
+use Rattle.rgo_wellformed.specs.WellFormed.{first_numbers, signature_of, declared_by, IsFunction, IsMain, IsResult}
+use Rattle.rgo_wellformed.specs.WellFormed.{AreDistinct}
 use Rattle.rgo_typing_laws.specs.Headers.{DeclHasHeaders}
 use Rattle.rgo_typing_laws.specs.Laws.{TypedIsWellFormed, TypedEnds, ParsedIsWellFormed}
 use Rattle.rgo_typing_laws.proofs.Unbroken.{left, right, alone, not_false}
 use Rattle.rgo_typing_laws.proofs.Growth.{begins_itself, grows_all}
 use Rattle.rgo_typing_laws.proofs.Values.{declared_signature, IsStruct, IsCallee}
 use Rattle.rgo_typing_laws.proofs.Scopes.{Scoped, Describes, Sound, IsGlobal}
-use Rattle.rgo_typing_laws.proofs.Lists.{some_is, mapped_at, unmapped_at, taken_none, holds_at, holds_there, holds_mapped}
+use Rattle.rgo_typing_laws.proofs.Lists.{some_is, mapped_at, unmapped_at, taken_none, holds_at, holds_there}
+use Rattle.rgo_typing_laws.proofs.Lists.{holds_mapped}
 use Rattle.rgo_typing_laws.proofs.Declarations.{steps_all}
 use Rattle.rgo_typing_laws.proofs.Statements.{well_all}
 use Rattle.rgo_typing_laws.proofs.Numbering.{AreNumbered, IsNumbered, names_of, none_numbered, all_numbered}
-use Rattle.rgo_typing_laws.proofs.Signatures.{InStep, all_in_step, IsMirrored, all_mirrored, all_functions, function_names}
-use Rattle.rgo_typing_laws.proofs.Packages.{IsNamed, AllExist, AreFields, IsSignature, all_exist, HasScope, params_scoped}
+use Rattle.rgo_typing_laws.proofs.Signatures.{InStep, all_in_step, IsMirrored, all_mirrored, all_functions}
+use Rattle.rgo_typing_laws.proofs.Signatures.{function_names}
+use Rattle.rgo_typing_laws.proofs.Packages.{IsNamed, AllExist, AreFields, IsSignature, all_exist, HasScope}
+use Rattle.rgo_typing_laws.proofs.Packages.{params_scoped}
 use Rattle.rgo_typing_laws.proofs.Packages.{result_exists, from_the_first}
 use Rattle.rgo_typing_laws.proofs.Endings.{all_end}
 use Rattle.rgo_typing_laws.proofs.Headers.{grammar_has_headers}
@@ -83,7 +90,9 @@ module _ (p : Package) (d : Declared) (sound : Sound p d)
         params = omega (arith, longer);
         locals = body.1.scoped.types;
         result_type = known;
-        body = steps_all d all.scope.types result false here all (typed_all (in_function c f) begin (stmts_of f.body)) body;
+        body =
+            steps_all d all.scope.types result false here all
+            (typed_all (in_function c f) begin (stmts_of f.body)) body;
       }
 
   functions_well : (l : List Decl) → AllByRecursion DeclHasHeaders l → first_refusal (bodies_sites c l) ≡ None
@@ -146,7 +155,7 @@ module _ (program : Program) where
       let o : n < length lists.structs = omega (arith, h, count_structs) in
       let f : AreFields d (fields_at whole n) = holds_at (AreFields d) lists.structs n no_fields o lists_exist.0 in
       record {
-        there = subst (λ l. slice_get l n ≡ Some (fields_at whole n).types) (sym mirrored.0)
+        listed = subst (λ l. slice_get l n ≡ Some (fields_at whole n).types) (sym mirrored.0)
             (mapped_at (λ (f : Fields). f.types) lists.structs n (fields_at whole n)
             (slice_get-get_or lists.structs n no_fields o));
         fields = λ name k e. (
@@ -180,7 +189,7 @@ module _ (program : Program) where
           let s : IsSignature d (signature_at whole k) =
           holds_at (IsSignature d) lists.functions k no_signature o lists_exist.2 in
           record {
-            there = subst (λ l. slice_get l k ≡ Some (declared_signature (signature_at whole k))) functions_are
+            listed = subst (λ l. slice_get l k ≡ Some (declared_signature (signature_at whole k))) functions_are
                 (mapped_at declared_signature lists.functions k (signature_at whole k)
                 (slice_get-get_or lists.functions k no_signature o));
             params = s.params;
@@ -202,14 +211,17 @@ module _ (program : Program) where
       → (n : ℕ) × (main : Function) × (slice_get typed.functions n ≡ Some main) × IsMain main
   main_exists all h = go (found (codes "main") whole.names) refl h
     where
-      at : (k : ℕ) → IsNumbered (numbered no_numbers program.decls) (names_of program.decls) (codes "main") (meaning.Function k) → IsCallee whole d k
+      at : (k : ℕ) → IsNumbered (numbered no_numbers program.decls) (names_of program.decls) (codes "main")
+          (meaning.Function k) → IsCallee whole d k
           → is_plain (signature_at whole k) ≡ true
           → (n : ℕ) × (main : Function) × (slice_get typed.functions n ≡ Some main) × IsMain main
       at k i c plain =
           let f = unmapped_at (λ (f : Function). f.name) typed.functions k (codes "main")
-          (subst (λ l. slice_get l k ≡ Some (codes "main")) (sym (function_names (outside_functions whole) program.decls)) i.1) in
+          (subst (λ l. slice_get l k ≡ Some (codes "main"))
+          (sym (function_names (outside_functions whole) program.decls)) i.1) in
           let same : signature_of f.0 ≡ declared_signature (signature_at whole k) =
-          some_is (signature_of f.0) (declared_signature (signature_at whole k)) (sym (mapped_at signature_of typed.functions k f.0 f.1) ∙ c.there) in
+          some_is (signature_of f.0) (declared_signature (signature_at whole k))
+          (sym (mapped_at signature_of typed.functions k f.0 f.1) ∙ c.listed) in
           let none = plain_none (signature_at whole k).params (signature_at whole k).result_type plain in
           let in_order : IsFunction d f.0 = holds_there (IsFunction d) typed.functions k f.0 f.1 all in (
             k,
@@ -222,8 +234,10 @@ module _ (program : Program) where
             },
           )
 
-      other : (m : Meaning) → IsNumbered (numbered no_numbers program.decls) (names_of program.decls) (codes "main") m → IsGlobal whole d m
-          → is_main whole (Some m) ≡ true → (n : ℕ) × (main : Function) × (slice_get typed.functions n ≡ Some main) × IsMain main
+      other : (m : Meaning) → IsNumbered (numbered no_numbers program.decls) (names_of program.decls) (codes "main") m
+          → IsGlobal whole d m
+          → is_main whole (Some m) ≡ true
+          → (n : ℕ) × (main : Function) × (slice_get typed.functions n ≡ Some main) × IsMain main
       other (meaning.Function k) i c plain = at k i c plain
       other m i c plain = absurd (true≢false (sym plain))
 
@@ -251,7 +265,8 @@ function_ends c f headers h =
     go (Some ty) k =
         all_end (stmts_of f.body) (in_function c f) (at_body c f) headers (not_false (ends (stmts_of f.body)) k)
 
-functions_end : (c : Context) (l : List Decl) → AllByRecursion DeclHasHeaders l → first_refusal (bodies_sites c l) ≡ None
+functions_end : (c : Context) (l : List Decl) → AllByRecursion DeclHasHeaders l
+    → first_refusal (bodies_sites c l) ≡ None
     → AllByRecursion Ends (typed_functions c l)
 functions_end c [] headers h = tt
 functions_end c (tree.Types types at ∷ l) headers h = functions_end c l headers.1 h
@@ -290,7 +305,8 @@ well_formed program headers h =
     not_false (has_main p)
     (keeps rule.NoMain n (alone program.end n (left ((program.end, n) ∷ []) (bodies_sites c program.decls) in_rest))) in
     record {
-      structs = holds_mapped (AllByRecursion (IsType d)) (λ (s : Struct). s.fields) (signatures_in program).typed_structs
+      structs =
+          holds_mapped (AllByRecursion (IsType d)) (λ (s : Struct). s.fields) (signatures_in program).typed_structs
           (subst (AllByRecursion (AllByRecursion (IsType d))) (sym (mirrored program).0)
           (types_of_each d (signatures_in program).structs (lists_exist program).0));
       variables = holds_mapped (IsType d) (λ (v : Variable). v.ty) (signatures_in program).typed_variables

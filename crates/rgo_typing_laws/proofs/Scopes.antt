@@ -1,5 +1,7 @@
 -- Local variables in scope: a name means a variable in scope, and a new variable is not in scope yet.
-use Rattle.std.proofs.Common.{◌≡◌, ℕ, suc, ◌+◌, ◌<◌, Bool, true, false, ◌||◌, List, [], ◌∷◌, ◌++◌, length, slice_get, bytes_eq, codes, if◌then◌else◌, nat_eq, refl, ap, sym, ◌∙◌, subst, true≢false, arith, append_assoc, eqb-true, eq-eqb, ne_eqb, length-append}
+use Rattle.std.proofs.Common.{◌≡◌, ℕ, suc, ◌+◌, ◌<◌, Bool, true, false, ◌||◌, List, [], ◌∷◌, ◌++◌, length, slice_get}
+use Rattle.std.proofs.Common.{bytes_eq, codes, if◌then◌else◌, nat_eq, refl, ap, sym, ◌∙◌, subst, true≢false, arith}
+use Rattle.std.proofs.Common.{append_assoc, eqb-true, eq-eqb, ne_eqb, length-append}
 use Rattle.std.proofs.Common.{Option, Some, None}
 use Rattle.std.specs.List.{AllByRecursion}
 use Rattle.std.specs.Option.{option_or}
@@ -9,7 +11,8 @@ use Rattle.rgo_typing_rules.specs.declared.meanings.Meaning.{Meaning}
 use Rattle.rgo_typing_rules.specs.declared.meanings.Meaning.TheVariants as meaning
 use Rattle.rgo_scopes.specs.Blocks.{found, found_in, found_outside}
 use Rattle.rgo_typing_expressions.specs.Packages.{Package, Scope, Context}
-use Rattle.rgo_typing_expressions.specs.Scopes.{with_local, inside, local_at, variable_at, meaning_of, meaning_if, global_meaning_if, universe, int, in_scope}
+use Rattle.rgo_typing_expressions.specs.Scopes.{with_local, inside, local_at, variable_at, meaning_of, meaning_if}
+use Rattle.rgo_typing_expressions.specs.Scopes.{global_meaning_if, universe, int, in_scope}
 use Rattle.rgo_types.specs.Statements.{in_block}
 use Rattle.rgo_wellformed.specs.TypeRules.{Declared, IsType}
 use Rattle.rgo_wellformed.specs.WellFormed.{InScope, is_in_scope}
@@ -51,12 +54,13 @@ older here m n h = go (nat_eq m n)
 
 -- ---- types of local variables
 
-before : {A : Type 0} (l m rest : List A) (n : ℕ) (a : A) → m ≡ l ++ rest → slice_get l n ≡ Some a → slice_get m n ≡ Some a
+before : {A : Type 0} (l m rest : List A) (n : ℕ) (a : A) → m ≡ l ++ rest → slice_get l n ≡ Some a
+    → slice_get m n ≡ Some a
 before l m rest n a is h = subst (λ x. slice_get x n ≡ Some a) (sym is) (still_there l rest n a h)
 
 -- ---- scopes
 
--- the variables `here` are those of the scope's names
+-- Every variable that a name of the scope means is in `here`; those in `here` were declared before; all types exist.
 pub record Scoped (d : Declared) (g : Scope) (here : InScope) : Type 0 where
   pub known : (name : List ℕ) (n : ℕ) → found name g.locals ≡ Some n → is_in_scope here n ≡ true
   pub below : AllByRecursion (λ m. m < length g.types) here
@@ -129,10 +133,12 @@ pub record Describes (d : Declared) (c : Context) (here : InScope) : Type 0 wher
   pub sound : Sound c.globals d
   pub scoped : Scoped d c.scope here
 
-pub describes_inside : (d : Declared) (c : Context) (here : InScope) → Describes d c here → Describes d (in_block c) here
+pub describes_inside : (d : Declared) (c : Context) (here : InScope) → Describes d c here
+    → Describes d (in_block c) here
 describes_inside d c here s = record { sound = s.sound; scoped = scoped_inside d c.scope here s.scoped }
 
-pub describes_outside : (d : Declared) (c : Context) (here : InScope) → Describes d (in_block c) here → Describes d c here
+pub describes_outside : (d : Declared) (c : Context) (here : InScope) → Describes d (in_block c) here
+    → Describes d c here
 describes_outside d c here s = record { sound = s.sound; scoped = scoped_outside d c.scope here s.scoped }
 
 pub describes_later : (d : Declared) (c h : Context) (here : InScope) → Restores c h

@@ -1,4 +1,5 @@
--- The lists of what a package declares grow in step with the numbers, with the typed tree's lists, and with its functions.
+-- The lists of what a package declares: they grow in step with the numbers, with the lists of the typed tree, and with
+-- its functions.
 use Rattle.std.proofs.Common.{◌≡◌, ◌++◌, ◌+◌, ℕ, List, [], ◌∷◌, length, map, take, append_assoc, length-append}
 use Rattle.std.proofs.Common.{Option, Some, None, refl, ap, ap₂, sym, ◌∙◌}
 use Rattle.std.proofs.lemmas.List.{append-nil, map-append}
@@ -18,7 +19,8 @@ use Rattle.rgo_types.specs.Names as names
 use Rattle.rgo_types.specs.Numbering.{Numbering, numbered}
 use Rattle.rgo_types.specs.Numbering as numbering
 use Rattle.rgo_types.specs.Programs.{outside_functions, whole_package, at_body, typed_function, typed_functions}
-use Rattle.rgo_types.specs.Signatures.{Signatures, with_struct, with_structs, with_variable, with_variables, with_binding, with_vars}
+use Rattle.rgo_types.specs.Signatures.{Signatures, with_struct, with_structs, with_variable, with_variables}
+use Rattle.rgo_types.specs.Signatures.{with_binding, with_vars}
 use Rattle.rgo_types.specs.Signatures.{with_function, with_decls, result_of, params_of, in_seen}
 use Rattle.rgo_types.specs.Statements.{after_all}
 use Rattle.rgo_wellformed.specs.TypeRules
@@ -151,7 +153,8 @@ module _ (p : Package) (t : Signatures) where
   structs_functions s [] = refl
   structs_functions s (x ∷ l) = structs_functions (with_struct c s x) l
 
-  variables_functions : (s : Signatures) (ty : «Type») (l : List Ident) → (with_variables s ty l).functions ≡ s.functions
+  variables_functions : (s : Signatures) (ty : «Type») (l : List Ident)
+      → (with_variables s ty l).functions ≡ s.functions
   variables_functions s ty [] = refl
   variables_functions s ty (x ∷ l) = variables_functions (with_variable s ty x) ty l
 

@@ -28,7 +28,8 @@ use Rattle.rgo_typing_expressions.specs.Types.{type_of, types_of}
 use Rattle.rgo_types.specs.Statements.{Enclosing, in_block, header, after, after_all, after_clause, after_block}
 use Rattle.rgo_types.specs.Statements.{step_op, step_sites, assign_op, assign_sites, go_site, optional_nodes}
 use Rattle.rgo_types.specs.Statements.{optional_type, condition_sites, stmt_sites, all_sites, clause_sites}
-use Rattle.rgo_types.specs.TypedStatements.{plain_stmt, send_stmt, assign_stmt, step_stmt, started, returned, optional_term}
+use Rattle.rgo_types.specs.TypedStatements.{plain_stmt, send_stmt, assign_stmt, step_stmt, started, returned}
+use Rattle.rgo_types.specs.TypedStatements.{optional_term}
 use Rattle.rgo_types.specs.TypedStatements.{has_clause, headed, branches, typed_stmt, typed_all, typed_clause}
 use Rattle.rgo_wellformed.specs.TypeRules.{Declared, Computes}
 use Rattle.rgo_wellformed.specs.WellFormed.{InScope, HasType, AreStmts, IsCondition, IsResult}
@@ -112,7 +113,8 @@ module _ (d : Declared) (locals : List «Type») (result : Option «Type») (kno
   headed_well in_loop here c h (tree.a_clause x) s inner st later stays =
       (here, later here st, λ more a. (inner.2 (s ∷ []) (stays.0, tt), a))
 
-  branches_well : (in_loop : Bool) (here : InScope) (other : Clause) (test : Term) (body alternative : List Stmt) (at : ℕ)
+  branches_well : (in_loop : Bool) (here : InScope) (other : Clause) (test : Term) (body alternative : List Stmt)
+      (at : ℕ)
       → HasType d locals here test bool → All in_loop here body → All in_loop here alternative
       → Well in_loop here (branches (has_clause other) test body alternative at)
   branches_well in_loop here tree.no_clause test body alternative at t b o = ((t, b), refl)
@@ -148,8 +150,10 @@ module _ (d : Declared) (locals : List «Type») (result : Option «Type») (kno
         let body = well_all all inside here in_loop q room (describes_inside d c here st) h in
         steps_one d locals result in_loop here (after_block c all)
         (typed.Block (stmts_of (typed_all (enclosing in_loop) inside all)))
-        (describes_later d c (after_block c all) here (after_the_block c all) body.1.scoped.types st)
-        (steps_all d locals result in_loop here (after_all inside all) (typed_all (enclosing in_loop) inside all) body, refl)
+        (describes_later d c (after_block c all) here (after_the_block c all) body.1.scoped.types st) (
+          steps_all d locals result in_loop here (after_all inside all) (typed_all (enclosing in_loop) inside all) body,
+          refl,
+        )
     well_stmt (tree.Plain e) c here in_loop q room st h =
         let n = node.Alone (may_stand c e) in
         let all = nodes c role.Alone (bare e) in
@@ -184,7 +188,8 @@ module _ (d : Declared) (locals : List «Type») (result : Option «Type») (kno
         let room1 =
         room_before d locals result (in_block c1) (after_all (in_block c1) body) (grows_all (in_block c1) body) room2 in
         let inner = well_clause init (in_block c) here in_loop (init_headers init q.0) room1
-        (describes_inside d c here st) (left (clause_sites f (in_block c) init) (nodes c1 role.Value test ++ bodies) h) in
+        (describes_inside d c here st)
+        (left (clause_sites f (in_block c) init) (nodes c1 role.Value test ++ bodies) h) in
         let b = well_all body (in_block c1) inner.0 in_loop q.1 room2 (describes_inside d c1 inner.0 inner.1)
         (left (all_sites f (in_block c1) body) others h2) in
         let st2 = describes_later d c1 c2 inner.0 (after_the_block c1 body) b.1.scoped.types inner.1 in
@@ -243,8 +248,10 @@ module _ (d : Declared) (locals : List «Type») (result : Option «Type») (kno
     well_stmt (tree.Return value at) c here in_loop q room st h =
         let n = node.Return result (optional_type c value) in
         steps_one d locals result in_loop here c (typed.Return (returned result c value) at) st
-        (return_well c d result locals here (means c d locals here st room) st.sound.structs result value at in_loop refl
-        known (left (optional_nodes c value) ((at, n) ∷ []) h) (alone at n (right (optional_nodes c value) ((at, n) ∷ []) h)))
+        (return_well c d result locals here
+        (means c d locals here st room) st.sound.structs result value at in_loop refl
+        known (left (optional_nodes c value) ((at, n) ∷ []) h)
+        (alone at n (right (optional_nodes c value) ((at, n) ∷ []) h)))
     well_stmt (tree.Break at) c here in_loop q room st h =
         let n = node.Branch in_loop in
         steps_one d locals result in_loop here c (typed.Break at) st

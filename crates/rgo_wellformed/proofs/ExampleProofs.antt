@@ -1,5 +1,7 @@
 -- The examples of the definitions, by computation.
-use Rattle.std.proofs.Common.{◌≡◌, ℕ, Bool, true, false, List, [], ◌∷◌, slice_get, Option, Some, None, is_some, refl, ap, sym, ◌∙◌, subst, true≢false, zero-lt-suc, zero, suc, zero-le, bytes_eq, nat_eq, codes, arith}
+use Rattle.std.proofs.Common.{◌≡◌, ℕ, Bool, true, false, List, [], ◌∷◌, slice_get, Option, Some, None, is_some, refl}
+use Rattle.std.proofs.Common.{ap, sym, ◌∙◌, subst, true≢false, zero-lt-suc, zero, suc, zero-le, bytes_eq, nat_eq}
+use Rattle.std.proofs.Common.{codes, arith}
 use Rattle.rgo_typed.specs.declared.types.Base.{Base}
 use Rattle.rgo_typed.specs.declared.types.Base.TheVariants as base
 use Rattle.rgo_typed.specs.declared.types.Type.{«Type»}
@@ -56,8 +58,23 @@ well = record {
   );
   stored = (
     pointer_to 0 ∷ pointer_to 0 ∷ [],
-    (pointer_to 0, pointer_to 0 ∷ [], refl, (refl, refl), (pointer_to 0, [], refl, (refl, zero-lt-suc 0, [], refl, (refl, refl)), refl)),
+    (
+      pointer_to 0,
+      pointer_to 0 ∷ [],
+      refl,
+      (refl, refl),
+      (pointer_to 0, [], refl, (refl, zero-lt-suc 0, [], refl, (refl, refl)), refl),
+    ),
     (0, pointer_to 0, refl, (int ∷ pointer_to 0 ∷ [], refl, refl)),
+  );
+  updated = (
+    pointer_to 0 ∷ [],
+    (pointer_to 0, [], refl, (refl, refl), refl),
+    tt,
+    (0, refl, (int ∷ pointer_to 0 ∷ [], refl, refl)),
+    (refl, tt, [], refl, (refl, refl)),
+    (refl, refl),
+    (0, int, refl, (int ∷ pointer_to 0 ∷ [], refl, refl)),
   );
   returned = (
     int,
@@ -72,7 +89,10 @@ well = record {
   );
   started = (record { params = []; result_type = None }, refl, refl, refl);
   left = (tt, (refl, tt), tt);
-  again = ((((refl, refl), (refl, tt, [], refl, (refl, refl))), tt), ((((refl, refl), (refl, tt, [], refl, (refl, refl))), tt), tt));
+  again = (
+    (((refl, refl), (refl, tt, [], refl, (refl, refl))), tt),
+    ((((refl, refl), (refl, tt, [], refl, (refl, refl))), tt), tt),
+  );
   printed = (int ∷ [], (int, [], refl, (refl, refl), refl), (int, [], refl, refl, refl));
 }
 
@@ -97,6 +117,10 @@ abbrev first : List «Type» → «Type»
 first [] = int
 first (t ∷ l) = t
 
+abbrev rest : List «Type» → List «Type»
+rest [] = []
+rest (t ∷ l) = l
+
 abbrev is_some_type : List «Type» → Bool
 is_some_type [] = false
 is_some_type (t ∷ l) = true
@@ -118,17 +142,37 @@ no_bool e = true≢false (ap is_int e)
 
 pub ill : IllFormedExamples
 ill = record {
+  unread = λ h. true≢false (sym h.1.0);
   undeclared = λ h. true≢false (sym h.1);
   after_its_block = λ h. true≢false (sym h.1.0.1);
   twice = λ h. true≢false h.0.0;
+  other_type = λ h. no_bool (sym (ap type_in h.0.1));
   bool_to_int = λ h. no_bool (ap type_in h.2 ∙ sym h.3.0);
   nil_to_int = λ h. true≢false (sym h.1.4.1);
   bool_added = λ h. no_bool (sym (ap first (sym h.1.3.2 ∙ h.1.4.0)) ∙ sym (ap type_in h.1.3.3.1));
   slices_compared = λ h. true≢false (ap is_slice (ap type_in h.1.3.3.1 ∙ ap first (sym h.1.3.2 ∙ h.1.4.1)) ∙ h.1.4.2);
+  int_and_bool = λ h. no_bool h.1.1.0;
+  bool_added_to_field = λ h. no_bool (sym h.4.0);
+  int_condition = λ h. no_bool h.0.0;
+  int_loop = λ h. no_bool h.0.0;
+  no_struct = λ h. absurd (omega (arith, h.1.1));
   no_field = λ h.
       let at : 0 ≡ h.1.4.0 = ap (λ t. target_in t.base) (ap type_in h.1.3.3.1 ∙ ap first (sym h.1.3.2 ∙ h.1.4.1)) in
-      let fields : int ∷ pointer_to 0 ∷ [] ≡ h.1.4.2.0 = ap fields_in (subst (λ n. slice_get declared.structs n ≡ Some h.1.4.2.0) (sym at) h.1.4.2.1) in
+      let fields : int ∷ pointer_to 0 ∷ [] ≡ h.1.4.2.0 =
+      ap fields_in (subst (λ n. slice_get declared.structs n ≡ Some h.1.4.2.0) (sym at) h.1.4.2.1) in
       true≢false (sym (ap is_some (subst (λ l. slice_get l 2 ≡ Some int) (sym fields) h.1.4.2.2)));
+  int_stored = λ h.
+      let at : 0 ≡ h.2.0 = ap (λ t. target_in t.base) (ap type_in h.1.3.1 ∙ ap first (sym h.1.2 ∙ h.2.2)) in
+      let fields : int ∷ pointer_to 0 ∷ [] ≡ h.2.3.0 =
+      ap fields_in (subst (λ n. slice_get declared.structs n ≡ Some h.2.3.0) (sym at) h.2.3.1) in
+      let field : pointer_to 0 ≡ h.2.1 = ap type_in (subst (λ l. slice_get l 1 ≡ Some h.2.1) (sym fields) h.2.3.2) in
+      let value : int ≡ h.2.1 = h.1.4.3.0 ∙ ap first (sym h.1.4.2 ∙ ap rest (sym h.1.2 ∙ h.2.2)) in
+      true≢false (ap is_int (value ∙ sym field));
+  int_built = λ h.
+      let field : pointer_to 0 ≡ h.1.5.0 =
+      ap type_in (subst (λ l. slice_get l 1 ≡ Some h.1.5.0) (sym (ap fields_in h.1.2)) h.1.5.3) in
+      let value : int ≡ h.1.5.0 = h.1.4.3.0 ∙ ap first (sym h.1.4.2 ∙ h.1.5.2) in
+      true≢false (ap is_int (value ∙ sym field));
   no_argument = λ h. true≢false (ap is_some_type (ap params_in h.1.2 ∙ h.1.3));
   no_function = λ h. true≢false (sym (ap is_some h.1));
   no_value = λ h. true≢false (sym (ap is_some (ap result_in h.1.2 ∙ h.1.4)));
@@ -136,6 +180,7 @@ ill = record {
   no_result = λ h. true≢false (ap is_some h);
   other_result = λ h. no_bool (ap type_in h.1 ∙ sym h.2.0);
   no_loop = λ h. true≢false (sym h);
+  no_loop_to_continue = λ h. true≢false (sym h);
   pointer_printed = λ h. true≢false (ap is_pointer_like (ap type_in h.1.3.1 ∙ ap first (sym h.1.2 ∙ h.2.2)) ∙ h.2.3);
   no_piece = λ h. true≢false (sym (ap is_some_type (sym h.1 ∙ h.2.2)));
 }
@@ -169,8 +214,12 @@ programs = record {
     function_names = (tt, tt);
     has_main = (0, _, refl, record { name = refl; params = refl; result_type = refl });
   };
-  no_main = λ h. true≢false (sym (ap (λ f. bytes_eq f.name (codes "main")) (alone _ h.has_main.0 h.has_main.1 h.has_main.2) ∙ ap (λ n. bytes_eq n (codes "main")) h.has_main.3.name));
-  main_takes = λ h. true≢false (ap (λ f. nat_eq f.params 1) (alone _ h.has_main.0 h.has_main.1 h.has_main.2) ∙ ap (λ n. nat_eq n 1) h.has_main.3.params);
+  no_main =
+      λ h. true≢false (sym (ap (λ f. bytes_eq f.name (codes "main")) (alone _ h.has_main.0 h.has_main.1 h.has_main.2)
+      ∙ ap (λ n. bytes_eq n (codes "main")) h.has_main.3.name));
+  main_takes =
+      λ h. true≢false (ap (λ f. nat_eq f.params 1) (alone _ h.has_main.0 h.has_main.1 h.has_main.2) ∙ ap
+      (λ n. nat_eq n 1) h.has_main.3.params);
   twice = λ h. true≢false h.function_names.0.0;
   no_struct = λ h. absurd (omega (arith, h.functions.0.locals.0));
 }

@@ -7,13 +7,16 @@ use Rattle.rgo_wellformed.specs.TypeRules.{Declared}
 use Rattle.rgo_wellformed.specs.WellFormed.{InScope, HasType, HaveTypes, scope_after}
 use Rattle.rgo_wellformed.proofs.Types.{some_is}
 
-count : (d : Declared) (locals : List «Type») (g : InScope) (terms : List Term) (types : List «Type») → HaveTypes d locals g (terms_of terms) types
+count : (d : Declared) (locals : List «Type») (g : InScope) (terms : List Term) (types : List «Type»)
+    → HaveTypes d locals g (terms_of terms) types
     → length terms ≡ length types
 count d locals g [] types h = sym (ap length h)
 count d locals g (t ∷ terms) types h = ap suc (count d locals g terms h.1 h.4) ∙ sym (ap length h.2)
 
-at_index : (d : Declared) (locals : List «Type») (g : InScope) (terms : List Term) (types : List «Type») → HaveTypes d locals g (terms_of terms) types
-    → (i : ℕ) (t : Term) → slice_get terms i ≡ Some t → (ty : «Type») × (slice_get types i ≡ Some ty) × HasType d locals g t ty
+at_index : (d : Declared) (locals : List «Type») (g : InScope) (terms : List Term) (types : List «Type»)
+    → HaveTypes d locals g (terms_of terms) types
+    → (i : ℕ) (t : Term) → slice_get terms i ≡ Some t
+    → (ty : «Type») × (slice_get types i ≡ Some ty) × HasType d locals g t ty
 at_index d locals g [] types h i t e = absurd (none e)
   where
     none : None ≡ Some t → ⊥

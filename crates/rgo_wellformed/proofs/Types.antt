@@ -18,7 +18,8 @@ one_type d locals g (tree.Logic op l r at) a b h k = h.0 ∙ sym k.0
 one_type d locals g (tree.Build n parts numbers at) a b h k = h.0 ∙ sym k.0
 one_type d locals g (tree.Call n arguments ty at) a b h k = sym h.0 ∙ k.0
 
-holds_there : {A : Type 0} (P : A → Type 0) (l : List A) (k : ℕ) (a : A) → slice_get l k ≡ Some a → AllByRecursion P l → P a
+holds_there : {A : Type 0} (P : A → Type 0) (l : List A) (k : ℕ) (a : A) → slice_get l k ≡ Some a → AllByRecursion P l
+    → P a
 holds_there P [] k a h all = absurd (none h)
   where
     none : None ≡ Some a → ⊥
@@ -33,4 +34,5 @@ types_exist d locals g (tree.Logic op l r at) a ls fs h = subst (IsType d) (sym 
 types_exist d locals g (tree.Build n parts numbers at) a ls fs h =
     subst (IsType d) (sym h.0) (slice_get_within d.structs n h.1 h.2)
 types_exist d locals g (tree.Call n arguments ty at) a ls fs h =
-    subst (IsType d) h.0 (subst (IsResult d) h.4 (holds_there (λ (s : Signature). IsResult d s.result_type) d.functions n h.1 h.2 fs))
+    subst (IsType d) h.0 (subst (IsResult d) h.4
+    (holds_there (λ (s : Signature). IsResult d s.result_type) d.functions n h.1 h.2 fs))

@@ -6,7 +6,7 @@ use Rattle.rgo_typed.specs.declared.actions.Action.TheVariants as action
 use Rattle.rgo_typed.specs.declared.actions.Logical.TheVariants.{And}
 use Rattle.rgo_typed.specs.declared.statements.Piece.TheVariants.{Value}
 use Rattle.rgo_typed.specs.declared.types.Type.{«Type»}
-use Rattle.rgo_typed.specs.Tree.{Term, Terms, Stmt, stmts_of, terms_of, Function, Typed}
+use Rattle.rgo_typed.specs.Tree.{Term, Stmt, stmts_of, terms_of, Function, Typed}
 use Rattle.rgo_typed.specs.Tree as tree
 use Rattle.rgo_wellformed.specs.TypeRules.{int, bool, slice_of, pointer_to, Declared}
 use Rattle.rgo_wellformed.specs.WellFormed.{Environment, InScope, IsStmt, AreStmts, IsWellFormed}
@@ -44,6 +44,23 @@ local n = tree.Local n
 abbrev pub apply : Action → List Term → «Type» → Term
 apply a parts ty = tree.Apply a (terms_of parts) ty 0
 
+-- { x := 7 }
+abbrev pub block : Stmt
+block = tree.Block (stmts_of (tree.Declare 0 int number 0 ∷ []))
+
+-- `+=` on the field v of local variable 3
+abbrev pub add_to_field : Term → Stmt
+add_to_field value = tree.Update (record {
+  operands = terms_of (local 3 ∷ []);
+  read = action.Load 0;
+  ty = int;
+  read_at = 0;
+  op = Add;
+  value = value;
+  write = action.Store 0;
+  at = 0;
+})
+
 -- with these variables in scope
 abbrev pub Is : InScope → Stmt → Type 0
 Is g s = IsStmt environment g s
@@ -69,6 +86,8 @@ pub record WellFormedExamples : Type 0 where
   pub built : Is (3 ∷ []) (tree.Assign 3 (tree.Build 0 (terms_of (local 3 ∷ [])) (1 ∷ []) 0) 0)
   -- p.next = nil
   pub stored : Is (3 ∷ []) (tree.Perform (action.Store 1) (terms_of (local 3 ∷ nil (pointer_to 0) ∷ [])) 0)
+  -- p.v += 7
+  pub updated : Is (3 ∷ []) (add_to_field number)
   -- return f(7)
   pub returned : Is [] (tree.Return (Some (tree.Call 0 (terms_of (number ∷ [])) int 0)) 0)
   -- go g()
@@ -76,24 +95,35 @@ pub record WellFormedExamples : Type 0 where
   -- for { break }
   pub left : Is [] (tree.Loop None (stmts_of (tree.Break 0 ∷ [])) tree.no_stmts 0)
   -- { x := 7 }; { x := 7 }
-  pub again : Are [] (tree.Block (stmts_of (tree.Declare 0 int number 0 ∷ [])) ∷ tree.Block (stmts_of (tree.Declare 0 int number 0 ∷ [])) ∷ [])
+  pub again : Are [] (block ∷ block ∷ [])
   -- fmt.Println(x)
   pub printed : Is (0 ∷ []) (tree.Print (Value ∷ []) (terms_of (local 0 ∷ [])) 0)
 
 pub record IllFormedExamples : Type 0 where
-  -- a local variable that is not in scope, or no longer in scope after its block
+  -- a local variable that is not in scope, read or assigned, or no longer in scope after its block
+  pub unread : IsNot [] (tree.Discard (local 0))
   pub undeclared : IsNot [] (tree.Assign 0 number 0)
-  pub after_its_block : AreNot [] (tree.Block (stmts_of (tree.Declare 0 int number 0 ∷ [])) ∷ tree.Assign 0 number 0 ∷ [])
-  -- declared while in scope
+  pub after_its_block : AreNot [] (block ∷ tree.Assign 0 number 0 ∷ [])
+  -- declared while in scope, or with another type than its own
   pub twice : IsNot (0 ∷ []) (tree.Declare 0 int number 0)
+  pub other_type : IsNot [] (tree.Declare 1 int number 0)
   -- a value of the wrong type; `nil` as an int
   pub bool_to_int : IsNot (0 ∷ []) (tree.Assign 0 truth 0)
   pub nil_to_int : IsNot [] (tree.Declare 0 int (nil int) 0)
   -- operands of the wrong type; a comparison of slices
   pub bool_added : IsNot (1 ∷ []) (tree.Discard (apply (action.Binary Add) (local 1 ∷ number ∷ []) int))
   pub slices_compared : IsNot (2 ∷ []) (tree.Discard (apply (action.Binary Eq) (local 2 ∷ local 2 ∷ []) bool))
-  -- a field that does not exist
+  pub int_and_bool : IsNot [] (tree.Discard (tree.Logic And number truth 0))
+  pub bool_added_to_field : IsNot (3 ∷ []) (add_to_field truth)
+  -- a condition that is no bool
+  pub int_condition : IsNot [] (tree.If number tree.no_stmts 0)
+  pub int_loop : IsNot [] (tree.Loop (Some number) tree.no_stmts tree.no_stmts 0)
+  -- a struct that does not exist
+  pub no_struct : IsNot [] (tree.Discard (nil (pointer_to 1)))
+  -- a field that does not exist; an int in the field next
   pub no_field : IsNot (3 ∷ []) (tree.Discard (apply (action.Load 2) (local 3 ∷ []) int))
+  pub int_stored : IsNot (3 ∷ []) (tree.Perform (action.Store 1) (terms_of (local 3 ∷ number ∷ [])) 0)
+  pub int_built : IsNot [] (tree.Discard (tree.Build 0 (terms_of (number ∷ [])) (1 ∷ []) 0))
   -- too few arguments; a function that does not exist; a call without result as a value, and `go` of one with a result
   pub no_argument : IsNot [] (tree.Discard (tree.Call 0 tree.no_terms int 0))
   pub no_function : IsNot [] (tree.Invoke 2 tree.no_terms 0)
@@ -102,8 +132,9 @@ pub record IllFormedExamples : Type 0 where
   -- a `return` without a value in a function with a result, or with one of the wrong type
   pub no_result : IsNot [] (tree.Return None 0)
   pub other_result : IsNot [] (tree.Return (Some truth) 0)
-  -- a `break` outside a loop
+  -- a `break` or `continue` outside a loop
   pub no_loop : IsNot [] (tree.Break 0)
+  pub no_loop_to_continue : IsNot [] (tree.Continue 0)
   -- a pointer that is printed; a piece without its value
   pub pointer_printed : IsNot (3 ∷ []) (tree.Print (Value ∷ []) (terms_of (local 3 ∷ [])) 0)
   pub no_piece : IsNot [] (tree.Print (Value ∷ []) tree.no_terms 0)
@@ -112,7 +143,8 @@ pub record IllFormedExamples : Type 0 where
 
 -- a function without parameters and result, with these local variables
 abbrev pub function : List ℕ → List «Type» → List Stmt → Function
-function name locals body = record { name = name; params = 0; locals = locals; result_type = None; body = body; end = 0 }
+function name locals body =
+    record { name = name; params = 0; locals = locals; result_type = None; body = body; end = 0 }
 
 abbrev pub of_functions : List Function → Typed
 of_functions functions = record { structs = []; variables = []; functions = functions }
