@@ -13,7 +13,7 @@ use Rattle.rgo_machine.specs.declared.machines.Stand.TheVariants as code
 use Rattle.rgo_machine.specs.declared.picks.End.{End}
 use Rattle.rgo_machine.specs.declared.picks.Pick.TheVariants.{One}
 use Rattle.rgo_machine.specs.Acting.{stand_of, entered, newest_stand, standing}
-use Rattle.rgo_machine.specs.Alone.{Goes, Happens, StepsAlone, ChangesAt, entered_by, onto, with_child}
+use Rattle.rgo_machine.specs.Alone.{Goes, Happens, StepsAlone, ChangesAt, KeepsPrint, entered_by, onto, with_child}
 use Rattle.rgo_machine.specs.Machines.{Machine, State, Stand, AtReceive, AtSend, AtClose, AtCall, AtStart, Elsewhere}
 use Rattle.rgo_machine.specs.Machines.{alone, stepped, picked}
 
@@ -153,3 +153,7 @@ module _ {F : Type 0} (u s : State F) (view : u ≡ s) where
   pub changes_seen : (answer : Result Happened AllocError) (n : Memory) → ChangesAt answer u.memory n
       → ChangesAt answer s.memory n
   changes_seen answer n changes = subst (λ (x : State F). ChangesAt answer x.memory n) view changes
+
+  pub print_seen : (answer : Result Happened AllocError) (new : List ℕ) → KeepsPrint answer u.printed new
+      → KeepsPrint answer s.printed new
+  print_seen answer new keeps = subst (λ (x : State F). KeepsPrint answer x.printed new) view keeps

@@ -43,6 +43,11 @@ abbrev pub sends_at : Option CodeStand → Option (Value × Value)
 sends_at (Some (code.Send channel v place)) = Some (channel, v)
 sends_at _ = None
 
+-- the print, as it was unless something was printed
+abbrev pub KeepsPrint : Result Happened AllocError → (old new : List ℕ) → Type 0
+KeepsPrint (Ok happened.Prints) old new = Unit {0}
+KeepsPrint _ old new = new ≡ old
+
 module _ {F : Type 0} where
   -- the frames after an operation on a channel, which gave this value
   abbrev pub after_operation : Machine F → Value → List F → List F

@@ -5,7 +5,7 @@ ghost use Rattle.std.specs.Vec.{vec_len, vec_capacity};
 ghost use Rattle.rgo_memory.specs.Views.{memory_of};
 ghost use Rattle.rgo_machine.specs.Acting.{newest_stand};
 ghost use Rattle.rgo_machine.specs.Alone.{after_operation, after_effect, after_return, ended_by_return, happened_by};
-ghost use Rattle.rgo_machine.specs.Alone.{EntersNewest, Calls, Begins, Happens, ChangesAt, is_start};
+ghost use Rattle.rgo_machine.specs.Alone.{EntersNewest, Calls, Begins, Happens, ChangesAt, KeepsPrint, is_start};
 ghost use Rattle.rgo_machine.specs.declared.machines.Stand.TheVariants as stand;
 
 use crate::machines::{Did, Machine, Stand};
@@ -133,6 +133,7 @@ fn act<M: Machine>(
     ensures happens { Happens (M.machine machine.now) g result (memory_of memory.old) (memory_of memory.new)
         goroutine.old goroutine.new printed.old.items printed.new.items }
     ensures channels { ChangesAt result (memory_of memory.old) (memory_of memory.new) }
+    ensures print { KeepsPrint result printed.old.items printed.new.items }
 {
     let Some(frame) = goroutine.frames.last_mut() else {
         return Ok(Happened::Waits);
@@ -191,6 +192,7 @@ pub(crate) fn go<M: Machine>(
     ensures happens { Happens (M.machine machine.now) g result (memory_of memory.old) (memory_of memory.new)
         goroutine.old goroutine.new printed.old.items printed.new.items }
     ensures channels { ChangesAt result (memory_of memory.old) (memory_of memory.new) }
+    ensures print { KeepsPrint result printed.old.items printed.new.items }
 {
     match stand {
         Stand::Receive { channel, blank } => match receive(memory, channel, blank) {

@@ -4,7 +4,7 @@ ghost use Rattle.std.specs.Prelude.{◌≡◌, Some, None};
 ghost use Rattle.rgo_machine.specs.Acting as acting;
 ghost use Rattle.rgo_machine.specs.Acting.{Steps};
 ghost use Rattle.rgo_machine.specs.Alone as alone;
-ghost use Rattle.rgo_machine.specs.Alone.{StepsAlone, ChangesAt, MeetsSo, after_pass};
+ghost use Rattle.rgo_machine.specs.Alone.{StepsAlone, ChangesAt, KeepsPrint, MeetsSo, after_pass};
 ghost use Rattle.rgo_machine.specs.Machines.{step_by, picked};
 ghost use Rattle.rgo_machine.specs.declared.machines.Stand.TheVariants as stand;
 ghost use Rattle.rgo_machine.specs.declared.picks.Pick.TheVariants.{One, Meet};
@@ -36,6 +36,7 @@ fn start<M: Machine>(
     requires stands { acting.standing (M.machine machine.now) state.old g ≡ Some stand.Start }
     ensures steps { StepsAlone result state.old state.new (picked (M.machine machine.now) state.old (One g)) }
     ensures channels { ChangesAt result state.old.memory state.new.memory }
+    ensures print { KeepsPrint result state.old.printed state.new.printed }
 {
     state.goroutines.reserve(1)?;
     let Some(goroutine) = state.goroutines.get_mut(g) else {
@@ -62,6 +63,7 @@ pub(crate) fn step_alone<M: Machine>(
     requires stands { acting.standing (M.machine machine.now) state.old g ≡ Some stand }
     ensures steps { StepsAlone result state.old state.new (picked (M.machine machine.now) state.old (One g)) }
     ensures channels { ChangesAt result state.old.memory state.new.memory }
+    ensures print { KeepsPrint result state.old.printed state.new.printed }
 {
     if is_start(stand) {
         return start(alloc, machine, state, g);
