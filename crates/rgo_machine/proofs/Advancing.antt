@@ -115,7 +115,8 @@ module _ {F : Type 0} (machine : Machine F) (limits : Limits) (s : State F) (g :
   -- a turn without a step
   still : (stop : Stop) → IsOver machine limits s g 1 0 stop → ChangesChannels stop s.memory s.memory
       → ChangesPrint stop s.printed s.printed → Turns machine limits s s g 1 (record { steps = 0; stop = stop })
-  still stop over channels print = record { leads = refl; within = omega arith; over = over; channels = channels; print = print }
+  still stop over channels print = record
+      { leads = refl; within = omega arith; over = over; channels = channels; print = print }
 
   same_channels : SameChannels s.memory s.memory
   same_channels k channel e = e
@@ -149,7 +150,8 @@ module _ {F : Type 0} (machine : Machine F) (limits : Limits) (s : State F) (g :
 
   pub stepped_so : (r : Happened) (t : State F) (stand : CodeStand) → standing machine s g ≡ Some stand
       → limit_at limits s g stand ≡ None → StepsAlone (Ok r) s t (picked machine s (One g))
-      → ChangesAt (Ok r) s.memory t.memory → KeepsPrint (Ok r) s.printed t.printed → Turns machine limits s t g 1 (turn_of r)
+      → ChangesAt (Ok r) s.memory t.memory → KeepsPrint (Ok r) s.printed t.printed
+      → Turns machine limits s t g 1 (turn_of r)
   stepped_so happened.Waits t stand is free steps channels print = record {
     leads = ap Some (sym steps.1);
     within = omega arith;
@@ -196,7 +198,8 @@ module _ {F : Type 0} (machine : Machine F) (limits : Limits) (s t u : State F) 
     (second : Turns machine limits t u g 1 done) where
   leads_too : LeadsWithin machine limits s (replicate (k + done.steps) (One g)) u
   leads_too =
-      let whole = leads_joined machine limits s t u (replicate k (One g)) (replicate done.steps (One g)) first.leads second.leads in
+      let whole = leads_joined machine limits s t u (replicate k (One g)) (replicate done.steps (One g)) first.leads
+      second.leads in
       subst (λ picks. LeadsWithin machine limits s picks u) (replicate-append-replicate k done.steps (One g)) whole
 
   over_too : (at_most steps : ℕ) (why : Stop) → (why ≡ stop.Spent → ⊥) → IsOver machine limits u g 1 steps why

@@ -34,7 +34,8 @@ module _ {F : Type 0} (machine : Machine F) (s : State F) (g : ℕ) where
       ap (option_and_then (newest_stand machine)) (slice_get_past s.goroutines g past) in cc
 
   -- who stands nowhere has no step alone
-  nowhere : (o : Option (List F)) → option_and_then (newest_stand machine) o ≡ None → option_and_then (alone machine s g) o ≡ None
+  nowhere : (o : Option (List F)) → option_and_then (newest_stand machine) o ≡ None
+      → option_and_then (alone machine s g) o ≡ None
   nowhere None e = refl
   nowhere (Some []) e = refl
   nowhere (Some (f ∷ callers)) e = cc
@@ -69,7 +70,8 @@ module _ {F : Type 0} (machine : Machine F) (s : State F) (g : ℕ) where
     running_so goes = (goes_so None goes ∙ ap (λ ended. Some (left ended)) (sym run), run)
 
     -- the run ended
-    pub ends : (r : Happened) (e : End) → r ≡ happened.Ends e → Happens machine g (Ok r) s.memory n before after s.printed new
+    pub ends : (r : Happened) (e : End) → r ≡ happened.Ends e
+        → Happens machine g (Ok r) s.memory n before after s.printed new
         → StepsAlone (Ok r) s (left (Some e)) (picked machine s (One g))
     ends r e is happens =
         let P = λ (r : Happened). StepsAlone (Ok r) s (left (Some e)) (picked machine s (One g)) in
@@ -132,7 +134,8 @@ module _ {F : Type 0} (machine : Machine F) (s : State F) (g : ℕ) where
   not_entered callers Elsewhere is e = cc
 
   -- who stands before a start enters
-  pub always_enters : (before : List F) → newest_stand machine before ≡ Some code.Start → entered_by machine before ≡ None → ⊥
+  pub always_enters : (before : List F) → newest_stand machine before ≡ Some code.Start
+      → entered_by machine before ≡ None → ⊥
   always_enters [] is e = cc
   always_enters (f ∷ callers) is e = not_entered callers (machine.stand f) (some_stand _ _ is) e
 

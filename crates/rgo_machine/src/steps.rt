@@ -51,7 +51,7 @@ fn start<M: Machine>(
     }
 }
 
-/// A goroutine steps alone, whose newest frame stands there.
+/// One step of a goroutine alone, whose newest frame is there.
 pub(crate) fn step_alone<M: Machine>(
     alloc: Global,
     machine: &M,
@@ -86,7 +86,7 @@ pub(crate) fn step_alone<M: Machine>(
     Ok(happened)
 }
 
-/// The channel from which a goroutine receives next, where it stands there.
+/// The channel of a goroutine that is before a receive.
 fn receives_at(stand: Option<Stand>) -> Option<Value>
     ensures { result ≡ alone.receives_at stand }
 {
@@ -96,7 +96,7 @@ fn receives_at(stand: Option<Stand>) -> Option<Value>
     }
 }
 
-/// The channel to which a goroutine sends next, where it stands there, and the value.
+/// The channel and the value of a goroutine that is before a send.
 fn sends_at(stand: Option<Stand>) -> Option<(Value, Value)>
     ensures { result ≡ alone.sends_at stand }
 {
@@ -126,7 +126,7 @@ fn pass_at<M: Machine>(
     }
 }
 
-/// A receiver and a sender continue together.
+/// A receiver and a sender continue together, if they meet. Returns whether they do.
 fn meet<M: Machine>(
     machine: &M,
     state: &mut State<M::Frame>,
@@ -153,7 +153,7 @@ fn meet<M: Machine>(
     true
 }
 
-/// A goroutine steps alone, if it can.
+/// One step of a goroutine alone, if it has one.
 fn step_one<M: Machine>(
     alloc: Global,
     machine: &M,
