@@ -16,13 +16,13 @@ use Rattle.rgo_machine.specs.declared.turns.Stop.{Stop}
 use Rattle.rgo_machine.specs.declared.turns.Stop.TheVariants as stop
 use Rattle.rgo_machine.specs.declared.turns.Turned.{Turned}
 use Rattle.rgo_machine.specs.Acting.{stand_of, newest_stand, standing}
-use Rattle.rgo_machine.specs.Alone.{StepsAlone, ChangesAt}
+use Rattle.rgo_machine.specs.Alone.{StepsAlone, ChangesAt, KeepsPrint}
 use Rattle.rgo_machine.specs.Limits.{deepest, most_goroutines, is_within, LeadsWithin}
 use Rattle.rgo_machine.specs.Limits.{IsTooDeep, IsFull, IsAtCall, IsAtStart}
 use Rattle.rgo_machine.specs.Machines.{Stand, AtReceive, AtSend, AtClose, AtCall, AtStart, Elsewhere}
 use Rattle.rgo_machine.specs.Machines.{Machine, State, picked, unless_ended, step_by}
 use Rattle.rgo_machine.specs.Turning.{turn_of, depth_in, depth_of, limit_at}
-use Rattle.rgo_machine.specs.Turns.{IsOver, ChangesChannels, Turns}
+use Rattle.rgo_machine.specs.Turns.{IsOver, ChangesChannels, ChangesPrint, Turns}
 use Rattle.rgo_machine.proofs.Limited.{stays_within, room_at, few_at}
 use Rattle.rgo_machine.proofs.Runs.{limited, leads_one, leads_joined, ends_within}
 
@@ -40,6 +40,18 @@ changed_too (stop.Ended end) m n k first second = same_too m n k first second
 changed_too stop.TooDeep m n k first second = same_too m n k first second
 changed_too stop.Full m n k first second = same_too m n k first second
 changed_too stop.NoMemory m n k first second = same_too m n k first second
+
+-- ---- prints
+
+kept_too : (why : Stop) (a b c : List ℕ) → b ≡ a → ChangesPrint why b c → ChangesPrint why a c
+kept_too stop.Spent a b c first second = second ∙ first
+kept_too stop.Waits a b c first second = second ∙ first
+kept_too stop.Printed a b c first second = second
+kept_too (stop.Operated channel) a b c first second = second ∙ first
+kept_too (stop.Ended end) a b c first second = second ∙ first
+kept_too stop.TooDeep a b c first second = second ∙ first
+kept_too stop.Full a b c first second = second ∙ first
+kept_too stop.NoMemory a b c first second = second ∙ first
 
 -- ---- a limit is met
 
@@ -102,8 +114,9 @@ module _ {F : Type 0} (machine : Machine F) (limits : Limits) (s : State F) (g :
 
   -- a turn without a step
   still : (stop : Stop) → IsOver machine limits s g 1 0 stop → ChangesChannels stop s.memory s.memory
-      → Turns machine limits s s g 1 (record { steps = 0; stop = stop })
-  still stop over channels = record { leads = refl; within = omega arith; over = over; channels = channels }
+      → ChangesPrint stop s.printed s.printed → Turns machine limits s s g 1 (record { steps = 0; stop = stop })
+  still stop over channels print = record
+      { leads = refl; within = omega arith; over = over; channels = channels; print = print }
 
   same_channels : SameChannels s.memory s.memory
   same_channels k channel e = e
@@ -114,11 +127,11 @@ module _ {F : Type 0} (machine : Machine F) (limits : Limits) (s : State F) (g :
   at_limit code.Call x is met =
       let both = is_met (nat_le deepest (depth_of s g)) stop.TooDeep x met in
       subst (λ (y : Stop). Turns machine limits s s g 1 (record { steps = 0; stop = y })) (sym both.1)
-      (still stop.TooDeep (run, too_deep (slice_get s.goroutines g) refl is both.0) same_channels)
+      (still stop.TooDeep (run, too_deep (slice_get s.goroutines g) refl is both.0) same_channels refl)
   at_limit code.Start x is met =
       let both = is_met (nat_le (most_goroutines limits) (length s.goroutines)) stop.Full x met in
       subst (λ (y : Stop). Turns machine limits s s g 1 (record { steps = 0; stop = y })) (sym both.1)
-      (still stop.Full (run, full (slice_get s.goroutines g) refl is both.0) same_channels)
+      (still stop.Full (run, full (slice_get s.goroutines g) refl is both.0) same_channels refl)
   at_limit (code.Receive c blank) x is met = cc
   at_limit (code.Send c v place) x is met = cc
   at_limit (code.Close c place) x is met = cc
@@ -137,8 +150,9 @@ module _ {F : Type 0} (machine : Machine F) (limits : Limits) (s : State F) (g :
 
   pub stepped_so : (r : Happened) (t : State F) (stand : CodeStand) → standing machine s g ≡ Some stand
       → limit_at limits s g stand ≡ None → StepsAlone (Ok r) s t (picked machine s (One g))
-      → ChangesAt (Ok r) s.memory t.memory → Turns machine limits s t g 1 (turn_of r)
-  stepped_so happened.Waits t stand is free steps channels = record {
+      → ChangesAt (Ok r) s.memory t.memory → KeepsPrint (Ok r) s.printed t.printed
+      → Turns machine limits s t g 1 (turn_of r)
+  stepped_so happened.Waits t stand is free steps channels print = record {
     leads = ap Some (sym steps.1);
     within = omega arith;
     over = (
@@ -146,30 +160,35 @@ module _ {F : Type 0} (machine : Machine F) (limits : Limits) (s : State F) (g :
       ap (λ (x : State F). step_by machine x (One g)) steps.1 ∙ as_step ∙ steps.0,
     );
     channels = channels;
+    print = print;
   }
-  stepped_so happened.Moves t stand is free steps channels = record {
+  stepped_so happened.Moves t stand is free steps channels print = record {
     leads = one_step t stand is free steps.0;
     within = omega arith;
     over = (steps.1, refl);
     channels = channels;
+    print = print;
   }
-  stepped_so happened.Prints t stand is free steps channels = record {
+  stepped_so happened.Prints t stand is free steps channels print = record {
     leads = one_step t stand is free steps.0;
     within = omega arith;
     over = (steps.1, omega arith);
     channels = channels;
+    print = print;
   }
-  stepped_so (happened.Operates c) t stand is free steps channels = record {
+  stepped_so (happened.Operates c) t stand is free steps channels print = record {
     leads = one_step t stand is free steps.0;
     within = omega arith;
     over = (steps.1, omega arith);
     channels = channels;
+    print = print;
   }
-  stepped_so (happened.Ends e) t stand is free steps channels = record {
+  stepped_so (happened.Ends e) t stand is free steps channels print = record {
     leads = one_step t stand is free steps.0;
     within = omega arith;
     over = (steps.1, omega arith);
     channels = channels;
+    print = print;
   }
 
 -- ---- one turn after another
@@ -179,7 +198,8 @@ module _ {F : Type 0} (machine : Machine F) (limits : Limits) (s t u : State F) 
     (second : Turns machine limits t u g 1 done) where
   leads_too : LeadsWithin machine limits s (replicate (k + done.steps) (One g)) u
   leads_too =
-      let whole = leads_joined machine limits s t u (replicate k (One g)) (replicate done.steps (One g)) first.leads second.leads in
+      let whole = leads_joined machine limits s t u (replicate k (One g)) (replicate done.steps (One g)) first.leads
+      second.leads in
       subst (λ picks. LeadsWithin machine limits s picks u) (replicate-append-replicate k done.steps (One g)) whole
 
   over_too : (at_most steps : ℕ) (why : Stop) → (why ≡ stop.Spent → ⊥) → IsOver machine limits u g 1 steps why
@@ -201,6 +221,7 @@ module _ {F : Type 0} (machine : Machine F) (limits : Limits) (s t u : State F) 
     within = omega (arith, below, second.within);
     over = over_too at_most done.steps done.stop other second.over;
     channels = changed_too done.stop s.memory t.memory u.memory first.channels second.channels;
+    print = kept_too done.stop s.printed t.printed u.printed first.print second.print;
   }
 
   -- it continues
@@ -224,6 +245,8 @@ module _ {F : Type 0} (machine : Machine F) (limits : Limits) (s t u : State F) 
         over = (one.0, refl);
         channels = changed_too stop.Spent s.memory t.memory u.memory first.channels
             (subst (λ (x : Stop). ChangesChannels x t.memory u.memory) is second.channels);
+        print = kept_too stop.Spent s.printed t.printed u.printed first.print
+            (subst (λ (x : Stop). ChangesPrint x t.printed u.printed) is second.print);
       }
 
 -- no step yet
@@ -234,6 +257,7 @@ not_begun machine limits s g run = record {
   within = omega arith;
   over = (run, refl);
   channels = λ k channel e. e;
+  print = refl;
 }
 
 -- what the next step needs

@@ -1,6 +1,7 @@
 -- The frames of a goroutine after operations, calls and returns.
 use Rattle.std.proofs.Common.{◌≡◌, ◌≤◌, ◌+◌, ℕ, List, [], ◌∷◌, length, drop, reverse}
-use Rattle.std.proofs.Common.{Option, Some, None, Result, Ok, Err, get_or, slice_set, option_map, refl, ap, sym, ◌∙◌, arith}
+use Rattle.std.proofs.Common.{Option, Some, None, Result, Ok, Err, get_or, slice_set, option_map, refl, ap, sym, ◌∙◌}
+use Rattle.std.proofs.Common.{arith}
 use Rattle.std.specs.declared.alloc.AllocError.{AllocError}
 use Rattle.std.proofs.lemmas.List.{length-reverse}
 use Rattle.rgo_memory.specs.declared.values.Value.{Value}
@@ -62,7 +63,8 @@ module _ {F : Type 0} (machine : Machine F) where
   short (f ∷ h ∷ r) e = absurd (omega (arith, e))
 
   -- without a caller
-  pub leaves_last : (l : List F) (v : Option Value) → length l ≤ 1 → drop 1 (reverse l) ≡ after_return machine v (reverse l)
+  pub leaves_last : (l : List F) (v : Option Value) → length l ≤ 1
+      → drop 1 (reverse l) ≡ after_return machine v (reverse l)
   leaves_last l v e =
       let few : length (reverse l) ≤ 1 = omega (arith, e, length-reverse l) in
       short (reverse l) few ∙ sym (last_return v (reverse l) few)

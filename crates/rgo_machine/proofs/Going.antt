@@ -21,7 +21,8 @@ use Rattle.rgo_machine.specs.declared.machines.Stand.{Stand as CodeStand}
 use Rattle.rgo_machine.specs.declared.machines.Stand.TheVariants as code
 use Rattle.rgo_machine.specs.declared.picks.End.TheVariants as the_end
 use Rattle.rgo_machine.specs.Acting.{stand_of, passed, entered, newest_stand, Acts}
-use Rattle.rgo_machine.specs.Alone.{happened_by, ChangesAt, after_effect, after_return, ended_by_return, after_call, onto, with_callee}
+use Rattle.rgo_machine.specs.Alone.{happened_by, ChangesAt, after_effect, after_return, ended_by_return, after_call}
+use Rattle.rgo_machine.specs.Alone.{onto, with_callee}
 use Rattle.rgo_machine.specs.Alone.{running, Goes, Happens, Calls}
 use Rattle.rgo_machine.specs.Machines.{Machine, State, Stand, AtReceive, AtSend, AtClose, AtCall, AtStart, Elsewhere}
 use Rattle.rgo_machine.specs.Machines.{Act, alone, stepped, operated, acted, returned, end_of_return}
@@ -60,24 +61,29 @@ changes (effect.Traps trap) c place m n outcome leaves only =
 -- the same where the channel may not be ready
 pub changes_ready : (e : CodeEffect) (c : Value) (place : ℕ) (m n : Memory) (outcome : Option Effect)
     → LeavesIfReady (Some e) m n outcome → ChangesOnly c m n → ChangesAt (Ok (happened_by e c place)) m n
-changes_ready (effect.Gives v) c place m n outcome leaves only = changes (effect.Gives v) c place m n (Does n v) refl only
+changes_ready (effect.Gives v) c place m n outcome leaves only = changes (effect.Gives v) c place m n (Does n v) refl
+    only
 changes_ready (effect.Traps trap) c place m n outcome leaves only =
     changes (effect.Traps trap) c place m n (Traps trap) (refl, leaves.1) only
 
 pub changes_of : (e : CodeEffect) (c : Value) (place : ℕ) (m n : Memory) (outcome : Option Effect) (result : Happened)
-    → LeavesIfReady (Some e) m n outcome → ChangesOnly c m n → result ≡ happened_by e c place → ChangesAt (Ok result) m n
+    → LeavesIfReady (Some e) m n outcome → ChangesOnly c m n → result ≡ happened_by e c place
+    → ChangesAt (Ok result) m n
 changes_of e c place m n outcome result leaves only is =
     subst (λ (r : Happened). ChangesAt (Ok r) m n) (sym is) (changes_ready e c place m n outcome leaves only)
 
 -- what is always ready
-pub ready : (e : CodeEffect) (m n : Memory) (outcome : Effect) → Leaves e m n outcome → LeavesIfReady (Some e) m n (Some outcome)
+pub ready : (e : CodeEffect) (m n : Memory) (outcome : Effect) → Leaves e m n outcome
+    → LeavesIfReady (Some e) m n (Some outcome)
 ready (effect.Gives v) m n outcome leaves = ap Some leaves
 ready (effect.Traps trap) m n outcome leaves = (ap Some leaves.0, leaves.1)
 
 module _ {F : Type 0} (machine : Machine F) where
-  stepped_at : (s : State F) (g : ℕ) (f : F) (callers : List F) (stand : Stand F) → is_at_channel (stand_of stand) ≡ true
+  stepped_at : (s : State F) (g : ℕ) (f : F) (callers : List F) (stand : Stand F)
+      → is_at_channel (stand_of stand) ≡ true
       → stepped machine s g f callers stand
-      ≡ option_map (operated s g callers (λ v. passed f v stand) (place_of (stand_of stand))) (operation s.memory (stand_of stand))
+      ≡ option_map (operated s g callers (λ v. passed f v stand) (place_of (stand_of stand)))
+      (operation s.memory (stand_of stand))
   stepped_at s g f callers (AtReceive channel blank go_on) there = refl
   stepped_at s g f callers (AtSend channel v place next) there = refl
   stepped_at s g f callers (AtClose channel place next) there = refl
@@ -92,11 +98,13 @@ module _ {F : Type 0} (machine : Machine F) where
   at_channel : (s : State F) (g : ℕ) (f : F) (callers : List F) (stand : CodeStand)
       → newest_stand machine (f ∷ callers) ≡ Some stand → is_at_channel stand ≡ true
       → alone machine s g (f ∷ callers)
-      ≡ option_map (operated s g callers (λ v. passed f v (machine.stand f)) (place_of stand)) (operation s.memory stand)
+      ≡ option_map (operated s g callers (λ v. passed f v (machine.stand f)) (place_of stand))
+      (operation s.memory stand)
   at_channel s g f callers stand is there =
       let same : stand_of (machine.stand f) ≡ stand = some_stand _ _ is in
       stepped_at s g f callers (machine.stand f) (ap is_at_channel same ∙ there)
-      ∙ ap (λ x. option_map (operated s g callers (λ v. passed f v (machine.stand f)) (place_of x)) (operation s.memory x)) same
+      ∙ ap (λ x. option_map (operated s g callers (λ v. passed f v (machine.stand f)) (place_of x))
+      (operation s.memory x)) same
 
   module _ (g : ℕ) (m n : Memory) (old : List ℕ) (stand : CodeStand) (there : is_at_channel stand ≡ true) where
     -- it waits
@@ -105,7 +113,8 @@ module _ {F : Type 0} (machine : Machine F) where
     waits_at [] is none = cc
     waits_at (f ∷ callers) is none = (
       λ goroutines. at_channel (running m goroutines old) g f callers stand is there
-          ∙ ap (option_map (operated (running m goroutines old) g callers (λ v. passed f v (machine.stand f)) (place_of stand))) none.0,
+          ∙ ap (option_map (operated (running m goroutines old) g callers (λ v. passed f v (machine.stand f))
+          (place_of stand))) none.0,
       none.1,
       refl,
       refl,
@@ -117,7 +126,8 @@ module _ {F : Type 0} (machine : Machine F) where
     gives f callers v is leaves =
         λ goroutines found.
         at_channel (running m goroutines old) g f callers stand is there
-        ∙ ap (option_map (operated (running m goroutines old) g callers (λ v. passed f v (machine.stand f)) (place_of stand))) leaves
+        ∙ ap (option_map (operated (running m goroutines old) g callers (λ v. passed f v (machine.stand f))
+        (place_of stand))) leaves
 
     -- it operates, or traps
     pub operates_at : (frames : List F) (e : CodeEffect) (c : Value) → newest_stand machine frames ≡ Some stand
@@ -131,7 +141,8 @@ module _ {F : Type 0} (machine : Machine F) where
     operates_at (f ∷ callers) (effect.Traps trap) c is leaves =
         λ goroutines found.
         at_channel (running m goroutines old) g f callers stand is there
-        ∙ ap (option_map (operated (running m goroutines old) g callers (λ v. passed f v (machine.stand f)) (place_of stand))) leaves.0
+        ∙ ap (option_map (operated (running m goroutines old) g callers (λ v. passed f v (machine.stand f))
+        (place_of stand))) leaves.0
         ∙ (λ i. Some (record {
           memory = sym leaves.1 i;
           goroutines = sym (set_same goroutines g (f ∷ callers) found) i;
@@ -151,11 +162,13 @@ module _ {F : Type 0} (machine : Machine F) where
   calls_at s g f callers after (AtStart next child) is e = cc
   calls_at s g f callers after Elsewhere is e = cc
 
-  pub called : (g : ℕ) (m : Memory) (before after : List F) (old : List ℕ) → newest_stand machine before ≡ Some code.Call
+  pub called : (g : ℕ) (m : Memory) (before after : List F) (old : List ℕ)
+      → newest_stand machine before ≡ Some code.Call
       → Calls machine (Ok true) before after → Happens machine g (Ok happened.Moves) m m before after old old
   called g m [] after old is calls = cc
   called g m (f ∷ callers) after old is calls =
-      λ goroutines found. calls_at (running m goroutines old) g f callers after (machine.stand f) (some_stand _ _ is) calls
+      λ goroutines found. calls_at (running m goroutines old) g f callers after (machine.stand f) (some_stand _ _ is)
+      calls
 
   enters_there : (stand : Stand F) (callers : List F) → stand_of stand ≡ code.Call
       → option_map with_callee (option_map (onto callers) (entered stand)) ≡ None → ⊥
@@ -167,7 +180,8 @@ module _ {F : Type 0} (machine : Machine F) where
   enters_there Elsewhere callers is e = cc
 
   -- who stands before a call enters
-  pub never_waits : (before : List F) → newest_stand machine before ≡ Some code.Call → after_call machine before ≡ None → ⊥
+  pub never_waits : (before : List F) → newest_stand machine before ≡ Some code.Call
+      → after_call machine before ≡ None → ⊥
   never_waits [] is e = cc
   never_waits (f ∷ callers) is e = enters_there (machine.stand f) callers (some_stand _ _ is) e
 
@@ -220,7 +234,8 @@ module _ {F : Type 0} (machine : Machine F) where
         acts (machines.Traps trap at) did.0 goroutines
         ∙ (λ i. Some (record {
           memory = sym did.1 i;
-          goroutines = (sym (set_same goroutines g (f ∷ callers) found) ∙ ap (λ x. slice_set goroutines g (x ∷ callers)) (sym did.2)) i;
+          goroutines = (sym (set_same goroutines g (f ∷ callers) found)
+              ∙ ap (λ x. slice_set goroutines g (x ∷ callers)) (sym did.2)) i;
           printed = sym did.3 i;
           ended = Some (the_end.Trap trap at);
         }))
@@ -277,7 +292,8 @@ module _ {F : Type 0} (machine : Machine F) where
     act_prints did = placed (Ok happened.Prints) (prints g m m' f h callers old new stands_so did)
 
     pub act_traps : (trap : Trap) (at : ℕ) → Acts (Ok (did.Traps trap at)) m m' f h old new (machine.act m f)
-        → Happens machine g (Ok (happened.Ends (the_end.Trap trap at))) m m' goroutine (reverse (slice_set l n h)) old new
+        → Happens machine g (Ok (happened.Ends (the_end.Trap trap at))) m m' goroutine (reverse (slice_set l n h)) old
+        new
     act_traps trap at did =
         placed (Ok (happened.Ends (the_end.Trap trap at))) (traps g m m' f h callers old new stands_so trap at did)
 
@@ -294,7 +310,8 @@ module _ {F : Type 0} (machine : Machine F) where
     act_returns v after did is_after =
         let same : after ≡ after_return machine v goroutine = is_after ∙ ap (after_return machine v) (kept_so did.2) in
         subst (λ (a : List F). Happens machine g (Ok (ended_by_return g a)) m m' goroutine a old new) (sym same)
-        (subst (λ (b : List F). Happens machine g (Ok (ended_by_return g (after_return machine v b))) m m' b (after_return machine v b) old new)
+        (subst (λ (b : List F). Happens machine g (Ok (ended_by_return g (after_return machine v b))) m m' b
+        (after_return machine v b) old new)
         before_is (returns g m m' f h callers old new stands_so v did))
 
   -- an operation on a channel that has had an effect
@@ -304,5 +321,6 @@ module _ {F : Type 0} (machine : Machine F) where
       → after ≡ after_effect machine e before → Happens machine g (Ok result) m n before after old old
   operates g m n before after old stand e c result there is leaves result_is after_is =
       subst (λ (a : List F). Happens machine g (Ok result) m n before a old old) (sym after_is)
-      (subst (λ (r : Happened). Happens machine g (Ok r) m n before (after_effect machine e before) old old) (sym result_is)
+      (subst (λ (r : Happened). Happens machine g (Ok r) m n before (after_effect machine e before) old old)
+      (sym result_is)
       (operates_at g m n old stand there before e c is leaves))

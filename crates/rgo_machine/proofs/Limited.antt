@@ -1,6 +1,7 @@
 -- Steps that stay within the limits, and where a limit is met.
 use Rattle.std.proofs.Common.{◌≡◌, ℕ, zero, suc, Bool, true, false, List, [], ◌∷◌, ◌++◌, length, Option, Some, None}
-use Rattle.std.proofs.Common.{slice_get, slice_set, option_map, refl, ap, sym, ◌∙◌, subst, arith, length-set, length-append}
+use Rattle.std.proofs.Common.{slice_get, slice_set, option_map, refl, ap, sym, ◌∙◌, subst, arith, length-set}
+use Rattle.std.proofs.Common.{length-append}
 use Rattle.std.specs.Prelude.{option_and_then, nat_le, ◌&&◌, if◌then◌else◌}
 use Rattle.std.specs.List.{list_all}
 use Rattle.std.proofs.lemmas.Bool.{and_parts, and_from}
@@ -58,7 +59,8 @@ one_more n most e = grind (arith, nat_tests)
 some_stand : (a b : CodeStand) → Some a ≡ Some b → a ≡ b
 some_stand a b e = cc
 
-module _ {F : Type 0} (machine : Machine F) (limits : Limits) (s : State F) (g : ℕ) (within : is_within limits s ≡ true) where
+module _ {F : Type 0} (machine : Machine F) (limits : Limits) (s : State F) (g : ℕ) (within : is_within limits s
+    ≡ true) where
   parts : (nat_le (length s.goroutines) (most_goroutines limits) ≡ true) × (list_all has_room s.goroutines ≡ true)
   parts = and_parts (nat_le (length s.goroutines) (most_goroutines limits)) (list_all has_room s.goroutines) within
 

@@ -60,10 +60,12 @@ module _ {F : Type 0} (machine : Machine F) (s : State F) (r t : ℕ) where
   unless_over (Some end) o e = refl
 
   -- where the channels are no meeting place of a receiver and a sender
-  pub not_picked : ((c d v : _) → receives_at (standing machine s r) ≡ Some c → sends_at (standing machine s t) ≡ Some (d, v)
+  pub not_picked : ((c d v : _) → receives_at (standing machine s r) ≡ Some c
+      → sends_at (standing machine s t) ≡ Some (d, v)
       → meets_at s.memory c d ≡ false) → picked machine s (Meet r t) ≡ None
   not_picked never =
-      unless_same (r == t) (meet machine s r t) (apart_among (slice_get s.goroutines r) (slice_get s.goroutines t) never)
+      unless_same (r == t) (meet machine s r t)
+      (apart_among (slice_get s.goroutines r) (slice_get s.goroutines t) never)
 
   pub unmet : ((c d v : _) → receives_at (standing machine s r) ≡ Some c → sends_at (standing machine s t) ≡ Some (d, v)
       → meets_at s.memory c d ≡ false) → step_by machine s (Meet r t) ≡ None
@@ -79,7 +81,8 @@ module _ {F : Type 0} (machine : Machine F) (s : State F) (r t : ℕ) where
   pub no_sender : sends_at (standing machine s t) ≡ None → picked machine s (Meet r t) ≡ None
   no_sender none = not_picked (λ c d v p q. cc)
 
-  pub no_place : (c d v : _) → receives_at (standing machine s r) ≡ Some c → sends_at (standing machine s t) ≡ Some (d, v)
+  pub no_place : (c d v : _) → receives_at (standing machine s r) ≡ Some c
+      → sends_at (standing machine s t) ≡ Some (d, v)
       → meets_at s.memory c d ≡ false → picked machine s (Meet r t) ≡ None
   no_place c d v p q never = not_picked (λ a b w h k.
       let left : c ≡ a = same_Some c a (sym p ∙ h) in
@@ -175,8 +178,10 @@ module _ {F : Type 0} (machine : Machine F) (s u : State F) (view : u ≡ s) (r 
     (differ : r ≡ t → ⊥) (meets : meets_at u.memory c d ≡ true) (gets : receives_at (standing machine s r) ≡ Some c)
     (gives : sends_at (standing machine s t) ≡ Some (d, v)) where
   pub met_so : (first second : List (List F)) → first ≡ after_pass machine v u.goroutines r
-      → second ≡ after_pass machine value.Nil first t → picked machine s (Meet r t) ≡ Some (record u { goroutines = second })
+      → second ≡ after_pass machine value.Nil first t
+      → picked machine s (Meet r t) ≡ Some (record u { goroutines = second })
   met_so first second one two =
       both_go_on machine s r t c d v differ (ap (λ x. meets_at x.memory c d) (sym view) ∙ meets) gets gives
-      ∙ ap (λ (x : State F). Some (record x { goroutines = after_pass machine value.Nil (after_pass machine v x.goroutines r) t })) (sym view)
+      ∙ ap (λ (x : State F). Some
+      (record x { goroutines = after_pass machine value.Nil (after_pass machine v x.goroutines r) t })) (sym view)
       ∙ ap (λ l. Some (record u { goroutines = l })) (sym (two ∙ ap (λ l. after_pass machine value.Nil l t) one))

@@ -31,7 +31,8 @@ module _ {A : Type 0} where
       (sym (is ∙ ap (λ l. get_or l n x) (last_of z r)
       ∙ get_or_at (reverse r) z [] x n (omega (arith, e, length-reverse r))))
 
-  set_below : (r : List A) (y : A) (n : ℕ) → n + 2 ≡ length r → drop 1 (reverse (slice_set (reverse r) n y)) ≡ y ∷ drop 2 r
+  set_below : (r : List A) (y : A) (n : ℕ) → n + 2 ≡ length r
+      → drop 1 (reverse (slice_set (reverse r) n y)) ≡ y ∷ drop 2 r
   set_below [] y n e = absurd (omega (arith, e))
   set_below (x ∷ []) y n e = absurd (omega (arith, e))
   set_below (x ∷ z ∷ r) y n e =
@@ -54,7 +55,8 @@ module _ {A : Type 0} where
   -- what the last item is
   pub newest : (l : List A) (x : A) (n : ℕ) → n + 1 ≡ length l → x ≡ get_or l n x → reverse l ≡ x ∷ drop 1 (reverse l)
   newest l x n e is =
-      get_last (reverse l) x n (omega (arith, e, length-reverse l)) (is ∙ ap (λ k. get_or k n x) (sym (reverse-reverse l)))
+      get_last (reverse l) x n (omega (arith, e, length-reverse l)) (is
+      ∙ ap (λ k. get_or k n x) (sym (reverse-reverse l)))
 
   -- another last item
   pub renewed : (l : List A) (x : A) (n : ℕ) → n + 1 ≡ length l → reverse (slice_set l n x) ≡ x ∷ drop 1 (reverse l)
@@ -66,7 +68,8 @@ module _ {A : Type 0} where
   pub below : (l : List A) (z : A) (n : ℕ) → n + 2 ≡ length l → z ≡ get_or l n z
       → drop 1 (reverse l) ≡ z ∷ drop 2 (reverse l)
   below l z n e is =
-      get_below (reverse l) z n (omega (arith, e, length-reverse l)) (is ∙ ap (λ k. get_or k n z) (sym (reverse-reverse l)))
+      get_below (reverse l) z n (omega (arith, e, length-reverse l)) (is
+      ∙ ap (λ k. get_or k n z) (sym (reverse-reverse l)))
 
   -- another last but one
   pub renewed_below : (l : List A) (y : A) (n : ℕ) → n + 2 ≡ length l

@@ -1,5 +1,6 @@
 -- What a step leaves of the goroutines that do not take part in it, and of those that have returned.
-use Rattle.std.proofs.Common.{◌≡◌, ◌⊎◌, inl, inr, ℕ, zero, suc, Bool, true, false, List, [], ◌∷◌, ◌++◌, Option, Some, None}
+use Rattle.std.proofs.Common.{◌≡◌, ◌⊎◌, inl, inr, ℕ, zero, suc, Bool, true, false, List, [], ◌∷◌, ◌++◌, Option, Some}
+use Rattle.std.proofs.Common.{None}
 use Rattle.std.proofs.Common.{slice_get, slice_set, option_map, refl, ap, sym, ◌∙◌, subst}
 use Rattle.std.specs.Prelude.{option_and_then, if◌then◌else◌, ◌==◌}
 use Rattle.std.proofs.lemmas.Bool.{cases_eq}
@@ -12,12 +13,14 @@ use Rattle.rgo_machine.specs.declared.picks.Pick.{Pick}
 use Rattle.rgo_machine.specs.declared.picks.Pick.TheVariants.{One, Meet}
 use Rattle.rgo_machine.specs.Machines.{Act, Moves, Returns, Prints, Traps}
 use Rattle.rgo_machine.specs.Machines.{Stand, AtReceive, AtSend, AtClose, AtCall, AtStart, Elsewhere}
-use Rattle.rgo_machine.specs.Machines.{Machine, State, acted, operated, returned, stepped, alone, met, met_by, meet, picked, unless_ended, step_by}
+use Rattle.rgo_machine.specs.Machines.{Machine, State, acted, operated, returned, stepped, alone, met, met_by, meet}
+use Rattle.rgo_machine.specs.Machines.{picked, unless_ended, step_by}
 use Rattle.rgo_machine.proofs.Waiting.{no_step}
 
 -- ---- lists of goroutines
 
-pub other_item : {X : Type 0} (l : List X) (k n : ℕ) (x : X) → (n ≡ k → ⊥) → slice_get (slice_set l k x) n ≡ slice_get l n
+pub other_item : {X : Type 0} (l : List X) (k n : ℕ) (x : X) → (n ≡ k → ⊥)
+    → slice_get (slice_set l k x) n ≡ slice_get l n
 other_item [] k n x differ = refl
 other_item (y ∷ l) zero zero x differ = absurd (differ refl)
 other_item (y ∷ l) zero (suc n) x differ = refl
@@ -70,7 +73,8 @@ module _ {F : Type 0} (s : State F) (g : ℕ) (frames : List F) (there : slice_g
     stepped_keeps f callers (AtClose c place next) = operated_keeps callers (λ _. next) place (close s.memory c)
     stepped_keeps f callers (AtCall next callee) = set_other h (callee ∷ next ∷ callers) differ
     stepped_keeps f callers (AtStart next child) =
-        before_end (slice_set s.goroutines h (next ∷ callers)) g frames (child ∷ []) (set_other h (next ∷ callers) differ)
+        before_end (slice_set s.goroutines h (next ∷ callers)) g frames (child ∷ [])
+        (set_other h (next ∷ callers) differ)
     stepped_keeps f callers Elsewhere = acted_keeps callers (machine.act s.memory f)
 
     alone_keeps : (o : Option (List F)) → KeepsIfAny (option_and_then (alone machine s h) o)

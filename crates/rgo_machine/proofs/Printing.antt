@@ -14,7 +14,8 @@ use Rattle.rgo_machine.specs.Growing.{PrintGrows}
 use Rattle.rgo_machine.specs.Limits.{if_within, is_within, limited_step, LeadsWithin}
 use Rattle.rgo_machine.specs.Machines.{Act, Moves, Returns, Prints, Traps}
 use Rattle.rgo_machine.specs.Machines.{Stand, AtReceive, AtSend, AtClose, AtCall, AtStart, Elsewhere}
-use Rattle.rgo_machine.specs.Machines.{Machine, State, acted, operated, returned, stepped, alone, met, met_by, picked, unless_ended, step_by}
+use Rattle.rgo_machine.specs.Machines.{Machine, State, acted, operated, returned, stepped, alone, met, met_by, picked}
+use Rattle.rgo_machine.specs.Machines.{unless_ended, step_by}
 use Rattle.rgo_machine.specs.Runs.{run}
 
 -- ---- steps do not look at the print
@@ -34,7 +35,8 @@ module _ {F : Type 0} (machine : Machine F) (before : List ℕ) where
   acted_before s g callers (Moves m f) = refl
   acted_before s g callers (Returns v) = returned_before s g callers v
   acted_before s g callers (Prints f bytes) =
-      ap (λ p. record (acted machine s g callers (Prints f bytes)) { printed = p }) (append_assoc before s.printed bytes)
+      ap (λ p. record (acted machine s g callers (Prints f bytes)) { printed = p })
+      (append_assoc before s.printed bytes)
   acted_before s g callers (Traps trap place) = refl
 
   operated_before : (s : State F) (g : ℕ) (callers : List F) (go_on : Value → F) (place : ℕ) (e : Effect)
@@ -61,7 +63,8 @@ module _ {F : Type 0} (machine : Machine F) (before : List ℕ) where
   stepped_before s g f callers Elsewhere = ap Some (acted_before s g callers (machine.act s.memory f))
 
   alone_before : (s : State F) (g : ℕ) (o : Option (List F))
-      → option_and_then (alone machine (with_before s) g) o ≡ option_map with_before (option_and_then (alone machine s g) o)
+      → option_and_then (alone machine (with_before s) g) o
+      ≡ option_map with_before (option_and_then (alone machine s g) o)
   alone_before s g None = refl
   alone_before s g (Some []) = refl
   alone_before s g (Some (f ∷ callers)) = stepped_before s g f callers (machine.stand f)
@@ -121,7 +124,8 @@ module _ {F : Type 0} (machine : Machine F) (before : List ℕ) where
 module _ {S E : Type 0} (step : S → E → Option S) (change : S → S)
     (commutes : (s : S) (e : E) → step (change s) e ≡ option_map change (step s e)) where
   then_run : (o : Option S) (es : List E) → ((t : S) → run step (change t) es ≡ option_map change (run step t es))
-      → option_and_then (λ t. run step t es) (option_map change o) ≡ option_map change (option_and_then (λ t. run step t es) o)
+      → option_and_then (λ t. run step t es) (option_map change o)
+      ≡ option_map change (option_and_then (λ t. run step t es) o)
   then_run None es h = refl
   then_run (Some t) es h = h t
 

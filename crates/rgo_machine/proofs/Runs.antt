@@ -69,7 +69,8 @@ module _ {F : Type 0} (machine : Machine F) (limits : Limits) where
   first (Some u) t picks e = (u, refl, e)
 
   -- a run within the limits is a run
-  pub is_run : (s t : State F) (picks : List Pick) → LeadsWithin machine limits s picks t → Leads (step_by machine) s picks t
+  pub is_run : (s t : State F) (picks : List Pick) → LeadsWithin machine limits s picks t
+      → Leads (step_by machine) s picks t
   is_run s t [] e = e
   is_run s t (pick ∷ picks) e =
       let one = first (limited_step machine limits s pick) t picks e in
@@ -77,7 +78,8 @@ module _ {F : Type 0} (machine : Machine F) (limits : Limits) where
       ∙ is_run one.0 t picks one.2
 
   -- it ends within the limits if it began there
-  pub ends_within : (s t : State F) (picks : List Pick) → is_within limits s ≡ true → LeadsWithin machine limits s picks t
+  pub ends_within : (s t : State F) (picks : List Pick) → is_within limits s ≡ true
+      → LeadsWithin machine limits s picks t
       → is_within limits t ≡ true
   ends_within s t [] within e = ap within_some (sym e) ∙ within
   ends_within s t (pick ∷ picks) within e =

@@ -13,7 +13,7 @@ use Rattle.rgo_machine.specs.declared.machines.Stand.TheVariants as code
 use Rattle.rgo_machine.specs.declared.picks.End.{End}
 use Rattle.rgo_machine.specs.declared.picks.Pick.TheVariants.{One}
 use Rattle.rgo_machine.specs.Acting.{stand_of, entered, newest_stand, standing}
-use Rattle.rgo_machine.specs.Alone.{Goes, Happens, StepsAlone, ChangesAt, entered_by, onto, with_child}
+use Rattle.rgo_machine.specs.Alone.{Goes, Happens, StepsAlone, ChangesAt, KeepsPrint, entered_by, onto, with_child}
 use Rattle.rgo_machine.specs.Machines.{Machine, State, Stand, AtReceive, AtSend, AtClose, AtCall, AtStart, Elsewhere}
 use Rattle.rgo_machine.specs.Machines.{alone, stepped, picked}
 
@@ -34,7 +34,8 @@ module _ {F : Type 0} (machine : Machine F) (s : State F) (g : ℕ) where
       ap (option_and_then (newest_stand machine)) (slice_get_past s.goroutines g past) in cc
 
   -- who stands nowhere has no step alone
-  nowhere : (o : Option (List F)) → option_and_then (newest_stand machine) o ≡ None → option_and_then (alone machine s g) o ≡ None
+  nowhere : (o : Option (List F)) → option_and_then (newest_stand machine) o ≡ None
+      → option_and_then (alone machine s g) o ≡ None
   nowhere None e = refl
   nowhere (Some []) e = refl
   nowhere (Some (f ∷ callers)) e = cc
@@ -69,7 +70,8 @@ module _ {F : Type 0} (machine : Machine F) (s : State F) (g : ℕ) where
     running_so goes = (goes_so None goes ∙ ap (λ ended. Some (left ended)) (sym run), run)
 
     -- the run ended
-    pub ends : (r : Happened) (e : End) → r ≡ happened.Ends e → Happens machine g (Ok r) s.memory n before after s.printed new
+    pub ends : (r : Happened) (e : End) → r ≡ happened.Ends e
+        → Happens machine g (Ok r) s.memory n before after s.printed new
         → StepsAlone (Ok r) s (left (Some e)) (picked machine s (One g))
     ends r e is happens =
         let P = λ (r : Happened). StepsAlone (Ok r) s (left (Some e)) (picked machine s (One g)) in
@@ -132,7 +134,8 @@ module _ {F : Type 0} (machine : Machine F) (s : State F) (g : ℕ) where
   not_entered callers Elsewhere is e = cc
 
   -- who stands before a start enters
-  pub always_enters : (before : List F) → newest_stand machine before ≡ Some code.Start → entered_by machine before ≡ None → ⊥
+  pub always_enters : (before : List F) → newest_stand machine before ≡ Some code.Start
+      → entered_by machine before ≡ None → ⊥
   always_enters [] is e = cc
   always_enters (f ∷ callers) is e = not_entered callers (machine.stand f) (some_stand _ _ is) e
 
@@ -153,3 +156,7 @@ module _ {F : Type 0} (u s : State F) (view : u ≡ s) where
   pub changes_seen : (answer : Result Happened AllocError) (n : Memory) → ChangesAt answer u.memory n
       → ChangesAt answer s.memory n
   changes_seen answer n changes = subst (λ (x : State F). ChangesAt answer x.memory n) view changes
+
+  pub print_seen : (answer : Result Happened AllocError) (new : List ℕ) → KeepsPrint answer u.printed new
+      → KeepsPrint answer s.printed new
+  print_seen answer new keeps = subst (λ (x : State F). KeepsPrint answer x.printed new) view keeps

@@ -5,7 +5,8 @@ use Rattle.std.proofs.Common.{slice_get, option_map, refl, ap, sym, ◌∙◌}
 use Rattle.std.specs.Prelude.{option_and_then, nat_lt, length, if◌then◌else◌}
 use Rattle.rgo_memory.specs.declared.values.Value.{Value}
 use Rattle.rgo_memory.specs.declared.values.Value.TheVariants as value
-use Rattle.rgo_memory.specs.Channels.{receive, received, send, sent, channel_in, channel_at, SameChannels, SameChannelsBut}
+use Rattle.rgo_memory.specs.Channels.{receive, received, send, sent, channel_in, channel_at, SameChannels}
+use Rattle.rgo_memory.specs.Channels.{SameChannelsBut}
 use Rattle.rgo_memory.specs.Effects.{Outcome, Does, in_memory_if_ready, to_object_if_ready}
 use Rattle.rgo_memory.specs.Memory.{Object, StructObject, SliceObject, Channel, Memory}
 use Rattle.rgo_machine.specs.declared.picks.End.{End}
@@ -44,7 +45,8 @@ module _ {F : Type 0} where
   waits_alone machine s g [] e = tt
   waits_alone machine s g (f ∷ callers) e = waits_stepped machine s g f callers (machine.stand f) e
 
-  alone_waits : (machine : Machine F) (s : State F) (g : ℕ) (frames : List F) → HasReturnedOrWaits machine s.memory frames
+  alone_waits : (machine : Machine F) (s : State F) (g : ℕ) (frames : List F)
+      → HasReturnedOrWaits machine s.memory frames
       → alone machine s g frames ≡ None
   alone_waits machine s g [] e = refl
   alone_waits machine s g (f ∷ callers) e = stepped_waits machine s g f callers (machine.stand f) e

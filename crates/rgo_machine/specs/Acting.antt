@@ -1,5 +1,6 @@
 -- What answers of a machine's code say of its definition.
-use Rattle.std.specs.Prelude.{◌≡◌, ℕ, List, [], ◌∷◌, ◌++◌, Option, Some, None, Result, Ok, Err, slice_get, option_and_then}
+use Rattle.std.specs.Prelude.{◌≡◌, ℕ, List, [], ◌∷◌, ◌++◌, Option, Some, None, Result, Ok, Err, slice_get}
+use Rattle.std.specs.Prelude.{option_and_then}
 use Rattle.std.specs.declared.alloc.AllocError.{AllocError}
 use Rattle.rgo_memory.specs.declared.values.Value.{Value}
 use Rattle.rgo_memory.specs.Memory.{Memory}
@@ -41,8 +42,8 @@ module _ {F : Type 0} where
   Enters (Ok None) before after stand = (entered stand ≡ None) × (after ≡ before)
   Enters (Err e) before after stand = after ≡ before
 
-  -- What a frame did by itself, with the memory, the frame and the print before and after; on allocation failure nothing
-  -- changed.
+  -- What a frame did by itself, with the memory, the frame and the print before and after; on allocation failure
+  -- nothing changed.
   abbrev pub Acts : Result Did AllocError → (m n : Memory) (f g : F) (old new : List ℕ) → Act F → Type 0
   Acts (Ok did.Moves) m n f g old new act = (act ≡ Moves n g) × (new ≡ old)
   Acts (Ok (did.Returns value)) m n f g old new act = (act ≡ Returns value) × (n ≡ m) × (g ≡ f) × (new ≡ old)

@@ -43,6 +43,11 @@ abbrev pub sends_at : Option CodeStand → Option (Value × Value)
 sends_at (Some (code.Send channel v place)) = Some (channel, v)
 sends_at _ = None
 
+-- the print, as it was unless something was printed
+abbrev pub KeepsPrint : Result Happened AllocError → (old new : List ℕ) → Type 0
+KeepsPrint (Ok happened.Prints) old new = Unit {0}
+KeepsPrint _ old new = new ≡ old
+
 module _ {F : Type 0} where
   -- the frames after an operation on a channel, which gave this value
   abbrev pub after_operation : Machine F → Value → List F → List F
@@ -65,7 +70,7 @@ module _ {F : Type 0} where
   ended_by_return zero [] = happened.Ends the_end.Exit
   ended_by_return _ _ = happened.Moves
 
-  -- both frames after a call or a start, the first one on these callers
+  -- the two frames after a call or a start, the first of them on these callers
   abbrev pub onto : List F → F × F → List F × F
   onto callers both = (both.0 ∷ callers, both.1)
 
@@ -74,7 +79,8 @@ module _ {F : Type 0} where
   entered_by machine [] = None
   entered_by machine (f ∷ callers) = option_map (onto callers) (entered (machine.stand f))
 
-  -- The frame of the function that was called or started. Where there was none, and on allocation failure, nothing changed.
+  -- The frame of the function that was called or started. Where there was none, and on allocation failure, nothing
+  -- changed.
   abbrev pub EntersNewest : Machine F → Result (Option F) AllocError → (before after : List F) → Type 0
   EntersNewest machine (Ok (Some begun)) before after = entered_by machine before ≡ Some (after, begun)
   EntersNewest machine (Ok None) before after = (entered_by machine before ≡ None) × (after ≡ before)
@@ -113,8 +119,8 @@ module _ {F : Type 0} where
       → alone machine (running m goroutines old) g before
       ≡ Some (record { memory = n; goroutines = slice_set goroutines g after; printed = new; ended = ended })
 
-  -- What a goroutine of this number did, with the memory, its frames and the print before and after. Where it waits, and
-  -- on allocation failure, nothing changed.
+  -- What a goroutine of this number did, with the memory, its frames and the print before and after. Where it waits,
+  -- and on allocation failure, nothing changed.
   abbrev pub Happens
       : Machine F → ℕ → Result Happened AllocError → (m n : Memory) (before after : List F) (old new : List ℕ)
       → Type 0

@@ -1,5 +1,5 @@
 -- Turns: up to n steps of one goroutine in a row.
-use Rattle.std.specs.Prelude.{◌≡◌, ◌≤◌, ◌<◌, ℕ, replicate, Some, None}
+use Rattle.std.specs.Prelude.{◌≡◌, ◌≤◌, ◌<◌, ℕ, List, replicate, Some, None}
 use Rattle.rgo_memory.specs.Channels.{SameChannels, SameChannelsBut}
 use Rattle.rgo_memory.specs.Memory.{Memory}
 use Rattle.rgo_machine.specs.declared.limits.Limits.{Limits}
@@ -27,6 +27,11 @@ abbrev pub ChangesChannels : Stop → Memory → Memory → Type 0
 ChangesChannels (stop.Operated channel) before after = SameChannelsBut channel before after
 ChangesChannels _ before after = SameChannels before after
 
+-- what a turn has printed: nothing, where it is not over by that
+abbrev pub ChangesPrint : Stop → (before after : List ℕ) → Type 0
+ChangesPrint stop.Printed before after = Unit {0}
+ChangesPrint _ before after = after ≡ before
+
 -- a turn of a goroutine from one state to another
 pub record Turns
     {F : Type 0} (machine : Machine F) (limits : Limits) (s t : State F) (g at_most : ℕ) (turned : Turned)
@@ -35,3 +40,4 @@ pub record Turns
   pub within : turned.steps ≤ at_most
   pub over : IsOver machine limits t g at_most turned.steps turned.stop
   pub channels : ChangesChannels turned.stop s.memory t.memory
+  pub print : ChangesPrint turned.stop s.printed t.printed

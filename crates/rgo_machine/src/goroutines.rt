@@ -5,7 +5,7 @@ ghost use Rattle.std.specs.Vec.{vec_len, vec_capacity};
 ghost use Rattle.rgo_memory.specs.Views.{memory_of};
 ghost use Rattle.rgo_machine.specs.Acting.{newest_stand};
 ghost use Rattle.rgo_machine.specs.Alone.{after_operation, after_effect, after_return, ended_by_return, happened_by};
-ghost use Rattle.rgo_machine.specs.Alone.{EntersNewest, Calls, Begins, Happens, ChangesAt, is_start};
+ghost use Rattle.rgo_machine.specs.Alone.{EntersNewest, Calls, Begins, Happens, ChangesAt, KeepsPrint, is_start};
 ghost use Rattle.rgo_machine.specs.declared.machines.Stand.TheVariants as stand;
 
 use crate::machines::{Did, Machine, Stand};
@@ -15,16 +15,17 @@ use rgo_ast::Place;
 use rgo_memory::{Effect, Memory, Value, close, receive, send};
 use std::alloc::{AllocError, Global};
 
-/// What a goroutine did.
+/// What a goroutine did in one step.
 #[derive(Clone, Copy, Debug, PartialEq, Eq)]
 pub(crate) enum Happened {
     /// Nothing: it has returned, or waits at a channel.
     Waits,
+    /// It continues; none of the following.
     Moves,
     Prints,
     /// It operated on the channel of this number.
     Operates(usize),
-    /// The run ended by it.
+    /// It ended the run.
     Ends(End),
 }
 
@@ -37,8 +38,8 @@ pub(crate) fn pass<M: Machine>(machine: &M, goroutine: &mut Goroutine<M::Frame>,
     }
 }
 
-/// The newest frame continues after a call or a start. Answers the frame with which the function begins; `None` where it
-/// stands at neither.
+/// The newest frame continues after a call or a start. Returns the frame with which the function begins; `None` where
+/// the newest frame is at neither.
 fn enter<M: Machine>(
     alloc: Global,
     machine: &M,
@@ -55,7 +56,7 @@ fn enter<M: Machine>(
     }
 }
 
-/// The newest frame calls a function. Answers whether it stands before a call or a start.
+/// The newest frame calls a function. Returns whether it was at a call or a start.
 fn call<M: Machine>(
     alloc: Global,
     machine: &M,
@@ -73,7 +74,7 @@ fn call<M: Machine>(
     }
 }
 
-/// The newest frame starts a goroutine. `None` where it stands at no call and no start.
+/// The newest frame starts a goroutine, which is returned; `None` where it is at no call and no start.
 pub(crate) fn begin<M: Machine>(
     alloc: Global,
     machine: &M,
@@ -109,7 +110,7 @@ fn leave<M: Machine>(
     Ok(())
 }
 
-/// What a return did to the run, where the goroutine of this number has these frames left.
+/// What a return did to the run. `g` is the number of the goroutine, which has these frames left.
 fn returned<F>(goroutine: &Goroutine<F>, g: usize) -> Happened
     ensures { result ≡ ended_by_return g goroutine.now }
 {
@@ -133,6 +134,7 @@ fn act<M: Machine>(
     ensures happens { Happens (M.machine machine.now) g result (memory_of memory.old) (memory_of memory.new)
         goroutine.old goroutine.new printed.old.items printed.new.items }
     ensures channels { ChangesAt result (memory_of memory.old) (memory_of memory.new) }
+    ensures print { KeepsPrint result printed.old.items printed.new.items }
 {
     let Some(frame) = goroutine.frames.last_mut() else {
         return Ok(Happened::Waits);
@@ -159,7 +161,7 @@ fn operated(effect: Effect, channel: Value, place: Place) -> Happened
     }
 }
 
-/// A goroutine stands before an operation on a channel, which had this effect.
+/// A goroutine continues after an operation on a channel, which had this effect.
 fn operate<M: Machine>(
     machine: &M,
     goroutine: &mut Goroutine<M::Frame>,
@@ -176,7 +178,7 @@ fn operate<M: Machine>(
     operated(effect, channel, place)
 }
 
-/// A goroutine steps, whose newest frame stands there: not before the start of another.
+/// One step of a goroutine whose newest frame is there. It is not at the start of another goroutine.
 pub(crate) fn go<M: Machine>(
     alloc: Global,
     machine: &M,
@@ -191,6 +193,7 @@ pub(crate) fn go<M: Machine>(
     ensures happens { Happens (M.machine machine.now) g result (memory_of memory.old) (memory_of memory.new)
         goroutine.old goroutine.new printed.old.items printed.new.items }
     ensures channels { ChangesAt result (memory_of memory.old) (memory_of memory.new) }
+    ensures print { KeepsPrint result printed.old.items printed.new.items }
 {
     match stand {
         Stand::Receive { channel, blank } => match receive(memory, channel, blank) {

@@ -4,7 +4,7 @@ ghost use Rattle.std.specs.Prelude.{◌≡◌, Some, None};
 ghost use Rattle.rgo_machine.specs.Acting as acting;
 ghost use Rattle.rgo_machine.specs.Acting.{Steps};
 ghost use Rattle.rgo_machine.specs.Alone as alone;
-ghost use Rattle.rgo_machine.specs.Alone.{StepsAlone, ChangesAt, MeetsSo, after_pass};
+ghost use Rattle.rgo_machine.specs.Alone.{StepsAlone, ChangesAt, KeepsPrint, MeetsSo, after_pass};
 ghost use Rattle.rgo_machine.specs.Machines.{step_by, picked};
 ghost use Rattle.rgo_machine.specs.declared.machines.Stand.TheVariants as stand;
 ghost use Rattle.rgo_machine.specs.declared.picks.Pick.TheVariants.{One, Meet};
@@ -36,6 +36,7 @@ fn start<M: Machine>(
     requires stands { acting.standing (M.machine machine.now) state.old g ≡ Some stand.Start }
     ensures steps { StepsAlone result state.old state.new (picked (M.machine machine.now) state.old (One g)) }
     ensures channels { ChangesAt result state.old.memory state.new.memory }
+    ensures print { KeepsPrint result state.old.printed state.new.printed }
 {
     state.goroutines.reserve(1)?;
     let Some(goroutine) = state.goroutines.get_mut(g) else {
@@ -50,7 +51,7 @@ fn start<M: Machine>(
     }
 }
 
-/// A goroutine steps alone, whose newest frame stands there.
+/// One step of a goroutine alone, whose newest frame is there.
 pub(crate) fn step_alone<M: Machine>(
     alloc: Global,
     machine: &M,
@@ -62,6 +63,7 @@ pub(crate) fn step_alone<M: Machine>(
     requires stands { acting.standing (M.machine machine.now) state.old g ≡ Some stand }
     ensures steps { StepsAlone result state.old state.new (picked (M.machine machine.now) state.old (One g)) }
     ensures channels { ChangesAt result state.old.memory state.new.memory }
+    ensures print { KeepsPrint result state.old.printed state.new.printed }
 {
     if is_start(stand) {
         return start(alloc, machine, state, g);
@@ -84,7 +86,7 @@ pub(crate) fn step_alone<M: Machine>(
     Ok(happened)
 }
 
-/// The channel from which a goroutine receives next, where it stands there.
+/// The channel of a goroutine that is before a receive.
 fn receives_at(stand: Option<Stand>) -> Option<Value>
     ensures { result ≡ alone.receives_at stand }
 {
@@ -94,7 +96,7 @@ fn receives_at(stand: Option<Stand>) -> Option<Value>
     }
 }
 
-/// The channel to which a goroutine sends next, where it stands there, and the value.
+/// The channel and the value of a goroutine that is before a send.
 fn sends_at(stand: Option<Stand>) -> Option<(Value, Value)>
     ensures { result ≡ alone.sends_at stand }
 {
@@ -124,7 +126,7 @@ fn pass_at<M: Machine>(
     }
 }
 
-/// A receiver and a sender continue together.
+/// A receiver and a sender continue together, if they meet. Returns whether they do.
 fn meet<M: Machine>(
     machine: &M,
     state: &mut State<M::Frame>,
@@ -151,7 +153,7 @@ fn meet<M: Machine>(
     true
 }
 
-/// A goroutine steps alone, if it can.
+/// One step of a goroutine alone, if it has one.
 fn step_one<M: Machine>(
     alloc: Global,
     machine: &M,

@@ -51,7 +51,7 @@ fn depth_of<F>(state: &State<F>, g: usize) -> usize
     }
 }
 
-/// The limit that a goroutine meets which stands there, if there is one.
+/// The limit that a goroutine at this point meets, if any.
 fn limit_at<F>(state: &State<F>, limits: Limits, g: usize, stand: Stand) -> Option<Stop>
     ensures { result ≡ turning.limit_at limits state.now g stand }
 {
@@ -62,7 +62,7 @@ fn limit_at<F>(state: &State<F>, limits: Limits, g: usize, stand: Stand) -> Opti
     }
 }
 
-/// Why a turn of one step is over, by what the goroutine did.
+/// A turn of one step, in which the goroutine did this.
 fn turn_of(happened: Happened) -> Turned
     ensures { result ≡ turning.turn_of happened }
 {

@@ -1,5 +1,6 @@
 -- A write to a struct or a slice leaves every channel alone.
-use Rattle.std.specs.Prelude.{Bool, Option, Some, None, Result, Ok, Err, slice_get, slice_set, pos, negsuc, nat_lt, if◌then◌else◌}
+use Rattle.std.specs.Prelude.{Bool, Option, Some, None, Result, Ok, Err, slice_get, slice_set, pos, negsuc, nat_lt}
+use Rattle.std.specs.Prelude.{if◌then◌else◌}
 use Rattle.std.proofs.Common.{◌≡◌, ℕ, zero, suc, true, false, List, [], ◌∷◌, length, refl, ap, sym, ◌∙◌, subst}
 use Rattle.rgo_typed.specs.declared.actions.Action.{Action}
 use Rattle.rgo_typed.specs.declared.actions.Action.TheVariants as action

@@ -8,7 +8,8 @@ use Rattle.rgo_memory.specs.declared.values.Value.TheVariants as value
 use Rattle.rgo_memory.specs.Memory.{Object, Memory}
 use Rattle.rgo_memory.specs.Effects.{Outcome, Does, Traps, Effect, in_memory, to_object}
 use Rattle.rgo_memory.specs.Effects.{in_memory_if_ready, to_object_if_ready}
-use Rattle.rgo_memory.specs.Channels.{channel_in, receive, received, send, sent, close, shut, SameChannels, SameChannelsBut}
+use Rattle.rgo_memory.specs.Channels.{channel_in, receive, received, send, sent, close, shut, SameChannels}
+use Rattle.rgo_memory.specs.Channels.{SameChannelsBut}
 use Rattle.rgo_memory.specs.Views.{Leaves, LeavesIfReady}
 
 other_item : {X : Type 0} (l : List X) (k n : ℕ) (x : X) → (n ≡ k → ⊥) → slice_get (slice_set l k x) n ≡ slice_get l n
@@ -84,7 +85,8 @@ close_only m (value.Bool b) = same m
 
 -- ---- what the code's answers say
 
-left : (answer : CodeEffect) (c : Value) (m n : Memory) (outcome : Effect) → Leaves answer m n outcome → OnlyAt c m outcome
+left : (answer : CodeEffect) (c : Value) (m n : Memory) (outcome : Effect) → Leaves answer m n outcome
+    → OnlyAt c m outcome
     → ChangesOnly c m n
 left (effect.Gives v) c m n outcome leaves only = let P = OnlyAt c m in subst P leaves only
 left (effect.Traps trap) c m n outcome leaves only =

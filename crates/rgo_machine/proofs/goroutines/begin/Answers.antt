@@ -21,10 +21,12 @@ returns g c =
     elim c.match-branch-3.branch [
       | in-Some w ↦
           rw w.result-is
-          (begun machine frames goroutine (reverse c.enter.new.frames.items) w.in-Some.child w.push_reserved.new.self.items
+          (begun machine frames goroutine (reverse c.enter.new.frames.items) w.in-Some.child
+          w.push_reserved.new.self.items
           c.goroutine.view_is (rw w.in-Some.is at entered)
           (w.push_reserved.ensures.items ∙ ap (λ l. l ++ w.in-Some.child ∷ []) c.in_ok-frames.ensures.items))
       | in-None w ↦
           rw w.result-is
-          (none_begun machine frames goroutine (reverse c.enter.new.frames.items) c.goroutine.view_is (rw w.in-None.is at entered))
+          (none_begun machine frames goroutine (reverse c.enter.new.frames.items) c.goroutine.view_is
+          (rw w.in-None.is at entered))
     ]

@@ -9,7 +9,8 @@ pub returns-in-Some-2-clause-happens : goal.returns-in-Some-2-clause-happens
 returns-in-Some-2-clause-happens g c =
     let send = c.in-Send in
     let sent = rw c.in-Some-2.is at c.in_ok-effect-in-Send.ensures in
-    operates (g.M.Machine.machine c.args.machine.now) c.args.g (memory_of c.args.memory.now) (memory_of c.send.new.memory)
+    operates (g.M.Machine.machine c.args.machine.now) c.args.g (memory_of c.args.memory.now)
+    (memory_of c.send.new.memory)
     c.args.goroutine.now c.operate-in-Some-2.new.goroutine c.args.printed.now.items
     (stand.Send send.channel send.value send.place) c.in-Some-2.effect send.channel c.operate-in-Some-2.result refl
     (c.requires.stands ∙ ap Some send.is) sent c.operate-in-Some-2.ensures.happened c.operate-in-Some-2.ensures.frames

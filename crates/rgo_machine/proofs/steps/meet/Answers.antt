@@ -14,7 +14,8 @@ returns g c =
             printed = state.printed.items;
             ended = state.ended;
           })
-          c.state.view_is c.args.receiver c.args.sender c.in-Some.channel c.in-Some-sends_at.other c.in-Some-sends_at.value
+          c.state.view_is c.args.receiver c.args.sender c.in-Some.channel c.in-Some-sends_at.other
+          c.in-Some-sends_at.value
           c.if-receiver-sender.false (sym c.meets_at.ensures ∙ c.if-not-meets_at.false)
           (ap alone.receives_at (sym c.standing.ensures) ∙ sym c.receives_at.ensures ∙ c.in-Some.is)
           (ap alone.sends_at (sym c.standing-2.ensures) ∙ sym c.sends_at.ensures ∙ c.in-Some-sends_at.is)

@@ -13,4 +13,5 @@ returns-in-Ok g c =
     rw c.turn_of.ensures
     (stepped_so (g.M.Machine.machine c.args.machine.now) c.args.limits c.args.state.now c.args.g c.requires.within
     c.requires.running c.in-Ok.happened c.step_alone.new.state c.in-Some.stand (sym c.standing.ensures ∙ c.in-Some.is)
-    (sym c.limit_at.ensures ∙ c.in_default-limit_at.is) c.in-Ok.ensures.steps c.in-Ok.ensures.channels)
+    (sym c.limit_at.ensures ∙ c.in_default-limit_at.is) c.in-Ok.ensures.steps c.in-Ok.ensures.channels
+    c.in-Ok.ensures.print)
