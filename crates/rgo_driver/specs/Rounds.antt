@@ -15,6 +15,11 @@ abbrev pub IsOf : ℕ → Pick → Type 0
 IsOf g (One h) = h ≡ g
 IsOf g (Meet receiver sender) = (receiver ≡ g) ⊎ (sender ≡ g)
 
+-- the steps of rounds, one after the other
+abbrev pub all_of : List (List Pick) → List Pick
+all_of [] = []
+all_of (picks ∷ rounds) = picks ++ all_of rounds
+
 module _ {F : Type 0} (machine : Machine F) (limits : Limits) where
   -- these steps of one goroutine are no more than a turn has
   pub record FitsTurn (s : State F) (g : ℕ) (picks : List Pick) (t : State F) : Type 0 where
@@ -43,7 +48,8 @@ module _ {F : Type 0} (machine : Machine F) (limits : Limits) where
   -- a round up to some point: turns, and the begin of one more
   pub record IsBegunRound (s : State F) (picks : List Pick) (t : State F) : Type 0 where
     pub order : List ℕ
-    pub whole part : List Pick
+    pub whole : List Pick
+    pub part : List Pick
     pub turning : State F
     pub goroutine : ℕ
     pub picked : picks ≡ whole ++ part

@@ -1,5 +1,5 @@
 -- Runs: how a run may end, and what it has given out by then.
-use Rattle.std.specs.Prelude.{◌≡◌, ◌≤◌, ◌<◌, ℕ, max, List, ◌++◌, concat, length, take, Option, Some, None, ⊤}
+use Rattle.std.specs.Prelude.{◌≡◌, ◌≤◌, ◌<◌, ℕ, max, List, ◌++◌, length, take, Option, Some, None, ⊤}
 use Rattle.std.specs.Io.KnownBytes.{Appends}
 use Rattle.rgo_machine.specs.declared.limits.Limits.{Limits}
 use Rattle.rgo_machine.specs.declared.picks.Pick.{Pick}
@@ -8,7 +8,7 @@ use Rattle.rgo_machine.specs.Limits.{LeadsWithin, IsTooDeep, IsFull}
 use Rattle.rgo_machine.specs.Machines.{Machine, State}
 use Rattle.rgo_driver.specs.declared.ends.RunEnd.{RunEnd}
 use Rattle.rgo_driver.specs.declared.ends.RunEnd.TheVariants as run_end
-use Rattle.rgo_driver.specs.Rounds.{AreRounds, IsBegunRound}
+use Rattle.rgo_driver.specs.Rounds.{AreRounds, IsBegunRound, all_of}
 
 -- why a run ended so in a state, after so many steps, of which so many were taken before its last round
 abbrev pub Ends : {F : Type 0} → Machine F → Limits → (before steps : ℕ) → State F → RunEnd → Type 0
@@ -37,9 +37,10 @@ pub record Runs
   -- the steps of the rounds before the last, and of the last
   pub rounds : List (List Pick)
   pub last : List Pick
-  pub begun state : State F
+  pub begun : State F
+  pub state : State F
   pub went : AreRounds machine limits start rounds begun
   pub goes : IsBegunRound machine limits begun last state
-  pub ran : LeadsWithin machine limits start (concat rounds ++ last) state
-  pub ends : Ends machine limits (length (concat rounds)) (length (concat rounds ++ last)) state end
+  pub ran : LeadsWithin machine limits start (all_of rounds ++ last) state
+  pub ends : Ends machine limits (length (all_of rounds)) (length (all_of rounds ++ last)) state end
   pub gives : Gives end state.printed old new

@@ -1,9 +1,14 @@
 //! Runs of any machine: goroutines in rounds, on the caller's thread.
 #![tactic(auto)]
 
+mod drivers;
 mod ends;
 mod lines;
+mod meetings;
+mod rounds;
 mod runs;
+mod turns;
+mod waiting;
 
 pub use ends::RunEnd;
 pub use runs::run;

@@ -1,14 +1,18 @@
 //! Runs, round by round.
 
-ghost use Rattle.std.specs.Prelude.{◌≡◌, ◌≤◌, true, None};
+ghost use Rattle.std.specs.Prelude.{◌≡◌, ◌≤◌, true, None, []};
 ghost use Rattle.rgo_outside.specs.Causes.{Rose};
 ghost use Rattle.rgo_machine.specs.Limits.{is_within};
 ghost use Rattle.rgo_driver.specs.Runs.{Runs};
 
+use crate::drivers::Driver;
 use crate::ends::RunEnd;
+use crate::rounds::drive;
+use crate::waiting::admit;
 use rgo_machine::{Limits, Machine, State};
 use rgo_outside::Sink;
 use std::alloc::Global;
+use std::collections::HashMap;
 
 /// Runs a machine from a state, in rounds: in each, every goroutine that can step has a turn of up to 1,000 steps. What
 /// a goroutine printed goes out after its turn, each line in one piece. After a failed write nothing more is written.
@@ -22,12 +26,24 @@ pub fn run<M: Machine, K: Sink>(
     limits: Limits,
     out: &mut K,
 ) -> RunEnd
-    requires running { state.entry.ended ≡ None }
-    requires within { is_within limits state.entry ≡ true }
-    requires silent { state.entry.printed ≡ [] }
-    ensures runs { Runs (M.machine machine.now) limits state.entry result (K.contents out.old) (K.contents out.new) }
+    requires running { state.ended ≡ None }
+    requires within { is_within limits state ≡ true }
+    requires silent { state.printed ≡ [] }
+    ensures runs { Runs (M.machine machine.now) limits state result (K.contents out.old) (K.contents out.new) }
     ensures fault { result ≡ RunEnd.WriteFault → Rose (K.faults out.old) (K.faults out.new) }
     ensures later { K.faults out.old ≤ K.faults out.new }
 {
-    RunEnd::NoMemory
+    let mut ready = Vec::new(alloc);
+    let count = state.goroutines();
+    match admit(&mut ready, 0, count) {
+        Ok(()) => {}
+        Err(_) => return RunEnd::NoMemory,
+    }
+    let mut driver = Driver {
+        state,
+        steps: 0,
+        ready,
+        waiting: HashMap::new(alloc),
+    };
+    drive(alloc, machine, &mut driver, limits, out)
 }

@@ -1,7 +1,7 @@
--- Operands with a space behind each, and with one between each two.
-use Rattle.std.proofs.Common.{◌≡◌, ◌-◌, ◌∙◌, ℕ, List, [], ◌∷◌, ◌++◌, length, take, refl, ap, sym, arith, append_assoc}
-use Rattle.std.proofs.lemmas.List.{length-append}
-use Rattle.std.proofs.Math.Seq.{take-append_seam}
+-- Operands with a space after each, and with one between each two.
+use Rattle.std.proofs.Common.{◌≡◌, ◌+◌, ◌-◌, ◌∙◌, ℕ, max, List, [], ◌∷◌, ◌++◌, length, take, refl, ap, sym, arith, append_assoc}
+use Rattle.std.proofs.lemmas.List.{length-append, length-take, take-append-le}
+use Rattle.std.proofs.Math.Seq.{take-append_seam, take-append-add}
 use Rattle.std.specs.List.{join_with_byte}
 use Rattle.rgo_machine.specs.Lines.{spaced}
 
@@ -20,7 +20,17 @@ trimmed : (xs : List (List ℕ)) → take (length (spaced xs) - 1) (spaced xs) �
 trimmed [] = refl
 trimmed (x ∷ xs) = ap (λ l. take (length l - 1) l) (joined x xs) ∙ last_left (join_with_byte 32 (x ∷ xs))
 
--- the same, of what is found so
-pub trimmed_of : (xs : List (List ℕ)) (l m : List ℕ) (n : ℕ) → l ≡ spaced xs → m ≡ take n l → n ≡ length l - 1
-    → m ≡ join_with_byte 32 xs
-trimmed_of xs l m n is cut count = cut ∙ ap (λ k. take k l) count ∙ ap (λ k. take (length k - 1) k) is ∙ trimmed xs
+-- the same after what was there before, in the form in which the code finds it
+pub trimmed_of : (xs : List ℕ) (start : ℕ) (old cur : List ℕ) (ops : List (List ℕ)) (n : ℕ) → cur ≡ old ++ spaced ops
+    → start ≡ length old → n ≡ max (length cur - 1) start → xs ≡ take n cur → xs ≡ old ++ join_with_byte 32 ops
+trimmed_of xs start old cur ops n is begins count cut =
+    cut ∙ (λ i. take (counted i) (is i)) ∙ take-append-add old (spaced ops) (length (spaced ops) - 1)
+    ∙ ap (λ l. old ++ l) (trimmed ops) where
+      counted : n ≡ length old + (length (spaced ops) - 1)
+      counted =
+          omega (arith, count, begins, ap (λ l. length l) is, length-append old (spaced ops))
+
+-- what is appended leaves the bytes that were there before
+pub begun : (old cur more : List ℕ) → take (length old) cur ≡ old → take (length old) (cur ++ more) ≡ old
+begun old cur more is =
+    take-append-le (length old) cur more (omega (arith, ap (λ l. length l) is, length-take (length old) cur)) ∙ is

@@ -14,7 +14,7 @@ mod turns;
 
 pub use laws::{deadlocks_wait, print_grows};
 pub use limits::Limits;
-pub use lines::line;
+pub use lines::write_line;
 pub use machines::{Did, Machine, Stand};
 pub use picks::{End, Pick, Stepped};
 pub use states::{Goroutine, State, standing};

@@ -1,28 +1,30 @@
 //! What `fmt.Println` writes.
 
-ghost use Rattle.std.specs.Prelude.{◌≡◌, ◌++◌, IfOk, OnOk};
+ghost use Rattle.std.specs.Prelude.{◌≡◌, ◌++◌, length, take, OnOk, OnErr};
 ghost use Rattle.rgo_machine.specs.Lines as spec;
 ghost use Rattle.rgo_machine.specs.Lines.{spaced};
 
 use rgo_memory::{Value, write_value};
 use rgo_typed::Piece;
-use std::alloc::{AllocError, Global};
+use std::alloc::AllocError;
 
-/// The operands in order, each followed by a space.
-fn write_operands(bytes: &mut Vec<u8>, pieces: &[Piece], values: &[Value]) -> Result<(), AllocError>
-    ensures { OnOk result (bytes.new.items ≡ bytes.old.items ++ spaced (spec.filled pieces.now values.now)) }
+/// Appends the operands in order, each followed by a space. On allocation failure some of it is appended.
+#[tactic(auto, using(crate::proofs::Spaces::begun))]
+fn write_operands(out: &mut Vec<u8>, pieces: &[Piece], values: &[Value]) -> Result<(), AllocError>
+    ensures operands { OnOk result (out.new.items ≡ out.old.items ++ spaced (spec.filled pieces.now values.now)) }
+    ensures begins { take (length out.old.items) out.new.items ≡ out.old.items }
 {
     let mut rest = values;
     for piece in pieces {
         match piece {
             Piece::Text(text) => {
-                bytes.extend_from_slice(text.bytes())?;
-                bytes.push(b' ')?;
+                out.extend_from_slice(text.bytes())?;
+                out.push(b' ')?;
             }
             Piece::Value => {
                 if let Some((value, others)) = rest.split_first() {
-                    write_value(bytes, *value)?;
-                    bytes.push(b' ')?;
+                    write_value(out, *value)?;
+                    out.push(b' ')?;
                     rest = others;
                 }
             }
@@ -31,13 +33,34 @@ fn write_operands(bytes: &mut Vec<u8>, pieces: &[Piece], values: &[Value]) -> Re
     Ok(())
 }
 
-/// A line: the operands with one space between each two, and a newline at the end.
-pub fn line(alloc: Global, pieces: &[Piece], values: &[Value]) -> Result<Vec<u8>, AllocError>
-    ensures { IfOk result (λ bytes. bytes.items ≡ spec.line_of pieces.now values.now) }
+/// Appends a line. On allocation failure some of it is appended.
+#[tactic(auto, using(crate::proofs::Spaces::begun))]
+fn append_line(out: &mut Vec<u8>, pieces: &[Piece], values: &[Value]) -> Result<(), AllocError>
+    ensures line { OnOk result (out.new.items ≡ out.old.items ++ spec.line_of pieces.now values.now) }
+    ensures begins { take (length out.old.items) out.new.items ≡ out.old.items }
 {
-    let mut bytes = Vec::new(alloc);
-    write_operands(&mut bytes, pieces, values)?;
-    bytes.pop();
-    bytes.push(b'\n')?;
-    Ok(bytes)
+    let start = out.len();
+    write_operands(out, pieces, values)?;
+    out.truncate(out.len().saturating_sub(1).max(start));
+    out.push(b'\n')?;
+    Ok(())
+}
+
+/// Appends a line: the operands with one space between each two, and a newline at the end.
+///
+/// # Errors
+///
+/// On allocation failure. Then nothing is appended.
+pub fn write_line(out: &mut Vec<u8>, pieces: &[Piece], values: &[Value]) -> Result<(), AllocError>
+    ensures appends { OnOk result (out.new.items ≡ out.old.items ++ spec.line_of pieces.now values.now) }
+    ensures keeps { OnErr result (out.new.items ≡ out.old.items) }
+{
+    let start = out.len();
+    match append_line(out, pieces, values) {
+        Ok(()) => Ok(()),
+        Err(error) => {
+            out.truncate(start);
+            Err(error)
+        }
+    }
 }

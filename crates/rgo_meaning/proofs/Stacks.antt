@@ -1,7 +1,9 @@
 -- A list that grows and shrinks at its end, seen with the newest first.
 use Rattle.std.proofs.Common.{◌≡◌, ◌<◌, ◌≤◌, ◌⊎◌, List, [], ◌∷◌, ◌++◌, ℕ, ◌-◌, drop, take, reverse, inl, inr}
-use Rattle.std.proofs.Common.{length, arith, ap, sym, refl, zero, suc, None, ◌∙◌, ◌+◌, get_or, set, take-append-drop, append_assoc}
-use Rattle.std.proofs.lemmas.List.{reverse-append, reverse-reverse, length-reverse, length-drop, take_all, drop_all, take_more, take_more_set}
+use Rattle.std.proofs.Common.{length, arith, ap, sym, refl, zero, suc, None, ◌∙◌, ◌+◌, get_or, set}
+use Rattle.std.proofs.Common.{take-append-drop, append_assoc}
+use Rattle.std.proofs.lemmas.List.{reverse-append, reverse-reverse, length-reverse, length-drop, take_all, drop_all}
+use Rattle.std.proofs.lemmas.List.{take_more, take_more_set}
 use Rattle.std.proofs.lemmas.Bool.{cases_lt}
 use Rattle.std.proofs.Math.Seq.{take-append_seam, drop-append_seam}
 use Rattle.std.specs.Prelude.{slice_get}
@@ -24,13 +26,14 @@ module _ {A : Type 0} (l : List A) (k : ℕ) where
   none_older : length l < k → length l - k ≡ 0
   none_older beyond = omega (arith, beyond)
 
-  -- so many or all
+  -- the newest k, or all
   pub newest : take k (reverse l) ≡ reverse (drop (length l - k) l)
   newest = by_cases (cases_lt (length l) k) where
     by_cases : (length l < k) ⊎ (k ≤ length l) → take k (reverse l) ≡ reverse (drop (length l - k) l)
     by_cases (inr within) =
         ap (take k) parts
-        ∙ ap (λ n. take n (reverse (drop (length l - k) l) ++ reverse (take (length l - k) l))) (sym (newest_length within))
+        ∙ ap (λ n. take n (reverse (drop (length l - k) l) ++ reverse (take (length l - k) l)))
+        (sym (newest_length within))
         ∙ take-append_seam (reverse (drop (length l - k) l)) (reverse (take (length l - k) l))
     by_cases (inl beyond) =
         take_all k (reverse l) (omega (arith, beyond, length-reverse l))
@@ -41,7 +44,8 @@ module _ {A : Type 0} (l : List A) (k : ℕ) where
     by_cases : (length l < k) ⊎ (k ≤ length l) → drop k (reverse l) ≡ reverse (take (length l - k) l)
     by_cases (inr within) =
         ap (drop k) parts
-        ∙ ap (λ n. drop n (reverse (drop (length l - k) l) ++ reverse (take (length l - k) l))) (sym (newest_length within))
+        ∙ ap (λ n. drop n (reverse (drop (length l - k) l) ++ reverse (take (length l - k) l)))
+        (sym (newest_length within))
         ∙ drop-append_seam (reverse (drop (length l - k) l)) (reverse (take (length l - k) l))
     by_cases (inl beyond) =
         drop_all k (reverse l) (omega (arith, beyond, length-reverse l))

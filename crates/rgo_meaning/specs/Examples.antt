@@ -1,6 +1,6 @@
 -- Small programs and their runs, to be worked out by computation.
-use Rattle.std.specs.Prelude.{◌≡◌, ℕ, zero, suc, Bool, true, false, pos, List, [], ◌∷◌, ◌++◌, length, Option, Some, None, codes, decimal}
-use Rattle.std.specs.Prelude.{nat_le, slice_get, option_and_then}
+use Rattle.std.specs.Prelude.{◌≡◌, ℕ, zero, suc, Bool, true, false, pos, List, [], ◌∷◌, ◌++◌, length, Option, Some}
+use Rattle.std.specs.Prelude.{None, codes, decimal, nat_le, slice_get, option_and_then}
 use Rattle.rgo_ast.specs.declared.ops.BinaryOp.TheVariants.{Add, Div}
 use Rattle.rgo_typed.specs.declared.actions.Action.TheVariants as action
 use Rattle.rgo_typed.specs.declared.statements.Piece.TheVariants.{Value as NextValue}
@@ -46,7 +46,9 @@ print t = tree.Print (NextValue ∷ []) (one t) 0
 
 -- fmt.Println(2 + 3)
 abbrev pub sum : Typed
-sum = program (function (codes "main") 0 [] None (print (Apply (action.Binary Add) (two (number 2) (number 3)) int 0) ∷ []) ∷ [])
+sum =
+    program
+    (function (codes "main") 0 [] None (print (Apply (action.Binary Add) (two (number 2) (number 3)) int 0) ∷ []) ∷ [])
 
 -- var x int; fmt.Println(1 / x), the division at place 17
 abbrev pub division : Typed

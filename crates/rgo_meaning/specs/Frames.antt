@@ -9,32 +9,33 @@ use Rattle.rgo_memory.specs.declared.values.Value.{Value}
 use Rattle.rgo_memory.specs.declared.values.Value.TheVariants.{Nil}
 use Rattle.rgo_memory.specs.Values.{zero_of}
 
--- One thing to do. What gives a value puts it on the frame's values; what takes values takes the newest.
+-- One thing to do. What produces a value pushes it on the frame's values; what takes n values takes the newest n.
 pub data Todo : Type 0 where
-  -- give a term's value, or those of several
+  -- evaluate a term, or several
   Evaluate : Term → Todo
   Each : Terms → Todo
-  -- an action on the last values, so many, which gives one of a type, or gives none
+  -- an action on the newest `count` values, with a result of a type, or without a result
   Perform : Action → (count : ℕ) → «Type» → (place : ℕ) → Todo
   Affect : Action → (count : ℕ) → (place : ℕ) → Todo
-  -- the value of a right side is that of the whole: nothing is done
+  -- the value of a right side is the value of the whole: nothing is done
   Settle : Todo
-  -- the right side of `&&` or `||`, where the left side leaves it to decide
+  -- the right side of `&&` or `||`, where the left side does not decide
   Decide : Logical → Term → Todo
   -- a new object of a struct
   Create : (struct : ℕ) → Todo
-  -- below it lie so many values: they are stored in its fields, one by one
+  -- the `count` values below the newest are stored in the fields of its object, one by one
   Fill : (count : ℕ) → (fields : List ℕ) → (place : ℕ) → Todo
-  -- the last values once more, so many
+  -- the newest `count` values once more
   Repeat : (count : ℕ) → Todo
-  -- a value goes into a local variable, or is let go; a local variable starts at the zero of its type
+  -- a local variable is assigned the newest value; the newest value is dropped; a local variable is set to the zero of
+  -- its type
   Give : (local : ℕ) → Todo
   Forget : Todo
   Clear : (local : ℕ) → «Type» → Todo
-  -- a function is called, or started as a goroutine, with the last values
+  -- a function is called, or started as a goroutine, with the newest `count` values
   Enter : (function count : ℕ) → Todo
   Start : (function count : ℕ) → Todo
-  -- a line with the last values
+  -- a line with the newest `count` values is printed
   Write : List Piece → (count : ℕ) → Todo
   -- a statement, or several
   Execute : Stmt → Todo
@@ -45,7 +46,7 @@ pub data Todo : Type 0 where
   -- the end of a block; the end of the first of two branches, or of a loop's turn: nothing is done
   Close : Todo
   Onward : Todo
-  -- a loop from its condition on; what the condition's value decides; and, below its body, the post statement and the
+  -- a loop from its condition on; what the condition's value decides; and, after its body, the post statement and the
   -- loop again
   Turn : (test : Option Term) → (body post : Stmts) → Todo
   Test : (test : Option Term) → (body post : Stmts) → Todo
@@ -53,8 +54,8 @@ pub data Todo : Type 0 where
   -- the function returns, with a value
   Leave : Todo
 
--- the local variables by number; the values that wait to be used, the newest first; and what is to do, in order. Where
--- nothing is to do the function returns, without a value
+-- the local variables by number; the values that are not used yet, the newest first; and what is to do, in order. If
+-- nothing is to do, the function returns without a value
 pub record Frame : Type 0 where
   pub locals : List Value
   pub values : List Value
@@ -74,7 +75,7 @@ with_local (u ∷ locals) (suc n) v = u ∷ with_local locals n v
 
 -- ---- values
 
--- the value below so many newer ones; nil where there is none, as in no typed program
+-- the value below `newer` newer ones; nil if there is none, which never happens in a typed program
 abbrev pub value_below : List Value → ℕ → Value
 value_below values newer = get_or values newer Nil
 

@@ -17,7 +17,7 @@ at_channel Send blank place go_on (channel ∷ v ∷ []) = AtSend channel v plac
 at_channel Close blank place go_on (channel ∷ []) = AtClose channel place (go_on Nil)
 at_channel _ blank place go_on _ = Elsewhere
 
--- before the call or the start of a function, where it exists: what is said of the frame that continues and of its own
+-- before the call or the start of a function, if it exists: `at` of the frame that continues and of the function's
 abbrev pub at_function : (Frame → Frame → Stand Frame) → Option Function → ℕ → List Todo → Frame → Stand Frame
 at_function at None count todo f = Elsewhere
 at_function at (Some callee) count todo f =

@@ -1,5 +1,5 @@
--- What a frame does by itself: the first thing that it has to do. It is total: where a value is missing, as in no typed
--- program, the value counts as nil.
+-- What a frame does by itself: the first thing that it has to do. It is total: a missing value counts as nil, which
+-- never happens in a typed program.
 use Rattle.std.specs.Prelude.{ℕ, Bool, true, false, List, [], ◌∷◌, length, take, drop, Option, Some, None}
 use Rattle.rgo_typed.specs.declared.actions.Action.TheVariants.{Store, New}
 use Rattle.rgo_typed.specs.declared.actions.Logical.{Logical}
@@ -18,9 +18,10 @@ use Rattle.rgo_memory.specs.Effects as effect
 use Rattle.rgo_memory.specs.Perform.{perform}
 use Rattle.rgo_machine.specs.Lines.{line_of}
 use Rattle.rgo_machine.specs.Machines.{Act, Moves, Returns, Prints, Traps}
-use Rattle.rgo_meaning.specs.Frames.{Todo, Evaluate, Each, Perform, Affect, Settle, Decide, Create, Fill, Repeat, Give, Forget}
-use Rattle.rgo_meaning.specs.Frames.{Clear, Enter, Start, Write, Execute, Sequence, When, Choose, Close, Onward, Turn, Test}
-use Rattle.rgo_meaning.specs.Frames.{Again, Leave, Frame, local_at, with_local, value_below, newest, last_values, replaced, going}
+use Rattle.rgo_meaning.specs.Frames.{Frame, local_at, with_local, value_below, newest, last_values, replaced, going}
+use Rattle.rgo_meaning.specs.Frames.{Todo, Evaluate, Each, Perform, Affect, Settle, Decide, Create, Fill, Repeat, Give}
+use Rattle.rgo_meaning.specs.Frames.{Forget, Clear, Enter, Start, Write, Execute, Sequence, When, Choose, Close, Onward}
+use Rattle.rgo_meaning.specs.Frames.{Turn, Test, Again, Leave}
 use Rattle.rgo_meaning.specs.Todos.{term_todo, statement_todo, turn_todo}
 
 -- ---- actions
@@ -51,20 +52,20 @@ abbrev pub each : Terms → List Todo → List Todo
 each tree.no_terms todo = todo
 each (tree.a_term t ts) todo = Evaluate t ∷ Each ts ∷ todo
 
--- any other value than a bool counts as false; no typed program has one where a bool decides
+-- a value that is not a bool counts as false; in a typed program only a bool decides
 abbrev pub is_true : Value → Bool
 is_true (value.Bool b) = b
 is_true _ = false
 
--- the right side is evaluated in the place of the left, or the left one's value stays
+-- the right side is evaluated in place of the left, or the left side's value is the result
 abbrev pub decided : Logical → Term → List Todo → Frame → Bool → Frame
 decided And right todo f true = going f 1 [] (Evaluate right ∷ Settle ∷ todo)
 decided And right todo f false = going f 0 [] todo
 decided Or right todo f true = going f 0 [] todo
 decided Or right todo f false = going f 1 [] (Evaluate right ∷ Settle ∷ todo)
 
--- the first of these fields of the newest value's object is written, with the value that lies as far below it as there
--- are fields; at the end the object is in the place of the values
+-- The first of these fields of the newest value's object is written, with the value that is below it by the number of
+-- fields. At the end the object replaces the values.
 abbrev pub filled : List Struct → Memory → ℕ → List ℕ → (place : ℕ) → List Todo → Frame → Act Frame
 filled structs m count [] place todo f =
     Moves m (record f { values = replaced (newest f.values) count f.values; todo = todo })
@@ -99,8 +100,8 @@ tested test body post todo false = todo
 
 -- ---- one thing to do
 
--- what changes only the frame, and what is to do behind it. A call or a start of a function that does not exist takes
--- its arguments
+-- What changes the frame alone, before the other things to do. A call or a start of a function that does not exist
+-- takes its arguments and does nothing.
 abbrev pub moved : Todo → List Todo → Frame → Frame
 moved (Evaluate t) todo f = evaluated t todo f
 moved (Each ts) todo f = going f 0 [] (each ts todo)
@@ -133,7 +134,7 @@ done program m (Write pieces count) todo f =
 done program m Leave todo f = Returns (Some (newest f.values))
 done program m item todo f = Moves m (moved item todo f)
 
--- the first of several things; where nothing is to do the function returns, without a value
+-- the first of several things; if nothing is to do, the function returns without a value
 abbrev pub first_done : Typed → Memory → List Todo → Frame → Act Frame
 first_done program m [] f = Returns None
 first_done program m (item ∷ todo) f = done program m item todo f

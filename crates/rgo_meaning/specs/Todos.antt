@@ -3,8 +3,9 @@ use Rattle.std.specs.Prelude.{ℕ, suc, List, [], ◌∷◌, Option, Some, None}
 use Rattle.rgo_typed.specs.declared.actions.Action.TheVariants.{Binary}
 use Rattle.rgo_typed.specs.Tree as tree
 use Rattle.rgo_typed.specs.Tree.{Term, Terms, Stmt, Stmts, Change}
-use Rattle.rgo_meaning.specs.Frames.{Todo, Evaluate, Each, Perform, Affect, Settle, Decide, Create, Fill, Repeat, Give, Forget}
-use Rattle.rgo_meaning.specs.Frames.{Clear, Enter, Start, Write, Sequence, When, Choose, Close, Turn, Test, Again, Leave}
+use Rattle.rgo_meaning.specs.Frames.{Todo, Evaluate, Each, Perform, Affect, Settle, Decide, Create, Fill, Repeat, Give}
+use Rattle.rgo_meaning.specs.Frames.{Forget, Clear, Enter, Start, Write, Sequence, When, Choose, Close, Turn, Test}
+use Rattle.rgo_meaning.specs.Frames.{Again, Leave}
 
 abbrev pub count : Terms → ℕ
 count tree.no_terms = 0
@@ -46,7 +47,7 @@ after_continue [] = []
 after_continue (Again test body post ∷ todo) = Again test body post ∷ todo
 after_continue (item ∷ todo) = after_continue todo
 
--- of a statement that branches or jumps, or holds others
+-- of a statement that branches, jumps or contains statements
 abbrev pub flow_todo : Stmt → List Todo → List Todo
 flow_todo (tree.Block all) todo = Sequence all ∷ Close ∷ todo
 flow_todo (tree.If test body at) todo = Evaluate test ∷ When body ∷ todo

@@ -18,12 +18,12 @@ use crate::frames::{Frame, Todo};
 use crate::statements::{again, choose, execute, sequence, test_loop, turn, when};
 use crate::terms::{decide, each, evaluate};
 use rgo_ast::Place;
-use rgo_machine::{Did, line};
+use rgo_machine::{Did, write_line};
 use rgo_memory::{Effect, Memory, Value, perform, zero};
 use rgo_typed::{Action, Base, Piece, Row, Struct, Type, Typed};
 use std::alloc::{AllocError, Global};
 
-/// The type of an action that gives no value. Takes no memory.
+/// The type of an action without a result. Allocates nothing.
 fn no_type(alloc: Global) -> Type
     ensures { result ≡ spec.no_type }
 {
@@ -33,7 +33,7 @@ fn no_type(alloc: Global) -> Type
     }
 }
 
-/// An action that gives a value. The value's place is made first, so that nothing fails once the memory has changed.
+/// An action with a result. Its place is made first, so that nothing can fail after the memory has changed.
 fn give_value(
     alloc: Global,
     structs: &[Struct],
@@ -44,7 +44,8 @@ fn give_value(
     ty: &Type,
     at: Place,
 ) -> Result<Did, AllocError>
-    ensures acts { (out : List ℕ) → Acts result (memory_of memory.old) (memory_of memory.new) frame.old frame.new out out
+    ensures acts { (out : List ℕ) → Acts result (memory_of memory.old) (memory_of memory.new)
+        frame.old frame.new out out
         (spec.effected (spec.giving frame.old count (drop 1 frame.old.todo)) at
         (perform structs.now action ty.now (last_values count frame.old.values) (memory_of memory.old))) }
     ensures channels { SameChannels (memory_of memory.old) (memory_of memory.new) }
@@ -67,7 +68,7 @@ fn give_value(
     }
 }
 
-/// An action that gives none.
+/// An action without a result.
 fn affect(
     alloc: Global,
     structs: &[Struct],
@@ -77,7 +78,8 @@ fn affect(
     count: usize,
     at: Place,
 ) -> Result<Did, AllocError>
-    ensures acts { (out : List ℕ) → Acts result (memory_of memory.old) (memory_of memory.new) frame.old frame.new out out
+    ensures acts { (out : List ℕ) → Acts result (memory_of memory.old) (memory_of memory.new)
+        frame.old frame.new out out
         (spec.effected (spec.leaving frame.old count (drop 1 frame.old.todo)) at
         (perform structs.now action spec.no_type (last_values count frame.old.values) (memory_of memory.old))) }
     ensures channels { SameChannels (memory_of memory.old) (memory_of memory.new) }
@@ -92,7 +94,7 @@ fn affect(
     }
 }
 
-/// The first of the fields of a new object that are still to be written, or none.
+/// Writes the first of these fields of a new object; if there is none, the object replaces the values.
 fn fill<'a>(
     alloc: Global,
     structs: &[Struct],
@@ -103,7 +105,8 @@ fn fill<'a>(
     at: Place,
 ) -> Result<Did, AllocError>
     requires { 0 < length frame.old.todo }
-    ensures acts { (out : List ℕ) → Acts result (memory_of memory.old) (memory_of memory.new) frame.old frame.new out out
+    ensures acts { (out : List ℕ) → Acts result (memory_of memory.old) (memory_of memory.new)
+        frame.old frame.new out out
         (spec.filled structs.now (memory_of memory.old) count fields.now at (drop 1 frame.old.todo) frame.old) }
     ensures channels { SameChannels (memory_of memory.old) (memory_of memory.new) }
 {
@@ -131,24 +134,23 @@ fn fill<'a>(
     }
 }
 
-/// A line is printed.
+/// Prints a line.
 fn write(
-    alloc: Global,
     frame: &mut Frame<'_>,
     pieces: &[Piece],
     count: usize,
     out: &mut Vec<u8>,
 ) -> Result<Did, AllocError>
     ensures { (m : the_memory.Memory) → Acts result m m frame.old frame.new out.old.items out.new.items
-        (Prints (going frame.old count [] (drop 1 frame.old.todo)) (line_of pieces.now (last_values count frame.old.values))) }
+        (Prints (going frame.old count [] (drop 1 frame.old.todo))
+        (line_of pieces.now (last_values count frame.old.values))) }
 {
-    let bytes = line(alloc, pieces, frame.last(count))?;
-    out.extend_from_slice(&bytes)?;
+    write_line(out, pieces, frame.last(count))?;
     frame.advance(count);
     Ok(Did::Prints)
 }
 
-/// What changes only the frame.
+/// What changes the frame alone.
 fn move_on<'a>(frame: &mut Frame<'a>, todo: Todo<'a>) -> Result<(), AllocError>
     ensures { Changes result frame.old frame.new
         (spec.moved (todo_of todo.entry) (drop 1 frame.old.todo) frame.old) }
@@ -206,7 +208,8 @@ fn do_one<'a>(
     requires { 0 < length frame.old.todo }
     ensures acts { Acts result (memory_of memory.old) (memory_of memory.new) frame.old frame.new
         out.old.items out.new.items
-        (spec.done (typed_of program.now) (memory_of memory.old) (todo_of todo.entry) (drop 1 frame.old.todo) frame.old) }
+        (spec.done (typed_of program.now) (memory_of memory.old) (todo_of todo.entry)
+        (drop 1 frame.old.todo) frame.old) }
     ensures channels { SameChannels (memory_of memory.old) (memory_of memory.new) }
 {
     let structs = program.structs.items();
@@ -229,7 +232,7 @@ fn do_one<'a>(
             )
         }
         Todo::Fill(count, fields, at) => fill(alloc, structs, memory, frame, count, fields, at),
-        Todo::Write(pieces, count) => write(alloc, frame, pieces, count, out),
+        Todo::Write(pieces, count) => write(frame, pieces, count, out),
         Todo::Leave => Ok(Did::Returns(Some(frame.value(0)))),
         _ => {
             move_on(frame, todo)?;
@@ -238,7 +241,7 @@ fn do_one<'a>(
     }
 }
 
-/// The first thing that the frame has to do; it returns where there is none.
+/// The first thing that the frame has to do; if there is none, its function returns.
 pub fn act<'a>(
     alloc: Global,
     program: &'a Typed,

@@ -13,43 +13,42 @@ use rgo_typed::{Action, Logical, Piece, Stmt, Term, Type};
 use std::alloc::AllocError;
 use std::marker::Model;
 
-/// One thing to do. What gives a value puts it on the frame's values; what takes values takes the
-/// newest.
+/// One thing to do. What produces a value pushes it on the frame's values; what takes n values takes the newest n.
 #[derive(Clone, Copy)]
 pub enum Todo<'a> {
-    /// Gives a term's value.
+    /// Evaluates a term.
     Evaluate(&'a Term),
-    /// Gives the values of several terms.
+    /// Evaluates several terms.
     Each(&'a [Term]),
-    /// An action on so many values, which gives one of this type.
+    /// An action on this number of values, with a result of this type.
     Perform(Action, usize, &'a Type, Place),
-    /// An action on so many values, which gives none.
+    /// An action on this number of values, without a result.
     Affect(Action, usize, Place),
-    /// The value of a right side is that of the whole: nothing is done.
+    /// The value of a right side is the value of the whole: nothing is done.
     Settle,
-    /// The right side of `&&` or `||`, where the left side leaves it to decide.
+    /// The right side of `&&` or `||`, where the left side does not decide.
     Decide(Logical, &'a Term),
     /// A new object of the struct of this number.
     Create(usize),
-    /// So many values below the newest are stored in these fields of its object, one by one.
+    /// This number of values below the newest are stored in these fields of its object, one by one.
     Fill(usize, &'a [usize], Place),
-    /// So many values once more.
+    /// This number of values once more.
     Repeat(usize),
-    /// A value goes into the local variable of this number.
+    /// The local variable of this number is assigned the newest value.
     Give(usize),
-    /// A value is let go.
+    /// The newest value is dropped.
     Forget,
-    /// The local variable of this number starts at the zero of its type.
+    /// The local variable of this number is set to the zero of its type.
     Clear(usize, &'a Type),
-    /// The function of this number is called with so many values.
+    /// The function of this number is called with a number of values.
     Enter(usize, usize),
-    /// The function of this number is started as a goroutine with so many values.
+    /// The function of this number is started as a goroutine with a number of values.
     Start(usize, usize),
-    /// A line with so many values.
+    /// A line with this number of values is printed.
     Write(&'a [Piece], usize),
     /// A statement.
     Execute(&'a Stmt),
-    /// Statements, one behind the other.
+    /// Statements, one after the other.
     Sequence(&'a [Stmt]),
     /// Statements, where the value is true.
     When(&'a [Stmt]),
@@ -63,13 +62,13 @@ pub enum Todo<'a> {
     Turn(&'a Option<Box<Term>>, &'a [Stmt], &'a [Stmt]),
     /// What the value of a loop's condition decides.
     Test(&'a Option<Box<Term>>, &'a [Stmt], &'a [Stmt]),
-    /// Behind a loop's body: the post statement, and the loop again.
+    /// After a loop's body: the post statement, and the loop again.
     Again(&'a Option<Box<Term>>, &'a [Stmt], &'a [Stmt]),
     /// The function returns, with a value.
     Leave,
 }
 
-/// The local variables by number, the values that wait to be used, and what is to do. Where nothing is to do the
+/// The local variables by number, the values that are not used yet, and what is to do. If nothing is to do, the
 /// function returns.
 #[derive(Drop)]
 pub struct Frame<'a> {
@@ -107,7 +106,7 @@ impl<'a> Frame<'a> {
         local(&self.locals, n)
     }
 
-    /// The value below so many newer ones; nil where there is none.
+    /// The value below `newer` newer ones; nil if there is none.
     pub(crate) fn value(&self, newer: usize) -> Value
         ensures { result ≡ spec.value_below self.now.values newer }
     {
@@ -131,7 +130,7 @@ impl<'a> Frame<'a> {
         self.values.below_first(count)
     }
 
-    /// The first thing is done, and has taken up to `count` values.
+    /// Drops the first thing, and the newest values, up to `count`.
     pub(crate) fn advance(&mut self, count: usize)
         ensures { self.new ≡ spec.going self.old count [] (drop 1 self.old.todo) }
     {
@@ -139,7 +138,15 @@ impl<'a> Frame<'a> {
         self.values.remove(count);
     }
 
-    /// The first thing gives way to these, and has taken up to `count` values. On allocation failure nothing
+    /// Replaces the first thing by these. On allocation failure nothing changes.
+    pub(crate) fn expand(&mut self, items: &[Todo<'a>]) -> Result<(), AllocError>
+        ensures { Changes result self.old self.new
+            (spec.going self.old 0 [] (map todo_of items.now ++ drop 1 self.old.todo)) }
+    {
+        self.todo.put(1, items)
+    }
+
+    /// Replaces the first thing by these, and drops the newest values, up to `count`. On allocation failure nothing
     /// changes.
     pub(crate) fn advance_to(&mut self, count: usize, items: &[Todo<'a>]) -> Result<(), AllocError>
         ensures { Changes result self.old self.new
@@ -150,7 +157,7 @@ impl<'a> Frame<'a> {
         Ok(())
     }
 
-    /// This is to do in the place of the first thing.
+    /// Replaces the first thing by this one.
     pub(crate) fn set_first(&mut self, item: Todo<'a>)
         requires { 0 < length self.old.todo }
         ensures { self.new ≡ spec.going self.old 0 [] (todo_of item.entry ∷ drop 1 self.old.todo) }
@@ -158,7 +165,7 @@ impl<'a> Frame<'a> {
         self.todo.replace(0, item);
     }
 
-    /// Nothing is to do but these. On allocation failure nothing changes.
+    /// Replaces all things to do by these. On allocation failure nothing changes.
     pub(crate) fn end_with(&mut self, items: &[Todo<'a>]) -> Result<(), AllocError>
         ensures { Changes result self.old self.new (spec.going self.old 0 [] (map todo_of items.now)) }
     {
@@ -166,14 +173,14 @@ impl<'a> Frame<'a> {
         self.todo.put(all, items)
     }
 
-    /// Puts a value on the others. On allocation failure nothing changes.
+    /// Pushes a value. On allocation failure nothing changes.
     pub(crate) fn push(&mut self, value: Value) -> Result<(), AllocError>
         ensures { Changes result self.old self.new (spec.going self.old 0 (value ∷ []) self.old.todo) }
     {
         self.values.push(value)
     }
 
-    /// Puts the newest values, up to `count`, on the others once more. On allocation failure nothing changes.
+    /// Pushes the newest values, up to `count`, once more. On allocation failure nothing changes.
     pub(crate) fn repeat(&mut self, count: usize) -> Result<(), AllocError>
         ensures { Changes result self.old self.new
             (spec.going self.old 0 (take count self.old.values) self.old.todo) }
@@ -181,7 +188,7 @@ impl<'a> Frame<'a> {
         self.values.repeat(count)
     }
 
-    /// Lets the newest value go.
+    /// Drops the newest value.
     pub(crate) fn pop(&mut self)
         ensures { self.new ≡ spec.going self.old 1 [] self.old.todo }
     {

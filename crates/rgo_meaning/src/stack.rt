@@ -69,7 +69,7 @@ impl<T: Copy + Drop> Stack<T> {
         &below[below.len().saturating_sub(count)..]
     }
 
-    /// The item below so many newer ones.
+    /// The item below `newer` newer ones.
     pub fn below(&self, newer: usize) -> Option<T>
         ensures { result ≡ slice_get self.now newer }
     {
@@ -88,7 +88,7 @@ impl<T: Copy + Drop> Stack<T> {
         self.items.truncate(self.items.len().saturating_sub(count));
     }
 
-    /// Puts an item on top. On allocation failure nothing changes.
+    /// Pushes an item. On allocation failure nothing changes.
     pub fn push(&mut self, item: T) -> Result<(), AllocError>
         ensures { Changes result self.old self.new (item ∷ self.old) }
     {
@@ -96,7 +96,7 @@ impl<T: Copy + Drop> Stack<T> {
         Ok(())
     }
 
-    /// Puts the newest items, up to `count`, on top once more. On allocation failure nothing changes.
+    /// Pushes the newest items, up to `count`, once more. On allocation failure nothing changes.
     pub fn repeat(&mut self, count: usize) -> Result<(), AllocError>
         ensures { Changes result self.old self.new (take count self.old ++ self.old) }
     {
@@ -119,7 +119,7 @@ impl<T: Copy + Drop> Stack<T> {
         Ok(())
     }
 
-    /// Replaces the newest item, and up to `count` below it, by this one. Nothing where there is no item.
+    /// Replaces the newest item, and up to `count` below it, by this one. Does nothing if there is no item.
     pub fn replace(&mut self, count: usize, item: T)
         ensures { self.new ≡ replaced item count self.old }
     {

@@ -18,7 +18,7 @@ use rgo_memory::{Value, zero};
 use rgo_typed::{Action, Typed};
 use std::alloc::{AllocError, Global};
 
-/// Before an action on these values.
+/// Where a frame stands whose next action is this one on these values.
 fn at_channel(action: Action, blank: Value, at: Place, values: &[Value]) -> Stand
     ensures { (go_on : the_value.Value → the_frame.Frame)
         → result ≡ stand_of (spec.at_channel action blank at go_on values.now) }
@@ -68,10 +68,11 @@ pub fn stand(program: &Typed, frame: &Frame<'_>) -> Stand
     }
 }
 
-/// What a frame is given that stands before an action on these values, where the operation on the channel gave
-/// this value: nil by a send or a close, and nothing where it stands at no channel.
+/// The value with which a frame continues after this action on these values, if it is an operation on a channel that
+/// gave this value: a send or a close gives nil.
 fn given(action: Action, values: &[Value], value: Value) -> Option<Value>
-    ensures passes { (f : the_frame.Frame) (blank : the_value.Value) (at : ℕ) (go_on : the_value.Value → the_frame.Frame)
+    ensures passes { (f : the_frame.Frame) (blank : the_value.Value) (at : ℕ)
+        (go_on : the_value.Value → the_frame.Frame)
         → MatchOption result (passed f value (spec.at_channel action blank at go_on values.now) ≡ f)
         (λ v. passed f value (spec.at_channel action blank at go_on values.now) ≡ go_on v) }
     ensures some { IfSome result (λ v. 0 < length values.now) }
@@ -113,7 +114,7 @@ pub fn pass(frame: &mut Frame<'_>, value: Value)
     }
 }
 
-/// The function of this number is called or started, where it exists.
+/// Calls or starts the function of this number, if it exists.
 fn enter_function<'a>(
     alloc: Global,
     program: &'a Typed,
@@ -150,8 +151,8 @@ fn enter_before<'a>(
     }
 }
 
-/// A frame continues after the call or the start of a function. Answers the function's frame; `None` where the frame
-/// stands before neither.
+/// A frame continues after the call or the start of a function. Returns the function's frame; `None` if the frame is
+/// before neither.
 pub fn enter<'a>(
     alloc: Global,
     program: &'a Typed,

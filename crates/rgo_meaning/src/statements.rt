@@ -19,7 +19,7 @@ pub fn sequence<'a>(frame: &mut Frame<'a>, stmts: &'a [Stmt]) -> Result<(), Allo
         (spec.sequence (stmts_of (map typed.stmt_of stmts.now)) (drop 1 frame.old.todo))) }
 {
     match stmts.split_first() {
-        Some((first, rest)) => frame.advance_to(0, &[Todo::Execute(first), Todo::Sequence(rest)]),
+        Some((first, rest)) => frame.expand(&[Todo::Execute(first), Todo::Sequence(rest)]),
         None => {
             frame.advance(0);
             Ok(())
@@ -70,12 +70,9 @@ pub fn turn<'a>(
         (stmts_of (map typed.stmt_of post.now)) (drop 1 frame.old.todo))) }
 {
     match test {
-        None => frame.advance_to(0, &[Todo::Sequence(body), Todo::Again(test, body, post)]),
+        None => frame.expand(&[Todo::Sequence(body), Todo::Again(test, body, post)]),
         Some(condition) => {
-            frame.advance_to(
-                0,
-                &[Todo::Evaluate(condition), Todo::Test(test, body, post)],
-            )
+            frame.expand(&[Todo::Evaluate(condition), Todo::Test(test, body, post)])
         }
     }
 }
@@ -112,17 +109,14 @@ pub fn again<'a>(
         ∷ Turn (typed.boxed_term_of test.now) (stmts_of (map typed.stmt_of body.now))
         (stmts_of (map typed.stmt_of post.now)) ∷ drop 1 frame.old.todo)) }
 {
-    frame.advance_to(
-        0,
-        &[
-            Todo::Sequence(post),
-            Todo::Onward,
-            Todo::Turn(test, body, post),
-        ],
-    )
+    frame.expand(&[
+        Todo::Sequence(post),
+        Todo::Onward,
+        Todo::Turn(test, body, post),
+    ])
 }
 
-/// Leaves what is to do down to the innermost loop, and that too.
+/// Drops what is to do in the innermost loop, and the loop itself.
 fn leave_loop(frame: &mut Frame<'_>)
     ensures { frame.new ≡ going frame.old 0 [] (todos.after_break frame.old.todo) }
 {
@@ -136,7 +130,7 @@ fn leave_loop(frame: &mut Frame<'_>)
     }
 }
 
-/// Leaves what is to do down to the innermost loop.
+/// Drops what is to do in the innermost loop before its post statement.
 fn next_turn(frame: &mut Frame<'_>)
     ensures { frame.new ≡ going frame.old 0 [] (todos.after_continue frame.old.todo) }
 {
@@ -148,7 +142,7 @@ fn next_turn(frame: &mut Frame<'_>)
     }
 }
 
-/// Nothing else is to do in the function than to return.
+/// Replaces all that is to do in the function by its return.
 fn return_with<'a>(frame: &mut Frame<'a>, value: &'a Option<Box<Term>>) -> Result<(), AllocError>
     ensures { Changes result frame.old frame.new (going frame.old 0 []
         (todos.return_todo (typed.boxed_term_of value.now))) }
@@ -159,24 +153,24 @@ fn return_with<'a>(frame: &mut Frame<'a>, value: &'a Option<Box<Term>>) -> Resul
     }
 }
 
-/// A statement that branches or jumps, or holds others.
+/// A statement that branches, jumps or contains statements.
 #[tactic(auto, using(rgo_typed::proofs::Rows::rows))]
 fn execute_flow<'a>(frame: &mut Frame<'a>, stmt: &'a Stmt) -> Result<(), AllocError>
     ensures { Changes result frame.old frame.new (going frame.old 0 []
         (todos.flow_todo (typed.stmt_of stmt.now) (drop 1 frame.old.todo))) }
 {
     match stmt {
-        Stmt::Block(all) => frame.advance_to(0, &[Todo::Sequence(all), Todo::Close]),
-        Stmt::If(test, body, _) => frame.advance_to(0, &[Todo::Evaluate(test), Todo::When(body)]),
+        Stmt::Block(all) => frame.expand(&[Todo::Sequence(all), Todo::Close]),
+        Stmt::If(test, body, _) => frame.expand(&[Todo::Evaluate(test), Todo::When(body)]),
         Stmt::IfElse(test, body, other, _) => {
-            frame.advance_to(0, &[Todo::Evaluate(test), Todo::Choose(body, other)])
+            frame.expand(&[Todo::Evaluate(test), Todo::Choose(body, other)])
         }
         Stmt::Loop {
             test,
             body,
             post,
             at: _,
-        } => { frame.advance_to(0, &[Todo::Turn(test, body, post)]) }
+        } => frame.expand(&[Todo::Turn(test, body, post)]),
         Stmt::Break(_) => {
             frame.advance(0);
             leave_loop(frame);
@@ -195,7 +189,7 @@ fn execute_flow<'a>(frame: &mut Frame<'a>, stmt: &'a Stmt) -> Result<(), AllocEr
     }
 }
 
-/// A statement is executed: its parts come first.
+/// Executes a statement: its parts come first.
 #[tactic(auto, using(rgo_typed::proofs::Rows::rows, crate::proofs::Counts::counted))]
 pub fn execute<'a>(frame: &mut Frame<'a>, stmt: &'a Stmt) -> Result<(), AllocError>
     ensures { Changes result frame.old frame.new (going frame.old 0 []
@@ -203,16 +197,13 @@ pub fn execute<'a>(frame: &mut Frame<'a>, stmt: &'a Stmt) -> Result<(), AllocErr
 {
     match stmt {
         Stmt::Declare(n, _, value, _) | Stmt::Assign(n, value, _) => {
-            frame.advance_to(0, &[Todo::Evaluate(value), Todo::Give(*n)])
+            frame.expand(&[Todo::Evaluate(value), Todo::Give(*n)])
         }
-        Stmt::Zero(n, ty, _) => frame.advance_to(0, &[Todo::Clear(*n, ty)]),
-        Stmt::Perform(action, operands, at) => frame.advance_to(
-            0,
-            &[
-                Todo::Each(operands),
-                Todo::Affect(*action, operands.len(), *at),
-            ],
-        ),
+        Stmt::Zero(n, ty, _) => frame.expand(&[Todo::Clear(*n, ty)]),
+        Stmt::Perform(action, operands, at) => frame.expand(&[
+            Todo::Each(operands),
+            Todo::Affect(*action, operands.len(), *at),
+        ]),
         Stmt::Update {
             operands,
             read,
@@ -222,39 +213,27 @@ pub fn execute<'a>(frame: &mut Frame<'a>, stmt: &'a Stmt) -> Result<(), AllocErr
             value,
             write,
             at,
-        } => frame.advance_to(
-            0,
-            &[
-                Todo::Each(operands),
-                Todo::Repeat(operands.len()),
-                Todo::Perform(*read, operands.len(), ty, *read_at),
-                Todo::Evaluate(value),
-                Todo::Perform(Action::Binary(*op), 2, ty, *at),
-                Todo::Affect(*write, operands.len() + 1, *at),
-            ],
-        ),
-        Stmt::Discard(value) => frame.advance_to(0, &[Todo::Evaluate(value), Todo::Forget]),
-        Stmt::Invoke(function, arguments, _) => frame.advance_to(
-            0,
-            &[
-                Todo::Each(arguments),
-                Todo::Enter(*function, arguments.len()),
-            ],
-        ),
-        Stmt::Go(function, arguments, _) => frame.advance_to(
-            0,
-            &[
-                Todo::Each(arguments),
-                Todo::Start(*function, arguments.len()),
-            ],
-        ),
-        Stmt::Print(pieces, values, _) => frame.advance_to(
-            0,
-            &[
-                Todo::Each(values),
-                Todo::Write(pieces.items(), values.len()),
-            ],
-        ),
+        } => frame.expand(&[
+            Todo::Each(operands),
+            Todo::Repeat(operands.len()),
+            Todo::Perform(*read, operands.len(), ty, *read_at),
+            Todo::Evaluate(value),
+            Todo::Perform(Action::Binary(*op), 2, ty, *at),
+            Todo::Affect(*write, operands.len() + 1, *at),
+        ]),
+        Stmt::Discard(value) => frame.expand(&[Todo::Evaluate(value), Todo::Forget]),
+        Stmt::Invoke(function, arguments, _) => frame.expand(&[
+            Todo::Each(arguments),
+            Todo::Enter(*function, arguments.len()),
+        ]),
+        Stmt::Go(function, arguments, _) => frame.expand(&[
+            Todo::Each(arguments),
+            Todo::Start(*function, arguments.len()),
+        ]),
+        Stmt::Print(pieces, values, _) => frame.expand(&[
+            Todo::Each(values),
+            Todo::Write(pieces.items(), values.len()),
+        ]),
         Stmt::Block(_)
         | Stmt::If(_, _, _)
         | Stmt::IfElse(_, _, _, _)

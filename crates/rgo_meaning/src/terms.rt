@@ -12,7 +12,7 @@ use rgo_memory::Value;
 use rgo_typed::{Logical, Term};
 use std::alloc::AllocError;
 
-/// A term is evaluated: a local variable gives its value, any other term its parts first.
+/// Evaluates a term: a local variable at once, any other term after its parts.
 #[tactic(auto, using(rgo_typed::proofs::Rows::rows, crate::proofs::Counts::counted))]
 pub fn evaluate<'a>(frame: &mut Frame<'a>, term: &'a Term) -> Result<(), AllocError>
     ensures { Changes result frame.old frame.new
@@ -24,32 +24,24 @@ pub fn evaluate<'a>(frame: &mut Frame<'a>, term: &'a Term) -> Result<(), AllocEr
             frame.advance(0);
             Ok(())
         }
-        Term::Apply(action, parts, ty, at) => frame.advance_to(
-            0,
-            &[
-                Todo::Each(parts),
-                Todo::Perform(*action, parts.len(), ty, *at),
-            ],
-        ),
-        Term::Logic(op, left, right, _) => frame.advance_to(
-            0,
-            &[Todo::Evaluate(left), Todo::Settle, Todo::Decide(*op, right)],
-        ),
-        Term::Build(number, parts, fields, at) => frame.advance_to(
-            0,
-            &[
-                Todo::Each(parts),
-                Todo::Create(*number),
-                Todo::Fill(parts.len(), fields.items(), *at),
-            ],
-        ),
-        Term::Call(function, arguments, _, _) => frame.advance_to(
-            0,
-            &[
-                Todo::Each(arguments),
-                Todo::Enter(*function, arguments.len()),
-            ],
-        ),
+        Term::Apply(action, parts, ty, at) => frame.expand(&[
+            Todo::Each(parts),
+            Todo::Perform(*action, parts.len(), ty, *at),
+        ]),
+        Term::Logic(op, left, right, _) => frame.expand(&[
+            Todo::Evaluate(left),
+            Todo::Settle,
+            Todo::Decide(*op, right),
+        ]),
+        Term::Build(number, parts, fields, at) => frame.expand(&[
+            Todo::Each(parts),
+            Todo::Create(*number),
+            Todo::Fill(parts.len(), fields.items(), *at),
+        ]),
+        Term::Call(function, arguments, _, _) => frame.expand(&[
+            Todo::Each(arguments),
+            Todo::Enter(*function, arguments.len()),
+        ]),
     }
 }
 
@@ -59,7 +51,7 @@ pub fn each<'a>(frame: &mut Frame<'a>, terms: &'a [Term]) -> Result<(), AllocErr
         (spec.each (terms_of (map typed.term_of terms.now)) (drop 1 frame.old.todo))) }
 {
     match terms.split_first() {
-        Some((first, rest)) => frame.advance_to(0, &[Todo::Evaluate(first), Todo::Each(rest)]),
+        Some((first, rest)) => frame.expand(&[Todo::Evaluate(first), Todo::Each(rest)]),
         None => {
             frame.advance(0);
             Ok(())

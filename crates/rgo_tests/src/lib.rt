@@ -8,13 +8,13 @@
 #[cfg(test)]
 mod checks;
 #[cfg(test)]
+mod driver;
+#[cfg(test)]
 mod lines;
 #[cfg(test)]
 mod meaning;
 #[cfg(test)]
 mod outside;
-#[cfg(test)]
-mod rounds;
 #[cfg(test)]
 mod rule_names;
 #[cfg(test)]

@@ -1,0 +1,286 @@
+-- Steps of a turn, one after the other.
+use Rattle.std.proofs.Common.{◌≡◌, ◌<◌, ◌≤◌, ◌+◌, ◌-◌, ◌^◌, ◌⊎◌, inl, inr, ℕ, Bool, true, false, List, [], ◌∷◌, ◌++◌, length}
+use Rattle.std.proofs.Common.{Option, Some, None, Result, Ok, Err, MatchResult, refl, ap, sym, subst, ◌∙◌, arith, replicate, length-append}
+use Rattle.std.proofs.lemmas.List.{length-replicate}
+use Rattle.std.proofs.lemmas.List.Elements.{All-nil, All-append, All-replicate, All-push}
+use Rattle.std.specs.Prelude.{min}
+use Rattle.rgo_machine.specs.declared.limits.Limits.{Limits}
+use Rattle.rgo_machine.specs.declared.picks.Pick.{Pick}
+use Rattle.rgo_machine.specs.declared.picks.Pick.TheVariants.{One, Meet}
+use Rattle.rgo_machine.specs.declared.turns.Stop.{Stop}
+use Rattle.rgo_machine.specs.declared.turns.Stop.TheVariants as stop
+use Rattle.rgo_machine.specs.declared.turns.Turned.{Turned}
+use Rattle.rgo_machine.specs.Limits.{LeadsWithin, limited_step}
+use Rattle.rgo_machine.specs.Machines.{Machine, State, step_by}
+use Rattle.rgo_machine.specs.Turns.{Turns, IsOver}
+use Rattle.rgo_driver.specs.declared.ends.RunEnd.{RunEnd}
+use Rattle.rgo_driver.specs.declared.ends.RunEnd.TheVariants as run_end
+use Rattle.rgo_driver.specs.Points.{Point}
+use Rattle.rgo_driver.specs.Rounds.{IsOf}
+use Rattle.rgo_driver.specs.Runs.{Ends}
+use Rattle.rgo_driver.specs.Turning as turning
+use Rattle.rgo_driver.specs.Turning.{Counts, CountsUp, AreMet, Tries, end_of, GoesOn, Moved, Stopped, Advances}
+use Rattle.rgo_driver.proofs.Leading.{same_some, leads_on, leads_one, stays_within, within_step}
+use Rattle.rgo_driver.proofs.Others.{meeting_is}
+
+pub counts_none : (m : ℕ) → CountsUp m 0 m
+counts_none m taken e = omega (arith, e)
+
+pub counts_on : (m n k a b : ℕ) → CountsUp m a n → CountsUp n b k → CountsUp m (a + b) k
+counts_on m n k a b p q taken e = let h = q (taken + a) (p taken e) in omega (arith, h)
+
+-- by the sum that stops at the end
+pub counts_saturating : (m n a : ℕ) → n ≡ min (m + a) (2 ^ 64 - 1) → CountsUp m a n
+counts_saturating m n a is taken e = omega (arith, is, e)
+
+module _ {F : Type 0} (machine : Machine F) (limits : Limits) where
+  -- ---- what moves
+
+  pub moved_none : (g : ℕ) (p q : Point F) → GoesOn limits p.state → q.state ≡ p.state → q.steps ≡ p.steps
+      → Moved machine limits g p q 0
+  moved_none g p q on state steps = record {
+    picks = [];
+    leads = ap Some (sym state);
+    own = All-nil (IsOf g);
+    long = refl;
+    counted = subst (CountsUp p.steps 0) (sym steps) (counts_none p.steps);
+    on = subst (GoesOn limits) (sym state) on;
+  }
+
+  pub moved_on : (g : ℕ) (p q r : Point F) (a b : ℕ) → Moved machine limits g p q a → Moved machine limits g q r b
+      → Moved machine limits g p r (a + b)
+  moved_on g p q r a b h k =
+      let long : length (h.picks ++ k.picks) ≡ length h.picks + length k.picks = length-append h.picks k.picks in
+      record {
+        picks = h.picks ++ k.picks;
+        leads = leads_on (limited_step machine limits) p.state q.state r.state h.picks k.picks h.leads k.leads;
+        own = All-append (IsOf g) h.picks k.picks h.own k.own;
+        long = omega (arith, long, h.long, k.long);
+        counted = subst (λ n. CountsUp p.steps n r.steps) (sym long)
+            (counts_on p.steps q.steps r.steps (length h.picks) (length k.picks) h.counted k.counted);
+        on = k.on;
+      }
+
+  pub moved_by : (g : ℕ) (p q : Point F) (a b : ℕ) → a ≡ b → Moved machine limits g p q a → Moved machine limits g p q b
+  moved_by g p q a b e h = subst (Moved machine limits g p q) e h
+
+  -- a meeting
+  met_own : (g h r t : ℕ) → AreMet (Meet r t) g h → IsOf g (Meet r t)
+  met_own g h r t (inl p) = inl p.0
+  met_own g h r t (inr p) = inr p.1
+
+  pub moved_meeting : (g h r t : ℕ) (p q : Point F) → GoesOn limits p.state → AreMet (Meet r t) g h
+      → step_by machine p.state (Meet r t) ≡ Some q.state → CountsUp p.steps 1 q.steps → Moved machine limits g p q 1
+  moved_meeting g h r t p q on both step counted =
+      let met = meeting_is machine limits p.state r t q.state step in
+      let within = met.within on.within in
+      record {
+        picks = Meet r t ∷ [];
+        leads = leads_one (limited_step machine limits) p.state q.state (Meet r t)
+            (within_step machine limits p.state q.state (Meet r t) step within);
+        own = All-push (IsOf g) [] (Meet r t) (All-nil (IsOf g)) (met_own g h r t both);
+        long = refl;
+        counted = counted;
+        on = record { running = met.ended ∙ on.running; within = within };
+      }
+
+  -- ---- a turn of the machine
+
+  goes_on : (t : State F) (g at_most n : ℕ) (s : Stop) → end_of s ≡ None → IsOver machine limits t g at_most n s → t.ended ≡ None
+  goes_on t g at_most n stop.Spent none over = over.0
+  goes_on t g at_most n stop.Waits none over = over.0
+  goes_on t g at_most n stop.Printed none over = over.0
+  goes_on t g at_most n (stop.Operated channel) none over = over.0
+  goes_on t g at_most n (stop.Ended e) none over = cc
+  goes_on t g at_most n stop.TooDeep none over = cc
+  goes_on t g at_most n stop.Full none over = cc
+  goes_on t g at_most n stop.NoMemory none over = cc
+
+  pub turned_moves : (g at_most : ℕ) (p q : Point F) (turned : Turned) → GoesOn limits p.state → end_of turned.stop ≡ None
+      → Turns machine limits p.state q.state g at_most turned → CountsUp p.steps turned.steps q.steps
+      → Moved machine limits g p q turned.steps
+  turned_moves g at_most p q turned on none turns counted =
+      let picks = replicate turned.steps (One g) in
+      let long : length picks ≡ turned.steps = length-replicate turned.steps (One g) in
+      record {
+        picks = picks;
+        leads = turns.leads;
+        own = All-replicate (IsOf g) turned.steps (One g) refl;
+        long = long;
+        counted = subst (λ n. CountsUp p.steps n q.steps) (sym long) counted;
+        on = record {
+          running = goes_on q.state g at_most turned.steps turned.stop none turns.over;
+          within = stays_within machine limits picks p.state q.state turns.leads on.within;
+        };
+      }
+
+  found_end : (t : State F) (g at_most n : ℕ) (s : Stop) (end : RunEnd) → end_of s ≡ Some end
+      → IsOver machine limits t g at_most n s → (before steps : ℕ) → Ends machine limits before steps t end
+  found_end t g at_most n stop.Spent end is over before steps = cc
+  found_end t g at_most n stop.Waits end is over before steps = cc
+  found_end t g at_most n stop.Printed end is over before steps = cc
+  found_end t g at_most n (stop.Operated channel) end is over before steps = cc
+  found_end t g at_most n (stop.Ended e) end is over before steps =
+      subst (Ends machine limits before steps t) (same_some (run_end.Ended e) end is) over.0
+  found_end t g at_most n stop.TooDeep end is over before steps =
+      subst (Ends machine limits before steps t) (same_some run_end.CallsTooDeep end is) over
+  found_end t g at_most n stop.Full end is over before steps =
+      subst (Ends machine limits before steps t) (same_some run_end.GoroutinesSpent end is) over
+  found_end t g at_most n stop.NoMemory end is over before steps =
+      subst (Ends machine limits before steps t) (same_some run_end.NoMemory end is) tt
+
+  no_fault : (s : Stop) (end : RunEnd) → end_of s ≡ Some end → end ≡ run_end.WriteFault → ⊥
+  no_fault stop.Spent end is e = cc
+  no_fault stop.Waits end is e = cc
+  no_fault stop.Printed end is e = cc
+  no_fault (stop.Operated channel) end is e = cc
+  no_fault (stop.Ended x) end is e = let both : run_end.Ended x ≡ run_end.WriteFault = same_some _ _ is ∙ e in cc
+  no_fault stop.TooDeep end is e = let both : run_end.CallsTooDeep ≡ run_end.WriteFault = same_some _ _ is ∙ e in cc
+  no_fault stop.Full end is e = let both : run_end.GoroutinesSpent ≡ run_end.WriteFault = same_some _ _ is ∙ e in cc
+  no_fault stop.NoMemory end is e = let both : run_end.NoMemory ≡ run_end.WriteFault = same_some _ _ is ∙ e in cc
+
+  pub turned_stops : (g at_most : ℕ) (s t : State F) (turned : Turned) (end : RunEnd) → end_of turned.stop ≡ Some end
+      → Turns machine limits s t g at_most turned → Stopped machine limits g s t at_most end
+  turned_stops g at_most s t turned end is turns = record {
+    picks = replicate turned.steps (One g);
+    leads = turns.leads;
+    own = All-replicate (IsOf g) turned.steps (One g) refl;
+    short = omega (arith, turns.within, length-replicate turned.steps (One g));
+    ends = found_end t g at_most turned.steps turned.stop end is turns.over;
+    no_fault = no_fault turned.stop end is;
+  }
+
+  -- ---- what stops
+
+  -- there was no memory to go on
+  pub turned_fails : (g at_most : ℕ) (s t : State F) (turned : Turned) → Turns machine limits s t g at_most turned
+      → Stopped machine limits g s t at_most run_end.NoMemory
+  turned_fails g at_most s t turned turns = record {
+    picks = replicate turned.steps (One g);
+    leads = turns.leads;
+    own = All-replicate (IsOf g) turned.steps (One g) refl;
+    short = omega (arith, turns.within, length-replicate turned.steps (One g));
+    ends = λ before steps. tt;
+    no_fault = λ e. cc;
+  }
+
+  pub moved_fails : (g at_most count : ℕ) (p q : Point F) → Moved machine limits g p q count → count ≤ at_most
+      → Stopped machine limits g p.state q.state at_most run_end.NoMemory
+  moved_fails g at_most count p q h le = record {
+    picks = h.picks;
+    leads = h.leads;
+    own = h.own;
+    short = omega (arith, h.long, le);
+    ends = λ before steps. tt;
+    no_fault = λ e. cc;
+  }
+
+  pub stopped_on : (g a b at_most : ℕ) (end : RunEnd) (p q : Point F) (t : State F) → Moved machine limits g p q a
+      → Stopped machine limits g q.state t b end → a + b ≤ at_most → Stopped machine limits g p.state t at_most end
+  stopped_on g a b at_most end p q t h k le = record {
+    picks = h.picks ++ k.picks;
+    leads = leads_on (limited_step machine limits) p.state q.state t h.picks k.picks h.leads k.leads;
+    own = All-append (IsOf g) h.picks k.picks h.own k.own;
+    short = omega (arith, length-append h.picks k.picks, h.long, k.short, le);
+    ends = k.ends;
+    no_fault = k.no_fault;
+  }
+
+  pub stopped_within : (g a at_most : ℕ) (end : RunEnd) (s t : State F) → Stopped machine limits g s t a end → a ≤ at_most
+      → Stopped machine limits g s t at_most end
+  stopped_within g a at_most end s t h le = record {
+    picks = h.picks;
+    leads = h.leads;
+    own = h.own;
+    short = omega (arith, h.short, le);
+    ends = h.ends;
+    no_fault = h.no_fault;
+  }
+
+  pub nothing_fails : (g at_most : ℕ) (s t : State F) → t ≡ s → Stopped machine limits g s t at_most run_end.NoMemory
+  nothing_fails g at_most s t same = record {
+    picks = [];
+    leads = ap Some (sym same);
+    own = All-nil (IsOf g);
+    short = omega arith;
+    ends = λ before steps. tt;
+    no_fault = λ e. cc;
+  }
+
+  -- ---- a meeting that was tried
+
+  pub meeting_moves : (g h : ℕ) (pick : Pick) (p q : Point F) (u : State F) (n : ℕ) (met : Bool) → GoesOn limits p.state
+      → AreMet pick g h → met ≡ true → Tries machine (Ok met) p.state u p.steps n pick → q.state ≡ u → q.steps ≡ n
+      → Moved machine limits g p q 1
+  meeting_moves g h (One k) p q u n met on both is tried state steps = absurd both
+  meeting_moves g h (Meet r t) p q u n met on both is tried state steps =
+      let took : Tries machine (Ok true) p.state u p.steps n (Meet r t) =
+      subst (λ b. Tries machine (Ok b) p.state u p.steps n (Meet r t)) is tried in
+      moved_meeting g h r t p q on both
+      (subst (λ v. step_by machine p.state (Meet r t) ≡ Some v) (sym state) took.0)
+      (subst (CountsUp p.steps 1) (sym steps) took.1)
+
+  pub meeting_fails : (g h : ℕ) (pick : Pick) (p q : Point F) (u : State F) (n : ℕ) (met : Bool) → GoesOn limits p.state
+      → AreMet pick g h → met ≡ true → Tries machine (Ok met) p.state u p.steps n pick → q.state ≡ u → q.steps ≡ n
+      → Stopped machine limits g p.state q.state 1 run_end.NoMemory
+  meeting_fails g h pick p q u n met on both is tried state steps =
+      moved_fails g 1 1 p q (meeting_moves g h pick p q u n met on both is tried state steps) (omega arith)
+
+  pub not_met : (s t : State F) (m n : ℕ) (pick : Pick) (met : Bool) → met ≡ false → Tries machine (Ok met) s t m n pick
+      → (t ≡ s) × (n ≡ m)
+  not_met s t m n pick met is tried =
+      let none : Tries machine (Ok false) s t m n pick = subst (λ b. Tries machine (Ok b) s t m n pick) is tried in
+      (none.1, none.2)
+
+  -- ---- what is left of a turn
+
+  pub advances_on : (rest : Option ℕ) (g a left : ℕ) (p q r : Point F) → Moved machine limits g p q a → a ≤ left
+      → Advances machine limits rest g q r (left - a) → Advances machine limits rest g p r left
+  advances_on (Some rest) g a left p q r h le k = (
+    omega (arith, k.0, le),
+    moved_by g p r (a + (left - a - rest)) (left - rest) (omega (arith, k.0, le))
+        (moved_on g p q r a (left - a - rest) h k.1),
+  )
+  advances_on None g a left p q r h le k =
+      (a + k.0, omega (arith, k.1, le), moved_on g p q r a k.0 h k.2)
+
+  pub rest_on : (o : Result (Option ℕ) RunEnd) (g a left : ℕ) (p q r : Point F) → Moved machine limits g p q a → a ≤ left
+      → MatchResult o (λ rest. Advances machine limits rest g q r (left - a))
+      (λ end. Stopped machine limits g q.state r.state (left - a) end)
+      → MatchResult o (λ rest. Advances machine limits rest g p r left) (λ end. Stopped machine limits g p.state r.state left end)
+  rest_on (Ok rest) g a left p q r h le k = advances_on rest g a left p q r h le k
+  rest_on (Err end) g a left p q r h le k = stopped_on g a (left - a) left end p q r.state h k (omega (arith, le))
+
+  -- a turn that is over, and not because it waits, has taken steps
+  pub some_steps : (t : State F) (g at_most n : ℕ) (s : Stop) → end_of s ≡ None → (s ≡ stop.Waits → ⊥)
+      → IsOver machine limits t g at_most n s → 0 < at_most → 0 < n
+  some_steps t g at_most n stop.Spent none not over some = omega (arith, over.1, some)
+  some_steps t g at_most n stop.Waits none not over some = absurd (not refl)
+  some_steps t g at_most n stop.Printed none not over some = over.1
+  some_steps t g at_most n (stop.Operated channel) none not over some = over.1
+  some_steps t g at_most n (stop.Ended e) none not over some = cc
+  some_steps t g at_most n stop.TooDeep none not over some = cc
+  some_steps t g at_most n stop.Full none not over some = cc
+  some_steps t g at_most n stop.NoMemory none not over some = cc
+
+  -- ---- a whole turn
+
+  no_picks : (picks : List Pick) (s t : State F) → LeadsWithin machine limits s picks t → picks ≡ [] → s ≡ t
+  no_picks [] s t leads none = same_some s t leads
+  no_picks (pick ∷ picks) s t leads none = cc
+
+  pub turned : (g count : ℕ) (p q : Point F) → Moved machine limits g p q count → count ≤ 1000
+      → (step_by machine q.state (One g) ≡ None) ⊎ (0 < count) → turning.Turned machine limits g p q
+  turned g count p q h le either = record {
+    picks = h.picks;
+    turn = record {
+      fits = record { leads = h.leads; short = omega (arith, h.long, le); own = h.own };
+      plays = λ none. plays none either;
+    };
+    counted = h.counted;
+    on = h.on;
+  } where
+    plays : h.picks ≡ [] → (step_by machine q.state (One g) ≡ None) ⊎ (0 < count) → step_by machine p.state (One g) ≡ None
+    plays none (inl still) =
+        ap (λ s. step_by machine s (One g)) (no_picks h.picks p.state q.state h.leads none) ∙ still
+    plays none (inr some) = absurd (omega (arith, some, h.long, ap (λ l. length l) none))

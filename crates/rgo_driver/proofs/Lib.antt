@@ -1,0 +1,10 @@
+pub mod Composed
+pub mod Given
+pub mod Keepers
+pub mod Leading
+pub mod Marked
+pub mod Others
+pub mod Played
+pub mod Printing
+pub mod Sleepers
+pub mod Unmet
