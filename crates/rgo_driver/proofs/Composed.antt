@@ -1,6 +1,8 @@
 -- Steps of a turn, one after the other.
-use Rattle.std.proofs.Common.{◌≡◌, ◌<◌, ◌≤◌, ◌+◌, ◌-◌, ◌^◌, ◌⊎◌, inl, inr, ℕ, Bool, true, false, List, [], ◌∷◌, ◌++◌, length}
-use Rattle.std.proofs.Common.{Option, Some, None, Result, Ok, Err, MatchResult, refl, ap, sym, subst, ◌∙◌, arith, replicate, length-append}
+use Rattle.std.proofs.Common.{◌≡◌, ◌<◌, ◌≤◌, ◌+◌, ◌-◌, ◌^◌, ◌⊎◌, inl, inr, ℕ, Bool, true, false, List, [], ◌∷◌, ◌++◌}
+use Rattle.std.proofs.Common.{length}
+use Rattle.std.proofs.Common.{Option, Some, None, Result, Ok, Err, MatchResult, refl, ap, sym, subst, ◌∙◌, arith}
+use Rattle.std.proofs.Common.{replicate, length-append}
 use Rattle.std.proofs.lemmas.List.{length-replicate}
 use Rattle.std.proofs.lemmas.List.Elements.{All-nil, All-append, All-replicate, All-push}
 use Rattle.std.specs.Prelude.{min}
@@ -86,7 +88,8 @@ module _ {F : Type 0} (machine : Machine F) (limits : Limits) where
 
   -- ---- a turn of the machine
 
-  goes_on : (t : State F) (g at_most n : ℕ) (s : Stop) → end_of s ≡ None → IsOver machine limits t g at_most n s → t.ended ≡ None
+  goes_on : (t : State F) (g at_most n : ℕ) (s : Stop) → end_of s ≡ None → IsOver machine limits t g at_most n s
+      → t.ended ≡ None
   goes_on t g at_most n stop.Spent none over = over.0
   goes_on t g at_most n stop.Waits none over = over.0
   goes_on t g at_most n stop.Printed none over = over.0
@@ -96,7 +99,8 @@ module _ {F : Type 0} (machine : Machine F) (limits : Limits) where
   goes_on t g at_most n stop.Full none over = cc
   goes_on t g at_most n stop.NoMemory none over = cc
 
-  pub turned_moves : (g at_most : ℕ) (p q : Point F) (turned : Turned) → GoesOn limits p.state → end_of turned.stop ≡ None
+  pub turned_moves : (g at_most : ℕ) (p q : Point F) (turned : Turned) → GoesOn limits p.state
+      → end_of turned.stop ≡ None
       → Turns machine limits p.state q.state g at_most turned → CountsUp p.steps turned.steps q.steps
       → Moved machine limits g p q turned.steps
   turned_moves g at_most p q turned on none turns counted =
@@ -186,7 +190,8 @@ module _ {F : Type 0} (machine : Machine F) (limits : Limits) where
     no_fault = k.no_fault;
   }
 
-  pub stopped_within : (g a at_most : ℕ) (end : RunEnd) (s t : State F) → Stopped machine limits g s t a end → a ≤ at_most
+  pub stopped_within : (g a at_most : ℕ) (end : RunEnd) (s t : State F) → Stopped machine limits g s t a end
+      → a ≤ at_most
       → Stopped machine limits g s t at_most end
   stopped_within g a at_most end s t h le = record {
     picks = h.picks;
@@ -244,10 +249,12 @@ module _ {F : Type 0} (machine : Machine F) (limits : Limits) where
   advances_on None g a left p q r h le k =
       (a + k.0, omega (arith, k.1, le), moved_on g p q r a k.0 h k.2)
 
-  pub rest_on : (o : Result (Option ℕ) RunEnd) (g a left : ℕ) (p q r : Point F) → Moved machine limits g p q a → a ≤ left
+  pub rest_on : (o : Result (Option ℕ) RunEnd) (g a left : ℕ) (p q r : Point F) → Moved machine limits g p q a
+      → a ≤ left
       → MatchResult o (λ rest. Advances machine limits rest g q r (left - a))
       (λ end. Stopped machine limits g q.state r.state (left - a) end)
-      → MatchResult o (λ rest. Advances machine limits rest g p r left) (λ end. Stopped machine limits g p.state r.state left end)
+      → MatchResult o (λ rest. Advances machine limits rest g p r left)
+      (λ end. Stopped machine limits g p.state r.state left end)
   rest_on (Ok rest) g a left p q r h le k = advances_on rest g a left p q r h le k
   rest_on (Err end) g a left p q r h le k = stopped_on g a (left - a) left end p q r.state h k (omega (arith, le))
 
@@ -280,7 +287,8 @@ module _ {F : Type 0} (machine : Machine F) (limits : Limits) where
     counted = h.counted;
     on = h.on;
   } where
-    plays : h.picks ≡ [] → (step_by machine q.state (One g) ≡ None) ⊎ (0 < count) → step_by machine p.state (One g) ≡ None
+    plays : h.picks ≡ [] → (step_by machine q.state (One g) ≡ None) ⊎ (0 < count)
+        → step_by machine p.state (One g) ≡ None
     plays none (inl still) =
         ap (λ s. step_by machine s (One g)) (no_picks h.picks p.state q.state h.leads none) ∙ still
     plays none (inr some) = absurd (omega (arith, some, h.long, ap (λ l. length l) none))

@@ -1,5 +1,6 @@
 -- No goroutine is lost: each is ready, or sleeps.
-use Rattle.std.proofs.Common.{◌≡◌, ◌<◌, ◌≤◌, ◌+◌, ◌⊎◌, inl, inr, ℕ, Bool, true, Result, Ok, Err, IfOk, List, [], ◌∷◌, ◌++◌, length, Contains, Option, Some, None}
+use Rattle.std.proofs.Common.{◌≡◌, ◌<◌, ◌≤◌, ◌+◌, ◌⊎◌, inl, inr, ℕ, Bool, true, Result, Ok, Err, IfOk, List, [], ◌∷◌}
+use Rattle.std.proofs.Common.{◌++◌, length, Contains, Option, Some, None}
 use Rattle.std.proofs.Common.{refl, ap, sym, subst, ◌∙◌, arith}
 use Rattle.std.proofs.lemmas.Bool.{cases_eq, cases_lt}
 use Rattle.std.proofs.lemmas.List.Elements.{Contains-append_left, Contains-append_right, Contains-append_cases}
@@ -85,7 +86,8 @@ module _ {F : Type 0} (machine : Machine F) (g : ℕ) where
     fresh = λ h past lt. new h past lt (cases_lt h (length q.state.goroutines));
   } where
     asleep : (h : ℕ) → (h ≡ g → ⊥) → h < length p.state.goroutines
-        → Contains q.ready h ⊎ Sleeps machine q.state q.waiting h → Contains r.ready h ⊎ Sleeps machine r.state r.waiting h
+        → Contains q.ready h ⊎ Sleeps machine q.state q.waiting h
+        → Contains r.ready h ⊎ Sleeps machine r.state r.waiting h
     asleep h other lt (inl c) = inl (b.ready h c)
     asleep h other lt (inr sleeps) = b.sleeps h other (omega (arith, lt, a.longer)) sleeps
 
@@ -111,7 +113,8 @@ module _ {F : Type 0} (machine : Machine F) (g : ℕ) where
     by_cases h (inl c) = inl (more h c)
     by_cases h (inr sleeps) = inr sleeps
 
-  pub keeps_if : {X E : Type 0} (o : Result X E) (p q r : Point F) → Keeps machine g p q → IfOk o (λ x. Keeps machine g q r)
+  pub keeps_if : {X E : Type 0} (o : Result X E) (p q r : Point F) → Keeps machine g p q
+      → IfOk o (λ x. Keeps machine g q r)
       → IfOk o (λ x. Keeps machine g p r)
   keeps_if (Ok x) p q r a b = keeps_on p q r a b
   keeps_if (Err e) p q r a b = tt
@@ -166,7 +169,8 @@ module _ {F : Type 0} (machine : Machine F) (g : ℕ) where
       record {
         longer = spares.longer;
         ready = stay;
-        sleeps = λ h other lt sleeps. asleep h other lt sleeps (both_at (channel_of machine p.state h) (operated turned.stop));
+        sleeps = λ h other lt sleeps. asleep h other lt sleeps (both_at (channel_of machine p.state h)
+            (operated turned.stop));
         fresh = fresh;
       } where
         asleep : (h : ℕ) → (h ≡ g → ⊥) → h < length p.state.goroutines → Sleeps machine p.state p.waiting h
@@ -235,7 +239,8 @@ module _ {F : Type 0} (machine : Machine F) (limits : Limits) where
     asleep : (h : ℕ) → (h ≡ g → ⊥) → h < length p.state.goroutines → Sleeps machine p.state p.waiting h
         → (h ≡ partner) ⊎ (h ≡ partner → ⊥) → Contains q.ready h ⊎ Sleeps machine q.state q.waiting h
     asleep h other lt sleeps (inl e) =
-        inl (subst (λ k. Contains q.ready k) (sym e) (subst (λ l. Contains l partner) (sym ready) (Contains-push p.ready partner)))
+        inl (subst (λ k. Contains q.ready k) (sym e) (subst (λ l. Contains l partner) (sym ready)
+        (Contains-push p.ready partner)))
     asleep h other lt sleeps (inr apart) =
         inr (sleeps_on machine p.state q.state h p.waiting q.waiting running
         (met.spares.same h (neither (Meet r t) r t g partner h refl both other apart) lt)
@@ -244,8 +249,10 @@ module _ {F : Type 0} (machine : Machine F) (limits : Limits) where
         sleeps)
 
   -- the same, by the pick that was tried
-  pub keeps_pick : (g partner channel : ℕ) (pick : Pick) (p q : Point F) (u : State F) (m n : ℕ) (rest : List ℕ) (met : Bool)
-      → p.state.ended ≡ None → AreMet pick g partner → met ≡ true → Tries machine (Ok met) p.state u m n pick → q.state ≡ u
+  pub keeps_pick : (g partner channel : ℕ) (pick : Pick) (p q : Point F) (u : State F) (m n : ℕ) (rest : List ℕ)
+      (met : Bool)
+      → p.state.ended ≡ None → AreMet pick g partner → met ≡ true → Tries machine (Ok met) p.state u m n pick
+      → q.state ≡ u
       → q.ready ≡ p.ready ++ partner ∷ [] → p.waiting channel ≡ rest ++ partner ∷ [] → q.waiting channel ≡ rest
       → ((n : ℕ) → (n ≡ channel → ⊥) → q.waiting n ≡ p.waiting n)
       → Keeps machine g p q
@@ -254,12 +261,14 @@ module _ {F : Type 0} (machine : Machine F) (limits : Limits) where
       let took : Tries machine (Ok true) p.state u m n (Meet r t) =
       subst (λ b. Tries machine (Ok b) p.state u m n (Meet r t)) is tried in
       keeps_meeting g partner channel r t p q rest running
-      (meeting_is machine limits p.state r t q.state (subst (λ v. step_by machine p.state (Meet r t) ≡ Some v) (sym state) took.0))
+      (meeting_is machine limits p.state r t q.state (subst (λ v. step_by machine p.state (Meet r t) ≡ Some v)
+      (sym state) took.0))
       both ready was now others
 
   -- two that met are ready
   pub watches_meeting : (r t : ℕ) (s u : State F) (ready more : List ℕ) (waiting : ℕ → List ℕ) → s.ended ≡ None
-      → Met limits r t s u → more ≡ ready ++ r ∷ t ∷ [] → Watches machine s ready waiting → Watches machine u more waiting
+      → Met limits r t s u → more ≡ ready ++ r ∷ t ∷ [] → Watches machine s ready waiting
+      → Watches machine u more waiting
   watches_meeting r t s u ready more waiting running met is watches h lt =
       by_number (cases_eq h r) (cases_eq h t) where
         later : (h ≡ r → ⊥) → (h ≡ t → ⊥) → Contains ready h ⊎ Sleeps machine s waiting h
@@ -267,7 +276,8 @@ module _ {F : Type 0} (machine : Machine F) (limits : Limits) where
         later a b (inl c) = inl (subst (λ l. Contains l h) (sym is) (Contains-append_left ready (r ∷ t ∷ []) h c))
         later a b (inr sleeps) =
             inr (sleeps_on machine s u h waiting waiting running
-            (met.spares.same h (neither (Meet r t) r t r t h refl (inl (refl, refl)) a b) (omega (arith, lt, met.count)))
+            (met.spares.same h (neither (Meet r t) r t r t h refl (inl (refl, refl)) a b) (omega
+            (arith, lt, met.count)))
             (λ n is. same_memory s.memory u.memory n met.memory)
             (λ n is c. c)
             sleeps)
@@ -275,7 +285,8 @@ module _ {F : Type 0} (machine : Machine F) (limits : Limits) where
         by_number : (h ≡ r) ⊎ (h ≡ r → ⊥) → (h ≡ t) ⊎ (h ≡ t → ⊥) → Contains more h ⊎ Sleeps machine u waiting h
         by_number (inl e) b =
             inl (subst (λ k. Contains more k) (sym e) (subst (λ l. Contains l r) (sym is)
-            (Contains-append_right ready (r ∷ t ∷ []) r (Contains-append_left (r ∷ []) (t ∷ []) r (Contains-push [] r)))))
+            (Contains-append_right ready (r ∷ t ∷ []) r (Contains-append_left (r ∷ []) (t ∷ []) r
+            (Contains-push [] r)))))
         by_number (inr a) (inl e) =
             inl (subst (λ k. Contains more k) (sym e) (subst (λ l. Contains l t) (sym is)
             (Contains-append_right ready (r ∷ t ∷ []) t (Contains-push (r ∷ []) t))))
@@ -310,7 +321,8 @@ module _ {F : Type 0} (machine : Machine F) (limits : Limits) where
     still = ap (λ v. step_by machine v (One g)) same ∙ none;
     listed = λ n is.
         let here : channel ≡ n = same_some channel n (sym at ∙ ap (λ v. channel_of machine v g) (sym same) ∙ is) in
-        subst (λ k. Contains (waiting k) g) here (subst (λ l. Contains l g) (sym joined) (Contains-push (before channel) g));
+        subst (λ k. Contains (waiting k) g) here (subst (λ l. Contains l g) (sym joined) (Contains-push
+        (before channel) g));
   }
 
   -- it waits at no channel that could change
@@ -324,7 +336,8 @@ module _ {F : Type 0} (machine : Machine F) (limits : Limits) where
     different n e = cc
 
   -- whatever was printed
-  pub watches_printed : (s t : State F) (bytes : List ℕ) (ready : List ℕ) (waiting : ℕ → List ℕ) → t ≡ with_print s bytes
+  pub watches_printed : (s t : State F) (bytes : List ℕ) (ready : List ℕ) (waiting : ℕ → List ℕ)
+      → t ≡ with_print s bytes
       → Watches machine s ready waiting → Watches machine t ready waiting
   watches_printed s t bytes ready waiting is watches =
       subst (λ v. Watches machine v ready waiting) (sym is) (λ h lt. by_cases h (watches h lt)) where

@@ -19,7 +19,8 @@ same_some x y e = ap (or_this y) e
 -- ---- lists of events
 
 module _ {S E : Type 0} (step : S → E → Option S) where
-  through : (es fs : List E) (o : Option S) → ((s : S) → run step s (es ++ fs) ≡ option_and_then (λ t. run step t fs) (run step s es))
+  through : (es fs : List E) (o : Option S) → ((s : S)
+      → run step s (es ++ fs) ≡ option_and_then (λ t. run step t fs) (run step s es))
       → option_and_then (λ t. run step t (es ++ fs)) o
       ≡ option_and_then (λ t. run step t fs) (option_and_then (λ t. run step t es) o)
   through es fs None h = refl
@@ -68,7 +69,8 @@ module _ {F : Type 0} (machine : Machine F) (limits : Limits) where
   by_steps P each (pick ∷ picks) s t e h =
       after (limited_step machine limits s pick) (λ u q. step_within s u pick q)
       (λ u here e. by_steps P each picks u t e (each s u pick here.0 here.1 h)) e where
-        after : (o : Option (State F)) → ((u : State F) → o ≡ Some u → (step_by machine s pick ≡ Some u) × (is_within limits u ≡ true))
+        after : (o : Option (State F)) → ((u : State F) → o ≡ Some u
+            → (step_by machine s pick ≡ Some u) × (is_within limits u ≡ true))
             → ((u : State F) → (step_by machine s pick ≡ Some u) × (is_within limits u ≡ true)
             → run (limited_step machine limits) u picks ≡ Some t → P t)
             → option_and_then (λ u. run (limited_step machine limits) u picks) o ≡ Some t → P t

@@ -6,5 +6,6 @@ pub mod Marked
 pub mod Others
 pub mod Played
 pub mod Printing
+pub mod Rounded
 pub mod Sleepers
 pub mod Unmet

@@ -7,7 +7,8 @@ use Rattle.rgo_machine.specs.Machines.{Machine, State}
 use Rattle.rgo_driver.specs.Probing.{receiver_at, FindsReceivers}
 use Rattle.rgo_driver.proofs.Leading.{same_some}
 
-pub none_yet : {F : Type 0} (machine : Machine F) (s : State F) (found : ℕ → Option ℕ) → ((channel : ℕ) → found channel ≡ None) → FindsReceivers machine s 0 found
+pub none_yet : {F : Type 0} (machine : Machine F) (s : State F) (found : ℕ → Option ℕ) → ((channel : ℕ)
+    → found channel ≡ None) → FindsReceivers machine s 0 found
 none_yet machine s found none = record {
   sound = λ channel receiver is. absurd (different receiver (sym (none channel) ∙ is));
   complete = λ channel receiver lt is not. absurd (omega (arith, lt));
@@ -15,14 +16,16 @@ none_yet machine s found none = record {
   different : (r : ℕ) → None ≡ Some r → ⊥
   different r e = cc
 
-module _ {F : Type 0} (machine : Machine F) (s : State F) (i : ℕ) (found : ℕ → Option ℕ) (so_far : FindsReceivers machine s i found) where
+module _ {F : Type 0} (machine : Machine F) (s : State F) (i : ℕ) (found : ℕ → Option ℕ)
+    (so_far : FindsReceivers machine s i found) where
   -- one more goroutine, which receives nowhere
   pub passed : receiver_at machine s i ≡ None → FindsReceivers machine s (i + 1) found
   passed nowhere = record {
     sound = so_far.sound;
     complete = λ channel receiver lt is not. by_order channel receiver lt is not (cases_lt receiver i);
   } where
-    by_order : (channel receiver : ℕ) → receiver < i + 1 → receiver_at machine s receiver ≡ Some channel → found channel ≡ None
+    by_order : (channel receiver : ℕ) → receiver < i + 1 → receiver_at machine s receiver ≡ Some channel
+        → found channel ≡ None
         → (receiver < i) ⊎ (i ≤ receiver) → ⊥
     by_order channel receiver lt is not (inl before) = so_far.complete channel receiver before is not
     by_order channel receiver lt is not (inr behind) =

@@ -1,5 +1,6 @@
 -- A step of one goroutine leaves the frames of all others, and a meeting leaves those of a third one.
-use Rattle.std.proofs.Common.{◌≡◌, ◌<◌, ◌≤◌, ◌⊎◌, inl, inr, ℕ, zero, suc, Bool, true, false, List, [], ◌∷◌, ◌++◌, length, Option, Some, None}
+use Rattle.std.proofs.Common.{◌≡◌, ◌<◌, ◌≤◌, ◌⊎◌, inl, inr, ℕ, zero, suc, Bool, true, false, List, [], ◌∷◌, ◌++◌}
+use Rattle.std.proofs.Common.{length, Option, Some, None}
 use Rattle.std.proofs.Common.{refl, ap, sym, subst, ◌∙◌, arith, replicate, length-append, length-set}
 use Rattle.std.specs.Prelude.{option_and_then, option_map, if◌then◌else◌, ◌==◌, ◌&&◌, slice_get, slice_set, ⊤, nat_le}
 use Rattle.std.specs.List.{list_all}
@@ -13,7 +14,8 @@ use Rattle.rgo_machine.specs.declared.picks.Pick.TheVariants.{One, Meet}
 use Rattle.rgo_machine.specs.Limits.{LeadsWithin, limited_step, is_within, has_room, most_goroutines}
 use Rattle.rgo_machine.specs.Machines.{Act, Moves, Returns, Prints, Traps, Machine, State, with_frames}
 use Rattle.rgo_machine.specs.Machines.{Stand, AtReceive, AtSend, AtClose, AtCall, AtStart, Elsewhere}
-use Rattle.rgo_machine.specs.Machines.{acted, operated, stepped, alone, met, met_by, meet, picked, unless_ended, step_by}
+use Rattle.rgo_machine.specs.Machines.{acted, operated, stepped, alone, met, met_by, meet, picked, unless_ended}
+use Rattle.rgo_machine.specs.Machines.{step_by}
 use Rattle.rgo_machine.specs.Runs.{run}
 use Rattle.rgo_driver.proofs.Leading.{same_some, step_within}
 
@@ -51,7 +53,8 @@ module _ {X : Type 0} where
   all_get p (y ∷ l) zero x all is = subst (λ z. p z ≡ true) (same_some y x is) (left (p y) (list_all p l) all)
   all_get p (y ∷ l) (suc i) x all is = all_get p l i x (right (p y) (list_all p l) all) is
 
-  all_set : (p : X → Bool) (l : List X) (i : ℕ) (x : X) → list_all p l ≡ true → p x ≡ true → list_all p (slice_set l i x) ≡ true
+  all_set : (p : X → Bool) (l : List X) (i : ℕ) (x : X) → list_all p l ≡ true → p x ≡ true
+      → list_all p (slice_set l i x) ≡ true
   all_set p [] i x all here = refl
   all_set p (y ∷ l) zero x all here = ap (λ b. b && list_all p l) here ∙ right (p y) (list_all p l) all
   all_set p (y ∷ l) (suc i) x all here =
@@ -96,7 +99,8 @@ module _ {F : Type 0} where
     );
     same = λ h other lt.
         ap (λ l. slice_get l h) is
-        ∙ get_before (slice_set s.goroutines g frames) (child ∷ []) h (omega (arith, lt, length-set s.goroutines g frames))
+        ∙ get_before (slice_set s.goroutines g frames) (child ∷ []) h (omega
+        (arith, lt, length-set s.goroutines g frames))
         ∙ set_other s.goroutines g h frames other;
   }
 

@@ -44,7 +44,8 @@ module _ {F : Type 0} (machine : Machine F) (before : List ℕ) (s : State F) wh
   operates_if g callers go_on place (Some e) = ap Some (operates g callers go_on place e)
 
   steps_alone : (g : ℕ) (f : F) (callers : List F) (stand : Stand F)
-      → stepped machine (after before s) g f callers stand ≡ option_map (after before) (stepped machine s g f callers stand)
+      → stepped machine (after before s) g f callers stand ≡ option_map (after before)
+      (stepped machine s g f callers stand)
   steps_alone g f callers (AtReceive channel blank go_on) =
       operates_if g callers go_on 0 (receive s.memory channel blank)
   steps_alone g f callers (AtSend channel v place next) =
@@ -56,12 +57,14 @@ module _ {F : Type 0} (machine : Machine F) (before : List ℕ) (s : State F) wh
   steps_alone g f callers Elsewhere = ap Some (acts g callers (machine.act s.memory f))
 
   goes_alone : (g : ℕ) (o : Option (List F))
-      → option_and_then (alone machine (after before s) g) o ≡ option_map (after before) (option_and_then (alone machine s g) o)
+      → option_and_then (alone machine (after before s) g) o ≡ option_map (after before) (option_and_then
+      (alone machine s g) o)
   goes_alone g None = refl
   goes_alone g (Some []) = refl
   goes_alone g (Some (f ∷ callers)) = steps_alone g f callers (machine.stand f)
 
-  where_true : (b : Bool) (t : State F) → (if b then Some (after before t) else None) ≡ option_map (after before) (if b then Some t else None)
+  where_true : (b : Bool) (t : State F)
+      → (if b then Some (after before t) else None) ≡ option_map (after before) (if b then Some t else None)
   where_true true t = refl
   where_true false t = refl
 
@@ -103,11 +106,13 @@ module _ {F : Type 0} (machine : Machine F) (before : List ℕ) (s : State F) wh
   unless None o p h = h
   unless (Some e) o p h = refl
 
-  pub steps_alike : (pick : Pick) → step_by machine (after before s) pick ≡ option_map (after before) (step_by machine s pick)
+  pub steps_alike : (pick : Pick)
+      → step_by machine (after before s) pick ≡ option_map (after before) (step_by machine s pick)
   steps_alike pick = unless s.ended _ _ (picks_alike pick)
 
 module _ {F : Type 0} (machine : Machine F) (limits : Limits) (before : List ℕ) where
-  fits : (b : Bool) (t : State F) → (if b then Some (after before t) else None) ≡ option_map (after before) (if b then Some t else None)
+  fits : (b : Bool) (t : State F)
+      → (if b then Some (after before t) else None) ≡ option_map (after before) (if b then Some t else None)
   fits true t = refl
   fits false t = refl
 
@@ -118,7 +123,8 @@ module _ {F : Type 0} (machine : Machine F) (limits : Limits) (before : List ℕ
   fit_alike (Some t) = fits (is_within limits t) t
 
   limited_alike : (s : State F) (pick : Pick)
-      → limited_step machine limits (after before s) pick ≡ option_map (after before) (limited_step machine limits s pick)
+      → limited_step machine limits (after before s) pick ≡ option_map (after before)
+      (limited_step machine limits s pick)
   limited_alike s pick =
       ap (option_and_then (if_within limits)) (steps_alike machine before s pick) ∙ fit_alike (step_by machine s pick)
 

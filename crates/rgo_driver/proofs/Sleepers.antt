@@ -50,7 +50,8 @@ module _ (m k : Memory) (n : ℕ) where
       ap (to_object_if_ready k n (received blank)) (is_channel p capacity [] false (same (capacity, [], false) refl))
 
   full : (b : Bool) (a : Outcome Object)
-      → in_memory_if_ready m n (if b then Some a else None) ≡ None → in_memory_if_ready k n (if b then Some a else None) ≡ None
+      → in_memory_if_ready m n (if b then Some a else None) ≡ None
+      → in_memory_if_ready k n (if b then Some a else None) ≡ None
   full true a e = cc
   full false a e = refl
 
@@ -88,13 +89,16 @@ module _ {F : Type 0} (machine : Machine F) (s t : State F) (h : ℕ) where
       → ((n : ℕ) → waits_at (stand_of stand) ≡ Some n → SameAt s.memory t.memory n)
       → stepped machine s h f callers stand ≡ None → stepped machine t h f callers stand ≡ None
   stands f callers (AtReceive c blank go_on) same e =
-      ap (option_map _) (receive_waits s.memory t.memory c blank (at_receive c same) (none_in _ (receive s.memory c blank) e)) where
-        at_receive : (c : Value) → ((n : ℕ) → waits_at (stand_of (AtReceive c blank go_on)) ≡ Some n → SameAt s.memory t.memory n)
+      ap (option_map _) (receive_waits s.memory t.memory c blank (at_receive c same) (none_in _
+      (receive s.memory c blank) e)) where
+        at_receive : (c : Value) → ((n : ℕ) → waits_at (stand_of (AtReceive c blank go_on)) ≡ Some n
+            → SameAt s.memory t.memory n)
             → (n : ℕ) → c ≡ value.Object n → SameAt s.memory t.memory n
         at_receive c same n is = same n (ap (λ c. waits_at (stand_of (AtReceive c blank go_on))) is)
   stands f callers (AtSend c v place next) same e =
       ap (option_map _) (send_waits s.memory t.memory c v (at_send c same) (none_in _ (send s.memory c v) e)) where
-        at_send : (c : Value) → ((n : ℕ) → waits_at (stand_of (AtSend c v place next)) ≡ Some n → SameAt s.memory t.memory n)
+        at_send : (c : Value) → ((n : ℕ) → waits_at (stand_of (AtSend c v place next)) ≡ Some n
+            → SameAt s.memory t.memory n)
             → (n : ℕ) → c ≡ value.Object n → SameAt s.memory t.memory n
         at_send c same n is = same n (ap (λ c. waits_at (stand_of (AtSend c v place next))) is)
   stands f callers (AtClose c place next) same e = cc
@@ -103,7 +107,8 @@ module _ {F : Type 0} (machine : Machine F) (s t : State F) (h : ℕ) where
   stands f callers Elsewhere same e = cc
 
   is_still : (o : Option (List F))
-      → ((n : ℕ) → option_and_then waits_at (option_and_then (newest_stand machine) o) ≡ Some n → SameAt s.memory t.memory n)
+      → ((n : ℕ) → option_and_then waits_at (option_and_then (newest_stand machine) o) ≡ Some n
+      → SameAt s.memory t.memory n)
       → option_and_then (alone machine s h) o ≡ None → option_and_then (alone machine t h) o ≡ None
   is_still None same e = refl
   is_still (Some []) same e = refl
@@ -122,7 +127,8 @@ module _ {F : Type 0} (machine : Machine F) (s t : State F) (h : ℕ) where
       let was : option_and_then (alone machine s h) (slice_get s.goroutines h) ≡ None =
       ap (λ e. unless_ended e (picked machine s (One h))) (sym running) ∙ sleeps.still in
       record {
-        still = unless_over t.ended _ (ap (option_and_then (alone machine t h)) frames ∙ is_still (slice_get s.goroutines h) same was);
+        still = unless_over t.ended _ (ap (option_and_then (alone machine t h)) frames
+            ∙ is_still (slice_get s.goroutines h) same was);
         listed = λ n is.
             let before : channel_of machine s h ≡ Some n =
             ap (λ o. option_and_then waits_at (option_and_then (newest_stand machine) o)) (sym frames) ∙ is in

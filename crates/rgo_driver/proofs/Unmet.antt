@@ -33,7 +33,8 @@ both code.Call o p q = cc
 both code.Start o p q = cc
 both code.Elsewhere o p q = cc
 
-at_both : (x : Option CodeStand) (o : ℕ) → option_and_then receives_at x ≡ Some o → option_and_then sends_at x ≡ Some o → ⊥
+at_both : (x : Option CodeStand) (o : ℕ) → option_and_then receives_at x ≡ Some o
+    → option_and_then sends_at x ≡ Some o → ⊥
 at_both None o p q = cc
 at_both (Some x) o p q = both x o p q
 
@@ -54,9 +55,11 @@ module _ {F : Type 0} (machine : Machine F) (s : State F) (r t : ℕ) where
   never (value.Int n) blank d v place closed = refl
   never (value.Bool b) blank d v place closed = refl
 
-  apart : (rs ts : List F) (a b : Stand F) → ((o : ℕ) → receives_at (stand_of a) ≡ Some o → sends_at (stand_of b) ≡ Some o
+  apart : (rs ts : List F) (a b : Stand F) → ((o : ℕ) → receives_at (stand_of a) ≡ Some o
+      → sends_at (stand_of b) ≡ Some o
       → is_meeting_at (slice_get s.memory.heap o) ≡ false) → met s r t rs ts a b ≡ None
-  apart rs ts (AtReceive c blank f) (AtSend d v place h) closed = if_not (meets_at s.memory c d) _ (never c blank d v place closed)
+  apart rs ts (AtReceive c blank f) (AtSend d v place h) closed = if_not (meets_at s.memory c d) _
+      (never c blank d v place closed)
   apart rs ts (AtReceive c blank f) (AtReceive d other h) closed = refl
   apart rs ts (AtReceive c blank f) (AtClose d place h) closed = refl
   apart rs ts (AtReceive c blank f) (AtCall next callee) closed = refl
@@ -95,14 +98,16 @@ module _ {F : Type 0} (machine : Machine F) (s : State F) (r t : ℕ) where
       unless_over s.ended _ (unless_same (r == t) _
       (unmet_among (slice_get s.goroutines r) (slice_get s.goroutines t) closed))
 
-  together : (rs ts : List F) (a b : Stand F) (o : ℕ) → receives_at (stand_of a) ≡ Some o → sends_at (stand_of b) ≡ Some o
+  together : (rs ts : List F) (a b : Stand F) (o : ℕ) → receives_at (stand_of a) ≡ Some o
+      → sends_at (stand_of b) ≡ Some o
       → met s r t rs ts a b ≡ None → is_meeting_at (slice_get s.memory.heap o) ≡ false
   together rs ts (AtReceive (value.Object n) blank f) (AtSend (value.Object k) v place h) o p q none =
       let here = same_some n o p in
       let there = same_some k o q in
       let closed : meets_at s.memory (value.Object n) (value.Object k) ≡ false = if_none _ _ none in
       ap (λ n. is_meeting_at (slice_get s.memory.heap n)) (sym here)
-      ∙ sym (ap (λ b. if b then is_meeting_at (slice_get s.memory.heap n) else false) (eq-eqb n k (here ∙ sym there))) ∙ closed
+      ∙ sym (ap (λ b. if b then is_meeting_at (slice_get s.memory.heap n) else false) (eq-eqb n k (here
+      ∙ sym there))) ∙ closed
   together rs ts (AtReceive (value.Object n) blank f) (AtSend value.Nil v place h) o p q none = cc
   together rs ts (AtReceive (value.Object n) blank f) (AtSend (value.Int k) v place h) o p q none = cc
   together rs ts (AtReceive (value.Object n) blank f) (AtSend (value.Bool b) v place h) o p q none = cc
@@ -187,7 +192,8 @@ module _ {F : Type 0} (machine : Machine F) (s : State F) where
     by_cases (inr behind) = subst (IsUnmet machine s) (omega (arith, lt, behind)) here
 
   -- a goroutine that does not exist sends nowhere
-  pub all_unmet : (n : ℕ) → length s.goroutines ≤ n → ((g : ℕ) → g < n → IsUnmet machine s g) → (g : ℕ) → IsUnmet machine s g
+  pub all_unmet : (n : ℕ) → length s.goroutines ≤ n → ((g : ℕ) → g < n → IsUnmet machine s g) → (g : ℕ)
+      → IsUnmet machine s g
   all_unmet n all h g = by_cases (cases_lt g n) where
     by_cases : (g < n) ⊎ (n ≤ g) → IsUnmet machine s g
     by_cases (inl before) = h g before

@@ -32,7 +32,8 @@ module _ {F : Type 0} (machine : Machine F) (limits : Limits) where
   pub record Plays (g : ℕ) (p q : Point F) (old new : Option (List ℕ)) : Type 0 where
     pub picks : List Pick
     pub bytes : List ℕ
-    pub turn : (before : List ℕ) → IsTurn machine limits (with_print p.state before) g picks (with_print q.state (before ++ bytes))
+    pub turn : (before : List ℕ)
+        → IsTurn machine limits (with_print p.state before) g picks (with_print q.state (before ++ bytes))
     pub counted : Counts p.steps picks q.steps
     pub gave : Appends old new bytes
 
@@ -49,7 +50,8 @@ module _ {F : Type 0} (machine : Machine F) (limits : Limits) where
   pub record PlaysRound (p q : Point F) (old new : Option (List ℕ)) : Type 0 where
     pub picks : List Pick
     pub bytes : List ℕ
-    pub round : (before : List ℕ) → IsRound machine limits (with_print p.state before) picks (with_print q.state (before ++ bytes))
+    pub round : (before : List ℕ)
+        → IsRound machine limits (with_print p.state before) picks (with_print q.state (before ++ bytes))
     pub counted : Counts p.steps picks q.steps
     pub gave : Appends old new bytes
 

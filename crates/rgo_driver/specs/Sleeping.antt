@@ -1,5 +1,6 @@
 -- Goroutines without a step: they have returned, or wait at a channel, where they are listed.
-use Rattle.std.specs.Prelude.{◌≡◌, ◌≤◌, ◌<◌, ◌⊎◌, ℕ, List, ◌∷◌, ◌++◌, length, Option, Some, None, Contains, option_and_then}
+use Rattle.std.specs.Prelude.{◌≡◌, ◌≤◌, ◌<◌, ◌⊎◌, ℕ, List, ◌∷◌, ◌++◌, length, Option, Some, None, Contains}
+use Rattle.std.specs.Prelude.{option_and_then}
 use Rattle.rgo_memory.specs.declared.values.Value.TheVariants.{Object}
 use Rattle.rgo_machine.specs.declared.machines.Stand.{Stand}
 use Rattle.rgo_machine.specs.declared.machines.Stand.TheVariants.{Receive, Send}

@@ -1,8 +1,8 @@
 //! What a run has printed goes out line by line.
 
-ghost use Rattle.std.specs.Prelude.{◌≤◌, ◌<◌, length, take, IfOk, OnOk, OnErr};
+ghost use Rattle.std.specs.Prelude.{◌≤◌, ◌<◌, length, take, IfOk, OnOk, OnErr, IsErr};
 ghost use Rattle.std.specs.Io.KnownBytes.{Appends};
-ghost use Rattle.rgo_outside.specs.Causes.{Rose};
+ghost use Rattle.rgo_driver.specs.Lines.{IsLineEnd, Writes};
 ghost use Rattle.rgo_driver.specs.Runs.{AppendsSome};
 
 use rgo_outside::{Failed, Sink, write_all};
@@ -12,11 +12,14 @@ fn line_length(bytes: &[u8]) -> usize
     requires { 0 < length bytes.now }
     ensures some { 0 < result }
     ensures within { result ≤ length bytes.now }
+    ensures line { IsLineEnd (take result bytes.now) }
 {
-    match bytes.iter().position(|b| *b == b'\n') {
-        Some(at) => at + 1,
-        None => bytes.len(),
+    for i in 0..bytes.len() {
+        if bytes[i] == b'\n' {
+            return i + 1;
+        }
     }
+    bytes.len()
 }
 
 /// Writes the first line of the bytes in one piece, and answers its length.
@@ -25,8 +28,8 @@ fn write_line<K: Sink>(bytes: &[u8], out: &mut K) -> Result<usize, Failed>
     ensures line { IfOk result (λ n. (0 < n) × (n ≤ length bytes.now)
         × Appends (K.contents out.old) (K.contents out.new) (take n bytes.now)) }
     ensures part { OnErr result (AppendsSome (K.contents out.old) (K.contents out.new) bytes.now) }
-    ensures fault { OnErr result (Rose (K.faults out.old) (K.faults out.new)) }
-    ensures later { K.faults out.old ≤ K.faults out.new }
+    ensures sink { Writes (IsErr result) (K.faults out.old) (K.faults out.new) (K.broken out.new)
+        (K.pieces out.old) (K.pieces out.new) }
 {
     let count = line_length(bytes);
     match write_all(out, &bytes[..count]) {
@@ -43,8 +46,8 @@ fn write_line<K: Sink>(bytes: &[u8], out: &mut K) -> Result<usize, Failed>
 pub(crate) fn write_lines<K: Sink>(bytes: &[u8], out: &mut K) -> Result<(), Failed>
     ensures whole { OnOk result (Appends (K.contents out.old) (K.contents out.new) bytes.now) }
     ensures part { OnErr result (AppendsSome (K.contents out.old) (K.contents out.new) bytes.now) }
-    ensures fault { OnErr result (Rose (K.faults out.old) (K.faults out.new)) }
-    ensures later { K.faults out.old ≤ K.faults out.new }
+    ensures sink { Writes (IsErr result) (K.faults out.old) (K.faults out.new) (K.broken out.new)
+        (K.pieces out.old) (K.pieces out.new) }
 {
     let mut written = 0;
     while written < bytes.len() {

@@ -1,7 +1,7 @@
 //! Rounds: each goroutine that is ready has its turn, and what it printed goes out, until the run ends.
 
-ghost use Rattle.std.specs.Prelude.{◌≡◌, ◌≤◌, ◌<◌, [], MatchResult, IsErrOf, OnOk};
-ghost use Rattle.rgo_outside.specs.Causes.{Rose};
+ghost use Rattle.std.specs.Prelude.{◌≡◌, ◌<◌, [], MatchResult, IsErrOf, OnOk};
+ghost use Rattle.rgo_driver.specs.Lines.{Writes};
 ghost use Rattle.rgo_driver.specs.Playing.{IsReady, IsBetween, Plays, PlaysAll, PlaysRound, Breaks, Finishes};
 ghost use Rattle.rgo_driver.specs.Points.{listed, point_of};
 ghost use Rattle.rgo_driver.specs.Runs.{Runs};
@@ -33,8 +33,8 @@ fn play<M: Machine, K: Sink>(
         (λ end. Breaks (M.machine machine.now) limits driver.old.state end (K.contents out.old) (K.contents out.new)) }
     ensures ready { OnOk result (IsReady limits driver.new.state) }
     ensures passes { OnOk result (Passes (M.machine machine.now) g (point_of driver.old) (point_of driver.new)) }
-    ensures fault { IsErrOf result RunEnd.WriteFault → Rose (K.faults out.old) (K.faults out.new) }
-    ensures later { K.faults out.old ≤ K.faults out.new }
+    ensures sink { Writes (IsErrOf result RunEnd.WriteFault) (K.faults out.old) (K.faults out.new) (K.broken out.new)
+        (K.pieces out.old) (K.pieces out.new) }
 {
     let ended = take_turn(alloc, machine, driver, limits, g);
     match write_lines(driver.state.printed(), out) {
@@ -63,8 +63,8 @@ fn round<M: Machine, K: Sink>(
     ensures ready { OnOk result (IsReady limits driver.new.state) }
     ensures watches { OnOk result (Watches (M.machine machine.now) driver.new.state driver.new.ready.items
         (listed driver.new.waiting)) }
-    ensures fault { IsErrOf result RunEnd.WriteFault → Rose (K.faults out.old) (K.faults out.new) }
-    ensures later { K.faults out.old ≤ K.faults out.new }
+    ensures sink { Writes (IsErrOf result RunEnd.WriteFault) (K.faults out.old) (K.faults out.new) (K.broken out.new)
+        (K.pieces out.old) (K.pieces out.new) }
 {
     let order = mem::replace(&mut driver.ready, Vec::new(alloc));
     for i in 0..order.len() {
@@ -93,11 +93,14 @@ fn whole_round<M: Machine, K: Sink>(
     ensures watches { OnOk result (Watches (M.machine machine.now) driver.new.state driver.new.ready.items
         (listed driver.new.waiting)) }
     ensures on { OnOk result (driver.old.steps < driver.new.steps) }
-    ensures fault { IsErrOf result RunEnd.WriteFault → Rose (K.faults out.old) (K.faults out.new) }
-    ensures later { K.faults out.old ≤ K.faults out.new }
+    ensures sink { Writes (IsErrOf result RunEnd.WriteFault) (K.faults out.old) (K.faults out.new) (K.broken out.new)
+        (K.pieces out.old) (K.pieces out.new) }
 {
     let before = driver.steps;
-    round(alloc, machine, driver, limits, out)?;
+    match round(alloc, machine, driver, limits, out) {
+        Ok(()) => {}
+        Err(end) => return Err(end),
+    }
     if driver.steps > before {
         return Ok(());
     }
@@ -121,8 +124,8 @@ fn pass<M: Machine, K: Sink>(
     ensures between { OnOk result (IsBetween (M.machine machine.now) limits (point_of driver.new)) }
     ensures on { OnOk result (driver.old.steps < driver.new.steps) }
     ensures below { OnOk result (driver.new.steps < limits.steps) }
-    ensures fault { IsErrOf result RunEnd.WriteFault → Rose (K.faults out.old) (K.faults out.new) }
-    ensures later { K.faults out.old ≤ K.faults out.new }
+    ensures sink { Writes (IsErrOf result RunEnd.WriteFault) (K.faults out.old) (K.faults out.new) (K.broken out.new)
+        (K.pieces out.old) (K.pieces out.new) }
 {
     match whole_round(alloc, machine, driver, limits, out) {
         Ok(()) => {}
@@ -144,9 +147,10 @@ pub(crate) fn drive<M: Machine, K: Sink>(
 ) -> RunEnd
     requires between { IsBetween (M.machine machine.now) limits (point_of driver.old) }
     requires begins { driver.old.steps ≡ 0 }
-    ensures runs { Runs (M.machine machine.now) limits driver.old.state result (K.contents out.old) (K.contents out.new) }
-    ensures fault { result ≡ RunEnd.WriteFault → Rose (K.faults out.old) (K.faults out.new) }
-    ensures later { K.faults out.old ≤ K.faults out.new }
+    ensures runs { Runs (M.machine machine.now) limits driver.old.state result
+        (K.contents out.old) (K.contents out.new) }
+    ensures sink { Writes (result ≡ RunEnd.WriteFault) (K.faults out.old) (K.faults out.new) (K.broken out.new)
+        (K.pieces out.old) (K.pieces out.new) }
 {
     loop {
         match pass(alloc, machine, driver, limits, out) {

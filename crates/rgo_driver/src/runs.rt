@@ -1,8 +1,10 @@
 //! Runs, round by round.
 
-ghost use Rattle.std.specs.Prelude.{◌≡◌, ◌≤◌, true, None, []};
+ghost use Rattle.std.specs.Prelude.{◌≡◌, true, None, []};
 ghost use Rattle.rgo_outside.specs.Causes.{Rose};
+ghost use Rattle.rgo_outside.specs.Pieces.{AddsOnly};
 ghost use Rattle.rgo_machine.specs.Limits.{is_within};
+ghost use Rattle.rgo_driver.specs.Lines.{IsLineEnd};
 ghost use Rattle.rgo_driver.specs.Runs.{Runs};
 
 use crate::drivers::Driver;
@@ -31,7 +33,9 @@ pub fn run<M: Machine, K: Sink>(
     requires silent { state.printed ≡ [] }
     ensures runs { Runs (M.machine machine.now) limits state result (K.contents out.old) (K.contents out.new) }
     ensures fault { result ≡ RunEnd.WriteFault → Rose (K.faults out.old) (K.faults out.new) }
-    ensures later { K.faults out.old ≤ K.faults out.new }
+    ensures broken { result ≡ RunEnd.WriteFault → K.broken out.new ≡ true }
+    ensures kept { (result ≡ RunEnd.WriteFault → ⊥) → K.faults out.new ≡ K.faults out.old }
+    ensures lines { AddsOnly IsLineEnd (K.pieces out.old) (K.pieces out.new) }
 {
     let mut ready = Vec::new(alloc);
     let count = state.goroutines();

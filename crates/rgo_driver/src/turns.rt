@@ -84,7 +84,8 @@ pub(crate) fn meet<M: Machine>(
     }
 }
 
-/// After some steps of a turn: the goroutines that were started are ready, and those that wait at the channel that changed.
+/// After some steps of a turn: the goroutines that were started are ready, and those that wait at the channel that
+/// changed.
 fn wake<F: Drop>(
     alloc: Global,
     driver: &mut Driver<F>,
@@ -157,8 +158,8 @@ fn come_back<F>(
     put_list(&mut driver.waiting, channel, list)
 }
 
-/// A goroutine that waits at a channel meets the one that has waited there last, or joins those that wait there. Answers
-/// whether it has met.
+/// A goroutine that waits at a channel meets the one that has waited there last, or joins those that wait there.
+/// Answers whether it has met.
 fn wait<M: Machine>(
     alloc: Global,
     machine: &M,
@@ -198,8 +199,8 @@ fn wait<M: Machine>(
     }
 }
 
-/// A goroutine that has no step alone waits, if it may come back. Answers how many steps its turn has left, `None` where
-/// it sleeps.
+/// A goroutine that has no step alone waits, if it may come back. Answers how many steps its turn has left, `None`
+/// where it sleeps.
 fn rest<M: Machine>(
     alloc: Global,
     machine: &M,

@@ -14,6 +14,7 @@ use rgo_typed::{Function, Typed};
 use std::alloc::{AllocError, Global};
 
 /// The source machine of a program.
+#[derive(Clone, Copy)]
 pub struct SourceMachine<'a> {
     program: &'a Typed,
 }

@@ -1,6 +1,6 @@
 use Rattle.std.proofs.Common.{◌≡◌, ◌-◌, ◌+◌, arith, drop, take, length, length-drop}
 use Rattle.std.proofs.lemmas.List.{take_all}
-use Rattle.rgo_driver.proofs.Given.{line_more}
+use Rattle.rgo_driver.proofs.Given.{line_more, writes_on, writes_whole}
 use Rattle.rgo_driver.proofs.lines.write_lines.Goals as goal
 
 pub loop-written-preserved : goal.loop-written-preserved
@@ -13,7 +13,8 @@ loop-written-preserved g c =
     record {
       within = omega (arith, line.1, length-drop written bytes, c.loop-written.invariant.within);
       out = line_more written c.in-Ok.count bytes _ _ _ c.loop-written.invariant.out line.2;
-      later = omega (arith, c.loop-written.invariant.later, c.in-Ok.ensures.later);
+      sink = writes_on ⊥ ⊥ _ _ _ _ _ _ _ _ (λ x. x) c.loop-written.invariant.sink
+          (writes_whole _ ⊥ _ _ _ _ _ (λ e. cc) (λ x. x) c.in-Ok.ensures.sink);
     }
 
 pub returns-in-Err-clause-part : goal.returns-in-Err-clause-part
@@ -24,3 +25,7 @@ returns-in-Err-clause-part g c =
     take_all _ _ (omega (arith, length-drop written bytes)) in
     let part = rw whole at c.in-Err.ensures.part in
     (written + part.0, line_more written part.0 bytes _ _ _ c.loop-written.invariant.out part.1)
+
+pub returns-in-Err-clause-sink : goal.returns-in-Err-clause-sink
+returns-in-Err-clause-sink g c =
+    writes_on ⊥ _ _ _ _ _ _ _ _ _ (λ x. x) c.loop-written.invariant.sink c.in-Err.ensures.sink

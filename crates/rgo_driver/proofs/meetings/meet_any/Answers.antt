@@ -15,6 +15,7 @@ returns-in-Ok-admit_both-clause-watches g c =
     let state = c.find_meeting.new.state in
     let any : Limits = record { steps = 0; goroutines = 0 } in
     let finds : Finds machine (Ok (Some met)) (λ h. ⊤) d.state state d.steps c.find_meeting.new.steps =
-    subst (λ o. Finds machine (Ok o) (λ h. ⊤) d.state state d.steps c.find_meeting.new.steps) c.in-Some.is c.in-Ok.ensures in
+    subst (λ o. Finds machine (Ok o)
+    (λ h. ⊤) d.state state d.steps c.find_meeting.new.steps) c.in-Some.is c.in-Ok.ensures in
     watches_meeting machine any met.0 met.1 d.state state d.ready.items c.admit_both.new.ready.items (listed d.waiting)
     c.requires.running (meeting_is machine any d.state met.0 met.1 state finds.0) c.in-Ok-admit_both.ensures

@@ -3,7 +3,9 @@ use Rattle.std.proofs.lemmas.List.{take_more, drop_more}
 use Rattle.rgo_driver.specs.Playing.{PlaysAll}
 use Rattle.rgo_driver.specs.Points.{listed, point_of}
 use Rattle.rgo_driver.specs.Sleeping.{Watches}
-use Rattle.rgo_driver.proofs.Played.{plays_none, plays_more, breaks_on, watches_lists}
+use Rattle.rgo_driver.proofs.Given.{writes_none, writes_on, writes_whole}
+use Rattle.rgo_driver.proofs.Played.{watches_lists}
+use Rattle.rgo_driver.proofs.Rounded.{plays_none, plays_more, breaks_on}
 use Rattle.rgo_driver.proofs.rounds.round.Goals as goal
 
 pub loop-i-init : goal.loop-i-init
@@ -20,13 +22,15 @@ loop-i-init g c =
       ready = c.requires.ready;
       watches = watches_lists machine c.args.limits d.state d.ready.items (order ++ c.replace-order.new.dest.items)
           (listed d.waiting) (listed d.waiting) whole (λ n. refl) c.requires.watches;
-      later = omega arith;
+      sink = writes_none ⊥ _ _ _ (λ x. x);
     }
 
 pub returns-in-Err-clause-plays : goal.returns-in-Err-clause-plays
 returns-in-Err-clause-plays g c =
-    breaks_on (g.M.Machine.machine c.args.machine.now) c.args.limits (take c.loop-i.i c.replace-order.result.items) c.in-Err.end
-    (point_of c.args.driver.now) (point_of c.loop-i.driver) (g.K.Sink.contents c.args.out.now) (g.K.Sink.contents c.loop-i.out)
+    breaks_on (g.M.Machine.machine c.args.machine.now) c.args.limits
+    (take c.loop-i.i c.replace-order.result.items) c.in-Err.end
+    (point_of c.args.driver.now) (point_of c.loop-i.driver) (g.K.Sink.contents c.args.out.now)
+    (g.K.Sink.contents c.loop-i.out)
     (g.K.Sink.contents c.play.new.out) c.loop-i.invariant.plays c.in-Err.ensures.plays
 
 pub loop-i-preserved : goal.loop-i-preserved
@@ -42,14 +46,22 @@ loop-i-preserved g c =
     let old = g.K.Sink.contents c.args.out.now in
     let new = g.K.Sink.contents c.play.new.out in
     let before : take i order ++ h ∷ [] ≡ take (i + 1) order =
-    ap (λ x. take i order ++ x ∷ []) c.index.ensures ∙ sym (take_more order i h (omega (arith, c.loop-i-test.true, c.len-i-end.ensures, c.replace-order.result.ok))) in
+    ap (λ x. take i order ++ x ∷ []) c.index.ensures
+    ∙ sym (take_more order i h (omega (arith, c.loop-i-test.true, c.len-i-end.ensures, c.replace-order.result.ok))) in
     let behind : drop i order ≡ h ∷ drop (i + 1) order =
-    drop_more order i h (omega (arith, c.loop-i-test.true, c.len-i-end.ensures, c.replace-order.result.ok)) ∙ ap (λ x. x ∷ drop (i + 1) order) (sym c.index.ensures) in
+    drop_more order i h (omega (arith, c.loop-i-test.true, c.len-i-end.ensures, c.replace-order.result.ok))
+    ∙ ap (λ x. x ∷ drop (i + 1) order) (sym c.index.ensures) in
     record {
       plays = subst (λ l. PlaysAll machine c.args.limits l p q old new) before
-          (plays_more machine c.args.limits (take i order) h p m q old (g.K.Sink.contents c.loop-i.out) new now.plays c.in-Ok.ensures.plays);
+          (plays_more machine c.args.limits (take i order) h p m q old
+          (g.K.Sink.contents c.loop-i.out) new now.plays c.in-Ok.ensures.plays);
       ready = c.in-Ok.ensures.ready;
       watches = c.in-Ok.ensures.passes (drop (i + 1) order)
           (subst (λ l. Watches machine m.state (l ++ m.ready) m.waiting) behind now.watches);
-      later = omega (arith, now.later, c.in-Ok.ensures.later);
+      sink = writes_on ⊥ ⊥ _ _ _ _ _ _ _ _ (λ x. x) now.sink (writes_whole _ ⊥ _ _ _ _ _ (λ e. cc)
+          (λ x. x) c.in-Ok.ensures.sink);
     }
+
+pub returns-in-Err-clause-sink : goal.returns-in-Err-clause-sink
+returns-in-Err-clause-sink g c =
+    writes_on ⊥ _ _ _ _ _ _ _ _ _ (λ x. x) c.loop-i.invariant.sink c.in-Err.ensures.sink

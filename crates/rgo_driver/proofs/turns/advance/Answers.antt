@@ -8,7 +8,8 @@ pub rest-requires-clause-on : goal.rest-requires-clause-on
 rest-requires-clause-on g c =
     let took = c.in_ok-turned.ensures in
     let none = sym c.end_of.ensures ∙ c.in_default.is in
-    let moved = turned_moves (g.M.Machine.machine c.args.machine.now) c.args.limits c.args.g c.args.left (point_of c.args.driver.now)
+    let moved = turned_moves (g.M.Machine.machine c.args.machine.now) c.args.limits c.args.g c.args.left
+    (point_of c.args.driver.now)
     (point_of c.take_steps.new.driver) c.in_ok-turned.turned c.requires.on none took.turns took.counted in
     moved.on
 
@@ -19,9 +20,11 @@ returns-in-Waits-clause-went g c =
     let q = point_of c.take_steps.new.driver in
     let took = c.in_ok-turned.ensures in
     let none = sym c.end_of.ensures ∙ c.in_default.is in
-    let moved = turned_moves machine c.args.limits c.args.g c.args.left p q c.in_ok-turned.turned c.requires.on none took.turns
+    let moved = turned_moves machine c.args.limits c.args.g c.args.left p q c.in_ok-turned.turned c.requires.on none
+    took.turns
     took.counted in
-    rest_on machine c.args.limits c.rest.result c.args.g c.in_ok-turned.turned.steps c.args.left p q (point_of c.rest.new.driver) moved
+    rest_on machine c.args.limits c.rest.result c.args.g c.in_ok-turned.turned.steps c.args.left p q
+    (point_of c.rest.new.driver) moved
     took.turns.within c.rest.ensures.went
 
 pub returns-in-Waits-clause-keeps : goal.returns-in-Waits-clause-keeps
@@ -37,8 +40,10 @@ returns-in_default-stop g c =
     let took = c.in_ok-turned.ensures in
     let turned = c.in_ok-turned.turned in
     let none = sym c.end_of.ensures ∙ c.in_default.is in
-    let moved = turned_moves machine c.args.limits c.args.g c.args.left p q turned c.requires.on none took.turns took.counted in
-    let some = some_steps machine c.args.limits q.state c.args.g c.args.left turned.steps turned.stop none c.in_default-stop.not-Waits
+    let moved = turned_moves machine c.args.limits c.args.g c.args.left p q turned c.requires.on none took.turns
+    took.counted in
+    let some = some_steps machine c.args.limits q.state c.args.g c.args.left turned.steps turned.stop none
+    c.in_default-stop.not-Waits
     took.turns.over c.requires.some in
     record {
       went = (

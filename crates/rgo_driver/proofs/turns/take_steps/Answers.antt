@@ -10,7 +10,8 @@ pub returns-in-Ok-clause-keeps : goal.returns-in-Ok-clause-keeps
 returns-in-Ok-clause-keeps g c =
     let woke = c.in-Ok.ensures in
     keeps_steps (g.M.Machine.machine c.args.machine.now) c.args.g c.args.limits (point_of c.args.driver.now)
-    (point_of c.wake.new.driver) c.args.left c.turn-turned.result c.turn-turned.new.state woke.state c.requires.on.running
+    (point_of c.wake.new.driver) c.args.left c.turn-turned.result c.turn-turned.new.state woke.state
+    c.requires.on.running
     c.turn-turned.ensures woke.stay
     (λ h past lt. woke.fresh h (omega (arith, past, c.goroutines-from.ensures)) lt)
     woke.woken woke.others

@@ -9,8 +9,10 @@ use Rattle.rgo_driver.proofs.turns.take_turn.Goals as goal
 pub returns-in-Err-clause-turned : goal.returns-in-Err-clause-turned
 returns-in-Err-clause-turned g c =
     let now = c.loop-left.invariant in
-    stopped_on (g.M.Machine.machine c.args.machine.now) c.args.limits c.args.g (1000 - c.loop-left.left) c.loop-left.left 1000
-    c.in-Err.end (point_of c.args.driver.now) (point_of c.loop-left.driver) c.advance.new.driver.state now.moved c.in-Err.ensures.went
+    stopped_on (g.M.Machine.machine c.args.machine.now) c.args.limits c.args.g
+    (1000 - c.loop-left.left) c.loop-left.left 1000
+    c.in-Err.end (point_of c.args.driver.now)
+    (point_of c.loop-left.driver) c.advance.new.driver.state now.moved c.in-Err.ensures.went
     (omega (arith, now.within))
 
 pub loop-left-preserved : goal.loop-left-preserved
@@ -43,7 +45,8 @@ returns-in-None-clause-turned g c =
     let went : Advances machine c.args.limits None c.args.g m q left =
     subst (λ o. Advances machine c.args.limits o c.args.g m q left) c.in-None.is c.in-Ok.ensures.went in
     turned machine c.args.limits c.args.g ((1000 - left) + went.0) p q
-    (moved_on machine c.args.limits c.args.g p m q (1000 - left) went.0 now.moved went.2) (omega (arith, now.within, went.1))
+    (moved_on machine c.args.limits c.args.g p m q (1000 - left) went.0 now.moved went.2) (omega
+    (arith, now.within, went.1))
     (inl (c.in-Ok.ensures.sleeps c.in-None.is).still)
 
 pub returns-in-None-clause-passes : goal.returns-in-None-clause-passes

@@ -7,7 +7,8 @@ use Rattle.rgo_driver.proofs.turns.take_turn.Given as goal
 -- the steps so far, and that no goroutine was lost
 abbrev pub invariant-loop-left : goal.invariant-loop-left
 invariant-loop-left g l = record {
-  moved : Moved (g.M.Machine.machine l.machine) l.limits l.g (point_of l.initial.driver) (point_of l.driver) (1000 - l.left);
+  moved : Moved (g.M.Machine.machine l.machine) l.limits l.g (point_of l.initial.driver) (point_of l.driver)
+      (1000 - l.left);
   within : l.left ≤ 1000;
   keeps : Keeps (g.M.Machine.machine l.machine) l.g (point_of l.initial.driver) (point_of l.driver);
 }

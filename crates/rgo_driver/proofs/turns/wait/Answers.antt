@@ -8,7 +8,8 @@ pub returns-in-Ok-come_back-clause-went : goal.returns-in-Ok-come_back-clause-we
 returns-in-Ok-come_back-clause-went g c =
     let machine = g.M.Machine.machine c.args.machine.now in
     meeting_moves machine c.args.limits c.args.g c.in-Some.partner c.meeting-pick.result (point_of c.args.driver.now)
-    (point_of c.come_back.new.driver) c.meet.new.state c.meet.new.steps c.in-Ok-true.field-0 c.requires.on c.meeting-pick.ensures
+    (point_of c.come_back.new.driver) c.meet.new.state c.meet.new.steps c.in-Ok-true.field-0 c.requires.on
+    c.meeting-pick.ensures
     c.in-Ok-true.field-0-test c.in-Ok-true.ensures c.in-Ok-come_back.ensures.state c.in-Ok-come_back.ensures.steps
 
 pub returns-in-Ok-come_back-clause-keeps : goal.returns-in-Ok-come_back-clause-keeps
@@ -16,7 +17,8 @@ returns-in-Ok-come_back-clause-keeps g c =
     let machine = g.M.Machine.machine c.args.machine.now in
     let taken = c.take_list-list.ensures in
     let back = c.in-Ok-come_back.ensures in
-    keeps_pick machine c.args.limits c.args.g c.in-Some.partner c.args.channel c.meeting-pick.result (point_of c.args.driver.now)
+    keeps_pick machine c.args.limits c.args.g c.in-Some.partner c.args.channel c.meeting-pick.result
+    (point_of c.args.driver.now)
     (point_of c.come_back.new.driver) c.meet.new.state c.args.driver.now.steps c.meet.new.steps c.pop.new.self.items
     c.in-Ok-true.field-0 c.requires.on.running
     c.meeting-pick.ensures c.in-Ok-true.field-0-test c.in-Ok-true.ensures back.state back.ready
@@ -27,12 +29,14 @@ pub returns-in-Err-come_back-clause-went : goal.returns-in-Err-come_back-clause-
 returns-in-Err-come_back-clause-went g c =
     let machine = g.M.Machine.machine c.args.machine.now in
     meeting_fails machine c.args.limits c.args.g c.in-Some.partner c.meeting-pick.result (point_of c.args.driver.now)
-    (point_of c.come_back.new.driver) c.meet.new.state c.meet.new.steps c.in-Ok-true.field-0 c.requires.on c.meeting-pick.ensures
+    (point_of c.come_back.new.driver) c.meet.new.state c.meet.new.steps c.in-Ok-true.field-0 c.requires.on
+    c.meeting-pick.ensures
     c.in-Ok-true.field-0-test c.in-Ok-true.ensures c.in-Err-come_back.ensures.state c.in-Err-come_back.ensures.steps
 
 pub returns-in-Err-meet-clause-went : goal.returns-in-Err-meet-clause-went
 returns-in-Err-meet-clause-went g c =
-    nothing_fails (g.M.Machine.machine c.args.machine.now) c.args.limits c.args.g 1 c.args.driver.now.state c.meet.new.state
+    nothing_fails (g.M.Machine.machine c.args.machine.now) c.args.limits c.args.g 1 c.args.driver.now.state
+    c.meet.new.state
     c.in-Err-meet.ensures.0
 
 pub returns-in-Ok-join_both-clause-keeps : goal.returns-in-Ok-join_both-clause-keeps
