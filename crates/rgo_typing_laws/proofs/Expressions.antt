@@ -41,7 +41,8 @@ use Rattle.rgo_typing_expressions.specs.Packages.{Context}
 use Rattle.rgo_typing_rules.specs.declared.rules.Rule.TheVariants as rule
 use Rattle.rgo_typing_rules.proofs.Unbroken.{keeps}
 use Rattle.rgo_typing_laws.proofs.Fitting.{Fits, int_fits, a_constant, have_one, unary_fits, binary_fits, index_fits}
-use Rattle.rgo_typing_laws.proofs.Values.{IsStruct, Calls, Means, AllFit, EachFits, call_fits, literal_fits, keyed_fits}
+use Rattle.rgo_typing_laws.proofs.Values.{IsStruct, Calls, Means, AllFit, call_fits}
+use Rattle.rgo_typing_laws.proofs.Literals.{EachFits, literal_fits, keyed_fits}
 
 module _ (c : Context) (d : Declared) (locals : List «Type») (here : InScope) where
   -- ---- names and fields

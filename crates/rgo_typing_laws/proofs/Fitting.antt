@@ -7,8 +7,10 @@ use Rattle.rgo_ast.specs.declared.ops.UnaryOp.TheVariants as unary
 use Rattle.rgo_ast.specs.declared.ops.BinaryOp.{BinaryOp}
 use Rattle.rgo_ast.specs.declared.ops.BinaryOp.TheVariants as binary
 use Rattle.rgo_typed.specs.declared.actions.Action.TheVariants as action
+use Rattle.rgo_typed.specs.declared.actions.Logical.{Logical}
+use Rattle.rgo_typed.specs.declared.actions.Logical.TheVariants as logical
 use Rattle.rgo_typed.specs.declared.types.Type.{«Type»}
-use Rattle.rgo_typed.specs.Tree.{Term, Local, Apply, no_terms}
+use Rattle.rgo_typed.specs.Tree.{Term, Local, Apply, no_terms, Logic}
 use Rattle.rgo_typing_rules.specs.Types.{slice_of, chan_of, element_of, is_int, is_bool, is_slice, is_chan}
 use Rattle.rgo_typing_rules.specs.Types.{is_pointer_like, same}
 use Rattle.rgo_typing_rules.specs.Shapes as shape
@@ -167,17 +169,23 @@ module _ (d : Declared) (locals : List «Type») (here : InScope) where
 
   -- an operator on ints
   two_ints : (op : BinaryOp) (s t : Shape) (a b : Term) (ty : «Type») (at : ℕ) → IsType d ty
-      → Computes op (int ∷ int ∷ []) ty
-      → is_int_shape s && is_int_shape t ≡ true → Fits s a → Fits t b
+      → Computes op (int ∷ int ∷ []) ty → not (is_int_shape s && is_int_shape t) ≡ false → Fits s a → Fits t b
       → HasType d locals here (Apply (action.Binary op) (two a b) ty at) ty
-  two_ints op s t a b ty at known computes both h k = (
-    refl,
-    known,
-    int ∷ int ∷ [],
-    have_two a b int int (int_fits s a (and_left (is_int_shape s) (is_int_shape t) both) h)
-        (int_fits t b (and_right (is_int_shape s) (is_int_shape t) both) k),
-    computes,
-  )
+  two_ints op s t a b ty at known computes kept h k =
+      let both = not_false (is_int_shape s && is_int_shape t) kept in
+      let left = int_fits s a (and_left (is_int_shape s) (is_int_shape t) both) h in
+      let right = int_fits t b (and_right (is_int_shape s) (is_int_shape t) both) k in
+      (refl, known, int ∷ int ∷ [], have_two a b int int left right, computes)
+
+  -- `&&` or `||`
+  two_bools : (op : Logical) (s t : Shape) (a b : Term) (at : ℕ)
+      → not (is_bool_shape s && is_bool_shape t) ≡ false → Fits s a → Fits t b
+      → HasType d locals here (Logic op a b at) bool
+  two_bools op s t a b at kept h k =
+      let both = not_false (is_bool_shape s && is_bool_shape t) kept in
+      let left = bool_fits s a (and_left (is_bool_shape s) (is_bool_shape t) both) h in
+      let right = bool_fits t b (and_right (is_bool_shape s) (is_bool_shape t) both) k in
+      (refl, left, right)
 
   comparable : (s t : Shape) → lacks (operands_of binary.Eq) s t ≡ false → are_slices s t ≡ false
       → are_nil s t ≡ false → are_comparable s t ≡ true
@@ -192,45 +200,31 @@ module _ (d : Declared) (locals : List «Type») (here : InScope) where
       last false false c n o h = h
 
   operation_fits : (op : BinaryOp) (s t : Shape) (a b : Term) (at : ℕ) → broken (node.Binary op s t) ≡ None → Fits s a
-      → Fits t b
-      → HasType d locals here (operation op s t a b at) (binary_type op)
+      → Fits t b → HasType d locals here (operation op s t a b at) (binary_type op)
   operation_fits binary.And s t a b at br h k =
-      let both : is_bool_shape s && is_bool_shape t ≡ true =
-      not_false (is_bool_shape s && is_bool_shape t) (keeps rule.Mismatch (node.Binary binary.And s t) br) in (
-        refl,
-        bool_fits s a (and_left (is_bool_shape s) (is_bool_shape t) both) h,
-        bool_fits t b (and_right (is_bool_shape s) (is_bool_shape t) both) k,
-      )
+      two_bools logical.And s t a b at (keeps rule.Mismatch (node.Binary binary.And s t) br) h k
   operation_fits binary.Or s t a b at br h k =
-      let both : is_bool_shape s && is_bool_shape t ≡ true =
-      not_false (is_bool_shape s && is_bool_shape t) (keeps rule.Mismatch (node.Binary binary.Or s t) br) in (
-        refl,
-        bool_fits s a (and_left (is_bool_shape s) (is_bool_shape t) both) h,
-        bool_fits t b (and_right (is_bool_shape s) (is_bool_shape t) both) k,
-      )
+      two_bools logical.Or s t a b at (keeps rule.Mismatch (node.Binary binary.Or s t) br) h k
   operation_fits binary.Eq s t a b at br h k =
-      compare_fits binary.Eq (λ types c. c) false s t a b at
-      (comparable s t (keeps rule.Mismatch (node.Binary binary.Eq s t) br)
-      (keeps rule.SliceCompare (node.Binary binary.Eq s t) br) (keeps rule.BareNil (node.Binary binary.Eq s t) br)) h k
+      let n = node.Binary binary.Eq s t in
+      let alike =
+      comparable s t (keeps rule.Mismatch n br) (keeps rule.SliceCompare n br) (keeps rule.BareNil n br) in
+      compare_fits binary.Eq (λ types c. c) false s t a b at alike h k
   operation_fits binary.Ne s t a b at br h k =
-      compare_fits binary.Ne (λ types c. c) true s t a b at
-      (comparable s t (keeps rule.Mismatch (node.Binary binary.Ne s t) br)
-      (keeps rule.SliceCompare (node.Binary binary.Ne s t) br) (keeps rule.BareNil (node.Binary binary.Ne s t) br)) h k
+      let n = node.Binary binary.Ne s t in
+      let alike =
+      comparable s t (keeps rule.Mismatch n br) (keeps rule.SliceCompare n br) (keeps rule.BareNil n br) in
+      compare_fits binary.Ne (λ types c. c) true s t a b at alike h k
   operation_fits binary.Lt s t a b at br h k =
-      two_ints binary.Lt s t a b bool at tt (refl, refl)
-      (not_false (is_int_shape s && is_int_shape t) (keeps rule.Mismatch (node.Binary binary.Lt s t) br)) h k
+      two_ints binary.Lt s t a b bool at tt (refl, refl) (keeps rule.Mismatch (node.Binary binary.Lt s t) br) h k
   operation_fits binary.Le s t a b at br h k =
-      two_ints binary.Le s t a b bool at tt (refl, refl)
-      (not_false (is_int_shape s && is_int_shape t) (keeps rule.Mismatch (node.Binary binary.Le s t) br)) h k
+      two_ints binary.Le s t a b bool at tt (refl, refl) (keeps rule.Mismatch (node.Binary binary.Le s t) br) h k
   operation_fits binary.Gt s t a b at br h k =
-      two_ints binary.Gt s t a b bool at tt (refl, refl)
-      (not_false (is_int_shape s && is_int_shape t) (keeps rule.Mismatch (node.Binary binary.Gt s t) br)) h k
+      two_ints binary.Gt s t a b bool at tt (refl, refl) (keeps rule.Mismatch (node.Binary binary.Gt s t) br) h k
   operation_fits binary.Ge s t a b at br h k =
-      two_ints binary.Ge s t a b bool at tt (refl, refl)
-      (not_false (is_int_shape s && is_int_shape t) (keeps rule.Mismatch (node.Binary binary.Ge s t) br)) h k
+      two_ints binary.Ge s t a b bool at tt (refl, refl) (keeps rule.Mismatch (node.Binary binary.Ge s t) br) h k
   operation_fits op s t a b at br h k =
-      two_ints op s t a b int at tt (refl, refl)
-      (not_false (is_int_shape s && is_int_shape t) (keeps rule.Mismatch (node.Binary op s t) br)) h k
+      two_ints op s t a b int at tt (refl, refl) (keeps rule.Mismatch (node.Binary op s t) br) h k
 
   a_type : (op : BinaryOp) → IsType d (binary_type op)
   a_type binary.Mul = tt

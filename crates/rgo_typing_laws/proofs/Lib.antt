@@ -9,6 +9,7 @@ pub mod Growth
 pub mod HeaderForms
 pub mod Headers
 pub mod Lists
+pub mod Literals
 pub mod Needed
 pub mod Numbering
 pub mod Packages
