@@ -1,26 +1,18 @@
-//! The tests above all other crates: whole calls, runs, the typing of programs, sources and sinks. Each test calls
-//! public functions only, with values that were worked out by hand or come from another program.
+//! The tests above all other crates: whole calls, and the typing of programs. Each test calls public functions only, with
+//! values that were worked out by hand or come from another program.
 //!
-//! There are three crates of tests, which are proved beside each other: this one, `rgo_text_tests` and
-//! `rgo_typing_tests`.
+//! There are four crates of tests, which are proved beside each other: this one, `rgo_text_tests`, `rgo_typing_tests` and
+//! `rgo_machine_tests`.
 #![tactic(auto)]
 
 #[cfg(test)]
 mod checks;
 #[cfg(test)]
-mod driver;
-#[cfg(test)]
 mod lines;
-#[cfg(test)]
-mod meaning;
-#[cfg(test)]
-mod outside;
 #[cfg(test)]
 mod rule_names;
 #[cfg(test)]
 mod run;
-#[cfg(test)]
-mod slow_sinks;
 #[cfg(test)]
 mod texts;
 #[cfg(test)]
