@@ -1,9 +1,10 @@
 -- The claims of the whole, from what its parts leave: the text that was read and checked or run, and the report of the
 -- ending.
-use Rattle.std.proofs.Common.{◌≡◌, Bool, true, false, ℕ, ◌⊎◌, inl, inr, List, [], Option, None, Some, refl, sym, ◌∙◌, ap, subst}
+use Rattle.std.proofs.Common.{◌≡◌, Bool, true, false, ℕ, ◌⊎◌, inl, inr, List, [], ◌++◌, length, Option, None, Some, refl, sym, ◌∙◌, ap, subst}
 use Rattle.rgo_typed.specs.Tree.{Typed}
 use Rattle.rgo_machine.specs.declared.limits.Limits.{Limits as RunLimits}
 use Rattle.rgo_machine.specs.declared.picks.End.TheVariants as the_end
+use Rattle.rgo_driver.specs.Rounds.{all_of}
 use Rattle.rgo_driver.specs.declared.ends.RunEnd.{RunEnd}
 use Rattle.rgo_driver.specs.declared.ends.RunEnd.TheVariants as run_end
 use Rattle.rgo_command_line.specs.declared.commands.Command.{Command}
@@ -20,6 +21,7 @@ use Rattle.rgo_run.specs.Runs.{limits_of, ProgramRuns, RunsTo}
 use Rattle.rgo_run.specs.Texts.{IsTextOf, IsRead, AskSome, NotRead, Fails, Checks, Performs}
 use Rattle.rgo_run.specs.Verdicts.{Passes, IsProgram, Refused}
 use Rattle.rgo_run.specs.Headline.{EndsRun, Refusal, Print, End, Faults, Suffices, RunsWhole, MustRunWhole, IsSilent, Complete, Headline}
+use Rattle.rgo_run.proofs.EndingLemmas.{fails_no_usage, fails_no_fault, fails_not_valid, fails_no_run, fails_memory, is_refused, not_status_1, read_fault, write_fault, run_of_status}
 use Rattle.rgo_run.proofs.VerdictLemmas as verdicts
 
 -- how a call ended that read its text, or had no memory for that
@@ -47,80 +49,6 @@ same_limits call a b c d = cc
 
 not_both : (call : Call) (limits : Limits) → IsCheck call → IsRun call limits → ⊥
 not_both call limits c d = cc
-
--- ---- endings that do not fit
-
-fails_no_usage : (text : List ℕ) (e : Ending) → Fails text e → e ≡ Usage → ⊥
-fails_no_usage text e f u = subst (Fails text) u f
-
-fails_no_fault : (text : List ℕ) (e : Ending) → Fails text e → e ≡ ReadFault → ⊥
-fails_no_fault text e f u = subst (Fails text) u f
-
-fails_not_valid : (text : List ℕ) (e : Ending) → Fails text e → e ≡ Valid → ⊥
-fails_not_valid text e f u = subst (Fails text) u f
-
-fails_no_run : (text : List ℕ) (e : Ending) (end : RunEnd) → Fails text e → e ≡ Ran end → ⊥
-fails_no_run text e end f u = subst (Fails text) u f
-
-fails_memory : (text : List ℕ) (e : Ending) → Fails text e → EndsRun e → e ≡ NoMemory
-fails_memory text NoMemory f m = refl
-fails_memory text (Ran end) f m = absurd f
-fails_memory text _ f m = absurd m
-
-is_refused : (text : List ℕ) (e : Ending) → Fails text e → status_of e ≡ 1 → Refused text e
-is_refused text NoMemory f s = cc
-is_refused text e f s = f
-
--- the status of a run is none of a refusal or of a failed read
-not_status_1 : (end : RunEnd) → status_of_run end ≡ 1 → ⊥
-not_status_1 (run_end.Ended the_end.Exit) s = cc
-not_status_1 (run_end.Ended (the_end.Trap trap at)) s = cc
-not_status_1 run_end.Deadlock s = cc
-not_status_1 run_end.CallsTooDeep s = cc
-not_status_1 run_end.StepsSpent s = cc
-not_status_1 run_end.GoroutinesSpent s = cc
-not_status_1 run_end.WriteFault s = cc
-not_status_1 run_end.NoMemory s = cc
-
--- with status 9 a read failed
-read_fault : (e : Ending) → status_of e ≡ 9 → e ≡ ReadFault
-read_fault ReadFault s = refl
-read_fault (Ran (run_end.Ended the_end.Exit)) s = cc
-read_fault (Ran (run_end.Ended (the_end.Trap trap at))) s = cc
-read_fault (Ran run_end.Deadlock) s = cc
-read_fault (Ran run_end.CallsTooDeep) s = cc
-read_fault (Ran run_end.StepsSpent) s = cc
-read_fault (Ran run_end.GoroutinesSpent) s = cc
-read_fault (Ran run_end.WriteFault) s = cc
-read_fault (Ran run_end.NoMemory) s = cc
-read_fault Valid s = cc
-read_fault Usage s = cc
-read_fault TooLong s = cc
-read_fault (Lexical refusal) s = cc
-read_fault (Syntax at) s = cc
-read_fault (Nesting at) s = cc
-read_fault (Typing refusal) s = cc
-read_fault NoMemory s = cc
-
--- with status 10 of an ending a write to `out` failed
-write_fault : (e : Ending) → status_of e ≡ 10 → e ≡ Ran run_end.WriteFault
-write_fault (Ran run_end.WriteFault) s = refl
-write_fault (Ran (run_end.Ended the_end.Exit)) s = cc
-write_fault (Ran (run_end.Ended (the_end.Trap trap at))) s = cc
-write_fault (Ran run_end.Deadlock) s = cc
-write_fault (Ran run_end.CallsTooDeep) s = cc
-write_fault (Ran run_end.StepsSpent) s = cc
-write_fault (Ran run_end.GoroutinesSpent) s = cc
-write_fault (Ran run_end.NoMemory) s = cc
-write_fault ReadFault s = cc
-write_fault Valid s = cc
-write_fault Usage s = cc
-write_fault TooLong s = cc
-write_fault (Lexical refusal) s = cc
-write_fault (Syntax at) s = cc
-write_fault (Nesting at) s = cc
-write_fault (Typing refusal) s = cc
-write_fault NoMemory s = cc
 
 -- ---- the refusal
 
@@ -236,9 +164,12 @@ runs_whole limits call text program (run_end.Ended end) r s t w =
     inl (record { run_end = run_end.Ended end; is_own = tt; runs = r; told = t.1; status = t.0 })
 runs_whole limits call text program run_end.Deadlock r s t w =
     inl (record { run_end = run_end.Deadlock; is_own = tt; runs = r; told = t.1; status = t.0 })
-runs_whole limits call text program run_end.CallsTooDeep r s t w = absurd (s.calls _ _ r.state r.ran r.ends)
-runs_whole limits call text program run_end.StepsSpent r s t w = absurd (s.steps _ _ r.state r.ran r.ends)
-runs_whole limits call text program run_end.GoroutinesSpent r s t w = absurd (s.goroutines _ _ r.state r.ran r.ends)
+runs_whole limits call text program run_end.CallsTooDeep r s t w =
+    absurd (s.calls (length (all_of r.rounds)) (all_of r.rounds ++ r.last) r.state r.ran r.ends)
+runs_whole limits call text program run_end.StepsSpent r s t w =
+    absurd (s.steps (length (all_of r.rounds)) (all_of r.rounds ++ r.last) r.state r.ran r.ends)
+runs_whole limits call text program run_end.GoroutinesSpent r s t w =
+    absurd (s.goroutines (length (all_of r.rounds)) (all_of r.rounds ++ r.last) r.state r.ran r.ends)
 runs_whole limits call text program run_end.WriteFault r s t w = absurd (w refl)
 runs_whole limits call text program run_end.NoMemory r s t w = inr t.0
 
@@ -471,18 +402,6 @@ headline_of_words call NoMemory n u (inr t) = absurd t.0
 headline_of_words call _ n u t = absurd n
 
 -- ---- what a status alone says
-
-run_of_status : (e : Ending) → is_run_status (status_of e) ≡ true → (end : RunEnd) × (e ≡ Ran end)
-run_of_status (Ran end) s = (end, refl)
-run_of_status Valid s = cc
-run_of_status NoMemory s = cc
-run_of_status Usage s = cc
-run_of_status ReadFault s = cc
-run_of_status TooLong s = cc
-run_of_status (Lexical refusal) s = cc
-run_of_status (Syntax at) s = cc
-run_of_status (Nesting at) s = cc
-run_of_status (Typing refusal) s = cc
 
 told_run : (call : Call) (text : List ℕ) (e : Ending) → Tells text e call.status call.err
     → ((end : RunEnd) → e ≡ Ran end → AsksRun call.words) → is_run_status call.status ≡ true → AsksRun call.words

@@ -1,5 +1,7 @@
 -- What the parts of the compiler say of a text, as the endings that report it.
-use Rattle.std.proofs.Common.{◌≡◌, ℕ, ◌≤◌, inl, List, [], length, Option, None, Some, refl, arith, subst}
+use Rattle.std.proofs.Common.{◌≡◌, ℕ, ◌≤◌, inl, true, List, [], ◌∷◌, length, Option, None, Some, refl, arith, subst}
+use Rattle.std.specs.Prelude.{max, nat_le}
+use Rattle.std.proofs.lemmas.Bool.Decides.{nat_tests}
 use Rattle.rgo_outside.specs.Moves.{ReadsAll, GivesTooMany}
 use Rattle.rgo_outside.specs.declared.whole.ReadEnd.{ReadEnd}
 use Rattle.rgo_outside.specs.declared.whole.ReadEnd.TheVariants as read
@@ -14,8 +16,13 @@ use Rattle.rgo_typing_rules.specs.declared.errors.TypeError.{TypeError}
 use Rattle.rgo_typing_rules.specs.declared.errors.TypeError.TheVariants as type
 use Rattle.rgo_typed.specs.Tree.{Typed}
 use Rattle.rgo_types.specs.Programs.{sites_of}
-use Rattle.rgo_machine.specs.Machines.{State}
-use Rattle.rgo_meaning.specs.Source.{source, source_start}
+use Rattle.rgo_memory.specs.Memory.{Memory}
+use Rattle.rgo_machine.specs.declared.limits.Limits.{Limits as RunLimits}
+use Rattle.rgo_machine.specs.Deadlocks.{IsDeadlock}
+use Rattle.rgo_machine.specs.Limits.{is_within}
+use Rattle.rgo_machine.specs.Machines.{start_of}
+use Rattle.rgo_machine.proofs.Waiting.{deadlocks_wait}
+use Rattle.rgo_meaning.specs.Source.{SourceState, source}
 use Rattle.rgo_driver.specs.Runs.{Ends}
 use Rattle.rgo_driver.specs.declared.ends.RunEnd.{RunEnd}
 use Rattle.rgo_driver.specs.declared.ends.RunEnd.TheVariants.{Deadlock, WriteFault}
@@ -69,3 +76,33 @@ pub type_fails : (text : List ℕ) (tree : Program) (error : TypeError) → IsTr
     → TypeRefuses error (first_refusal (sites_of tree)) → Fails text (type_error error)
 type_fails text tree type.NoMemory is_tree fails = tt
 type_fails text tree (type.Refused refusal) is_tree fails = record { tree = tree; is_tree = is_tree; broken = fails }
+
+-- ---- the run of a program
+
+one_fits : (n : ℕ) → nat_le 1 (max 1 n) ≡ true
+one_fits n = grind (arith, nat_tests)
+
+pub within : {F : Type 0} (limits : RunLimits) (m : Memory) (frames : List F) → length frames ≤ 1
+    → is_within limits (start_of m frames) ≡ true
+within limits m [] h = rw (one_fits limits.goroutines) refl
+within limits m (f ∷ []) h = rw (one_fits limits.goroutines) refl
+within limits m (f ∷ g ∷ frames) h = absurd (omega (arith, h))
+
+of_deadlock : (program : Typed) (limits : RunLimits) (before steps : ℕ) (s : SourceState) (end : RunEnd)
+    → Ends (source program) limits before steps s end → end ≡ Deadlock → IsDeadlock (source program) s
+of_deadlock program limits before steps s end h d = subst (λ e. Ends (source program) limits before steps s e) d h
+
+pub ran : (asked : Limits) (text : List ℕ) (program : Typed) (end : RunEnd) (out : SinkUse) → IsProgram text program
+    → ProgramRuns program (limits_of asked) end out → (end ≡ WriteFault → Failed out)
+    → ((end ≡ WriteFault → ⊥) → Held out) → Performs (Run asked) text (Ran end) out
+ran asked text program end out is_program runs failed held = inl (record {
+  program = program;
+  is_program = is_program;
+  run_end = end;
+  is_end = refl;
+  runs = runs;
+  waits = λ d. deadlocks_wait (source program) runs.state
+      (of_deadlock program (limits_of asked) _ _ runs.state end runs.ends d);
+  failed = failed;
+  held = held;
+})

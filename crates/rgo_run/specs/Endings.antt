@@ -45,11 +45,11 @@ is_fault_status status = status == 9 || status == 10
 abbrev pub positioned : List ℕ → ℕ → List ℕ → List ℕ
 positioned text at message =
     codes "rgo: " ++ (decimal (position_of text at).line
-    ++ (codes ":" ++ (decimal (position_of text at).column ++ (codes ": " ++ (message ++ codes "\n")))))
+    ++ (codes ":" ++ (decimal (position_of text at).column ++ (codes ": " ++ message))))
 
 -- a kind, and the number and the name of one of that kind
 abbrev pub numbered : List ℕ → ℕ → List ℕ → List ℕ
-numbered kind number name = kind ++ (codes " " ++ (decimal number ++ (codes " " ++ name)))
+numbered kind number name = kind ++ (codes " " ++ (decimal number ++ (codes " " ++ (name ++ codes "\n"))))
 
 -- one line, or nothing where `main` returned
 abbrev pub line_of_run : List ℕ → RunEnd → List ℕ
@@ -72,8 +72,8 @@ line_of text ReadFault = codes "rgo: read failed\n"
 line_of text TooLong = codes "rgo: text longer than 1048576 bytes\n"
 line_of text (Lexical refusal) =
     positioned text refusal.at (numbered (codes "lexical") (kinds.number_of refusal.kind) (kinds.name_of refusal.kind))
-line_of text (Syntax at) = positioned text at (codes "syntax")
-line_of text (Nesting at) = positioned text at (codes "nesting")
+line_of text (Syntax at) = positioned text at (codes "syntax\n")
+line_of text (Nesting at) = positioned text at (codes "nesting\n")
 line_of text (Typing refusal) =
     positioned text refusal.at (numbered (codes "type") (rules.number_of refusal.rule) (rules.name_of refusal.rule))
 line_of text NoMemory = codes "rgo: out of memory\n"

@@ -3,6 +3,7 @@ pub mod Endings
 pub mod Errors
 pub mod Headline
 pub mod Positions
+pub mod Programs
 pub mod Reports
 pub mod Runs
 pub mod Texts

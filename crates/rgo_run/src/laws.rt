@@ -1,8 +1,14 @@
 //! What holds of the definitions by themselves.
 
+ghost use Rattle.rgo_run.specs.Programs.{ProgramsAreWellFormed};
 ghost use Rattle.rgo_run.specs.Verdicts.{OneVerdict};
 
 /// Each text is one program at most, and is within the rules or has one refusal, and never both.
 pub fn one_verdict()
     ensures { OneVerdict }
+{}
+
+/// The program of every valid text is well-formed, and no function with a result reaches the end of its body.
+pub fn programs_are_well_formed()
+    ensures { ProgramsAreWellFormed }
 {}

@@ -10,7 +10,7 @@ mod report;
 mod top;
 
 pub use endings::Ending;
-pub use laws::one_verdict;
+pub use laws::{one_verdict, programs_are_well_formed};
 pub use rgo_driver::RunEnd;
 pub use rgo_lexer::{LexRefusal, LexicalKind};
 pub use rgo_machine::End;

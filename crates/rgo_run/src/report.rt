@@ -1,6 +1,6 @@
 //! The report of an ending: its line on `err`, and its status.
 
-ghost use Rattle.std.specs.Prelude.{◌≡◌, ◌<◌, ◌^◌, [], length, IfOk, MatchResult, string_bytes};
+ghost use Rattle.std.specs.Prelude.{◌≡◌, ◌<◌, ◌^◌, ◌++◌, [], codes, length, IfOk, MatchResult, string_bytes};
 ghost use Rattle.rgo_run.specs.Calls.{sink_use};
 ghost use Rattle.rgo_run.specs.Endings.{line_of, numbered, positioned};
 ghost use Rattle.rgo_run.specs.Reports.{Reports, Writes};
@@ -16,8 +16,6 @@ use std::alloc::{AllocError, Global};
 const USAGE: &[u8] =
     b"usage: rgo run [--steps N] [--pages N] [--page-words N] [--regions N] [--goroutines N] [--workers N] [--stats] | check | emit | code | big N\n";
 
-const NO_MEMORY: &[u8] = b"rgo: out of memory\n";
-
 // What is wrong at a place.
 fn line_at(
     alloc: Global,
@@ -26,7 +24,8 @@ fn line_at(
     message: &str,
 ) -> Result<String, AllocError>
     requires { length text.now < 2 ^ 63 }
-    ensures { IfOk result (λ line. string_bytes line ≡ positioned text.now at message.now) }
+    ensures { IfOk result (λ line. string_bytes line
+        ≡ positioned text.now at (message.now ++ codes "\n")) }
 {
     let position = position_of(text, at);
     let line = position.line;
@@ -65,6 +64,14 @@ fn write<E: Sink>(err: &mut E, line: &[u8], status: u8) -> u8
     }
 }
 
+// Writes that memory ran out.
+fn write_no_memory<E: Sink>(err: &mut E) -> u8
+    ensures { Writes (line_of [] Ending.NoMemory) 11 result (sink_use (E.contents err.old)
+        (E.contents err.new) (E.faults err.old) (E.faults err.new) (E.broken err.new)) }
+{
+    write(err, b"rgo: out of memory\n", 11)
+}
+
 // Writes the line; on allocation failure, that memory ran out.
 fn write_or_no_memory<E: Sink>(err: &mut E, line: Result<String, AllocError>, status: u8) -> u8
     ensures { MatchResult line
@@ -75,7 +82,7 @@ fn write_or_no_memory<E: Sink>(err: &mut E, line: Result<String, AllocError>, st
 {
     match line {
         Ok(line) => write(err, line.as_bytes(), status),
-        Err(_) => write(err, NO_MEMORY, 11),
+        Err(_) => write_no_memory(err),
     }
 }
 
@@ -95,7 +102,7 @@ fn report_run<E: Sink>(alloc: Global, text: &[u8], end: RunEnd, err: &mut E) -> 
         RunEnd::StepsSpent => write(err, b"rgo: steps spent\n", 8),
         RunEnd::GoroutinesSpent => write(err, b"rgo: goroutines spent\n", 12),
         RunEnd::WriteFault => write(err, b"rgo: write failed\n", 10),
-        RunEnd::NoMemory => write(err, NO_MEMORY, 11),
+        RunEnd::NoMemory => write_no_memory(err),
     }
 }
 
@@ -132,6 +139,6 @@ pub(crate) fn report<E: Sink>(alloc: Global, text: &[u8], ending: Ending, err: &
                 numbered_line_at(alloc, text, refusal.at, "type", rule.number(), rule.name());
             write_or_no_memory(err, line, 1)
         }
-        Ending::NoMemory => write(err, NO_MEMORY, 11),
+        Ending::NoMemory => write_no_memory(err),
     }
 }

@@ -1,6 +1,6 @@
 //! The whole: the words, the text, its run and the report of its ending.
 
-ghost use Rattle.std.specs.Prelude.{◌≡◌, ◌≤◌, ◌⊎◌, true, false, map, length, string_bytes};
+ghost use Rattle.std.specs.Prelude.{◌≡◌, ◌≤◌, ◌⊎◌, ℕ, List, true, false, map, length, string_bytes};
 ghost use Rattle.std.specs.Prelude.{IfErr, IfOk, IsErrOf, Some, None};
 ghost use Rattle.rgo_outside.specs.Causes.{Rose};
 ghost use Rattle.rgo_typed.specs.Views.{typed_of};

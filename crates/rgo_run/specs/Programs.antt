@@ -1,0 +1,13 @@
+-- The program of every valid text is well-formed.
+use Rattle.std.specs.Prelude.{ℕ, List}
+use Rattle.std.specs.List.{AllByRecursion}
+use Rattle.rgo_typed.specs.Tree.{Typed}
+use Rattle.rgo_wellformed.specs.Endings.{Ends}
+use Rattle.rgo_wellformed.specs.WellFormed.{IsWellFormed}
+use Rattle.rgo_run.specs.Verdicts.{IsProgram}
+
+-- It is well-formed, and no function with a result reaches the end of its body.
+abbrev pub ProgramsAreWellFormed : Type 0
+ProgramsAreWellFormed =
+    (text : List ℕ) (program : Typed) → IsProgram text program
+    → IsWellFormed program × AllByRecursion Ends program.functions
