@@ -123,16 +123,25 @@ fn a_goroutine_has_at_most_100000_frames(rt: HostRuntime) -> Result<(), Fail> {
 #[test]
 fn there_are_at_most_as_many_goroutines_as_the_limit(rt: HostRuntime) -> Result<(), Fail> {
     let alloc = rt.alloc();
-    let within = format!(in alloc; "for i := 0; i < 99; i++ {{ go f(i) }} }}; {DEEP}; func g() {{")?;
+    let within = format!(in alloc;
+        "for i := 0; i < 99; i++ {{ go f(i) }} }}; {DEEP}; func g() {{"
+    )?;
     ends_so(&rt, AMPLE, within.as_str(), RunEnd::Ended(End::Exit), "")?;
-    let beyond = format!(in alloc; "for i := 0; i < 100; i++ {{ go f(i) }} }}; {DEEP}; func g() {{")?;
+    let beyond = format!(in alloc;
+        "for i := 0; i < 100; i++ {{ go f(i) }} }}; {DEEP}; func g() {{"
+    )?;
     ends_so(&rt, AMPLE, beyond.as_str(), RunEnd::GoroutinesSpent, "")
 }
 
-/// Goroutines that have returned, or that wait, cost nothing in later rounds.
+/// Goroutines that have returned cost nothing in later rounds.
 #[test]
-fn many_goroutines_return_or_wait(rt: HostRuntime) -> Result<(), Fail> {
-    ends_so(&rt, MANY, RETURN, RunEnd::Ended(End::Exit), "")?;
+fn many_goroutines_return(rt: HostRuntime) -> Result<(), Fail> {
+    ends_so(&rt, MANY, RETURN, RunEnd::Ended(End::Exit), "")
+}
+
+/// Goroutines that wait cost nothing in later rounds.
+#[test]
+fn many_goroutines_wait(rt: HostRuntime) -> Result<(), Fail> {
     ends_so(&rt, MANY, WAIT, RunEnd::Deadlock, "")
 }
 

@@ -99,9 +99,19 @@ fn both_wait<'a, R: Abort + AllocGlobal>(
     is_not_enabled(rt, machine, state, Pick::One(1))?;
     let last = run_alone(rt.alloc(), machine, state, 0)?;
     same(rt, "a receiver", &last, &Stepped::NotEnabled);
-    same(rt, "a receiver", &standing(machine, state, 0), &Some(RECEIVES));
+    same(
+        rt,
+        "a receiver",
+        &standing(machine, state, 0),
+        &Some(RECEIVES),
+    );
     let elsewhere = Some(Stand::Elsewhere);
-    same(rt, "not yet a sender", &standing(machine, state, 1), &elsewhere);
+    same(
+        rt,
+        "not yet a sender",
+        &standing(machine, state, 1),
+        &elsewhere,
+    );
     is_not_enabled(rt, machine, state, Pick::Meet(0, 1))?;
     let last = run_alone(rt.alloc(), machine, state, 1)?;
     same(rt, "a sender", &last, &Stepped::NotEnabled);

@@ -1,6 +1,6 @@
 -- The claims of the whole, from what its parts leave: the text that was read and checked or run, and the report of the
 -- ending.
-use Rattle.std.proofs.Common.{◌≡◌, Bool, true, false, ℕ, ◌⊎◌, inl, inr, List, [], ◌++◌, length, Option, None, Some, refl, sym, ◌∙◌, ap, subst}
+use Rattle.std.proofs.Common.{◌≡◌, true, false, ℕ, ◌⊎◌, inl, inr, List, [], ◌++◌, length, Option, None, Some, refl, sym, ◌∙◌, ap, subst}
 use Rattle.rgo_typed.specs.Tree.{Typed}
 use Rattle.rgo_machine.specs.declared.limits.Limits.{Limits as RunLimits}
 use Rattle.rgo_machine.specs.declared.picks.End.TheVariants as the_end
@@ -13,14 +13,14 @@ use Rattle.rgo_command_line.specs.declared.limits.Limits.{Limits}
 use Rattle.rgo_command_line.specs.Commands.{command_of}
 use Rattle.rgo_run.specs.declared.endings.Ending.{Ending}
 use Rattle.rgo_run.specs.declared.endings.Ending.TheVariants.{Valid, Ran, Usage, ReadFault, TooLong}
-use Rattle.rgo_run.specs.declared.endings.Ending.TheVariants.{Lexical, Syntax, Nesting, Typing, NoMemory}
+use Rattle.rgo_run.specs.declared.endings.Ending.TheVariants.{NoMemory}
 use Rattle.rgo_run.specs.Calls.{AsksRun, Call, Asks, IsRun, IsCheck, SourceFailed, SourceHeld, Failed, Held, Grew, IsUntouched}
-use Rattle.rgo_run.specs.Endings.{status_of, status_of_run, is_run_status, is_fault_status, line_of}
+use Rattle.rgo_run.specs.Endings.{status_of, is_run_status, is_fault_status, line_of}
 use Rattle.rgo_run.specs.Reports.{Tells, HasPlace, Reports}
 use Rattle.rgo_run.specs.Runs.{limits_of, ProgramRuns, RunsTo}
 use Rattle.rgo_run.specs.Texts.{IsTextOf, IsRead, AskSome, NotRead, Fails, Checks, Performs}
 use Rattle.rgo_run.specs.Verdicts.{Passes, IsProgram, Refused}
-use Rattle.rgo_run.specs.Headline.{EndsRun, Refusal, Print, End, Faults, Suffices, RunsWhole, MustRunWhole, IsSilent, Complete, Headline}
+use Rattle.rgo_run.specs.Headline.{EndsRun, Print, Faults, Suffices, RunsWhole, MustRunWhole, IsSilent, Headline}
 use Rattle.rgo_run.proofs.EndingLemmas.{fails_no_usage, fails_no_fault, fails_not_valid, fails_no_run, fails_memory, is_refused, not_status_1, read_fault, write_fault, run_of_status}
 use Rattle.rgo_run.proofs.VerdictLemmas as verdicts
 

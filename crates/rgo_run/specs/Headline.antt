@@ -1,5 +1,5 @@
 -- What the program as a whole does: the claims that a call of `rgo` carries.
-use Rattle.std.specs.Prelude.{◌≡◌, ℕ, ◌⊎◌, Bool, false, List, [], None, length}
+use Rattle.std.specs.Prelude.{◌≡◌, ℕ, ◌⊎◌, false, List, [], None, length}
 use Rattle.rgo_typed.specs.Tree.{Typed}
 use Rattle.rgo_machine.specs.declared.limits.Limits.{Limits as RunLimits}
 use Rattle.rgo_machine.specs.declared.picks.Pick.{Pick}
@@ -16,7 +16,7 @@ use Rattle.rgo_run.specs.declared.endings.Ending.TheVariants.{Valid, Ran, Usage,
 use Rattle.rgo_run.specs.Calls.{AsksRun, Call, Asks, IsRun, IsCheck, SourceFailed, SourceHeld, Failed, Held, Grew, IsUntouched}
 use Rattle.rgo_run.specs.Endings.{status_of, line_of, is_fault_status}
 use Rattle.rgo_run.specs.Reports.{Tells}
-use Rattle.rgo_run.specs.Runs.{limits_of, ProgramRuns, AllWait, RunsTo}
+use Rattle.rgo_run.specs.Runs.{limits_of, ProgramRuns, RunsTo}
 use Rattle.rgo_run.specs.Texts.{IsTextOf}
 use Rattle.rgo_run.specs.Verdicts.{Passes, IsProgram, Refused}
 

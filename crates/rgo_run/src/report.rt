@@ -17,12 +17,7 @@ const USAGE: &[u8] =
     b"usage: rgo run [--steps N] [--pages N] [--page-words N] [--regions N] [--goroutines N] [--workers N] [--stats] | check | emit | code | big N\n";
 
 // What is wrong at a place.
-fn line_at(
-    alloc: Global,
-    text: &[u8],
-    at: Place,
-    message: &str,
-) -> Result<String, AllocError>
+fn line_at(alloc: Global, text: &[u8], at: Place, message: &str) -> Result<String, AllocError>
     requires { length text.now < 2 ^ 63 }
     ensures { IfOk result (λ line. string_bytes line
         ≡ positioned text.now at (message.now ++ codes "\n")) }
@@ -76,9 +71,9 @@ fn write_no_memory<E: Sink>(err: &mut E) -> u8
 fn write_or_no_memory<E: Sink>(err: &mut E, line: Result<String, AllocError>, status: u8) -> u8
     ensures { MatchResult line
         (λ line. Writes (string_bytes line) status result (sink_use (E.contents err.old)
-            (E.contents err.new) (E.faults err.old) (E.faults err.new) (E.broken err.new)))
+        (E.contents err.new) (E.faults err.old) (E.faults err.new) (E.broken err.new)))
         (λ _. Writes (line_of [] Ending.NoMemory) 11 result (sink_use (E.contents err.old)
-            (E.contents err.new) (E.faults err.old) (E.faults err.new) (E.broken err.new))) }
+        (E.contents err.new) (E.faults err.old) (E.faults err.new) (E.broken err.new))) }
 {
     match line {
         Ok(line) => write(err, line.as_bytes(), status),
@@ -121,8 +116,14 @@ pub(crate) fn report<E: Sink>(alloc: Global, text: &[u8], ending: Ending, err: &
         Ending::TooLong => write(err, b"rgo: text longer than 1048576 bytes\n", 1),
         Ending::Lexical(refusal) => {
             let kind = refusal.kind;
-            let line =
-                numbered_line_at(alloc, text, refusal.at, "lexical", kind.number(), kind.name());
+            let line = numbered_line_at(
+                alloc,
+                text,
+                refusal.at,
+                "lexical",
+                kind.number(),
+                kind.name(),
+            );
             write_or_no_memory(err, line, 1)
         }
         Ending::Syntax { at } => {
@@ -135,8 +136,14 @@ pub(crate) fn report<E: Sink>(alloc: Global, text: &[u8], ending: Ending, err: &
         }
         Ending::Typing(refusal) => {
             let rule = refusal.rule;
-            let line =
-                numbered_line_at(alloc, text, refusal.at, "type", rule.number(), rule.name());
+            let line = numbered_line_at(
+                alloc,
+                text,
+                refusal.at,
+                "type",
+                rule.number(),
+                rule.name(),
+            );
             write_or_no_memory(err, line, 1)
         }
         Ending::NoMemory => write_no_memory(err),

@@ -68,7 +68,7 @@ fn limits_of(limits: Limits) -> rgo_machine::Limits
 fn run_program<K: Sink>(alloc: Global, limits: Limits, program: &Typed, out: &mut K) -> Ending
     ensures performs { (text : List ℕ) → IsProgram text (typed_of program.now)
         → Performs (Run limits) text result (sink_use (K.contents out.old) (K.contents out.new)
-            (K.faults out.old) (K.faults out.new) (K.broken out.new)) }
+        (K.faults out.old) (K.faults out.new) (K.broken out.new)) }
     ensures refused { status_of result ≡ 1 → out.new ≡ out.old }
 {
     match start(alloc, program) {

@@ -69,7 +69,11 @@ static FIRST_IN_FIRST_OUT: [Step<'static>; 16] = [
     (Action::Recv, &[FIRST], Some(Effect::Gives(Value::Int(7)))),
     (Action::Send, &[FIRST, Value::Int(9)], DONE),
     (Action::Close, &[FIRST], DONE),
-    (Action::Close, &[FIRST], Some(Effect::Traps(Trap::CloseClosed))),
+    (
+        Action::Close,
+        &[FIRST],
+        Some(Effect::Traps(Trap::CloseClosed)),
+    ),
     (
         Action::Send,
         &[FIRST, Value::Int(6)],
@@ -79,7 +83,11 @@ static FIRST_IN_FIRST_OUT: [Step<'static>; 16] = [
     (Action::Recv, &[FIRST], Some(Effect::Gives(Value::Int(9)))),
     (Action::Recv, &[FIRST], Some(Effect::Gives(Value::Int(0)))),
     (Action::Recv, &[FIRST], Some(Effect::Gives(Value::Int(0)))),
-    (Action::IsNil, &[FIRST], Some(Effect::Gives(Value::Bool(false)))),
+    (
+        Action::IsNil,
+        &[FIRST],
+        Some(Effect::Gives(Value::Bool(false))),
+    ),
 ];
 
 static CHANNELS_THAT_ARE_NIL: [Step<'static>; 3] = [
@@ -203,11 +211,23 @@ fn a_slice_needs_memory_for_its_elements(rt: HostRuntime) -> Result<(), Fail> {
 }
 
 static FIELDS: [Step<'static>; 6] = [
-    (Action::Load(0), &[FIRST], Some(Effect::Gives(Value::Int(0)))),
+    (
+        Action::Load(0),
+        &[FIRST],
+        Some(Effect::Gives(Value::Int(0))),
+    ),
     (Action::Store(1), &[FIRST, FIRST], DONE),
-    (Action::Load(0), &[FIRST], Some(Effect::Gives(Value::Int(0)))),
+    (
+        Action::Load(0),
+        &[FIRST],
+        Some(Effect::Gives(Value::Int(0))),
+    ),
     (Action::Load(1), &[FIRST], Some(Effect::Gives(FIRST))),
-    (Action::Load(0), &[NIL], Some(Effect::Traps(Trap::NilPointer))),
+    (
+        Action::Load(0),
+        &[NIL],
+        Some(Effect::Traps(Trap::NilPointer)),
+    ),
     (
         Action::Store(0),
         &[NIL, Value::Int(1)],
@@ -241,8 +261,16 @@ static VARIABLES: [Step<'static>; 9] = [
     (Action::Set(0), &[Value::Int(5)], DONE),
     (Action::Get(0), &[], Some(Effect::Gives(Value::Int(5)))),
     (Action::Int(-3), &[], Some(Effect::Gives(Value::Int(-3)))),
-    (Action::Copy, &[Value::Int(4)], Some(Effect::Gives(Value::Int(4)))),
-    (Action::Neg, &[Value::Int(4)], Some(Effect::Gives(Value::Int(-4)))),
+    (
+        Action::Copy,
+        &[Value::Int(4)],
+        Some(Effect::Gives(Value::Int(4))),
+    ),
+    (
+        Action::Neg,
+        &[Value::Int(4)],
+        Some(Effect::Gives(Value::Int(-4))),
+    ),
     (
         Action::Binary(BinaryOp::Sub),
         &[Value::Int(4), Value::Int(6)],

@@ -3,8 +3,8 @@
 use crate::checks::same;
 use crate::typed_trees::ty;
 use rgo_ast::BinaryOp;
-use rgo_typed::{Base, Layer};
 use rgo_memory::{Trap, Value, binary, element_zero, inverted, is_nil, negated, write_value, zero};
+use rgo_typed::{Base, Layer};
 use std::test::Fail;
 
 const LEAST: i64 = i64::MIN;
