@@ -1,5 +1,5 @@
-//! The tests of what runs programs: the source machine, the driver, sources and sinks. Each test calls public functions
-//! only, with values that were worked out by hand or come from another program.
+//! The tests of what runs programs: the source machine and the driver. Each test calls public functions only, with values
+//! that were worked out by hand or come from another program.
 #![tactic(auto)]
 
 #[cfg(test)]
@@ -8,9 +8,5 @@ mod checks;
 mod driver;
 #[cfg(test)]
 mod meaning;
-#[cfg(test)]
-mod outside;
-#[cfg(test)]
-mod slow_sinks;
 #[cfg(test)]
 mod texts;

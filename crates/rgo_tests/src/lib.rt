@@ -1,5 +1,5 @@
-//! The tests above all other crates: whole calls, and the typing of programs. Each test calls public functions only, with
-//! values that were worked out by hand or come from another program.
+//! The tests above all other crates: whole calls, the typing of programs, sources and sinks. Each test calls public
+//! functions only, with values that were worked out by hand or come from another program.
 //!
 //! There are four crates of tests, which are proved beside each other: this one, `rgo_text_tests`, `rgo_typing_tests` and
 //! `rgo_machine_tests`.
@@ -10,9 +10,13 @@ mod checks;
 #[cfg(test)]
 mod lines;
 #[cfg(test)]
+mod outside;
+#[cfg(test)]
 mod rule_names;
 #[cfg(test)]
 mod run;
+#[cfg(test)]
+mod slow_sinks;
 #[cfg(test)]
 mod texts;
 #[cfg(test)]
