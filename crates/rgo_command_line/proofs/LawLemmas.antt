@@ -11,7 +11,7 @@ use Rattle.rgo_command_line.specs.Laws.{AreWordsOf, AskExactly, AskForCommands, 
 use Rattle.rgo_command_line.specs.Limits.{goroutine_bounds, limit_by, step_bounds}
 use Rattle.rgo_command_line.specs.declared.commands.Command.{Command}
 use Rattle.rgo_command_line.specs.declared.commands.Command.TheVariants.{Run, Check}
-use Rattle.rgo_command_line.specs.declared.limits.Limits.{Limits}
+use Rattle.rgo_machine.specs.declared.limits.Limits.{Limits}
 use Rattle.rgo_command_line.proofs.FirstWordLemmas.{other_word}
 use Rattle.rgo_command_line.proofs.OptionLemmas.{AreOptions, MetOptions, asks, met_options}
 use Rattle.rgo_command_line.proofs.RestLemmas.{more_rest, other_rest}

@@ -13,7 +13,7 @@ use Rattle.rgo_command_line.specs.Numbers.{is_numeral, within}
 use Rattle.rgo_command_line.specs.declared.commands.Command.{Command}
 use Rattle.rgo_command_line.specs.declared.commands.Command.TheVariants.{Run}
 use Rattle.rgo_command_line.specs.declared.limits.Bounds.{Bounds}
-use Rattle.rgo_command_line.specs.declared.limits.Limits.{Limits}
+use Rattle.rgo_machine.specs.declared.limits.Limits.{Limits}
 use Rattle.rgo_command_line.proofs.RunLemmas.{after, at_dashed, at_ending, at_joined}
 use Rattle.rgo_command_line.proofs.RunLemmas.{at_more, at_no_value, at_numeral}
 use Rattle.rgo_command_line.proofs.RunLemmas.{at_other, at_value, between, from, given, waiting}

@@ -5,7 +5,7 @@ use Rattle.rgo_command_line.specs.Commands.{command_of}
 use Rattle.rgo_command_line.specs.Limits.{goroutine_bounds, limit_by, step_bounds}
 use Rattle.rgo_command_line.specs.declared.commands.Command.{Command}
 use Rattle.rgo_command_line.specs.declared.commands.Command.TheVariants.{Run, Check}
-use Rattle.rgo_command_line.specs.declared.limits.Limits.{Limits}
+use Rattle.rgo_machine.specs.declared.limits.Limits.{Limits}
 
 -- the words that give the option of this name this value: `--name value`, `--name=value`, or none
 abbrev pub Give : Text → Option Text → List Text → Type 0

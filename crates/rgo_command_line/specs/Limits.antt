@@ -3,7 +3,7 @@ use Rattle.std.specs.Prelude.{◌≤◌, List, Option, Some, None, ℕ, codes, o
 use Rattle.clap.specs.Words.{Row, Text, first_of}
 use Rattle.rgo_command_line.specs.Numbers.{number_of, within}
 use Rattle.rgo_command_line.specs.declared.limits.Bounds.{Bounds}
-use Rattle.rgo_command_line.specs.declared.limits.Limits.{Limits}
+use Rattle.rgo_machine.specs.declared.limits.Limits.{Limits}
 
 abbrev pub step_bounds : Bounds
 step_bounds = record { least = 1; most = 4398046511104; default = 4398046511104 }

@@ -5,10 +5,11 @@ ghost use Rattle.clap.specs.Words.{found_of, rows_of, subcommand_rows_of};
 ghost use Rattle.rgo_command_line.specs.Commands.{KeepsBounds, Reads, command_met, command_named};
 ghost use Rattle.rgo_command_line.specs.declared.commands.WordsError.TheVariants.{NoMemory};
 
-use crate::limits::{Limits, limits_of};
+use crate::limits::limits_of;
 use crate::parser::parser;
 use clap::ArgMatches;
 use clap::error::ErrorKind;
+use rgo_machine::Limits;
 use std::alloc::{AllocError, Global};
 use thiserror::Error;
 
@@ -62,7 +63,8 @@ fn command_met(matches: &ArgMatches<'_>) -> Option<Command>
 /// The command that the words ask for. The first word is the program's name, and is ignored.
 ///
 /// `run` takes the options `--steps N` and `--goroutines N`, also written `--steps=N`, each at most
-/// once and in any order. `N` is one or more decimal digits, in the range that `Limits` documents.
+/// once and in any order. `N` is one or more decimal digits, from 1 to 4,398,046,511,104 for
+/// steps, which is also their default, and from 1 to 1,000,000 for goroutines, by default 100,000.
 /// `check` takes none. A `--` may end the words.
 ///
 /// `Usage` is returned only where they ask for nothing; `NoMemory` may be returned for any words.

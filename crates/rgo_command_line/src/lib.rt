@@ -9,4 +9,3 @@ mod parser;
 
 pub use commands::{Command, WordsError, read_words};
 pub use laws::words_asked;
-pub use limits::Limits;

@@ -6,17 +6,7 @@ ghost use Rattle.rgo_command_line.specs.Limits.{LieInBounds, LiesIn, limit_of, l
 
 use crate::numbers::number_within;
 use clap::ArgMatches;
-
-/// What limits a run. The words have a type of their own for this: the command line is read without
-/// a machine, and this crate is proved beside the machines, not above them.
-#[derive(Clone, Copy, Debug, PartialEq, Eq)]
-pub struct Limits {
-    /// How many basic steps all goroutines may take together: from 1 to 4,398,046,511,104, which
-    /// is also the default.
-    pub steps: u64,
-    /// How many goroutines there may be, `main` included: from 1 to 1,000,000, by default 100,000.
-    pub goroutines: usize,
-}
+use rgo_machine::Limits;
 
 /// The numbers that an option takes, and its default.
 #[derive(Clone, Copy)]
@@ -26,12 +16,14 @@ pub(crate) struct Bounds {
     pub default: u64,
 }
 
+/// How many steps all goroutines may take together.
 const STEPS: Bounds = Bounds {
     least: 1,
     most: 4_398_046_511_104,
     default: 4_398_046_511_104,
 };
 
+/// How many goroutines there may be, `main` included.
 const GOROUTINES: Bounds = Bounds {
     least: 1,
     most: 1_000_000,

@@ -2,14 +2,13 @@
 -- ending.
 use Rattle.std.proofs.Common.{◌≡◌, true, false, ℕ, ◌⊎◌, inl, inr, List, [], ◌++◌, length, Option, None, Some, refl, sym, ◌∙◌, ap, subst}
 use Rattle.rgo_typed.specs.Tree.{Typed}
-use Rattle.rgo_machine.specs.declared.limits.Limits.{Limits as RunLimits}
 use Rattle.rgo_machine.specs.declared.picks.End.TheVariants as the_end
 use Rattle.rgo_driver.specs.Rounds.{all_of}
 use Rattle.rgo_driver.specs.declared.ends.RunEnd.{RunEnd}
 use Rattle.rgo_driver.specs.declared.ends.RunEnd.TheVariants as run_end
 use Rattle.rgo_command_line.specs.declared.commands.Command.{Command}
 use Rattle.rgo_command_line.specs.declared.commands.Command.TheVariants.{Run, Check}
-use Rattle.rgo_command_line.specs.declared.limits.Limits.{Limits}
+use Rattle.rgo_machine.specs.declared.limits.Limits.{Limits}
 use Rattle.rgo_command_line.specs.Commands.{command_of}
 use Rattle.rgo_run.specs.declared.endings.Ending.{Ending}
 use Rattle.rgo_run.specs.declared.endings.Ending.TheVariants.{Valid, Ran, Usage, ReadFault, TooLong}
@@ -17,7 +16,7 @@ use Rattle.rgo_run.specs.declared.endings.Ending.TheVariants.{NoMemory}
 use Rattle.rgo_run.specs.Calls.{AsksRun, Call, Asks, IsRun, IsCheck, SourceFailed, SourceHeld, Failed, Held, Grew, IsUntouched}
 use Rattle.rgo_run.specs.Endings.{status_of, is_run_status, is_fault_status, line_of}
 use Rattle.rgo_run.specs.Reports.{Tells, HasPlace, Reports}
-use Rattle.rgo_run.specs.Runs.{limits_of, ProgramRuns, RunsTo}
+use Rattle.rgo_run.specs.Runs.{ProgramRuns, RunsTo}
 use Rattle.rgo_run.specs.Texts.{IsTextOf, IsRead, AskSome, NotRead, Fails, Checks, Performs}
 use Rattle.rgo_run.specs.Verdicts.{Passes, IsProgram, Refused}
 use Rattle.rgo_run.specs.Headline.{EndsRun, Print, Faults, Suffices, RunsWhole, MustRunWhole, IsSilent, Headline}
@@ -156,7 +155,7 @@ faults call text e went t = record {
 
 -- ---- completeness
 
-runs_whole : (limits : RunLimits) (call : Call) (text : List ℕ) (program : Typed) (end : RunEnd)
+runs_whole : (limits : Limits) (call : Call) (text : List ℕ) (program : Typed) (end : RunEnd)
     → ProgramRuns program limits end call.out → Suffices limits program
     → (call.status ≡ status_of (Ran end)) × Grew call.err (line_of text (Ran end))
     → (end ≡ run_end.WriteFault → ⊥) → RunsWhole limits call text program ⊎ (call.status ≡ 11)
@@ -181,14 +180,14 @@ must_be_memory call text e f p t n = absurd (verdicts.never_both text e p f)
 
 complete_run : (call : Call) (text : List ℕ) (e : Ending) → Outcome call text e → Tells text e call.status call.err
     → (limits : Limits) → IsRun call limits → (Failed call.out → ⊥) → (Failed call.err → ⊥)
-    → MustRunWhole (limits_of limits) call text
+    → MustRunWhole limits call text
 complete_run call text e (inl v) t limits c o n program p s = absurd (not_both call limits v.1 c)
 complete_run call text e (inr (inl r)) t limits c o n program p s =
     let l = same_limits call r.0 limits r.1 c in
     let q = verdicts.one_program text r.2.program program r.2.is_program p in
-    runs_whole (limits_of limits) call text program r.2.run_end
-    (subst (λ x. ProgramRuns program (limits_of x) r.2.run_end call.out) l
-    (subst (λ x. ProgramRuns x (limits_of r.0) r.2.run_end call.out) q r.2.runs))
+    runs_whole limits call text program r.2.run_end
+    (subst (λ x. ProgramRuns program x r.2.run_end call.out) l
+    (subst (λ x. ProgramRuns x r.0 r.2.run_end call.out) q r.2.runs))
     s
     (subst (λ x. (call.status ≡ status_of x) × Grew call.err (line_of text x)) r.2.is_end (told_whole call text e t n))
     (λ w. o (r.2.failed w))
@@ -236,7 +235,7 @@ headline_told call text e went t = record {
 no_line_run : (limits : Limits) (text : List ℕ) (call : Call) (e : Ending) (end : RunEnd) → (r : RunsTo limits text e call.out)
     → r.run_end ≡ end → HasPlace (Ran end) → RunsTo limits text (Ran run_end.NoMemory) call.out
 no_line_run limits text call e (run_end.Ended (the_end.Trap trap at)) r same h =
-    let runs = subst (λ x. ProgramRuns r.program (limits_of limits) x call.out) same r.runs in
+    let runs = subst (λ x. ProgramRuns r.program limits x call.out) same r.runs in
     record {
       program = r.program;
       is_program = r.is_program;

@@ -17,7 +17,6 @@ use Rattle.rgo_typing_rules.specs.declared.errors.TypeError.TheVariants as type
 use Rattle.rgo_typed.specs.Tree.{Typed}
 use Rattle.rgo_types.specs.Programs.{sites_of}
 use Rattle.rgo_memory.specs.Memory.{Memory}
-use Rattle.rgo_machine.specs.declared.limits.Limits.{Limits as RunLimits}
 use Rattle.rgo_machine.specs.Deadlocks.{IsDeadlock}
 use Rattle.rgo_machine.specs.Limits.{is_within}
 use Rattle.rgo_machine.specs.Machines.{start_of}
@@ -30,11 +29,11 @@ use Rattle.rgo_command_line.specs.Commands.{command_of}
 use Rattle.rgo_command_line.specs.declared.commands.Command.TheVariants.{Run}
 use Rattle.rgo_command_line.specs.declared.commands.WordsError.{WordsError}
 use Rattle.rgo_command_line.specs.declared.commands.WordsError.TheVariants as words
-use Rattle.rgo_command_line.specs.declared.limits.Limits.{Limits}
+use Rattle.rgo_machine.specs.declared.limits.Limits.{Limits}
 use Rattle.rgo_run.specs.declared.endings.Ending.TheVariants.{Ran, Usage, TooLong}
 use Rattle.rgo_run.specs.Calls.{SourceUse, SourceFailed, SourceHeld, SinkUse, Failed, Held}
 use Rattle.rgo_run.specs.Errors.{command_error, read_error, lex_error, type_error}
-use Rattle.rgo_run.specs.Runs.{limits_of, ProgramRuns}
+use Rattle.rgo_run.specs.Runs.{ProgramRuns}
 use Rattle.rgo_run.specs.Texts.{IsTextOf, AskSome, NotRead, Fails, Performs}
 use Rattle.rgo_run.specs.Verdicts.{IsTree, IsProgram, Refused, text_limit}
 
@@ -82,27 +81,27 @@ type_fails text tree (type.Refused refusal) is_tree fails = record { tree = tree
 one_fits : (n : ℕ) → nat_le 1 (max 1 n) ≡ true
 one_fits n = grind (arith, nat_tests)
 
-pub within : {F : Type 0} (limits : RunLimits) (m : Memory) (frames : List F) → length frames ≤ 1
+pub within : {F : Type 0} (limits : Limits) (m : Memory) (frames : List F) → length frames ≤ 1
     → is_within limits (start_of m frames) ≡ true
 within limits m [] h = rw (one_fits limits.goroutines) refl
 within limits m (f ∷ []) h = rw (one_fits limits.goroutines) refl
 within limits m (f ∷ g ∷ frames) h = absurd (omega (arith, h))
 
-of_deadlock : (program : Typed) (limits : RunLimits) (before steps : ℕ) (s : SourceState) (end : RunEnd)
+of_deadlock : (program : Typed) (limits : Limits) (before steps : ℕ) (s : SourceState) (end : RunEnd)
     → Ends (source program) limits before steps s end → end ≡ Deadlock → IsDeadlock (source program) s
 of_deadlock program limits before steps s end h d = subst (λ e. Ends (source program) limits before steps s e) d h
 
-pub ran : (asked : Limits) (text : List ℕ) (program : Typed) (end : RunEnd) (out : SinkUse) → IsProgram text program
-    → ProgramRuns program (limits_of asked) end out → (end ≡ WriteFault → Failed out)
-    → ((end ≡ WriteFault → ⊥) → Held out) → Performs (Run asked) text (Ran end) out
-ran asked text program end out is_program runs failed held = inl (record {
+pub ran : (limits : Limits) (text : List ℕ) (program : Typed) (end : RunEnd) (out : SinkUse) → IsProgram text program
+    → ProgramRuns program limits end out → (end ≡ WriteFault → Failed out)
+    → ((end ≡ WriteFault → ⊥) → Held out) → Performs (Run limits) text (Ran end) out
+ran limits text program end out is_program runs failed held = inl (record {
   program = program;
   is_program = is_program;
   run_end = end;
   is_end = refl;
   runs = runs;
   waits = λ d. deadlocks_wait (source program) runs.state
-      (of_deadlock program (limits_of asked) _ _ runs.state end runs.ends d);
+      (of_deadlock program limits _ _ runs.state end runs.ends d);
   failed = failed;
   held = held;
 })

@@ -1,7 +1,6 @@
 -- What the program as a whole does: the claims that a call of `rgo` carries.
 use Rattle.std.specs.Prelude.{◌≡◌, ℕ, ◌⊎◌, false, List, [], None, length}
 use Rattle.rgo_typed.specs.Tree.{Typed}
-use Rattle.rgo_machine.specs.declared.limits.Limits.{Limits as RunLimits}
 use Rattle.rgo_machine.specs.declared.picks.Pick.{Pick}
 use Rattle.rgo_machine.specs.Limits.{LeadsWithin}
 use Rattle.rgo_meaning.specs.Source.{SourceState, source, source_start}
@@ -9,14 +8,14 @@ use Rattle.rgo_driver.specs.declared.ends.RunEnd.{RunEnd}
 use Rattle.rgo_driver.specs.declared.ends.RunEnd.TheVariants as run_end
 use Rattle.rgo_driver.specs.Runs.{Ends}
 use Rattle.rgo_command_line.specs.declared.commands.Command.{Command}
-use Rattle.rgo_command_line.specs.declared.limits.Limits.{Limits}
+use Rattle.rgo_machine.specs.declared.limits.Limits.{Limits}
 use Rattle.rgo_command_line.specs.Commands.{command_of}
 use Rattle.rgo_run.specs.declared.endings.Ending.{Ending}
 use Rattle.rgo_run.specs.declared.endings.Ending.TheVariants.{Valid, Ran, Usage, ReadFault, NoMemory}
 use Rattle.rgo_run.specs.Calls.{AsksRun, Call, Asks, IsRun, IsCheck, SourceFailed, SourceHeld, Failed, Held, Grew, IsUntouched}
 use Rattle.rgo_run.specs.Endings.{status_of, line_of, is_fault_status}
 use Rattle.rgo_run.specs.Reports.{Tells}
-use Rattle.rgo_run.specs.Runs.{limits_of, ProgramRuns, RunsTo}
+use Rattle.rgo_run.specs.Runs.{ProgramRuns, RunsTo}
 use Rattle.rgo_run.specs.Texts.{IsTextOf}
 use Rattle.rgo_run.specs.Verdicts.{Passes, IsProgram, Refused}
 
@@ -66,14 +65,14 @@ pub record Faults (call : Call) : Type 0 where
   pub none : is_fault_status call.status ≡ false → SourceHeld call.source × Held call.out × Held call.err
 
 -- no run of the program within the limits ends so
-abbrev pub NeverEnds : RunLimits → Typed → RunEnd → Type 0
+abbrev pub NeverEnds : Limits → Typed → RunEnd → Type 0
 NeverEnds limits program end =
     (before : ℕ) (picks : List Pick) (s : SourceState)
     → LeadsWithin (source program) limits (source_start program) picks s
     → Ends (source program) limits before (length picks) s end → ⊥
 
 -- no run of the program meets a limit
-pub record Suffices (limits : RunLimits) (program : Typed) : Type 0 where
+pub record Suffices (limits : Limits) (program : Typed) : Type 0 where
   pub calls : NeverEnds limits program run_end.CallsTooDeep
   pub steps : NeverEnds limits program run_end.StepsSpent
   pub goroutines : NeverEnds limits program run_end.GoroutinesSpent
@@ -85,7 +84,7 @@ IsOwnEnd run_end.Deadlock = Unit {0}
 IsOwnEnd _ = ⊥
 
 -- the whole print of a run of the program to its own end, its line on `err`, and its status: 0, 2 or 3
-pub record RunsWhole (limits : RunLimits) (call : Call) (text : List ℕ) (program : Typed) : Type 0 where
+pub record RunsWhole (limits : Limits) (call : Call) (text : List ℕ) (program : Typed) : Type 0 where
   pub run_end : RunEnd
   pub is_own : IsOwnEnd run_end
   pub runs : ProgramRuns program limits run_end call.out
@@ -93,7 +92,7 @@ pub record RunsWhole (limits : RunLimits) (call : Call) (text : List ℕ) (progr
   pub status : call.status ≡ status_of (Ran run_end)
 
 -- the text's program is run so, where no run of it meets a limit; or memory ran out
-abbrev pub MustRunWhole : RunLimits → Call → List ℕ → Type 0
+abbrev pub MustRunWhole : Limits → Call → List ℕ → Type 0
 MustRunWhole limits call text =
     (program : Typed) → IsProgram text program → Suffices limits program
     → RunsWhole limits call text program ⊎ (call.status ≡ 11)
@@ -109,7 +108,7 @@ pub record IsSilent (call : Call) : Type 0 where
 pub record Complete (call : Call) (text : List ℕ) : Type 0 where
   pub run : (limits : Limits) → IsRun call limits
       → (SourceFailed call.source → ⊥) → (Failed call.out → ⊥) → (Failed call.err → ⊥)
-      → MustRunWhole (limits_of limits) call text
+      → MustRunWhole limits call text
   pub check : IsCheck call → (SourceFailed call.source → ⊥) → (Failed call.err → ⊥)
       → Passes text → IsSilent call ⊎ (call.status ≡ 11)
 

@@ -11,10 +11,10 @@ mod top;
 
 pub use endings::Ending;
 pub use laws::{one_verdict, programs_are_well_formed};
-pub use rgo_command_line::{Command, Limits};
+pub use rgo_command_line::Command;
 pub use rgo_driver::RunEnd;
 pub use rgo_lexer::{LexRefusal, LexicalKind};
-pub use rgo_machine::End;
+pub use rgo_machine::{End, Limits};
 pub use rgo_memory::Trap;
 pub use rgo_typing_rules::{Rule, TypeRefusal};
 pub use top::rgo;

@@ -7,7 +7,7 @@ ghost use Rattle.rgo_typed.specs.Views.{typed_of};
 ghost use Rattle.rgo_command_line.specs.Commands.{command_of};
 ghost use Rattle.rgo_command_line.specs.declared.commands.Command.TheVariants.{Check, Run};
 ghost use Rattle.rgo_run.specs.Verdicts.{IsProgram, text_limit};
-ghost use Rattle.rgo_run.specs.Runs.{RunsTo, limits_of};
+ghost use Rattle.rgo_run.specs.Runs.{RunsTo};
 ghost use Rattle.rgo_run.specs.Texts.{Checks, IsRead, NotRead, Performs};
 ghost use Rattle.rgo_run.specs.Calls.{AsksRun, IsUntouched, sink_use, source_use};
 ghost use Rattle.rgo_run.specs.Endings.{status_of, is_fault_status, is_run_status};
@@ -16,8 +16,9 @@ ghost use Rattle.rgo_run.specs.Headline.{Headline};
 use crate::compile::compile;
 use crate::endings::Ending;
 use crate::report::report;
-use rgo_command_line::{Command, Limits, read_words};
+use rgo_command_line::{Command, read_words};
 use rgo_driver::run;
+use rgo_machine::Limits;
 use rgo_meaning::{SourceMachine, start};
 use rgo_outside::{Gate, Sink, Source, read_all};
 use rgo_typed::Typed;
@@ -55,15 +56,6 @@ fn check_text(alloc: Global, text: &[u8]) -> Ending
     }
 }
 
-fn limits_of(limits: Limits) -> rgo_machine::Limits
-    ensures { result ≡ limits_of limits }
-{
-    rgo_machine::Limits {
-        steps: limits.steps,
-        goroutines: limits.goroutines,
-    }
-}
-
 // Runs the program of a text.
 fn run_program<K: Sink>(alloc: Global, limits: Limits, program: &Typed, out: &mut K) -> Ending
     ensures performs { (text : List ℕ) → IsProgram text (typed_of program.now)
@@ -74,7 +66,7 @@ fn run_program<K: Sink>(alloc: Global, limits: Limits, program: &Typed, out: &mu
     match start(alloc, program) {
         Ok(state) => {
             let machine = SourceMachine::new(program);
-            Ending::Ran(run(alloc, &machine, state, limits_of(limits), out))
+            Ending::Ran(run(alloc, &machine, state, limits, out))
         }
         Err(_) => Ending::NoMemory,
     }

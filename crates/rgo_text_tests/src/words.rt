@@ -2,7 +2,8 @@
 
 use crate::checks::same;
 use crate::lines::words_of;
-use rgo_command_line::{Command, Limits, WordsError, read_words};
+use rgo_command_line::{Command, WordsError, read_words};
+use rgo_machine::Limits;
 use std::process::Abort;
 use std::test::Fail;
 
