@@ -22,7 +22,8 @@ use Rattle.rgo_driver.specs.Rounds.{IsOf}
 use Rattle.rgo_driver.specs.Runs.{Ends}
 use Rattle.rgo_driver.specs.Turning as turning
 use Rattle.rgo_driver.specs.Turning.{Counts, CountsUp, AreMet, Tries, end_of, GoesOn, Moved, Stopped, Advances}
-use Rattle.rgo_driver.proofs.Leading.{same_some, leads_on, leads_one, stays_within, within_step}
+use Rattle.std.proofs.lemmas.Option.{same_Some}
+use Rattle.rgo_machine.proofs.Runs.{joined, single, ends_within, limited}
 use Rattle.rgo_driver.proofs.Others.{meeting_is}
 
 pub counts_none : (m : ℕ) → CountsUp m 0 m
@@ -55,7 +56,7 @@ module _ {F : Type 0} (machine : Machine F) (limits : Limits) where
       let long : length (h.picks ++ k.picks) ≡ length h.picks + length k.picks = length-append h.picks k.picks in
       record {
         picks = h.picks ++ k.picks;
-        leads = leads_on (limited_step machine limits) p.state q.state r.state h.picks k.picks h.leads k.leads;
+        leads = joined (limited_step machine limits) p.state q.state r.state h.picks k.picks h.leads k.leads;
         own = All-append (IsOf g) h.picks k.picks h.own k.own;
         long = omega (arith, long, h.long, k.long);
         counted = subst (λ n. CountsUp p.steps n r.steps) (sym long)
@@ -78,8 +79,8 @@ module _ {F : Type 0} (machine : Machine F) (limits : Limits) where
       let within = met.within on.within in
       record {
         picks = Meet r t ∷ [];
-        leads = leads_one (limited_step machine limits) p.state q.state (Meet r t)
-            (within_step machine limits p.state q.state (Meet r t) step within);
+        leads = single (limited_step machine limits) p.state q.state (Meet r t)
+            (limited machine limits p.state q.state (Meet r t) step within);
         own = All-push (IsOf g) [] (Meet r t) (All-nil (IsOf g)) (met_own g h r t both);
         long = refl;
         counted = counted;
@@ -114,7 +115,7 @@ module _ {F : Type 0} (machine : Machine F) (limits : Limits) where
         counted = subst (λ n. CountsUp p.steps n q.steps) (sym long) counted;
         on = record {
           running = goes_on q.state g at_most turned.steps turned.stop none turns.over;
-          within = stays_within machine limits picks p.state q.state turns.leads on.within;
+          within = ends_within machine limits p.state q.state picks on.within turns.leads;
         };
       }
 
@@ -125,23 +126,23 @@ module _ {F : Type 0} (machine : Machine F) (limits : Limits) where
   found_end t g at_most n stop.Printed end is over before steps = cc
   found_end t g at_most n (stop.Operated channel) end is over before steps = cc
   found_end t g at_most n (stop.Ended e) end is over before steps =
-      subst (Ends machine limits before steps t) (same_some (run_end.Ended e) end is) over.0
+      subst (Ends machine limits before steps t) (same_Some (run_end.Ended e) end is) over.0
   found_end t g at_most n stop.TooDeep end is over before steps =
-      subst (Ends machine limits before steps t) (same_some run_end.CallsTooDeep end is) over
+      subst (Ends machine limits before steps t) (same_Some run_end.CallsTooDeep end is) over
   found_end t g at_most n stop.Full end is over before steps =
-      subst (Ends machine limits before steps t) (same_some run_end.GoroutinesSpent end is) over
+      subst (Ends machine limits before steps t) (same_Some run_end.GoroutinesSpent end is) over
   found_end t g at_most n stop.NoMemory end is over before steps =
-      subst (Ends machine limits before steps t) (same_some run_end.NoMemory end is) tt
+      subst (Ends machine limits before steps t) (same_Some run_end.NoMemory end is) tt
 
   no_fault : (s : Stop) (end : RunEnd) → end_of s ≡ Some end → end ≡ run_end.WriteFault → ⊥
   no_fault stop.Spent end is e = cc
   no_fault stop.Waits end is e = cc
   no_fault stop.Printed end is e = cc
   no_fault (stop.Operated channel) end is e = cc
-  no_fault (stop.Ended x) end is e = let both : run_end.Ended x ≡ run_end.WriteFault = same_some _ _ is ∙ e in cc
-  no_fault stop.TooDeep end is e = let both : run_end.CallsTooDeep ≡ run_end.WriteFault = same_some _ _ is ∙ e in cc
-  no_fault stop.Full end is e = let both : run_end.GoroutinesSpent ≡ run_end.WriteFault = same_some _ _ is ∙ e in cc
-  no_fault stop.NoMemory end is e = let both : run_end.NoMemory ≡ run_end.WriteFault = same_some _ _ is ∙ e in cc
+  no_fault (stop.Ended x) end is e = let both : run_end.Ended x ≡ run_end.WriteFault = same_Some _ _ is ∙ e in cc
+  no_fault stop.TooDeep end is e = let both : run_end.CallsTooDeep ≡ run_end.WriteFault = same_Some _ _ is ∙ e in cc
+  no_fault stop.Full end is e = let both : run_end.GoroutinesSpent ≡ run_end.WriteFault = same_Some _ _ is ∙ e in cc
+  no_fault stop.NoMemory end is e = let both : run_end.NoMemory ≡ run_end.WriteFault = same_Some _ _ is ∙ e in cc
 
   pub turned_stops : (g at_most : ℕ) (s t : State F) (turned : Turned) (end : RunEnd) → end_of turned.stop ≡ Some end
       → Turns machine limits s t g at_most turned → Stopped machine limits g s t at_most end
@@ -183,7 +184,7 @@ module _ {F : Type 0} (machine : Machine F) (limits : Limits) where
       → Stopped machine limits g q.state t b end → a + b ≤ at_most → Stopped machine limits g p.state t at_most end
   stopped_on g a b at_most end p q t h k le = record {
     picks = h.picks ++ k.picks;
-    leads = leads_on (limited_step machine limits) p.state q.state t h.picks k.picks h.leads k.leads;
+    leads = joined (limited_step machine limits) p.state q.state t h.picks k.picks h.leads k.leads;
     own = All-append (IsOf g) h.picks k.picks h.own k.own;
     short = omega (arith, length-append h.picks k.picks, h.long, k.short, le);
     ends = k.ends;
@@ -273,7 +274,7 @@ module _ {F : Type 0} (machine : Machine F) (limits : Limits) where
   -- ---- a whole turn
 
   no_picks : (picks : List Pick) (s t : State F) → LeadsWithin machine limits s picks t → picks ≡ [] → s ≡ t
-  no_picks [] s t leads none = same_some s t leads
+  no_picks [] s t leads none = same_Some s t leads
   no_picks (pick ∷ picks) s t leads none = cc
 
   pub turned : (g count : ℕ) (p q : Point F) → Moved machine limits g p q count → count ≤ 1000

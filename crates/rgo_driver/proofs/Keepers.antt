@@ -20,7 +20,7 @@ use Rattle.rgo_driver.specs.Playing.{with_print}
 use Rattle.rgo_driver.specs.Points.{Point}
 use Rattle.rgo_driver.specs.Sleeping.{channel_of, Sleeps, Watches, Keeps, Passes}
 use Rattle.rgo_driver.specs.Turning.{operated, AreMet, Tries}
-use Rattle.rgo_driver.proofs.Leading.{same_some}
+use Rattle.std.proofs.lemmas.Option.{same_Some}
 use Rattle.rgo_driver.proofs.Others.{turn_spares, Met, meeting_is}
 use Rattle.rgo_driver.proofs.Printing.{no_step}
 use Rattle.rgo_driver.proofs.Sleepers.{SameAt, sleeps_on}
@@ -56,7 +56,7 @@ both_at (Some a) (Some b) = by_cases (cases_eq a b) where
   by_cases : (a ≡ b) ⊎ (a ≡ b → ⊥)
       → ((n : ℕ) × (Some a ≡ Some n) × (Some b ≡ Some n)) ⊎ ((n : ℕ) → Some a ≡ Some n → Some b ≡ Some n → ⊥)
   by_cases (inl e) = inl (a, refl, ap Some (sym e))
-  by_cases (inr other) = inr (λ n e f. other (same_some a n e ∙ sym (same_some b n f)))
+  by_cases (inr other) = inr (λ n e f. other (same_Some a n e ∙ sym (same_Some b n f)))
 
 -- a channel on which a turn has not operated
 left_alone : (s : Stop) (m k : Memory) (n : ℕ) → ChangesChannels s m k → (operated s ≡ Some n → ⊥) → SameAt m k n
@@ -320,7 +320,7 @@ module _ {F : Type 0} (machine : Machine F) (limits : Limits) where
   joined_sleeps g channel s t before waiting none at same joined = record {
     still = ap (λ v. step_by machine v (One g)) same ∙ none;
     listed = λ n is.
-        let here : channel ≡ n = same_some channel n (sym at ∙ ap (λ v. channel_of machine v g) (sym same) ∙ is) in
+        let here : channel ≡ n = same_Some channel n (sym at ∙ ap (λ v. channel_of machine v g) (sym same) ∙ is) in
         subst (λ k. Contains (waiting k) g) here (subst (λ l. Contains l g) (sym joined) (Contains-push
         (before channel) g));
   }

@@ -1,11 +1,8 @@
 pub mod Composed
 pub mod Given
 pub mod Keepers
-pub mod Leading
-pub mod Marked
 pub mod Others
 pub mod Played
 pub mod Printing
 pub mod Rounded
 pub mod Sleepers
-pub mod Unmet

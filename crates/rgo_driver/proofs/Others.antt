@@ -1,9 +1,8 @@
 -- A step of one goroutine leaves the frames of all others, and a meeting leaves those of a third one.
 use Rattle.std.proofs.Common.{◌≡◌, ◌<◌, ◌≤◌, ◌⊎◌, inl, inr, ℕ, zero, suc, Bool, true, false, List, [], ◌∷◌, ◌++◌}
 use Rattle.std.proofs.Common.{length, Option, Some, None}
-use Rattle.std.proofs.Common.{refl, ap, sym, subst, ◌∙◌, arith, replicate, length-append, length-set}
-use Rattle.std.specs.Prelude.{option_and_then, option_map, if◌then◌else◌, ◌==◌, ◌&&◌, slice_get, slice_set, ⊤, nat_le}
-use Rattle.std.specs.List.{list_all}
+use Rattle.std.proofs.Common.{refl, ap, subst, ◌∙◌, arith, replicate, length-append, length-set}
+use Rattle.std.specs.Prelude.{option_and_then, option_map, if◌then◌else◌, ◌==◌, slice_get, slice_set, ⊤}
 use Rattle.rgo_memory.specs.declared.values.Value.{Value}
 use Rattle.rgo_memory.specs.Channels.{receive, send, close, meets_at}
 use Rattle.rgo_memory.specs.Effects.{Effect, Does}
@@ -11,55 +10,24 @@ use Rattle.rgo_memory.specs.Effects as effect
 use Rattle.rgo_machine.specs.declared.limits.Limits.{Limits}
 use Rattle.rgo_machine.specs.declared.picks.End.{End}
 use Rattle.rgo_machine.specs.declared.picks.Pick.TheVariants.{One, Meet}
-use Rattle.rgo_machine.specs.Limits.{LeadsWithin, limited_step, is_within, has_room, most_goroutines}
+use Rattle.rgo_machine.specs.Limits.{LeadsWithin, limited_step, is_within}
 use Rattle.rgo_machine.specs.Machines.{Act, Moves, Returns, Prints, Traps, Machine, State, with_frames}
 use Rattle.rgo_machine.specs.Machines.{Stand, AtReceive, AtSend, AtClose, AtCall, AtStart, Elsewhere}
 use Rattle.rgo_machine.specs.Machines.{acted, operated, stepped, alone, met, met_by, meet, picked, unless_ended}
 use Rattle.rgo_machine.specs.Machines.{step_by}
 use Rattle.rgo_machine.specs.Runs.{run}
-use Rattle.rgo_driver.proofs.Leading.{same_some, step_within}
+use Rattle.std.proofs.lemmas.Option.{same_Some, slice_get_past}
+use Rattle.rgo_machine.proofs.Items.{other_item}
+use Rattle.rgo_machine.proofs.Limited.{room_at, set_within}
+use Rattle.rgo_machine.proofs.Runs.{is_step}
 
 -- ---- lists
 
-left : (a b : Bool) → a && b ≡ true → a ≡ true
-left true b e = refl
-left false b e = e
-
-right : (a b : Bool) → a && b ≡ true → b ≡ true
-right true b e = e
-right false b e = cc
-
 module _ {X : Type 0} where
-  set_other : (l : List X) (g h : ℕ) (x : X) → (h ≡ g → ⊥) → slice_get (slice_set l g x) h ≡ slice_get l h
-  set_other [] g h x other = refl
-  set_other (y ∷ l) zero zero x other = absurd (other refl)
-  set_other (y ∷ l) zero (suc h) x other = refl
-  set_other (y ∷ l) (suc g) zero x other = refl
-  set_other (y ∷ l) (suc g) (suc h) x other = set_other l g h x (λ e. other (ap suc e))
-
   get_before : (l m : List X) (h : ℕ) → h < length l → slice_get (l ++ m) h ≡ slice_get l h
   get_before [] m h lt = absurd (omega (arith, lt))
   get_before (x ∷ l) m zero lt = refl
   get_before (x ∷ l) m (suc h) lt = get_before l m h (omega (arith, lt))
-
-  -- past the end there is nothing
-  pub nothing_past : (l : List X) (n : ℕ) → length l ≤ n → slice_get l n ≡ None
-  nothing_past [] n h = refl
-  nothing_past (x ∷ l) zero h = absurd (omega (arith, h))
-  nothing_past (x ∷ l) (suc n) h = nothing_past l n (omega (arith, h))
-
-  all_get : (p : X → Bool) (l : List X) (i : ℕ) (x : X) → list_all p l ≡ true → slice_get l i ≡ Some x → p x ≡ true
-  all_get p [] i x all is = cc
-  all_get p (y ∷ l) zero x all is = subst (λ z. p z ≡ true) (same_some y x is) (left (p y) (list_all p l) all)
-  all_get p (y ∷ l) (suc i) x all is = all_get p l i x (right (p y) (list_all p l) all) is
-
-  all_set : (p : X → Bool) (l : List X) (i : ℕ) (x : X) → list_all p l ≡ true → p x ≡ true
-      → list_all p (slice_set l i x) ≡ true
-  all_set p [] i x all here = refl
-  all_set p (y ∷ l) zero x all here = ap (λ b. b && list_all p l) here ∙ right (p y) (list_all p l) all
-  all_set p (y ∷ l) (suc i) x all here =
-      ap (λ b. b && list_all p (slice_set l i x)) (left (p y) (list_all p l) all)
-      ∙ all_set p l i x (right (p y) (list_all p l) all) here
 
 -- ---- one goroutine alone
 
@@ -85,7 +53,7 @@ module _ {F : Type 0} where
   spares_set : (g : ℕ) (s : State F) (frames : List F) → Spares (Only g) s (with_frames s g frames)
   spares_set g s frames = record {
     longer = omega (arith, length-set s.goroutines g frames);
-    same = λ h other lt. set_other s.goroutines g h frames other;
+    same = λ h other lt. other_item s.goroutines g h frames other;
   }
 
   spares_start : (g : ℕ) (s t : State F) (frames child : List F)
@@ -101,7 +69,7 @@ module _ {F : Type 0} where
         ap (λ l. slice_get l h) is
         ∙ get_before (slice_set s.goroutines g frames) (child ∷ []) h (omega
         (arith, lt, length-set s.goroutines g frames))
-        ∙ set_other s.goroutines g h frames other;
+        ∙ other_item s.goroutines g h frames other;
   }
 
   -- what it does to the rest of the state does not matter
@@ -159,7 +127,7 @@ module _ {F : Type 0} (g : ℕ) where
 module _ {F : Type 0} (machine : Machine F) (s : State F) where
   -- a goroutine that does not exist has no step
   pub beyond : (h : ℕ) → length s.goroutines ≤ h → step_by machine s (One h) ≡ None
-  beyond h past = over s.ended (ap (option_and_then (alone machine s h)) (nothing_past s.goroutines h past)) where
+  beyond h past = over s.ended (ap (option_and_then (alone machine s h)) (slice_get_past s.goroutines h past)) where
     over : (e : Option End) → picked machine s (One h) ≡ None → unless_ended e (picked machine s (One h)) ≡ None
     over None q = q
     over (Some e) q = refl
@@ -167,9 +135,9 @@ module _ {F : Type 0} (machine : Machine F) (s : State F) where
 module _ {F : Type 0} (machine : Machine F) (limits : Limits) (g : ℕ) where
   -- so do several
   pub turn_spares : (n : ℕ) (s t : State F) → LeadsWithin machine limits s (replicate n (One g)) t → Spares (Only g) s t
-  turn_spares zero s t e = subst (Spares (Only g) s) (same_some s t e) (spares_itself g s)
+  turn_spares zero s t e = subst (Spares (Only g) s) (same_Some s t e) (spares_itself g s)
   turn_spares (suc n) s t e =
-      first (limited_step machine limits s (One g)) (λ u q. (step_within machine limits s u (One g) q).0)
+      first (limited_step machine limits s (One g)) (λ u q. (is_step machine limits s u (One g) q).0)
       (λ u e. turn_spares n u t e) e where
         first : (o : Option (State F)) → ((u : State F) → o ≡ Some u → step_by machine s (One g) ≡ Some u)
             → ((u : State F) → run (limited_step machine limits) u (replicate n (One g)) ≡ Some t → Spares (Only g) u t)
@@ -194,31 +162,21 @@ module _ {F : Type 0} where
   MetIf limits r t s None = ⊤
   MetIf limits r t s (Some u) = Met limits r t s u
 
-  room_of : (f g : F) (callers : List F) → has_room (f ∷ callers) ≡ true → has_room (g ∷ callers) ≡ true
-  room_of f g callers e = e
-
 module _ {F : Type 0} (machine : Machine F) (limits : Limits) (s : State F) (r t : ℕ) where
   within_two : (f x h y : F) (rs ts : List F) → slice_get s.goroutines r ≡ Some (f ∷ rs)
       → slice_get s.goroutines t ≡ Some (h ∷ ts) → is_within limits s ≡ true
       → is_within limits (with_frames (with_frames s r (x ∷ rs)) t (y ∷ ts)) ≡ true
   within_two f x h y rs ts p q w =
-      let old = s.goroutines in
-      let one = slice_set old r (x ∷ rs) in
-      let rooms = right (nat_le (length old) (most_goroutines limits)) (list_all has_room old) w in
-      let first = all_set has_room old r (x ∷ rs) rooms (room_of f x rs (all_get has_room old r (f ∷ rs) rooms p)) in
-      let both = all_set has_room one t (y ∷ ts) first (room_of h y ts (all_get has_room old t (h ∷ ts) rooms q)) in
-      let long : length (slice_set one t (y ∷ ts)) ≡ length old =
-      length-set one t (y ∷ ts) ∙ length-set old r (x ∷ rs) in
-      ap (λ n. nat_le n (most_goroutines limits) && list_all has_room (slice_set one t (y ∷ ts))) long
-      ∙ ap (λ b. nat_le (length old) (most_goroutines limits) && b) both
-      ∙ sym (ap (λ b. nat_le (length old) (most_goroutines limits) && b) rooms) ∙ w
+      let one : is_within limits (with_frames s r (x ∷ rs)) ≡ true =
+      set_within machine limits s r w (x ∷ rs) (room_at limits s r (f ∷ rs) w p) in
+      set_within machine limits (with_frames s r (x ∷ rs)) t one (y ∷ ts) (room_at limits s t (h ∷ ts) w q)
 
   spares_two : (rs ts : List F) → Spares (Either r t) s (with_frames (with_frames s r rs) t ts)
   spares_two rs ts = record {
     longer = omega (arith, length-set (slice_set s.goroutines r rs) t ts, length-set s.goroutines r rs);
     same = λ h other lt.
-        set_other (slice_set s.goroutines r rs) t h ts (λ e. other (inr e))
-        ∙ set_other s.goroutines r h rs (λ e. other (inl e));
+        other_item (slice_set s.goroutines r rs) t h ts (λ e. other (inr e))
+        ∙ other_item s.goroutines r h rs (λ e. other (inl e));
   }
 
   met_two : (f x h y : F) (rs ts : List F) → slice_get s.goroutines r ≡ Some (f ∷ rs)

@@ -24,8 +24,9 @@ use Rattle.rgo_driver.specs.Runs.{Ends, Gives, AppendsSome}
 use Rattle.rgo_driver.specs.Sleeping.{Sleeps, Watches, Passes}
 use Rattle.rgo_driver.specs.Turning.{Counts, GoesOn, Stopped, Turned}
 use Rattle.rgo_driver.proofs.Keepers.{watches_printed}
-use Rattle.rgo_driver.proofs.Leading.{leads_on}
-use Rattle.rgo_driver.proofs.Printing.{after, leads_after, no_step}
+use Rattle.rgo_machine.proofs.Runs.{joined}
+use Rattle.rgo_machine.proofs.Printing.{with_before, prefixed}
+use Rattle.rgo_driver.proofs.Printing.{no_step}
 
 -- ---- what goes out
 
@@ -115,7 +116,7 @@ module _ {F : Type 0} (machine : Machine F) (limits : Limits) where
 
   -- ---- whatever was printed before
 
-  printed_before : (s : State F) (before : List ℕ) → s.printed ≡ [] → after before s ≡ with_print s before
+  printed_before : (s : State F) (before : List ℕ) → s.printed ≡ [] → with_before before s ≡ with_print s before
   printed_before s before silent = ap (λ l. with_print s (before ++ l)) silent
       ∙ ap (λ l. with_print s l) (append-nil before)
 
@@ -123,8 +124,8 @@ module _ {F : Type 0} (machine : Machine F) (limits : Limits) where
       → FitsTurn machine limits s g picks t
       → FitsTurn machine limits (with_print s before) g picks (with_print t (before ++ t.printed))
   fits_after s t g picks before silent h = record {
-    leads = subst (λ v. LeadsWithin machine limits v picks (after before t)) (printed_before s before silent)
-        (leads_after machine limits before picks s t h.leads);
+    leads = subst (λ v. LeadsWithin machine limits v picks (with_before before t)) (printed_before s before silent)
+        (prefixed machine limits before s t picks h.leads);
     short = h.short;
     own = h.own;
   }
@@ -194,7 +195,7 @@ module _ {F : Type 0} (machine : Machine F) (limits : Limits) where
       subst (λ l. LeadsWithin machine limits s l t) (sym h.0) (ap Some (sym h.1))
   turns_lead s t (g ∷ order) picks h =
       subst (λ l. LeadsWithin machine limits s l t) (sym h.3)
-      (leads_on (limited_step machine limits) s h.2 t h.0 h.1 h.4.fits.leads (turns_lead h.2 t order h.1 h.5))
+      (joined (limited_step machine limits) s h.2 t h.0 h.1 h.4.fits.leads (turns_lead h.2 t order h.1 h.5))
 
   pub fits_none : (s : State F) (g : ℕ) → FitsTurn machine limits s g [] s
   fits_none s g = record { leads = refl; short = omega arith; own = All-nil (IsOf g) }
@@ -242,7 +243,7 @@ module _ {F : Type 0} (machine : Machine F) (limits : Limits) where
       → LeadsWithin machine limits s picks t
   begun_leads s t picks h =
       subst (λ l. LeadsWithin machine limits s l t) (sym h.picked)
-      (leads_on (limited_step machine limits) s h.turning t h.whole h.part
+      (joined (limited_step machine limits) s h.turning t h.whole h.part
       (turns_lead s h.turning h.order h.whole h.turns) h.begun.leads)
 
   -- ---- a turn, and what it printed

@@ -20,14 +20,16 @@ use Rattle.rgo_driver.specs.declared.ends.RunEnd.TheVariants as run_end
 use Rattle.rgo_driver.specs.Playing.{with_print, IsReady, IsBetween, Plays, PlaysAll, PlaysRound, Breaks, Finishes}
 use Rattle.rgo_driver.specs.Playing.{Progresses}
 use Rattle.rgo_driver.specs.Points.{Point}
-use Rattle.rgo_driver.specs.Probing.{IsUnmet, MeetsAny}
+use Rattle.rgo_driver.specs.Probing.{MeetsAny}
+use Rattle.rgo_machine.specs.Meetings.{IsUnmet}
 use Rattle.rgo_driver.specs.Rounds.{IsOf, FitsTurn, IsTurn, AreTurns, IsRound, IsBegunRound, AreRounds, all_of}
 use Rattle.rgo_driver.specs.Runs.{Ends, Runs}
 use Rattle.rgo_driver.specs.Sleeping.{Sleeps, Watches}
 use Rattle.rgo_driver.specs.Turning.{Counts, CountsUp}
 use Rattle.rgo_driver.proofs.Composed.{counts_none, counts_on}
 use Rattle.rgo_driver.proofs.Keepers.{first_or_later}
-use Rattle.rgo_driver.proofs.Leading.{same_some, leads_on, leads_one, within_step}
+use Rattle.std.proofs.lemmas.Option.{same_Some}
+use Rattle.rgo_machine.proofs.Runs.{joined, single, limited}
 use Rattle.rgo_driver.proofs.Others.{meeting_is, beyond}
 use Rattle.rgo_driver.proofs.Printing.{no_step, no_step_of}
 use Rattle.rgo_driver.proofs.Played.{turn_after, turns_on, one_turn, turns_lead, fits_none, begun_whole, begun_turn}
@@ -126,8 +128,8 @@ module _ {F : Type 0} (machine : Machine F) (limits : Limits) where
       let pick = Meet r t in
       let met = meeting_is machine limits q.state r t u.state step in
       let fits : FitsTurn machine limits q.state r (pick ∷ []) u.state = record {
-        leads = leads_one (limited_step machine limits) q.state u.state pick
-            (within_step machine limits q.state u.state pick step (met.within ready.on.within));
+        leads = single (limited_step machine limits) q.state u.state pick
+            (limited machine limits q.state u.state pick step (met.within ready.on.within));
         short = omega arith;
         own = All-push (IsOf r) [] pick (All-nil (IsOf r)) (inl refl);
       } in
@@ -164,7 +166,7 @@ module _ {F : Type 0} (machine : Machine F) (limits : Limits) where
   idle s t (g ∷ order) picks h none =
       let parts = nil_parts h.0 h.1 (sym h.3 ∙ none) in
       let still = h.4.plays parts.0 in
-      let same : s ≡ h.2 = same_some s h.2
+      let same : s ≡ h.2 = same_Some s h.2
       (subst (λ l. LeadsWithin machine limits s l h.2) parts.0 h.4.fits.leads) in
       let rest = idle h.2 t order h.1 h.5 parts.1 in
       (rest.0 ∙ sym same, λ k c. by_cases still same rest.1 k (first_or_later g k order c)) where
@@ -237,7 +239,7 @@ module _ {F : Type 0} (machine : Machine F) (limits : Limits) where
       → MeetsAny machine o q.state u.state q.steps u.steps
       → MatchResult o (λ _. PlaysRound machine limits p u a b) (λ end. Breaks machine limits p.state end a b)
   met_or_ends p q u (Ok x) a b between h ready le met =
-      plays_meeting met.0.0 met.0.1 p q u a b between.watches h ready met.1 met.2
+      plays_meeting met.0.0 met.0.1 p q u a b between.watches h ready met.1.0 met.1.1
   met_or_ends p q u (Err end) a b between h ready le (inl none) =
       subst (λ e. Breaks machine limits p.state e a b) (sym none.0) (blocked p q a b between h ready le none.1)
   met_or_ends p q u (Err end) a b between h ready le (inr is) =
@@ -247,7 +249,7 @@ module _ {F : Type 0} (machine : Machine F) (limits : Limits) where
       → MeetsAny machine o s u m n
       → OnOk o (IsReady limits u)
   met_ready (Ok x) s u m n ready met =
-      let is = meeting_is machine limits s met.0.0 met.0.1 u met.1 in
+      let is = meeting_is machine limits s met.0.0 met.0.1 u met.1.0 in
       record {
         on = record { running = is.ended ∙ ready.on.running; within = is.within ready.on.within };
         silent = is.printed ∙ ready.silent;
@@ -260,7 +262,7 @@ module _ {F : Type 0} (machine : Machine F) (limits : Limits) where
   met_counts p q u (Ok x) a b counting h le met =
       let none = none_counted p.steps q.steps h.picks counting le h.counted in
       let before = h.counted p.steps (omega (arith, counting)) in
-      let after = met.2 q.steps (omega (arith, counting, le)) in
+      let after = met.1.1 q.steps (omega (arith, counting, le)) in
       omega (arith, before, after, counting, le, ap (λ l. length l) none)
   met_counts p q u (Err end) a b counting h le met = tt
 
@@ -303,7 +305,7 @@ module _ {F : Type 0} (machine : Machine F) (limits : Limits) where
       → LeadsWithin machine limits s (all_of rounds) t
   rounds_lead s t [] h = ap Some (sym h)
   rounds_lead s t (picks ∷ rounds) h =
-      leads_on (limited_step machine limits) s h.0 t picks (all_of rounds)
+      joined (limited_step machine limits) s h.0 t picks (all_of rounds)
       (turns_lead machine limits s h.0 h.1.order picks h.1.turns)
       (rounds_lead h.0 t rounds h.2)
 
@@ -346,7 +348,7 @@ module _ {F : Type 0} (machine : Machine F) (limits : Limits) where
         state = state;
         went = h.went;
         goes = k.begun h.bytes;
-        ran = leads_on (limited_step machine limits) s begun state (all_of h.rounds) k.picks
+        ran = joined (limited_step machine limits) s begun state (all_of h.rounds) k.picks
             (rounds_lead s begun h.rounds h.went)
             (begun_leads machine limits begun state k.picks (k.begun h.bytes));
         ends = subst (λ n. Ends machine limits (length (all_of h.rounds)) n state end)

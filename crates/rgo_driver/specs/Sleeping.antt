@@ -9,15 +9,7 @@ use Rattle.rgo_machine.specs.Acting.{standing}
 use Rattle.rgo_machine.specs.Machines.{Machine, State, step_by}
 use Rattle.rgo_driver.specs.Points.{Point}
 
--- the channel at which a goroutine that stands there receives, at which it sends, and at which it does either
-abbrev pub receives_at : Stand → Option ℕ
-receives_at (Receive (Object channel) blank) = Some channel
-receives_at _ = None
-
-abbrev pub sends_at : Stand → Option ℕ
-sends_at (Send (Object channel) value place) = Some channel
-sends_at _ = None
-
+-- the channel at which a goroutine that stands there receives or sends
 abbrev pub waits_at : Stand → Option ℕ
 waits_at (Receive (Object channel) blank) = Some channel
 waits_at (Send (Object channel) value place) = Some channel

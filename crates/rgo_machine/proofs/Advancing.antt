@@ -1,5 +1,5 @@
 -- Turns of at most one step, and one turn after another.
-use Rattle.std.proofs.Common.{◌≡◌, ◌<◌, ◌+◌, ℕ, Bool, true, false, List, [], ◌∷◌, length, replicate}
+use Rattle.std.proofs.Common.{◌≡◌, ◌≤◌, ◌+◌, ℕ, Bool, true, false, List, [], ◌∷◌, length, replicate}
 use Rattle.std.proofs.Common.{Option, Some, None, Ok, slice_get, refl, ap, sym, ◌∙◌, subst, arith}
 use Rattle.std.specs.Prelude.{option_and_then, nat_le, if◌then◌else◌}
 use Rattle.std.proofs.lemmas.Bool.Decides.{nat_tests}
@@ -148,6 +148,18 @@ module _ {F : Type 0} (machine : Machine F) (limits : Limits) (s : State F) (g :
       leads_one machine limits s t (One g)
       (limited machine limits s t (One g) (as_step ∙ e) (stays_within machine limits s g within stand is free t e))
 
+  stepped_on : (t : State F) (stand : CodeStand) → standing machine s g ≡ Some stand → limit_at limits s g stand ≡ None
+      → picked machine s (One g) ≡ Some t → (why : Stop) → IsOver machine limits t g 1 1 why
+      → ChangesChannels why s.memory t.memory → ChangesPrint why s.printed t.printed
+      → Turns machine limits s t g 1 (record { steps = 1; stop = why })
+  stepped_on t stand is free step why over channels print = record {
+    leads = one_step t stand is free step;
+    within = omega arith;
+    over = over;
+    channels = channels;
+    print = print;
+  }
+
   pub stepped_so : (r : Happened) (t : State F) (stand : CodeStand) → standing machine s g ≡ Some stand
       → limit_at limits s g stand ≡ None → StepsAlone (Ok r) s t (picked machine s (One g))
       → ChangesAt (Ok r) s.memory t.memory → KeepsPrint (Ok r) s.printed t.printed
@@ -162,91 +174,44 @@ module _ {F : Type 0} (machine : Machine F) (limits : Limits) (s : State F) (g :
     channels = channels;
     print = print;
   }
-  stepped_so happened.Moves t stand is free steps channels print = record {
-    leads = one_step t stand is free steps.0;
-    within = omega arith;
-    over = (steps.1, refl);
-    channels = channels;
-    print = print;
-  }
-  stepped_so happened.Prints t stand is free steps channels print = record {
-    leads = one_step t stand is free steps.0;
-    within = omega arith;
-    over = (steps.1, omega arith);
-    channels = channels;
-    print = print;
-  }
-  stepped_so (happened.Operates c) t stand is free steps channels print = record {
-    leads = one_step t stand is free steps.0;
-    within = omega arith;
-    over = (steps.1, omega arith);
-    channels = channels;
-    print = print;
-  }
-  stepped_so (happened.Ends e) t stand is free steps channels print = record {
-    leads = one_step t stand is free steps.0;
-    within = omega arith;
-    over = (steps.1, omega arith);
-    channels = channels;
-    print = print;
-  }
+  stepped_so happened.Moves t stand is free steps channels print =
+      stepped_on t stand is free steps.0 stop.Spent (steps.1, refl) channels print
+  stepped_so happened.Prints t stand is free steps channels print =
+      stepped_on t stand is free steps.0 stop.Printed (steps.1, omega arith) channels print
+  stepped_so (happened.Operates c) t stand is free steps channels print =
+      stepped_on t stand is free steps.0 (stop.Operated c) (steps.1, omega arith) channels print
+  stepped_so (happened.Ends e) t stand is free steps channels print =
+      stepped_on t stand is free steps.0 (stop.Ended e) (steps.1, omega arith) channels print
 
 -- ---- one turn after another
 
 module _ {F : Type 0} (machine : Machine F) (limits : Limits) (s t u : State F) (g k : ℕ)
-    (first : Turns machine limits s t g k (record { steps = k; stop = stop.Spent })) (done : Turned)
-    (second : Turns machine limits t u g 1 done) where
-  leads_too : LeadsWithin machine limits s (replicate (k + done.steps) (One g)) u
-  leads_too =
-      let whole = leads_joined machine limits s t u (replicate k (One g)) (replicate done.steps (One g)) first.leads
-      second.leads in
-      subst (λ picks. LeadsWithin machine limits s picks u) (replicate-append-replicate k done.steps (One g)) whole
+    (first : Turns machine limits s t g k (record { steps = k; stop = stop.Spent })) where
+  over_too : (n at_most steps : ℕ) (why : Stop) → (why ≡ stop.Spent → k + steps ≡ at_most)
+      → IsOver machine limits u g n steps why → IsOver machine limits u g at_most (k + steps) why
+  over_too n at_most steps stop.Spent whole over = (over.0, whole refl)
+  over_too n at_most steps stop.Waits whole over = over
+  over_too n at_most steps stop.Printed whole over = (over.0, omega (arith, over.1))
+  over_too n at_most steps (stop.Operated c) whole over = (over.0, omega (arith, over.1))
+  over_too n at_most steps (stop.Ended e) whole over = (over.0, omega (arith, over.1))
+  over_too n at_most steps stop.TooDeep whole over = over
+  over_too n at_most steps stop.Full whole over = over
+  over_too n at_most steps stop.NoMemory whole over = over
 
-  over_too : (at_most steps : ℕ) (why : Stop) → (why ≡ stop.Spent → ⊥) → IsOver machine limits u g 1 steps why
-      → IsOver machine limits u g at_most (k + steps) why
-  over_too at_most steps stop.Spent other over = absurd (other refl)
-  over_too at_most steps stop.Waits other over = over
-  over_too at_most steps stop.Printed other over = (over.0, omega (arith, over.1))
-  over_too at_most steps (stop.Operated c) other over = (over.0, omega (arith, over.1))
-  over_too at_most steps (stop.Ended e) other over = (over.0, omega (arith, over.1))
-  over_too at_most steps stop.TooDeep other over = over
-  over_too at_most steps stop.Full other over = over
-  over_too at_most steps stop.NoMemory other over = over
-
-  -- the turn is over
-  pub then_over : (at_most : ℕ) → k < at_most → (done.stop ≡ stop.Spent → ⊥)
+  -- both as one
+  pub and_then : (n : ℕ) (done : Turned) → Turns machine limits t u g n done → (at_most : ℕ)
+      → k + done.steps ≤ at_most → (done.stop ≡ stop.Spent → k + done.steps ≡ at_most)
       → Turns machine limits s u g at_most (record { steps = k + done.steps; stop = done.stop })
-  then_over at_most below other = record {
-    leads = leads_too;
-    within = omega (arith, below, second.within);
-    over = over_too at_most done.steps done.stop other second.over;
-    channels = changed_too done.stop s.memory t.memory u.memory first.channels second.channels;
-    print = kept_too done.stop s.printed t.printed u.printed first.print second.print;
-  }
-
-  -- it continues
-  spent : (why : Stop) (steps : ℕ) → why ≡ stop.Spent → IsOver machine limits u g 1 steps why
-      → (u.ended ≡ None) × (steps ≡ 1)
-  spent stop.Spent steps e over = over
-  spent stop.Waits steps e over = cc
-  spent stop.Printed steps e over = cc
-  spent (stop.Operated c) steps e over = cc
-  spent (stop.Ended end) steps e over = cc
-  spent stop.TooDeep steps e over = cc
-  spent stop.Full steps e over = cc
-  spent stop.NoMemory steps e over = cc
-
-  pub then_spent : done.stop ≡ stop.Spent
-      → Turns machine limits s u g (k + 1) (record { steps = k + 1; stop = stop.Spent })
-  then_spent is =
-      let one = spent done.stop done.steps is second.over in record {
-        leads = subst (λ n. LeadsWithin machine limits s (replicate (k + n) (One g)) u) one.1 leads_too;
-        within = omega arith;
-        over = (one.0, refl);
-        channels = changed_too stop.Spent s.memory t.memory u.memory first.channels
-            (subst (λ (x : Stop). ChangesChannels x t.memory u.memory) is second.channels);
-        print = kept_too stop.Spent s.printed t.printed u.printed first.print
-            (subst (λ (x : Stop). ChangesPrint x t.printed u.printed) is second.print);
+  and_then n done second at_most within whole =
+      record {
+        leads = subst (λ picks. LeadsWithin machine limits s picks u)
+            (replicate-append-replicate k done.steps (One g))
+            (leads_joined machine limits s t u (replicate k (One g)) (replicate done.steps (One g)) first.leads
+            second.leads);
+        within = within;
+        over = over_too n at_most done.steps done.stop whole second.over;
+        channels = changed_too done.stop s.memory t.memory u.memory first.channels second.channels;
+        print = kept_too done.stop s.printed t.printed u.printed first.print second.print;
       }
 
 -- no step yet

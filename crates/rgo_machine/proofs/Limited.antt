@@ -65,7 +65,7 @@ module _ {F : Type 0} (machine : Machine F) (limits : Limits) (s : State F) (g :
   parts = and_parts (nat_le (length s.goroutines) (most_goroutines limits)) (list_all has_room s.goroutines) within
 
   -- another list of frames that are few enough
-  set_within : (frames : List F) → has_room frames ≡ true
+  pub set_within : (frames : List F) → has_room frames ≡ true
       → (nat_le (length (slice_set s.goroutines g frames)) (most_goroutines limits)
       && list_all has_room (slice_set s.goroutines g frames)) ≡ true
   set_within frames room =

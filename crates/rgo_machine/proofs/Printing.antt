@@ -20,18 +20,18 @@ use Rattle.rgo_machine.specs.Runs.{run}
 
 -- ---- steps do not look at the print
 
-module _ {F : Type 0} (machine : Machine F) (before : List ℕ) where
-  -- the state with these bytes printed before
-  abbrev pub with_before : State F → State F
-  with_before s = record s { printed = before ++ s.printed }
+-- the state with these bytes printed before
+abbrev pub with_before : {F : Type 0} → List ℕ → State F → State F
+with_before before s = record s { printed = before ++ s.printed }
 
+module _ {F : Type 0} (machine : Machine F) (before : List ℕ) where
   returned_before : (s : State F) (g : ℕ) (callers : List F) (v : Option Value)
-      → returned machine (with_before s) g callers v ≡ with_before (returned machine s g callers v)
+      → returned machine (with_before before s) g callers v ≡ with_before before (returned machine s g callers v)
   returned_before s g [] v = refl
   returned_before s g (f ∷ callers) v = refl
 
   acted_before : (s : State F) (g : ℕ) (callers : List F) (a : Act F)
-      → acted machine (with_before s) g callers a ≡ with_before (acted machine s g callers a)
+      → acted machine (with_before before s) g callers a ≡ with_before before (acted machine s g callers a)
   acted_before s g callers (Moves m f) = refl
   acted_before s g callers (Returns v) = returned_before s g callers v
   acted_before s g callers (Prints f bytes) =
@@ -40,18 +40,20 @@ module _ {F : Type 0} (machine : Machine F) (before : List ℕ) where
   acted_before s g callers (Traps trap place) = refl
 
   operated_before : (s : State F) (g : ℕ) (callers : List F) (go_on : Value → F) (place : ℕ) (e : Effect)
-      → operated (with_before s) g callers go_on place e ≡ with_before (operated s g callers go_on place e)
+      → operated (with_before before s) g callers go_on place e
+      ≡ with_before before (operated s g callers go_on place e)
   operated_before s g callers go_on place (Does m v) = refl
   operated_before s g callers go_on place (effect.Traps trap) = refl
 
   each_before : (s : State F) (g : ℕ) (callers : List F) (go_on : Value → F) (place : ℕ) (o : Option Effect)
-      → option_map (operated (with_before s) g callers go_on place) o
-      ≡ option_map with_before (option_map (operated s g callers go_on place) o)
+      → option_map (operated (with_before before s) g callers go_on place) o
+      ≡ option_map (with_before before) (option_map (operated s g callers go_on place) o)
   each_before s g callers go_on place None = refl
   each_before s g callers go_on place (Some e) = ap Some (operated_before s g callers go_on place e)
 
   stepped_before : (s : State F) (g : ℕ) (f : F) (callers : List F) (stand : Stand F)
-      → stepped machine (with_before s) g f callers stand ≡ option_map with_before (stepped machine s g f callers stand)
+      → stepped machine (with_before before s) g f callers stand
+      ≡ option_map (with_before before) (stepped machine s g f callers stand)
   stepped_before s g f callers (AtReceive channel blank go_on) =
       each_before s g callers go_on 0 (receive s.memory channel blank)
   stepped_before s g f callers (AtSend channel v place next) =
@@ -63,19 +65,19 @@ module _ {F : Type 0} (machine : Machine F) (before : List ℕ) where
   stepped_before s g f callers Elsewhere = ap Some (acted_before s g callers (machine.act s.memory f))
 
   alone_before : (s : State F) (g : ℕ) (o : Option (List F))
-      → option_and_then (alone machine (with_before s) g) o
-      ≡ option_map with_before (option_and_then (alone machine s g) o)
+      → option_and_then (alone machine (with_before before s) g) o
+      ≡ option_map (with_before before) (option_and_then (alone machine s g) o)
   alone_before s g None = refl
   alone_before s g (Some []) = refl
   alone_before s g (Some (f ∷ callers)) = stepped_before s g f callers (machine.stand f)
 
   if_before : (b : Bool) (s : State F)
-      → (if b then Some (with_before s) else None) ≡ option_map with_before (if b then Some s else None)
+      → (if b then Some (with_before before s) else None) ≡ option_map (with_before before) (if b then Some s else None)
   if_before true s = refl
   if_before false s = refl
 
   met_before : (s : State F) (r t : ℕ) (rs ts : List F) (a b : Stand F)
-      → met (with_before s) r t rs ts a b ≡ option_map with_before (met s r t rs ts a b)
+      → met (with_before before s) r t rs ts a b ≡ option_map (with_before before) (met s r t rs ts a b)
   met_before s r t rs ts (AtReceive c blank go_on) (AtSend d v place next) = if_before (meets_at s.memory c d) _
   met_before s r t rs ts (AtReceive c blank go_on) (AtReceive d other next) = refl
   met_before s r t rs ts (AtReceive c blank go_on) (AtClose d place next) = refl
@@ -89,33 +91,33 @@ module _ {F : Type 0} (machine : Machine F) (before : List ℕ) where
   met_before s r t rs ts Elsewhere b = refl
 
   meet_before : (s : State F) (r t : ℕ) (o p : Option (List F))
-      → option_and_then (λ f. option_and_then (met_by machine (with_before s) r t f) p) o
-      ≡ option_map with_before (option_and_then (λ f. option_and_then (met_by machine s r t f) p) o)
+      → option_and_then (λ f. option_and_then (met_by machine (with_before before s) r t f) p) o
+      ≡ option_map (with_before before) (option_and_then (λ f. option_and_then (met_by machine s r t f) p) o)
   meet_before s r t None p = refl
   meet_before s r t (Some rs) None = refl
   meet_before s r t (Some []) (Some ts) = refl
   meet_before s r t (Some (f ∷ rs)) (Some []) = refl
   meet_before s r t (Some (f ∷ rs)) (Some (h ∷ ts)) = met_before s r t rs ts (machine.stand f) (machine.stand h)
 
-  unless_same : (b : Bool) (o p : Option (State F)) → o ≡ option_map with_before p
-      → (if b then None else o) ≡ option_map with_before (if b then None else p)
+  unless_same : (b : Bool) (o p : Option (State F)) → o ≡ option_map (with_before before) p
+      → (if b then None else o) ≡ option_map (with_before before) (if b then None else p)
   unless_same true o p e = refl
   unless_same false o p e = e
 
   picked_before : (s : State F) (pick : Pick)
-      → picked machine (with_before s) pick ≡ option_map with_before (picked machine s pick)
+      → picked machine (with_before before s) pick ≡ option_map (with_before before) (picked machine s pick)
   picked_before s (One g) = alone_before s g (slice_get s.goroutines g)
   picked_before s (Meet r t) =
       unless_same (r == t) _ _ (meet_before s r t (slice_get s.goroutines r) (slice_get s.goroutines t))
 
-  unless_ended_before : (ended : Option End) (o p : Option (State F)) → o ≡ option_map with_before p
-      → unless_ended ended o ≡ option_map with_before (unless_ended ended p)
+  unless_ended_before : (ended : Option End) (o p : Option (State F)) → o ≡ option_map (with_before before) p
+      → unless_ended ended o ≡ option_map (with_before before) (unless_ended ended p)
   unless_ended_before None o p e = e
   unless_ended_before (Some end) o p e = refl
 
   -- a step is the same whatever was printed before
   pub step_before : (s : State F) (pick : Pick)
-      → step_by machine (with_before s) pick ≡ option_map with_before (step_by machine s pick)
+      → step_by machine (with_before before s) pick ≡ option_map (with_before before) (step_by machine s pick)
   step_before s pick = unless_ended_before s.ended _ _ (picked_before s pick)
 
 -- ---- runs
@@ -137,15 +139,15 @@ module _ {S E : Type 0} (step : S → E → Option S) (change : S → S)
 
 module _ {F : Type 0} (machine : Machine F) (limits : Limits) (before : List ℕ) where
   within_before : (o : Option (State F))
-      → option_and_then (if_within limits) (option_map (with_before machine before) o)
-      ≡ option_map (with_before machine before) (option_and_then (if_within limits) o)
+      → option_and_then (if_within limits) (option_map (with_before before) o)
+      ≡ option_map (with_before before) (option_and_then (if_within limits) o)
   within_before None = refl
   within_before (Some s) = if_before machine before (is_within limits s) s
 
   -- the same for a step within the limits
   pub limited_before : (s : State F) (pick : Pick)
-      → limited_step machine limits (with_before machine before s) pick
-      ≡ option_map (with_before machine before) (limited_step machine limits s pick)
+      → limited_step machine limits (with_before before s) pick
+      ≡ option_map (with_before before) (limited_step machine limits s pick)
   limited_before s pick =
       ap (option_and_then (if_within limits)) (step_before machine before s pick)
       ∙ within_before (step_by machine s pick)
@@ -155,17 +157,8 @@ module _ {F : Type 0} (machine : Machine F) (limits : Limits) (before : List ℕ
       → LeadsWithin machine limits (record s { printed = before ++ s.printed }) picks
       (record t { printed = before ++ t.printed })
   prefixed s t picks leads =
-      run_changed (limited_step machine limits) (with_before machine before) limited_before s picks
-      ∙ ap (option_map (with_before machine before)) leads
-
-  pub step_prefixed : (s t : State F) (pick : Pick) → step_by machine s pick ≡ Some t
-      → step_by machine (record s { printed = before ++ s.printed }) pick
-      ≡ Some (record t { printed = before ++ t.printed })
-  step_prefixed s t pick e = step_before machine before s pick ∙ ap (option_map (with_before machine before)) e
-
-  pub none_prefixed : (s : State F) (pick : Pick) → step_by machine s pick ≡ None
-      → step_by machine (record s { printed = before ++ s.printed }) pick ≡ None
-  none_prefixed s pick e = step_before machine before s pick ∙ ap (option_map (with_before machine before)) e
+      run_changed (limited_step machine limits) (with_before before) limited_before s picks
+      ∙ ap (option_map (with_before before)) leads
 
 -- ---- the print only grows
 
@@ -174,7 +167,7 @@ module _ {F : Type 0} (machine : Machine F) where
   printed_of None = []
   printed_of (Some s) = s.printed
 
-  grown_by : (before : List ℕ) (o : Option (State F)) (t : State F) → option_map (with_before machine before) o ≡ Some t
+  grown_by : (before : List ℕ) (o : Option (State F)) (t : State F) → option_map (with_before before) o ≡ Some t
       → (bytes : List ℕ) × (t.printed ≡ before ++ bytes)
   grown_by before None t e = cc
   grown_by before (Some u) t e = (u.printed, sym (ap printed_of e))
@@ -182,10 +175,10 @@ module _ {F : Type 0} (machine : Machine F) where
   -- what was printed first, and nothing
   parted : (s : State F) (picks : List Pick)
       → run (step_by machine) s picks
-      ≡ option_map (with_before machine s.printed) (run (step_by machine) (record s { printed = [] }) picks)
+      ≡ option_map (with_before s.printed) (run (step_by machine) (record s { printed = [] }) picks)
   parted s picks =
       ap (λ p. run (step_by machine) (record s { printed = p }) picks) (sym (append-nil s.printed))
-      ∙ run_changed (step_by machine) (with_before machine s.printed) (step_before machine s.printed)
+      ∙ run_changed (step_by machine) (with_before s.printed) (step_before machine s.printed)
       (record s { printed = [] }) picks
 
   pub print_grows : PrintGrows machine

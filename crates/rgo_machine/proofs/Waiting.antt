@@ -5,8 +5,7 @@ use Rattle.std.proofs.Common.{slice_get, option_map, refl, ap, sym, ◌∙◌}
 use Rattle.std.specs.Prelude.{option_and_then, nat_lt, length, if◌then◌else◌}
 use Rattle.rgo_memory.specs.declared.values.Value.{Value}
 use Rattle.rgo_memory.specs.declared.values.Value.TheVariants as value
-use Rattle.rgo_memory.specs.Channels.{receive, received, send, sent, channel_in, channel_at, SameChannels}
-use Rattle.rgo_memory.specs.Channels.{SameChannelsBut}
+use Rattle.rgo_memory.specs.Channels.{receive, received, send, sent, channel_in, channel_at}
 use Rattle.rgo_memory.specs.Effects.{Outcome, Does, in_memory_if_ready, to_object_if_ready}
 use Rattle.rgo_memory.specs.Memory.{Object, StructObject, SliceObject, Channel, Memory}
 use Rattle.rgo_machine.specs.declared.picks.End.{End}
@@ -22,7 +21,7 @@ none_of f None e = refl
 none_of f (Some x) e = cc
 
 module _ {F : Type 0} where
-  waits_stepped : (machine : Machine F) (s : State F) (g : ℕ) (f : F) (callers : List F) (stand : Stand F)
+  pub waits_stepped : (machine : Machine F) (s : State F) (g : ℕ) (f : F) (callers : List F) (stand : Stand F)
       → stepped machine s g f callers stand ≡ None → WaitsAt s.memory stand
   waits_stepped machine s g f callers (AtReceive channel blank go_on) e = none_of _ (receive s.memory channel blank) e
   waits_stepped machine s g f callers (AtSend channel v place next) e = none_of _ (send s.memory channel v) e
@@ -31,7 +30,7 @@ module _ {F : Type 0} where
   waits_stepped machine s g f callers (AtStart next child) e = cc
   waits_stepped machine s g f callers Elsewhere e = cc
 
-  stepped_waits : (machine : Machine F) (s : State F) (g : ℕ) (f : F) (callers : List F) (stand : Stand F)
+  pub stepped_waits : (machine : Machine F) (s : State F) (g : ℕ) (f : F) (callers : List F) (stand : Stand F)
       → WaitsAt s.memory stand → stepped machine s g f callers stand ≡ None
   stepped_waits machine s g f callers (AtReceive channel blank go_on) e = ap (option_map _) e
   stepped_waits machine s g f callers (AtSend channel v place next) e = ap (option_map _) e
@@ -139,11 +138,10 @@ send_still m n (value.Int z) v same e = cc
 send_still m n (value.Bool b) v same e = cc
 
 module _ {F : Type 0} where
-  -- the channel at which a frame stands; nil where it stands at none
+  -- the channel at which a frame waits; nil where it waits at none
   abbrev pub channel_of : Stand F → Value
   channel_of (AtReceive channel blank go_on) = channel
   channel_of (AtSend channel v place next) = channel
-  channel_of (AtClose channel place next) = channel
   channel_of _ = value.Nil
 
   -- who waits at a channel still waits where it is the same
@@ -154,17 +152,3 @@ module _ {F : Type 0} where
   still_waits m n (AtCall next callee) same e = e
   still_waits m n (AtStart next child) same e = e
   still_waits m n Elsewhere same e = e
-
--- ---- where it is the same
-
-pub same_at : (c : Value) (m n : Memory) → SameChannels m n → SameAt c m n
-same_at (value.Object k) m n same = same k
-same_at (value.Int z) m n same = tt
-same_at (value.Bool b) m n same = tt
-same_at value.Nil m n same = tt
-
-pub same_at_other : (c : Value) (k : ℕ) (m n : Memory) → (c ≡ value.Object k → ⊥) → SameChannelsBut k m n → SameAt c m n
-same_at_other (value.Object j) k m n differ same = same j (λ e. differ (ap value.Object e))
-same_at_other (value.Int z) k m n differ same = tt
-same_at_other (value.Bool b) k m n differ same = tt
-same_at_other value.Nil k m n differ same = tt

@@ -1,10 +1,13 @@
 pub mod Acting
+pub mod Actions
 pub mod Alone
 pub mod Deadlocks
 pub mod Growing
 pub mod Limits
 pub mod Lines
 pub mod Machines
+pub mod Meetings
+pub mod Paces
 pub mod Runs
 pub mod Turning
 pub mod Turns

@@ -9,4 +9,4 @@ pub struct Limits {
 }
 
 /// The most frames of a goroutine.
-pub(crate) const DEEPEST: usize = 100_000;
+pub const DEEPEST: usize = 100_000;

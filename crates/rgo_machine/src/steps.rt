@@ -87,7 +87,7 @@ pub(crate) fn step_alone<M: Machine>(
 }
 
 /// The channel of a goroutine that is before a receive.
-fn receives_at(stand: Option<Stand>) -> Option<Value>
+pub(crate) fn receives_at(stand: Option<Stand>) -> Option<Value>
     ensures { result ≡ alone.receives_at stand }
 {
     match stand {
@@ -97,7 +97,7 @@ fn receives_at(stand: Option<Stand>) -> Option<Value>
 }
 
 /// The channel and the value of a goroutine that is before a send.
-fn sends_at(stand: Option<Stand>) -> Option<(Value, Value)>
+pub(crate) fn sends_at(stand: Option<Stand>) -> Option<(Value, Value)>
     ensures { result ≡ alone.sends_at stand }
 {
     match stand {

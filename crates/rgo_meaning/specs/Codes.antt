@@ -231,6 +231,7 @@ todo_code (todo.Turn a b c) = node 21 (option_code a ∷ stmts_code b ∷ stmts_
 todo_code (todo.Test a b c) = node 22 (option_code a ∷ stmts_code b ∷ stmts_code c ∷ [])
 todo_code (todo.Again a b c) = node 23 (option_code a ∷ stmts_code b ∷ stmts_code c ∷ [])
 todo_code todo.Leave = node 24 []
+todo_code todo.Stay = node 25 []
 
 pub todo_inj : (x y : Todo) → todo_code x ≡ todo_code y → x ≡ y
 todo_inj (todo.Evaluate a) (todo.Evaluate a2) p = λ i. todo.Evaluate (term_inj a a2 (ap (part 1) p) i)
@@ -276,6 +277,7 @@ todo_inj (todo.Again a b c) (todo.Again a2 b2 c2) p = λ i.
     todo.Again (option_inj a a2 (ap (part 1) p) i) (stmts_inj b b2 (ap (part 2) p) i)
     (stmts_inj c c2 (ap (part 3) p) i)
 todo_inj todo.Leave todo.Leave p = refl
+todo_inj todo.Stay todo.Stay p = refl
 todo_inj x y p = absurd (omega (arith, ap tag p))
 
 abbrev pub coded_todo : Coded Todo

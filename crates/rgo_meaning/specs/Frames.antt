@@ -1,5 +1,5 @@
 -- Frames: a function that was called, with what it has still to do.
-use Rattle.std.specs.Prelude.{ℕ, zero, suc, List, [], ◌∷◌, ◌++◌, get_or, length, drop, map, reverse, take, Option}
+use Rattle.std.specs.Prelude.{ℕ, zero, suc, List, [], ◌∷◌, ◌++◌, get_or, length, drop, map, reverse, take, Option, Some, None}
 use Rattle.rgo_typed.specs.declared.actions.Action.{Action}
 use Rattle.rgo_typed.specs.declared.actions.Logical.{Logical}
 use Rattle.rgo_typed.specs.declared.statements.Piece.{Piece}
@@ -53,6 +53,8 @@ pub data Todo : Type 0 where
   Again : (test : Option Term) → (body post : Stmts) → Todo
   -- the function returns, with a value
   Leave : Todo
+  -- the end of a function with a result, which no valid program reaches: the frame stays here
+  Stay : Todo
 
 -- the local variables by number; the values that are not used yet, the newest first; and what is to do, in order. If
 -- nothing is to do, the function returns without a value
@@ -97,10 +99,15 @@ replaced x count (y ∷ below) = x ∷ drop count below
 
 -- ---- calls
 
+-- what follows the body of a function, by its result: without one it returns
+abbrev pub closing : Option «Type» → List Todo
+closing None = []
+closing (Some ty) = Stay ∷ []
+
 -- the parameters have the arguments, all other local variables the zero of their type
 abbrev pub called : Function → List Value → Frame
 called f arguments = record {
   locals = arguments ++ map zero_of (drop (length arguments) f.locals);
   values = [];
-  todo = Sequence (stmts_of f.body) ∷ [];
+  todo = Sequence (stmts_of f.body) ∷ closing f.result_type;
 }

@@ -5,35 +5,23 @@ use Rattle.rgo_typed.specs.declared.actions.Action.TheVariants.{Store, New}
 use Rattle.rgo_typed.specs.declared.actions.Logical.{Logical}
 use Rattle.rgo_typed.specs.declared.actions.Logical.TheVariants.{And, Or}
 use Rattle.rgo_typed.specs.declared.programs.Struct.{Struct}
-use Rattle.rgo_typed.specs.declared.types.Base.TheVariants.{Int}
 use Rattle.rgo_typed.specs.declared.types.Type.{«Type»}
 use Rattle.rgo_typed.specs.Tree as tree
 use Rattle.rgo_typed.specs.Tree.{Term, Terms, Stmts, Typed}
 use Rattle.rgo_memory.specs.declared.values.Value.{Value}
-use Rattle.rgo_memory.specs.declared.values.Value.TheVariants as value
 use Rattle.rgo_memory.specs.Values.{zero_of}
 use Rattle.rgo_memory.specs.Memory.{Memory}
-use Rattle.rgo_memory.specs.Effects.{Effect, Does}
-use Rattle.rgo_memory.specs.Effects as effect
 use Rattle.rgo_memory.specs.Perform.{perform}
+use Rattle.rgo_machine.specs.Actions.{effected, is_true, no_type}
 use Rattle.rgo_machine.specs.Lines.{line_of}
-use Rattle.rgo_machine.specs.Machines.{Act, Moves, Returns, Prints, Traps}
+use Rattle.rgo_machine.specs.Machines.{Act, Moves, Returns, Prints}
 use Rattle.rgo_meaning.specs.Frames.{Frame, local_at, with_local, value_below, newest, last_values, replaced, going}
 use Rattle.rgo_meaning.specs.Frames.{Todo, Evaluate, Each, Perform, Affect, Settle, Decide, Create, Fill, Repeat, Give}
 use Rattle.rgo_meaning.specs.Frames.{Forget, Clear, Enter, Start, Write, Execute, Sequence, When, Choose, Close, Onward}
-use Rattle.rgo_meaning.specs.Frames.{Turn, Test, Again, Leave}
+use Rattle.rgo_meaning.specs.Frames.{Turn, Test, Again, Leave, Stay}
 use Rattle.rgo_meaning.specs.Todos.{term_todo, statement_todo, turn_todo}
 
 -- ---- actions
-
--- the type of an action that gives no value
-abbrev pub no_type : «Type»
-no_type = record { layers = []; base = Int }
-
--- a frame continues with the value that an action gives, or traps there
-abbrev pub effected : (Value → Frame) → (place : ℕ) → Effect → Act Frame
-effected next place (Does m v) = Moves m (next v)
-effected next place (effect.Traps trap) = Traps trap place
 
 -- with the value, or without it
 abbrev pub giving : Frame → ℕ → List Todo → Value → Frame
@@ -51,11 +39,6 @@ evaluated t todo f = going f 0 [] (term_todo t todo)
 abbrev pub each : Terms → List Todo → List Todo
 each tree.no_terms todo = todo
 each (tree.a_term t ts) todo = Evaluate t ∷ Each ts ∷ todo
-
--- a value that is not a bool counts as false; in a typed program only a bool decides
-abbrev pub is_true : Value → Bool
-is_true (value.Bool b) = b
-is_true _ = false
 
 -- the right side is evaluated in place of the left, or the left side's value is the result
 abbrev pub decided : Logical → Term → List Todo → Frame → Bool → Frame
@@ -132,6 +115,7 @@ done program m (Fill count fields place) todo f = filled program.structs m count
 done program m (Write pieces count) todo f =
     Prints (going f count [] todo) (line_of pieces (last_values count f.values))
 done program m Leave todo f = Returns (Some (newest f.values))
+done program m Stay todo f = Moves m f
 done program m item todo f = Moves m (moved item todo f)
 
 -- the first of several things; if nothing is to do, the function returns without a value

@@ -40,3 +40,4 @@ todo_of (code.Again test body post) =
     todo.Again (typed.boxed_term_of test.now) (stmts_of (map typed.stmt_of body.now))
     (stmts_of (map typed.stmt_of post.now))
 todo_of code.Leave = todo.Leave
+todo_of code.Stay = todo.Stay

@@ -7,6 +7,7 @@ ghost use Rattle.rgo_memory.specs.Memory as the_memory;
 ghost use Rattle.rgo_memory.specs.Perform.{perform};
 ghost use Rattle.rgo_memory.specs.Views.{memory_of};
 ghost use Rattle.rgo_machine.specs.Acting.{Acts};
+ghost use Rattle.rgo_machine.specs.Actions as actions;
 ghost use Rattle.rgo_machine.specs.Lines.{line_of};
 ghost use Rattle.rgo_machine.specs.Machines.{Prints};
 ghost use Rattle.rgo_meaning.specs.Changes.{Changes};
@@ -18,20 +19,10 @@ use crate::frames::{Frame, Todo};
 use crate::statements::{again, choose, execute, sequence, test_loop, turn, when};
 use crate::terms::{decide, each, evaluate};
 use rgo_ast::Place;
-use rgo_machine::{Did, write_line};
+use rgo_machine::{Did, no_type, write_line};
 use rgo_memory::{Effect, Memory, Value, perform, zero};
-use rgo_typed::{Action, Base, Piece, Row, Struct, Type, Typed};
+use rgo_typed::{Action, Piece, Struct, Type, Typed};
 use std::alloc::{AllocError, Global};
-
-/// The type of an action without a result. Allocates nothing.
-fn no_type(alloc: Global) -> Type
-    ensures { result ≡ spec.no_type }
-{
-    Type {
-        layers: Row::new(Vec::new(alloc)),
-        base: Base::Int,
-    }
-}
 
 /// An action with a result. Its place is made first, so that nothing can fail after the memory has changed.
 fn give_value(
@@ -46,7 +37,7 @@ fn give_value(
 ) -> Result<Did, AllocError>
     ensures acts { (out : List ℕ) → Acts result (memory_of memory.old) (memory_of memory.new)
         frame.old frame.new out out
-        (spec.effected (spec.giving frame.old count (drop 1 frame.old.todo)) at
+        (actions.effected (spec.giving frame.old count (drop 1 frame.old.todo)) at
         (perform structs.now action ty.now (last_values count frame.old.values) (memory_of memory.old))) }
     ensures channels { SameChannels (memory_of memory.old) (memory_of memory.new) }
 {
@@ -80,8 +71,8 @@ fn affect(
 ) -> Result<Did, AllocError>
     ensures acts { (out : List ℕ) → Acts result (memory_of memory.old) (memory_of memory.new)
         frame.old frame.new out out
-        (spec.effected (spec.leaving frame.old count (drop 1 frame.old.todo)) at
-        (perform structs.now action spec.no_type (last_values count frame.old.values) (memory_of memory.old))) }
+        (actions.effected (spec.leaving frame.old count (drop 1 frame.old.todo)) at
+        (perform structs.now action actions.no_type (last_values count frame.old.values) (memory_of memory.old))) }
     ensures channels { SameChannels (memory_of memory.old) (memory_of memory.new) }
 {
     let ty = no_type(alloc);
@@ -234,6 +225,7 @@ fn do_one<'a>(
         Todo::Fill(count, fields, at) => fill(alloc, structs, memory, frame, count, fields, at),
         Todo::Write(pieces, count) => write(frame, pieces, count, out),
         Todo::Leave => Ok(Did::Returns(Some(frame.value(0)))),
+        Todo::Stay => Ok(Did::Moves),
         _ => {
             move_on(frame, todo)?;
             Ok(Did::Moves)

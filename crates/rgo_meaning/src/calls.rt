@@ -42,6 +42,9 @@ pub fn called<'a>(
     let mut locals = Vec::from_slice(alloc, arguments)?;
     push_zeros(&mut locals, after(function.locals.items(), arguments.len()))?;
     let mut todo = Stack::new(alloc);
+    if function.result_type.is_some() {
+        todo.push(Todo::Stay)?;
+    }
     todo.push(Todo::Sequence(&function.body))?;
     Ok(Frame {
         locals,

@@ -66,6 +66,8 @@ pub enum Todo<'a> {
     Again(&'a Option<Box<Term>>, &'a [Stmt], &'a [Stmt]),
     /// The function returns, with a value.
     Leave,
+    /// The end of a function with a result, which no valid program reaches: the frame stays here.
+    Stay,
 }
 
 /// The local variables by number, the values that are not used yet, and what is to do. If nothing is to do, the

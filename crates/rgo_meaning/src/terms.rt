@@ -3,12 +3,13 @@
 ghost use Rattle.std.specs.Prelude.{◌≡◌, [], drop, map};
 ghost use Rattle.rgo_typed.specs.Views as typed;
 ghost use Rattle.rgo_typed.specs.Tree.{terms_of};
+ghost use Rattle.rgo_machine.specs.Actions as actions;
 ghost use Rattle.rgo_meaning.specs.Changes.{Changes};
 ghost use Rattle.rgo_meaning.specs.Frames.{going, newest};
 ghost use Rattle.rgo_meaning.specs.Steps as spec;
 
 use crate::frames::{Frame, Todo};
-use rgo_memory::Value;
+use rgo_machine::is_true;
 use rgo_typed::{Logical, Term};
 use std::alloc::AllocError;
 
@@ -59,18 +60,9 @@ pub fn each<'a>(frame: &mut Frame<'a>, terms: &'a [Term]) -> Result<(), AllocErr
     }
 }
 
-fn is_true(value: Value) -> bool
-    ensures { result ≡ spec.is_true value }
-{
-    match value {
-        Value::Bool(truth) => truth,
-        _ => false,
-    }
-}
-
 /// Whether the newest value is true.
 pub fn is_newest_true(frame: &Frame<'_>) -> bool
-    ensures { result ≡ spec.is_true (newest frame.now.values) }
+    ensures { result ≡ actions.is_true (newest frame.now.values) }
 {
     is_true(frame.value(0))
 }
@@ -79,7 +71,7 @@ pub fn is_newest_true(frame: &Frame<'_>) -> bool
 pub fn decide<'a>(frame: &mut Frame<'a>, op: Logical, right: &'a Term) -> Result<(), AllocError>
     ensures { Changes result frame.old frame.new
         (spec.decided op (typed.term_of right.now) (drop 1 frame.old.todo) frame.old
-        (spec.is_true (newest frame.old.values))) }
+        (actions.is_true (newest frame.old.values))) }
 {
     let truth = is_newest_true(frame);
     let goes_right = match op {

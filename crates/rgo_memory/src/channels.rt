@@ -2,6 +2,7 @@
 //! statements", "Close"): first in, first out. A channel that is nil is never ready.
 
 ghost use Rattle.std.specs.Prelude.{◌≡◌};
+ghost use Rattle.std.specs.Option.{is_some};
 ghost use Rattle.rgo_memory.specs.Channels.{received, receive, sent, send, shut, close};
 ghost use Rattle.rgo_memory.specs.Channels.{is_meeting_place, meets_at};
 ghost use Rattle.rgo_memory.specs.Views.{Leaves, LeavesIfReady, PerformsIfReady, object_of, memory_of};
@@ -43,6 +44,29 @@ pub fn receive(memory: &mut Memory, channel: Value, blank: Value) -> Option<Effe
     }
 }
 
+fn has_value(object: &Object) -> bool
+    ensures { (blank : Value) → result ≡ is_some (received blank (object_of object.now)) }
+{
+    match object {
+        Object::Channel(channel) => channel.closed || !channel.queue.is_empty(),
+        _ => true,
+    }
+}
+
+/// Whether a receiver at this channel does not have to wait.
+pub fn can_receive(memory: &Memory, channel: Value) -> bool
+    ensures { (blank : Value) → result ≡ is_some (receive (memory_of memory.now) channel blank) }
+{
+    match channel {
+        Value::Nil => false,
+        Value::Object(n) => match memory.objects.get(n) {
+            Some(object) => has_value(object),
+            None => true,
+        },
+        _ => true,
+    }
+}
+
 fn send_to(object: &mut Object, value: Value) -> Result<Option<Effect>, AllocError>
     ensures { PerformsIfReady result (object_of object.old) (object_of object.new)
         (sent value (object_of object.old)) }
@@ -77,6 +101,29 @@ pub fn send(memory: &mut Memory, channel: Value, value: Value) -> Result<Option<
             None => Ok(Some(Effect::Gives(Value::Nil))),
         },
         _ => Ok(Some(Effect::Gives(Value::Nil))),
+    }
+}
+
+fn has_room(object: &Object) -> bool
+    ensures { (value : Value) → result ≡ is_some (sent value (object_of object.now)) }
+{
+    match object {
+        Object::Channel(channel) => channel.closed || channel.queue.len() < channel.capacity,
+        _ => true,
+    }
+}
+
+/// Whether a sender at this channel does not have to wait.
+pub fn can_send(memory: &Memory, channel: Value) -> bool
+    ensures { (value : Value) → result ≡ is_some (send (memory_of memory.now) channel value) }
+{
+    match channel {
+        Value::Nil => false,
+        Value::Object(n) => match memory.objects.get(n) {
+            Some(object) => has_room(object),
+            None => true,
+        },
+        _ => true,
     }
 }
 

@@ -11,6 +11,7 @@ use crate::objects::Object;
 use crate::traps::Trap;
 use crate::values::Value;
 
+#[inline(always)]
 fn element(cells: &[Value], index: i64) -> Result<Value, Trap>
     ensures { result ≡ element cells.now index }
 {
@@ -24,7 +25,12 @@ fn element(cells: &[Value], index: i64) -> Result<Value, Trap>
 }
 
 /// An element's value.
-pub(crate) fn element_at(memory: &Memory, slice: Value, index: Value) -> Result<Value, Trap>
+///
+/// # Errors
+///
+/// If the index is out of range.
+#[inline(always)]
+pub fn element_at(memory: &Memory, slice: Value, index: Value) -> Result<Value, Trap>
     ensures { result ≡ element_at (memory_of memory.now) slice index }
 {
     match (slice, index) {
@@ -38,7 +44,8 @@ pub(crate) fn element_at(memory: &Memory, slice: Value, index: Value) -> Result<
 }
 
 /// How many elements a slice has.
-pub(crate) fn length_of(memory: &Memory, slice: Value) -> Value
+#[inline(always)]
+pub fn length_of(memory: &Memory, slice: Value) -> Value
     ensures { result ≡ length_of (memory_of memory.now) slice }
 {
     match slice {
@@ -51,6 +58,7 @@ pub(crate) fn length_of(memory: &Memory, slice: Value) -> Value
     }
 }
 
+#[inline(always)]
 fn put_in(object: &mut Object, index: i64, value: Value) -> Effect
     ensures { Leaves result (object_of object.old) (object_of object.new)
         (put_in index value (object_of object.old)) }
@@ -71,7 +79,8 @@ fn put_in(object: &mut Object, index: i64, value: Value) -> Effect
 }
 
 /// An element becomes the value.
-pub(crate) fn put(memory: &mut Memory, slice: Value, index: Value, value: Value) -> Effect
+#[inline(always)]
+pub fn put(memory: &mut Memory, slice: Value, index: Value, value: Value) -> Effect
     ensures { Leaves result (memory_of memory.old) (memory_of memory.new)
         (put (memory_of memory.old) slice index value) }
 {

@@ -11,7 +11,12 @@ use crate::traps::Trap;
 use crate::values::Value;
 
 /// A field's value.
-pub(crate) fn load(memory: &Memory, pointer: Value, field: usize) -> Result<Value, Trap>
+///
+/// # Errors
+///
+/// If the pointer is nil.
+#[inline(always)]
+pub fn load(memory: &Memory, pointer: Value, field: usize) -> Result<Value, Trap>
     ensures { result ≡ load (memory_of memory.now) pointer field }
 {
     match pointer {
@@ -24,6 +29,7 @@ pub(crate) fn load(memory: &Memory, pointer: Value, field: usize) -> Result<Valu
     }
 }
 
+#[inline(always)]
 fn store_in(object: &mut Object, field: usize, value: Value) -> Effect
     ensures { Leaves result (object_of object.old) (object_of object.new)
         (stored field value (object_of object.old)) }
@@ -37,7 +43,8 @@ fn store_in(object: &mut Object, field: usize, value: Value) -> Effect
 }
 
 /// A field becomes the value.
-pub(crate) fn store(memory: &mut Memory, pointer: Value, field: usize, value: Value) -> Effect
+#[inline(always)]
+pub fn store(memory: &mut Memory, pointer: Value, field: usize, value: Value) -> Effect
     ensures { Leaves result (memory_of memory.old) (memory_of memory.new)
         (store (memory_of memory.old) pointer field value) }
 {

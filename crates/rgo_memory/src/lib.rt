@@ -15,11 +15,13 @@ mod traps;
 mod values;
 
 pub use actions::perform;
-pub use channels::{close, meets_at, receive, send};
+pub use channels::{can_receive, can_send, close, meets_at, receive, send};
 pub use effects::Effect;
+pub use elements::{element_at, length_of, put};
+pub use fields::{load, store};
 pub use memory::Memory;
 pub use objects::{Channel, Object};
-pub use operators::{binary, inverted, is_nil, negated};
+pub use operators::{binary, inverted, is_nil, negated, on_ints};
 pub use printing::write_value;
 pub use traps::Trap;
 pub use values::{Value, element_zero, zero};

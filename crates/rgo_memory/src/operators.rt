@@ -9,6 +9,7 @@ use crate::values::Value;
 use rgo_ast::BinaryOp;
 
 /// What `==` and `!=` give where both values are equal, or are not.
+#[inline(always)]
 fn is_equal(op: BinaryOp, same: bool) -> Value
     ensures { result ≡ is_equal op same }
 {
@@ -21,7 +22,12 @@ fn is_equal(op: BinaryOp, same: bool) -> Value
 
 /// On integers: `int` has 64 bits, and what does not fit wraps. A quotient is truncated towards
 /// zero (The Go Programming Language Specification, "Arithmetic operators", "Integer overflow").
-fn on_ints(op: BinaryOp, x: i64, y: i64) -> Result<Value, Trap>
+///
+/// # Errors
+///
+/// If the divisor is zero.
+#[inline(always)]
+pub fn on_ints(op: BinaryOp, x: i64, y: i64) -> Result<Value, Trap>
     ensures { result ≡ on_ints op x y }
 {
     let value = match op {
@@ -48,6 +54,7 @@ fn on_ints(op: BinaryOp, x: i64, y: i64) -> Result<Value, Trap>
 /// # Errors
 ///
 /// Where an integer is divided by zero.
+#[inline(always)]
 pub fn binary(op: BinaryOp, left: Value, right: Value) -> Result<Value, Trap>
     ensures { result ≡ binary_of op left right }
 {
@@ -63,6 +70,7 @@ pub fn binary(op: BinaryOp, left: Value, right: Value) -> Result<Value, Trap>
 }
 
 /// `-x`: the least integer is its own. `nil` where `x` is no integer.
+#[inline(always)]
 pub fn negated(value: Value) -> Value
     ensures { result ≡ negated value }
 {
@@ -73,6 +81,7 @@ pub fn negated(value: Value) -> Value
 }
 
 /// `!x`. `nil` where `x` is no truth value.
+#[inline(always)]
 pub fn inverted(value: Value) -> Value
     ensures { result ≡ inverted value }
 {
@@ -83,6 +92,7 @@ pub fn inverted(value: Value) -> Value
 }
 
 /// `x == nil`. `nil` where `x` can never be nil.
+#[inline(always)]
 pub fn is_nil(value: Value) -> Value
     ensures { result ≡ nil_test value }
 {

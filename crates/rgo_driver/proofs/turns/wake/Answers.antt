@@ -2,7 +2,7 @@ use Rattle.std.proofs.Common.{◌≡◌, Contains, ap, subst, sym, ◌∙◌, ar
 use Rattle.std.proofs.lemmas.List.Elements.{Contains-append_left, Contains-append_right}
 use Rattle.rgo_driver.specs.Points.{listed}
 use Rattle.rgo_driver.specs.Turning.{operated}
-use Rattle.rgo_driver.proofs.Leading.{same_some}
+use Rattle.std.proofs.lemmas.Option.{same_Some}
 use Rattle.rgo_driver.proofs.turns.wake.Goals as goal
 
 pub returns-in_ok-extend_from_slice-clause-stay : goal.returns-in_ok-extend_from_slice-clause-stay
@@ -18,7 +18,7 @@ returns-in_ok-extend_from_slice-clause-fresh g c = λ h past lt.
 pub returns-in_ok-extend_from_slice-clause-woken : goal.returns-in_ok-extend_from_slice-clause-woken
 returns-in_ok-extend_from_slice-clause-woken g c = λ n h is m.
     let here : c.in-Operated.channel ≡ n =
-    same_some c.in-Operated.channel n (ap operated (sym c.in-Operated.is) ∙ is) in
+    same_Some c.in-Operated.channel n (ap operated (sym c.in-Operated.is) ∙ is) in
     subst (λ l. Contains l h) (sym c.in_ok-extend_from_slice.ensures.items)
     (Contains-append_right _ _ h
     (subst (λ l. Contains l h) (sym (c.deref.ensures.value ∙ c.take_list-list.ensures.taken

@@ -1,7 +1,7 @@
 use Rattle.std.proofs.Common.{◌∙◌, sym, ap}
 use Rattle.rgo_memory.specs.Views.{memory_of}
 use Rattle.rgo_machine.specs.Alone as alone
-use Rattle.rgo_machine.proofs.Meetings.{met_so}
+use Rattle.rgo_machine.proofs.Meeting.{met_so}
 use Rattle.rgo_machine.proofs.steps.meet.Goals as goal
 
 pub returns : goal.returns

@@ -1,4 +1,4 @@
-use Rattle.rgo_machine.proofs.Meetings.{passed_in, passed_past}
+use Rattle.rgo_machine.proofs.Meeting.{passed_in, passed_past}
 use Rattle.rgo_machine.proofs.steps.pass_at.Goals as goal
 
 pub returns-in-Some : goal.returns-in-Some

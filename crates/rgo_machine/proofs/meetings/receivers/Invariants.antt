@@ -1,7 +1,7 @@
 use Rattle.std.proofs.Common.{nat_eq}
 use Rattle.std.specs.HashMap.{get}
-use Rattle.rgo_driver.specs.Probing.{FindsReceivers}
-use Rattle.rgo_driver.proofs.meetings.receivers.Given as goal
+use Rattle.rgo_machine.specs.Meetings.{FindsReceivers}
+use Rattle.rgo_machine.proofs.meetings.receivers.Given as goal
 
 -- those so far
 abbrev pub invariant-loop-g : goal.invariant-loop-g

@@ -2,10 +2,10 @@
 use Rattle.std.proofs.Common.{◌≡◌, ◌<◌, ◌≤◌, ◌+◌, ◌⊎◌, inl, inr, ℕ, true, false, Option, Some, None, cond, nat_eq}
 use Rattle.std.proofs.Common.{ap, sym, ◌∙◌, arith}
 use Rattle.std.proofs.lemmas.Bool.{eqb-true, eq-eqb, cases_Bool, cases_lt, both_ways}
+use Rattle.std.proofs.lemmas.Option.{same_Some}
 use Rattle.std.specs.Map.{update}
 use Rattle.rgo_machine.specs.Machines.{Machine, State}
-use Rattle.rgo_driver.specs.Probing.{receiver_at, FindsReceivers}
-use Rattle.rgo_driver.proofs.Leading.{same_some}
+use Rattle.rgo_machine.specs.Meetings.{receiver_at, FindsReceivers}
 
 pub none_yet : {F : Type 0} (machine : Machine F) (s : State F) (found : ℕ → Option ℕ) → ((channel : ℕ)
     → found channel ≡ None) → FindsReceivers machine s 0 found
@@ -44,7 +44,7 @@ module _ {F : Type 0} (machine : Machine F) (s : State F) (i : ℕ) (found : ℕ
     sound_at : (q receiver : ℕ) → after q ≡ Some receiver → (nat_eq channel q ≡ true) ⊎ (nat_eq channel q ≡ false)
         → receiver_at machine s receiver ≡ Some q
     sound_at q receiver is (inl same) =
-        let mine : i ≡ receiver = same_some i receiver (sym (at_channel q same) ∙ is) in
+        let mine : i ≡ receiver = same_Some i receiver (sym (at_channel q same) ∙ is) in
         ap (λ g. receiver_at machine s g) (sym mine) ∙ here ∙ ap Some (eqb-true channel q same)
     sound_at q receiver is (inr other) = so_far.sound q receiver (sym (elsewhere q other) ∙ is)
 
@@ -57,7 +57,7 @@ module _ {F : Type 0} (machine : Machine F) (s : State F) (i : ℕ) (found : ℕ
         so_far.complete q receiver before is (sym (elsewhere q other) ∙ not)
     complete_at q receiver lt is not (inr other) (inr behind) =
         let mine : receiver ≡ i = omega (arith, lt, behind) in
-        let same : channel ≡ q = same_some channel q (sym here ∙ ap (λ g. receiver_at machine s g) (sym mine) ∙ is) in
+        let same : channel ≡ q = same_Some channel q (sym here ∙ ap (λ g. receiver_at machine s g) (sym mine) ∙ is) in
         both_ways (nat_eq channel q) other (eq-eqb channel q same)
 
     -- one more, which receives at this channel

@@ -12,7 +12,7 @@ use Rattle.rgo_machine.specs.declared.picks.Pick.TheVariants.{Meet}
 use Rattle.rgo_machine.specs.Acting.{stand_of, passed, newest_stand, standing}
 use Rattle.rgo_machine.specs.Alone.{receives_at, sends_at, after_operation, after_pass}
 use Rattle.rgo_machine.specs.Machines.{Stand, AtReceive, AtSend, AtClose, AtCall, AtStart, Elsewhere}
-use Rattle.rgo_machine.proofs.Others.{other_item}
+use Rattle.rgo_machine.proofs.Items.{other_item}
 use Rattle.rgo_machine.specs.Machines.{Machine, State, with_frames, met, met_by, meet, picked, unless_ended, step_by}
 
 module _ {F : Type 0} (machine : Machine F) (s : State F) (r t : ℕ) where
