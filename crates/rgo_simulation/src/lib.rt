@@ -1,0 +1,6 @@
+//! When one machine simulates another.
+#![tactic(auto)]
+
+mod laws;
+
+pub use laws::{Following, following_simulates};
