@@ -1,0 +1,5 @@
+pub mod Bodies
+pub mod Fitting
+pub mod Hurrying
+pub mod Pacing
+pub mod Transferring

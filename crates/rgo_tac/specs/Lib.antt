@@ -1,0 +1,11 @@
+pub mod Code
+pub mod Flow
+pub mod Frames
+pub mod Joins
+pub mod Ops
+pub mod Quick
+pub mod Steps
+pub mod Tac
+pub mod Transfers
+pub mod Views
+pub mod Widths

@@ -1,0 +1,163 @@
+//! Functions of three-address code.
+
+ghost use Rattle.std.specs.Prelude.{◌≡◌, map, length, get_or, slice_get, ◌<◌, ◌^◌, IfOk, IfSome};
+ghost use Rattle.std.specs.Option.{option_map};
+ghost use Rattle.rgo_memory.specs.Values.{zero_of};
+ghost use Rattle.rgo_tac.specs.Ops.{operation_of, op_in, place_in};
+ghost use Rattle.rgo_tac.specs.Views.{body_of};
+
+use crate::code::{Body, Instr};
+use crate::ops::{Op, decode};
+use crate::widths::width_of_all;
+use rgo_ast::{Name, Place};
+use rgo_memory::{Value, zero};
+use rgo_typed::{Row, Type};
+use std::alloc::{AllocError, Global};
+use std::marker::Model;
+
+/// A function.
+#[derive(Drop)]
+pub struct TacFn {
+    pub(crate) name: Name,
+    pub(crate) params: usize,
+    pub(crate) result_type: Option<Type>,
+    pub(crate) variables: Row<Type>,
+    pub(crate) body: Body,
+    /// The zeros of its variables, which are copied at each call.
+    pub(crate) zeros: Row<Value>,
+    /// The numbers of the variables of instructions that stay in their frame are below it.
+    pub(crate) width: usize,
+}
+
+impl Model for TacFn {
+    ghost use Rattle.std.specs.Prelude.{◌≡◌, map};
+    ghost use Rattle.rgo_memory.specs.Values.{zero_of};
+    ghost use Rattle.rgo_tac.specs.Code as spec;
+
+    ghost Value = { spec.TacFn };
+
+    ghost use Rattle.rgo_tac.specs.Views.{body_of};
+    ghost use Rattle.rgo_tac.specs.Widths.{AllFit};
+
+    ghost view = { λ f. record {
+      name = f.name;
+      params = f.params;
+      result_type = f.result_type;
+      variables = f.variables;
+      body = body_of f.body.lists f.body.pieces f.body.instrs f.body.places;
+    } };
+
+    ghost invariant = { λ f. (f.zeros ≡ map zero_of f.variables)
+        × AllFit f.body.lists f.body.pieces f.width f.body.instrs };
+}
+
+fn zeros_of(alloc: Global, types: &[Type]) -> Result<Vec<Value>, AllocError>
+    ensures { IfOk result (λ zeros. zeros.items ≡ map zero_of types.now) }
+{
+    types.iter().map(|ty| zero(ty)).collect(alloc)
+}
+
+/// The instruction of this number.
+pub(crate) fn instr_at(instrs: &[Instr], n: usize) -> Option<Instr>
+    ensures instr { result ≡ slice_get instrs.now n }
+    ensures below { IfSome result (λ instr. n < 2 ^ 63) }
+{
+    instrs.get(n).copied()
+}
+
+fn place_at(places: &[Place], n: usize) -> Place
+    ensures { result ≡ get_or places.now n 0 }
+{
+    places.get(n).copied().unwrap_or(0)
+}
+
+impl TacFn {
+    /// A function: how many of its variables are parameters, the types of its variables with the parameters first, and
+    /// its instructions.
+    ///
+    /// # Errors
+    ///
+    /// On allocation failure.
+    pub fn new(
+        alloc: Global,
+        name: Name,
+        params: usize,
+        result_type: Option<Type>,
+        variables: Row<Type>,
+        body: Body,
+    ) -> Result<TacFn, AllocError>
+        ensures { IfOk result (λ f. f ≡ record {
+          name = name;
+          params = params;
+          result_type = result_type;
+          variables = variables;
+          body = body_of body.lists body.pieces body.instrs body.places;
+        }) }
+    {
+        let zeros = Row::new(zeros_of(alloc, variables.items())?);
+        let width = width_of_all(&body);
+        Ok(TacFn {
+            name,
+            params,
+            result_type,
+            variables,
+            body,
+            zeros,
+            width,
+        })
+    }
+
+    pub fn name(&self) -> &Name
+        ensures { result.now ≡ self.now.name }
+    {
+        &self.name
+    }
+
+    /// How many of its variables are parameters.
+    pub fn params(&self) -> usize
+        ensures { result ≡ self.now.params }
+    {
+        self.params
+    }
+
+    pub fn result_type(&self) -> &Option<Type>
+        ensures { result.now ≡ self.now.result_type }
+    {
+        &self.result_type
+    }
+
+    /// The types of its variables, the parameters first.
+    pub fn variables(&self) -> &[Type]
+        ensures { result.now ≡ self.now.variables }
+    {
+        self.variables.items()
+    }
+
+    /// How many instructions it has.
+    pub fn len(&self) -> usize
+        ensures { result ≡ length self.now.body }
+    {
+        self.body.instrs.items().len()
+    }
+
+    /// What the instruction of this number does; `None` where there is none.
+    pub fn op(&self, n: usize) -> Option<Op<'_>>
+        ensures op { option_map operation_of result ≡ op_in (slice_get self.now.body n) }
+        ensures below { IfSome result (λ op. n < 2 ^ 63) }
+    {
+        match instr_at(self.body.instrs.items(), n) {
+            Some(instr) => Some(decode(&self.body, instr)),
+            None => None,
+        }
+    }
+
+    /// The place of the instruction of this number; 0 where there is none.
+    pub fn place(&self, n: usize) -> Place
+        ensures { result ≡ place_in (slice_get self.now.body n) }
+    {
+        match instr_at(self.body.instrs.items(), n) {
+            Some(_) => place_at(self.body.places.items(), n),
+            None => 0,
+        }
+    }
+}

@@ -1,0 +1,28 @@
+//! Three-address code, and the machine that runs it.
+#![tactic(auto)]
+
+mod acts;
+mod cases;
+mod code;
+mod flow;
+mod frames;
+mod functions;
+mod machine;
+mod ops;
+mod paces;
+mod programs;
+mod quick;
+mod regions;
+mod stands;
+mod states;
+mod widths;
+
+pub use code::{Body, Instr};
+pub use flow::{ReadVariables, Targets, leads_to, reads, writes};
+pub use frames::Frame;
+pub use functions::TacFn;
+pub use machine::{TacMachine, start};
+pub use ops::{Op, Operands};
+pub use programs::Tac;
+pub use regions::{Member, joins};
+pub use states::{TacState, tac_printed, tac_start, tac_step, tac_stuck};

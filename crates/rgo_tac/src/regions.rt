@@ -1,0 +1,81 @@
+//! Which variables instructions force into one region.
+
+ghost use Rattle.std.specs.Prelude.{◌≡◌, Some};
+ghost use Rattle.rgo_tac.specs.Joins as spec;
+ghost use Rattle.rgo_tac.specs.Ops.{numbers_of, operation_of};
+
+use crate::functions::TacFn;
+use crate::ops::{Op, Operands};
+use rgo_typed::Action;
+
+/// What regions are found for: a variable of a function, its result, or the package variables.
+#[derive(Clone, Copy, Debug, PartialEq, Eq)]
+pub enum Member {
+    Variable(u32),
+    Result,
+    Global,
+}
+
+/// Two variables.
+fn pair(a: u32, b: u32) -> Option<(Member, Member)>
+    ensures { result ≡ spec.joined a b }
+{
+    Some((Member::Variable(a), Member::Variable(b)))
+}
+
+fn action_joins(action: Action, to: Option<u32>, from: Operands) -> Option<(Member, Member)>
+    ensures { result ≡ spec.action_joins action to (numbers_of from) }
+{
+    match (action, to, from) {
+        (Action::Copy, Some(d), Operands::One(a)) => pair(d, a),
+        (Action::Load(_), Some(d), Operands::One(a)) => pair(d, a),
+        (Action::Store(_), _, Operands::Two(a, b)) => pair(a, b),
+        (Action::At, Some(d), Operands::Two(a, _)) => pair(d, a),
+        (Action::Put, _, Operands::Three(a, _, b)) => pair(a, b),
+        (Action::Recv, Some(d), Operands::One(c)) => pair(d, c),
+        (Action::Send, _, Operands::Two(c, a)) => pair(c, a),
+        (Action::Get(_), Some(d), Operands::Zero) => Some((Member::Variable(d), Member::Global)),
+        (Action::Set(_), _, Operands::One(a)) => Some((Member::Variable(a), Member::Global)),
+        _ => None,
+    }
+}
+
+fn op_joins(op: Op<'_>) -> Option<(Member, Member)>
+    ensures { result ≡ spec.op_joins (operation_of op.entry) }
+{
+    match op {
+        Op::Do { to, action, from } => action_joins(action, to, from),
+        Op::Return(Some(a)) => Some((Member::Variable(a), Member::Result)),
+        _ => None,
+    }
+}
+
+/// Whether a member is a pointer, a slice or a channel.
+fn is_pointer_like(function: &TacFn, member: Member) -> bool
+    ensures { result ≡ spec.is_pointer_like_in function.now member }
+{
+    match member {
+        Member::Variable(n) => match function.variables().get(n as usize) {
+            Some(ty) => ty.is_pointer_like(),
+            None => false,
+        },
+        Member::Result => match function.result_type() {
+            Some(ty) => ty.is_pointer_like(),
+            None => false,
+        },
+        Member::Global => true,
+    }
+}
+
+/// The two that an instruction of this function joins. A call joins what the summary of its callee says, and none by
+/// itself.
+pub fn joins(function: &TacFn, op: Op<'_>) -> Option<(Member, Member)>
+    ensures { result ≡ spec.joins function.now (operation_of op.entry) }
+{
+    match op_joins(op) {
+        Some((a, b)) if is_pointer_like(function, a) && is_pointer_like(function, b) => Some((
+            a, b,
+        )),
+        _ => None,
+    }
+}
