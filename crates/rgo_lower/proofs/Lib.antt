@@ -1,0 +1,12 @@
+pub mod Agreeing
+pub mod AgreeingStatements
+pub mod BlockParts
+pub mod Determined
+pub mod Finished
+pub mod Growing
+pub mod Labels
+pub mod StmtParts
+pub mod TermParts
+pub mod Views
+pub mod Weights
+pub mod follows

@@ -1,0 +1,18 @@
+use Rattle.rgo_lower.specs.Emitted.{made_of}
+use Rattle.rgo_lower.proofs.TermParts.{next_stored, end_stored}
+use Rattle.rgo_lower.proofs.builder.Builder.fill.Goals as goal
+
+pub loop-i-preserved : goal.loop-i-preserved
+loop-i-preserved c = record {
+  same_length = c.loop-i.invariant.same_length;
+  rest = λ new h.
+      c.loop-i.invariant.rest new
+      (next_stored c.args.object c.args.place c.loop-i.i c.args.fields.now c.args.from.now (made_of c.loop-i.self)
+      (made_of c.act.new.self) new c.loop-i-test.true c.loop-i.invariant.same_length c.in_ok-act.ensures h);
+}
+
+pub returns : goal.returns
+returns c =
+    c.loop-i.invariant.rest (made_of c.loop-i.self)
+    (end_stored c.args.object c.args.place c.loop-i.i c.args.fields.now c.args.from.now (made_of c.loop-i.self)
+    c.loop-i-test.false c.loop-i.invariant.same_length)

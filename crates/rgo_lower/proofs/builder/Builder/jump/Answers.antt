@@ -1,0 +1,12 @@
+use Rattle.std.proofs.Common.{refl}
+use Rattle.rgo_tac.specs.declared.code.Instr.TheVariants as instr
+use Rattle.rgo_lower.specs.Emitted.{made_of, jump_to}
+use Rattle.rgo_lower.proofs.Growing.{op_added, ok_map}
+use Rattle.rgo_lower.proofs.builder.Builder.jump.Goals as goal
+
+pub returns : goal.returns
+returns c =
+    let a = made_of c.args.self.now in
+    let b = made_of c.line.new.self in
+    ok_map c.line.result _ _
+    (λ is. op_added a b (instr.Jump c.args.label) (jump_to c.args.label) c.args.place is (λ w k. refl)) c.line.ensures

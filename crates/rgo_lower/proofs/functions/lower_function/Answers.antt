@@ -1,0 +1,17 @@
+use Rattle.std.proofs.Common.{subst}
+use Rattle.std.proofs.lemmas.Result.{IfOk-weaker}
+use Rattle.rgo_typed.specs.Views.{function_of}
+use Rattle.rgo_lower.specs.Emitted.{made_of, Begins}
+use Rattle.rgo_lower.proofs.Finished.{function_lowered}
+use Rattle.rgo_lower.proofs.functions.lower_function.Goals as goal
+
+pub returns : goal.returns
+returns c =
+    let source = function_of c.args.function.now in
+    let a = made_of c.in_ok-b.b in
+    let begins : Begins source.params source.locals a =
+    subst (λ z. Begins source.params z a) c.items.ensures c.in_ok-b.ensures in
+    IfOk-weaker c.finish.result _ _
+    (λ f is. function_lowered source f a (made_of c.lower_stmts.new.b) (made_of c.close.new.b) begins
+    c.in_ok-lower_stmts.ensures c.in_ok-close.ensures is)
+    c.finish.ensures

@@ -1,0 +1,50 @@
+use Rattle.std.proofs.Common.{◌≡◌, ◌<◌, ◌≤◌, ◌++◌, [], ◌∷◌, length, get_or, map, refl, sym, ap, ◌∙◌, subst, append_assoc, append-nil}
+use Rattle.rgo_typed.specs.Views.{function_of, typed_of}
+use Rattle.rgo_wellformed.specs.WellFormed.{declared_by}
+use Rattle.rgo_lower.specs.Lowered.{AreLowered}
+use Rattle.rgo_lower.proofs.Finished.{well_function, next_lowered, end_lowered, program_is}
+use Rattle.rgo_lower.proofs.programs.lower.Goals as goal
+
+pub lower_function-requires : goal.lower_function-requires
+lower_function-requires c =
+    let xs = c.args.program.now.functions.items in
+    let i = c.loop-function.function-index in
+    let x = c.function-item.result in
+    let same : c.deref-function-items.result.now ≡ xs = c.deref-function-items.ensures.value in
+    let well =
+    well_function (typed_of c.args.program.now) xs i x c.requires refl
+    (subst (λ z. i < length z) same c.loop-function-test.true) (subst (λ z. x ≡ get_or z i x) same c.function-item.is) in
+    well.params
+
+pub loop-function-preserved : goal.loop-function-preserved
+loop-function-preserved c =
+    λ rest h.
+    let xs = c.args.program.now.functions.items in
+    let i = c.loop-function.function-index in
+    let x = c.function-item.result in
+    let f = c.in_ok-lower_function.field-0 in
+    let program = typed_of c.args.program.now in
+    let same : c.deref-function-items.result.now ≡ xs = c.deref-function-items.ensures.value in
+    let lt : i < length xs = subst (λ z. i < length z) same c.loop-function-test.true in
+    let is : x ≡ get_or xs i x = subst (λ z. x ≡ get_or z i x) same c.function-item.is in
+    let lowered =
+    c.in_ok-lower_function.ensures (declared_by program) program.functions refl
+    (well_function program xs i x c.requires refl lt is) in
+    subst (λ z. AreLowered (map function_of xs) (map function_of xs) z)
+    (sym (append_assoc c.loop-function.functions.items (f ∷ []) rest)
+    ∙ ap (λ z. z ++ rest) (sym c.in_ok-push.ensures.items))
+    (c.loop-function.invariant (f ∷ rest) (next_lowered (map function_of xs) xs i x f rest lt is lowered h))
+
+pub returns : goal.returns
+returns c =
+    let xs = c.args.program.now.functions.items in
+    let i = c.loop-function.function-index in
+    let program = typed_of c.args.program.now in
+    let same : c.deref-function-items.result.now ≡ xs = c.deref-function-items.ensures.value in
+    let done =
+    c.loop-function.invariant []
+    (end_lowered (map function_of xs) xs i (subst (λ z. length z ≤ i) same c.loop-function-test.false)) in
+    program_is program c.new-2.result c.in_ok-structs.structs c.in_ok-variables.variables c.new.result c.new-2.ensures
+    (c.in_ok-structs.ensures ∙ c.items.ensures) (c.in_ok-variables.ensures ∙ c.items-2.ensures)
+    (subst (λ z. AreLowered (map function_of xs) (map function_of xs) z)
+    (append-nil c.loop-function.functions.items ∙ sym c.new.ensures) done)

@@ -1,0 +1,14 @@
+use Rattle.std.proofs.Common.{List, ◌++◌, map, drop}
+use Rattle.rgo_typed.specs.Views.{function_of}
+use Rattle.rgo_tac.specs.Code.{TacFn}
+use Rattle.rgo_lower.specs.Lowered.{AreLowered}
+use Rattle.rgo_lower.proofs.programs.lower.Given as goal
+
+-- the code of the rest makes the code of all
+abbrev pub invariant-loop-function : goal.invariant-loop-function
+invariant-loop-function l =
+    (rest : List TacFn)
+    → AreLowered (map function_of l.program.functions.items)
+    (map function_of (drop l.function-index l.program.functions.items)) rest
+    → AreLowered (map function_of l.program.functions.items) (map function_of l.program.functions.items)
+    (l.functions.items ++ rest)

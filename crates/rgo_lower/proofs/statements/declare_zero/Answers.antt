@@ -1,0 +1,18 @@
+use Rattle.std.proofs.Common.{[], subst}
+use Rattle.rgo_lower.specs.Lowered.{zero_action}
+use Rattle.rgo_lower.specs.Emitted.{made_of, ValueIsAdded, acts}
+use Rattle.rgo_lower.proofs.Growing.{ok_map}
+use Rattle.rgo_lower.proofs.StmtParts.{zero_emitted, declared}
+use Rattle.rgo_lower.proofs.statements.declare_zero.Goals as goal
+
+pub returns : goal.returns
+returns c =
+    let a = made_of c.args.b.now in
+    let b = made_of c.give.new.self in
+    let e = made_of c.declare.new.self in
+    let x = c.in_ok-variable.variable in
+    let ty = c.args.ty.now in
+    let value : ValueIsAdded a (acts (zero_action ty) []) ty c.args.place x b =
+    subst (λ z. ValueIsAdded a (acts z []) ty c.args.place x b) c.zero_action.ensures c.in_ok-variable.ensures in
+    ok_map c.declare.result _ _
+    (λ is l. zero_emitted c.args.n ty c.args.place x l a b e value (declared c.args.n x b e is.0 is.1)) c.declare.ensures

@@ -1,0 +1,284 @@
+-- What a builder has been given: the code of terms and statements, between its state before and its state after.
+use Rattle.std.specs.Prelude.{◌≡◌, ℕ, ◌<◌, Bool, true, false, List, [], ◌∷◌, ◌++◌, length, map, take, get_or, slice_set}
+use Rattle.std.specs.Prelude.{Option, Some, None, slice_get}
+use Rattle.rgo_typed.specs.declared.actions.Action.{Action}
+use Rattle.rgo_typed.specs.declared.actions.Logical.{Logical}
+use Rattle.rgo_typed.specs.declared.statements.Piece.{Piece}
+use Rattle.rgo_typed.specs.declared.types.Type.{«Type»}
+use Rattle.rgo_typed.specs.Tree.{Term, Terms, Stmt, Stmts, Function}
+use Rattle.rgo_wellformed.specs.TypeRules.{Declared}
+use Rattle.rgo_wellformed.specs.WellFormed.{InScope, is_in_scope, HasType, HaveTypes, Environment, IsCondition, IsStmt, AreStmts}
+use Rattle.rgo_wellformed.specs.WellFormed.{signature_of, scope_after, IsFunction}
+use Rattle.rgo_tac.specs.declared.code.Instr.{Instr}
+use Rattle.rgo_tac.specs.declared.code.Instr.TheVariants as code
+use Rattle.rgo_tac.specs.Code.{Op, Do, Call, Jump, Branch, TacFn}
+use Rattle.rgo_tac.specs.Views.{op_of, body_of}
+use Rattle.rgo_lower.specs.Lowered.{Point, after, after_value, OpAt, Scope, found, Target}
+use Rattle.rgo_lower.specs.Lowered.{bool, logic_branch, StoresAt, TestAt, ConditionAt, TermAt, TermsAt, StmtAt, StmtsAt, IsLoweredFn}
+use Rattle.rgo_lower.specs.declared.builder.Builder.{Builder}
+use Rattle.rgo_lower.specs.declared.builder.Line.{Line}
+use Rattle.rgo_lower.specs.declared.builder.Loop.{Loop}
+
+-- ---- builders
+
+-- the parts of a builder; targets of jumps are numbers of labels
+pub record Made : Type 0 where
+  pub lines : List Line
+  pub variables : List «Type»
+  pub lists : List (List ℕ)
+  pub pieces : List (List Piece)
+  -- the instruction of each label that has been placed
+  pub labels : List (Option ℕ)
+  -- the variable of each local variable that is in scope
+  pub slots : List ℕ
+
+abbrev pub made_of : Builder → Made
+made_of b = record {
+  lines = b.lines.items;
+  variables = b.variables.items;
+  lists = b.lists.items;
+  pieces = b.pieces.items;
+  labels = b.labels.items;
+  slots = b.slots.items;
+}
+
+-- where the builder is
+abbrev pub point_of : Made → Point
+point_of b = record { instr = length b.lines; variable = length b.variables }
+
+abbrev pub slot : Made → ℕ → ℕ
+slot b n = get_or b.slots n 0
+
+abbrev pub with_line : Made → Instr → (place : ℕ) → Made
+with_line b i place = record b { lines = b.lines ++ record { instr = i; place = place } ∷ [] }
+
+abbrev pub with_variable : Made → «Type» → Made
+with_variable b ty = record b { variables = b.variables ++ ty ∷ [] }
+
+abbrev pub with_list : Made → List ℕ → Made
+with_list b l = record b { lists = b.lists ++ l ∷ [] }
+
+abbrev pub with_pieces : Made → List Piece → Made
+with_pieces b l = record b { pieces = b.pieces ++ l ∷ [] }
+
+-- a label that is not placed yet
+abbrev pub with_label : Made → Made
+with_label b = record b { labels = b.labels ++ None ∷ [] }
+
+-- the label leads to the next instruction
+abbrev pub with_placed : Made → ℕ → Made
+with_placed b k = record b { labels = slice_set b.labels k (Some (length b.lines)) }
+
+abbrev pub with_slot : Made → ℕ → ℕ → Made
+with_slot b n d = record b { slots = slice_set b.slots n d }
+
+-- ---- instructions
+
+-- the instruction whose labels are replaced by the instructions to which they lead
+abbrev pub resolved : (ℕ → ℕ) → Instr → Instr
+resolved leads (code.Jump t) = code.Jump (leads t)
+resolved leads (code.Branch a t e) = code.Branch a (leads t) (leads e)
+resolved leads i = i
+
+-- whatever the function's labels, lists and pieces are
+abbrev pub Encodes : Instr → Op → Type 0
+Encodes i op = (leads : ℕ → ℕ) (lists : List (List ℕ)) (pieces : List (List Piece)) → op_of lists pieces (resolved leads i) ≡ op
+
+-- ---- growth
+
+-- each item is where it was
+abbrev pub Kept : {A : Type 0} → List A → List A → Type 0
+Kept {A} xs ys = (i : ℕ) (x : A) → slice_get xs i ≡ Some x → slice_get ys i ≡ Some x
+
+-- what was there is as it was, unplaced labels too
+pub record Grown (old new : Made) : Type 0 where
+  pub lines : Kept old.lines new.lines
+  pub variables : Kept old.variables new.variables
+  pub lists : Kept old.lists new.lists
+  pub pieces : Kept old.pieces new.pieces
+  pub labels : Kept old.labels new.labels
+
+-- a finished function: what its program declares, the types of its local variables, the program's functions, its code,
+-- the instruction of each label, its lists and pieces
+pub record Whole : Type 0 where
+  pub declared : Declared
+  pub locals : List «Type»
+  pub functions : List Function
+  pub signed : declared.functions ≡ map signature_of functions
+  pub f : TacFn
+  pub leads : ℕ → ℕ
+  pub lists : List (List ℕ)
+  pub pieces : List (List Piece)
+
+-- the function has all that the builder was given
+pub record Completes (w : Whole) (b : Made) : Type 0 where
+  pub lines :
+      (i : ℕ) (l : Line) → slice_get b.lines i ≡ Some l
+      → OpAt w.f i (op_of w.lists w.pieces (resolved w.leads l.instr)) l.place
+  pub variables : Kept b.variables w.f.variables
+  pub lists : Kept b.lists w.lists
+  pub pieces : Kept b.pieces w.pieces
+  pub labels : (k t : ℕ) → slice_get b.labels k ≡ Some (Some t) → w.leads k ≡ t
+
+-- ---- single instructions
+
+-- an instruction was added; what it does may depend on where labels lead
+pub record OpIsAdded (old : Made) (op : Whole → Op) (place : ℕ) (new : Made) : Type 0 where
+  pub grown : Grown old new
+  pub slots : new.slots ≡ old.slots
+  pub point : point_of new ≡ after (point_of old)
+  pub instr : (w : Whole) → Completes w new → OpAt w.f (length old.lines) (op w) place
+
+-- the same operation wherever labels lead
+abbrev pub always : Op → Whole → Op
+always op w = op
+
+abbrev pub jump_to : (label : ℕ) → Whole → Op
+jump_to label w = Jump (w.leads label)
+
+abbrev pub branch_to : (test inside other : ℕ) → Whole → Op
+branch_to test inside other w = Branch test (w.leads inside) (w.leads other)
+
+-- to the next instruction, of this number, where a value that decides on `&&` or `||` does not; else to a label
+abbrev pub decides : Logical → (test next other : ℕ) → Whole → Op
+decides logic test next other w = logic_branch logic test next (w.leads other)
+
+-- an instruction was added that gives a new variable of this type its value
+pub record ValueIsAdded (old : Made) (op : ℕ → Op) (ty : «Type») (place d : ℕ) (new : Made) : Type 0 where
+  pub grown : Grown old new
+  pub slots : new.slots ≡ old.slots
+  pub variable : d ≡ length old.variables
+  pub point : point_of new ≡ after_value (point_of old)
+  pub instr : (w : Whole) → Completes w new → OpAt w.f (length old.lines) (op (length old.variables)) place
+  pub kind : (w : Whole) → Completes w new → slice_get w.f.variables (length old.variables) ≡ Some ty
+
+-- an action on these variables
+abbrev pub acts : Action → List ℕ → ℕ → Op
+acts action from to = Do (Some to) action from
+
+-- a call with a result
+abbrev pub calls : ℕ → List ℕ → ℕ → Op
+calls n from to = Call (Some to) n from
+
+-- ---- terms
+
+-- the scope of the code has the variables in scope, each with its slot, and no others
+pub record Knows (slots : List ℕ) (g : InScope) (scope : Scope) : Type 0 where
+  pub inside : (n : ℕ) → is_in_scope g n ≡ true → found scope n ≡ Some (get_or slots n 0)
+  pub outside : (n : ℕ) → is_in_scope g n ≡ false → found scope n ≡ None
+
+-- the code of a well-formed term was added
+pub record TermIsEmitted (t : Term) (old : Made) (d : ℕ) (new : Made) : Type 0 where
+  pub grown : Grown old new
+  pub slots : new.slots ≡ old.slots
+  pub code :
+      (w : Whole) (g : InScope) (ty : «Type») (scope : Scope) → HasType w.declared w.locals g t ty
+      → Knows old.slots g scope → Completes w new
+      → TermAt w.functions w.f scope t (point_of old) d (point_of new)
+
+pub record TermsAreEmitted (ts : Terms) (old : Made) (ds : List ℕ) (new : Made) : Type 0 where
+  pub grown : Grown old new
+  pub slots : new.slots ≡ old.slots
+  pub code :
+      (w : Whole) (g : InScope) (types : List «Type») (scope : Scope) → HaveTypes w.declared w.locals g ts types
+      → Knows old.slots g scope → Completes w new
+      → TermsAt w.functions w.f scope ts (point_of old) ds (point_of new)
+
+-- the values were stored, one in each field of an object
+pub record FieldsAreStored (object : ℕ) (fields ds : List ℕ) (place : ℕ) (old new : Made) : Type 0 where
+  pub grown : Grown old new
+  pub slots : new.slots ≡ old.slots
+  pub code :
+      (w : Whole) → Completes w new
+      → StoresAt w.functions w.f object fields ds place (point_of old) (point_of new)
+
+-- ---- statements
+
+-- if there is a loop around, these are the labels of the innermost
+abbrev pub Leads : Whole → (in_loop : Bool) → Option Loop → List Target → Type 0
+Leads w in_loop innermost targets =
+    in_loop ≡ true
+    → (l : Loop) × (outer : List Target) × (innermost ≡ Some l)
+    × (targets ≡ record { break_to = w.leads l.break_to; continue_to = w.leads l.continue_to } ∷ outer)
+
+abbrev pub environment_of : Whole → (in_loop : Bool) → Environment
+environment_of w in_loop =
+    record { declared = w.declared; locals = w.locals; result_type = w.f.result_type; in_loop = in_loop }
+
+-- the code of a well-formed statement was added; variables in scope keep their slots
+pub record StmtIsEmitted (s : Stmt) (innermost : Option Loop) (old new : Made) : Type 0 where
+  pub grown : Grown old new
+  pub kept :
+      (e : Environment) (g : InScope) → IsStmt e g s → (n : ℕ) → is_in_scope g n ≡ true
+      → slot new n ≡ slot old n
+  pub code :
+      (w : Whole) (in_loop : Bool) (g : InScope) (scope : Scope) (targets : List Target)
+      → IsStmt (environment_of w in_loop) g s → Leads w in_loop innermost targets → Knows old.slots g scope
+      → Completes w new
+      → (scope2 : Scope) × StmtAt w.functions w.f s targets scope (point_of old) scope2 (point_of new)
+      × Knows new.slots (scope_after g s) scope2
+
+pub record StmtsAreEmitted (all : Stmts) (innermost : Option Loop) (old new : Made) : Type 0 where
+  pub grown : Grown old new
+  pub kept :
+      (e : Environment) (g : InScope) → AreStmts e g all → (n : ℕ) → is_in_scope g n ≡ true
+      → slot new n ≡ slot old n
+  pub code :
+      (w : Whole) (in_loop : Bool) (g : InScope) (scope : Scope) (targets : List Target)
+      → AreStmts (environment_of w in_loop) g all → Leads w in_loop innermost targets → Knows old.slots g scope
+      → Completes w new
+      → (scope2 : Scope) × StmtsAt w.functions w.f all targets scope (point_of old) scope2 (point_of new)
+
+-- a condition, and the branch to a label where it is false
+pub record TestIsEmitted (t : Term) (other place : ℕ) (old new : Made) : Type 0 where
+  pub grown : Grown old new
+  pub slots : new.slots ≡ old.slots
+  pub code :
+      (w : Whole) (g : InScope) (scope : Scope) → HasType w.declared w.locals g t bool → Knows old.slots g scope
+      → Completes w new → TestAt w.functions w.f scope t (w.leads other) place (point_of old) (point_of new)
+
+-- the same of a loop's condition, if there is one
+pub record ConditionIsEmitted (t : Option Term) (other place : ℕ) (old new : Made) : Type 0 where
+  pub grown : Grown old new
+  pub slots : new.slots ≡ old.slots
+  pub code :
+      (w : Whole) (in_loop : Bool) (g : InScope) (scope : Scope) → IsCondition (environment_of w in_loop) g t
+      → Knows old.slots g scope → Completes w new
+      → ConditionAt w.functions w.f scope t (w.leads other) place (point_of old) (point_of new)
+
+-- the code of a statement was added that has nothing to do with loops around it
+abbrev pub IsEmitted : Stmt → Made → Made → Type 0
+IsEmitted s old new = (innermost : Option Loop) → StmtIsEmitted s innermost old new
+
+-- ---- functions
+
+-- a label that was never placed leads to 0
+abbrev pub number_of : Option (Option ℕ) → ℕ
+number_of (Some (Some n)) = n
+number_of _ = 0
+
+-- where these labels lead
+abbrev pub leads_by : List (Option ℕ) → ℕ → ℕ
+leads_by labels k = number_of (slice_get labels k)
+
+-- the code of a function before its first instruction
+pub record Begins (params : ℕ) (locals : List «Type») (b : Made) : Type 0 where
+  pub lines : b.lines ≡ []
+  pub variables : b.variables ≡ take params locals
+  pub slots : (n : ℕ) → n < length locals → slot b n ≡ n
+
+-- the finished function
+abbrev pub finished : Function → Made → TacFn
+finished source b = record {
+  name = source.name;
+  params = source.params;
+  result_type = source.result_type;
+  variables = b.variables;
+  body = body_of b.lists b.pieces (map (λ l. resolved (leads_by b.labels) l.instr) b.lines) (map (λ l. l.place) b.lines);
+}
+
+-- it is the code of a well-formed function, in a program with these functions
+abbrev pub FunctionIsLowered : Function → TacFn → Type 0
+FunctionIsLowered source f =
+    (d : Declared) (functions : List Function) → d.functions ≡ map signature_of functions → IsFunction d source
+    → IsLoweredFn functions source f

@@ -1,0 +1,93 @@
+//! The code of functions.
+
+ghost use Rattle.std.specs.Prelude.{◌≡◌, ◌<◌, ◌≤◌, ℕ, IfOk, length, get_or};
+ghost use Rattle.rgo_typed.specs.Views.{function_of};
+ghost use Rattle.rgo_lower.specs.Lowered.{closing_op};
+ghost use Rattle.rgo_lower.specs.Emitted.{made_of, always, OpIsAdded, Begins, finished, FunctionIsLowered};
+
+use crate::blocks::lower_stmts;
+use crate::builder::Builder;
+use crate::copies::{copy_name, copy_result, copy_types};
+use crate::encode::narrow;
+use crate::targets::{instrs_of, places_of};
+use rgo_ast::Place;
+use rgo_tac::{Body, TacFn};
+use rgo_typed::{Function, Row, Type};
+use std::alloc::{AllocError, Global};
+
+/// The first variable numbers.
+fn first_slots(alloc: Global, count: usize) -> Result<Vec<u32>, AllocError>
+    ensures { IfOk result (λ slots. (n : ℕ) → n < count → get_or slots.items n 0 ≡ n) }
+{
+    let mut slots = Vec::new(alloc);
+    for n in 0..count {
+        slots.push(narrow(n)?)?;
+    }
+    Ok(slots)
+}
+
+/// The local variables of these types, of which the first are parameters: each has the variable of its own number.
+fn begin(alloc: Global, locals: &[Type], params: usize) -> Result<Builder, AllocError>
+    requires { params ≤ length locals.now }
+    ensures { IfOk result (λ b. Begins params locals.now (made_of b)) }
+{
+    Ok(Builder {
+        alloc,
+        lines: Vec::new(alloc),
+        variables: copy_types(alloc, &locals[..params])?,
+        lists: Vec::new(alloc),
+        pieces: Vec::new(alloc),
+        labels: Vec::new(alloc),
+        slots: first_slots(alloc, locals.len())?,
+    })
+}
+
+/// Adds the end of a function: a return, or, where it has a result, a jump to itself, which is never reached.
+fn close(b: &mut Builder, result_type: &Option<Type>, end: Place) -> Result<(), AllocError>
+    ensures { IfOk result (λ done. OpIsAdded (made_of b.old)
+        (always (closing_op result_type.now (length b.old.lines.items))) end (made_of b.new)) }
+{
+    match result_type {
+        None => b.leave(end),
+        Some(_) => {
+            let here = b.label()?;
+            b.place(here)?;
+            b.jump(here, end)
+        }
+    }
+}
+
+/// The function with this code.
+fn finish(b: Builder, function: &Function) -> Result<TacFn, AllocError>
+    ensures { IfOk result (λ f. f ≡ finished (function_of function.now) (made_of b)) }
+{
+    let instrs = instrs_of(b.alloc, &b.lines, &b.labels)?;
+    let places = places_of(b.alloc, &b.lines)?;
+    let name = copy_name(b.alloc, &function.name)?;
+    let result_type = copy_result(b.alloc, &function.result_type)?;
+    let body = Body {
+        instrs,
+        places,
+        lists: Row::new(b.lists),
+        pieces: Row::new(b.pieces),
+    };
+    TacFn::new(
+        b.alloc,
+        name,
+        function.params,
+        result_type,
+        Row::new(b.variables),
+        body,
+    )
+}
+
+/// The code of a function.
+pub fn lower_function(alloc: Global, function: &Function) -> Result<TacFn, AllocError>
+    requires { function.now.params ≤ length function.now.locals }
+    ensures { IfOk result (λ f. FunctionIsLowered (function_of function.now) f) }
+{
+    let mut b = begin(alloc, function.locals.items(), function.params)?;
+    lower_stmts(&mut b, None, &function.body)?;
+    close(&mut b, &function.result_type, function.end)?;
+    finish(b, function)
+}

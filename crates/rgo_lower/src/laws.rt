@@ -1,0 +1,13 @@
+//! What holds of all lowered code.
+
+ghost use Rattle.rgo_lower.specs.Laws.{LoweringIsDetermined, LoweringSimulates};
+
+/// A program has one code.
+pub fn lowering_is_determined()
+    ensures { LoweringIsDetermined }
+{}
+
+/// Lowered code does what the program does.
+pub fn lowering_simulates()
+    ensures { LoweringSimulates }
+{}

@@ -1,0 +1,17 @@
+//! Lowering: from typed trees to three-address code.
+#![tactic(auto)]
+
+mod blocks;
+mod builder;
+mod copies;
+mod encode;
+mod functions;
+mod instructions;
+mod laws;
+mod programs;
+mod statements;
+mod targets;
+mod terms;
+
+pub use laws::{lowering_is_determined, lowering_simulates};
+pub use programs::lower;

@@ -1,0 +1,59 @@
+//! Labels are replaced by the instructions to which they lead.
+
+ghost use Rattle.std.specs.Prelude.{◌≡◌, IfOk, map};
+ghost use Rattle.rgo_lower.specs.Emitted.{leads_by, resolved};
+
+use crate::builder::Line;
+use rgo_ast::Place;
+use rgo_tac::Instr;
+use rgo_typed::Row;
+use std::alloc::{AllocError, Global};
+
+/// Where a label leads.
+fn target_at(labels: &[Option<u32>], label: u32) -> u32
+    ensures { result ≡ leads_by labels.now label }
+{
+    match labels.get(label as usize) {
+        Some(Some(target)) => *target,
+        _ => 0,
+    }
+}
+
+/// The instruction with its targets in place of its labels.
+fn resolve(labels: &[Option<u32>], instr: Instr) -> Instr
+    ensures { result ≡ resolved (leads_by labels.now) instr }
+{
+    match instr {
+        Instr::Jump(target) => Instr::Jump(target_at(labels, target)),
+        Instr::Branch(test, inside, other) => {
+            Instr::Branch(test, target_at(labels, inside), target_at(labels, other))
+        }
+        plain => plain,
+    }
+}
+
+/// The instructions of these lines.
+pub fn instrs_of(
+    alloc: Global,
+    lines: &[Line],
+    labels: &[Option<u32>],
+) -> Result<Row<Instr>, AllocError>
+    ensures { IfOk result (λ instrs. instrs ≡ map (λ l. resolved (leads_by labels.now) l.instr) lines.now) }
+{
+    let mut instrs = Vec::new(alloc);
+    for line in lines {
+        instrs.push(resolve(labels, line.instr))?;
+    }
+    Ok(Row::new(instrs))
+}
+
+/// The places of these lines.
+pub fn places_of(alloc: Global, lines: &[Line]) -> Result<Row<Place>, AllocError>
+    ensures { IfOk result (λ places. places ≡ map (λ l. l.place) lines.now) }
+{
+    let mut places = Vec::new(alloc);
+    for line in lines {
+        places.push(line.place)?;
+    }
+    Ok(Row::new(places))
+}
