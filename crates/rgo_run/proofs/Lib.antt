@@ -1,4 +1,5 @@
 pub mod EndingLemmas
+pub mod ClaimLemmas
 pub mod HeadlineLemmas
 pub mod ProgramLemmas
 pub mod TextLemmas

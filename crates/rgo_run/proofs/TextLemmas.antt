@@ -1,6 +1,6 @@
 -- What the parts of the compiler say of a text, as the endings that report it.
-use Rattle.std.proofs.Common.{◌≡◌, ℕ, ◌≤◌, inl, true, List, [], ◌∷◌, length, Option, None, Some, refl, arith, subst}
-use Rattle.std.specs.Prelude.{max, nat_le}
+use Rattle.std.proofs.Common.{◌≡◌, ℕ, suc, ◌≤◌, inl, Bool, true, false, List, [], ◌∷◌, ◌++◌, length, Option, None, Some, refl, arith, subst}
+use Rattle.std.specs.Prelude.{max, nat_le, codes, bytes_eq, if◌then◌else◌}
 use Rattle.std.proofs.lemmas.Bool.Decides.{nat_tests}
 use Rattle.rgo_outside.specs.Moves.{ReadsAll, GivesTooMany}
 use Rattle.rgo_outside.specs.declared.whole.ReadEnd.{ReadEnd}
@@ -21,8 +21,15 @@ use Rattle.rgo_machine.specs.Deadlocks.{IsDeadlock}
 use Rattle.rgo_machine.specs.Limits.{is_within}
 use Rattle.rgo_machine.specs.Machines.{start_of}
 use Rattle.rgo_machine.proofs.Waiting.{deadlocks_wait}
-use Rattle.rgo_meaning.specs.Source.{SourceState, source}
-use Rattle.rgo_driver.specs.Runs.{Ends}
+use Rattle.rgo_simulation.specs.Simulations.{RunsWithinAs}
+use Rattle.rgo_meaning.specs.Source.{source, source_start}
+use Rattle.rgo_memory.specs.Opening.{opening}
+use Rattle.rgo_tac.specs.Code.{TacFn, Tac}
+use Rattle.rgo_tac.specs.Frames.{called}
+use Rattle.rgo_tac.specs.Tac.{TacState, tac, main_frames, tac_start}
+use Rattle.rgo_lower.proofs.follows.Whole.{lowering_simulates}
+use Rattle.rgo_driver.specs.Rounds.{all_of}
+use Rattle.rgo_driver.specs.Runs.{Ends, Runs}
 use Rattle.rgo_driver.specs.declared.ends.RunEnd.{RunEnd}
 use Rattle.rgo_driver.specs.declared.ends.RunEnd.TheVariants.{Deadlock, WriteFault}
 use Rattle.rgo_command_line.specs.Commands.{command_of}
@@ -33,9 +40,9 @@ use Rattle.rgo_machine.specs.declared.limits.Limits.{Limits}
 use Rattle.rgo_run.specs.declared.endings.Ending.TheVariants.{Ran, Usage, TooLong}
 use Rattle.rgo_run.specs.Calls.{SourceUse, SourceFailed, SourceHeld, SinkUse, Failed, Held}
 use Rattle.rgo_run.specs.Errors.{command_error, read_error, lex_error, type_error}
-use Rattle.rgo_run.specs.Runs.{ProgramRuns}
+use Rattle.rgo_run.specs.Runs.{IsCodeOf, SourceRun}
 use Rattle.rgo_run.specs.Texts.{IsTextOf, AskSome, NotRead, Fails, Performs}
-use Rattle.rgo_run.specs.Verdicts.{IsTree, IsProgram, Refused, text_limit}
+use Rattle.rgo_run.specs.Verdicts.{IsTree, Refused, text_limit}
 
 -- the bytes that were read to the end are the text
 pub is_text : (left rest : Option (List ℕ)) (bytes : List ℕ) → ReadsAll text_limit left rest bytes → IsTextOf left bytes
@@ -87,21 +94,55 @@ within limits m [] h = rw (one_fits limits.goroutines) refl
 within limits m (f ∷ []) h = rw (one_fits limits.goroutines) refl
 within limits m (f ∷ g ∷ frames) h = absurd (omega (arith, h))
 
-of_deadlock : (program : Typed) (limits : Limits) (before steps : ℕ) (s : SourceState) (end : RunEnd)
-    → Ends (source program) limits before steps s end → end ≡ Deadlock → IsDeadlock (source program) s
-of_deadlock program limits before steps s end h d = subst (λ e. Ends (source program) limits before steps s e) d h
+one_or_more : {F : Type 0} (b : Bool) (f : F) (more : List F) → length more ≤ 1
+    → length (if b then f ∷ [] else more) ≤ 1
+one_or_more true f more h = omega arith
+one_or_more false f more h = h
 
-pub ran : (limits : Limits) (text : List ℕ) (program : Typed) (end : RunEnd) (out : SinkUse) → IsProgram text program
-    → ProgramRuns program limits end out → (end ≡ WriteFault → Failed out)
+one_main : (fns : List TacFn) (n : ℕ) → length (main_frames fns n) ≤ 1
+one_main [] n = omega arith
+one_main (fn ∷ fns) n =
+    one_or_more (bytes_eq fn.name (codes "main")) (called fn n []) (main_frames fns (suc n)) (one_main fns (suc n))
+
+pub starts_within : (limits : Limits) (code : Tac) → is_within limits (tac_start code) ≡ true
+starts_within limits code =
+    within limits (opening code.variables) (main_frames code.functions 0) (one_main code.functions 0)
+
+of_deadlock : (code : Tac) (limits : Limits) (before steps : ℕ) (t : TacState) (end : RunEnd)
+    → Ends (tac code) limits before steps t end → end ≡ Deadlock → IsDeadlock (tac code) t
+of_deadlock code limits before steps t end h d = subst (λ e. Ends (tac code) limits before steps t e) d h
+
+-- the run of the program that a run of its code follows
+followed : (limits : Limits) (program : Typed) (code : Tac) (before steps : ℕ) (end : RunEnd) (t : TacState)
+    → Ends (tac code) limits before steps t end
+    → RunsWithinAs limits (tac code) t (source program) (source_start program) → SourceRun limits program end t
+followed limits program code before steps end t ends run = record {
+  picks = run.1;
+  state = run.0;
+  leads = run.2;
+  printed = run.3.printed;
+  ended = run.3.ended;
+  deadlock = λ d. let dead = run.3.deadlock (of_deadlock code limits before steps t end ends d) in
+      (dead, deadlocks_wait (source program) run.0 dead);
+}
+
+pub ran : (limits : Limits) (text : List ℕ) (code : Tac) (end : RunEnd) (out : SinkUse) → IsCodeOf text code
+    → Runs (tac code) limits (tac_start code) end out.old out.new → (end ≡ WriteFault → Failed out)
     → ((end ≡ WriteFault → ⊥) → Held out) → Performs (Run limits) text (Ran end) out
-ran limits text program end out is_program runs failed held = inl (record {
-  program = program;
-  is_program = is_program;
+ran limits text code end out is_code runs failed held = inl (record {
+  program = is_code.program;
+  is_program = is_code.is_program;
   run_end = end;
   is_end = refl;
-  runs = runs;
-  waits = λ d. deadlocks_wait (source program) runs.state
-      (of_deadlock program limits _ _ runs.state end runs.ends d);
+  runs = record {
+    code = code;
+    lowered = is_code.lowered;
+    runs = runs;
+    source = followed limits is_code.program code (length (all_of runs.rounds))
+        (length (all_of runs.rounds ++ runs.last)) end runs.state runs.ends
+        ((lowering_simulates is_code.program code is_code.lowered).backward_within limits
+        (all_of runs.rounds ++ runs.last) runs.state runs.ran);
+  };
   failed = failed;
   held = held;
 })

@@ -1,4 +1,5 @@
 -- The endings that errors of the compiler's parts become.
+use Rattle.std.specs.declared.alloc.AllocError.{AllocError}
 use Rattle.rgo_command_line.specs.declared.commands.WordsError.{WordsError}
 use Rattle.rgo_command_line.specs.declared.commands.WordsError.TheVariants as words
 use Rattle.rgo_outside.specs.declared.whole.ReadEnd.{ReadEnd}
@@ -22,6 +23,9 @@ read_error read.NoMemory = NoMemory
 abbrev pub lex_error : LexError → Ending
 lex_error (lex.Refused refusal) = Lexical refusal
 lex_error lex.NoMemory = NoMemory
+
+abbrev pub memory_error : AllocError → Ending
+memory_error error = NoMemory
 
 abbrev pub type_error : TypeError → Ending
 type_error (type.Refused refusal) = Typing refusal

@@ -3,7 +3,9 @@ use Rattle.std.specs.Prelude.{◌≡◌, ℕ, ◌⊎◌, false, List, [], None, 
 use Rattle.rgo_typed.specs.Tree.{Typed}
 use Rattle.rgo_machine.specs.declared.picks.Pick.{Pick}
 use Rattle.rgo_machine.specs.Limits.{LeadsWithin}
-use Rattle.rgo_meaning.specs.Source.{SourceState, source, source_start}
+use Rattle.rgo_tac.specs.Code.{Tac}
+use Rattle.rgo_tac.specs.Tac.{TacState, tac, tac_start}
+use Rattle.rgo_lower.specs.Lowered.{IsLowered}
 use Rattle.rgo_driver.specs.declared.ends.RunEnd.{RunEnd}
 use Rattle.rgo_driver.specs.declared.ends.RunEnd.TheVariants as run_end
 use Rattle.rgo_driver.specs.Runs.{Ends}
@@ -64,14 +66,14 @@ pub record Faults (call : Call) : Type 0 where
   pub write : call.status ≡ 10 → Failed call.out ⊎ Failed call.err
   pub none : is_fault_status call.status ≡ false → SourceHeld call.source × Held call.out × Held call.err
 
--- no run of the program within the limits ends so
+-- no run of the program's code within the limits ends so
 abbrev pub NeverEnds : Limits → Typed → RunEnd → Type 0
 NeverEnds limits program end =
-    (before : ℕ) (picks : List Pick) (s : SourceState)
-    → LeadsWithin (source program) limits (source_start program) picks s
-    → Ends (source program) limits before (length picks) s end → ⊥
+    (code : Tac) → IsLowered program code → (before : ℕ) (picks : List Pick) (t : TacState)
+    → LeadsWithin (tac code) limits (tac_start code) picks t
+    → Ends (tac code) limits before (length picks) t end → ⊥
 
--- no run of the program meets a limit
+-- no run of the program's code meets a limit
 pub record Suffices (limits : Limits) (program : Typed) : Type 0 where
   pub calls : NeverEnds limits program run_end.CallsTooDeep
   pub steps : NeverEnds limits program run_end.StepsSpent

@@ -1,7 +1,7 @@
 //! How a call of `rgo` ends.
 
 ghost use Rattle.std.specs.Prelude.{◌≡◌};
-ghost use Rattle.rgo_run.specs.Errors.{command_error, lex_error, read_error, type_error};
+ghost use Rattle.rgo_run.specs.Errors.{command_error, lex_error, memory_error, read_error, type_error};
 
 use rgo_ast::Place;
 use rgo_command_line::WordsError;
@@ -9,6 +9,7 @@ use rgo_driver::RunEnd;
 use rgo_lexer::{LexError, LexRefusal};
 use rgo_outside::ReadEnd;
 use rgo_typing_rules::{TypeError, TypeRefusal};
+use std::alloc::AllocError;
 
 /// How a call ended, which determines its status and its line on `err`. Places are those of the
 /// text, in bytes from its beginning.
@@ -67,6 +68,14 @@ impl From<LexError> for Ending {
             LexError::Refused(refusal) => Ending::Lexical(refusal),
             LexError::NoMemory => Ending::NoMemory,
         }
+    }
+}
+
+impl From<AllocError> for Ending {
+    ghost from_gives = { λ error ending. ending ≡ memory_error error };
+
+    fn from(_error: AllocError) -> Ending {
+        Ending::NoMemory
     }
 }
 

@@ -2,15 +2,16 @@
 //! status.
 #![tactic(auto)]
 
-mod compile;
 mod endings;
 mod laws;
+mod pipeline;
 mod positions;
 mod report;
 mod top;
 
 pub use endings::Ending;
 pub use laws::{one_verdict, programs_are_well_formed};
+pub use pipeline::compile;
 pub use rgo_command_line::Command;
 pub use rgo_driver::RunEnd;
 pub use rgo_lexer::{LexRefusal, LexicalKind};

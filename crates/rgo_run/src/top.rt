@@ -3,29 +3,23 @@
 ghost use Rattle.std.specs.Prelude.{◌≡◌, ◌≤◌, ◌⊎◌, ℕ, List, true, false, map, length, string_bytes};
 ghost use Rattle.std.specs.Prelude.{IfErr, IfOk, IsErrOf, Some, None};
 ghost use Rattle.rgo_outside.specs.Causes.{Rose};
-ghost use Rattle.rgo_typed.specs.Views.{typed_of};
 ghost use Rattle.rgo_command_line.specs.Commands.{command_of};
 ghost use Rattle.rgo_command_line.specs.declared.commands.Command.TheVariants.{Check, Run};
-ghost use Rattle.rgo_run.specs.Verdicts.{IsProgram, text_limit};
-ghost use Rattle.rgo_run.specs.Runs.{RunsTo};
+ghost use Rattle.rgo_run.specs.Runs.{IsCodeOf, RunsTo};
 ghost use Rattle.rgo_run.specs.Texts.{Checks, IsRead, NotRead, Performs};
 ghost use Rattle.rgo_run.specs.Calls.{AsksRun, IsUntouched, sink_use, source_use};
 ghost use Rattle.rgo_run.specs.Endings.{status_of, is_fault_status, is_run_status};
 ghost use Rattle.rgo_run.specs.Headline.{Headline};
 
-use crate::compile::compile;
 use crate::endings::Ending;
+use crate::pipeline::{TEXT_LIMIT, check_text, compile};
 use crate::report::report;
 use rgo_command_line::{Command, read_words};
 use rgo_driver::run;
 use rgo_machine::Limits;
-use rgo_meaning::{SourceMachine, start};
 use rgo_outside::{Gate, Sink, Source, read_all};
-use rgo_typed::Typed;
+use rgo_tac::{Tac, TacMachine, start};
 use std::alloc::Global;
-
-/// The most bytes of a text.
-const TEXT_LIMIT: usize = 1_048_576;
 
 // Reads the words and the text.
 fn read<S: Source>(
@@ -46,26 +40,25 @@ fn read<S: Source>(
 }
 
 // Checks a text.
-fn check_text(alloc: Global, text: &[u8]) -> Ending
-    requires { length text.now ≤ text_limit }
+fn check_only(alloc: Global, text: &[u8]) -> Ending
     ensures { Checks text.now result }
 {
-    match compile(alloc, text) {
+    match check_text(alloc, text) {
         Ok(_) => Ending::Valid,
         Err(why) => why,
     }
 }
 
-// Runs the program of a text.
-fn run_program<K: Sink>(alloc: Global, limits: Limits, program: &Typed, out: &mut K) -> Ending
-    ensures performs { (text : List ℕ) → IsProgram text (typed_of program.now)
+// Runs code.
+fn run_code<K: Sink>(alloc: Global, limits: Limits, code: &Tac, out: &mut K) -> Ending
+    ensures performs { (text : List ℕ) → IsCodeOf text code.now
         → Performs (Run limits) text result (sink_use (K.contents out.old) (K.contents out.new)
         (K.faults out.old) (K.faults out.new) (K.broken out.new)) }
     ensures refused { status_of result ≡ 1 → out.new ≡ out.old }
 {
-    match start(alloc, program) {
+    match start(alloc, code) {
         Ok(state) => {
-            let machine = SourceMachine::new(program);
+            let machine = TacMachine::new(code);
             Ending::Ran(run(alloc, &machine, state, limits, out))
         }
         Err(_) => Ending::NoMemory,
@@ -74,20 +67,18 @@ fn run_program<K: Sink>(alloc: Global, limits: Limits, program: &Typed, out: &mu
 
 // Runs a text.
 fn run_text<K: Sink>(alloc: Global, limits: Limits, text: &[u8], out: &mut K) -> Ending
-    requires { length text.now ≤ text_limit }
     ensures performs { Performs (Run limits) text.now result (sink_use (K.contents out.old)
         (K.contents out.new) (K.faults out.old) (K.faults out.new) (K.broken out.new)) }
     ensures refused { status_of result ≡ 1 → out.new ≡ out.old }
 {
     match compile(alloc, text) {
-        Ok(program) => run_program(alloc, limits, &program, out),
+        Ok(code) => run_code(alloc, limits, &code, out),
         Err(why) => why,
     }
 }
 
 // Checks or runs a text.
 fn perform<K: Sink>(alloc: Global, command: Command, text: &[u8], out: &mut K) -> Ending
-    requires { length text.now ≤ text_limit }
     ensures performs { Performs command text.now result (sink_use (K.contents out.old)
         (K.contents out.new) (K.faults out.old) (K.faults out.new) (K.broken out.new)) }
     ensures checked { command ≡ Check → out.new ≡ out.old }
@@ -95,7 +86,7 @@ fn perform<K: Sink>(alloc: Global, command: Command, text: &[u8], out: &mut K) -
 {
     match command {
         Command::Run(limits) => run_text(alloc, limits, text, out),
-        Command::Check => check_text(alloc, text),
+        Command::Check => check_only(alloc, text),
     }
 }
 

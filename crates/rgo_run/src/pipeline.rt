@@ -1,4 +1,4 @@
-//! A text as the program that it is, or why it is none.
+//! From a text to its program and the code of that, or why it is none.
 
 ghost use Rattle.std.specs.Prelude.{◌≡◌, ◌≤◌, length, IfErr, IfOk};
 ghost use Rattle.rgo_lexer.specs.Lexing.{LexesAs};
@@ -6,16 +6,22 @@ ghost use Rattle.rgo_ast.specs.Views.{program_of};
 ghost use Rattle.rgo_typed.specs.Views.{typed_of};
 ghost use Rattle.rgo_parser.specs.Parsing.{Fails as ParseFails};
 ghost use Rattle.rgo_run.specs.Positions.{place_of};
+ghost use Rattle.rgo_run.specs.Runs.{IsCodeOf};
 ghost use Rattle.rgo_run.specs.Texts.{Fails};
 ghost use Rattle.rgo_run.specs.Verdicts.{IsTree, IsProgram, text_limit};
 
 use crate::endings::Ending;
 use rgo_ast::{Place, Program};
 use rgo_lexer::{Lexeme, lex};
+use rgo_lower::lower;
 use rgo_parser::{ParseError, ParseRefusal, parse};
+use rgo_tac::Tac;
 use rgo_typed::Typed;
 use rgo_types::check;
 use std::alloc::Global;
+
+/// The most bytes of a text.
+pub(crate) const TEXT_LIMIT: usize = 1_048_576;
 
 // Where a lexeme begins; for the number of lexemes, the text's end.
 fn place_of(text: &[u8], lexemes: &[Lexeme<'_>], k: usize) -> Place
@@ -59,12 +65,27 @@ fn tree_of(alloc: Global, text: &[u8], lexemes: &[Lexeme<'_>]) -> Result<Program
 }
 
 /// The program of a text, or why there is none.
-pub(crate) fn compile(alloc: Global, text: &[u8]) -> Result<Typed, Ending>
-    requires { length text.now ≤ text_limit }
+pub(crate) fn check_text(alloc: Global, text: &[u8]) -> Result<Typed, Ending>
     ensures ok { IfOk result (λ program. IsProgram text.now (typed_of program)) }
     ensures err { IfErr result (Fails text.now) }
 {
+    if text.len() > TEXT_LIMIT {
+        return Err(Ending::TooLong);
+    }
     let lexemes = lex(alloc, text)?;
     let tree = tree_of(alloc, text, &lexemes)?;
     Ok(check(alloc, &tree)?)
+}
+
+/// The three-address code of a text's program.
+///
+/// # Errors
+///
+/// If the text is not a valid program: why not, and where. On allocation failure.
+pub fn compile(alloc: Global, text: &[u8]) -> Result<Tac, Ending>
+    ensures ok { IfOk result (IsCodeOf text.now) }
+    ensures err { IfErr result (Fails text.now) }
+{
+    let program = check_text(alloc, text)?;
+    Ok(lower(alloc, &program)?)
 }
