@@ -43,8 +43,15 @@ fn name(action: Action) -> &'static str {
     }
 }
 
-fn push_number(alloc: Global, line: &mut String, number: i64) -> Result<(), Fail> {
+/// The number of a function, a struct, a field, a package variable or an instruction.
+fn push_number(alloc: Global, line: &mut String, number: usize) -> Result<(), Fail> {
     let word = format!(in alloc; " {number}")?;
+    line.push_str(word.as_str())?;
+    Ok(())
+}
+
+fn push_int(alloc: Global, line: &mut String, value: i64) -> Result<(), Fail> {
+    let word = format!(in alloc; " {value}")?;
     line.push_str(word.as_str())?;
     Ok(())
 }
@@ -91,12 +98,12 @@ fn push_write(
         Action::Store(field) => {
             line.push_str("store")?;
             push_operand(alloc, line, from, 0)?;
-            push_number(alloc, line, field as i64)?;
+            push_number(alloc, line, field)?;
             push_operand(alloc, line, from, 1)
         }
         Action::Set(variable) => {
             line.push_str("set")?;
-            push_number(alloc, line, variable as i64)?;
+            push_number(alloc, line, variable)?;
             push_operands(alloc, line, from)
         }
         _ => {
@@ -128,7 +135,7 @@ fn push_read(
     push_target(alloc, line, to)?;
     push_operands(alloc, line, from)?;
     match number {
-        Some(number) => push_number(alloc, line, number as i64),
+        Some(number) => push_number(alloc, line, number),
         None => Ok(()),
     }
 }
@@ -141,10 +148,10 @@ fn push_action(
     from: Operands,
 ) -> Result<(), Fail> {
     match action {
-        Action::Int(number) => {
+        Action::Int(value) => {
             line.push_str("int")?;
             push_target(alloc, line, to)?;
-            push_number(alloc, line, number)
+            push_int(alloc, line, value)
         }
         Action::Bool(truth) => {
             line.push_str("bool")?;
@@ -186,18 +193,18 @@ fn push_op(alloc: Global, line: &mut String, op: Op<'_>) -> Result<(), Fail> {
         Op::Call { to, function, from } => {
             line.push_str("call")?;
             push_target(alloc, line, to)?;
-            push_number(alloc, line, function as i64)?;
+            push_number(alloc, line, function as usize)?;
             push_variables(alloc, line, from)
         }
         Op::Go { function, from } => {
             line.push_str("go")?;
-            push_number(alloc, line, function as i64)?;
+            push_number(alloc, line, function as usize)?;
             push_variables(alloc, line, from)
         }
         Op::Print { pieces, from } => push_print(alloc, line, pieces, from),
         Op::Jump(target) => {
             line.push_str("jump")?;
-            push_number(alloc, line, target as i64)
+            push_number(alloc, line, target as usize)
         }
         Op::Branch {
             test,
@@ -206,8 +213,8 @@ fn push_op(alloc: Global, line: &mut String, op: Op<'_>) -> Result<(), Fail> {
         } => {
             line.push_str("branch")?;
             push_variable(alloc, line, test)?;
-            push_number(alloc, line, target as i64)?;
-            push_number(alloc, line, other as i64)
+            push_number(alloc, line, target as usize)?;
+            push_number(alloc, line, other as usize)
         }
         Op::Return(value) => {
             line.push_str("return")?;
