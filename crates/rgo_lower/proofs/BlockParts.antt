@@ -285,7 +285,8 @@ module _ (test : Option Term) (body post : Stmts) (place start : ℕ) (l : Loop)
       (unmade_before b0 b3 l.continue_to loop_3 third.unmade)
 
   loop_grown : Grown b0 b10
-  loop_grown = loop_ends.grown b0 (grown_trans b0 b7 b9 loop_7 from_7) (unmade_before b0 b2 l.break_to loop_2 second.unmade)
+  loop_grown = loop_ends.grown b0 (grown_trans b0 b7 b9 loop_7 from_7)
+      (unmade_before b0 b2 l.break_to loop_2 second.unmade)
 
   slots_4 : b4.slots ≡ b0.slots
   slots_4 = third.slots ∙ second.slots ∙ starts.slots ∙ first.slots

@@ -219,13 +219,15 @@ pub function_lowered : (source : Function) (f : TacFn) (a b c : Made) → Begins
     → OpIsAdded b (always (closing_op source.result_type (length b.lines))) source.end c → f ≡ finished source c
     → FunctionIsLowered source f
 function_lowered source f a b c begins body closing is d functions signed well =
-    subst (λ z. IsLoweredFn functions source z) (sym is) (lowered_here source a b c begins body closing d functions signed
+    subst (λ z. IsLoweredFn functions source z) (sym is)
+    (lowered_here source a b c begins body closing d functions signed
     well)
 
 -- ---- programs
 
 -- what holds of all functions of a well-formed program holds of each
-pub well_at : (d : Declared) (functions : List Function) (i : ℕ) (f : Function) → AllByRecursion (IsFunction d) functions
+pub well_at : (d : Declared) (functions : List Function) (i : ℕ) (f : Function) → AllByRecursion
+    (IsFunction d) functions
     → slice_get functions i ≡ Some f → IsFunction d f
 well_at d [] i f all e = absurd (none e)
   where

@@ -1,6 +1,7 @@
 -- Builders that grow: lists, single instructions, and functions that complete what a builder was given.
-use Rattle.std.proofs.Common.{◌≡◌, ℕ, zero, suc, ◌+◌, List, [], ◌∷◌, ◌++◌, length, get_or, refl, sym, ap, ◌∙◌, subst, length-append}
+use Rattle.std.proofs.Common.{◌≡◌, ℕ, zero, suc, ◌+◌, List, [], ◌∷◌, ◌++◌, length, get_or, refl, sym, ap, ◌∙◌, subst, length-append, append_assoc}
 use Rattle.std.specs.Prelude.{Some, None, Result, Ok, Err, IfOk, slice_get}
+use Rattle.std.proofs.lemmas.Option.{get_or_from_slice_get}
 use Rattle.rgo_typed.specs.declared.types.Type.{«Type»}
 use Rattle.rgo_typed.specs.declared.statements.Piece.{Piece}
 use Rattle.rgo_tac.specs.declared.code.Instr.{Instr}
@@ -31,6 +32,10 @@ get_last (y ∷ xs) x = get_last xs x
 
 one_more : {A : Type 0} (xs : List A) (x : A) → length (xs ++ x ∷ []) ≡ length xs + 1
 one_more xs x = length-append xs (x ∷ [])
+
+-- one item more in front of the rest
+pub one_more_before : {A : Type 0} (xs ys zs : List A) (x : A) → ys ≡ xs ++ x ∷ [] → xs ++ x ∷ zs ≡ ys ++ zs
+one_more_before xs ys zs x is = sym (append_assoc xs (x ∷ []) zs) ∙ ap (λ z. z ++ zs) (sym is)
 
 -- ---- growth
 
@@ -113,7 +118,8 @@ op_added a b i op place is means =
           ap point_of is
           ∙ (λ j. record { instr = one_more a.lines line j; variable = length a.variables });
       instr = λ w c.
-          c.lines (length a.lines) line (ap (λ (z : Made). slice_get z.lines (length a.lines)) is ∙ get_last a.lines line)
+          c.lines (length a.lines) line (ap (λ (z : Made). slice_get z.lines (length a.lines)) is
+          ∙ get_last a.lines line)
           ∙ ap (λ z. Some (record { op = z; place = place })) (means w c);
     }
 
@@ -170,26 +176,18 @@ value_after_list a b c l op ty place d is h =
       kind = λ w k. subst (λ (z : Made). slice_get w.f.variables (length z.variables) ≡ Some ty) is (h.kind w k);
     }
 
-get_found : {A : Type 0} (xs : List A) (n : ℕ) (x y : A) → slice_get xs n ≡ Some x → get_or xs n y ≡ x
-get_found [] n x y e = absurd (none e)
-  where
-    none : None ≡ Some x → ⊥
-    none e = cc
-get_found (z ∷ xs) zero x y e = cc
-get_found (z ∷ xs) (suc n) x y e = get_found xs n x y e
-
 -- the list of this number in the finished function
 pub list_in : (w : Whole) (a b c : Made) (l : List ℕ) (n : ℕ) → n ≡ length a.lists → b ≡ with_list a l → Grown b c
     → Completes w c → get_or w.lists n [] ≡ l
 list_in w a b c l n n_is is g k =
-    get_found w.lists n l []
+    get_or_from_slice_get w.lists n l []
     (k.lists n l (g.lists n l (ap (λ (z : Made). slice_get z.lists n) is ∙ ap (slice_get (a.lists ++ l ∷ [])) n_is
     ∙ get_last a.lists l)))
 
 pub pieces_in : (w : Whole) (a b c : Made) (l : List Piece) (n : ℕ) → n ≡ length a.pieces → b ≡ with_pieces a l
     → Grown b c → Completes w c → get_or w.pieces n [] ≡ l
 pieces_in w a b c l n n_is is g k =
-    get_found w.pieces n l []
+    get_or_from_slice_get w.pieces n l []
     (k.pieces n l (g.pieces n l (ap (λ (z : Made). slice_get z.pieces n) is ∙ ap (slice_get (a.pieces ++ l ∷ [])) n_is
     ∙ get_last a.pieces l)))
 

@@ -100,13 +100,15 @@ module _ (a : Made) (k : ℕ) (waits : slice_get a.labels k ≡ Some None) where
     lists = g.lists;
     pieces = g.pieces;
     labels = λ j x e.
-        same_labels j (λ same. none_some (slice_get base.labels k) x unmade (ap (slice_get base.labels) (sym same) ∙ e))
+        same_labels j (λ same. none_some (slice_get base.labels k) x unmade (ap (slice_get base.labels) (sym same)
+        ∙ e))
         ∙ g.labels j x e;
   }
 
   leads_there : (w : Whole) → Completes w (with_placed a k) → w.leads k ≡ length a.lines
   leads_there w c =
-      c.labels k (length a.lines) (set_same a.labels k (Some (length a.lines)) (slice_get_within a.labels k None waits))
+      c.labels k (length a.lines) (set_same a.labels k (Some (length a.lines))
+      (slice_get_within a.labels k None waits))
 
   here : Placed a k (with_placed a k)
   here = record {

@@ -195,7 +195,8 @@ module _ (change : Change) (innermost : Option Loop) (ds : List ℕ) (x d y : �
       → OpAt w.f (length e.lines + 1) (Do None change.write (ds ++ length e.variables ∷ [])) change.at
   written w all =
       op_moved w.f (length f.lines) (length e.lines + 1) _ _ change.at (write.instr w all)
-      (sym (ap (λ (z : Point). z.instr) compute.point)) (ap (λ z. Do None change.write (ds ++ z ∷ [])) compute.variable)
+      (sym (ap (λ (z : Point). z.instr) compute.point)) (ap (λ z. Do None change.write
+      (ds ++ z ∷ [])) compute.variable)
 
   update_is_plain : PlainIsEmitted (tree.Update change) innermost a g
   update_is_plain = record {

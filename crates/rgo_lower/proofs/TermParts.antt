@@ -85,7 +85,8 @@ result_in (g ∷ functions) f zero s e = ap Some (ap (λ (z : Signature). z.resu
 result_in (g ∷ functions) f (suc n) s e = result_in functions f n s e
 
 -- the result of a function that the program declares
-pub result_is : (w : Whole) (n : ℕ) (s : Signature) (result : Option «Type») → slice_get w.declared.functions n ≡ Some s
+pub result_is : (w : Whole) (n : ℕ) (s : Signature) (result : Option «Type»)
+    → slice_get w.declared.functions n ≡ Some s
     → s.result_type ≡ result → result_of w.functions w.f n ≡ Some result
 result_is w n s result e is =
     result_in w.functions w.f n s (ap (λ z. slice_get z n) (sym w.signed) ∙ e) ∙ ap Some is
@@ -188,7 +189,8 @@ module _ (logic : Logical) (left right : Term) (place l d r end : ℕ) (a b c e 
 
   pub logic_emitted : TermIsEmitted (tree.Logic logic left right place) a d i
   logic_emitted = record {
-    grown = ends.grown a (grown_trans a e h to_e e_to_h) (unmade_before a c end (grown_trans a b c first.grown copy.grown) label.unmade);
+    grown = ends.grown a (grown_trans a e h to_e e_to_h) (unmade_before a c end
+        (grown_trans a b c first.grown copy.grown) label.unmade);
     slots = ends.slots ∙ store.slots ∙ second.slots ∙ slots_f;
     code = λ w s ty scope typed knows all.
         let at_h = ends.completes w all in

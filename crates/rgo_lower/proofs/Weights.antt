@@ -21,5 +21,6 @@ pub lighter : (l : List CodeStmt) (i : ℕ) (s : CodeStmt) → s ≡ get_or l i 
     → weight (stmt_of s) < weights (stmts_of (map stmt_of l))
 lighter [] i s p h = absurd (omega arith)
 lighter (a ∷ l) zero s p h =
-    subst (λ t. weight (stmt_of t) < suc (weight (stmt_of a) + weights (stmts_of (map stmt_of l)))) (sym p) (omega arith)
+    subst (λ t. weight (stmt_of t) < suc (weight (stmt_of a) + weights (stmts_of (map stmt_of l)))) (sym p)
+    (omega arith)
 lighter (a ∷ l) (suc i) s p h = let here = lighter l i s p (omega arith) in omega arith

@@ -82,7 +82,8 @@ resolved leads i = i
 
 -- whatever the function's labels, lists and pieces are
 abbrev pub Encodes : Instr → Op → Type 0
-Encodes i op = (leads : ℕ → ℕ) (lists : List (List ℕ)) (pieces : List (List Piece)) → op_of lists pieces (resolved leads i) ≡ op
+Encodes i op = (leads : ℕ → ℕ) (lists : List (List ℕ)) (pieces : List (List Piece)) → op_of lists pieces
+    (resolved leads i) ≡ op
 
 -- ---- growth
 
@@ -274,7 +275,8 @@ finished source b = record {
   params = source.params;
   result_type = source.result_type;
   variables = b.variables;
-  body = body_of b.lists b.pieces (map (λ l. resolved (leads_by b.labels) l.instr) b.lines) (map (λ l. l.place) b.lines);
+  body = body_of b.lists b.pieces (map (λ l. resolved (leads_by b.labels) l.instr) b.lines) (map
+      (λ l. l.place) b.lines);
 }
 
 -- it is the code of a well-formed function, in a program with these functions

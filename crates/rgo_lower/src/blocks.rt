@@ -76,7 +76,8 @@ pub fn lower_stmts(
     innermost: Option<Loop>,
     stmts: &Vec<Stmt>,
 ) -> Result<(), AllocError>
-    ensures { IfOk result (λ done. StmtsAreEmitted (stmts_of (map stmt_of stmts.now.items)) innermost (made_of b.old)
+    ensures { IfOk result (λ done. StmtsAreEmitted (stmts_of (map stmt_of stmts.now.items)) innermost
+        (made_of b.old)
         (made_of b.new)) }
 {
     for stmt in stmts {
@@ -114,7 +115,8 @@ fn lower_if_else(
     other: &Vec<Stmt>,
     place: Place,
 ) -> Result<(), AllocError>
-    ensures { IfOk result (λ done. StmtIsEmitted (tree.IfElse (term_of test.now) (stmts_of (map stmt_of body.now.items))
+    ensures { IfOk result (λ done. StmtIsEmitted (tree.IfElse (term_of test.now)
+        (stmts_of (map stmt_of body.now.items))
         (stmts_of (map stmt_of other.now.items)) place) innermost (made_of b.old) (made_of b.new)) }
 {
     let away = b.label()?;
@@ -138,7 +140,8 @@ fn lower_loop(
     place: Place,
 ) -> Result<(), AllocError>
     ensures { IfOk result (λ done. StmtIsEmitted (tree.Loop (boxed_term_of test.now)
-        (stmts_of (map stmt_of body.now.items)) (stmts_of (map stmt_of post.now.items)) place) innermost (made_of b.old)
+        (stmts_of (map stmt_of body.now.items)) (stmts_of (map stmt_of post.now.items)) place) innermost
+        (made_of b.old)
         (made_of b.new)) }
 {
     let start = b.label()?;

@@ -119,7 +119,8 @@ impl Builder {
         }
     }
 
-    /// Brings a local variable into scope, as this variable.
+    /// Brings a local variable into scope, as this variable. It fails if the function has no local variable of this
+    /// number, which never happens in a well-formed program.
     pub fn declare(&mut self, n: usize, variable: u32) -> Result<(), AllocError>
         ensures { IfOk result (λ done. (n < length self.old.slots.items)
             × (made_of self.new ≡ with_slot (made_of self.old) n variable)) }

@@ -36,7 +36,7 @@ pub fn copy_instr(ty: &Type, to: u32, from: u32) -> Instr
     }
 }
 
-/// An operator on two variables. `&&` and `||` are not actions.
+/// An operator on two variables. It fails for `&&` and `||`, which are terms of their own.
 fn binary_instr(to: u32, op: BinaryOp, a: u32, b: u32) -> Result<Instr, AllocError>
     ensures { IfOk result (λ i. Encodes i (computing to op a b)) }
 {
@@ -56,7 +56,8 @@ fn binary_instr(to: u32, op: BinaryOp, a: u32, b: u32) -> Result<Instr, AllocErr
     }
 }
 
-/// The instruction of an action that gives a value of this type.
+/// The instruction of an action that gives a value of this type. It fails where the action takes another number of
+/// operands, which never happens in a well-formed program.
 pub fn value_instr(to: u32, action: Action, from: &[u32], ty: &Type) -> Result<Instr, AllocError>
     ensures { IfOk result (λ i. Encodes i (acts action from.now to)) }
 {
@@ -81,7 +82,7 @@ pub fn value_instr(to: u32, action: Action, from: &[u32], ty: &Type) -> Result<I
     }
 }
 
-/// The instruction of an action that gives no value.
+/// The instruction of an action that gives no value. It fails as `value_instr` does.
 pub fn effect_instr(action: Action, from: &[u32]) -> Result<Instr, AllocError>
     ensures { IfOk result (λ i. Encodes i (Do None action from.now)) }
 {

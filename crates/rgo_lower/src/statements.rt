@@ -34,7 +34,8 @@ pub fn declare(
     value: &Term,
     place: Place,
 ) -> Result<(), AllocError>
-    ensures { IfOk result (λ done. IsEmitted (tree.Declare n ty.now (term_of value.now) place) (made_of b.old) (made_of b.new)) }
+    ensures { IfOk result (λ done. IsEmitted (tree.Declare n ty.now (term_of value.now) place)
+        (made_of b.old) (made_of b.new)) }
 {
     let d = lower_term(b, value)?;
     let variable = b.give(Action::Copy, &[d], ty, place)?;
@@ -51,7 +52,8 @@ pub fn declare_zero(b: &mut Builder, n: usize, ty: &Type, place: Place) -> Resul
 
 /// A local variable is given a value.
 pub fn assign(b: &mut Builder, n: usize, value: &Term, place: Place) -> Result<(), AllocError>
-    ensures { IfOk result (λ done. IsEmitted (tree.Assign n (term_of value.now) place) (made_of b.old) (made_of b.new)) }
+    ensures { IfOk result (λ done. IsEmitted (tree.Assign n (term_of value.now) place)
+        (made_of b.old) (made_of b.new)) }
 {
     let d = lower_term(b, value)?;
     let variable = b.variable_of(n);
@@ -65,7 +67,8 @@ pub fn perform(
     operands: &Vec<Term>,
     place: Place,
 ) -> Result<(), AllocError>
-    ensures { IfOk result (λ done. IsEmitted (tree.Perform action (terms_of (map term_of operands.now.items)) place) (made_of b.old) (made_of b.new)) }
+    ensures { IfOk result (λ done. IsEmitted (tree.Perform action (terms_of (map term_of operands.now.items)) place)
+        (made_of b.old) (made_of b.new)) }
 {
     let from = lower_terms(b, operands)?;
     b.act(action, &from, place)
@@ -108,7 +111,8 @@ pub fn invoke(
     arguments: &Vec<Term>,
     place: Place,
 ) -> Result<(), AllocError>
-    ensures { IfOk result (λ done. IsEmitted (tree.Invoke function (terms_of (map term_of arguments.now.items)) place) (made_of b.old) (made_of b.new)) }
+    ensures { IfOk result (λ done. IsEmitted (tree.Invoke function (terms_of (map term_of arguments.now.items)) place)
+        (made_of b.old) (made_of b.new)) }
 {
     let from = lower_terms(b, arguments)?;
     b.invoke(function, from, place)
@@ -121,7 +125,8 @@ pub fn start(
     arguments: &Vec<Term>,
     place: Place,
 ) -> Result<(), AllocError>
-    ensures { IfOk result (λ done. IsEmitted (tree.Go function (terms_of (map term_of arguments.now.items)) place) (made_of b.old) (made_of b.new)) }
+    ensures { IfOk result (λ done. IsEmitted (tree.Go function (terms_of (map term_of arguments.now.items)) place)
+        (made_of b.old) (made_of b.new)) }
 {
     let from = lower_terms(b, arguments)?;
     b.start(function, from, place)
@@ -134,13 +139,14 @@ pub fn print(
     values: &Vec<Term>,
     place: Place,
 ) -> Result<(), AllocError>
-    ensures { IfOk result (λ done. IsEmitted (tree.Print pieces.now (terms_of (map term_of values.now.items)) place) (made_of b.old) (made_of b.new)) }
+    ensures { IfOk result (λ done. IsEmitted (tree.Print pieces.now (terms_of (map term_of values.now.items)) place)
+        (made_of b.old) (made_of b.new)) }
 {
     let from = lower_terms(b, values)?;
     b.print(pieces, from, place)
 }
 
-/// A jump out of the innermost loop.
+/// A jump out of the innermost loop. It fails outside of loops, where no well-formed program has a `break`.
 pub fn break_out(b: &mut Builder, innermost: Option<Loop>, place: Place) -> Result<(), AllocError>
     ensures { IfOk result (λ done. StmtIsEmitted (tree.Break place) innermost (made_of b.old) (made_of b.new)) }
 {
@@ -150,7 +156,7 @@ pub fn break_out(b: &mut Builder, innermost: Option<Loop>, place: Place) -> Resu
     }
 }
 
-/// A jump to the post statement of the innermost loop.
+/// A jump to the post statement of the innermost loop. It fails as `break_out` does.
 pub fn continue_on(b: &mut Builder, innermost: Option<Loop>, place: Place) -> Result<(), AllocError>
     ensures { IfOk result (λ done. StmtIsEmitted (tree.Continue place) innermost (made_of b.old) (made_of b.new)) }
 {
@@ -166,7 +172,8 @@ pub fn return_with(
     value: &Option<Box<Term>>,
     place: Place,
 ) -> Result<(), AllocError>
-    ensures { IfOk result (λ done. IsEmitted (tree.Return (boxed_term_of value.now) place) (made_of b.old) (made_of b.new)) }
+    ensures { IfOk result (λ done. IsEmitted (tree.Return (boxed_term_of value.now) place)
+        (made_of b.old) (made_of b.new)) }
 {
     match value {
         None => b.leave(place),

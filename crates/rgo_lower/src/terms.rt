@@ -59,7 +59,8 @@ impl Builder {
         self.place(next)
     }
 
-    /// Stores the values in the fields of an object.
+    /// Stores the values in the fields of an object. It fails if there are not as many, which never happens in a
+    /// well-formed program.
     fn fill(
         &mut self,
         object: u32,

@@ -24,5 +24,5 @@ pub use functions::TacFn;
 pub use machine::{TacMachine, start};
 pub use ops::{Op, Operands};
 pub use programs::Tac;
-pub use regions::{Member, joins};
+pub use regions::{Class, Member, is_pointer_like, joins};
 pub use states::{TacState, tac_printed, tac_start, tac_step, tac_stuck};

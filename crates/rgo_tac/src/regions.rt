@@ -16,6 +16,17 @@ pub enum Member {
     Global,
 }
 
+/// The class of a member: those of one class are in one region.
+#[derive(Clone, Copy, Debug, PartialEq, Eq)]
+pub enum Class {
+    /// It is no pointer, slice or channel.
+    NoClass,
+    /// The class of the package variables, whose region is never given back.
+    Global,
+    /// The class of this number in its function.
+    Name(u32),
+}
+
 /// Two variables.
 fn pair(a: u32, b: u32) -> Option<(Member, Member)>
     ensures { result ≡ spec.joined a b }
@@ -50,8 +61,8 @@ fn op_joins(op: Op<'_>) -> Option<(Member, Member)>
     }
 }
 
-/// Whether a member is a pointer, a slice or a channel.
-fn is_pointer_like(function: &TacFn, member: Member) -> bool
+/// Whether a member is a pointer, a slice or a channel, or the package variables.
+pub fn is_pointer_like(function: &TacFn, member: Member) -> bool
     ensures { result ≡ spec.is_pointer_like_in function.now member }
 {
     match member {

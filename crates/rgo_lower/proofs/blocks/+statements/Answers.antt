@@ -118,7 +118,8 @@ lower_stmt-returns-in-Print t c =
     let x = c.in-Print in
     ok_map c.print.result _ _
     (λ h. subst (λ z. StmtIsEmitted (stmt_of z) c.args.innermost a e) (sym x.is)
-    (subst (λ z. IsEmitted (tree.Print z (terms_of (map term_of x.values.items)) x.place) a e) c.items.ensures h c.args.innermost))
+    (subst (λ z. IsEmitted (tree.Print z (terms_of
+    (map term_of x.values.items)) x.place) a e) c.items.ensures h c.args.innermost))
     c.print.ensures
 
 pub lower_stmt-returns-in-Return : goal.lower_stmt-returns-in-Return
@@ -175,7 +176,8 @@ lower_if-returns t c =
     let b4 = made_of c.place.new.self in
     let end = c.in_ok-end.end in
     ok_map c.place.result _ _
-    (if_emitted (term_of c.args.test.now) (stmts_of (map stmt_of c.args.body.now.items)) c.args.place end c.args.innermost
+    (if_emitted (term_of c.args.test.now) (stmts_of
+    (map stmt_of c.args.body.now.items)) c.args.place end c.args.innermost
     b0 b1 b2 b3 b4 (fresh b0 b1 end c.in_ok-end.ensures.0 c.in_ok-end.ensures.1) c.in_ok-lower_test.ensures
     c.in_ok-lower_stmts.ensures)
     c.place.ensures
@@ -218,7 +220,8 @@ lower_loop-returns t c =
     let l : Loop = record { break_to = c.in_ok-label.field-0; continue_to = c.in_ok-label-2.field-0 } in
     ok_map c.place-3.result _ _
     (loop_emitted (boxed_term_of c.args.test.now) (stmts_of (map stmt_of c.args.body.now.items))
-    (stmts_of (map stmt_of c.args.post.now.items)) c.args.place start l c.args.innermost b0 b1 b2 b3 b4 b5 b6 b7 b8 b9 b10
+    (stmts_of (map stmt_of c.args.post.now.items)) c.args.place start l c.args.innermost b0 b1 b2 b3 b4 b5 b6 b7
+    b8 b9 b10
     (fresh b0 b1 start c.in_ok-start.ensures.0 c.in_ok-start.ensures.1) c.in_ok-place.ensures
     (fresh b2 b3 l.break_to c.in_ok-label.ensures.0 c.in_ok-label.ensures.1)
     (fresh b3 b4 l.continue_to c.in_ok-label-2.ensures.0 c.in_ok-label-2.ensures.1) c.in_ok-lower_condition.ensures

@@ -1,7 +1,8 @@
-use Rattle.std.proofs.Common.{◌≡◌, ◌<◌, ◌≤◌, ◌++◌, [], ◌∷◌, length, get_or, map, refl, sym, ap, ◌∙◌, subst, append_assoc, append-nil}
+use Rattle.std.proofs.Common.{◌≡◌, ◌<◌, ◌≤◌, [], ◌∷◌, length, get_or, map, refl, sym, ◌∙◌, subst, append-nil}
 use Rattle.rgo_typed.specs.Views.{function_of, typed_of}
 use Rattle.rgo_wellformed.specs.WellFormed.{declared_by}
 use Rattle.rgo_lower.specs.Lowered.{AreLowered}
+use Rattle.rgo_lower.proofs.Growing.{one_more_before}
 use Rattle.rgo_lower.proofs.Finished.{well_function, next_lowered, end_lowered, program_is}
 use Rattle.rgo_lower.proofs.programs.lower.Goals as goal
 
@@ -13,7 +14,8 @@ lower_function-requires c =
     let same : c.deref-function-items.result.now ≡ xs = c.deref-function-items.ensures.value in
     let well =
     well_function (typed_of c.args.program.now) xs i x c.requires refl
-    (subst (λ z. i < length z) same c.loop-function-test.true) (subst (λ z. x ≡ get_or z i x) same c.function-item.is) in
+    (subst (λ z. i < length z) same c.loop-function-test.true) (subst
+    (λ z. x ≡ get_or z i x) same c.function-item.is) in
     well.params
 
 pub loop-function-preserved : goal.loop-function-preserved
@@ -31,8 +33,7 @@ loop-function-preserved c =
     c.in_ok-lower_function.ensures (declared_by program) program.functions refl
     (well_function program xs i x c.requires refl lt is) in
     subst (λ z. AreLowered (map function_of xs) (map function_of xs) z)
-    (sym (append_assoc c.loop-function.functions.items (f ∷ []) rest)
-    ∙ ap (λ z. z ++ rest) (sym c.in_ok-push.ensures.items))
+    (one_more_before c.loop-function.functions.items c.push.new.self.items rest f c.in_ok-push.ensures.items)
     (c.loop-function.invariant (f ∷ rest) (next_lowered (map function_of xs) xs i x f rest lt is lowered h))
 
 pub returns : goal.returns

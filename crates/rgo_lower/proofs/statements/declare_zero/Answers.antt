@@ -15,4 +15,5 @@ returns c =
     let value : ValueIsAdded a (acts (zero_action ty) []) ty c.args.place x b =
     subst (λ z. ValueIsAdded a (acts z []) ty c.args.place x b) c.zero_action.ensures c.in_ok-variable.ensures in
     ok_map c.declare.result _ _
-    (λ is l. zero_emitted c.args.n ty c.args.place x l a b e value (declared c.args.n x b e is.0 is.1)) c.declare.ensures
+    (λ is l. zero_emitted c.args.n ty c.args.place x l a b e value
+    (declared c.args.n x b e is.0 is.1)) c.declare.ensures

@@ -12,5 +12,6 @@ returns c =
     let b = made_of c.lower_terms.new.b in
     let e = made_of c.invoke.new.self in
     ok_map c.invoke.result _ _
-    (λ h l. invoke_emitted c.args.function (terms_of (map term_of c.args.arguments.now.items)) c.args.place c.in_ok-from.from.items l a b e
+    (λ h l. invoke_emitted c.args.function (terms_of
+    (map term_of c.args.arguments.now.items)) c.args.place c.in_ok-from.from.items l a b e
     c.in_ok-from.ensures h) c.invoke.ensures

@@ -12,5 +12,6 @@ returns c =
     let b = made_of c.lower_terms.new.b in
     let e = made_of c.print.new.self in
     ok_map c.print.result _ _
-    (λ h l. print_emitted c.args.pieces.now (terms_of (map term_of c.args.values.now.items)) c.args.place c.in_ok-from.from.items l a b e
+    (λ h l. print_emitted c.args.pieces.now (terms_of
+    (map term_of c.args.values.now.items)) c.args.place c.in_ok-from.from.items l a b e
     c.in_ok-from.ensures h) c.print.ensures

@@ -1,4 +1,4 @@
-use Rattle.std.proofs.Common.{◌≡◌, ◌+◌, ◌<◌, ◌≤◌, Some, append_assoc, append-nil, ◌++◌, [], ◌∷◌, length, map, get_or, subst, sym, ap, ◌∙◌}
+use Rattle.std.proofs.Common.{◌≡◌, ◌+◌, ◌<◌, ◌≤◌, Some, append-nil, [], ◌∷◌, length, map, get_or, subst, sym, ap, ◌∙◌}
 use Rattle.std.proofs.lemmas.Result.{IfOk-weaker}
 use Rattle.rgo_typed.specs.declared.actions.Action.TheVariants.{Copy, New}
 use Rattle.rgo_tac.specs.Code.{Do}
@@ -6,6 +6,7 @@ use Rattle.rgo_typed.specs.Tree.{terms_of}
 use Rattle.rgo_typed.specs.Views.{term_of}
 use Rattle.rgo_lower.specs.Lowered.{bool, pointer_to}
 use Rattle.rgo_lower.specs.Emitted.{made_of, always, OpIsAdded, ValueIsAdded, FieldsAreStored, TermIsEmitted, TermsAreEmitted, acts, decides}
+use Rattle.rgo_lower.proofs.Growing.{one_more_before}
 use Rattle.rgo_lower.proofs.TermParts.{apply_emitted, call_emitted, build_emitted, logic_emitted, next_emitted, end_emitted, logic_end}
 use Rattle.rgo_lower.proofs.Labels.{fresh, placed}
 use Rattle.rgo_lower.proofs.Views.{apply_is, logic_is, build_is, call_is}
@@ -64,10 +65,12 @@ lower_term-returns-in_ok-place-in-Logic t c =
     c.in_ok-r-in-Logic.ensures in
     let store : OpIsAdded b5 (always (Do (Some d) Copy (c.in_ok-r-in-Logic.r ∷ []))) x.place b6 =
     c.in_ok-copy_to-in-Logic.ensures in
-    let ends = placed b6 b7 end (logic_end x.logic (term_of x.right.value) x.place d c.in_ok-r-in-Logic.r end b2 b3 b4 b5 b6
+    let ends = placed b6 b7 end (logic_end x.logic
+    (term_of x.right.value) x.place d c.in_ok-r-in-Logic.r end b2 b3 b4 b5 b6
     label branch second store) c.in_ok-place-in-Logic.ensures in
     subst (λ z. TermIsEmitted z b0 d b7) (sym (ap term_of x.is ∙ logic_is x.logic x.left x.right x.place))
-    (logic_emitted x.logic (term_of x.left.value) (term_of x.right.value) x.place l d c.in_ok-r-in-Logic.r end b0 b1 b2 b3 b4
+    (logic_emitted x.logic (term_of x.left.value)
+    (term_of x.right.value) x.place l d c.in_ok-r-in-Logic.r end b0 b1 b2 b3 b4
     b5 b6 b7 first copy label branch second store ends)
 
 pub lower_term-returns-in_ok-fill-in-Build : goal.lower_term-returns-in_ok-fill-in-Build
@@ -86,7 +89,8 @@ lower_term-returns-in_ok-fill-in-Build t c =
     let values : c.deref-in-Build.result.now ≡ from.items = c.deref-in-Build.ensures.value in
     let stored : FieldsAreStored d x.fields from.items x.place b2 b3 =
     subst (λ z. FieldsAreStored d x.fields z x.place b2 b3) values
-    (subst (λ z. FieldsAreStored d z c.deref-in-Build.result.now x.place b2 b3) fields c.in_ok-fill-in-Build.ensures) in
+    (subst (λ z. FieldsAreStored d z c.deref-in-Build.result.now x.place b2 b3) fields
+    c.in_ok-fill-in-Build.ensures) in
     subst (λ z. TermIsEmitted z b0 d b3) (sym (ap term_of x.is ∙ build_is x.number x.parts x.fields x.place))
     (build_emitted x.number (terms_of (map term_of x.parts.items)) x.fields x.place d from.items b0 b1 b2 b3
     c.in_ok-from-in-Build.ensures new stored)
@@ -104,7 +108,7 @@ lower_terms-loop-term-preserved t c =
     (subst (λ z. i < length z) same c.loop-term-test.true) (subst (λ z. x ≡ get_or z i x) same c.term-item.is)
     c.in_ok-lower_term.ensures rest in
     subst (λ z. TermsAreEmitted (terms_of (map term_of xs)) (made_of c.args.b.now) z new)
-    (sym (append_assoc c.loop-term.from.items (d ∷ []) ds) ∙ ap (λ z. z ++ ds) (sym c.in_ok-push.ensures.items))
+    (one_more_before c.loop-term.from.items c.push.new.self.items ds d c.in_ok-push.ensures.items)
     (c.loop-term.invariant new (d ∷ ds) more)
 
 pub lower_terms-returns : goal.lower_terms-returns

@@ -9,4 +9,5 @@ returns c =
     let a = made_of c.args.self.now in
     let b = made_of c.line.new.self in
     ok_map c.line.result _ _
-    (λ is. op_added a b (instr.Branch c.args.test c.args.inside c.args.other) (branch_to c.args.test c.args.inside c.args.other) c.args.place is (λ w k. refl)) c.line.ensures
+    (λ is. op_added a b (instr.Branch c.args.test c.args.inside c.args.other)
+    (branch_to c.args.test c.args.inside c.args.other) c.args.place is (λ w k. refl)) c.line.ensures

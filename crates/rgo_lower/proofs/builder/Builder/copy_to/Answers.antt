@@ -20,5 +20,6 @@ returns c =
     ] in
     ok_map c.line.result _ _
     (λ is. subst (λ z. OpIsAdded z (always copies) c.args.place b) same
-    (op_added (made_of c.match-get.self) b i (always copies) c.args.place is (λ w k. encodes w.leads w.lists w.pieces)))
+    (op_added (made_of c.match-get.self) b i (always copies) c.args.place is
+    (λ w k. encodes w.leads w.lists w.pieces)))
     c.line.ensures

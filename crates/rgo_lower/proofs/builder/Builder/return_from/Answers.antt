@@ -10,4 +10,5 @@ returns c =
     let a = made_of c.args.self.now in
     let b = made_of c.line.new.self in
     ok_map c.line.result _ _
-    (λ is. op_added a b (instr.Return c.args.value) (always (op.Return (Some c.args.value))) c.args.place is (λ w k. refl)) c.line.ensures
+    (λ is. op_added a b (instr.Return c.args.value) (always (op.Return (Some c.args.value))) c.args.place is
+    (λ w k. refl)) c.line.ensures
