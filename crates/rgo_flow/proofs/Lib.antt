@@ -1,0 +1,10 @@
+pub mod Choices
+pub mod Exits
+pub mod Final
+pub mod Heads
+pub mod Instructions
+pub mod Paths
+pub mod RowPaths
+pub mod Runs
+pub mod Targets
+pub mod Variables

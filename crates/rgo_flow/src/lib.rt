@@ -1,0 +1,13 @@
+//! Liveness of the variables of three-address code.
+#![tactic(auto)]
+
+mod blocks;
+mod graphs;
+mod liveness;
+mod queries;
+mod solving;
+mod table;
+mod uses;
+
+pub use liveness::live;
+pub use table::Liveness;

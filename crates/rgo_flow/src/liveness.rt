@@ -1,0 +1,56 @@
+//! The liveness of the variables of a function.
+
+ghost use Rattle.std.specs.Prelude.{◌↔◌, ℕ, IfOk};
+ghost use Rattle.rgo_flow.specs.Graphs.{IsGraph, IsLiveIn};
+ghost use Rattle.rgo_flow.specs.Live.{Live};
+ghost use Rattle.rgo_flow.specs.Table.{IsLive};
+
+use crate::blocks::cut;
+use crate::graphs::{Graph, graph_of};
+use crate::solving::solve_all;
+use crate::table::Liveness;
+use rgo_graphs::transposed;
+use rgo_tac::TacFn;
+use std::alloc::{AllocError, Global};
+
+/// The liveness that the rows of a function imply.
+fn live_in(alloc: Global, graph: &Graph) -> Result<Liveness, AllocError>
+    requires graph { IsGraph graph.now }
+    ensures { IfOk result (λ live. (v i : ℕ) → IsLive live v i ↔ IsLiveIn graph.now v i) }
+{
+    let n = graph.successors.len() as u32;
+    let parts = cut(alloc, &graph.successors)?;
+    let before = transposed(alloc, &parts.exits, n)?;
+    let readers = transposed(alloc, &graph.reads, graph.variables)?;
+    let writers = transposed(alloc, &graph.writes, graph.variables)?;
+    let mut marks = vec![in alloc; 0; parts.first.len()]?;
+    let solved = solve_all(
+        alloc,
+        &before,
+        &parts.first,
+        &parts.last,
+        &readers,
+        &writers,
+        &mut marks,
+    )?;
+    Ok(Liveness {
+        first: parts.first,
+        last: parts.last,
+        exits: parts.exits,
+        readers,
+        writers,
+        solved,
+    })
+}
+
+/// The liveness of each variable of a function at each of its instructions.
+///
+/// # Errors
+///
+/// On allocation failure, and for a function with 2³² - 1 instructions or more, or with a variable of such a number.
+pub fn live(alloc: Global, function: &TacFn) -> Result<Liveness, AllocError>
+    ensures { IfOk result (λ live. (v at : ℕ) → IsLive live v at ↔ Live function.now v at) }
+{
+    let graph = graph_of(alloc, function)?;
+    live_in(alloc, &graph)
+}
