@@ -1,0 +1,13 @@
+pub mod Chains
+pub mod Moving
+pub mod Rows
+pub mod Joining
+pub mod Labelled
+pub mod Listing
+pub mod Arguments
+pub mod Standing
+pub mod Own
+pub mod Bodies
+pub mod Gets
+pub mod Giving
+pub mod Named

@@ -1,0 +1,41 @@
+-- What the instructions of a function join, where the functions that it calls have these summaries.
+use Rattle.std.specs.Prelude.{◌≡◌, ◌≢◌, ◌⊎◌, ℕ, true, List, Option, Some, None, slice_get}
+use Rattle.rgo_tac.specs.declared.regions.Class.{Class}
+use Rattle.rgo_tac.specs.declared.regions.Class.TheVariants as class
+use Rattle.rgo_tac.specs.declared.regions.Member.{Member}
+use Rattle.rgo_tac.specs.declared.regions.Member.TheVariants.{Variable, Result, Global}
+use Rattle.rgo_tac.specs.Code.{Op, Call, Go, Instr, TacFn}
+use Rattle.rgo_tac.specs.Joins.{is_pointer_like_in, op_joins}
+use Rattle.rgo_classes.specs.declared.classes.Summary.{Summary}
+
+-- In a call, a member of the caller stands for those parameters and that result of the callee which have a class: a
+-- variable for the parameters that it is passed for, and for the result that goes to it; the package variables for
+-- themselves.
+abbrev pub StandsFor : Summary → (to : Option ℕ) → (from : List ℕ) → Class → Member → Type 0
+StandsFor s to from c (Variable v) =
+    ((i : ℕ) × (slice_get s.params i ≡ Some c) × (slice_get from i ≡ Some v)) ⊎ ((s.result ≡ c) × (to ≡ Some v))
+StandsFor s to from c Result = ⊥
+StandsFor s to from c Global = c ≡ class.Global
+
+-- two that stand for one class
+abbrev pub CallJoins : Option Summary → (to : Option ℕ) → (from : List ℕ) → Member → Member → Type 0
+CallJoins None to from a b = ⊥
+CallJoins (Some s) to from a b =
+    (c : Class) × (c ≢ class.NoClass) × StandsFor s to from c a × StandsFor s to from c b
+
+abbrev pub OpJoins : List Summary → Op → Member → Member → Type 0
+OpJoins summaries (Call to n from) a b = CallJoins (slice_get summaries n) to from a b
+OpJoins summaries (Go n from) a b = CallJoins (slice_get summaries n) None from a b
+OpJoins summaries op a b = op_joins op ≡ Some (a, b)
+
+abbrev pub IsPointerLike : TacFn → Member → Type 0
+IsPointerLike f m = is_pointer_like_in f m ≡ true
+
+-- some instruction of the function joins the two, which are pointer-like
+pub record Joins (summaries : List Summary) (f : TacFn) (a b : Member) : Type 0 where
+  pub at : ℕ
+  pub instr : Instr
+  pub here : slice_get f.body at ≡ Some instr
+  pub joined : OpJoins summaries instr.op a b
+  pub first : IsPointerLike f a
+  pub second : IsPointerLike f b

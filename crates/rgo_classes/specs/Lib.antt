@@ -1,0 +1,9 @@
+pub mod Classes
+pub mod Holding
+pub mod Joins
+pub mod Labels
+pub mod Laws
+pub mod Made
+pub mod Moves
+pub mod Naming
+pub mod Same

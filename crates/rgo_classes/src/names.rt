@@ -1,0 +1,156 @@
+//! Names of classes, in the order of their first members.
+
+ghost use Rattle.std.specs.Prelude.{◌≡◌, ◌⊎◌, ◌<◌, ◌≤◌, ◌+◌, ◌^◌, ◌++◌, ◌∷◌, [], List, length, vec_len, set, replicate, IfOk, OnOk};
+ghost use Rattle.rgo_tac.specs.declared.regions.Class.{Class as AnyClass};
+ghost use Rattle.rgo_tac.specs.declared.regions.Class.TheVariants as class;
+ghost use Rattle.rgo_tac.specs.declared.regions.Member.{Member as AnyMember};
+ghost use Rattle.rgo_tac.specs.declared.regions.Member.TheVariants as member;
+ghost use Rattle.rgo_classes.specs.Classes.{AreNamed, variables_before};
+ghost use Rattle.rgo_classes.specs.Labels.{AreFor, label_of};
+ghost use Rattle.rgo_classes.specs.Naming.{AreLike, Gives, Knows, Naming};
+
+use crate::classes::Classes;
+use crate::labels::Labels;
+use rgo_tac::{Class, Member, TacFn, is_pointer_like};
+use rgo_typed::Row;
+use std::alloc::{AllocError, Global};
+
+/// The class of a label, which is given the next name if it has none.
+fn class_of(given: &mut [Class], next: &mut u32, label: u32) -> Class
+    requires label { label < length given.old }
+    requires next { next.old + 1 < 2 ^ 32 }
+    ensures len { length given.new ≡ length given.old }
+    ensures next { next.new ≤ next.old + 1 }
+    ensures class { Knows given.old next.old label given.new next.new result
+        ⊎ Gives given.old next.old label given.new next.new result }
+{
+    match given[label as usize] {
+        Class::NoClass => {
+            let class = Class::Name(*next);
+            given[label as usize] = class;
+            *next += 1;
+            class
+        }
+        class => class,
+    }
+}
+
+/// The class of a member.
+fn name_member(
+    function: &TacFn,
+    labels: &Labels,
+    given: &mut [Class],
+    next: &mut u32,
+    member: Member,
+) -> Class
+    requires fits { AreFor function.now labels.now }
+    requires size { length given.old ≡ length labels.now }
+    requires next { next.old + 1 < 2 ^ 32 }
+    ensures len { length given.new ≡ length given.old }
+    ensures next { next.new ≤ next.old + 1 }
+    ensures class { (members : List AnyMember) (classes : List AnyClass)
+        → Naming labels.now function.now members classes given.old next.old
+        → Naming labels.now function.now (members ++ member ∷ []) (classes ++ result ∷ []) given.new next.new }
+{
+    if !is_pointer_like(function, member) {
+        return Class::NoClass;
+    }
+    class_of(given, next, labels.label(member))
+}
+
+/// The classes of the first variables.
+fn name_variables(
+    alloc: Global,
+    function: &TacFn,
+    labels: &Labels,
+    given: &mut [Class],
+    next: &mut u32,
+    count: u32,
+) -> Result<Vec<Class>, AllocError>
+    requires fits { AreFor function.now labels.now }
+    requires size { length given.old ≡ length labels.now }
+    requires next { next.old ≡ 0 }
+    requires count { count + 1 < 2 ^ 32 }
+    requires none { Naming labels.now function.now [] [] given.old next.old }
+    ensures len { length given.new ≡ length given.old }
+    ensures next { next.new ≤ count }
+    ensures classes { IfOk result (λ classes.
+        Naming labels.now function.now (variables_before count []) classes.items given.new next.new) }
+{
+    let mut classes = Vec::new(alloc);
+    for v in 0..count {
+        classes.push(name_member(function, labels, given, next, Member::Variable(v)))?;
+    }
+    Ok(classes)
+}
+
+/// The classes that labels have before any name is given: that of the package variables alone has one.
+fn only_global(alloc: Global, labels: &Labels) -> Result<Vec<Class>, AllocError>
+    requires { 0 < length labels.now }
+    ensures given { IfOk result (λ given. given.items
+        ≡ set (replicate (length labels.now) class.NoClass) (label_of labels.now member.Global) class.Global) }
+    ensures below { OnOk result (label_of labels.now member.Global < length labels.now) }
+{
+    let mut given = vec![in alloc; Class::NoClass; labels.len()]?;
+    given[labels.label(Member::Global) as usize] = Class::Global;
+    Ok(given)
+}
+
+/// The classes of the first variables and of the result.
+fn name_outer(
+    alloc: Global,
+    function: &TacFn,
+    labels: &Labels,
+    given: &mut [Class],
+    count: u32,
+) -> Result<Classes, AllocError>
+    requires fits { AreFor function.now labels.now }
+    requires size { length given.old ≡ length labels.now }
+    requires count { count + 1 < 2 ^ 32 }
+    requires none { Naming labels.now function.now [] [] given.old 0 }
+    ensures { IfOk result (λ c. AreNamed (AreLike labels.now) function.now
+        (variables_before count (member.Result ∷ [])) (c.variables ++ c.result ∷ [])) }
+{
+    let mut next = 0;
+    let variables = name_variables(alloc, function, labels, given, &mut next, count)?;
+    let result = name_member(function, labels, given, &mut next, Member::Result);
+    Ok(Classes {
+        variables: Row::new(variables),
+        result,
+    })
+}
+
+/// The number, if it is not the greatest of 32 bits.
+fn narrow(n: usize) -> Result<u32, AllocError>
+    ensures { IfOk result (λ m. (m ≡ n) × (m + 1 < 2 ^ 32)) }
+{
+    if n >= 4294967295 {
+        return Err(AllocError);
+    }
+    Ok(n as u32)
+}
+
+/// The classes of the first `count` variables and of the result: one for each label.
+///
+/// # Errors
+///
+/// On allocation failure, and if the variables are too many to have numbers of 32 bits.
+pub fn name(
+    alloc: Global,
+    function: &TacFn,
+    labels: &Labels,
+    count: usize,
+) -> Result<Classes, AllocError>
+    requires fits { AreFor function.now labels.now }
+    ensures { IfOk result (λ c. AreNamed (AreLike labels.now) function.now
+        (variables_before count (member.Result ∷ [])) (c.variables ++ c.result ∷ [])) }
+{
+    let mut given = only_global(alloc, labels)?;
+    name_outer(
+        alloc,
+        function,
+        labels,
+        given.as_mut_slice(),
+        narrow(count)?,
+    )
+}
