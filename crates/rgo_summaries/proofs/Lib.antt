@@ -1,0 +1,17 @@
+pub mod Adding
+pub mod Carried
+pub mod Chains
+pub mod Growing
+pub mod Hearing
+pub mod Joining
+pub mod Kinding
+pub mod Least
+pub mod Listing
+pub mod Naming
+pub mod Outer
+pub mod Passing
+pub mod Progressing
+pub mod Standing
+pub mod Steps
+pub mod Taking
+pub mod Whole

@@ -1,0 +1,10 @@
+pub mod Beginning
+pub mod Calls
+pub mod Families
+pub mod Joining
+pub mod Kinds
+pub mod Names
+pub mod Nodes
+pub mod Progress
+pub mod Spreading
+pub mod Views

@@ -1,0 +1,56 @@
+//! The state of the analysis: the nodes of all functions, and a log of the joins that must be carried to callers.
+
+ghost use Rattle.std.specs.Prelude.{◌<◌, OnOk};
+ghost use Rattle.rgo_summaries.specs.Progress.{Adds, IsProgress, Two, size_in};
+
+use crate::nodes::{Nodes, join};
+use std::alloc::{AllocError, Global};
+
+/// Two nodes of a function that callers see were joined.
+#[derive(Clone, Copy)]
+pub(crate) struct Event {
+    pub function: u32,
+    pub one: u32,
+    pub other: u32,
+}
+
+/// A call of a function: the caller, and the number from which on the caller has nodes for the members of the callee
+/// that callers see.
+#[derive(Clone, Copy)]
+pub(crate) struct Site {
+    pub caller: u32,
+    pub base: u32,
+}
+
+#[derive(Drop)]
+pub(crate) struct Progress {
+    pub nodes: Vec<Nodes>,
+    pub log: Vec<Event>,
+}
+
+/// Joins two nodes of a function, and logs the join if callers see it.
+pub(crate) fn join_in(
+    alloc: Global,
+    progress: &mut Progress,
+    function: u32,
+    one: usize,
+    other: usize,
+) -> Result<(), AllocError>
+    requires is { IsProgress progress.old }
+    requires one { one < size_in progress.old.nodes.items function }
+    requires other { other < size_in progress.old.nodes.items function }
+    ensures is { OnOk result (IsProgress progress.new) }
+    ensures adds { OnOk result (Adds progress.old progress.new (Two function one other)) }
+{
+    match join(alloc, &mut progress.nodes[function as usize], one, other)? {
+        Some((one, other)) => {
+            progress.log.push(Event {
+                function,
+                one,
+                other,
+            })?;
+            Ok(())
+        }
+        None => Ok(()),
+    }
+}
