@@ -35,7 +35,7 @@ pub(crate) static WITH_PLACES: [(&str, &str); 2] = [
 ];
 
 /// Texts and their code, without places; an empty line follows each function.
-pub(crate) static LINES: [(&str, &str); 6] = [
+pub(crate) static LINES: [(&str, &str); 9] = [
     (
         "func main() { x := true; y := false; z := x && y || !x; fmt.Println(z) }\n",
         "\
@@ -202,6 +202,113 @@ jump 19
 isnil v12 v2
 branch v12 18 19
 return
+return
+
+",
+    ),
+    // the three programs of docs/REGIONS.md
+    (
+        "\
+func push(l *N, v int) *N { return &N{v, l} }
+func next(a *N) *N { return &N{a.v + 1, nil} }
+func main() { l := push(nil, 1); l = push(l, 2); k := next(l); fmt.Println(l.v, k.v) }
+",
+        "\
+new v2 0
+store v2 0 v1
+store v2 1 v0
+return v2
+jump 4
+
+load v1 v0 0
+int v2 1
+bin v3 add v1 v2
+nil v4
+new v5 0
+store v5 0 v3
+store v5 1 v4
+return v5
+jump 8
+
+nil v0
+int v1 1
+call v2 0 v0 v1
+copy v3 v2
+int v4 2
+call v5 0 v3 v4
+copy v3 v5
+call v6 1 v3
+copy v7 v6
+load v8 v3 0
+load v9 v7 0
+print v8 v9
+return
+
+",
+    ),
+    (
+        "\
+func a(x, y *N, n int) { if n > 0 { b(x, y, n - 1) } }
+func b(x, y *N, n int) { if n > 0 { a(y, x, n - 1) }; x.p = y }
+func main() { }
+",
+        "\
+int v3 0
+bin v4 gt v2 v3
+branch v4 3 6
+int v5 1
+bin v6 sub v2 v5
+call 1 v0 v1 v6
+return
+
+int v3 0
+bin v4 gt v2 v3
+branch v4 3 6
+int v5 1
+bin v6 sub v2 v5
+call 0 v1 v0 v6
+store v0 1 v1
+return
+
+return
+
+",
+    ),
+    (
+        "\
+var last *N
+func keep(a *N) { last = a }
+func send(c chan *N, n int) { c <- &N{n, nil} }
+func main() { c := make(chan *N); go send(c, 7); x := <-c; y := &N{0, nil}; keep(y); fmt.Println(x.v, y.v) }
+",
+        "\
+set 0 v0
+return
+
+nil v2
+new v3 0
+store v3 0 v1
+store v3 1 v2
+send v0 v3
+return
+
+int v0 0
+chan v1 v0
+copy v2 v1
+int v3 7
+go 1 v2 v3
+recv v4 v2
+copy v5 v4
+int v6 0
+nil v7
+new v8 0
+store v8 0 v6
+store v8 1 v7
+copy v9 v8
+call 0 v9
+load v10 v5 0
+load v11 v9 0
+print v10 v11
 return
 
 ",
