@@ -1,0 +1,49 @@
+// Slices and calls: sorts pseudo-random numbers.
+package main
+
+import "fmt"
+
+func size() int { return 200 } // 200 30000 200000
+
+func sort(s []int, low, high int) {
+	if low >= high {
+		return
+	}
+	pivot := s[(low+high)/2]
+	i := low
+	k := high
+	for i <= k {
+		for s[i] < pivot {
+			i++
+		}
+		for s[k] > pivot {
+			k--
+		}
+		if i <= k {
+			kept := s[i]
+			s[i] = s[k]
+			s[k] = kept
+			i++
+			k--
+		}
+	}
+	sort(s, low, k)
+	sort(s, i, high)
+}
+
+func main() {
+	n := size()
+	s := make([]int, n)
+	x := 1
+	for i := 0; i < n; i++ {
+		x = (x*1103515245 + 12345) % 2147483648
+		s[i] = x
+	}
+	sort(s, 0, n-1)
+	for i := 1; i < n; i++ {
+		if s[i-1] > s[i] {
+			fmt.Println("not sorted at", i)
+		}
+	}
+	fmt.Println(s[0], s[n/2], s[n-1])
+}

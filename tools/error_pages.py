@@ -1,0 +1,169 @@
+"""The pages of docs/errors, one for each message of rgo, and how a message is explained by its page.
+
+All pages have the same form, and `read_page` accepts no other:
+
+    # TITLE                   the message without `rgo:` and without its place
+    a paragraph               what the message means
+    ## Example                a text that has the message, unless none has
+    ## Message                "`COMMAND` reports, and exits with N:", and the message; there may be several commands
+    ## Why                    why rgo reports it, and what Go does
+    ## Corrected example      the nearest text that exits with 0, and after "It prints:" what it prints
+
+A text is a block of `go`, or a block of `sh` with commands that write it. In the last section a command in
+backquotes replaces the commands of the message.
+"""
+
+import collections
+import os
+import pathlib
+import re
+import subprocess
+import textwrap
+import unicodedata
+
+TOP = pathlib.Path(__file__).resolve().parent.parent
+PAGES = TOP / "docs" / "errors"
+SECTIONS = ["Example", "Message", "Why", "Corrected example"]
+# The columns of what is printed.
+WIDTH = 80
+
+Page = collections.namedtuple(
+    "Page", "path title meaning example commands status message why corrected corrected_commands printed"
+)
+BLOCK = re.compile(r"^```(\w*)\n(.*?\n)```$", re.MULTILINE | re.DOTALL)
+COMMAND = re.compile(r"`(rgo(?: [^`]*)?)`")
+REPORTS = re.compile(r"^((?:`rgo[^`]*`(?:, | and )?)+) reports?, and exits? with (\d+):$", re.MULTILINE)
+LINE = re.compile(r"rgo: (?:(\d+):(\d+): )?(.*)", re.DOTALL)
+
+
+class BadPage(Exception):
+    """A page does not have the form of all pages."""
+
+
+def text_of(blocks):
+    """The text that a section gives, in bytes, or None."""
+    for language, source in blocks:
+        if language == "go":
+            return source.encode()
+        if language == "sh":
+            return subprocess.run(["sh", "-c", source], capture_output=True, check=True).stdout
+    return None
+
+
+def plain_blocks(blocks):
+    return [source for language, source in blocks if not language]
+
+
+def sections_of(path):
+    """The title and the meaning of a page, and its sections by their headings."""
+    head, *rest = re.split(r"^## ", path.read_text(encoding="utf-8"), flags=re.MULTILINE)
+    found = re.fullmatch(r"# (.+)\n\n(\S[^#]*?)\n\n", head)
+    if not found or "\n\n" in found[2]:
+        raise BadPage(f"{path.name}: it does not begin with a title and one paragraph")
+    sections = dict(section.split("\n", 1) for section in rest)
+    if [section.split("\n", 1)[0] for section in rest] != SECTIONS:
+        raise BadPage(f"{path.name}: its sections are not {', '.join(SECTIONS)}")
+    return found[1], " ".join(found[2].split()), sections
+
+
+def read_page(path):
+    title, meaning, sections = sections_of(path)
+    blocks = {name: BLOCK.findall(section) for name, section in sections.items()}
+    reports = REPORTS.search(sections["Message"])
+    if not reports or len(plain_blocks(blocks["Message"])) != 1:
+        raise BadPage(f"{path.name}: no command, status and message")
+    if text_of(blocks["Corrected example"]) is None:
+        raise BadPage(f"{path.name}: no corrected text")
+    commands = COMMAND.findall(reports[1])
+    words = BLOCK.sub("", sections["Corrected example"])
+    printed = plain_blocks(blocks["Corrected example"])
+    if len(printed) > 1 or bool(printed) != ("It prints:" in words):
+        raise BadPage(f"{path.name}: it is not clear what the corrected text prints")
+    return Page(
+        path,
+        title,
+        meaning,
+        text_of(blocks["Example"]),
+        commands,
+        int(reports[2]),
+        plain_blocks(blocks["Message"])[0],
+        " ".join(sections["Why"].split()),
+        text_of(blocks["Corrected example"]),
+        COMMAND.findall(words) or commands,
+        "".join(printed),
+    )
+
+
+def page_paths():
+    """The files of the pages, without the index."""
+    return sorted(path for path in PAGES.glob("*.md") if path.name != "README.md")
+
+
+def titles():
+    """The files of the pages by their titles."""
+    return {path.read_text(encoding="utf-8").split("\n", 1)[0][2:]: path for path in page_paths()}
+
+
+def shown(text):
+    """Characters as they are shown: none that a terminal would take for a command."""
+    return "".join("    " if c == "\t" else c if c.isprintable() else "\N{REPLACEMENT CHARACTER}" for c in text)
+
+
+def columns(text):
+    """How many columns of a terminal these characters take."""
+    return sum(0 if unicodedata.combining(c) else 2 if unicodedata.east_asian_width(c) in "WF" else 1 for c in text)
+
+
+def marked_line(text, line, column):
+    """The line of a text with a caret at a column, which counts bytes from 1, or None if there is no such place."""
+    lines = text.split(b"\n")
+    if not 1 <= line <= len(lines) or not 1 <= column <= len(lines[line - 1]) + 1:
+        return None
+    whole = lines[line - 1]
+    before = shown(whole[: column - 1].decode("utf-8", "replace"))
+    after = shown(whole[column - 1 :].rstrip(b"\r").decode("utf-8", "replace"))
+    if line == len(lines) and not after:
+        after = "(end of the text)"
+    # Of a long line only what is around the place is shown.
+    if columns(before) > WIDTH // 2:
+        before = "..." + before[3 - WIDTH // 2 :]
+    if columns(before + after) > WIDTH:
+        after = after[: WIDTH // 2 - 3] + "..."
+    return f"{before}{after}\n{' ' * columns(before)}^"
+
+
+def where(path):
+    """A path as it is shortest to type."""
+    try:
+        return path.relative_to(pathlib.Path.cwd())
+    except ValueError:
+        return path
+
+
+def explained(line, file, text):
+    """A line of standard error with its explanation; a line that is not a message of rgo as it is.
+
+    The line and what is returned are bytes, and so is `text`, what the file has. Without a file both are None.
+    """
+    said = line.decode("utf-8", "replace").rstrip("\n")
+    message = LINE.fullmatch(said)
+    title = "usage" if said.startswith("usage: rgo ") else message[3] if message else ""
+    path = titles().get(title) if title else None
+    if not path:
+        return line
+    parts = [said]
+    if message and file:
+        place = f"{message[1]}:{message[2]}: " if message[1] else " "
+        parts = [f"{file}:{place}{title}"]
+    if message and message[1] and file:
+        marked = marked_line(text, int(message[1]), int(message[2]))
+        parts.append(marked or "(The file has no such place: the message is of another text.)")
+    parts.append(textwrap.fill(sections_of(path)[1], WIDTH, break_on_hyphens=False))
+    parts.append(f"Read on: {where(path)}")
+    return ("\n".join(parts) + "\n").encode("utf-8", "surrogateescape")
+
+
+def program():
+    """The program: what the variable RGO names, or else the one that is built, or else the script `rgo`."""
+    built = TOP / "crates" / "rgo" / "out" / "rgo"
+    return os.environ.get("RGO") or str(built if built.is_file() else TOP / "rgo")

@@ -1,0 +1,114 @@
+"""Tests the programs of bench/ and the script that measures them."""
+
+import os
+import pathlib
+import re
+import shutil
+import subprocess
+import tempfile
+import unittest
+
+import error_pages
+from error_pages import TOP
+
+BENCH = TOP / "bench"
+# Plays the part of rgo: prints what the program of this name prints.
+FAKE = """#!/bin/sh
+text=$(cat)
+for file in '{bench}'/*.go; do
+    [ "$text" = "$(sed 's, // [0-9 ]*$,,' "$file")" ] && exec cat "${{file%.go}}.out"
+done
+exit {status}
+"""
+
+
+class Programs(unittest.TestCase):
+    def test_the_smallest_sizes_print_what_go_printed(self):
+        sources = sorted(BENCH.glob("*.go"))
+        self.assertEqual(12, len(sources))
+        for source in sources:
+            with self.subTest(source.name), open(source, "rb") as text:
+                ran = subprocess.run([error_pages.program(), "run"], stdin=text, capture_output=True, timeout=60, check=False)
+                self.assertEqual((0, source.with_suffix(".out").read_bytes(), b""), (ran.returncode, ran.stdout, ran.stderr))
+
+    def test_each_has_three_sizes_of_which_the_first_is_in_its_text(self):
+        for source in BENCH.glob("*.go"):
+            with self.subTest(source.name):
+                found = re.findall(r"^func size\(\) int { return (\d+) } // (\d+) (\d+) (\d+)$", source.read_text(), re.MULTILINE)
+                self.assertEqual(1, len(found))
+                sizes = list(map(int, found[0]))
+                self.assertEqual(sorted(sizes), sizes)
+                self.assertEqual(sizes[0], sizes[1])
+
+
+class Script(unittest.TestCase):
+    def setUp(self):
+        folder = tempfile.TemporaryDirectory()
+        self.addCleanup(folder.cleanup)
+        self.room = pathlib.Path(folder.name)
+
+    def write(self, name, text):
+        path = self.room / name
+        path.parent.mkdir(exist_ok=True)
+        path.write_text(text)
+        path.chmod(0o755)
+        return path
+
+    def bench(self, *words):
+        """Runs the script with nothing on the path but what it needs and what a test has put there."""
+        for command in ("cat", "cp", "env", "python3", "sed", "sh", "sleep"):
+            link = self.room / "bin" / command
+            link.parent.mkdir(exist_ok=True)
+            if not link.is_symlink():
+                link.symlink_to(shutil.which(command))
+        command = [BENCH / "run", "--times", "1", "--sizes", "1", *words]
+        env = {**os.environ, "PATH": f"{self.room}/bin"}
+        return subprocess.run(command, capture_output=True, text=True, env=env, timeout=60, check=False)
+
+    def rows(self, ran):
+        return [[cell.strip() for cell in line.strip("|").split("|")] for line in ran.stdout.splitlines() if line.startswith("| ")][1:]
+
+    def test_rgo_alone(self):
+        fake = self.write("rgo", FAKE.format(bench=BENCH, status=9))
+        ran = self.bench("--rgo", fake, "--beside", "a test", "fibonacci", "sieve")
+        self.assertEqual((0, ""), (ran.returncode, ran.stderr))
+        self.assertIn("- Go: not installed\n- yaegi: not installed\n", ran.stdout)
+        self.assertIn("- Beside it: a test.", ran.stdout)
+        rows = self.rows(ran)
+        self.assertEqual([["fibonacci", "16"], ["sieve", "1000"]], [row[:2] for row in rows])
+        for row in rows:
+            self.assertRegex(row[2], r"^\d+\.\d{3}$")
+            self.assertGreater(float(row[7]), 0.1)
+            self.assertEqual([""] * 9, row[3:7] + row[8:])
+
+    def test_peers(self):
+        fake = self.write("rgo", FAKE.format(bench=BENCH, status=9))
+        # Plays the part of go: what it builds waits, and reports pauses if it is asked for them.
+        built = f"#!/bin/sh\nsleep 0.2\ncat '{BENCH}/sieve.out'\n[ $GODEBUG ] && echo 'gc 1 @0.0s 2%: 0.5+9.0+0.25 ms clock, 1 P' >&2\nexit 0\n"
+        self.write("built", built)
+        self.write("bin/go", f"#!/bin/sh\n[ $1 = version ] && echo go9 && exit 0\ncp '{self.room}/built' \"$3\"\n")
+        self.write("bin/yaegi", "#!/bin/sh\n[ $1 = version ] && echo yaegi9 && exit 0\nexit 3\n")
+        ran = self.bench("--rgo", fake, "sieve")
+        self.assertEqual((0, ""), (ran.returncode, ran.stderr))
+        self.assertIn("- Go: go9\n- yaegi: yaegi9\n", ran.stdout)
+        row = self.rows(ran)[0]
+        self.assertGreater(float(row[3]), 0.2)
+        self.assertEqual("fails with 3", row[4])
+        self.assertAlmostEqual(float(row[2]) / float(row[3]) / float(row[5]), 1, delta=0.1)
+        self.assertEqual(["", "0.50", "0.75", "1"], [row[6], *row[10:]])
+
+    def test_a_program_that_fails_stops_it(self):
+        ran = self.bench("--rgo", self.write("rgo", "#!/bin/sh\nexit 9\n"), "sieve")
+        self.assertEqual((1, "bench/run: sieve at size 1000: rgo fails with 9\n"), (ran.returncode, ran.stderr))
+
+    def test_different_prints_stop_it(self):
+        fake = self.write("rgo", FAKE.format(bench=BENCH, status=9))
+        self.write("bin/yaegi", "#!/bin/sh\necho other\n")
+        ran = self.bench("--rgo", fake, "sieve")
+        self.assertEqual(1, ran.returncode)
+        self.assertIn("sieve at size 1000 prints different things", ran.stderr)
+
+    def test_a_run_that_takes_too_long(self):
+        fake = self.write("rgo", "#!/bin/sh\nwhile :; do :; done\n")
+        ran = self.bench("--rgo", fake, "--seconds", "1", "sieve")
+        self.assertEqual((0, ["sieve", "1000", "over 1 s"]), (ran.returncode, self.rows(ran)[0][:3]))

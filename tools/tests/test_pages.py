@@ -1,0 +1,210 @@
+"""Tests the pages of docs/errors: that each message has one, and that the program does what the page says."""
+
+import os
+import pathlib
+import re
+import resource
+import shutil
+import subprocess
+import tempfile
+import unittest
+
+import error_pages
+from error_pages import PAGES, TOP
+
+ROW = re.compile(r"^\| (.+) \|$", re.MULTILINE)
+LINK = re.compile(r"\]\(([^)#]+\.md)(#[\w-]+)?\)")
+
+
+def cells(row):
+    return re.split(r"\s*(?<!\\)\|\s*", row)
+
+
+def rows(path, heading):
+    """The cells of each row of the first table after a heading of a document, without the head of the table."""
+    after = path.read_text(encoding="utf-8").split(f"\n{heading}\n", 1)[1]
+    table = re.search(r"^\|(?:.*\n\|)*.*$", after, re.MULTILINE)[0]
+    return list(map(cells, ROW.findall(table)[1:]))
+
+
+def numbered(kind, text):
+    """The titles of a list such as `1 NilPointer, 2 IndexRange`."""
+    return [f"{kind} {number} {name}" for number, name in re.findall(r"(\d+) ([A-Z]\w+)", text)]
+
+
+def messages():
+    """The titles of all messages of the README and of docs/LANGUAGE.md, with their statuses and what they say of them."""
+    rules = rows(TOP / "docs" / "LANGUAGE.md", "## The rules")
+    traps = rows(TOP / "docs" / "LANGUAGE.md", "### Traps")
+    table = TOP.joinpath("README.md").read_text(encoding="utf-8").split("| status | line on standard error | meaning |\n")[1]
+    for status, line, meaning in map(cells, ROW.findall(table.split("\n\n")[0])[1:]):
+        said = re.sub("^rgo: (L:C: )?", "", line.strip("`"))
+        if said == "lexical K Name":
+            yield from ((title, int(status), None) for title in numbered("lexical", meaning))
+        elif said == "type K Name":
+            yield from ((f"type {number} {name}", int(status), what) for number, name, what in rules)
+        elif said == "trap K Name":
+            assert numbered("trap", meaning) == [f"trap {number} {name}" for number, name, _ in traps]
+            yield from ((f"trap {number} {name}", int(status), what) for number, name, what in traps)
+        elif said == "the usage line":
+            yield "usage", int(status), meaning
+        elif said:
+            yield said, int(status), meaning
+
+
+def file_name(title, status):
+    """The name of a page's file: of its title, or of its status and words of its own."""
+    words = re.sub(r"(?<=[a-z0-9])(?=[A-Z])", "-", title).lower().replace(" ", "-")
+    return words if re.search(r"\d-|^syntax$|^nesting$", words) and " longer " not in title else rf"status-{status}-[a-z-]+"
+
+
+class Form(unittest.TestCase):
+    """What can be seen without the program."""
+
+    def test_each_message_has_a_page(self):
+        wanted = {title: status for title, status, _ in messages()}
+        pages = {page.title: page for page in map(error_pages.read_page, error_pages.page_paths())}
+        self.assertEqual(sorted(wanted), sorted(pages))
+        for title, status in wanted.items():
+            with self.subTest(title):
+                self.assertEqual(status, pages[title].status)
+                self.assertRegex(pages[title].path.stem, f"^{file_name(title, status)}$")
+                if title != "usage":
+                    self.assertRegex(pages[title].message, rf"\Argo: (\d+:\d+: )?{re.escape(title)}\n\Z")
+
+    def test_the_index_has_each_page_with_the_words_of_the_rule(self):
+        index = PAGES.joinpath("README.md").read_text(encoding="utf-8")
+        listed = {}
+        for row in ROW.findall(index):
+            link = re.search(r"\[(.+?)\]\((.+?)\)", row)
+            if link:
+                listed[link[1]] = link[2], cells(row)[-1]
+        paths = error_pages.titles()
+        self.assertEqual({title: path.name for title, path in paths.items()}, {title: name for title, (name, _) in listed.items()})
+        for title, _, what in messages():
+            if what and title not in ("syntax", "nesting"):
+                with self.subTest(title):
+                    self.assertEqual(what, listed[title][1])
+
+    def test_each_page_names_the_specification_and_says_what_go_does(self):
+        for page in map(error_pages.read_page, error_pages.page_paths()):
+            with self.subTest(page.title):
+                self.assertRegex(page.why, r"https://go\.dev/ref/spec#\w+|The specification does not say")
+                if page.example is not None and "does not say what happens when printing" not in page.why:
+                    self.assertRegex(page.why, "Go (accepts|rejects) this text")
+
+    def test_links_lead_to_files(self):
+        for path in PAGES.glob("*.md"):
+            for link, _ in LINK.findall(path.read_text(encoding="utf-8")):
+                with self.subTest(f"{path.name}: {link}"):
+                    self.assertTrue(PAGES.joinpath(link).is_file())
+
+
+class WithTheProgram(unittest.TestCase):
+    """What the program does with the texts of the pages."""
+
+    @classmethod
+    def setUpClass(cls):
+        program = pathlib.Path(error_pages.program()).resolve()
+        if program == TOP / "rgo":
+            raise AssertionError("no program is built at crates/rgo/out/rgo, and the variable RGO names none")
+        cls.room = pathlib.Path(tempfile.mkdtemp())
+        cls.room.joinpath("bin").mkdir()
+        cls.room.joinpath("bin", "rgo").symlink_to(program)
+
+    @classmethod
+    def tearDownClass(cls):
+        shutil.rmtree(cls.room)
+
+    def run_command(self, command, text):
+        """The status, the output and the errors of a command of a page."""
+        ran = subprocess.run(
+            ["sh", "-c", command],
+            input=text or b"",
+            capture_output=True,
+            cwd=self.room,
+            env={**os.environ, "PATH": f"{self.room}/bin:{os.environ['PATH']}"},
+            preexec_fn=lambda: resource.setrlimit(resource.RLIMIT_AS, (2**32, 2**32)),
+            timeout=60,
+            check=False,
+        )
+        return ran.returncode, ran.stdout.decode(), ran.stderr.decode()
+
+    def test_examples_have_their_messages(self):
+        for page in map(error_pages.read_page, error_pages.page_paths()):
+            for command in page.commands:
+                with self.subTest(page.title, command=command):
+                    self.assertEqual((page.status, "", page.message), self.run_command(command, page.example))
+
+    def test_corrected_examples_pass(self):
+        for page in map(error_pages.read_page, error_pages.page_paths()):
+            for command in page.corrected_commands:
+                with self.subTest(page.title, command=command):
+                    printed = page.printed if command.startswith("rgo run") else ""
+                    self.assertEqual((0, printed, ""), self.run_command(command, page.corrected))
+
+    def test_the_readme_shows_what_happens(self):
+        readme = TOP.joinpath("README.md").read_text(encoding="utf-8")
+        shown = [block for language, block in error_pages.BLOCK.findall(readme) if not language and block.startswith("$ ")]
+        commands = [part.split("\n", 1) for block in shown for part in re.split(r"^\$ ", block, flags=re.MULTILINE)[1:]]
+        self.assertGreaterEqual(len(commands), 4)
+        for command, output in commands:
+            with self.subTest(command):
+                env = {**os.environ, "PATH": f"{self.room}/bin:{os.environ['PATH']}", "RGO": f"{self.room}/bin/rgo"}
+                ran = subprocess.run(
+                    ["sh", "-c", command.replace("./rgo ", "rgo ")],
+                    stdout=subprocess.PIPE,
+                    stderr=subprocess.STDOUT,
+                    cwd=TOP,
+                    env=env,
+                    timeout=60,
+                    check=False,
+                )
+                self.assertEqual(output, ran.stdout.decode())
+
+    def test_what_the_grammar_leaves_out_has_a_syntax_error(self):
+        page = PAGES.joinpath("syntax.md").read_text(encoding="utf-8")
+        inside, outside = (part.split("\n\n")[0] for part in page.split("| Go | rgo |\n|---|---|\n")[1:])
+        heads = [(inside, "package main\nfunc main() {{\n{}\n"), (outside, "package main\n{}\n")]
+        count = 0
+        for table, text in heads:
+            for row in ROW.findall(table):
+                for words in re.findall(r"`(.*?)`", cells(row)[0]):
+                    with self.subTest(words):
+                        count += 1
+                        status, _, said = self.run_command("rgo check", text.format(words).encode())
+                        line = text.split("{}")[0].count("\n") + 1
+                        self.assertEqual(1, status)
+                        self.assertRegex(said, rf"\Argo: {line}:\d+: syntax\n\Z")
+        self.assertGreater(count, 15)
+
+
+@unittest.skipUnless(shutil.which("go"), "Go is not installed")
+class WithGo(unittest.TestCase):
+    """What Go does with the texts of the pages."""
+
+    def test_go_does_what_the_pages_say(self):
+        texts, accepted = {}, {}
+        for page in map(error_pages.read_page, error_pages.page_paths()):
+            if page.example is not None:
+                texts[f"{page.path.stem}/example"] = page.example
+                accepted[f"{page.path.stem}/example"] = "Go rejects this text" not in page.why
+            texts[f"{page.path.stem}/corrected"] = page.corrected
+            accepted[f"{page.path.stem}/corrected"] = True
+        with tempfile.TemporaryDirectory() as folder:
+            room = pathlib.Path(folder)
+            room.joinpath("go.mod").write_text("module pages\n")
+            for name, text in texts.items():
+                room.joinpath(name).mkdir(parents=True)
+                room.joinpath(name, "main.go").write_bytes(text)
+            # This compiles all packages and links none.
+            command = ["go", "list", "-e", "-export", "./..."]
+            said = subprocess.run(command, cwd=room, capture_output=True, text=True, check=False).stderr
+            rejected = set(re.findall(r"^# pages/([\w-]+/\w+)$", said, re.MULTILINE))
+            # A missing main is found when the program is linked.
+            for name in (name for name, text in texts.items() if b"func main()" not in text and name not in rejected):
+                linked = subprocess.run(["go", "build", "-o", os.devnull, f"./{name}"], cwd=room, capture_output=True, check=False)
+                rejected.update([name] if linked.returncode else [])
+        for name, is_accepted in accepted.items():
+            with self.subTest(name):
+                self.assertEqual(is_accepted, name not in rejected, said)
