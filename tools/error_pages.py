@@ -41,7 +41,7 @@ class BadPage(Exception):
 
 
 def text_of(blocks):
-    """The text that a section gives, in bytes, or None."""
+    """The text that a section contains, in bytes, or None."""
     for language, source in blocks:
         if language == "go":
             return source.encode()
@@ -124,7 +124,7 @@ def marked_line(text, line, column):
     after = shown(whole[column - 1 :].rstrip(b"\r").decode("utf-8", "replace"))
     if line == len(lines) and not after:
         after = "(end of the text)"
-    # Of a long line only what is around the place is shown.
+    # Only the part of a long line around the place is shown.
     if columns(before) > WIDTH // 2:
         before = "..." + before[3 - WIDTH // 2 :]
     if columns(before + after) > WIDTH:

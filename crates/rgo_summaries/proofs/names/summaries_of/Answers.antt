@@ -18,9 +18,10 @@ loop-n-preserved c =
     let rest = set now n c.replace-own.new.dest in
     let known = slice_get_read functions (length functions) n f refl (omega arith) c.index-functions-n.is in
     let own = slice_get_read now (length now) n m refl (omega (arith, t.size)) c.index-nodes-n.is in
-    let taken : c.replace-own.result ≡ m = c.replace-own.ensures.value ∙ sym {A = Nodes} c.index-nodes-n.is in
+    let taken : c.replace-own.result ≡ m = c.replace-own.ensures.value ∙ sym c.index-nodes-n.is in
     let named = subst (λ (k : Nodes). IsNamed f k s) taken c.in_ok-summary.ensures in
-    subst (λ (all : List Summary). AreTaken functions given rest all (n + 1)) (sym c.in_ok-push.ensures.items)
+    subst (λ (all : List Summary). AreTaken functions given rest all (n + 1))
+    (sym {A = List Summary} c.in_ok-push.ensures.items)
     (taken_more functions given now c.loop-n.all.items n f m c.replace-own.new.dest s t known own named)
 
 pub returns-clause-named : goal.returns-clause-named
