@@ -1,0 +1,114 @@
+-- Checked code: each rule is kept at each line of its text.
+use Rattle.std.specs.Prelude.{◌≡◌, ◌≢◌, ◌<◌, ℕ, [], Some, slice_get, ⊤}
+use Rattle.rgo_typed.specs.declared.programs.Struct.{Struct}
+use Rattle.rgo_typed.specs.declared.programs.Variable.{Variable}
+use Rattle.rgo_code.specs.declared.rules.Rule.{Rule}
+use Rattle.rgo_code.specs.declared.rules.Rule.TheVariants as rule
+use Rattle.rgo_code.specs.declared.rules.Line.{Line}
+use Rattle.rgo_code.specs.declared.rules.Line.TheVariants as line
+use Rattle.rgo_code.specs.Code.{Slot, CodeInstr, CodeFn, Code}
+use Rattle.rgo_code.specs.Erasure.{erased_op, erased_fn, erased}
+use Rattle.rgo_code.specs.Exists.{InstrExists, StructExists, VariableExists, HeadExists, TypeExists, HasMain}
+use Rattle.rgo_code.specs.Types.{OpFits}
+use Rattle.rgo_code.specs.ClassRules.{SlotFits, ResultFits, JoinsAgree, GlobalsAgree, ReturnsAgree, CallsPass, StartsPass, EntryIsKnown}
+use Rattle.rgo_code.specs.NameRules.{CreatesUsed, ProtectsUsed, RemovesDead, EntryRemovesDead, LendsResult, EntryLendsResult, ReturnsHoldNothing}
+use Rattle.rgo_code.specs.Lines.{line_number}
+
+-- ---- what a rule says of each kind of line
+
+abbrev pub KeptByInstr : Code → Rule → CodeFn → ℕ → CodeInstr → Type 0
+KeptByInstr code rule.Exists f i instr = InstrExists (erased code) (erased_fn f) i (erased_op instr.op)
+KeptByInstr code rule.Types f i instr = OpFits (erased code) (erased_fn f) (erased_op instr.op)
+KeptByInstr code rule.Joins f i instr = JoinsAgree f instr.op
+KeptByInstr code rule.Globals f i instr = GlobalsAgree f instr.op
+KeptByInstr code rule.Calls f i instr = CallsPass code f instr.op
+KeptByInstr code rule.Starts f i instr = StartsPass code f instr.op
+KeptByInstr code rule.Creations f i instr = CreatesUsed f i instr
+KeptByInstr code rule.Protections f i instr = ProtectsUsed f i instr.op
+KeptByInstr code rule.Returns f i instr = ReturnsAgree f instr.op
+KeptByInstr code rule.Lending f i instr = LendsResult f i instr
+KeptByInstr code rule.Removals f i instr = RemovesDead code f i instr
+KeptByInstr code rule.Endings f i instr = ReturnsHoldNothing f i instr instr.op
+KeptByInstr code rule f i instr = ⊤
+
+abbrev pub KeptByEntry : Rule → CodeFn → Type 0
+KeptByEntry rule.Entry f = EntryIsKnown f
+KeptByEntry rule.Lending f = EntryLendsResult f
+KeptByEntry rule.Removals f = EntryRemovesDead f
+KeptByEntry rule f = ⊤
+
+abbrev pub KeptByHead : Code → Rule → ℕ → CodeFn → Type 0
+KeptByHead code rule.Exists n f = HeadExists (erased code) n (erased_fn f)
+KeptByHead code rule.Classes n f = ResultFits f.result
+KeptByHead code rule n f = ⊤
+
+abbrev pub KeptBySlot : Code → Rule → Slot → Type 0
+KeptBySlot code rule.Exists s = TypeExists (erased code) s.ty
+KeptBySlot code rule.Classes s = SlotFits s
+KeptBySlot code rule s = ⊤
+
+abbrev pub KeptByStruct : Code → Rule → ℕ → Struct → Type 0
+KeptByStruct code rule.Exists n s = StructExists (erased code) n s
+KeptByStruct code rule n s = ⊤
+
+abbrev pub KeptByVariable : Code → Rule → ℕ → Variable → Type 0
+KeptByVariable code rule.Exists n v = VariableExists (erased code) n v
+KeptByVariable code rule n v = ⊤
+
+-- a function has an instruction
+abbrev pub KeptByEnd : Rule → CodeFn → Type 0
+KeptByEnd rule.Exists f = f.body ≢ []
+KeptByEnd rule f = ⊤
+
+abbrev pub KeptAfterLast : Code → Rule → Type 0
+KeptAfterLast code rule.Exists = HasMain (erased code)
+KeptAfterLast code rule = ⊤
+
+-- ---- the rules at lines
+
+-- the rule is kept at the line; at a line that the code does not have, each is
+abbrev pub KeptAt : Code → Rule → Line → Type 0
+KeptAt code rule (line.Struct n) = (s : Struct) → slice_get code.structs n ≡ Some s → KeptByStruct code rule n s
+KeptAt code rule (line.Variable n) = (v : Variable) → slice_get code.variables n ≡ Some v → KeptByVariable code rule n v
+KeptAt code rule (line.Function n) = (f : CodeFn) → slice_get code.functions n ≡ Some f → KeptByHead code rule n f
+KeptAt code rule (line.Slot n v) =
+    (f : CodeFn) (s : Slot) → slice_get code.functions n ≡ Some f → slice_get f.variables v ≡ Some s
+    → KeptBySlot code rule s
+KeptAt code rule (line.Entry n) = (f : CodeFn) → slice_get code.functions n ≡ Some f → KeptByEntry rule f
+KeptAt code rule (line.Instr n i) =
+    (f : CodeFn) (instr : CodeInstr) → slice_get code.functions n ≡ Some f → slice_get f.body i ≡ Some instr
+    → KeptByInstr code rule f i instr
+KeptAt code rule (line.End n) = (f : CodeFn) → slice_get code.functions n ≡ Some f → KeptByEnd rule f
+KeptAt code rule line.AfterLast = KeptAfterLast code rule
+
+abbrev pub Keeps : Code → Rule → Type 0
+Keeps code rule = (line : Line) → KeptAt code rule line
+
+-- the code keeps all rules
+abbrev pub IsChecked : Code → Type 0
+IsChecked code = (rule : Rule) → Keeps code rule
+
+-- the number of a rule
+abbrev pub rule_number : Rule → ℕ
+rule_number rule.Exists = 1
+rule_number rule.Types = 2
+rule_number rule.Classes = 3
+rule_number rule.Joins = 4
+rule_number rule.Globals = 5
+rule_number rule.Calls = 6
+rule_number rule.Starts = 7
+rule_number rule.Entry = 8
+rule_number rule.Creations = 9
+rule_number rule.Protections = 10
+rule_number rule.Returns = 11
+rule_number rule.Lending = 12
+rule_number rule.Removals = 13
+rule_number rule.Endings = 14
+
+-- the least rule that is broken anywhere, and the number of the first line that breaks it
+pub record IsFirstBroken (code : Code) (broken : Rule) (number : ℕ) : Type 0 where
+  pub at : Line
+  pub numbered : line_number code at ≡ number
+  pub is_broken : KeptAt code broken at → ⊥
+  pub least : (lesser : Rule) → rule_number lesser < rule_number broken → Keeps code lesser
+  pub first : (before : Line) → line_number code before < number → KeptAt code broken before

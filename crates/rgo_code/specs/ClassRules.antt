@@ -1,0 +1,88 @@
+-- The rules on classes: what has one, what joins two, what is passed to callees.
+use Rattle.std.specs.Prelude.{◌≡◌, ◌≢◌, ◌↔◌, ◌<◌, ℕ, Bool, true, false, List, Option, Some, None, length, slice_get, ⊤}
+use Rattle.rgo_typed.specs.declared.actions.Action.{Action}
+use Rattle.rgo_typed.specs.declared.actions.Action.TheVariants as action
+use Rattle.rgo_typed.specs.Types.{is_pointer_like}
+use Rattle.rgo_tac.specs.declared.regions.Class.{Class}
+use Rattle.rgo_tac.specs.declared.regions.Class.TheVariants.{NoClass, Global, Name}
+use Rattle.rgo_tac.specs.declared.regions.Member.{Member}
+use Rattle.rgo_tac.specs.Joins.{joins}
+use Rattle.rgo_code.specs.Code.{Slot, CodeOp, CodeFn, Code, Do, Call, Go, Return}
+use Rattle.rgo_code.specs.Erasure.{erased_op, erased_fn}
+use Rattle.rgo_code.specs.Names.{class_of, result_class, member_class, region_parameters, Holds, IsParameterName}
+
+-- ---- rule 3: a variable or result has a class exactly where its type is pointer-like
+
+abbrev pub SlotFits : Slot → Type 0
+SlotFits s = (s.class ≢ NoClass) ↔ (is_pointer_like s.ty ≡ true)
+
+abbrev pub ResultFits : Option Slot → Type 0
+ResultFits None = ⊤
+ResultFits (Some s) = SlotFits s
+
+-- ---- rules 4, 5 and 11: the two that an instruction joins have one class
+
+abbrev pub is_of_package : Action → Bool
+is_of_package (action.Get n) = true
+is_of_package (action.Set n) = true
+is_of_package action = false
+
+abbrev pub Agree : CodeFn → Option (Member × Member) → Type 0
+Agree f None = ⊤
+Agree f (Some pair) = member_class f pair.0 ≡ member_class f pair.1
+
+abbrev pub OpAgrees : CodeFn → CodeOp → Type 0
+OpAgrees f op = Agree f (joins (erased_fn f) (erased_op op))
+
+-- rule 4, of actions but those on package variables
+abbrev pub JoinsAgree : CodeFn → CodeOp → Type 0
+JoinsAgree f (Do to action from removes) = is_of_package action ≡ false → OpAgrees f (Do to action from removes)
+JoinsAgree f op = ⊤
+
+-- rule 5, of actions on package variables, whose class is Global
+abbrev pub GlobalsAgree : CodeFn → CodeOp → Type 0
+GlobalsAgree f (Do to action from removes) = is_of_package action ≡ true → OpAgrees f (Do to action from removes)
+GlobalsAgree f op = ⊤
+
+-- rule 11, of a returned variable and the result
+abbrev pub ReturnsAgree : CodeFn → CodeOp → Type 0
+ReturnsAgree f (Return value) = OpAgrees f (Return value)
+ReturnsAgree f op = ⊤
+
+-- ---- rules 6 and 7: what is passed
+
+-- the class of an argument is what is passed for the class of its parameter
+abbrev pub IsPassedFor : (parameters passes : List Class) → (parameter argument : Class) → Type 0
+IsPassedFor parameters passes NoClass argument = ⊤
+IsPassedFor parameters passes Global argument = argument ≡ Global
+IsPassedFor parameters passes (Name k) argument =
+    (p : ℕ) → slice_get parameters p ≡ Some (Name k) → slice_get passes p ≡ Some argument
+
+pub record Passes (f callee : CodeFn) (to : Option ℕ) (from : List ℕ) (passes : List Class) : Type 0 where
+  pub len : length passes ≡ length (region_parameters callee)
+  pub arguments : (i v : ℕ) → i < callee.params → slice_get from i ≡ Some v
+      → IsPassedFor (region_parameters callee) passes (class_of callee i) (class_of f v)
+  pub result : (d : ℕ) → to ≡ Some d → IsPassedFor (region_parameters callee) passes (result_class callee)
+      (class_of f d)
+
+abbrev pub CallPasses : CodeFn → Option CodeFn → (to : Option ℕ) → (from : List ℕ) → (passes : List Class) → Type 0
+CallPasses f None to from passes = ⊤
+CallPasses f (Some callee) to from passes = Passes f callee to from passes
+
+-- a function that is started has no result
+abbrev pub StartPasses : CodeFn → Option CodeFn → (from : List ℕ) → (passes : List Class) → Type 0
+StartPasses f None from passes = ⊤
+StartPasses f (Some callee) from passes = (callee.result ≡ None) × Passes f callee None from passes
+
+abbrev pub CallsPass : Code → CodeFn → CodeOp → Type 0
+CallsPass code f (Call to n from passes protects removes) = CallPasses f (slice_get code.functions n) to from passes
+CallsPass code f op = ⊤
+
+abbrev pub StartsPass : Code → CodeFn → CodeOp → Type 0
+StartsPass code f (Go n from passes removes) = StartPasses f (slice_get code.functions n) from passes
+StartsPass code f op = ⊤
+
+-- ---- rule 8: each name that the first instruction holds is that of a parameter
+
+abbrev pub EntryIsKnown : CodeFn → Type 0
+EntryIsKnown f = (k : ℕ) → Holds f k 0 → IsParameterName f k

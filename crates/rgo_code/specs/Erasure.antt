@@ -1,0 +1,34 @@
+-- The three-address code that is left where nothing is said of regions.
+use Rattle.std.specs.Prelude.{map}
+use Rattle.std.specs.Option.{option_map}
+use Rattle.rgo_tac.specs.Code as tac
+use Rattle.rgo_tac.specs.Code.{Op, Instr, TacFn, Tac}
+use Rattle.rgo_code.specs.Code.{CodeOp, CodeInstr, CodeFn, Code, Do, Call, Go, Print, Jump, Branch, Return}
+
+abbrev pub erased_op : CodeOp → Op
+erased_op (Do to action from removes) = tac.Do to action from
+erased_op (Call to function from passes protects removes) = tac.Call to function from
+erased_op (Go function from passes removes) = tac.Go function from
+erased_op (Print pieces from removes) = tac.Print pieces from
+erased_op (Jump target removes) = tac.Jump target
+erased_op (Branch test target removes other otherwise) = tac.Branch test target other
+erased_op (Return value) = tac.Return value
+
+abbrev pub erased_instr : CodeInstr → Instr
+erased_instr i = record { op = erased_op i.op; place = i.place }
+
+abbrev pub erased_fn : CodeFn → TacFn
+erased_fn f = record {
+  name = f.name;
+  params = f.params;
+  result_type = option_map (λ s. s.ty) f.result;
+  variables = map (λ s. s.ty) f.variables;
+  body = map erased_instr f.body;
+}
+
+abbrev pub erased : Code → Tac
+erased code = record {
+  structs = code.structs;
+  variables = code.variables;
+  functions = map erased_fn code.functions;
+}

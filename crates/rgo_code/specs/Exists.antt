@@ -1,0 +1,115 @@
+-- The first rule, on three-address code: numbers, names and targets exist, names differ within their kind, and there
+-- is a
+-- `main`.
+use Rattle.std.specs.Prelude.{◌≡◌, ◌≢◌, ◌⊎◌, ◌<◌, ◌≤◌, ◌+◌, ℕ, Bool, true, false, List, [], ◌∷◌, map, take, length, Option, Some, None, Contains, slice_get, codes, is_some, ⊤}
+use Rattle.rgo_typed.specs.declared.actions.Action.{Action}
+use Rattle.rgo_typed.specs.declared.actions.Action.TheVariants as action
+use Rattle.rgo_typed.specs.declared.programs.Struct.{Struct}
+use Rattle.rgo_typed.specs.declared.programs.Variable.{Variable}
+use Rattle.rgo_typed.specs.declared.types.Type.{«Type»}
+use Rattle.rgo_wellformed.specs.TypeRules.{Declared, Signature, IsType, pointer_to}
+use Rattle.rgo_tac.specs.Code.{Op, TacFn, Tac, Do, Call, Go, Print, Jump, Branch, Return}
+use Rattle.rgo_tac.specs.Flow.{reads, writes}
+
+-- ---- declarations
+
+abbrev pub signature_of : TacFn → Signature
+signature_of f = record { params = take f.params f.variables; result_type = f.result_type }
+
+abbrev pub declared_by : Tac → Declared
+declared_by code = record {
+  structs = map (λ s. s.fields) code.structs;
+  variables = map (λ v. v.ty) code.variables;
+  functions = map signature_of code.functions;
+}
+
+-- the struct that the type names is declared
+abbrev pub TypeExists : Tac → «Type» → Type 0
+TypeExists code ty = IsType (declared_by code) ty
+
+-- none of the names before it is the name of this number
+abbrev pub IsNew : List (List ℕ) → ℕ → Type 0
+IsNew names n = (m : ℕ) (name : List ℕ) → m < n → slice_get names n ≡ Some name → slice_get names m ≢ Some name
+
+-- a function `main` without parameters and result
+pub record HasMain (code : Tac) : Type 0 where
+  pub number : ℕ
+  pub main : TacFn
+  pub declared : slice_get code.functions number ≡ Some main
+  pub named : main.name ≡ codes "main"
+  pub no_params : main.params ≡ 0
+  pub no_result : main.result_type ≡ None
+
+-- ---- instructions
+
+-- the instruction reads or writes a variable
+abbrev pub Uses : Op → ℕ → Type 0
+Uses op v = Contains (reads op) v ⊎ (writes op ≡ Some v)
+
+abbrev pub ActionExists : Tac → Action → Type 0
+ActionExists code (action.New n) = n < length code.structs
+ActionExists code (action.Get n) = n < length code.variables
+ActionExists code (action.Set n) = n < length code.variables
+ActionExists code action = ⊤
+
+-- if the variable is a pointer to a declared struct, that has a field k
+abbrev pub HasField : Tac → TacFn → (k : ℕ) → List ℕ → Type 0
+HasField code f k [] = ⊤
+HasField code f k (a ∷ others) =
+    (n : ℕ) (s : Struct) → slice_get f.variables a ≡ Some (pointer_to n) → slice_get code.structs n ≡ Some s
+    → k < length s.fields
+
+abbrev pub FieldExists : Tac → TacFn → Action → List ℕ → Type 0
+FieldExists code f (action.Load k) from = HasField code f k from
+FieldExists code f (action.Store k) from = HasField code f k from
+FieldExists code f action from = ⊤
+
+-- the function is declared, has as many parameters, and a result exactly where the call has a target
+pub record CallExists (code : Tac) (to : Option ℕ) (n : ℕ) (from : List ℕ) : Type 0 where
+  pub callee : TacFn
+  pub declared : slice_get code.functions n ≡ Some callee
+  pub arguments : length from ≡ callee.params
+  pub target : is_some to ≡ is_some callee.result_type
+
+-- whether the function has a result is a matter of the rule on `go`
+pub record StartExists (code : Tac) (n : ℕ) (from : List ℕ) : Type 0 where
+  pub callee : TacFn
+  pub declared : slice_get code.functions n ≡ Some callee
+  pub arguments : length from ≡ callee.params
+
+abbrev pub OpExists : Tac → TacFn → Op → Type 0
+OpExists code f (Do to action from) = ActionExists code action × FieldExists code f action from
+OpExists code f (Call to n from) = CallExists code to n from
+OpExists code f (Go n from) = StartExists code n from
+OpExists code f (Print pieces from) = ⊤
+OpExists code f (Jump target) = target < length f.body
+OpExists code f (Branch test target other) = (target < length f.body) × (other < length f.body)
+OpExists code f (Return value) = ⊤
+
+-- whether the next instruction in order is never next
+abbrev pub leaves : Op → Bool
+leaves (Jump target) = true
+leaves (Branch test target other) = true
+leaves (Return value) = true
+leaves op = false
+
+pub record InstrExists (code : Tac) (f : TacFn) (i : ℕ) (op : Op) : Type 0 where
+  pub variables : (v : ℕ) → Uses op v → v < length f.variables
+  pub exists : OpExists code f op
+  pub last : i + 1 ≡ length f.body → leaves op ≡ true
+
+-- ---- declarations exist
+
+pub record StructExists (code : Tac) (n : ℕ) (s : Struct) : Type 0 where
+  pub is_new : IsNew (map (λ s. s.name) code.structs) n
+  pub fields : (k : ℕ) (ty : «Type») → slice_get s.fields k ≡ Some ty → TypeExists code ty
+
+pub record VariableExists (code : Tac) (n : ℕ) (v : Variable) : Type 0 where
+  pub is_new : IsNew (map (λ v. v.name) code.variables) n
+  pub ty : TypeExists code v.ty
+
+-- the head of a function
+pub record HeadExists (code : Tac) (n : ℕ) (f : TacFn) : Type 0 where
+  pub is_new : IsNew (map (λ f. f.name) code.functions) n
+  pub params : f.params ≤ length f.variables
+  pub result : (ty : «Type») → f.result_type ≡ Some ty → TypeExists code ty

@@ -1,0 +1,14 @@
+pub mod Checked
+pub mod ClassRules
+pub mod Code
+pub mod Erasure
+pub mod Exists
+pub mod Laws
+pub mod Lines
+pub mod Lists
+pub mod NameRules
+pub mod Names
+pub mod Noted
+pub mod TypedCode
+pub mod Types
+pub mod Views

@@ -1,0 +1,68 @@
+-- The rules on creations, protections and removals.
+use Rattle.std.specs.Prelude.{◌≡◌, ◌↔◌, ◌⊎◌, ◌+◌, ℕ, List, [], Some, Contains, slice_get, ⊤}
+use Rattle.std.specs.List.Sorted.{IsStrictlyIncreasing}
+use Rattle.rgo_tac.specs.declared.regions.Class.TheVariants.{Name}
+use Rattle.rgo_code.specs.Code.{CodeOp, CodeInstr, CodeFn, Code, Call, Return}
+use Rattle.rgo_code.specs.Names.{result_class, IsOwn, IsLiveName, Holds, Names, Gives, IsPassedTwice, IsParameterName, edges}
+
+-- rule 9: an instruction creates the own names that it uses and that are not held before it
+abbrev pub CreatesUsed : CodeFn → ℕ → CodeInstr → Type 0
+CreatesUsed f i instr = (k : ℕ) → Contains instr.creates k ↔ (IsOwn f k × Names f instr.op k × (Holds f k i → ⊥))
+
+-- rule 10: a call protects the names that it passes and that are live after it, the result's, or passed twice
+abbrev pub ProtectsUsed : CodeFn → ℕ → CodeOp → Type 0
+ProtectsUsed f i (Call to n from passes protects removes) =
+    (k : ℕ) → Contains protects k
+    ↔ (Contains passes (Name k) × (IsLiveName f k (i + 1) ⊎ ((result_class f ≡ Name k) ⊎ IsPassedTwice passes k)))
+ProtectsUsed f i op = ⊤
+
+-- what may be removed after an instruction: the names that are held or created before it and not left to a callee
+abbrev pub MayRemove : Code → CodeFn → ℕ → CodeInstr → ℕ → Type 0
+MayRemove code f i instr k = (Holds f k i ⊎ Contains instr.creates k) × (Gives code instr.op k → ⊥)
+
+-- rule 13: on each way the names are removed that are not held there
+abbrev pub RemovesDead : Code → CodeFn → ℕ → CodeInstr → Type 0
+RemovesDead code f i instr =
+    (j : ℕ) (removes : List ℕ) → Contains (edges instr.op i) (j, removes)
+    → (k : ℕ) → Contains removes k ↔ (MayRemove code f i instr k × (Holds f k j → ⊥))
+
+-- the same at entry, of the own names of parameters
+abbrev pub EntryRemovesDead : CodeFn → Type 0
+EntryRemovesDead f = (k : ℕ) → Contains f.entry k ↔ (IsOwn f k × IsParameterName f k × (Holds f k 0 → ⊥))
+
+-- rule 12: the region of the result is neither created nor removed
+pub record LendsResult (f : CodeFn) (i : ℕ) (instr : CodeInstr) : Type 0 where
+  pub creates : (k : ℕ) → result_class f ≡ Name k → Contains instr.creates k → ⊥
+  pub removes : (k j : ℕ) (removes : List ℕ) → result_class f ≡ Name k → Contains (edges instr.op i) (j, removes)
+      → Contains removes k → ⊥
+
+abbrev pub EntryLendsResult : CodeFn → Type 0
+EntryLendsResult f = (k : ℕ) → result_class f ≡ Name k → Contains f.entry k → ⊥
+
+-- rule 14: a return holds and creates nothing
+pub record HoldsNothing (f : CodeFn) (i : ℕ) (instr : CodeInstr) : Type 0 where
+  pub creates : instr.creates ≡ []
+  pub holds : (k : ℕ) → Holds f k i → ⊥
+
+abbrev pub ReturnsHoldNothing : CodeFn → ℕ → CodeInstr → CodeOp → Type 0
+ReturnsHoldNothing f i instr (Return value) = HoldsNothing f i instr
+ReturnsHoldNothing f i instr op = ⊤
+
+-- ---- lists of names are ascending
+
+abbrev pub protected_names : CodeOp → List ℕ
+protected_names (Call to n from passes protects removes) = protects
+protected_names op = []
+
+pub record InstrAscends (i : ℕ) (instr : CodeInstr) : Type 0 where
+  pub creates : IsStrictlyIncreasing instr.creates
+  pub protects : IsStrictlyIncreasing (protected_names instr.op)
+  pub removes : (j : ℕ) (removes : List ℕ) → Contains (edges instr.op i) (j, removes) → IsStrictlyIncreasing removes
+
+pub record FnAscends (f : CodeFn) : Type 0 where
+  pub entry : IsStrictlyIncreasing f.entry
+  pub body : (i : ℕ) (instr : CodeInstr) → slice_get f.body i ≡ Some instr → InstrAscends i instr
+
+-- in all lists each name is below the next
+abbrev pub Ascends : Code → Type 0
+Ascends code = (n : ℕ) (f : CodeFn) → slice_get code.functions n ≡ Some f → FnAscends f

@@ -1,0 +1,90 @@
+-- Ranges of instructions that keep the first two rules, with the variables that they introduce, whose types exist.
+use Rattle.std.proofs.Common.{◌≡◌, ⊎_elim, ℕ, ◌+◌, ◌<◌, ◌≤◌, Some, slice_get, length}
+use Rattle.std.proofs.Common.{sym, ap, ◌∙◌, subst, arith}
+use Rattle.std.proofs.lemmas.Bool.{cases_lt}
+use Rattle.rgo_typed.specs.declared.types.Type.{«Type»}
+use Rattle.rgo_tac.specs.Code.{Op, Instr, TacFn, Tac}
+use Rattle.rgo_code.specs.Exists.{TypeExists, Uses, OpExists}
+use Rattle.rgo_code.specs.Types.{OpFits}
+use Rattle.rgo_code.specs.TypedCode.{StartFits, IsTypedInstr}
+use Rattle.rgo_lower.specs.Lowered.{Point, after_value, after, OpAt}
+use Rattle.rgo_lowering_laws.proofs.Lists.{some_is}
+
+module _ (code : Tac) (f : TacFn) where
+  -- the instruction keeps the rules at every index but the last of its function
+  pub record Safe (op : Op) : Type 0 where
+    pub variables : (v : ℕ) → Uses op v → v < length f.variables
+    pub exists : OpExists code f op
+    pub fits : OpFits code f op
+    pub start : StartFits code op
+
+  -- the instructions from p up to q keep the rules, and the types of the variables from p up to q exist
+  pub record Kept (p q : Point) : Type 0 where
+    pub grows : p.instr ≤ q.instr
+    pub instrs : (i : ℕ) (instr : Instr) → p.instr ≤ i → i < q.instr → slice_get f.body i ≡ Some instr
+        → IsTypedInstr code f i instr.op
+    pub variables : (v : ℕ) (ty : «Type») → p.variable ≤ v → v < q.variable → slice_get f.variables v ≡ Some ty
+        → TypeExists code ty
+
+  pub nothing : (p q : Point) → q ≡ p → Kept p q
+  nothing p q e =
+      let at : q.instr ≡ p.instr = ap (λ (z : Point). z.instr) e in
+      let made : q.variable ≡ p.variable = ap (λ (z : Point). z.variable) e in
+      record {
+        grows = omega (arith, at);
+        instrs = λ i instr from to is. absurd (omega (arith, from, to, at));
+        variables = λ v ty from to is. absurd (omega (arith, from, to, made));
+      }
+
+  pub chain : (p m q : Point) → Kept p m → Kept m q → Kept p q
+  chain p m q a b = record {
+    grows = omega (arith, a.grows, b.grows);
+    instrs = λ i instr from to is.
+        ⊎_elim (λ less. a.instrs i instr from less is) (λ more. b.instrs i instr more to is) (cases_lt i m.instr);
+    variables = λ v ty from to is.
+        ⊎_elim (λ less. a.variables v ty from less is) (λ more. b.variables v ty more to is) (cases_lt v m.variable);
+  }
+
+  pub ends : (p m q : Point) → Kept p m → q ≡ m → Kept p q
+  ends p m q a e = subst (Kept p) (sym e) a
+
+  -- the instruction at an index
+  pub at_place : (i j : ℕ) (op : Op) (place : ℕ) (instr : Instr) → OpAt f i op place → i ≤ j → j < i + 1
+      → slice_get f.body j ≡ Some instr → IsTypedInstr code f i op → IsTypedInstr code f j instr.op
+  at_place i j op place instr at from to is h =
+      let here : j ≡ i = omega (arith, from, to) in
+      let same = some_is (record { op = op; place = place }) instr (sym at ∙ (ap (slice_get f.body) (sym here) ∙ is)) in
+      subst (λ k. IsTypedInstr code f k instr.op) (sym here)
+      (subst (λ z. IsTypedInstr code f i z.op) same h)
+
+  typed : (i : ℕ) (op : Op) → i + 1 < length f.body → Safe op → IsTypedInstr code f i op
+  typed i op within s = record {
+    exists = record {
+      variables = s.variables;
+      exists = s.exists;
+      last = λ e. absurd (omega (arith, within, e));
+    };
+    fits = s.fits;
+    start = s.start;
+  }
+
+  -- one instruction
+  pub one : (p : Point) (op : Op) (place : ℕ) → OpAt f p.instr op place → p.instr + 1 < length f.body → Safe op
+      → Kept p (after p)
+  one p op place at within s = record {
+    grows = omega arith;
+    instrs = λ i instr from to is. at_place p.instr i op place instr at from to is (typed p.instr op within s);
+    variables = λ v ty from to is. absurd (omega (arith, from, to));
+  }
+
+  -- one instruction that writes the next variable
+  pub one_value : (p : Point) (op : Op) (place : ℕ) (ty : «Type») → OpAt f p.instr op place
+      → p.instr + 1 < length f.body → Safe op → slice_get f.variables p.variable ≡ Some ty → TypeExists code ty
+      → Kept p (after_value p)
+  one_value p op place ty at within s made known = record {
+    grows = omega arith;
+    instrs = λ i instr from to is. at_place p.instr i op place instr at from to is (typed p.instr op within s);
+    variables = λ v other from to is.
+        let here : v ≡ p.variable = omega (arith, from, to) in
+        subst (TypeExists code) (some_is ty other (sym made ∙ (ap (slice_get f.variables) (sym here) ∙ is))) known;
+  }

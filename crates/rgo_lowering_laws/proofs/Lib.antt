@@ -1,0 +1,11 @@
+pub mod Declarations
+pub mod ExampleProofs
+pub mod Kept
+pub mod Lists
+pub mod LiveStatements
+pub mod LiveTerms
+pub mod Liveness
+pub mod Programs
+pub mod Safety
+pub mod Statements
+pub mod Terms
