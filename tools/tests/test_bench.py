@@ -5,6 +5,7 @@ import pathlib
 import re
 import shutil
 import subprocess
+import sys
 import tempfile
 import unittest
 
@@ -28,7 +29,7 @@ class Programs(unittest.TestCase):
         self.assertEqual(12, len(sources))
         for source in sources:
             with self.subTest(source.name), open(source, "rb") as text:
-                ran = subprocess.run([error_pages.program(), "run"], stdin=text, capture_output=True, timeout=60, check=False)
+                ran = subprocess.run([error_pages.program(), "run"], stdin=text, capture_output=True, timeout=300, check=False)
                 self.assertEqual((0, source.with_suffix(".out").read_bytes(), b""), (ran.returncode, ran.stdout, ran.stderr))
 
     def test_each_has_three_sizes_of_which_the_first_is_in_its_text(self):
@@ -56,14 +57,15 @@ class Script(unittest.TestCase):
 
     def bench(self, *words):
         """Runs the script with nothing on the path but what it needs and what a test has put there."""
-        for command in ("cat", "cp", "env", "python3", "sed", "sh", "sleep"):
+        found = {command: shutil.which(command) for command in ("cat", "cp", "sed", "sh", "sleep")}
+        for command, path in {**found, "python3": sys.executable}.items():
             link = self.room / "bin" / command
             link.parent.mkdir(exist_ok=True)
             if not link.is_symlink():
-                link.symlink_to(shutil.which(command))
-        command = [BENCH / "run", "--times", "1", "--sizes", "1", *words]
+                link.symlink_to(path)
+        command = [sys.executable, BENCH / "run", "--times", "1", "--sizes", "1", *words]
         env = {**os.environ, "PATH": f"{self.room}/bin"}
-        return subprocess.run(command, capture_output=True, text=True, env=env, timeout=60, check=False)
+        return subprocess.run(command, capture_output=True, text=True, env=env, timeout=300, check=False)
 
     def rows(self, ran):
         return [[cell.strip() for cell in line.strip("|").split("|")] for line in ran.stdout.splitlines() if line.startswith("| ")][1:]
@@ -96,6 +98,17 @@ class Script(unittest.TestCase):
         self.assertEqual("fails with 3", row[4])
         self.assertAlmostEqual(float(row[2]) / float(row[3]) / float(row[5]), 1, delta=0.1)
         self.assertEqual(["", "0.50", "0.75", "1"], [row[6], *row[10:]])
+
+    def test_processor_time_is_not_that_of_waiting(self):
+        fake = self.write("rgo", "#!/bin/sh\ncat >/dev/null\nsleep 2\n")
+        seconds = [float(self.rows(self.bench("--rgo", fake, "--clock", clock, "sieve"))[0][2]) for clock in ("wall", "processor")]
+        self.assertGreaterEqual(seconds[0], 2)
+        self.assertLess(seconds[1], 1)
+
+    def test_memory_is_that_of_a_run_with_the_text(self):
+        # A program that has less memory than the script, and more than a shell.
+        fake = self.write("rgo", "#!/bin/sh\nread -r line\n[ \"$line\" ] && exec python3 -I -S -c 'print(168)'\n")
+        self.assertGreater(float(self.rows(self.bench("--rgo", fake, "sieve"))[0][7]), 4)
 
     def test_a_program_that_fails_stops_it(self):
         ran = self.bench("--rgo", self.write("rgo", "#!/bin/sh\nexit 9\n"), "sieve")

@@ -3,6 +3,7 @@
 import os
 import pathlib
 import subprocess
+import sys
 import tempfile
 import unittest
 
@@ -46,9 +47,9 @@ class Case(unittest.TestCase):
         self.file = self.room / "a file.go"
 
     def tool(self, *words, said=b"", cwd=TOP, **variables):
-        command = [TOP / "tools" / words[0], *words[1:]]
+        command = [sys.executable, TOP / "tools" / words[0], *words[1:]]
         env = {**os.environ, **variables}
-        ran = subprocess.run(command, input=said, capture_output=True, cwd=cwd, env=env, timeout=60, check=False)
+        ran = subprocess.run(command, input=said, capture_output=True, cwd=cwd, env=env, timeout=300, check=False)
         return ran.returncode, ran.stdout.decode(), ran.stderr.decode()
 
 
@@ -66,7 +67,7 @@ class Explain(Case):
 
     def test_other_lines_are_kept(self):
         lines = b"rgo: proving rgo_lexer, 2 of 20\nrgo: 1:1: type 99 Unheard\nrgo:deadlock\n\xff\n"
-        ran = subprocess.run([TOP / "tools" / "explain"], input=lines, capture_output=True, check=False)
+        ran = subprocess.run([sys.executable, TOP / "tools" / "explain"], input=lines, capture_output=True, check=False)
         self.assertEqual((1, lines, b""), (ran.returncode, ran.stdout, ran.stderr))
 
     def test_messages_without_a_place(self):
@@ -118,7 +119,7 @@ class Rgor(Case):
 
     def test_lines_are_printed_as_they_come(self):
         self.write_program(f'echo "rgo: proving rgo, 1 of 1" >&2; for i in $(seq 50); do [ -e "{self.room}/go" ] && exit 3; sleep 0.1; done')
-        command = [TOP / "tools" / "rgor", self.file]
+        command = [sys.executable, TOP / "tools" / "rgor", self.file]
         with subprocess.Popen(command, stderr=subprocess.PIPE, env={**os.environ, "RGO": str(self.rgo)}) as ran:
             self.assertEqual(b"rgo: proving rgo, 1 of 1\n", ran.stderr.readline())
             self.room.joinpath("go").touch()

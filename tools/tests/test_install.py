@@ -43,7 +43,7 @@ class Case(unittest.TestCase):
 
     def run_it(self, *command, **variables):
         env = {**os.environ, "HOME": str(self.room), **{name: str(value) for name, value in variables.items()}}
-        ran = subprocess.run(command, capture_output=True, text=True, env=env, cwd=self.room, timeout=60, check=False)
+        ran = subprocess.run(command, capture_output=True, text=True, env=env, cwd=self.room, timeout=300, check=False)
         return ran.returncode, ran.stdout, ran.stderr
 
     def install(self):

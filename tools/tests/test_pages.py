@@ -125,7 +125,7 @@ class WithTheProgram(unittest.TestCase):
             cwd=self.room,
             env={**os.environ, "PATH": f"{self.room}/bin:{os.environ['PATH']}"},
             preexec_fn=lambda: resource.setrlimit(resource.RLIMIT_AS, (2**32, 2**32)),
-            timeout=60,
+            timeout=300,
             check=False,
         )
         return ran.returncode, ran.stdout.decode(), ran.stderr.decode()
@@ -157,7 +157,7 @@ class WithTheProgram(unittest.TestCase):
                     stderr=subprocess.STDOUT,
                     cwd=TOP,
                     env=env,
-                    timeout=60,
+                    timeout=300,
                     check=False,
                 )
                 self.assertEqual(output, ran.stdout.decode())
