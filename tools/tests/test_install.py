@@ -42,7 +42,8 @@ class Case(unittest.TestCase):
         self.file.write_text(TEXT)
 
     def run_it(self, *command, **variables):
-        env = {**os.environ, "HOME": str(self.room), **{name: str(value) for name, value in variables.items()}}
+        env = {name: value for name, value in os.environ.items() if name != "RGO"}
+        env.update(HOME=str(self.room), **{name: str(value) for name, value in variables.items()})
         ran = subprocess.run(command, capture_output=True, text=True, env=env, cwd=self.room, timeout=300, check=False)
         return ran.returncode, ran.stdout, ran.stderr
 
