@@ -77,6 +77,13 @@ impl Code {
         self.tac.functions().len()
     }
 
+    /// In each of its lists, a name is below the next one. For callers who rely on this; it does nothing.
+    pub fn ascends(&self)
+        ensures { Ascends self.now }
+    {
+        let _ = &self.tac;
+    }
+
     /// The function of this number.
     pub fn function(&self, n: usize) -> Option<CodeFn<'_>>
         ensures { result ≡ slice_get self.now.functions n }

@@ -15,7 +15,7 @@ pub chosen : (points : List ℕ) (from p : ℕ) → (Contains points p × (from 
     → p + 1 < 2 ^ 32 → Contains points p × (from ≤ p)
 chosen points from p w l = ⊎_elim (λ c. c) (λ e. absurd (omega arith)) w
 
-value_of : (points : List ℕ) (q : ℕ) (h : Contains points q) → get_or points h.0 0 ≡ q
+pub value_of : (points : List ℕ) (q : ℕ) (h : Contains points q) → get_or points h.0 0 ≡ q
 value_of points q h = let e = get_or_default points h.0 0 q h.1 in omega (arith, e, h.2)
 
 -- the place of the first that is not below

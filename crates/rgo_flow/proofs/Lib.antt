@@ -1,9 +1,11 @@
 pub mod Choices
+pub mod Covering
 pub mod Exits
 pub mod Final
 pub mod Heads
 pub mod Instructions
 pub mod Paths
+pub mod Reaching
 pub mod RowPaths
 pub mod Runs
 pub mod Targets

@@ -44,6 +44,16 @@ pub record Blocks (successors : List (List ℕ)) (first last : List ℕ) : Type 
   pub entered : (i j : ℕ) → i < length successors → Relates successors (slice_index last i) j
       → slice_index first j ≡ j
 
+-- the same, of the first and the last instructions alone
+pub record Runs (first last : List ℕ) : Type 0 where
+  pub ahead : (i : ℕ) → i < length first → i ≤ slice_index last i
+  pub inside : (i : ℕ) → i < length first → slice_index last i < length first
+  pub back : (i : ℕ) → i < length first → slice_index first i ≤ i
+  pub same : (i : ℕ) → i < length first → slice_index last (slice_index first i) ≡ slice_index last i
+  pub head : (i : ℕ) → i < length first → slice_index first (slice_index first i) ≡ slice_index first i
+  pub whole : (i k : ℕ) → i < length first → slice_index first i ≡ i → i ≤ k → k ≤ slice_index last i
+      → slice_index first k ≡ i
+
 -- i is the first instruction of a block
 abbrev pub IsHead : List ℕ → ℕ → Type 0
 IsHead first i = (i < length first) × (slice_index first i ≡ i)

@@ -37,6 +37,7 @@ fn live_in(alloc: Global, graph: &Graph) -> Result<Liveness, AllocError>
         first: parts.first,
         last: parts.last,
         exits: parts.exits,
+        before,
         readers,
         writers,
         solved,

@@ -1,6 +1,7 @@
 //! The tables of a function's liveness.
 
 ghost use Rattle.rgo_graphs.specs.Rows.{rows_of};
+ghost use Rattle.rgo_flow.specs.Runs.{AreRuns};
 ghost use Rattle.rgo_flow.specs.Solved.{IsTable};
 
 /// At which instructions each variable of a function is live.
@@ -11,6 +12,8 @@ pub struct Liveness {
     pub(crate) last: Vec<u32>,
     /// For the first instruction of each block, what follows the block.
     pub(crate) exits: Vec<Vec<u32>>,
+    /// For the first instruction of each block, the blocks that it follows.
+    pub(crate) before: Vec<Vec<u32>>,
     /// The instructions that read each variable, and those that write it.
     pub(crate) readers: Vec<Vec<u32>>,
     pub(crate) writers: Vec<Vec<u32>>,
@@ -18,4 +21,6 @@ pub struct Liveness {
     pub(crate) solved: Vec<Vec<u32>>,
     ghost table: { IsTable first.items last.items (rows_of exits.items) (rows_of readers.items)
         (rows_of writers.items) (rows_of solved.items) },
+    ghost runs: { AreRuns first.items last.items (rows_of exits.items) (rows_of before.items)
+        (rows_of readers.items) (rows_of solved.items) },
 }

@@ -14,10 +14,9 @@ ghost use Rattle.rgo_lower.specs.Emitted.{
   with_slot,
 };
 
-use crate::copies::{copy_pieces, copy_type};
 use crate::encode::narrow;
 use rgo_ast::Place;
-use rgo_tac::Instr;
+use rgo_tac::{Instr, copy_pieces, copy_type};
 use rgo_typed::{Piece, Row, Type};
 use std::alloc::{AllocError, Global};
 

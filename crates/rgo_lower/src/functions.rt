@@ -7,11 +7,10 @@ ghost use Rattle.rgo_lower.specs.Emitted.{made_of, always, OpIsAdded, Begins, fi
 
 use crate::blocks::lower_stmts;
 use crate::builder::Builder;
-use crate::copies::{copy_name, copy_result, copy_types};
 use crate::encode::narrow;
 use crate::targets::{instrs_of, places_of};
 use rgo_ast::Place;
-use rgo_tac::{Body, TacFn};
+use rgo_tac::{Body, TacFn, copy_name, copy_result, copy_types};
 use rgo_typed::{Function, Row, Type};
 use std::alloc::{AllocError, Global};
 

@@ -3,7 +3,6 @@
 
 mod blocks;
 mod builder;
-mod copies;
 mod encode;
 mod functions;
 mod instructions;

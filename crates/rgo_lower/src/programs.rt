@@ -5,9 +5,8 @@ ghost use Rattle.rgo_typed.specs.Views.{typed_of};
 ghost use Rattle.rgo_wellformed.specs.WellFormed.{IsWellFormed};
 ghost use Rattle.rgo_lower.specs.Lowered.{IsLowered};
 
-use crate::copies::{copy_structs, copy_variables};
 use crate::functions::lower_function;
-use rgo_tac::Tac;
+use rgo_tac::{Tac, copy_structs, copy_variables};
 use rgo_typed::{Row, Typed};
 use std::alloc::{AllocError, Global};
 

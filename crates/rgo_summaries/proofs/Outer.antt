@@ -30,13 +30,13 @@ below_or_last n k l = grind arith
 
 -- ---- the members in order
 
-before_after : (n k : ℕ) (after : List Member) → slice_get (variables_before n after) (n + k) ≡ slice_get after k
+pub before_after : (n k : ℕ) (after : List Member) → slice_get (variables_before n after) (n + k) ≡ slice_get after k
 before_after zero k after = ap (slice_get after) (omega arith)
 before_after (suc n) k after =
     let j : suc n + k ≡ n + suc k = omega arith in
     ap (slice_get (variables_before n (Variable n ∷ after))) j ∙ before_after n (suc k) (Variable n ∷ after)
 
-before_get : (n k : ℕ) (after : List Member) → k < n → slice_get (variables_before n after) k ≡ Some (Variable k)
+pub before_get : (n k : ℕ) (after : List Member) → k < n → slice_get (variables_before n after) k ≡ Some (Variable k)
 before_get zero k after l = absurd (omega (arith, l))
 before_get (suc n) k after l = ⊎_elim
     (λ less. before_get n k (Variable n ∷ after) less)
@@ -47,7 +47,7 @@ before_get (suc n) k after l = ⊎_elim
     ∙ ap (λ v. Some (Variable v)) (sym plain))
     (cases_lt k n)
 
-before_len : (n : ℕ) (after : List Member) → length (variables_before n after) ≡ n + length after
+pub before_len : (n : ℕ) (after : List Member) → length (variables_before n after) ≡ n + length after
 before_len zero after = omega arith
 before_len (suc n) after =
     let e : n + suc (length after) ≡ suc n + length after = omega arith in

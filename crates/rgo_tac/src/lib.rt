@@ -4,6 +4,8 @@
 mod acts;
 mod cases;
 mod code;
+mod copies;
+mod copying;
 mod flow;
 mod frames;
 mod functions;
@@ -18,6 +20,7 @@ mod states;
 mod widths;
 
 pub use code::{Body, Instr};
+pub use copies::{copy_items, copy_name, copy_pieces, copy_result, copy_structs, copy_type, copy_types, copy_variables};
 pub use flow::{ReadVariables, Targets, leads_to, reads, writes};
 pub use frames::Frame;
 pub use functions::TacFn;

@@ -1,8 +1,7 @@
 //! The tests above all other crates: whole calls, the typing of programs, sources and sinks. Each test calls public
 //! functions only, with values that were worked out by hand or come from another program.
 //!
-//! There are four crates of tests, which are proved beside each other: this one, `rgo_text_tests`, `rgo_typing_tests` and
-//! `rgo_machine_tests`.
+//! The crates of tests are several, so that they are proved beside each other.
 #![tactic(auto)]
 
 #[cfg(test)]

@@ -1,7 +1,5 @@
 //! The tests of trees, of the typing of expressions, and of values and memory, a module for each crate. Each test
 //! calls public functions only, with values that were worked out by hand or come from another program.
-//!
-//! There are three crates of tests, which are proved beside each other: this one, `rgo_text_tests` and `rgo_tests`.
 #![tactic(auto)]
 
 #[cfg(test)]

@@ -1,0 +1,152 @@
+-- What the checker computes for the rules on classes and names.
+use Rattle.std.specs.Prelude.{◌≡◌, ◌<◌, ℕ, Bool, true, false, ◌&&◌, ◌||◌, not, List, [], ◌∷◌, Option, Some, None, slice_get, nat_eq, if◌then◌else◌, ⊤}
+use Rattle.std.specs.HashMap.{HashMap, get}
+use Rattle.std.specs.List.{list_any}
+use Rattle.rgo_typed.specs.declared.actions.Action.{Action}
+use Rattle.rgo_typed.specs.declared.types.Type.{«Type»}
+use Rattle.rgo_typed.specs.Types.{is_pointer_like}
+use Rattle.rgo_tac.specs.declared.regions.Class.{Class}
+use Rattle.rgo_tac.specs.declared.regions.Class.TheVariants.{NoClass, Global, Name}
+use Rattle.rgo_tac.specs.declared.regions.Member.{Member}
+use Rattle.rgo_tac.specs.Code.{Op, Do, Call, Go, Print, Jump, Branch, Return}
+use Rattle.rgo_tac.specs.Joins.{joins}
+use Rattle.rgo_code.specs.Code.{Slot, CodeFn, Code}
+use Rattle.rgo_code.specs.ClassRules.{is_of_package, IsPassedFor, CallPasses, StartPasses}
+use Rattle.rgo_code.specs.Erasure.{erased_fn}
+use Rattle.rgo_code.specs.Names.{class_of, result_class, member_class, region_parameters}
+use Rattle.rgo_checker.specs.declared.passing.Called.{Called}
+
+abbrev pub same_class : Class → Class → Bool
+same_class NoClass NoClass = true
+same_class Global Global = true
+same_class (Name m) (Name n) = nat_eq m n
+same_class _ _ = false
+
+-- ---- rule 3
+
+abbrev pub has_class : Class → Bool
+has_class NoClass = false
+has_class c = true
+
+abbrev pub class_fits : Class → «Type» → Bool
+class_fits c ty = if has_class c then is_pointer_like ty else not (is_pointer_like ty)
+
+abbrev pub result_fits : Class → Option «Type» → Bool
+result_fits c None = true
+result_fits c (Some ty) = class_fits c ty
+
+-- ---- rules 4, 5 and 11
+
+abbrev pub agree : CodeFn → Option (Member × Member) → Bool
+agree f None = true
+agree f (Some pair) = same_class (member_class f pair.0) (member_class f pair.1)
+
+abbrev pub op_agrees : CodeFn → Op → Bool
+op_agrees f op = agree f (joins (erased_fn f) op)
+
+abbrev pub joins_agree : CodeFn → Op → Bool
+joins_agree f (Do to action from) = is_of_package action || op_agrees f (Do to action from)
+joins_agree f op = true
+
+abbrev pub globals_agree : CodeFn → Op → Bool
+globals_agree f (Do to action from) = not (is_of_package action) || op_agrees f (Do to action from)
+globals_agree f op = true
+
+abbrev pub return_agrees : CodeFn → Op → Bool
+return_agrees f (Return value) = op_agrees f (Return value)
+return_agrees f op = true
+
+-- ---- rules 6 and 7
+
+-- The map has the place of each name among the classes.
+abbrev pub ArePlaces : {S : Type 0} → List Class → HashMap ℕ ℕ S → Type 0
+ArePlaces classes places =
+    (k p : ℕ) → (get nat_eq places k ≡ Some p → slice_get classes p ≡ Some (Name k))
+    × (get nat_eq places k ≡ None → slice_get classes p ≡ Some (Name k) → ⊥)
+
+-- each name has one place
+abbrev pub AreDistinct : List Class → Type 0
+AreDistinct classes =
+    (k p q : ℕ) → slice_get classes p ≡ Some (Name k) → slice_get classes q ≡ Some (Name k) → p ≡ q
+
+abbrev pub is_class : Option Class → Class → Bool
+is_class None c = false
+is_class (Some d) c = same_class d c
+
+-- the class is passed at the place
+abbrev pub is_passed_at : Option ℕ → (passes : List Class) → Class → Bool
+is_passed_at None passes c = true
+is_passed_at (Some p) passes c = is_class (slice_get passes p) c
+
+abbrev pub is_passed_for : {S : Type 0} → HashMap ℕ ℕ S → (passes : List Class) → (parameter argument : Class) → Bool
+is_passed_for places passes NoClass argument = true
+is_passed_for places passes Global argument = same_class argument Global
+is_passed_for places passes (Name k) argument = is_passed_at (get nat_eq places k) passes argument
+
+-- what is passed for the parameters
+abbrev pub ArgumentsPass : (f callee : CodeFn) → (parameters passes : List Class) → (from : List ℕ) → Type 0
+ArgumentsPass f callee parameters passes from =
+    (i v : ℕ) → i < callee.params → slice_get from i ≡ Some v
+    → IsPassedFor parameters passes (class_of callee i) (class_of f v)
+
+abbrev pub TargetPasses : (f callee : CodeFn) → (parameters passes : List Class) → (to : Option ℕ) → Type 0
+TargetPasses f callee parameters passes to =
+    (d : ℕ) → to ≡ Some d → IsPassedFor parameters passes (result_class callee) (class_of f d)
+
+abbrev pub ArgumentPasses : (f callee : CodeFn) → (parameters passes : List Class) → (i v : ℕ) → Type 0
+ArgumentPasses f callee parameters passes i v =
+    i < callee.params → IsPassedFor parameters passes (class_of callee i) (class_of f v)
+
+-- calls and starts, by target, function and arguments
+abbrev pub called : Called → Option ℕ × ℕ × List ℕ
+called c = (c.to, c.function, c.from.now)
+
+abbrev pub call_of : Op → Option (Option ℕ × ℕ × List ℕ)
+call_of (Call to n from) = Some (to, n, from)
+call_of op = None
+
+abbrev pub start_of : Op → Option (Option ℕ × ℕ × List ℕ)
+start_of (Go n from) = Some (None, n, from)
+start_of op = None
+
+abbrev pub CalledPasses : Code → CodeFn → List Class → Option ℕ × ℕ × List ℕ → Type 0
+CalledPasses code f passes call = CallPasses f (slice_get code.functions call.1) call.0 call.2 passes
+
+abbrev pub StartedPasses : Code → CodeFn → List Class → Option ℕ × ℕ × List ℕ → Type 0
+StartedPasses code f passes call = StartPasses f (slice_get code.functions call.1) call.2 passes
+
+-- what is passed, of three-address code
+abbrev pub CallPassesBy : Code → CodeFn → List Class → Op → Type 0
+CallPassesBy code f passes (Call to n from) = CallPasses f (slice_get code.functions n) to from passes
+CallPassesBy code f passes op = ⊤
+
+abbrev pub StartPassesBy : Code → CodeFn → List Class → Op → Type 0
+StartPassesBy code f passes (Go n from) = StartPasses f (slice_get code.functions n) from passes
+StartPassesBy code f passes op = ⊤
+
+-- ---- rules 12 and 14
+
+-- the name is not among these
+abbrev pub is_free : Class → List ℕ → Bool
+is_free (Name k) names = not (list_any (λ j. nat_eq j k) names)
+is_free c names = true
+
+abbrev pub lends : Class → (creates removes otherwise : List ℕ) → Bool
+lends c creates removes otherwise = is_free c creates && (is_free c removes && is_free c otherwise)
+
+abbrev pub is_empty : List ℕ → Bool
+is_empty [] = true
+is_empty (k ∷ ks) = false
+
+-- no name, or that of the result
+abbrev pub is_lent : Class → Class → Bool
+is_lent result (Name k) = same_class result (Name k)
+is_lent result c = true
+
+abbrev pub value_is_lent : CodeFn → Option ℕ → Bool
+value_is_lent f None = true
+value_is_lent f (Some v) = is_lent (result_class f) (class_of f v)
+
+abbrev pub ends_empty : CodeFn → (creates : List ℕ) → Op → Bool
+ends_empty f creates (Return value) = is_empty creates && value_is_lent f value
+ends_empty f creates op = true

@@ -1,0 +1,11 @@
+pub mod ClassTests
+pub mod Instrs
+pub mod Lines
+pub mod Naming
+pub mod Outcomes
+pub mod Parameters
+pub mod Prepared
+pub mod Regions
+pub mod Scan
+pub mod Tests
+pub mod TypeTests

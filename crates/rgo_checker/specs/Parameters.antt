@@ -1,0 +1,15 @@
+-- The places of names among classes, as far as a walk over them has come.
+use Rattle.std.specs.Prelude.{◌≡◌, ◌<◌, ℕ, List, Option, Some, slice_get, nat_eq, if◌then◌else◌, MatchOption}
+use Rattle.std.specs.HashMap.{HashMap, get}
+use Rattle.rgo_tac.specs.declared.regions.Class.{Class}
+use Rattle.rgo_tac.specs.declared.regions.Class.TheVariants.{Name}
+
+abbrev pub ArePlacesBelow : {S : Type 0} → List Class → ℕ → HashMap ℕ ℕ S → Type 0
+ArePlacesBelow classes count places =
+    (k : ℕ) → MatchOption (get nat_eq places k) ((p : ℕ) → p < count → slice_get classes p ≡ Some (Name k) → ⊥)
+    (λ p. slice_get classes p ≡ Some (Name k))
+
+-- what a map has at q once a class is at place p
+abbrev pub placed : Class → (p q : ℕ) → Option ℕ → Option ℕ
+placed (Name k) p q before = if nat_eq k q then Some p else before
+placed c p q before = before

@@ -1,0 +1,53 @@
+-- What is known after a walk over lines: the least rule that they break, and the first line that breaks it.
+use Rattle.std.specs.Prelude.{◌≡◌, ◌<◌, ◌≤◌, ◌+◌, ℕ, List, ◌++◌, length, Option, Some, None, slice_get}
+use Rattle.rgo_code.specs.declared.rules.CodeRefusal.{CodeRefusal}
+use Rattle.rgo_code.specs.declared.rules.Line.{Line}
+use Rattle.rgo_code.specs.declared.rules.Rule.{Rule}
+use Rattle.rgo_code.specs.Checked.{KeptAt, rule_number}
+use Rattle.rgo_code.specs.Code.{Code}
+use Rattle.rgo_checker.specs.declared.scan.Scan.{Scan}
+
+-- the rule is kept at the line
+unfoldable pub IsKept : Code → Rule → Line → Type 0
+IsKept code rule line = KeptAt code rule line
+
+-- the rules with numbers from `from` up to but not `to` are kept at these lines
+abbrev pub AreKept : Code → (from to : ℕ) → List Line → Type 0
+AreKept code from to lines =
+    (rule : Rule) (place : ℕ) (l : Line) → from ≤ rule_number rule → rule_number rule < to
+    → slice_get lines place ≡ Some l → IsKept code rule l
+
+-- the line of this number is the first of these that breaks the rule; the first of them has the number 2
+pub record BreaksFirst (code : Code) (lines : List Line) (rule : Rule) (number : ℕ) : Type 0 where
+  pub place : ℕ
+  pub at : Line
+  pub there : slice_get lines place ≡ Some at
+  pub numbered : number ≡ place + 2
+  pub is_broken : IsKept code rule at → ⊥
+  pub first : (before : ℕ) (l : Line) → before < place → slice_get lines before ≡ Some l → IsKept code rule l
+
+pub record IsBroken (code : Code) (from to : ℕ) (lines : List Line) (limit : ℕ) (x : CodeRefusal) : Type 0 where
+  pub limit_is : limit ≡ rule_number x.rule
+  pub low : from ≤ limit
+  pub high : limit < to
+  pub breaks : BreaksFirst code lines x.rule x.line
+
+abbrev pub BrokenIs : Code → (from to : ℕ) → List Line → (limit : ℕ) → Option CodeRefusal → Type 0
+BrokenIs code from to lines limit None = limit ≡ to
+BrokenIs code from to lines limit (Some x) = IsBroken code from to lines limit x
+
+-- these lines were walked over, with the rules with numbers from `from` up to but not `to`
+pub record Scanned (code : Code) (from to : ℕ) (lines : List Line) (s : Scan) : Type 0 where
+  pub line : s.line ≡ length lines + 2
+  pub kept : AreKept code from s.limit lines
+  pub broken : BrokenIs code from to lines s.limit s.broken
+
+-- a walk over these lines leads from one state to another
+pub record Walks (code : Code) (from to : ℕ) (lines : List Line) (old new : Scan) : Type 0 where
+  pub walks : (seen : List Line) → Scanned code from to seen old → Scanned code from to (seen ++ lines) new
+
+-- the next line is walked over, and breaks this rule
+abbrev pub passed : Scan → Option Rule → Scan
+passed s None = record { line = s.line + 1; limit = s.limit; broken = s.broken }
+passed s (Some rule) =
+    record { line = s.line + 1; limit = rule_number rule; broken = Some (record { rule = rule; line = s.line }) }

@@ -1,0 +1,182 @@
+-- Tests on types, and what actions take and return, as the checker computes it.
+use Rattle.std.specs.Prelude.{ℕ, Bool, true, false, ◌&&◌, not, List, [], ◌∷◌, length, Option, Some, None, slice_get, nat_eq, nat_lt}
+use Rattle.std.specs.Cmp.Lexicographic.{pointwise}
+use Rattle.rgo_ast.specs.declared.ops.BinaryOp.{BinaryOp}
+use Rattle.rgo_ast.specs.declared.ops.BinaryOp.TheVariants as binary
+use Rattle.rgo_typed.specs.declared.actions.Action.{Action}
+use Rattle.rgo_typed.specs.declared.actions.Action.TheVariants as action
+use Rattle.rgo_typed.specs.declared.programs.Struct.{Struct}
+use Rattle.rgo_typed.specs.declared.programs.Variable.{Variable}
+use Rattle.rgo_typed.specs.declared.types.Base.{Base}
+use Rattle.rgo_typed.specs.declared.types.Base.TheVariants as base
+use Rattle.rgo_typed.specs.declared.types.Layer.{Layer}
+use Rattle.rgo_typed.specs.declared.types.Layer.TheVariants.{Slice, Chan}
+use Rattle.rgo_typed.specs.declared.types.Type.{«Type»}
+use Rattle.rgo_typed.specs.Types.{is_pointer_like}
+use Rattle.rgo_wellformed.specs.TypeRules.{is_slice}
+use Rattle.rgo_tac.specs.Code.{Tac}
+
+-- ---- types
+
+abbrev pub same_base : Base → Base → Bool
+same_base base.Int base.Int = true
+same_base base.Bool base.Bool = true
+same_base (base.Pointer m) (base.Pointer n) = nat_eq m n
+same_base _ _ = false
+
+abbrev pub same_layer : Layer → Layer → Bool
+same_layer Slice Slice = true
+same_layer Chan Chan = true
+same_layer _ _ = false
+
+abbrev pub same_layers : (ls ms : List Layer) → Bool
+same_layers ls ms = pointwise same_layer ls ms
+
+abbrev pub same_type : «Type» → «Type» → Bool
+same_type t u = same_base t.base u.base && same_layers t.layers u.layers
+
+abbrev pub is_bare : List Layer → Bool
+is_bare [] = true
+is_bare (l ∷ ls) = false
+
+-- a base without layers
+abbrev pub is_plain : Base → «Type» → Bool
+is_plain b t = is_bare t.layers && same_base t.base b
+
+abbrev pub is_int : «Type» → Bool
+is_int t = is_plain base.Int t
+
+abbrev pub is_bool : «Type» → Bool
+is_bool t = is_plain base.Bool t
+
+abbrev pub first_layer : List Layer → Option Layer
+first_layer [] = None
+first_layer (l ∷ ls) = Some l
+
+abbrev pub is_chan_in : List Layer → Bool
+is_chan_in (Chan ∷ layers) = true
+is_chan_in _ = false
+
+abbrev pub is_chan : «Type» → Bool
+is_chan t = is_chan_in t.layers
+
+-- the first layer is this one, and inside of it are these
+abbrev pub are_around : Layer → (outer inner : List Layer) → Bool
+are_around layer [] inner = false
+are_around layer (l ∷ ls) inner = same_layer l layer && same_layers ls inner
+
+-- slices of, or channels of
+abbrev pub is_around : Layer → (outer inner : «Type») → Bool
+is_around layer outer inner = same_base outer.base inner.base && are_around layer outer.layers inner.layers
+
+abbrev pub pointed_base : Base → Option ℕ
+pointed_base (base.Pointer n) = Some n
+pointed_base _ = None
+
+abbrev pub pointed_in : List Layer → Base → Option ℕ
+pointed_in [] b = pointed_base b
+pointed_in (l ∷ ls) b = None
+
+-- the struct that a pointer points to
+abbrev pub pointed : «Type» → Option ℕ
+pointed t = pointed_in t.layers t.base
+
+-- ---- actions
+
+abbrev pub is_type : Option «Type» → «Type» → Bool
+is_type None t = false
+is_type (Some u) t = same_type u t
+
+abbrev pub is_field_of : Option Struct → ℕ → «Type» → Bool
+is_field_of None k t = false
+is_field_of (Some s) k t = is_type (slice_get s.fields k) t
+
+abbrev pub is_field_in : Tac → Option ℕ → ℕ → «Type» → Bool
+is_field_in code None k t = false
+is_field_in code (Some n) k t = is_field_of (slice_get code.structs n) k t
+
+-- a pointer to a struct that has a field of this number and type
+abbrev pub is_field : Tac → «Type» → ℕ → «Type» → Bool
+is_field code pointer k t = is_field_in code (pointed pointer) k t
+
+abbrev pub is_variable : Option Variable → «Type» → Bool
+is_variable None t = false
+is_variable (Some v) t = same_type v.ty t
+
+-- a pointer to the struct of this number, which is declared
+abbrev pub is_new : Tac → ℕ → «Type» → Bool
+is_new code n t = is_plain (base.Pointer n) t && nat_lt n (length code.structs)
+
+abbrev pub compares : (a b t : «Type») → Bool
+compares a b t = same_type a b && (not (is_slice a) && is_bool t)
+
+abbrev pub orders : (a b t : «Type») → Bool
+orders a b t = is_int a && (is_int b && is_bool t)
+
+abbrev pub counts : (a b t : «Type») → Bool
+counts a b t = is_int a && (is_int b && is_int t)
+
+abbrev pub computes : BinaryOp → (a b t : «Type») → Bool
+computes binary.Eq a b t = compares a b t
+computes binary.Ne a b t = compares a b t
+computes binary.Lt a b t = orders a b t
+computes binary.Le a b t = orders a b t
+computes binary.Gt a b t = orders a b t
+computes binary.Ge a b t = orders a b t
+computes binary.And a b t = false
+computes binary.Or a b t = false
+computes op a b t = counts a b t
+
+abbrev pub returns_of_none : Tac → Action → «Type» → Bool
+returns_of_none code (action.Int n) t = is_int t
+returns_of_none code (action.Bool b) t = is_bool t
+returns_of_none code action.Nil t = is_pointer_like t
+returns_of_none code (action.New n) t = is_new code n t
+returns_of_none code (action.Get n) t = is_variable (slice_get code.variables n) t
+returns_of_none code action t = false
+
+abbrev pub returns_of_one : Tac → Action → (a t : «Type») → Bool
+returns_of_one code action.Copy a t = same_type a t
+returns_of_one code action.Neg a t = is_int a && is_int t
+returns_of_one code action.Not a t = is_bool a && is_bool t
+returns_of_one code action.IsNil a t = is_pointer_like a && is_bool t
+returns_of_one code action.Len a t = is_slice a && is_int t
+returns_of_one code (action.Load k) a t = is_field code a k t
+returns_of_one code action.Slice a t = is_int a && is_slice t
+returns_of_one code action.Chan a t = is_int a && is_chan t
+returns_of_one code action.Recv a t = is_around Chan a t
+returns_of_one code action a t = false
+
+abbrev pub returns_of_two : Action → (a b t : «Type») → Bool
+returns_of_two (action.Binary op) a b t = computes op a b t
+returns_of_two action.At a b t = is_around Slice a t && is_int b
+returns_of_two action a b t = false
+
+-- an action on operands of these types returns a value of type t
+abbrev pub returns : Tac → Action → List «Type» → «Type» → Bool
+returns code action [] t = returns_of_none code action t
+returns code action (a ∷ []) t = returns_of_one code action a t
+returns code action (a ∷ b ∷ []) t = returns_of_two action a b t
+returns code action (a ∷ b ∷ c ∷ rest) t = false
+
+abbrev pub takes_one : Tac → Action → «Type» → Bool
+takes_one code action.Close a = is_chan a
+takes_one code (action.Set n) a = is_variable (slice_get code.variables n) a
+takes_one code action a = false
+
+abbrev pub takes_two : Tac → Action → (a b : «Type») → Bool
+takes_two code (action.Store k) a b = is_field code a k b
+takes_two code action.Send a b = is_around Chan a b
+takes_two code action a b = false
+
+abbrev pub takes_three : Action → (a b c : «Type») → Bool
+takes_three action.Put a b c = is_around Slice a c && is_int b
+takes_three action a b c = false
+
+-- an action without value takes operands of these types
+abbrev pub takes : Tac → Action → List «Type» → Bool
+takes code action [] = false
+takes code action (a ∷ []) = takes_one code action a
+takes code action (a ∷ b ∷ []) = takes_two code action a b
+takes code action (a ∷ b ∷ c ∷ []) = takes_three action a b c
+takes code action (a ∷ b ∷ c ∷ d ∷ rest) = false

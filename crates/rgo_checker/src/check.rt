@@ -1,0 +1,48 @@
+//! The checker.
+
+ghost use Rattle.std.specs.Prelude.{IfOk, MatchOption, MatchResult};
+ghost use Rattle.rgo_code.specs.Checked.{IsChecked, IsFirstBroken};
+ghost use Rattle.rgo_checker.specs.Outcomes.{CheckFails};
+
+use crate::errors::CheckError;
+use crate::existence::walk_existence;
+use crate::walking::walk_rules;
+use rgo_code::{Code, CodeRefusal};
+use std::alloc::{AllocError, Global};
+
+/// The least rule that is broken, and the first line that breaks it. The first rule is checked at all lines before the
+/// others are: these may then rely on numbers that exist, which bounds the memory that they need.
+fn find_broken(alloc: Global, code: &Code) -> Result<Option<CodeRefusal>, AllocError>
+    ensures { IfOk result (λ broken. MatchOption broken (IsChecked code.now)
+        (λ x. IsFirstBroken code.now x.rule x.line)) }
+{
+    match walk_existence(alloc, code)? {
+        Some(refusal) => Ok(Some(refusal)),
+        None => walk_rules(alloc, code),
+    }
+}
+
+fn report(code: &Code, broken: Option<CodeRefusal>) -> Result<(), CheckError>
+    requires { MatchOption broken (IsChecked code.now) (λ x. IsFirstBroken code.now x.rule x.line) }
+    ensures { MatchResult result (λ done. IsChecked code.now) (λ e. CheckFails e code.now) }
+{
+    match broken {
+        Some(refusal) => Err(CheckError::Refused(refusal)),
+        None => Ok(()),
+    }
+}
+
+/// Whether code keeps the fourteen rules.
+///
+/// # Errors
+///
+/// The least rule that it breaks, and the first line that breaks it. On allocation failure, and if the code has more
+/// lines than numbers of 32 bits, `NoMemory`.
+pub fn check_code(alloc: Global, code: &Code) -> Result<(), CheckError>
+    ensures { MatchResult result (λ done. IsChecked code.now) (λ e. CheckFails e code.now) }
+{
+    match find_broken(alloc, code) {
+        Ok(broken) => report(code, broken),
+        Err(_) => Err(CheckError::NoMemory),
+    }
+}

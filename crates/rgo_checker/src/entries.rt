@@ -1,0 +1,49 @@
+//! Which rules the removals at the entry of a function keep, and the least one that they break.
+
+ghost use Rattle.std.specs.Prelude.{◌≡◌, IfOk};
+ghost use Rattle.std.specs.Bool.{Decides};
+ghost use Rattle.rgo_checker.specs.Instrs.{EntryKept, LeastBroken};
+ghost use Rattle.rgo_checker.specs.Prepared.{IsPrepared};
+
+use crate::instructions::rule_of;
+use crate::lending::is_free;
+use crate::regions::{entry_known, entry_removes_dead};
+use rgo_code::{CodeFn, Rule};
+use rgo_region_sets::LiveNames;
+use std::alloc::{AllocError, Global};
+
+#[tactic(auto, unfolding(crate::specs::Instrs::EntryKept))]
+fn keeps(alloc: Global, rule: Rule, f: &CodeFn<'_>, live: &LiveNames) -> Result<bool, AllocError>
+    requires { IsPrepared live.now f.now }
+    ensures { IfOk result (λ b. Decides b (EntryKept f.now rule)) }
+{
+    match rule {
+        Rule::Entry => entry_known(alloc, f, live),
+        Rule::Lending => Ok(is_free(f.result_class(), f.entry())),
+        Rule::Removals => entry_removes_dead(alloc, f, live),
+        _ => Ok(true),
+    }
+}
+
+/// The least rule after the first, below the limit, that is broken at the entry.
+pub(crate) fn least_broken(
+    alloc: Global,
+    limit: u8,
+    f: &CodeFn<'_>,
+    live: &LiveNames,
+) -> Result<Option<Rule>, AllocError>
+    requires { IsPrepared live.now f.now }
+    ensures { IfOk result (λ broken. LeastBroken (EntryKept f.now) 2 limit broken) }
+{
+    for number in 2..15 {
+        if number >= limit {
+            return Ok(None);
+        }
+        let rule = rule_of(number);
+        let kept = keeps(alloc, rule, f, live)?;
+        if !kept {
+            return Ok(Some(rule));
+        }
+    }
+    Ok(None)
+}

@@ -1,0 +1,248 @@
+//! The walk over all lines for the first rule.
+
+ghost use Rattle.std.specs.Prelude.{◌≡◌, ◌∷◌, ◌++◌, [], ℕ, List, Some, length, map, slice_get, take, nat_lt, bytes_eq, IfOk, OnOk, MatchOption};
+ghost use Rattle.std.specs.Bool.{Decides};
+ghost use Rattle.rgo_code.specs.declared.rules.Line.TheVariants as line;
+ghost use Rattle.rgo_code.specs.declared.rules.Rule.TheVariants as rule;
+ghost use Rattle.rgo_code.specs.Checked.{IsFirstBroken, Keeps};
+ghost use Rattle.rgo_code.specs.Code.{CodeFn as AnyFn};
+ghost use Rattle.rgo_checker.specs.Instrs.{InstrKept};
+ghost use Rattle.rgo_checker.specs.Lines as lines;
+ghost use Rattle.rgo_checker.specs.Naming.{AreNames, fn_names};
+ghost use Rattle.rgo_checker.specs.Scan.{Walks, passed};
+ghost use Rattle.rgo_checker.specs.Tests as tests;
+
+use crate::bools::both;
+use crate::existing::{head_exists, instr_exists, type_exists, types_exist};
+use crate::naming::{Names, add};
+use crate::scan::{Scan, broken_if, pass};
+use rgo_code::{Code, CodeFn, CodeRefusal, Rule};
+use rgo_tac::{Tac, TacFn};
+use rgo_typed::{Struct, Variable};
+use std::alloc::{AllocError, Global};
+use std::collections::HashSet;
+
+/// Notes whether the first rule is kept at the next line.
+fn pass_existence(scan: &mut Scan, kept: bool) -> Result<(), AllocError>
+    ensures { OnOk result (scan.new ≡ passed scan.old (tests.broken_if scan.old.limit rule.Exists kept)) }
+{
+    let broken = broken_if(scan.limit, Rule::Exists, kept);
+    pass(scan, broken)
+}
+
+fn walk_struct<'a>(
+    code: &Code,
+    names: &mut Names<'a>,
+    s: &'a Struct,
+    scan: &mut Scan,
+) -> Result<(), AllocError>
+    ensures names { OnOk result ((seen : List (List ℕ)) → AreNames names.old seen
+        → AreNames names.new (seen ++ s.now.name ∷ [])) }
+    ensures walks { OnOk result ((n : ℕ) → slice_get code.now.structs n ≡ Some s.now
+        → AreNames names.old (take n (map (λ s. s.name) code.now.structs))
+        → Walks code.now 1 2 (line.Struct n ∷ []) scan.old scan.new) }
+{
+    let is_new = add(names, s.name.bytes())?;
+    let exist = types_exist(code.tac(), s.fields.items());
+    pass_existence(scan, both(is_new, exist))
+}
+
+fn walk_structs(alloc: Global, code: &Code, scan: &mut Scan) -> Result<(), AllocError>
+    ensures { OnOk result (Walks code.now 1 2 (lines.struct_lines code.now.structs) scan.old scan.new) }
+{
+    let structs = code.tac().structs();
+    let mut names = HashSet::new(alloc);
+    for n in 0..structs.len() {
+        walk_struct(code, &mut names, &structs[n], scan)?;
+    }
+    Ok(())
+}
+
+fn walk_variable<'a>(
+    code: &Code,
+    names: &mut Names<'a>,
+    v: &'a Variable,
+    scan: &mut Scan,
+) -> Result<(), AllocError>
+    ensures names { OnOk result ((seen : List (List ℕ)) → AreNames names.old seen
+        → AreNames names.new (seen ++ v.now.name ∷ [])) }
+    ensures walks { OnOk result ((n : ℕ) → slice_get code.now.variables n ≡ Some v.now
+        → AreNames names.old (take n (map (λ v. v.name) code.now.variables))
+        → Walks code.now 1 2 (line.Variable n ∷ []) scan.old scan.new) }
+{
+    let is_new = add(names, v.name.bytes())?;
+    let exists = type_exists(code.tac(), &v.ty);
+    pass_existence(scan, both(is_new, exists))
+}
+
+fn walk_variables(alloc: Global, code: &Code, scan: &mut Scan) -> Result<(), AllocError>
+    ensures { OnOk result (Walks code.now 1 2 (lines.variable_lines code.now.variables) scan.old scan.new) }
+{
+    let variables = code.tac().variables();
+    let mut names = HashSet::new(alloc);
+    for n in 0..variables.len() {
+        walk_variable(code, &mut names, &variables[n], scan)?;
+    }
+    Ok(())
+}
+
+fn walk_head<'a>(
+    code: &Code,
+    names: &mut Names<'a>,
+    f: &CodeFn<'a>,
+    scan: &mut Scan,
+) -> Result<(), AllocError>
+    ensures names { OnOk result ((seen : List (List ℕ)) → AreNames names.old seen
+        → AreNames names.new (seen ++ f.now.name ∷ [])) }
+    ensures walks { OnOk result ((n : ℕ) → slice_get code.now.functions n ≡ Some f.now
+        → AreNames names.old (take n (fn_names code.now))
+        → Walks code.now 1 2 (line.Function n ∷ []) scan.old scan.new) }
+{
+    let function = f.tac();
+    let is_new = add(names, function.name().bytes())?;
+    let exists = head_exists(code.tac(), function);
+    pass_existence(scan, both(is_new, exists))
+}
+
+fn walk_slots(code: &Code, f: &CodeFn<'_>, scan: &mut Scan) -> Result<(), AllocError>
+    ensures { OnOk result ((n : ℕ) → slice_get code.now.functions n ≡ Some f.now
+        → Walks code.now 1 2 (lines.slot_lines n f.now.variables) scan.old scan.new) }
+{
+    let program = code.tac();
+    let types = f.tac().variables();
+    for v in 0..types.len() {
+        let exists = type_exists(program, &types[v]);
+        pass_existence(scan, exists)?;
+    }
+    Ok(())
+}
+
+fn instr_is_kept(code: &Code, f: &CodeFn<'_>, at: usize) -> bool
+    ensures { Decides result (InstrKept code.now f.now at rule.Exists) }
+{
+    let program = code.tac();
+    let function = f.tac();
+    match function.op(at) {
+        Some(op) => instr_exists(program, function, at, op),
+        None => true,
+    }
+}
+
+fn walk_body(code: &Code, f: &CodeFn<'_>, scan: &mut Scan) -> Result<(), AllocError>
+    ensures { OnOk result ((n : ℕ) → slice_get code.now.functions n ≡ Some f.now
+        → Walks code.now 1 2 (lines.instr_lines n f.now.body) scan.old scan.new) }
+{
+    for at in 0..f.tac().len() {
+        let kept = instr_is_kept(code, f, at);
+        pass_existence(scan, kept)?;
+    }
+    Ok(())
+}
+
+fn has_body(f: &CodeFn<'_>) -> bool
+    ensures { result ≡ nat_lt 0 (length f.now.body) }
+{
+    f.tac().len() > 0
+}
+
+fn walk_end(code: &Code, f: &CodeFn<'_>, scan: &mut Scan) -> Result<(), AllocError>
+    ensures { OnOk result ((n : ℕ) → slice_get code.now.functions n ≡ Some f.now
+        → Walks code.now 1 2 (line.End n ∷ []) scan.old scan.new) }
+{
+    let kept = has_body(f);
+    pass_existence(scan, kept)
+}
+
+fn walk_entry(code: &Code, scan: &mut Scan) -> Result<(), AllocError>
+    ensures { OnOk result ((n : ℕ) → Walks code.now 1 2 (line.Entry n ∷ []) scan.old scan.new) }
+{
+    pass(scan, None)
+}
+
+fn walk_function<'a>(
+    code: &Code,
+    names: &mut Names<'a>,
+    f: &CodeFn<'a>,
+    scan: &mut Scan,
+) -> Result<(), AllocError>
+    ensures names { OnOk result ((seen : List (List ℕ)) → AreNames names.old seen
+        → AreNames names.new (seen ++ f.now.name ∷ [])) }
+    ensures walks { OnOk result ((n : ℕ) → slice_get code.now.functions n ≡ Some f.now
+        → AreNames names.old (take n (fn_names code.now))
+        → Walks code.now 1 2 (lines.fn_lines n f.now) scan.old scan.new) }
+{
+    walk_head(code, names, f, scan)?;
+    walk_slots(code, f, scan)?;
+    walk_entry(code, scan)?;
+    walk_body(code, f, scan)?;
+    walk_end(code, f, scan)
+}
+
+fn walk_number<'a>(
+    code: &'a Code,
+    names: &mut Names<'a>,
+    n: usize,
+    scan: &mut Scan,
+) -> Result<(), AllocError>
+    ensures names { OnOk result ((f : AnyFn) → slice_get code.now.functions n ≡ Some f → (seen : List (List ℕ))
+        → AreNames names.old seen → AreNames names.new (seen ++ f.name ∷ [])) }
+    ensures walks { OnOk result ((f : AnyFn) → slice_get code.now.functions n ≡ Some f
+        → AreNames names.old (take n (fn_names code.now))
+        → Walks code.now 1 2 (lines.fn_lines n f) scan.old scan.new) }
+{
+    match code.function(n) {
+        Some(f) => walk_function(code, names, &f, scan),
+        None => Ok(()),
+    }
+}
+
+fn walk_functions(alloc: Global, code: &Code, scan: &mut Scan) -> Result<(), AllocError>
+    ensures { OnOk result (Walks code.now 1 2 (lines.functions_lines 0 code.now.functions) scan.old scan.new) }
+{
+    let mut names = HashSet::new(alloc);
+    for n in 0..code.len() {
+        walk_number(code, &mut names, n, scan)?;
+    }
+    Ok(())
+}
+
+fn is(word: &[u8], text: &str) -> bool
+    ensures { result ≡ bytes_eq word.now text.now }
+{
+    word == text.as_bytes()
+}
+
+fn is_main(f: &TacFn) -> bool
+    ensures { result ≡ tests.is_main f.now }
+{
+    is(f.name().bytes(), "main") && f.params() == 0 && f.result_type().is_none()
+}
+
+fn has_main(code: &Tac) -> bool
+    ensures { result ≡ tests.has_main code.now }
+{
+    code.functions().iter().any(|f| is_main(f))
+}
+
+fn walk_last(code: &Code, scan: &mut Scan) -> Result<(), AllocError>
+    ensures { OnOk result (Walks code.now 1 2 (line.AfterLast ∷ []) scan.old scan.new) }
+{
+    pass_existence(scan, has_main(code.tac()))
+}
+
+/// The first line that breaks the first rule.
+pub(crate) fn walk_existence(alloc: Global, code: &Code) -> Result<Option<CodeRefusal>, AllocError>
+    ensures { IfOk result (λ broken. MatchOption broken (Keeps code.now rule.Exists)
+        (λ x. IsFirstBroken code.now x.rule x.line)) }
+{
+    let mut scan = Scan {
+        line: 2,
+        limit: 2,
+        broken: None,
+    };
+    walk_structs(alloc, code, &mut scan)?;
+    walk_variables(alloc, code, &mut scan)?;
+    walk_functions(alloc, code, &mut scan)?;
+    walk_last(code, &mut scan)?;
+    Ok(scan.broken)
+}

@@ -1,0 +1,60 @@
+//! The rules on the region of the result, which the caller lends, and on what is held at a return.
+
+ghost use Rattle.std.specs.Prelude.{◌≡◌};
+ghost use Rattle.rgo_tac.specs.Ops.{operation_of};
+ghost use Rattle.rgo_checker.specs.ClassTests as tests;
+
+use crate::classes::same_class;
+use rgo_code::{Class, CodeFn};
+use rgo_tac::Op;
+
+/// Whether a class has no name among these.
+pub(crate) fn is_free(class: Class, names: &[u32]) -> bool
+    ensures { result ≡ tests.is_free class names.now }
+{
+    match class {
+        Class::Name(k) => !names.contains(&k),
+        _ => true,
+    }
+}
+
+/// Whether the region of the result is neither created nor removed.
+pub(crate) fn lends(lent: Class, creates: &[u32], removes: &[u32], otherwise: &[u32]) -> bool
+    ensures { result ≡ tests.lends lent creates.now removes.now otherwise.now }
+{
+    is_free(lent, creates) && is_free(lent, removes) && is_free(lent, otherwise)
+}
+
+fn is_empty(names: &[u32]) -> bool
+    ensures { result ≡ tests.is_empty names.now }
+{
+    names.is_empty()
+}
+
+fn is_lent(lent: Class, class: Class) -> bool
+    ensures { result ≡ tests.is_lent lent class }
+{
+    match class {
+        Class::Name(_) => same_class(lent, class),
+        _ => true,
+    }
+}
+
+fn value_is_lent(f: &CodeFn<'_>, value: Option<u32>) -> bool
+    ensures { result ≡ tests.value_is_lent f.now value }
+{
+    match value {
+        Some(v) => is_lent(f.result_class(), f.class_of(v)),
+        None => true,
+    }
+}
+
+/// Whether a return holds and creates nothing. What is live at a return is what it returns, so liveness is not needed.
+pub(crate) fn ends_empty(f: &CodeFn<'_>, creates: &[u32], op: Op<'_>) -> bool
+    ensures { result ≡ tests.ends_empty f.now creates.now (operation_of op.entry) }
+{
+    match op {
+        Op::Return(value) => is_empty(creates) && value_is_lent(f, value),
+        _ => true,
+    }
+}

@@ -1,0 +1,27 @@
+//! The checker of code with regions: whether code keeps the fourteen rules.
+#![tactic(auto)]
+
+mod actions;
+mod bools;
+mod check;
+mod classes;
+mod entries;
+mod errors;
+mod existence;
+mod existing;
+mod instructions;
+mod laws;
+mod lending;
+mod naming;
+mod numbers;
+mod parameters;
+mod passing;
+mod regions;
+mod scan;
+mod types;
+mod typing;
+mod walking;
+
+pub use check::check_code;
+pub use errors::CheckError;
+pub use laws::one_outcome;

@@ -1,0 +1,203 @@
+//! The rules on creations, protections and removals: the lists are those that the rules ask for.
+
+ghost use Rattle.std.specs.Prelude.{◌≡◌, ◌<◌, ◌^◌, ◌||◌, ℕ, Some, slice_get, nat_eq, bytes_eq, IfOk, OnOk};
+ghost use Rattle.std.specs.Bool.{Decides};
+ghost use Rattle.std.specs.HashSet.{contains};
+ghost use Rattle.std.specs.List.{list_all};
+ghost use Rattle.std.specs.List.Sorted.{IsStrictlyIncreasing};
+ghost use Rattle.rgo_tac.specs.Ops.{op_in, operation_of};
+ghost use Rattle.rgo_code.specs.declared.rules.Rule.TheVariants as rule;
+ghost use Rattle.rgo_code.specs.Erasure.{erased_fn};
+ghost use Rattle.rgo_code.specs.Names.{IsParameterName};
+ghost use Rattle.rgo_checker.specs.Instrs.{EntryKept, InstrKept};
+ghost use Rattle.rgo_checker.specs.Prepared.{IsPrepared};
+ghost use Rattle.rgo_checker.specs.Regions as spec;
+ghost use Rattle.rgo_region_sets.specs.Asked.{IsGiven};
+ghost use Rattle.rgo_region_sets.specs.Sets.{IsSet};
+
+use crate::bools::both;
+use crate::numbers::number;
+use rgo_code::{Class, Code, CodeFn};
+use rgo_region_sets::{
+    LiveNames, creations, entry_removals, gives, holds_at_entry, protections, removals,
+};
+use rgo_tac::Op;
+use std::alloc::{AllocError, Global};
+use std::collections::HashSet;
+
+/// Whether the names are the wanted ones, where both lists ascend.
+fn same_names(names: &[u32], wanted: &[u32]) -> bool
+    ensures { result ≡ bytes_eq names.now wanted.now }
+{
+    names == wanted
+}
+
+fn add_name(names: &mut HashSet<u32>, class: Class) -> Result<(), AllocError>
+    ensures { OnOk result ((q : ℕ) → contains nat_eq names.new q
+        ≡ (spec.has_name class q || contains nat_eq names.old q)) }
+{
+    match class {
+        Class::Name(k) => {
+            names.insert(k)?;
+            Ok(())
+        }
+        _ => Ok(()),
+    }
+}
+
+fn parameter_names(alloc: Global, f: &CodeFn<'_>) -> Result<HashSet<u32>, AllocError>
+    ensures { IfOk result (λ names. (k : ℕ) → Decides (contains nat_eq names k) (IsParameterName f.now k)) }
+{
+    let mut names = HashSet::new(alloc);
+    let function = f.tac();
+    let params = function.params();
+    let types = function.variables();
+    let count = params.min(types.len());
+    for v in 0..count {
+        add_name(&mut names, f.class_of(number(v)?))?;
+    }
+    Ok(names)
+}
+
+fn all_among(held: &[u32], names: &HashSet<u32>) -> bool
+    ensures { result ≡ list_all (λ k. contains nat_eq names.now k) held.now }
+{
+    held.iter().all(|k| names.contains(k))
+}
+
+/// Whether the names that the first instruction holds are those of parameters.
+pub(crate) fn entry_known(
+    alloc: Global,
+    f: &CodeFn<'_>,
+    live: &LiveNames,
+) -> Result<bool, AllocError>
+    requires { IsPrepared live.now f.now }
+    ensures { IfOk result (λ b. Decides b (EntryKept f.now rule.Entry)) }
+{
+    let held = holds_at_entry(alloc, f, live)?;
+    let names = parameter_names(alloc, f)?;
+    Ok(all_among(&held, &names))
+}
+
+/// Whether the names of parameters that die at entry are removed.
+pub(crate) fn entry_removes_dead(
+    alloc: Global,
+    f: &CodeFn<'_>,
+    live: &LiveNames,
+) -> Result<bool, AllocError>
+    requires { IsPrepared live.now f.now }
+    ensures { IfOk result (λ b. Decides b (EntryKept f.now rule.Removals)) }
+{
+    let wanted = entry_removals(alloc, f, live)?;
+    Ok(same_names(f.entry(), &wanted))
+}
+
+/// Whether an instruction creates the own names that it uses and that were not held.
+pub(crate) fn creates_used(
+    alloc: Global,
+    code: &Code,
+    f: &CodeFn<'_>,
+    live: &LiveNames,
+    at: usize,
+    op: Op<'_>,
+) -> Result<bool, AllocError>
+    requires here { op_in (slice_get (erased_fn f.now).body at) ≡ Some (operation_of op) }
+    requires prepared { IsPrepared live.now f.now }
+    ensures { IfOk result (λ b. Decides b (InstrKept code.now f.now at rule.Creations)) }
+{
+    let wanted = creations(alloc, f, live, at)?;
+    Ok(same_names(f.creates(at), &wanted))
+}
+
+fn is_call(op: Op<'_>) -> bool
+    ensures { result ≡ spec.is_call (operation_of op.entry) }
+{
+    matches!(op, Op::Call { .. })
+}
+
+/// Whether a call protects the names that it passes and that are needed after it.
+pub(crate) fn protects_used(
+    alloc: Global,
+    code: &Code,
+    f: &CodeFn<'_>,
+    live: &LiveNames,
+    at: usize,
+    op: Op<'_>,
+) -> Result<bool, AllocError>
+    requires here { op_in (slice_get (erased_fn f.now).body at) ≡ Some (operation_of op) }
+    requires small { at < 2 ^ 63 }
+    requires prepared { IsPrepared live.now f.now }
+    ensures { IfOk result (λ b. Decides b (InstrKept code.now f.now at rule.Protections)) }
+{
+    if !is_call(op) {
+        return Ok(true);
+    }
+    let wanted = protections(alloc, f, live, at, f.passes(at))?;
+    Ok(same_names(f.protects(at), &wanted))
+}
+
+fn given_by_call(
+    alloc: Global,
+    code: &Code,
+    n: u32,
+    passes: &[Class],
+    protects: &[u32],
+) -> Result<Vec<u32>, AllocError>
+    requires { IsStrictlyIncreasing protects.now }
+    ensures { IfOk result (λ names. IsSet names.items
+        (IsGiven (slice_get code.now.functions n) passes.now protects.now)) }
+{
+    match code.function(n as usize) {
+        Some(callee) => gives(alloc, Some(&callee), passes, protects),
+        None => gives(alloc, None, passes, protects),
+    }
+}
+
+fn callee_of(op: Op<'_>) -> Option<u32>
+    ensures { result ≡ spec.callee_of (operation_of op.entry) }
+{
+    match op {
+        Op::Call { function, .. } => Some(function),
+        _ => None,
+    }
+}
+
+/// The names that an instruction leaves to a callee to remove.
+fn given(
+    alloc: Global,
+    code: &Code,
+    op: Op<'_>,
+    passes: &[Class],
+    protects: &[u32],
+) -> Result<Vec<u32>, AllocError>
+    requires { IsStrictlyIncreasing protects.now }
+    ensures { IfOk result (λ names. IsSet names.items
+        (spec.GivenBy code.now (operation_of op.entry) passes.now protects.now)) }
+{
+    match callee_of(op) {
+        Some(n) => given_by_call(alloc, code, n, passes, protects),
+        None => Ok(Vec::new(alloc)),
+    }
+}
+
+/// Whether after an instruction the names are removed that die there. It creates what it must.
+pub(crate) fn removes_dead(
+    alloc: Global,
+    code: &Code,
+    f: &CodeFn<'_>,
+    live: &LiveNames,
+    at: usize,
+    op: Op<'_>,
+) -> Result<bool, AllocError>
+    requires here { op_in (slice_get (erased_fn f.now).body at) ≡ Some (operation_of op) }
+    requires prepared { IsPrepared live.now f.now }
+    requires created { InstrKept code.now f.now at rule.Creations }
+    ensures { IfOk result (λ b. Decides b (InstrKept code.now f.now at rule.Removals)) }
+{
+    let gives = given(alloc, code, op, f.passes(at), f.protects(at))?;
+    let wanted = removals(alloc, f, live, at, &gives)?;
+    Ok(both(
+        same_names(f.removes(at), &wanted.after),
+        same_names(f.otherwise(at), &wanted.otherwise),
+    ))
+}

@@ -1,0 +1,15 @@
+pub mod ActionsBack
+pub mod Built
+pub mod Growing
+pub mod Integers
+pub mod Lacks
+pub mod ListWords
+pub mod Listing
+pub mod Naming
+pub mod Numbering
+pub mod Numerals
+pub mod Printing
+pub mod Steps
+pub mod TypeSteps
+pub mod TypeWords
+pub mod Walking

@@ -1,0 +1,16 @@
+pub mod Actions
+pub mod Building
+pub mod Cuts
+pub mod Forms
+pub mod Growth
+pub mod Items
+pub mod Laws
+pub mod Numbers
+pub mod Ops
+pub mod Printing
+pub mod Readers
+pub mod Text
+pub mod Views
+pub mod Walk
+pub mod Words
+pub mod Written

@@ -1,0 +1,47 @@
+//! Regions put into a program.
+
+ghost use Rattle.std.specs.Prelude.{◌≡◌, IfOk};
+ghost use Rattle.rgo_summaries.specs.Families.{IsFamily};
+ghost use Rattle.rgo_code.specs.Checked.{IsChecked};
+ghost use Rattle.rgo_code.specs.Erasure.{erased};
+ghost use Rattle.rgo_code.specs.TypedCode.{IsTypedCode};
+ghost use Rattle.rgo_insert.specs.Bare as bare;
+ghost use Rattle.rgo_insert.specs.Inserted.{HasClasses};
+
+use crate::bare::bare_regions;
+use crate::filling::all_filled;
+use rgo_classes::Summaries;
+use rgo_code::{Code, Undeclared};
+use rgo_tac::Tac;
+use rgo_typed::Row;
+use std::alloc::{AllocError, Global};
+
+fn nothing_undeclared(alloc: Global) -> Undeclared
+    ensures { result ≡ bare.nothing_undeclared }
+{
+    Undeclared {
+        structs: Row::new(Vec::new(alloc)),
+        variables: Row::new(Vec::new(alloc)),
+        functions: Row::new(Vec::new(alloc)),
+    }
+}
+
+/// Code that says where regions are created, passed, protected and removed.
+///
+/// # Errors
+///
+/// On allocation failure, and for a function with 2³² - 1 instructions or variables or more.
+pub fn insert(alloc: Global, code: &Tac, summaries: &Summaries) -> Result<Code, AllocError>
+    requires typed { IsTypedCode code.now }
+    requires family { IsFamily code.now summaries.now.functions }
+    ensures erased { IfOk result (λ c. erased c ≡ code.now) }
+    ensures declared { IfOk result (λ c. c.undeclared ≡ bare.nothing_undeclared) }
+    ensures classes { IfOk result (HasClasses summaries.now.functions) }
+    ensures checked { IfOk result IsChecked }
+{
+    let functions = code.functions();
+    let bare = bare_regions(alloc, functions, summaries)?;
+    let regions = all_filled(alloc, functions, &bare)?;
+    let tac = code.copy(alloc)?;
+    Ok(Code::new(tac, nothing_undeclared(alloc), Row::new(regions)))
+}

@@ -1,0 +1,13 @@
+pub mod Apart
+pub mod Distinct
+pub mod Members
+pub mod Merges
+pub mod Naming
+pub mod Passed
+pub mod Picking
+pub mod Removing
+pub mod SameLists
+pub mod Sorting
+pub mod Spanning
+pub mod Tables
+pub mod Variables

@@ -1,0 +1,20 @@
+-- Names that are live into a branch and not into one of its targets.
+use Rattle.std.specs.Prelude.{◌≡◌, ◌<◌, ◌≤◌, ℕ, List, length, Contains, Some, slice_get, slice_index}
+use Rattle.rgo_region_sets.specs.declared.spans.Span.{Span}
+use Rattle.rgo_region_sets.specs.Spans.{IsSpanned}
+
+-- the span has branch b, whose target is in no span of the name
+pub record Dies (spans : List Span) (points targets : List ℕ) (span : Span) (b : ℕ) : Type 0 where
+  pub branch : b < length points
+  pub from : span.from ≤ slice_index points b
+  pub to : slice_index points b ≤ span.to
+  pub dead : IsSpanned spans span.name (slice_index targets b) → ⊥
+
+-- the same of the span of this number
+abbrev pub DiesAt : List Span → (points targets : List ℕ) → (b s : ℕ) → Type 0
+DiesAt spans points targets b s = (span : Span) × (slice_get spans s ≡ Some span) × Dies spans points targets span b
+
+-- the names of the spans of these numbers
+abbrev pub NamesOf : List Span → List ℕ → ℕ → Type 0
+NamesOf spans numbers k =
+    (s : ℕ) × Contains numbers s × (span : Span) × (slice_get spans s ≡ Some span) × (span.name ≡ k)

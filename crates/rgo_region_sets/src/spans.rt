@@ -1,0 +1,25 @@
+//! Spans of instructions in which names are live.
+
+ghost use Rattle.std.specs.Prelude.{Decides};
+ghost use Rattle.rgo_region_sets.specs.Spans.{AreApart, IsSpanned};
+
+/// Instructions in a row, the last one included, in which a name is live.
+#[derive(Clone, Copy, Debug, PartialEq, Eq)]
+pub struct Span {
+    pub name: u32,
+    pub from: u32,
+    pub to: u32,
+}
+
+/// Whether one of the spans is of this name and has this instruction.
+pub(crate) fn is_spanned(spans: &[Span], name: u32, at: usize) -> bool
+    requires apart { AreApart spans.now }
+    ensures { Decides result (IsSpanned spans.now name at) }
+{
+    let count = spans.partition_point(|s| s.name < name || s.name == name && s.from as usize <= at);
+    if count == 0 {
+        return false;
+    }
+    let span = spans[count - 1];
+    span.name == name && at <= span.to as usize
+}
