@@ -13,21 +13,22 @@ use Rattle.rgo_command_line.proofs.StrayLemmas.{stray, with_first}
 abbrev names : Names
 names = names_of (built parser)
 
-no_name : (w : Text)
-    → bytes_eq (codes "run") w ≡ false
-    → bytes_eq (codes "check") w ≡ false
-    → find (answers_to w) names ≡ None
-no_name w run check = rw (run, check) refl
+-- the word is the name of no command
+pub record IsNoName (w : Text) : Type 0 where
+  pub run : bytes_eq (codes "run") w ≡ false
+  pub check : bytes_eq (codes "check") w ≡ false
+  pub emit : bytes_eq (codes "emit") w ≡ false
+  pub code : bytes_eq (codes "code") w ≡ false
 
-pub other_word : (program w : Text) (rest : List Text)
-    → bytes_eq (codes "run") w ≡ false
-    → bytes_eq (codes "check") w ≡ false
-    → command_of (program ∷ w ∷ rest) ≡ None
+no_name : (w : Text) → IsNoName w → find (answers_to w) names ≡ None
+no_name w is = rw (is.run, is.check, is.emit, is.code) refl
+
+pub other_word : (program w : Text) (rest : List Text) → IsNoName w → command_of (program ∷ w ∷ rest) ≡ None
 unfolding clap_on_literals
-other_word program w rest run check = by_dashes rest (bytes_eq w (codes "--")) refl
+other_word program w rest is = by_dashes rest (bytes_eq w (codes "--")) refl
   where
     none : find (answers_to w) names ≡ None
-    none = no_name w run check
+    none = no_name w is
 
     refused : (r : List Text)
         → bytes_eq w (codes "--") ≡ false

@@ -7,14 +7,14 @@ use Rattle.std.proofs.lemmas.Slice.Eq.{bytes_eq-Decides}
 use Rattle.clap.specs.Words.{Text}
 use Rattle.clap.proofs.OnLiterals.{clap_on_literals}
 use Rattle.rgo_command_line.specs.Commands.{command_of}
-use Rattle.rgo_command_line.specs.Laws.{AreWordsOf, AskExactly, AskForCommands, AskForNothing, IsEnd}
+use Rattle.rgo_command_line.specs.Laws.{ArePlain, AreWordsOf, AskExactly, AskForCommands, AskForNothing, IsEnd}
 use Rattle.rgo_command_line.specs.Limits.{goroutine_bounds, limit_by, step_bounds}
 use Rattle.rgo_command_line.specs.declared.commands.Command.{Command}
-use Rattle.rgo_command_line.specs.declared.commands.Command.TheVariants.{Run, Check}
+use Rattle.rgo_command_line.specs.declared.commands.Command.TheVariants.{Run, Check, Emit, Code}
 use Rattle.rgo_machine.specs.declared.limits.Limits.{Limits}
 use Rattle.rgo_command_line.proofs.FirstWordLemmas.{other_word}
 use Rattle.rgo_command_line.proofs.OptionLemmas.{AreOptions, MetOptions, asks, met_options}
-use Rattle.rgo_command_line.proofs.RestLemmas.{more_rest, other_rest}
+use Rattle.rgo_command_line.proofs.RestLemmas.{Plain, check, code, emit, more_rest, name_of, other_rest, plain_command}
 use Rattle.rgo_command_line.proofs.RunLemmas.{at_first, between, from}
 
 -- at words that are written out, `clap`'s definition computes what they ask for
@@ -29,6 +29,10 @@ commands = record {
   both = λ program. refl;
   check = λ program. refl;
   check_ended = λ program. refl;
+  emit = λ program. refl;
+  emit_ended = λ program. refl;
+  code = λ program. refl;
+  code_ended = λ program. refl;
 }
 
 pub nothing : AskForNothing
@@ -43,6 +47,9 @@ nothing = record {
   twice = λ program. refl;
   before = λ program. refl;
   check_option = λ program. refl;
+  emit_option = λ program. refl;
+  code_option = λ program. refl;
+  two_commands = λ program. refl;
   option_twice = λ program. refl;
   no_steps = λ program. refl;
   many_steps = λ program. refl;
@@ -114,61 +121,103 @@ behind_run program rest command e = by_met (met_options rest)
     by_met (inr (s, g, options, is)) =
         by_limits s g (limit_by step_bounds s) (limit_by goroutine_bounds g) options refl refl (sym is ∙ met)
 
-check_alone : (program : Text) → command_of (program ∷ codes "check" ∷ []) ≡ Some Check
-check_alone = commands.check
+-- ---- commands without options
 
-check_ended : (program : Text) → command_of (program ∷ codes "check" ∷ codes "--" ∷ []) ≡ Some Check
-check_ended = commands.check_ended
+alone : (p : Plain) (program : Text) → command_of (program ∷ name_of p ∷ []) ≡ Some (plain_command p)
+alone check = commands.check
+alone emit = commands.emit
+alone code = commands.code
 
-tells_check : (program : Text) (rest : List Text)
+ended : (p : Plain) (program : Text) → command_of (program ∷ name_of p ∷ codes "--" ∷ []) ≡ Some (plain_command p)
+ended check = commands.check_ended
+ended emit = commands.emit_ended
+ended code = commands.code_ended
+
+are_words : (p : Plain) (words : List Text) → ArePlain (name_of p) words → AreWordsOf (plain_command p) words
+are_words check words are = are
+are_words emit words are = are
+are_words code words are = are
+
+tells_plain : (p : Plain) (program : Text) (rest : List Text)
     → IsEnd rest
-    → command_of (program ∷ codes "check" ∷ rest) ≡ Some Check
-    → Tells (program ∷ codes "check" ∷ rest)
-tells_check program rest ends is command e =
-    let same : Check ≡ command = cc in
-    subst (λ c. AreWordsOf c (program ∷ codes "check" ∷ rest)) same (program, rest, ends, refl)
+    → command_of (program ∷ name_of p ∷ rest) ≡ Some (plain_command p)
+    → Tells (program ∷ name_of p ∷ rest)
+tells_plain p program rest ends is command e =
+    let same : plain_command p ≡ command = cc in
+    subst (λ c. AreWordsOf c (program ∷ name_of p ∷ rest)) same
+    (are_words p (program ∷ name_of p ∷ rest) (program, rest, ends, refl))
 
-behind_check : (program : Text) (rest : List Text) → Tells (program ∷ codes "check" ∷ rest)
-behind_check program [] = tells_check program [] (inl refl) (check_alone program)
-behind_check program (x ∷ xs) = by_dashes xs (bytes_eq x (codes "--")) refl
+behind_plain : (p : Plain) (program : Text) (rest : List Text) → Tells (program ∷ name_of p ∷ rest)
+behind_plain p program [] = tells_plain p program [] (inl refl) (alone p program)
+behind_plain p program (x ∷ xs) = by_dashes xs (bytes_eq x (codes "--")) refl
   where
-    at_dashes : (more : List Text) → Tells (program ∷ codes "check" ∷ codes "--" ∷ more)
-    at_dashes [] = tells_check program (codes "--" ∷ []) (inr refl) (check_ended program)
-    at_dashes (y ∷ ys) = tells_nothing _ (more_rest program y ys)
+    at_dashes : (more : List Text) → Tells (program ∷ name_of p ∷ codes "--" ∷ more)
+    at_dashes [] = tells_plain p program (codes "--" ∷ []) (inr refl) (ended p program)
+    at_dashes (y ∷ ys) = tells_nothing _ (more_rest p program y ys)
 
     by_dashes : (more : List Text) (b : Bool)
         → bytes_eq x (codes "--") ≡ b
-        → Tells (program ∷ codes "check" ∷ x ∷ more)
-    by_dashes more false e = tells_nothing _ (other_rest program x more e)
+        → Tells (program ∷ name_of p ∷ x ∷ more)
+    by_dashes more false e = tells_nothing _ (other_rest p program x more e)
     by_dashes more true e =
-        subst (λ w. Tells (program ∷ codes "check" ∷ w ∷ more)) (sym ((bytes_eq-Decides x (codes "--")).0 e))
+        subst (λ w. Tells (program ∷ name_of p ∷ w ∷ more)) (sym ((bytes_eq-Decides x (codes "--")).0 e))
         (at_dashes more)
+
+-- a word that is the name of such a command
+at_plain : (p : Plain) (program w : Text) (rest : List Text)
+    → bytes_eq (name_of p) w ≡ true
+    → Tells (program ∷ w ∷ rest)
+at_plain p program w rest e =
+    subst (λ w. Tells (program ∷ w ∷ rest)) ((bytes_eq-Decides (name_of p) w).0 e) (behind_plain p program rest)
 
 tells : (words : List Text) → Tells words
 tells [] = tells_nothing [] nothing.no_words
 tells (program ∷ []) = tells_nothing (program ∷ []) (nothing.no_command program)
 tells (program ∷ w ∷ rest) = by_run (bytes_eq (codes "run") w) refl
   where
+    by_code : (b : Bool)
+        → bytes_eq (codes "run") w ≡ false
+        → bytes_eq (codes "check") w ≡ false
+        → bytes_eq (codes "emit") w ≡ false
+        → bytes_eq (codes "code") w ≡ b
+        → Tells (program ∷ w ∷ rest)
+    by_code true r c e is = at_plain code program w rest is
+    by_code false r c e is =
+        tells_nothing (program ∷ w ∷ rest)
+        (other_word program w rest (record { run = r; check = c; emit = e; code = is }))
+
+    by_emit : (b : Bool)
+        → bytes_eq (codes "run") w ≡ false
+        → bytes_eq (codes "check") w ≡ false
+        → bytes_eq (codes "emit") w ≡ b
+        → Tells (program ∷ w ∷ rest)
+    by_emit true r c is = at_plain emit program w rest is
+    by_emit false r c is = by_code (bytes_eq (codes "code") w) r c is refl
+
     by_check : (b : Bool)
         → bytes_eq (codes "run") w ≡ false
         → bytes_eq (codes "check") w ≡ b
         → Tells (program ∷ w ∷ rest)
-    by_check true run e =
-        subst (λ w. Tells (program ∷ w ∷ rest)) ((bytes_eq-Decides (codes "check") w).0 e) (behind_check program rest)
-    by_check false run e = tells_nothing (program ∷ w ∷ rest) (other_word program w rest run e)
+    by_check true r is = at_plain check program w rest is
+    by_check false r is = by_emit (bytes_eq (codes "emit") w) r is refl
 
     by_run : (b : Bool) → bytes_eq (codes "run") w ≡ b → Tells (program ∷ w ∷ rest)
-    by_run true e =
-        subst (λ w. Tells (program ∷ w ∷ rest)) ((bytes_eq-Decides (codes "run") w).0 e) (behind_run program rest)
-    by_run false e = by_check (bytes_eq (codes "check") w) e refl
+    by_run true is =
+        subst (λ w. Tells (program ∷ w ∷ rest)) ((bytes_eq-Decides (codes "run") w).0 is) (behind_run program rest)
+    by_run false is = by_check (bytes_eq (codes "check") w) is refl
+
+ask_plain : (p : Plain) (words : List Text) → ArePlain (name_of p) words → command_of words ≡ Some (plain_command p)
+ask_plain p words (program, ending, inl none, is) =
+    ap command_of (is ∙ ap (λ e. program ∷ name_of p ∷ e) none) ∙ alone p program
+ask_plain p words (program, ending, inr dashes, is) =
+    ap command_of (is ∙ ap (λ e. program ∷ name_of p ∷ e) dashes) ∙ ended p program
 
 ask : (words : List Text) (command : Command) → AreWordsOf command words → command_of words ≡ Some command
 ask words (Run limits) (program, options, ending, sets, ends, is) =
     ap command_of is ∙ at_first program (options ++ ending) ∙ asks limits options ending sets ends
-ask words Check (program, ending, inl none, is) =
-    ap command_of (is ∙ ap (λ e. program ∷ codes "check" ∷ e) none) ∙ check_alone program
-ask words Check (program, ending, inr dashes, is) =
-    ap command_of (is ∙ ap (λ e. program ∷ codes "check" ∷ e) dashes) ∙ check_ended program
+ask words Check are = ask_plain check words are
+ask words Emit are = ask_plain emit words are
+ask words Code are = ask_plain code words are
 
 pub exactly : AskExactly
 exactly words command = (tells words command, ask words command)

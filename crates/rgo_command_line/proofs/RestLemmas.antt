@@ -16,7 +16,7 @@ use Rattle.rgo_command_line.specs.Commands.{command_met, command_of, has_fault}
 use Rattle.rgo_command_line.specs.Limits.{limits_of}
 use Rattle.rgo_command_line.specs.Parser.{bare_parser, parser, run_parser}
 use Rattle.rgo_command_line.specs.declared.commands.Command.{Command}
-use Rattle.rgo_command_line.specs.declared.commands.Command.TheVariants.{Run, Check}
+use Rattle.rgo_command_line.specs.declared.commands.Command.TheVariants.{Run, Check, Emit, Code}
 use Rattle.rgo_command_line.proofs.StrayLemmas.{stray, with_first}
 
 abbrev app : App
@@ -32,8 +32,24 @@ names = names_of app
 abbrev pub run_leaf : Shape
 run_leaf = built_leaf (inherited bare_parser.top run_parser.top)
 
-abbrev check_leaf : Shape
-check_leaf = built_leaf (inherited bare_parser.top (new_shape (codes "check")))
+-- the commands without options
+pub data Plain : Type 0 where
+  check : Plain
+  emit : Plain
+  code : Plain
+
+abbrev pub name_of : Plain → Text
+name_of check = codes "check"
+name_of emit = codes "emit"
+name_of code = codes "code"
+
+abbrev pub plain_command : Plain → Command
+plain_command check = Check
+plain_command emit = Emit
+plain_command code = Code
+
+abbrev leaf : Plain → Shape
+leaf p = built_leaf (inherited bare_parser.top (new_shape (name_of p)))
 
 -- the walk over the words stands still once it has met a command
 abbrev stopped_at : Text → List Text → Walk
@@ -83,29 +99,36 @@ behind_run program rest =
     ap₂ whole (stands (codes "run") [] rest) (no_fault (codes "run") [] rest)
     ∙ ap (λ b. cond b None (run_met (rows_after run_leaf.rules [] rest))) (just_one (rest_fault run_leaf rest))
 
-behind_check : (program : Text) (rest : List Text)
-    → command_of (program ∷ codes "check" ∷ rest) ≡ cond (has_fault (rest_fault check_leaf rest)) None (Some Check)
+behind_plain : (p : Plain) (program : Text) (rest : List Text)
+    → command_of (program ∷ name_of p ∷ rest)
+    ≡ cond (has_fault (rest_fault (leaf p) rest)) None (Some (plain_command p))
 unfolding clap_on_literals
-behind_check program rest =
+behind_plain check program rest =
     ap₂ whole (stands (codes "check") [] rest) (no_fault (codes "check") [] rest)
-    ∙ ap (λ b. cond b None (Some Check)) (just_one (rest_fault check_leaf rest))
+    ∙ ap (λ b. cond b None (Some Check)) (just_one (rest_fault (leaf check) rest))
+behind_plain emit program rest =
+    ap₂ whole (stands (codes "emit") [] rest) (no_fault (codes "emit") [] rest)
+    ∙ ap (λ b. cond b None (Some Emit)) (just_one (rest_fault (leaf emit) rest))
+behind_plain code program rest =
+    ap₂ whole (stands (codes "code") [] rest) (no_fault (codes "code") [] rest)
+    ∙ ap (λ b. cond b None (Some Code)) (just_one (rest_fault (leaf code) rest))
 
-refused : (program : Text) (rest : List Text)
-    → has_fault (rest_fault check_leaf rest) ≡ true
-    → command_of (program ∷ codes "check" ∷ rest) ≡ None
-refused program rest e = behind_check program rest ∙ ap (λ b. cond b None (Some Check)) e
+refused : (p : Plain) (program : Text) (rest : List Text)
+    → has_fault (rest_fault (leaf p) rest) ≡ true
+    → command_of (program ∷ name_of p ∷ rest) ≡ None
+refused p program rest e = behind_plain p program rest ∙ ap (λ b. cond b None (Some (plain_command p))) e
 
--- a word behind `check` that is no `--`
-pub other_rest : (program x : Text) (xs : List Text)
+-- a word behind such a command that is no `--`
+pub other_rest : (p : Plain) (program x : Text) (xs : List Text)
     → bytes_eq x (codes "--") ≡ false
-    → command_of (program ∷ codes "check" ∷ x ∷ xs) ≡ None
+    → command_of (program ∷ name_of p ∷ x ∷ xs) ≡ None
 unfolding clap_on_literals
-other_rest program x xs e =
-    refused program (x ∷ xs)
-    (with_first _ _ (with_first _ _ (stray check_leaf [] None false true [] x refl e tt)))
+other_rest p program x xs e =
+    refused p program (x ∷ xs)
+    (with_first _ _ (with_first _ _ (stray (leaf p) [] None false true [] x refl e tt)))
 
 -- a word behind the `--`
-pub more_rest : (program x : Text) (xs : List Text)
-    → command_of (program ∷ codes "check" ∷ codes "--" ∷ x ∷ xs) ≡ None
+pub more_rest : (p : Plain) (program x : Text) (xs : List Text)
+    → command_of (program ∷ name_of p ∷ codes "--" ∷ x ∷ xs) ≡ None
 unfolding clap_on_literals
-more_rest program x xs = refused program (codes "--" ∷ x ∷ xs) refl
+more_rest p program x xs = refused p program (codes "--" ∷ x ∷ xs) refl

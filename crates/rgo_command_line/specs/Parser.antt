@@ -22,6 +22,11 @@ bare_parser = record (new_app (codes "rgo")) {
   };
 }
 
+-- with a subcommand that has no options
+abbrev pub with_plain : App → Text → App
+with_plain app name = with_subcommand app (new_app name).top
+
 -- one level of subcommands, of which `run` has options
 abbrev pub parser : App
-parser = with_subcommand (with_subcommand bare_parser run_parser.top) (new_app (codes "check")).top
+parser = with_plain (with_plain (with_plain (with_subcommand bare_parser run_parser.top) (codes "check"))
+    (codes "emit")) (codes "code")

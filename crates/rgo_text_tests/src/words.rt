@@ -70,7 +70,11 @@ static RUNS: [(&str, u64, usize); 37] = [
 
 static CHECKS: [&str; 3] = ["rgo|check", "rgo|check|--", "-|check"];
 
-static REFUSED: [&str; 158] = [
+static EMITS: [&str; 3] = ["rgo|emit", "rgo|emit|--", "-|emit"];
+
+static CODES: [&str; 3] = ["rgo|code", "rgo|code|--", "-|code"];
+
+static REFUSED: [&str; 167] = [
     "rgo",
     "",
     "run",
@@ -119,8 +123,17 @@ static REFUSED: [&str; 158] = [
     "rgo|--run",
     "rgo|run|--stats",
     "rgo|--stats|run",
-    "rgo|emit",
-    "rgo|code",
+    "rgo|emi",
+    "rgo|codes",
+    "rgo|Emit",
+    "rgo|--code",
+    "rgo|emit|code",
+    "rgo|emit|",
+    "rgo|emit|--|x",
+    "rgo|emit|--steps=5",
+    "rgo|code|x",
+    "rgo|code|--|--",
+    "rgo|code|--goroutines|5",
     "rgo|big|5",
     // The number of an option is missing, or no number.
     "rgo|run|--steps",
@@ -245,6 +258,12 @@ fn words_ask_for_their_commands(rt: HostRuntime) -> Result<(), Fail> {
     }
     for line in &CHECKS {
         asks(&rt, line, Ok(Command::Check))?;
+    }
+    for line in &EMITS {
+        asks(&rt, line, Ok(Command::Emit))?;
+    }
+    for line in &CODES {
+        asks(&rt, line, Ok(Command::Code))?;
     }
     Ok(())
 }
