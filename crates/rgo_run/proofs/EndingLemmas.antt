@@ -1,13 +1,13 @@
 -- What endings and statuses exclude.
-use Rattle.std.proofs.Common.{◌≡◌, true, ℕ, List, refl, subst}
+use Rattle.std.proofs.Common.{◌≡◌, ◌⊎◌, inl, inr, true, ℕ, List, refl, subst}
 use Rattle.rgo_machine.specs.declared.picks.End.TheVariants as the_end
 use Rattle.rgo_driver.specs.declared.ends.RunEnd.{RunEnd}
 use Rattle.rgo_driver.specs.declared.ends.RunEnd.TheVariants as run_end
 use Rattle.rgo_run.specs.declared.endings.Ending.{Ending}
 use Rattle.rgo_run.specs.declared.endings.Ending.TheVariants.{Valid, Ran, Usage, ReadFault, TooLong}
-use Rattle.rgo_run.specs.declared.endings.Ending.TheVariants.{Lexical, Syntax, Nesting, Typing, NoMemory}
+use Rattle.rgo_run.specs.declared.endings.Ending.TheVariants.{Lexical, Syntax, Nesting, Typing, WriteFault, NoMemory}
 use Rattle.rgo_run.specs.Endings.{status_of, status_of_run, is_run_status}
-use Rattle.rgo_run.specs.Headline.{EndsRun}
+use Rattle.rgo_run.specs.Headline.{EndsEmit, EndsRun}
 use Rattle.rgo_run.specs.Texts.{Fails}
 use Rattle.rgo_run.specs.Verdicts.{Refused}
 
@@ -22,6 +22,14 @@ fails_not_valid text e f u = subst (Fails text) u f
 
 pub fails_no_run : (text : List ℕ) (e : Ending) (end : RunEnd) → Fails text e → e ≡ Ran end → ⊥
 fails_no_run text e end f u = subst (Fails text) u f
+
+pub fails_no_write_fault : (text : List ℕ) (e : Ending) → Fails text e → e ≡ WriteFault → ⊥
+fails_no_write_fault text e f u = subst (Fails text) u f
+
+pub fails_no_emit : (text : List ℕ) (e : Ending) → Fails text e → EndsEmit e → ⊥
+fails_no_emit text Valid f m = f
+fails_no_emit text WriteFault f m = f
+fails_no_emit text _ f m = m
 
 pub fails_memory : (text : List ℕ) (e : Ending) → Fails text e → EndsRun e → e ≡ NoMemory
 fails_memory text NoMemory f m = refl
@@ -61,11 +69,13 @@ read_fault (Lexical refusal) s = cc
 read_fault (Syntax at) s = cc
 read_fault (Nesting at) s = cc
 read_fault (Typing refusal) s = cc
+read_fault WriteFault s = cc
 read_fault NoMemory s = cc
 
 -- with status 10 of an ending a write to `out` failed
-pub write_fault : (e : Ending) → status_of e ≡ 10 → e ≡ Ran run_end.WriteFault
-write_fault (Ran run_end.WriteFault) s = refl
+pub write_fault : (e : Ending) → status_of e ≡ 10 → (e ≡ Ran run_end.WriteFault) ⊎ (e ≡ WriteFault)
+write_fault (Ran run_end.WriteFault) s = inl refl
+write_fault WriteFault s = inr refl
 write_fault (Ran (run_end.Ended the_end.Exit)) s = cc
 write_fault (Ran (run_end.Ended (the_end.Trap trap at))) s = cc
 write_fault (Ran run_end.Deadlock) s = cc
@@ -94,3 +104,4 @@ run_of_status (Lexical refusal) s = cc
 run_of_status (Syntax at) s = cc
 run_of_status (Nesting at) s = cc
 run_of_status (Typing refusal) s = cc
+run_of_status WriteFault s = cc

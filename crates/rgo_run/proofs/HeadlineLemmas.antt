@@ -5,22 +5,23 @@ use Rattle.rgo_machine.specs.declared.picks.End.TheVariants as the_end
 use Rattle.rgo_driver.specs.declared.ends.RunEnd.{RunEnd}
 use Rattle.rgo_driver.specs.declared.ends.RunEnd.TheVariants as run_end
 use Rattle.rgo_command_line.specs.declared.commands.Command.{Command}
-use Rattle.rgo_command_line.specs.declared.commands.Command.TheVariants.{Run, Check}
+use Rattle.rgo_command_line.specs.declared.commands.Command.TheVariants.{Run, Check, Emit}
 use Rattle.rgo_machine.specs.declared.limits.Limits.{Limits}
 use Rattle.rgo_command_line.specs.Commands.{command_of}
 use Rattle.rgo_run.specs.declared.endings.Ending.{Ending}
 use Rattle.rgo_run.specs.declared.endings.Ending.TheVariants.{Valid, Ran, Usage, ReadFault, TooLong}
-use Rattle.rgo_run.specs.declared.endings.Ending.TheVariants.{NoMemory}
+use Rattle.rgo_run.specs.declared.endings.Ending.TheVariants.{WriteFault, NoMemory}
 use Rattle.rgo_run.specs.Calls.{AsksRun, Call, Asks, IsCheck, SourceFailed, SourceHeld, IsUntouched}
 use Rattle.rgo_run.specs.Endings.{status_of, is_run_status, is_fault_status}
 use Rattle.rgo_run.specs.Reports.{Tells, HasPlace, Reports}
 use Rattle.rgo_run.specs.Runs.{ProgramRuns, RunsTo}
 use Rattle.rgo_run.specs.Texts.{IsTextOf, IsRead, AskSome, NotRead, Checks, Performs}
-use Rattle.rgo_run.specs.Headline.{EndsRun, Headline}
+use Rattle.rgo_run.specs.Headline.{EndsEmit, EndsRun, Headline}
 use Rattle.rgo_run.proofs.EndingLemmas.{run_of_status}
-use Rattle.rgo_run.proofs.ClaimLemmas.{Outcome, Went, complete_check, complete_run, err_held, faults, first}
-use Rattle.rgo_run.proofs.ClaimLemmas.{not_read_fault, print, ran, refused, status_10, status_9}
-use Rattle.rgo_run.proofs.ClaimLemmas.{unknown, untouched, usage, valid, write_failed}
+use Rattle.rgo_run.proofs.ClaimLemmas.{IsWriteFault, Outcome, checked, ran, emitted, failed, Went}
+use Rattle.rgo_run.proofs.ClaimLemmas.{complete_check, complete_emit, complete_run, emission, err_held, faults, first}
+use Rattle.rgo_run.proofs.ClaimLemmas.{not_read_fault, print, ran_asks, refused, status_10, status_9}
+use Rattle.rgo_run.proofs.ClaimLemmas.{emit_ends, unknown, untouched, usage, valid, write_failed}
 
 -- ---- calls that read their text, or had no memory for that
 
@@ -38,16 +39,18 @@ headline_told call text e went t = record {
     untouched = untouched call text e went.outcome;
   };
   print = print call text e went.outcome;
+  emission = emission call text e went.outcome;
   end = record {
     read_failed = λ x. absurd (not_read_fault call text e went.outcome x);
     write_failed = write_failed call text e went.outcome;
-    ran = ran call text e went.outcome;
+    ran = ran_asks call text e went.outcome;
     told = t;
   };
   faults = faults call text e went t;
   complete = record {
     run = λ limits c s o n. complete_run call text e went.outcome t limits c o n;
     check = λ c s n. complete_check call text e went.outcome t c n;
+    emit = λ c s o n. complete_emit call text e went.outcome t c o n;
   };
 }
 
@@ -95,22 +98,29 @@ no_line_run limits text call e run_end.GoroutinesSpent r same h = absurd h
 no_line_run limits text call e run_end.WriteFault r same h = absurd h
 no_line_run limits text call e run_end.NoMemory r same h = absurd h
 
+-- what was printed needs no memory for a line
+no_place : (e : Ending) → EndsEmit e → HasPlace e → ⊥
+no_place Valid ends h = h
+no_place WriteFault ends h = h
+no_place _ ends h = ends
+
 no_line : (call : Call) (text : List ℕ) (e : Ending) → Went call text e → Outcome call text e → HasPlace e
     → Tells text NoMemory call.status call.err → Headline call
-no_line call text e went (inl v) h t = absurd (subst HasPlace v.0 h)
-no_line call text e went (inr (inl r)) h t =
+no_line call text e went (checked is c p o) h t = absurd (subst HasPlace is h)
+no_line call text e went (ran limits c r) h t =
     headline_told call text (Ran run_end.NoMemory) (record {
       is_text = went.is_text;
       held = went.held;
-      asks = inl (Run r.0, r.1);
-      outcome = inr (inl (r.0, r.1, no_line_run r.0 text call e r.2.run_end r.2 refl (subst HasPlace r.2.is_end h)));
+      asks = inl (Run limits, c);
+      outcome = ran limits c (no_line_run limits text call e r.run_end r refl (subst HasPlace r.is_end h));
     }) t
-no_line call text e went (inr (inr f)) h t =
+no_line call text e went (emitted c em) h t = absurd (no_place e (emit_ends call text e em) h)
+no_line call text e went (failed f o) h t =
     headline_told call text NoMemory (record {
       is_text = went.is_text;
       held = went.held;
       asks = inr refl;
-      outcome = inr (inr (tt, f.1));
+      outcome = failed tt o;
     }) t
 
 pub headline_of : (call : Call) (text : List ℕ) (e : Ending) → Went call text e → Reports text e call.status call.err → Headline call
@@ -118,14 +128,16 @@ headline_of call text e went (inl t) = headline_told call text e went t
 headline_of call text e went (inr t) = no_line call text e went went.outcome t.0 t.1
 
 checked_outcome : (call : Call) (text : List ℕ) (e : Ending) → IsCheck call → Checks text e → IsUntouched call.out → Outcome call text e
-checked_outcome call text Valid c p u = inl (refl, c, p, u)
-checked_outcome call text e c p u = inr (inr (p, u))
+checked_outcome call text Valid c p u = checked refl c p u
+checked_outcome call text e c p u = failed p u
 
 performed_outcome : (call : Call) (command : Command) (text : List ℕ) (e : Ending) → Asks call command
     → Performs command text e call.out → Outcome call text e
 performed_outcome call Check text e c p = checked_outcome call text e c p.0 p.1
-performed_outcome call (Run limits) text e c (inl r) = inr (inl (limits, c, r))
-performed_outcome call (Run limits) text e c (inr f) = inr (inr f)
+performed_outcome call (Run limits) text e c (inl r) = ran limits c r
+performed_outcome call (Run limits) text e c (inr f) = failed f.0 f.1
+performed_outcome call Emit text e c (inl em) = emitted c em
+performed_outcome call Emit text e c (inr f) = failed f.0 f.1
 
 -- a call whose text was read
 pub headline_of_text : (call : Call) (command : Command) (text : List ℕ) (e : Ending)
@@ -155,7 +167,8 @@ pub record IsOutside (e : Ending) : Type 0 where
   pub not_refused : status_of e ≡ 1 → ⊥
   pub not_valid : e ≡ Valid → ⊥
   pub no_run : EndsRun e → ⊥
-  pub no_write_fault : e ≡ Ran run_end.WriteFault → ⊥
+  pub no_emit : EndsEmit e → ⊥
+  pub no_write_fault : IsWriteFault e → ⊥
   pub not_ran : (end : RunEnd) → e ≡ Ran end → ⊥
 
 -- a call that did not read its text: its words ask for nothing, or a read failed
@@ -176,9 +189,10 @@ headline_outside call e outside u t of_usage to_usage of_fault kept only = recor
     refused = λ s. absurd (outside.not_refused s);
     passes = λ x. absurd (outside.not_valid x);
     first = λ command c n. absurd (only command c n);
-    untouched = λ _. u;
+    untouched = λ _ _. u;
   };
   print = λ limits c m. absurd (outside.no_run m);
+  emission = λ c m. absurd (outside.no_emit m);
   end = record {
     read_failed = of_fault;
     write_failed = λ x. absurd (outside.no_write_fault x);
@@ -193,14 +207,33 @@ headline_outside call e outside u t of_usage to_usage of_fault kept only = recor
   complete = record {
     run = λ limits c s o n. absurd (only (Run limits) c s);
     check = λ c s n. absurd (only Check c s);
+    emit = λ c s o n. absurd (only Emit c s);
   };
 }
 
+no_write : (e : Ending) → (e ≡ Ran run_end.WriteFault → ⊥) → (e ≡ WriteFault → ⊥) → IsWriteFault e → ⊥
+no_write e run emit (inl x) = run x
+no_write e run emit (inr x) = emit x
+
 usage_outside : IsOutside Usage
-usage_outside = record { not_refused = λ s. cc; not_valid = λ x. cc; no_run = λ m. m; no_write_fault = λ x. cc; not_ran = λ end x. cc }
+usage_outside = record {
+  not_refused = λ s. cc;
+  not_valid = λ x. cc;
+  no_run = λ m. m;
+  no_emit = λ m. m;
+  no_write_fault = no_write Usage (λ x. cc) (λ x. cc);
+  not_ran = λ end x. cc;
+}
 
 fault_outside : IsOutside ReadFault
-fault_outside = record { not_refused = λ s. cc; not_valid = λ x. cc; no_run = λ m. m; no_write_fault = λ x. cc; not_ran = λ end x. cc }
+fault_outside = record {
+  not_refused = λ s. cc;
+  not_valid = λ x. cc;
+  no_run = λ m. m;
+  no_emit = λ m. m;
+  no_write_fault = no_write ReadFault (λ x. cc) (λ x. cc);
+  not_ran = λ end x. cc;
+}
 
 none_asked : (call : Call) → command_of call.words ≡ None → (command : Command) → Asks call command → ⊥
 none_asked call n command c = cc
@@ -217,13 +250,13 @@ headline_of_words call ReadFault n u (inl t) =
     headline_outside call ReadFault fault_outside u t (λ x. cc) (λ none. absurd (some_asked call n.0 none)) (λ _. n.1)
     (λ s. cc) (λ command c no. no n.1)
 headline_of_words call TooLong n u (inl t) =
-    headline_told call n.2 TooLong (record { is_text = n.3; held = n.1; asks = inl n.0; outcome = inr (inr (n.4, u)) }) t
+    headline_told call n.2 TooLong (record { is_text = n.3; held = n.1; asks = inl n.0; outcome = failed n.4 u }) t
 headline_of_words call NoMemory n u (inl t) =
     headline_told call (some_text call.source.left) NoMemory (record {
       is_text = is_some_text call.source.left;
       held = n;
       asks = inr refl;
-      outcome = inr (inr (tt, u));
+      outcome = failed tt u;
     }) t
 headline_of_words call Usage n u (inr t) = absurd t.0
 headline_of_words call ReadFault n u (inr t) = absurd t.0

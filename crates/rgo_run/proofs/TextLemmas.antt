@@ -33,11 +33,15 @@ use Rattle.rgo_driver.specs.Runs.{Ends, Runs}
 use Rattle.rgo_driver.specs.declared.ends.RunEnd.{RunEnd}
 use Rattle.rgo_driver.specs.declared.ends.RunEnd.TheVariants.{Deadlock, WriteFault}
 use Rattle.rgo_command_line.specs.Commands.{command_of}
-use Rattle.rgo_command_line.specs.declared.commands.Command.TheVariants.{Run}
+use Rattle.rgo_command_line.specs.declared.commands.Command.TheVariants.{Emit, Run}
 use Rattle.rgo_command_line.specs.declared.commands.WordsError.{WordsError}
 use Rattle.rgo_command_line.specs.declared.commands.WordsError.TheVariants as words
 use Rattle.rgo_machine.specs.declared.limits.Limits.{Limits}
+use Rattle.rgo_code.specs.Code.{Code}
+use Rattle.rgo_code_printing.specs.Text.{text_of}
+use Rattle.rgo_run.specs.declared.endings.Ending.{Ending}
 use Rattle.rgo_run.specs.declared.endings.Ending.TheVariants.{Ran, Usage, TooLong}
+use Rattle.rgo_run.specs.Compiled.{IsCompiled, WritesCode}
 use Rattle.rgo_run.specs.Calls.{SourceUse, SourceFailed, SourceHeld, SinkUse, Failed, Held}
 use Rattle.rgo_run.specs.Errors.{command_error, read_error, lex_error, type_error}
 use Rattle.rgo_run.specs.Runs.{IsCodeOf, SourceRun}
@@ -146,3 +150,10 @@ ran limits text code end out is_code runs failed held = inl (record {
   failed = failed;
   held = held;
 })
+
+-- ---- code that is printed
+
+pub emitted : (text : List ℕ) (code : Code) (bytes : List ℕ) (e : Ending) (out : SinkUse) → IsCompiled text code
+    → bytes ≡ text_of code → WritesCode bytes e out → Performs Emit text e out
+emitted text code bytes e out is is_text writes =
+    inl (bytes, record { code = code; compiled = is; is_text = is_text }, writes)

@@ -8,7 +8,7 @@ use Rattle.rgo_driver.specs.declared.ends.RunEnd.{RunEnd}
 use Rattle.rgo_driver.specs.declared.ends.RunEnd.TheVariants as run_end
 use Rattle.rgo_run.specs.declared.endings.Ending.{Ending}
 use Rattle.rgo_run.specs.declared.endings.Ending.TheVariants.{Valid, Ran, Usage, ReadFault, TooLong}
-use Rattle.rgo_run.specs.declared.endings.Ending.TheVariants.{Lexical, Syntax, Nesting, Typing, NoMemory}
+use Rattle.rgo_run.specs.declared.endings.Ending.TheVariants.{Lexical, Syntax, Nesting, Typing, WriteFault, NoMemory}
 use Rattle.rgo_run.specs.Positions.{position_of}
 
 abbrev pub status_of_run : RunEnd → ℕ
@@ -31,6 +31,7 @@ status_of (Lexical refusal) = 1
 status_of (Syntax at) = 1
 status_of (Nesting at) = 1
 status_of (Typing refusal) = 1
+status_of WriteFault = 10
 status_of NoMemory = 11
 
 -- only a run ends with such a status
@@ -63,7 +64,7 @@ line_of_run text run_end.GoroutinesSpent = codes "rgo: goroutines spent\n"
 line_of_run text run_end.WriteFault = codes "rgo: write failed\n"
 line_of_run text run_end.NoMemory = codes "rgo: out of memory\n"
 
--- one line, or nothing where `main` returned or a text was only checked and is valid
+-- one line, or nothing where `main` returned, or a text was checked or its code printed
 abbrev pub line_of : List ℕ → Ending → List ℕ
 line_of text Valid = []
 line_of text (Ran end) = line_of_run text end
@@ -76,4 +77,5 @@ line_of text (Syntax at) = positioned text at (codes "syntax\n")
 line_of text (Nesting at) = positioned text at (codes "nesting\n")
 line_of text (Typing refusal) =
     positioned text refusal.at (numbered (codes "type") (rules.number_of refusal.rule) (rules.name_of refusal.rule))
+line_of text WriteFault = codes "rgo: write failed\n"
 line_of text NoMemory = codes "rgo: out of memory\n"

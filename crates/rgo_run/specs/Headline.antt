@@ -13,8 +13,9 @@ use Rattle.rgo_command_line.specs.declared.commands.Command.{Command}
 use Rattle.rgo_machine.specs.declared.limits.Limits.{Limits}
 use Rattle.rgo_command_line.specs.Commands.{command_of}
 use Rattle.rgo_run.specs.declared.endings.Ending.{Ending}
-use Rattle.rgo_run.specs.declared.endings.Ending.TheVariants.{Valid, Ran, Usage, ReadFault, NoMemory}
-use Rattle.rgo_run.specs.Calls.{AsksRun, Call, Asks, IsRun, IsCheck, SourceFailed, SourceHeld, Failed, Held, Grew, IsUntouched}
+use Rattle.rgo_run.specs.declared.endings.Ending.TheVariants.{Valid, Ran, Usage, ReadFault, WriteFault, NoMemory}
+use Rattle.rgo_run.specs.Calls.{AsksRun, Call, Asks, IsRun, IsCheck, IsEmit, SourceFailed, SourceHeld, Failed, Held, Grew, IsUntouched}
+use Rattle.rgo_run.specs.Compiled.{Emits, IsCodeText}
 use Rattle.rgo_run.specs.Endings.{status_of, line_of, is_fault_status}
 use Rattle.rgo_run.specs.Reports.{Tells}
 use Rattle.rgo_run.specs.Runs.{ProgramRuns, RunsTo}
@@ -31,6 +32,16 @@ EndsRun _ = ⊥
 abbrev pub MayRun : Call → Ending → Type 0
 MayRun call ending = AsksRun call.words × EndsRun ending
 
+-- code was printed, in part or as a whole, and that ends so
+abbrev pub EndsEmit : Ending → Type 0
+EndsEmit Valid = Unit {0}
+EndsEmit WriteFault = Unit {0}
+EndsEmit _ = ⊥
+
+-- code is printed only in a call that asks for it and ends so
+abbrev pub MayEmit : Call → Ending → Type 0
+MayEmit call ending = IsEmit call × EndsEmit ending
+
 -- An invalid program is rejected at the first place that breaks a rule, and `out` stays as it was.
 pub record Refusal (call : Call) (text : List ℕ) (ending : Ending) : Type 0 where
   -- the usage line comes only for words that ask for nothing
@@ -39,12 +50,12 @@ pub record Refusal (call : Call) (text : List ℕ) (ending : Ending) : Type 0 wh
   pub unknown : command_of call.words ≡ None → (ending ≡ Usage) ⊎ (ending ≡ NoMemory)
   -- a refusal is the text's, whatever the words ask for
   pub refused : status_of ending ≡ 1 → Refused text ending
-  -- what is checked and not refused is valid
-  pub passes : ending ≡ Valid → IsCheck call × Passes text
+  -- what is checked, or whose code is printed, and not refused is valid
+  pub passes : ending ≡ Valid → (IsCheck call ⊎ IsEmit call) × Passes text
   -- and what refuses the text is the end, where the text was read and memory sufficed
   pub first : (command : Command) → Asks call command → (SourceFailed call.source → ⊥)
       → (why : Ending) → Refused text why → (ending ≡ why) ⊎ (ending ≡ NoMemory)
-  pub untouched : (MayRun call ending → ⊥) → IsUntouched call.out
+  pub untouched : (MayRun call ending → ⊥) → (MayEmit call ending → ⊥) → IsUntouched call.out
 
 -- The bytes given out are the print of a run of the text's program, and the ending reports how that run ended; or memory
 -- ran out before the run.
@@ -53,10 +64,15 @@ Print call text ending =
     (limits : Limits) → IsRun call limits → EndsRun ending
     → RunsTo limits text ending call.out ⊎ ((ending ≡ NoMemory) × IsUntouched call.out)
 
+-- The bytes given out are the text of the code with regions that the text is compiled to, or the first of them where a
+-- write failed.
+abbrev pub Emission : Call → List ℕ → Ending → Type 0
+Emission call text ending = IsEmit call → EndsEmit ending → Emits text ending call.out
+
 -- The ending has its cause, and its line is on `err` with its status, where `err` took the line.
 pub record End (call : Call) (text : List ℕ) (ending : Ending) : Type 0 where
   pub read_failed : ending ≡ ReadFault → SourceFailed call.source
-  pub write_failed : ending ≡ Ran run_end.WriteFault → Failed call.out
+  pub write_failed : (ending ≡ Ran run_end.WriteFault) ⊎ (ending ≡ WriteFault) → Failed call.out
   pub ran : (end : RunEnd) → ending ≡ Ran end → AsksRun call.words
   pub told : Tells text ending call.status call.err
 
@@ -105,22 +121,34 @@ pub record IsSilent (call : Call) : Type 0 where
   pub untouched : IsUntouched call.out
   pub silent : Grew call.err []
 
+-- the whole code text of the program on `out`, and nothing on `err`
+pub record EmitsWhole (call : Call) (text : List ℕ) : Type 0 where
+  pub status : call.status ≡ 0
+  pub bytes : List ℕ
+  pub is_text : IsCodeText text bytes
+  pub grew : Grew call.out bytes
+  pub held : Held call.out
+  pub silent : Grew call.err []
+
 -- Where nothing failed and memory sufficed, a valid program of which no run meets a limit is run to its own end, and a
--- valid program passes the check.
+-- valid program passes the check and has its code printed.
 pub record Complete (call : Call) (text : List ℕ) : Type 0 where
   pub run : (limits : Limits) → IsRun call limits
       → (SourceFailed call.source → ⊥) → (Failed call.out → ⊥) → (Failed call.err → ⊥)
       → MustRunWhole limits call text
   pub check : IsCheck call → (SourceFailed call.source → ⊥) → (Failed call.err → ⊥)
       → Passes text → IsSilent call ⊎ (call.status ≡ 11)
+  pub emit : IsEmit call → (SourceFailed call.source → ⊥) → (Failed call.out → ⊥) → (Failed call.err → ⊥)
+      → Passes text → EmitsWhole call text ⊎ (call.status ≡ 11)
 
--- Some text that is consistent with what the source reports was checked or run as the words ask.
+-- Some text that is consistent with what the source reports was checked, run or compiled as the words ask.
 pub record Headline (call : Call) : Type 0 where
   pub text : List ℕ
   pub is_text : IsTextOf call.source.left text
   pub ending : Ending
   pub refusal : Refusal call text ending
   pub print : Print call text ending
+  pub emission : Emission call text ending
   pub end : End call text ending
   pub faults : Faults call
   pub complete : Complete call text

@@ -1,11 +1,12 @@
 -- What reading, checking and running a text leave, by the ending, before it is reported.
 use Rattle.std.specs.Prelude.{◌≡◌, ◌⊎◌, ◌≤◌, List, ℕ, None, Some, Option, IfSome, length}
 use Rattle.rgo_command_line.specs.declared.commands.Command.{Command}
-use Rattle.rgo_command_line.specs.declared.commands.Command.TheVariants.{Run, Check}
+use Rattle.rgo_command_line.specs.declared.commands.Command.TheVariants.{Run, Check, Emit}
 use Rattle.rgo_command_line.specs.Commands.{command_of}
 use Rattle.rgo_run.specs.declared.endings.Ending.{Ending}
 use Rattle.rgo_run.specs.declared.endings.Ending.TheVariants.{Valid, Usage, ReadFault, TooLong, NoMemory}
 use Rattle.rgo_run.specs.Calls.{SourceUse, SourceFailed, SourceHeld, SinkUse, IsUntouched}
+use Rattle.rgo_run.specs.Compiled.{Emits}
 use Rattle.rgo_run.specs.Runs.{RunsTo}
 use Rattle.rgo_run.specs.Verdicts.{Passes, Refused, text_limit}
 
@@ -47,3 +48,4 @@ Checks text ending = Fails text ending
 abbrev pub Performs : Command → List ℕ → Ending → SinkUse → Type 0
 Performs Check text ending out = Checks text ending × IsUntouched out
 Performs (Run limits) text ending out = RunsTo limits text ending out ⊎ (Fails text ending × IsUntouched out)
+Performs Emit text ending out = Emits text ending out ⊎ (Fails text ending × IsUntouched out)

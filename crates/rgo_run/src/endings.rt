@@ -15,7 +15,7 @@ use std::alloc::AllocError;
 /// text, in bytes from its beginning.
 #[derive(Clone, Copy, Debug, PartialEq, Eq)]
 pub enum Ending {
-    /// The text was only to be checked, and is a valid program.
+    /// The text was to be checked, or its code to be printed: it is a valid program, and that is done.
     Valid,
     /// The text's program was run, and its run ended so.
     Ran(RunEnd),
@@ -33,7 +33,9 @@ pub enum Ending {
     Nesting { at: Place },
     /// The program breaks a typing rule: the first that it breaks, and where.
     Typing(TypeRefusal),
-    /// Memory ran out before the run.
+    /// A write of the code to `out` failed.
+    WriteFault,
+    /// Memory ran out, and there was no run.
     NoMemory,
 }
 

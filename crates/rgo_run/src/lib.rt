@@ -1,7 +1,8 @@
-//! The compiler and its runtime as one call: `rgo` reads a text, checks or runs it, and returns a
+//! The compiler and its runtime as one call: `rgo` reads a text, checks it, runs it or prints its code, and returns a
 //! status.
 #![tactic(auto)]
 
+mod commands;
 mod endings;
 mod laws;
 mod pipeline;
@@ -11,7 +12,7 @@ mod top;
 
 pub use endings::Ending;
 pub use laws::{one_verdict, programs_are_well_formed};
-pub use pipeline::compile;
+pub use pipeline::{compile, lower_text};
 pub use rgo_command_line::Command;
 pub use rgo_driver::RunEnd;
 pub use rgo_lexer::{LexRefusal, LexicalKind};

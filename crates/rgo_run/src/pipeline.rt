@@ -1,10 +1,11 @@
-//! From a text to its program and the code of that, or why it is none.
+//! From a text to its program and the code of that, first without regions, then with them; or why it is none.
 
 ghost use Rattle.std.specs.Prelude.{◌≡◌, ◌≤◌, length, IfErr, IfOk};
 ghost use Rattle.rgo_lexer.specs.Lexing.{LexesAs};
 ghost use Rattle.rgo_ast.specs.Views.{program_of};
 ghost use Rattle.rgo_typed.specs.Views.{typed_of};
 ghost use Rattle.rgo_parser.specs.Parsing.{Fails as ParseFails};
+ghost use Rattle.rgo_run.specs.Compiled.{IsCompiled};
 ghost use Rattle.rgo_run.specs.Positions.{place_of};
 ghost use Rattle.rgo_run.specs.Runs.{IsCodeOf};
 ghost use Rattle.rgo_run.specs.Texts.{Fails};
@@ -12,9 +13,12 @@ ghost use Rattle.rgo_run.specs.Verdicts.{IsTree, IsProgram, text_limit};
 
 use crate::endings::Ending;
 use rgo_ast::{Place, Program};
+use rgo_code::Checked;
+use rgo_insert::insert;
 use rgo_lexer::{Lexeme, lex};
 use rgo_lower::lower;
 use rgo_parser::{ParseError, ParseRefusal, parse};
+use rgo_summaries::summaries;
 use rgo_tac::Tac;
 use rgo_typed::Typed;
 use rgo_types::check;
@@ -77,15 +81,31 @@ pub(crate) fn check_text(alloc: Global, text: &[u8]) -> Result<Typed, Ending>
     Ok(check(alloc, &tree)?)
 }
 
-/// The three-address code of a text's program.
+/// The three-address code of a text's program, which says nothing of regions.
 ///
 /// # Errors
 ///
 /// If the text is not a valid program: why not, and where. On allocation failure.
-pub fn compile(alloc: Global, text: &[u8]) -> Result<Tac, Ending>
+pub fn lower_text(alloc: Global, text: &[u8]) -> Result<Tac, Ending>
     ensures ok { IfOk result (IsCodeOf text.now) }
     ensures err { IfErr result (Fails text.now) }
 {
     let program = check_text(alloc, text)?;
     Ok(lower(alloc, &program)?)
+}
+
+/// The code of a text's program, which says where regions are created, passed, protected and removed.
+///
+/// # Errors
+///
+/// If the text is not a valid program: why not, and where. On allocation failure, and for a function with 2³² - 1
+/// instructions or variables or more.
+pub fn compile(alloc: Global, text: &[u8]) -> Result<Checked, Ending>
+    ensures ok { IfOk result (IsCompiled text.now) }
+    ensures err { IfErr result (Fails text.now) }
+{
+    let tac = lower_text(alloc, text)?;
+    let summaries = summaries(alloc, &tac)?;
+    let code = insert(alloc, &tac, &summaries)?;
+    Ok(Checked::new(code))
 }

@@ -146,6 +146,7 @@ pub(crate) fn report<E: Sink>(alloc: Global, text: &[u8], ending: Ending, err: &
             );
             write_or_no_memory(err, line, 1)
         }
+        Ending::WriteFault => write(err, b"rgo: write failed\n", 10),
         Ending::NoMemory => write_no_memory(err),
     }
 }

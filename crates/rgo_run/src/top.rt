@@ -1,24 +1,21 @@
-//! The whole: the words, the text, its run and the report of its ending.
+//! The whole: the words, the text, what is done with it, and the report of the ending.
 
-ghost use Rattle.std.specs.Prelude.{◌≡◌, ◌≤◌, ◌⊎◌, ℕ, List, true, false, map, length, string_bytes};
+ghost use Rattle.std.specs.Prelude.{◌≡◌, ◌⊎◌, true, false, map, string_bytes};
 ghost use Rattle.std.specs.Prelude.{IfErr, IfOk, IsErrOf, Some, None};
 ghost use Rattle.rgo_outside.specs.Causes.{Rose};
 ghost use Rattle.rgo_command_line.specs.Commands.{command_of};
-ghost use Rattle.rgo_command_line.specs.declared.commands.Command.TheVariants.{Check, Run};
-ghost use Rattle.rgo_run.specs.Runs.{IsCodeOf, RunsTo};
-ghost use Rattle.rgo_run.specs.Texts.{Checks, IsRead, NotRead, Performs};
-ghost use Rattle.rgo_run.specs.Calls.{AsksRun, IsUntouched, sink_use, source_use};
-ghost use Rattle.rgo_run.specs.Endings.{status_of, is_fault_status, is_run_status};
+ghost use Rattle.rgo_command_line.specs.declared.commands.Command.TheVariants.{Check};
+ghost use Rattle.rgo_run.specs.Texts.{IsRead, NotRead};
+ghost use Rattle.rgo_run.specs.Calls.{AsksRun, sink_use, source_use};
+ghost use Rattle.rgo_run.specs.Endings.{is_fault_status, is_run_status};
 ghost use Rattle.rgo_run.specs.Headline.{Headline};
 
+use crate::commands::perform;
 use crate::endings::Ending;
-use crate::pipeline::{TEXT_LIMIT, check_text, compile};
+use crate::pipeline::TEXT_LIMIT;
 use crate::report::report;
 use rgo_command_line::{Command, read_words};
-use rgo_driver::run;
-use rgo_machine::Limits;
 use rgo_outside::{Gate, Sink, Source, read_all};
-use rgo_tac::{Tac, TacMachine, start};
 use std::alloc::Global;
 
 // Reads the words and the text.
@@ -39,69 +36,18 @@ fn read<S: Source>(
     Ok((command, text))
 }
 
-// Checks a text.
-fn check_only(alloc: Global, text: &[u8]) -> Ending
-    ensures { Checks text.now result }
-{
-    match check_text(alloc, text) {
-        Ok(_) => Ending::Valid,
-        Err(why) => why,
-    }
-}
-
-// Runs code.
-fn run_code<K: Sink>(alloc: Global, limits: Limits, code: &Tac, out: &mut K) -> Ending
-    ensures performs { (text : List ℕ) → IsCodeOf text code.now
-        → Performs (Run limits) text result (sink_use (K.contents out.old) (K.contents out.new)
-        (K.faults out.old) (K.faults out.new) (K.broken out.new)) }
-    ensures refused { status_of result ≡ 1 → out.new ≡ out.old }
-{
-    match start(alloc, code) {
-        Ok(state) => {
-            let machine = TacMachine::new(code);
-            Ending::Ran(run(alloc, &machine, state, limits, out))
-        }
-        Err(_) => Ending::NoMemory,
-    }
-}
-
-// Runs a text.
-fn run_text<K: Sink>(alloc: Global, limits: Limits, text: &[u8], out: &mut K) -> Ending
-    ensures performs { Performs (Run limits) text.now result (sink_use (K.contents out.old)
-        (K.contents out.new) (K.faults out.old) (K.faults out.new) (K.broken out.new)) }
-    ensures refused { status_of result ≡ 1 → out.new ≡ out.old }
-{
-    match compile(alloc, text) {
-        Ok(code) => run_code(alloc, limits, &code, out),
-        Err(why) => why,
-    }
-}
-
-// Checks or runs a text.
-fn perform<K: Sink>(alloc: Global, command: Command, text: &[u8], out: &mut K) -> Ending
-    ensures performs { Performs command text.now result (sink_use (K.contents out.old)
-        (K.contents out.new) (K.faults out.old) (K.faults out.new) (K.broken out.new)) }
-    ensures checked { command ≡ Check → out.new ≡ out.old }
-    ensures refused { status_of result ≡ 1 → out.new ≡ out.old }
-{
-    match command {
-        Command::Run(limits) => run_text(alloc, limits, text, out),
-        Command::Check => check_only(alloc, text),
-    }
-}
-
-/// All that the program does: reads the words and the text, checks or runs it, and returns the
-/// status.
+/// All that the program does: reads the words and the text, checks it, runs it or prints its code, and
+/// returns the status.
 ///
-/// The words are the program's name, which is ignored, and `check`, or `run` with its options
+/// The words are the program's name, which is ignored, and `check`, `emit`, or `run` with its options
 /// `--steps N` and `--goroutines N`, followed by nothing or a `--`. The text is what the source
-/// has left, at most 1,048,576 bytes. `run` writes its print to `out`, line by line; `check` leaves
-/// `out` as it was. At most one line is written to `err`. After a failed write nothing more is
-/// written to that sink.
+/// has left, at most 1,048,576 bytes. `run` writes its print to `out`, line by line; `emit` writes the
+/// text of the code with regions; `check` leaves `out` as it was. At most one line is written to `err`.
+/// After a failed write nothing more is written to that sink.
 ///
 /// | status | where |
 /// |---|---|
-/// | 0 | `main` returned; for `check` the text is a valid program |
+/// | 0 | `main` returned; for `check` and `emit` the text is a valid program |
 /// | 1 | the text is too long, or breaks a rule: `err` says which, and at which line and column |
 /// | 2 | a goroutine trapped: `err` says why, and at which line and column |
 /// | 3 | no goroutine can step, alone or with another, and `main` has not returned |

@@ -1,5 +1,5 @@
 use Rattle.rgo_run.proofs.TextLemmas.{ran, starts_within}
-use Rattle.rgo_run.proofs.top.run_code.Goals as goal
+use Rattle.rgo_run.proofs.commands.run_code.Goals as goal
 
 pub run-requires-clause-within : goal.run-requires-clause-within
 run-requires-clause-within g c = rw c.in-Ok.ensures (starts_within c.args.limits c.args.code.now)

@@ -1,0 +1,44 @@
+-- The code with regions that a text is compiled to, and its text.
+use Rattle.std.specs.Prelude.{◌≡◌, ℕ, List, take}
+use Rattle.rgo_typed.specs.Tree.{Typed}
+use Rattle.rgo_lower.specs.Lowered.{IsLowered}
+use Rattle.rgo_classes.specs.declared.classes.Summary.{Summary}
+use Rattle.rgo_summaries.specs.Families.{IsLeastFamily}
+use Rattle.rgo_code.specs.Checked.{IsChecked}
+use Rattle.rgo_code.specs.Code.{Code}
+use Rattle.rgo_code.specs.Erasure.{erased}
+use Rattle.rgo_insert.specs.Bare.{nothing_undeclared}
+use Rattle.rgo_insert.specs.Inserted.{HasClasses}
+use Rattle.rgo_code_printing.specs.Text.{text_of}
+use Rattle.rgo_run.specs.declared.endings.Ending.{Ending}
+use Rattle.rgo_run.specs.declared.endings.Ending.TheVariants.{Valid, WriteFault}
+use Rattle.rgo_run.specs.Calls.{SinkUse, Failed, Grew, Held}
+use Rattle.rgo_run.specs.Verdicts.{IsProgram}
+
+-- The code keeps all rules. Without its regions it is the program's three-address code, and its classes are those that
+-- the functions have under the least summaries.
+pub record IsCompiled (text : List ℕ) (code : Code) : Type 0 where
+  pub program : Typed
+  pub is_program : IsProgram text program
+  pub lowered : IsLowered program (erased code)
+  pub family : List Summary
+  pub least : IsLeastFamily (erased code) family
+  pub classes : HasClasses family code
+  pub declared : code.undeclared ≡ nothing_undeclared
+  pub checked : IsChecked code
+
+-- these bytes are the text of that code
+pub record IsCodeText (text bytes : List ℕ) : Type 0 where
+  pub code : Code
+  pub compiled : IsCompiled text code
+  pub is_text : bytes ≡ text_of code
+
+-- the bytes were written; or a write failed, and the first of them were
+abbrev pub WritesCode : List ℕ → Ending → SinkUse → Type 0
+WritesCode bytes Valid out = Grew out bytes × Held out
+WritesCode bytes WriteFault out = Failed out × (n : ℕ) × Grew out (take n bytes)
+WritesCode bytes _ out = ⊥
+
+-- the text's code was printed so
+abbrev pub Emits : List ℕ → Ending → SinkUse → Type 0
+Emits text ending out = (bytes : List ℕ) × IsCodeText text bytes × WritesCode bytes ending out

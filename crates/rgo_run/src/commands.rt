@@ -1,0 +1,108 @@
+//! What each command does with a text.
+
+ghost use Rattle.std.specs.Prelude.{◌≡◌, ℕ, List};
+ghost use Rattle.rgo_command_line.specs.declared.commands.Command.TheVariants.{Check, Emit, Run};
+ghost use Rattle.rgo_run.specs.Calls.{sink_use};
+ghost use Rattle.rgo_run.specs.Compiled.{IsCompiled, WritesCode};
+ghost use Rattle.rgo_run.specs.Endings.{status_of};
+ghost use Rattle.rgo_run.specs.Runs.{IsCodeOf};
+ghost use Rattle.rgo_run.specs.Texts.{Checks, Performs};
+
+use crate::endings::Ending;
+use crate::pipeline::{check_text, compile, lower_text};
+use rgo_code::Checked;
+use rgo_code_printing::print_code;
+use rgo_command_line::Command;
+use rgo_driver::run;
+use rgo_machine::Limits;
+use rgo_outside::{Sink, write_all};
+use rgo_tac::{Tac, TacMachine, start};
+use std::alloc::Global;
+
+// Checks a text.
+fn check_only(alloc: Global, text: &[u8]) -> Ending
+    ensures { Checks text.now result }
+{
+    match check_text(alloc, text) {
+        Ok(_) => Ending::Valid,
+        Err(why) => why,
+    }
+}
+
+// Runs code.
+fn run_code<K: Sink>(alloc: Global, limits: Limits, code: &Tac, out: &mut K) -> Ending
+    ensures performs { (text : List ℕ) → IsCodeOf text code.now
+        → Performs (Run limits) text result (sink_use (K.contents out.old) (K.contents out.new)
+        (K.faults out.old) (K.faults out.new) (K.broken out.new)) }
+    ensures refused { status_of result ≡ 1 → out.new ≡ out.old }
+{
+    match start(alloc, code) {
+        Ok(state) => {
+            let machine = TacMachine::new(code);
+            Ending::Ran(run(alloc, &machine, state, limits, out))
+        }
+        Err(_) => Ending::NoMemory,
+    }
+}
+
+// Runs a text.
+fn run_text<K: Sink>(alloc: Global, limits: Limits, text: &[u8], out: &mut K) -> Ending
+    ensures performs { Performs (Run limits) text.now result (sink_use (K.contents out.old)
+        (K.contents out.new) (K.faults out.old) (K.faults out.new) (K.broken out.new)) }
+    ensures refused { status_of result ≡ 1 → out.new ≡ out.old }
+{
+    match lower_text(alloc, text) {
+        Ok(code) => run_code(alloc, limits, &code, out),
+        Err(why) => why,
+    }
+}
+
+// Writes the text of code.
+fn write_code<K: Sink>(out: &mut K, bytes: &[u8]) -> Ending
+    ensures { WritesCode bytes.now result (sink_use (K.contents out.old) (K.contents out.new) (K.faults out.old)
+        (K.faults out.new) (K.broken out.new)) }
+{
+    if write_all(out, bytes).is_ok() {
+        Ending::Valid
+    } else {
+        Ending::WriteFault
+    }
+}
+
+// Prints code.
+fn emit_code<K: Sink>(alloc: Global, code: &Checked, out: &mut K) -> Ending
+    ensures performs { (text : List ℕ) → IsCompiled text code.now → Performs Emit text result
+        (sink_use (K.contents out.old) (K.contents out.new) (K.faults out.old) (K.faults out.new) (K.broken out.new)) }
+    ensures refused { status_of result ≡ 1 → out.new ≡ out.old }
+{
+    match print_code(alloc, code.code()) {
+        Ok(bytes) => write_code(out, &bytes),
+        Err(_) => Ending::NoMemory,
+    }
+}
+
+// Prints the code of a text.
+fn emit_text<K: Sink>(alloc: Global, text: &[u8], out: &mut K) -> Ending
+    ensures performs { Performs Emit text.now result (sink_use (K.contents out.old) (K.contents out.new)
+        (K.faults out.old) (K.faults out.new) (K.broken out.new)) }
+    ensures refused { status_of result ≡ 1 → out.new ≡ out.old }
+{
+    match compile(alloc, text) {
+        Ok(code) => emit_code(alloc, &code, out),
+        Err(why) => why,
+    }
+}
+
+/// Does what the command says with a text: checks it, runs it, or prints its code.
+pub(crate) fn perform<K: Sink>(alloc: Global, command: Command, text: &[u8], out: &mut K) -> Ending
+    ensures performs { Performs command text.now result (sink_use (K.contents out.old)
+        (K.contents out.new) (K.faults out.old) (K.faults out.new) (K.broken out.new)) }
+    ensures checked { command ≡ Check → out.new ≡ out.old }
+    ensures refused { status_of result ≡ 1 → out.new ≡ out.old }
+{
+    match command {
+        Command::Run(limits) => run_text(alloc, limits, text, out),
+        Command::Check => check_only(alloc, text),
+        Command::Emit => emit_text(alloc, text, out),
+    }
+}
