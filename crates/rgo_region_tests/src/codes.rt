@@ -2,7 +2,7 @@
 
 use crate::checks::same;
 use crate::texts::HEAD;
-use rgo_run::{Ending, compile};
+use rgo_run::{Ending, lower_text};
 use rgo_tac::Tac;
 use rgo_typed::Row;
 use std::alloc::Global;
@@ -13,7 +13,7 @@ use std::test::Fail;
 pub(crate) fn code_of<R: Abort + AllocGlobal>(rt: &R, lines: &str) -> Result<Tac, Fail> {
     let alloc: Global = rt.alloc();
     let text = format!(in alloc; "{HEAD}{lines}")?;
-    match compile(alloc, text.as_bytes()) {
+    match lower_text(alloc, text.as_bytes()) {
         Ok(code) => Ok(code),
         Err(why) => {
             same(rt, lines, &why, &Ending::Valid);
