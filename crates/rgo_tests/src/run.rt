@@ -2,6 +2,7 @@
 
 mod broken_texts;
 mod calls;
+mod emitting;
 mod ends;
 mod examples;
 mod faults;
@@ -98,6 +99,15 @@ fn traps_are_reported_at_their_places(rt: HostRuntime) -> Result<(), Fail> {
 }
 
 #[test]
+fn code_is_emitted(rt: HostRuntime) -> Result<(), Fail> {
+    for (words, line, code) in &emitting::CODES {
+        let text = with_head(rt.alloc(), line)?;
+        expect(&rt, words, text, SOUND, (code, "", 0))?;
+    }
+    Ok(())
+}
+
+#[test]
 fn other_ends_are_reported(rt: HostRuntime) -> Result<(), Fail> {
     for (words, line, print, report, status) in &ends::ENDS {
         let text = with_head(rt.alloc(), line)?;
@@ -106,9 +116,16 @@ fn other_ends_are_reported(rt: HostRuntime) -> Result<(), Fail> {
     Ok(())
 }
 
-static COMMANDS: [&str; 4] = ["rgo run", "rgo check", "rgo run --", "rgo check --"];
+static COMMANDS: [&str; 6] = [
+    "rgo run",
+    "rgo check",
+    "rgo emit",
+    "rgo run --",
+    "rgo check --",
+    "rgo emit --",
+];
 
-fn is_refused_by_both_commands<R: Abort + AllocGlobal>(
+fn is_refused_by_all_commands<R: Abort + AllocGlobal>(
     rt: &R,
     line: &str,
     report: &str,
@@ -121,9 +138,9 @@ fn is_refused_by_both_commands<R: Abort + AllocGlobal>(
 }
 
 #[test]
-fn both_commands_refuse_what_breaks_a_rule(rt: HostRuntime) -> Result<(), Fail> {
-    for (line, report) in &refusals::BY_BOTH {
-        is_refused_by_both_commands(&rt, line, report)?;
+fn all_commands_refuse_what_breaks_a_rule(rt: HostRuntime) -> Result<(), Fail> {
+    for (line, report) in &refusals::BY_ALL {
+        is_refused_by_all_commands(&rt, line, report)?;
     }
     Ok(())
 }

@@ -25,8 +25,33 @@ type Row = (
 );
 
 /// Words, how the outside behaves, a line, what is printed and reported, and the status.
-static FAULTS: [Row; 19] = [
+static FAULTS: [Row; 23] = [
     ("rgo run", Outside(1, 0, 0, 0), LINES, "1\n2\n3\n", "", 0),
+    (
+        "rgo emit",
+        Outside(1000, 1, 0, 0),
+        LINES,
+        "",
+        READ_FAILED,
+        9,
+    ),
+    (
+        "rgo emit",
+        Outside(1000, 0, 1, 0),
+        LINES,
+        "",
+        WRITE_FAILED,
+        10,
+    ),
+    ("rgo emit", Outside(1000, 0, 1, 1), LINES, "", "", 10),
+    (
+        "rgo emit",
+        Outside(1000, 0, 0, 1),
+        "func main() {",
+        "",
+        "",
+        10,
+    ),
     ("rgo run", Outside(1000, 1, 0, 0), LINES, "", READ_FAILED, 9),
     ("rgo run", Outside(9, 4, 0, 0), LINES, "", READ_FAILED, 9),
     ("rgo run", Outside(50, 1, 0, 0), LOOP, "", READ_FAILED, 9),

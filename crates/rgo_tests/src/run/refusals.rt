@@ -74,7 +74,7 @@ pub(super) static WHOLE: [(&str, &str, &str, u8); 3] = [
 ];
 
 /// Lines after the head, with what both commands report.
-pub(super) static BY_BOTH: [(&str, &str); 8] = [
+pub(super) static BY_ALL: [(&str, &str); 8] = [
     (
         "func main() {\n\ts := make([]int, 3)\n\tfmt.Println(s[-1])\n}",
         "rgo: 6:15: type 27 ConstIndex\n",
