@@ -14,7 +14,7 @@ _rgo_words() {
 _rgo() {
     COMPREPLY=()
     if ((COMP_CWORD == 1)); then
-        _rgo_words run check
+        _rgo_words run check emit
     elif [[ ${COMP_WORDS[1]} == run && ${COMP_WORDS[COMP_CWORD - 1]} != --* ]]; then
         _rgo_words --steps --goroutines
     fi
