@@ -269,6 +269,15 @@ class WithTheProgram(unittest.TestCase):
             with self.subTest(path.name):
                 self.assertEqual((0, path.with_suffix(".code").read_bytes(), ""), self.command("emit", path.read_bytes()))
 
+    def test_programs_of_the_page_on_regions(self):
+        self.need("emit", (TEXTS / "field.go").read_bytes())
+        page = (TOP / "docs" / "REGIONS.md").read_text()
+        pairs = re.findall(r"```go\n(package main\n.*?)```\n\n```\n(rgo code 1\n.*?)```\n", page, re.DOTALL)
+        self.assertEqual(5, len(pairs))
+        for program, code in pairs:
+            with self.subTest(program=program):
+                self.assertEqual((0, code.encode(), ""), self.command("emit", program.encode()))
+
     def test_the_examples_have_the_regions_that_the_producer_finds(self):
         self.need("emit", (TEXTS / "field.go").read_bytes())
         for path in sorted((TOP / "examples").glob("*.go")):
