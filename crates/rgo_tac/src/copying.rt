@@ -3,7 +3,9 @@
 ghost use Rattle.std.specs.Prelude.{◌≡◌, IfOk};
 
 use crate::code::Body;
-use crate::copies::{copy_items, copy_name, copy_pieces, copy_result, copy_structs, copy_types, copy_variables};
+use crate::copies::{
+    copy_items, copy_name, copy_pieces, copy_result, copy_structs, copy_types, copy_variables,
+};
 use crate::functions::TacFn;
 use crate::programs::Tac;
 use rgo_typed::{Piece, Row};
@@ -53,7 +55,14 @@ fn copy_function(alloc: Global, function: &TacFn) -> Result<TacFn, AllocError>
     let result_type = copy_result(alloc, &function.result_type)?;
     let variables = copy_types(alloc, function.variables.items())?;
     let body = copy_body(alloc, &function.body)?;
-    TacFn::new(alloc, name, function.params, result_type, Row::new(variables), body)
+    TacFn::new(
+        alloc,
+        name,
+        function.params,
+        result_type,
+        Row::new(variables),
+        body,
+    )
 }
 
 fn copy_functions(alloc: Global, functions: &[TacFn]) -> Result<Row<TacFn>, AllocError>

@@ -20,7 +20,10 @@ mod states;
 mod widths;
 
 pub use code::{Body, Instr};
-pub use copies::{copy_items, copy_name, copy_pieces, copy_result, copy_structs, copy_type, copy_types, copy_variables};
+pub use copies::{
+    copy_items, copy_name, copy_pieces, copy_result, copy_structs, copy_type, copy_types,
+    copy_variables,
+};
 pub use flow::{ReadVariables, Targets, leads_to, reads, writes};
 pub use frames::Frame;
 pub use functions::TacFn;
