@@ -1,7 +1,8 @@
 -- Spans that are apart, and what the last one that begins in time says.
-use Rattle.std.proofs.Common.{◌≡◌, ◌⊎◌, ⊎_elim, inl, inr, ◌<◌, ◌≤◌, ◌+◌, ◌-◌, ◌&&◌, ◌||◌, ℕ, Bool, true, false, nat_lt, nat_eq, nat_le, List, Some, length, get_or, slice_get, refl, sym, ap, subst, ◌∙◌, arith}
+use Rattle.std.proofs.Common.{◌≡◌, ◌⊎◌, ⊎_elim, inl, inr, ◌<◌, ◌≤◌, ◌+◌, ◌-◌, ◌&&◌, ◌||◌, ℕ, Bool, true, false, nat_lt, nat_eq, nat_le, Decides, List, Some, length, get_or, slice_get, refl, sym, ap, subst, ◌∙◌, arith}
 use Rattle.std.specs.List.{Contains}
-use Rattle.std.specs.List.Sorted.{IsPartitionedBy}
+use Rattle.std.specs.List.Sorted.{IsPartitionedBy, IsPartitionPoint}
+use Rattle.std.proofs.lemmas.List.Elements.{Contains-get_or}
 use Rattle.std.proofs.lemmas.Bool.{false≢true}
 use Rattle.std.proofs.lemmas.Bool.Decides.{nat_tests}
 use Rattle.std.proofs.lemmas.Option.{same_Some, slice_get_read, slice_get_within, slice_get-get_or, get_or_from_slice_get}
@@ -114,3 +115,61 @@ none_in_time spans k at past h =
     let tested = past h.among.0 h.among.1 h.span in
     false≢true (sym tested ∙ ap (in_time k at) h.among.2
     ∙ in_time_passes k at h.span (inr (h.spans.0, h.spans.1)))
+
+-- ---- a search
+
+-- the spans before n begin in time, and the others do not
+abbrev pub IsTimePoint : List Span → (k at n : ℕ) → Type 0
+IsTimePoint spans k at n =
+    IsPartitionPoint (λ s. in_time k at s ≡ true) (λ s. in_time k at s ≡ false) spans n
+
+less_tells : (a b : ℕ) → nat_le a b ≡ true → a ≤ b
+less_tells a b e = grind (arith, nat_tests)
+
+less_told : (a b : ℕ) → a ≤ b → nat_le a b ≡ true
+less_told a b l = grind (arith, nat_tests)
+
+same_tells : (a b : ℕ) → nat_eq a b ≡ true → a ≡ b
+same_tells a b e = grind (arith, nat_tests)
+
+pub none_found : (spans : List Span) (k at n : ℕ) → IsTimePoint spans k at n → n ≡ 0
+    → Decides false (IsSpanned spans k at)
+none_found spans k at n point none = (
+  λ e. absurd (false≢true e),
+  λ h. absurd (none_in_time spans k at (λ j within d. point.1 j d (omega (arith, none)) within) h),
+)
+
+module _ (spans : List Span) (k at n : ℕ) (d : Span) (apart : AreApart spans) (within : n ≤ length spans) (some : 0 < n)
+    (point : IsTimePoint spans k at n) where
+  abbrev last : Span
+  last = get_or spans (n - 1) d
+
+  last_in_time : in_time k at last ≡ true
+  last_in_time = point.0 (n - 1) d (omega arith) (omega (arith, some))
+
+  it_decides : IsSpanned spans k at → Spans last k at
+  it_decides =
+      decides spans k at n last apart some (slice_get-get_or spans (n - 1) d (omega (arith, some, within))) last_in_time
+      (λ j past inside e. point.1 j e past inside)
+
+  pub last_of_name : last.name ≡ k → Decides (nat_le at last.to) (IsSpanned spans k at)
+  last_of_name same = (
+    λ e. record {
+      span = last;
+      among = Contains-get_or spans (n - 1) d (omega (arith, some, within));
+      spans = (same, begun, less_tells at last.to e);
+    },
+    λ h. less_told at last.to (it_decides h).2,
+  )
+    where
+      begun : last.from ≤ at
+      begun = ⊎_elim
+          (λ l. absurd (omega (arith, same, l)))
+          (λ e. e.1)
+          (passed_in_time k at last last_in_time)
+
+  pub last_of_other : (last.name ≡ k → ⊥) → Decides (nat_eq last.name k) (IsSpanned spans k at)
+  last_of_other other = (
+    λ e. absurd (other (same_tells last.name k e)),
+    λ h. absurd (other (it_decides h).0),
+  )
