@@ -110,15 +110,33 @@ follows_pushed spans next later precedes a e = ⊎_elim
     (λ n. subst (λ s. Precedes s later) n.1 precedes)
     (get_pushed spans next (length (spans ++ next ∷ []) - 1) a e)
 
+-- ---- the last span
+
+module _ (spans : List Span) (count : ℕ) (last next : Span) (is_count : count ≡ length spans) (some : count ≡ 0 → ⊥)
+    (read : last ≡ get_or spans (count - 1) last) where
+  pub last_there : slice_get spans (count - 1) ≡ Some last
+  last_there = slice_get-get_or spans (count - 1) last (omega (arith, is_count, some)) ∙ ap Some (sym read)
+
+  at_the_end : slice_get spans (length spans - 1) ≡ Some last
+  at_the_end = ap (λ m. slice_get spans (m - 1)) (sym is_count) ∙ last_there
+
+  pub last_precedes : Follows spans next → Precedes last next
+  last_precedes follows = follows last at_the_end
+
+  pub apart_after : Follows spans next → Meets false last next → AreApart spans → AreApart (spans ++ next ∷ [])
+  apart_after follows apart before =
+      apart_pushed spans next before (λ a e. subst (λ s. IsBefore s next) (same_Some last a (sym at_the_end ∙ e))
+      (not_met last next (last_precedes follows) apart))
+
 -- ---- a next span that meets the last one
 
-module _ (spans : List Span) (n : ℕ) (last next joined : Span) (there : slice_get spans n ≡ Some last)
-    (is : joined ≡ record { name = last.name; from = last.from; to = max last.to next.to })
-    (is_last : n + 1 ≡ length spans) (precedes : Precedes last next) (met : Meets true last next) where
+module _ (spans : List Span) (n : ℕ) (last next : Span) (to : ℕ) (there : slice_get spans n ≡ Some last)
+    (is : to ≡ max last.to next.to) (is_last : n + 1 ≡ length spans) (precedes : Precedes last next)
+    (met : Meets true last next) where
   abbrev both : Span
-  both = record { name = last.name; from = last.from; to = max last.to next.to }
+  both = record { name = last.name; from = last.from; to = to }
 
-  both_apart : AreApart spans → AreApart (slice_set spans n both)
+  pub both_apart : AreApart spans → AreApart (slice_set spans n both)
   both_apart apart i j a b less at_i at_j = ⊎_elim
       (λ old. ⊎_elim
       (λ o. apart i j a b less o.0 old.0)
@@ -134,17 +152,17 @@ module _ (spans : List Span) (n : ℕ) (last next joined : Span) (there : slice_
 
   both_spans : (k at : ℕ) → Spans both k at → Spans last k at ⊎ Spans next k at
   both_spans k at h = ⊎_elim
-      (λ late. inr (sym met.0 ∙ h.0, omega (arith, late, met.1), omega (arith, h.2, late)))
+      (λ late. inr (sym met.0 ∙ h.0, omega (arith, late, met.1), omega (arith, h.2, late, is)))
       (λ early. inl (h.0, h.1, early))
       (less_or last.to at)
 
   last_both : (k at : ℕ) → Spans last k at → Spans both k at
-  last_both k at h = (h.0, h.1, omega (arith, h.2))
+  last_both k at h = (h.0, h.1, omega (arith, h.2, is))
 
   next_both : (k at : ℕ) → Spans next k at → Spans both k at
-  next_both k at h = (met.0 ∙ h.0, omega (arith, h.1, precedes.1 met.0), omega (arith, h.2))
+  next_both k at h = (met.0 ∙ h.0, omega (arith, h.1, precedes.1 met.0), omega (arith, h.2, is))
 
-  adds_both : AddsSpans spans (slice_set spans n both) (Spans next)
+  pub adds_both : AddsSpans spans (slice_set spans n both) (Spans next)
   adds_both k at = (
     λ h. ⊎_elim
         (λ old. inl (record { span = h.span; among = found spans h.among.0 h.span old.0; spans = h.spans }))
@@ -178,7 +196,7 @@ module _ (spans : List Span) (n : ℕ) (last next joined : Span) (there : slice_
         h,
   )
 
-  both_follows : (later : Span) → Precedes next later → Follows (slice_set spans n both) later
+  pub both_follows : (later : Span) → Precedes next later → Follows (slice_set spans n both) later
   both_follows later after a e = ⊎_elim
       (λ o. absurd (o.1 (omega (arith, is_last, as_long spans n both))))
       (λ m. subst (λ s. Precedes s later) m.1 (
@@ -186,12 +204,3 @@ module _ (spans : List Span) (n : ℕ) (last next joined : Span) (there : slice_
         λ same. omega (arith, precedes.1 met.0, after.1 (sym met.0 ∙ same)),
       ))
       (get_written spans n both (length (slice_set spans n both) - 1) a e)
-
-  pub joined_apart : AreApart spans → AreApart (slice_set spans n joined)
-  joined_apart apart = subst (λ s. AreApart (slice_set spans n s)) (sym is) (both_apart apart)
-
-  pub adds_joined : AddsSpans spans (slice_set spans n joined) (Spans next)
-  adds_joined = subst (λ s. AddsSpans spans (slice_set spans n s) (Spans next)) (sym is) adds_both
-
-  pub joined_follows : (later : Span) → Precedes next later → Follows (slice_set spans n joined) later
-  joined_follows later after = subst (λ s. Follows (slice_set spans n s) later) (sym is) (both_follows later after)

@@ -1,18 +1,21 @@
 -- The tables of the branches, and of what dies on their ways.
-use Rattle.std.proofs.Common.{◌≡◌, ◌⊎◌, ⊎_elim, inl, inr, ◌<◌, ◌≤◌, ◌+◌, ℕ, zero, suc, Bool, true, false, not, Decides, List, [], ◌∷◌, ◌++◌, Option, Some, None, length, take, get_or, slice_get, refl, sym, ap, subst, ◌∙◌, arith, length-append}
-use Rattle.std.specs.Prelude.{◌↔◌}
+use Rattle.std.proofs.Common.{◌≡◌, ◌⊎◌, ⊎_elim, inl, inr, ◌<◌, ◌≤◌, ◌+◌, ℕ, zero, suc, Bool, true, false, not, nat_lt, nat_le, Decides, List, [], ◌∷◌, ◌++◌, Option, Some, None, length, take, get_or, slice_get, refl, sym, ap, subst, ◌∙◌, arith, length-append}
+use Rattle.std.specs.Prelude.{◌↔◌, Vec}
+use Rattle.std.specs.Global.{Global}
 use Rattle.std.specs.List.{Contains}
-use Rattle.std.specs.List.Sorted.{IsStrictlyIncreasing}
+use Rattle.std.specs.List.Sorted.{IsStrictlyIncreasing, IsPartitionPoint}
 use Rattle.std.proofs.lemmas.Bool.{false≢true}
+use Rattle.std.proofs.lemmas.Bool.Decides.{nat_tests}
 use Rattle.std.proofs.lemmas.List.Elements.{Contains-push, Contains-push_cases, Contains-append_left}
 use Rattle.std.proofs.lemmas.List.Kept.{AllPairs-from_increasing}
 use Rattle.std.proofs.lemmas.Option.{same_Some, none-some, slice_get_within, slice_get-get_or, get_or_from_slice_get}
-use Rattle.rgo_graphs.specs.Rows.{IsAscending, Relates, row_at, rows_of}
+use Rattle.rgo_graphs.specs.Rows.{IsAscending, IsTransposed, Relates, row_at, rows_of}
+use Rattle.rgo_graphs.specs.RowsTo.{RowsTo}
 use Rattle.rgo_tac.specs.Code.{Instr, TacFn}
 use Rattle.rgo_tac.specs.Ops.{op_in}
 use Rattle.rgo_region_sets.specs.declared.spans.Span.{Span}
 use Rattle.rgo_region_sets.specs.Branches.{ways_in, branch_at, IsListed, AreBranches}
-use Rattle.rgo_region_sets.specs.Dying.{Dies, DiesAt, NamesOf}
+use Rattle.rgo_region_sets.specs.Dying.{AreInSpan, Dies, DiesAt, NamesOf}
 use Rattle.rgo_region_sets.specs.Sets.{pushed_if}
 use Rattle.rgo_region_sets.specs.Spans.{IsSpanned}
 use Rattle.rgo_region_sets.proofs.Apart.{member_at}
@@ -164,17 +167,25 @@ dies_at spans points targets i d ends within are b =
       λ h. (are b).1 (subst (λ s. Dies spans points targets s b) (same_Some h.0 (get_or spans i d) (sym h.1 ∙ there)) h.2),
     )
 
+-- all rows, from the other side
+pub dying_rows : (spans : List Span) (points targets : List ℕ) (rows : List (Vec ℕ Global)) (n : ℕ) (t : List (List ℕ))
+    → length spans ≤ n → RowsTo rows (λ s b. DiesAt spans points targets b s) n → IsTransposed (rows_of rows) t
+    → (b s : ℕ) → Relates t b s ↔ DiesAt spans points targets b s
+dying_rows spans points targets rows n t done all moved b s = (
+  λ h. ((all s b).0 ((moved s b).1 h)).1,
+  λ d. (moved s b).0 ((all s b).1 (omega (arith, slice_get_within spans s d.0 d.1, done), d)),
+)
+
 -- ---- the branches of a span
 
 module _ (spans : List Span) (points targets : List ℕ) (span : Span) (first end : ℕ)
-    (below : (j : ℕ) → j < first → j < length points → get_or points j 0 < span.from)
-    (from : (j : ℕ) → first ≤ j → j < length points → span.from ≤ get_or points j 0)
-    (to : (j : ℕ) → j < end → j < length points → get_or points j 0 ≤ span.to)
-    (past : (j : ℕ) → end ≤ j → j < length points → span.to < get_or points j 0) where
+    (bounds : AreInSpan points span first end) where
   pub none_before : (j : ℕ) → Contains [] j ↔ ((j < first) × Dies spans points targets span j)
   none_before j = (
     λ h. absurd (omega (arith, h.1)),
-    λ h. absurd (omega (arith, below j h.0 h.1.branch, h.1.from)),
+    λ h.
+        let inside = bounds.only j h.1.branch h.1.from h.1.to in
+        absurd (omega (arith, inside.0, h.0)),
   )
 
   pub one_branch : (ends ends' : List ℕ) (b : ℕ) (d : Bool) → first ≤ b → b < end → b < length points
@@ -195,8 +206,8 @@ module _ (spans : List Span) (points targets : List ℕ) (span : Span) (first en
         (λ o. let old = (before j).0 o in (omega (arith, old.0), old.1))
         (λ e. subst (λ n. (n < b + 1) × Dies spans points targets span n) e (omega arith, record {
           branch = within;
-          from = from b after within;
-          to = to b inside within;
+          from = (bounds.inside b after inside).0;
+          to = (bounds.inside b after inside).1;
           dead = λ lives. false≢true (decides.1 lives);
         }))
         (Contains-push_cases ends b j (subst (λ l. Contains l j) is h)),
@@ -215,6 +226,38 @@ module _ (spans : List Span) (points targets : List ℕ) (span : Span) (first en
     λ h. ((are j).0 h).1,
     λ h. (are j).1 (⊎_elim
         (λ l. l)
-        (λ g. absurd (omega (arith, past j (omega (arith, g, done)) h.branch, h.to)))
+        (λ g. let inside = bounds.only j h.branch h.from h.to in absurd (omega (arith, g, done, inside.1)))
         (less_or j b), h),
   )
+
+-- what two searches find
+pub bounds_found : (points : List ℕ) (span : Span) (first end : ℕ)
+    → IsPartitionPoint (λ y. nat_lt y span.from ≡ true) (λ y. nat_lt y span.from ≡ false) points first
+    → IsPartitionPoint (λ y. nat_le y span.to ≡ true) (λ y. nat_le y span.to ≡ false) points end
+    → end ≤ length points → AreInSpan points span first end
+bounds_found points span first end from to bound = record {
+  bound = bound;
+  inside = λ b after before. (
+    not_less (get_or points b 0) span.from (from.1 b 0 after (omega (arith, before, bound))),
+    at_most (get_or points b 0) span.to (to.0 b 0 (omega arith) before),
+  );
+  only = λ b within after before. (
+    ⊎_elim
+        (λ l. absurd (less (get_or points b 0) span.from (from.0 b 0 (omega arith) l) after))
+        (λ g. g)
+        (less_or b first),
+    ⊎_elim
+        (λ l. l)
+        (λ g. absurd (more (get_or points b 0) span.to (to.1 b 0 g within) before))
+        (less_or b end),
+  );
+}
+  where
+    not_less : (a b : ℕ) → nat_lt a b ≡ false → b ≤ a
+    not_less a b e = grind (arith, nat_tests)
+    at_most : (a b : ℕ) → nat_le a b ≡ true → a ≤ b
+    at_most a b e = grind (arith, nat_tests)
+    less : (a b : ℕ) → nat_lt a b ≡ true → b ≤ a → ⊥
+    less a b e l = grind (arith, nat_tests)
+    more : (a b : ℕ) → nat_le a b ≡ false → a ≤ b → ⊥
+    more a b e l = grind (arith, nat_tests)
