@@ -10,9 +10,11 @@ use Rattle.rgo_graphs.proofs.Lists.{no_member, take_cases, take_more_left, take_
 use Rattle.rgo_tac.specs.declared.regions.Class.{Class}
 use Rattle.rgo_tac.specs.declared.regions.Class.TheVariants.{Name}
 use Rattle.rgo_code.specs.Code.{Slot, CodeFn}
-use Rattle.rgo_code.specs.Names.{slot_class, class_of, parameter_classes, IsOwn}
+use Rattle.rgo_code.specs.Names.{slot_class, class_of, parameter_classes, IsOwn, Holds}
 use Rattle.rgo_region_sets.specs.declared.spans.Span.{Span}
-use Rattle.rgo_region_sets.specs.Asked.{IsPassedFor}
+use Rattle.rgo_region_sets.specs.Asked.{IsPassedFor, IsMissing, EntryRemoves}
+use Rattle.rgo_region_sets.specs.declared.table.LiveNames.{LiveNames}
+use Rattle.rgo_region_sets.specs.Live.{AreLiveNames}
 use Rattle.rgo_region_sets.specs.Sets.{IsSet, pushed_if}
 use Rattle.rgo_region_sets.specs.Spans.{Spans, IsSpanned}
 use Rattle.rgo_region_sets.specs.Used.{name_of}
@@ -221,6 +223,30 @@ held_more f spans i d old new test within before decides is k =
           (λ n. inr (decides.1 (omega (arith, n.1), subst (IsOwn f) (sym n.0) h.0), sym n.0))
           (spanned_cases spans i d within k 0 h.1)),
     )
+
+pub held_none : (f : CodeFn) (k : ℕ) → Contains [] k ↔ (IsOwn f k × IsSpanned [] k 0)
+held_none f k = (λ h. absurd (no_member k h), λ h. absurd (no_member h.1.span h.1.among))
+
+pub held_all : (live : LiveNames) (f : CodeFn) (i : ℕ) (names : List ℕ) → length live.spans.items ≤ i → AreLiveNames live f
+    → ((k : ℕ) → Contains names k ↔ (IsOwn f k × IsSpanned (take i live.spans.items) k 0))
+    → (k : ℕ) → Contains names k ↔ Holds f k 0
+held_all live f i names past tables held k =
+    let all = subst (λ (l : List Span). (j : ℕ) → Contains names j ↔ (IsOwn f j × IsSpanned l j 0))
+    (take_all i live.spans.items past) held in (
+      λ h. let b = (all k).0 h in (b.0, (tables.names k 0).0 b.1),
+      λ h. (all k).1 (h.0, (tables.names k 0).1 h.1),
+    )
+
+-- ---- names of parameters that are missing at entry
+
+pub entry_removed : (f : CodeFn) (classes : List Class) (names : List ℕ)
+    → classes ≡ parameter_classes f.params f.variables
+    → ((k : ℕ) → Contains names k ↔ (Contains classes (Name k) × IsMissing f 0 k))
+    → (k : ℕ) → Contains names k ↔ EntryRemoves f k
+entry_removed f classes names is all k = (
+  λ h. let b = (all k).0 h in (b.1.0, subst (λ (l : List Class). Contains l (Name k)) is b.0, λ held. b.1.1 held.1),
+  λ h. (all k).1 (subst (λ (l : List Class). Contains l (Name k)) (sym is) h.1, (h.0, λ live. h.2 (h.0, live))),
+)
 
 -- two names for a set
 pub set_with : (names : List ℕ) (A B : ℕ → Type 0) → IsSet names A → ((k : ℕ) → A k ↔ B k) → IsSet names B

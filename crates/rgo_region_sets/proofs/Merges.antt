@@ -110,24 +110,6 @@ follows_pushed spans next later precedes a e = ⊎_elim
     (λ n. subst (λ s. Precedes s later) n.1 precedes)
     (get_pushed spans next (length (spans ++ next ∷ []) - 1) a e)
 
--- ---- the last span
-
-module _ (spans : List Span) (count : ℕ) (last next : Span) (is_count : count ≡ length spans) (some : count ≡ 0 → ⊥)
-    (read : last ≡ get_or spans (count - 1) last) where
-  pub last_there : slice_get spans (count - 1) ≡ Some last
-  last_there = slice_get-get_or spans (count - 1) last (omega (arith, is_count, some)) ∙ ap Some (sym read)
-
-  at_the_end : slice_get spans (length spans - 1) ≡ Some last
-  at_the_end = ap (λ m. slice_get spans (m - 1)) (sym is_count) ∙ last_there
-
-  pub last_precedes : Follows spans next → Precedes last next
-  last_precedes follows = follows last at_the_end
-
-  pub apart_after : Follows spans next → Meets false last next → AreApart spans → AreApart (spans ++ next ∷ [])
-  apart_after follows apart before =
-      apart_pushed spans next before (λ a e. subst (λ s. IsBefore s next) (same_Some last a (sym at_the_end ∙ e))
-      (not_met last next (last_precedes follows) apart))
-
 -- ---- a next span that meets the last one
 
 module _ (spans : List Span) (n : ℕ) (last next : Span) (to : ℕ) (there : slice_get spans n ≡ Some last)
@@ -136,7 +118,7 @@ module _ (spans : List Span) (n : ℕ) (last next : Span) (to : ℕ) (there : sl
   abbrev both : Span
   both = record { name = last.name; from = last.from; to = to }
 
-  pub both_apart : AreApart spans → AreApart (slice_set spans n both)
+  both_apart : AreApart spans → AreApart (slice_set spans n both)
   both_apart apart i j a b less at_i at_j = ⊎_elim
       (λ old. ⊎_elim
       (λ o. apart i j a b less o.0 old.0)
@@ -162,7 +144,7 @@ module _ (spans : List Span) (n : ℕ) (last next : Span) (to : ℕ) (there : sl
   next_both : (k at : ℕ) → Spans next k at → Spans both k at
   next_both k at h = (met.0 ∙ h.0, omega (arith, h.1, precedes.1 met.0), omega (arith, h.2, is))
 
-  pub adds_both : AddsSpans spans (slice_set spans n both) (Spans next)
+  adds_both : AddsSpans spans (slice_set spans n both) (Spans next)
   adds_both k at = (
     λ h. ⊎_elim
         (λ old. inl (record { span = h.span; among = found spans h.among.0 h.span old.0; spans = h.spans }))
@@ -196,7 +178,7 @@ module _ (spans : List Span) (n : ℕ) (last next : Span) (to : ℕ) (there : sl
         h,
   )
 
-  pub both_follows : (later : Span) → Precedes next later → Follows (slice_set spans n both) later
+  both_follows : (later : Span) → Precedes next later → Follows (slice_set spans n both) later
   both_follows later after a e = ⊎_elim
       (λ o. absurd (o.1 (omega (arith, is_last, as_long spans n both))))
       (λ m. subst (λ s. Precedes s later) m.1 (
@@ -204,3 +186,34 @@ module _ (spans : List Span) (n : ℕ) (last next : Span) (to : ℕ) (there : sl
         λ same. omega (arith, precedes.1 met.0, after.1 (sym met.0 ∙ same)),
       ))
       (get_written spans n both (length (slice_set spans n both) - 1) a e)
+
+-- ---- a next span
+
+module _ (spans : List Span) (count : ℕ) (last next : Span) (is_count : count ≡ length spans) (some : count ≡ 0 → ⊥)
+    (read : last ≡ get_or spans (count - 1) last) (follows : Follows spans next) where
+  there : slice_get spans (count - 1) ≡ Some last
+  there = slice_get-get_or spans (count - 1) last (omega (arith, is_count, some)) ∙ ap Some (sym read)
+
+  at_the_end : slice_get spans (length spans - 1) ≡ Some last
+  at_the_end = ap (λ m. slice_get spans (m - 1)) (sym is_count) ∙ there
+
+  precedes : Precedes last next
+  precedes = follows last at_the_end
+
+  pub apart_after : Meets false last next → AreApart spans → AreApart (spans ++ next ∷ [])
+  apart_after apart before =
+      apart_pushed spans next before
+      (λ a e. subst (λ s. IsBefore s next) (same_Some last a (sym at_the_end ∙ e)) (not_met last next precedes apart))
+
+  module _ (to : ℕ) (is : to ≡ max last.to next.to) (met : Meets true last next) where
+    abbrev joined : List Span
+    joined = slice_set spans (count - 1) (record { name = last.name; from = last.from; to = to })
+
+    pub joined_added : AddsSpans spans joined (Spans next)
+    joined_added = adds_both spans (count - 1) last next to there is (omega (arith, is_count, some)) precedes met
+
+    pub joined_apart : AreApart spans → AreApart joined
+    joined_apart = both_apart spans (count - 1) last next to there is (omega (arith, is_count, some)) precedes met
+
+    pub joined_ends : (later : Span) → Precedes next later → Follows joined later
+    joined_ends = both_follows spans (count - 1) last next to there is (omega (arith, is_count, some)) precedes met
