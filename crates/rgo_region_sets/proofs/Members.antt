@@ -227,12 +227,13 @@ held_more f spans i d old new test within before decides is k =
 pub held_none : (f : CodeFn) (k : ℕ) → Contains [] k ↔ (IsOwn f k × IsSpanned [] k 0)
 held_none f k = (λ h. absurd (no_member k h), λ h. absurd (no_member h.1.span h.1.among))
 
-pub held_all : (live : LiveNames) (f : CodeFn) (i : ℕ) (names : List ℕ) → length live.spans.items ≤ i → AreLiveNames live f
-    → ((k : ℕ) → Contains names k ↔ (IsOwn f k × IsSpanned (take i live.spans.items) k 0))
+pub held_all : (live : LiveNames) (f : CodeFn) (spans : List Span) (i : ℕ) (names : List ℕ)
+    → spans ≡ live.spans.items → length spans ≤ i → AreLiveNames live f
+    → ((k : ℕ) → Contains names k ↔ (IsOwn f k × IsSpanned (take i spans) k 0))
     → (k : ℕ) → Contains names k ↔ Holds f k 0
-held_all live f i names past tables held k =
+held_all live f spans i names is past tables held k =
     let all = subst (λ (l : List Span). (j : ℕ) → Contains names j ↔ (IsOwn f j × IsSpanned l j 0))
-    (take_all i live.spans.items past) held in (
+    (take_all i spans past ∙ is) held in (
       λ h. let b = (all k).0 h in (b.0, (tables.names k 0).0 b.1),
       λ h. (all k).1 (h.0, (tables.names k 0).1 h.1),
     )

@@ -14,4 +14,4 @@ pub returns-in_default : goal.returns-in_default
 returns-in_default c =
     let b = c.args.branches.now in
     other_instruction c.args.function.now b.points.items b.targets.items b.others.items c.args.point c.requires
-    (sym c.in-None.ensures)
+    (sym c.in_default.ensures)

@@ -17,9 +17,9 @@ loop-class-preserved c =
 
 pub returns : goal.returns
 returns c =
-    let classes = c.in_ok-classes.classes.items in
+    let classes = c.deref-class-items.result.now in
     let names = c.loop-class.names.items in
     set_with c.set_of.result.items (Contains names) (EntryRemoves c.args.f.now) c.set_of.ensures
-    (entry_removed c.args.f.now classes names c.in_ok-classes.ensures
+    (entry_removed c.args.f.now classes names (c.deref-class-items.ensures.value ∙ c.in_ok-classes.ensures)
     (all_names classes c.loop-class.class-index (IsMissing c.args.f.now 0) names (omega (arith, c.loop-class-test.false))
     c.loop-class.invariant))

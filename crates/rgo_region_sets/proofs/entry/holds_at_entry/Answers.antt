@@ -12,12 +12,12 @@ loop-span-init c =
 
 pub loop-span-preserved : goal.loop-span-preserved
 loop-span-preserved c =
-    held_more c.args.f.now c.args.live.now.spans.items c.loop-span.span-index _ c.loop-span.names.items
+    held_more c.args.f.now c.deref-span-items.result.now c.loop-span.span-index _ c.loop-span.names.items
     c.push_if.new.names.items c.is_held-held.result c.loop-span-test.true c.loop-span.invariant
     c.is_held-held.ensures c.in_ok-push_if.ensures
 
 pub returns : goal.returns
 returns c =
     set_with c.set_of.result.items (Contains c.loop-span.names.items) (λ k. Holds c.args.f.now k 0) c.set_of.ensures
-    (held_all c.args.live.now c.args.f.now c.loop-span.span-index c.loop-span.names.items
-    (omega (arith, c.loop-span-test.false)) c.requires.live c.loop-span.invariant)
+    (held_all c.args.live.now c.args.f.now c.deref-span-items.result.now c.loop-span.span-index c.loop-span.names.items
+    c.deref-span-items.ensures.value (omega (arith, c.loop-span-test.false)) c.requires.live c.loop-span.invariant)
