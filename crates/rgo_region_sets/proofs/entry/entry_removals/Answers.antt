@@ -4,6 +4,7 @@ use Rattle.rgo_tac.specs.declared.regions.Class.{Class}
 use Rattle.rgo_tac.specs.declared.regions.Class.TheVariants.{Name}
 use Rattle.rgo_region_sets.specs.Asked.{EntryRemoves, IsMissing}
 use Rattle.rgo_region_sets.proofs.Members.{no_names, names_more, names_same, all_names, entry_removed, set_with}
+use Rattle.rgo_region_sets.proofs.entry.entry_removals.Goals.{in-Some+in_ok-push_if, in_default}
 use Rattle.rgo_region_sets.proofs.entry.entry_removals.Goals as goal
 
 pub loop-class-init : goal.loop-class-init
@@ -13,7 +14,18 @@ loop-class-init c =
 
 pub loop-class-preserved : goal.loop-class-preserved
 loop-class-preserved c =
-    ?
+    let classes = c.deref-class-items.result.now in
+    let i = c.loop-class.class-index in
+    let old = c.loop-class.names.items in
+    elim c.match-name_of.branch [
+      in-Some+in_ok-push_if w ↦
+          rw w.names-is (names_more classes i _ c.loop-class-test.true (IsMissing c.args.f.now 0) old
+              c.loop-class.invariant w.push_if.new.names.items w.is_missing-missing.result w.in-Some.name
+              (sym c.name_of.ensures ∙ w.in-Some.is) w.is_missing-missing.ensures w.in_ok-push_if.ensures)
+      | in_default w ↦
+          rw w.names-is (names_same classes i _ c.loop-class-test.true (IsMissing c.args.f.now 0) old
+              c.loop-class.invariant (sym c.name_of.ensures ∙ w.in_default.is))
+    ]
 
 pub returns : goal.returns
 returns c =
