@@ -28,7 +28,7 @@ earlier_in_time k at a b before in_time = ⊎_elim
     (λ f. ⊎_elim
     (λ l. inl (omega (arith, l, f.0)))
     (λ g. let same : a.name ≡ b.name = omega (arith, g, f.0, before.0) in
-        inr (same ∙ f.0, omega (arith, (before.1 same).0, f.1)))
+    inr (same ∙ f.0, omega (arith, (before.1 same).0, f.1)))
     (less_or a.name b.name))
     in_time
 
@@ -42,15 +42,15 @@ is_the_last spans k at n last apart there in_time least h =
     let below : h.among.0 ≤ n = least h.among.0 h.span place (inr (h.spans.0, h.spans.1)) in
     ⊎_elim
     (λ less. absurd (
-        let before = apart h.among.0 n h.span last less place there in
-        ⊎_elim
-        (λ m. omega (arith, before.0, m, h.spans.0))
-        (λ f. omega (arith, (before.1 (h.spans.0 ∙ sym f.0)).1, f.1, h.spans.2))
-        in_time))
+    let before = apart h.among.0 n h.span last less place there in
+    ⊎_elim
+    (λ m. omega (arith, before.0, m, h.spans.0))
+    (λ f. omega (arith, (before.1 (h.spans.0 ∙ sym f.0)).1, f.1, h.spans.2))
+    in_time))
     (λ past.
-        let e : h.among.0 ≡ n = omega (arith, past, below) in
-        let same : h.span ≡ last = same_Some h.span last (sym place ∙ ap (slice_get spans) e ∙ there) in
-        subst (λ s. Spans s k at) same h.spans)
+    let e : h.among.0 ≡ n = omega (arith, past, below) in
+    let same : h.span ≡ last = same_Some h.span last (sym place ∙ ap (slice_get spans) e ∙ there) in
+    subst (λ s. Spans s k at) same h.spans)
     (less_or h.among.0 n)
 
 -- ---- the same by a test
@@ -103,10 +103,10 @@ module _ (spans : List Span) (k at n : ℕ) (last : Span) (apart : AreApart span
       (λ j s is time. ⊎_elim
       (λ l. omega (arith, l, some))
       (λ g.
-          let within = slice_get_within spans j s is in
-          let tested = past j g within s in
-          let is_s : get_or spans j s ≡ s = get_or_from_slice_get spans j s s is in
-          absurd (false≢true (sym tested ∙ ap (in_time k at) is_s ∙ in_time_passes k at s time)))
+      let within = slice_get_within spans j s is in
+      let tested = past j g within s in
+      let is_s : get_or spans j s ≡ s = get_or_from_slice_get spans j s s is in
+      absurd (false≢true (sym tested ∙ ap (in_time k at) is_s ∙ in_time_passes k at s time)))
       (less_or j n)) h
 
 pub none_in_time : (spans : List Span) (k at : ℕ)

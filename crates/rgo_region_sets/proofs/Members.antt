@@ -53,15 +53,16 @@ module _ (classes : List Class) (i : ℕ) (d : Class) (within : i < length class
         λ h. ⊎_elim
             (λ o. let b = (before k).0 o in (take_more_left classes i d (Name k) within b.0, b.1))
             (λ e. (
-              subst (Contains (take (i + 1) classes)) (class_is ∙ ap Name (sym e.1)) (take_more_here classes i d within),
+              subst (Contains (take (i + 1) classes)) (class_is ∙ ap Name (sym e.1))
+                  (take_more_here classes i d within),
               subst P (sym e.1) (decides.0 e.0),
             ))
             ((pushed_members old new test j is k).0 h),
         λ h. (pushed_members old new test j is k).1 (⊎_elim
             (λ o. inl ((before k).1 (o, h.1)))
             (λ e.
-                let same = one_name (get_or classes i d) j k named e in
-                inr (decides.1 (subst P same h.1), same))
+            let same = one_name (get_or classes i d) j k named e in
+            inr (decides.1 (subst P same h.1), same))
             (take_cases classes i d (Name k) within h.0)),
       )
 
@@ -86,7 +87,8 @@ all_names classes i P names past h =
 
 -- ---- names that are passed for a class
 
-module _ (regions : List Class) (class : Class) (passes : List Class) (i : ℕ) (d : Class) (within : i < length passes) where
+module _ (regions : List Class) (class : Class) (passes : List Class) (i : ℕ) (d : Class)
+    (within : i < length passes) where
   for_later : (k : ℕ) → IsPassedFor regions class (take i passes) k → IsPassedFor regions class (take (i + 1) passes) k
   for_later k h =
       let a = get_taken passes i h.at (Name k) h.passed in
@@ -108,12 +110,12 @@ module _ (regions : List Class) (class : Class) (passes : List Class) (i : ℕ) 
         passed = taken_get passes i h.at (Name k) l a.1;
       }))
       (λ g.
-          let same : h.at ≡ i = omega (arith, g, a.0) in
-          inr (
-            ap (slice_get regions) (sym same) ∙ h.parameter,
-            same_Some (get_or passes i d) (Name k)
-                (sym (slice_get-get_or passes i d within) ∙ ap (slice_get passes) (sym same) ∙ a.1),
-          ))
+      let same : h.at ≡ i = omega (arith, g, a.0) in
+      inr (
+        ap (slice_get regions) (sym same) ∙ h.parameter,
+        same_Some (get_or passes i d) (Name k)
+            (sym (slice_get-get_or passes i d within) ∙ ap (slice_get passes) (sym same) ∙ a.1),
+      ))
       (less_or h.at i)
 
   for_here : (k : ℕ) → slice_get regions i ≡ Some class → get_or passes i d ≡ Name k
@@ -182,7 +184,7 @@ pub classes_all : (n m : ℕ) (slots : List Slot) → m ≡ min n (length slots)
 classes_all n m slots is = ⊎_elim
     (λ l. let same : m ≡ n = omega (arith, is, l) in ap (λ c. parameter_classes c slots) same)
     (λ g. let same : m ≡ length slots = omega (arith, is, g) in
-        ap (λ c. parameter_classes c slots) same ∙ sym (classes_past n slots g))
+    ap (λ c. parameter_classes c slots) same ∙ sym (classes_past n slots g))
     (less_or n (length slots))
 
 -- ---- over spans
@@ -215,8 +217,8 @@ held_more f spans i d old new test within before decides is k =
       λ h. ⊎_elim
           (λ o. let b = (before k).0 o in (b.0, spanned_later spans i d within k 0 b.1))
           (λ e.
-              let p = decides.0 e.0 in
-              (subst (IsOwn f) (sym e.1) p.1, spanned_here spans i d within k 0 (sym e.1, omega (arith, p.0), omega arith)))
+          let p = decides.0 e.0 in
+          (subst (IsOwn f) (sym e.1) p.1, spanned_here spans i d within k 0 (sym e.1, omega (arith, p.0), omega arith)))
           ((pushed_members old new test s.name is k).0 h),
       λ h. (pushed_members old new test s.name is k).1 (⊎_elim
           (λ o. inl ((before k).1 (h.0, o)))

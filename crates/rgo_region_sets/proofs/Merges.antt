@@ -74,9 +74,9 @@ pub apart_pushed : (spans : List Span) (next : Span) → AreApart spans
     → ((a : Span) → slice_get spans (length spans - 1) ≡ Some a → IsBefore a next) → AreApart (spans ++ next ∷ [])
 apart_pushed spans next apart after i j a b less at_i at_j = ⊎_elim
     (λ old.
-        let within = slice_get_within spans j b old in
-        ⊎_elim (λ o. apart i j a b less o old) (λ n. absurd (omega (arith, n.0, less, within)))
-        (get_pushed spans next i a at_i))
+    let within = slice_get_within spans j b old in
+    ⊎_elim (λ o. apart i j a b less o old) (λ n. absurd (omega (arith, n.0, less, within)))
+    (get_pushed spans next i a at_i))
     (λ new. ⊎_elim
     (λ o. subst (IsBefore a) new.1 (last_first i a o))
     (λ n. absurd (omega (arith, n.0, new.0, less)))
@@ -92,6 +92,7 @@ apart_pushed spans next apart after i j a b less at_i at_j = ⊎_elim
         (λ n. before_all a last next (apart i (length spans - 1) a last (omega (arith, within, n)) at_a at_last)
         (after last at_last))
         (same_or i (length spans - 1))
+
     last_first : (i : ℕ) (a : Span) → slice_get spans i ≡ Some a → IsBefore a next
     last_first i a at_a =
         let within = slice_get_within spans i a at_a in
@@ -105,8 +106,8 @@ pub follows_pushed : (spans : List Span) (next later : Span) → Precedes next l
     → Follows (spans ++ next ∷ []) later
 follows_pushed spans next later precedes a e = ⊎_elim
     (λ o.
-        let within = slice_get_within spans (length (spans ++ next ∷ []) - 1) a o in
-        absurd (omega (arith, within, length-append spans (next ∷ []))))
+    let within = slice_get_within spans (length (spans ++ next ∷ []) - 1) a o in
+    absurd (omega (arith, within, length-append spans (next ∷ []))))
     (λ n. subst (λ s. Precedes s later) n.1 precedes)
     (get_pushed spans next (length (spans ++ next ∷ []) - 1) a e)
 
@@ -126,8 +127,8 @@ module _ (spans : List Span) (n : ℕ) (last next : Span) (to : ℕ) (there : sl
       (get_written spans n both i a at_i))
       (λ new. ⊎_elim
       (λ o.
-          let before = apart i n a last (omega (arith, less, new.0)) o.0 there in
-          subst (IsBefore a) new.1 (before.0, λ e. before.1 e))
+      let before = apart i n a last (omega (arith, less, new.0)) o.0 there in
+      subst (IsBefore a) new.1 (before.0, λ e. before.1 e))
       (λ m. absurd (omega (arith, m.0, new.0, less)))
       (get_written spans n both i a at_i))
       (get_written spans n both j b at_j)
@@ -156,13 +157,13 @@ module _ (spans : List Span) (n : ℕ) (last next : Span) (to : ℕ) (there : sl
     λ h. ⊎_elim
         (λ o. ⊎_elim
         (λ e.
-            let same : last ≡ o.span = same_Some last o.span
-            (sym there ∙ ap (slice_get spans) (sym e) ∙ member_at spans o.span o.among) in
-            record {
-              span = both;
-              among = found (slice_set spans n both) n both (written spans n both last there);
-              spans = last_both k at (subst (λ s. Spans s k at) (sym same) o.spans);
-            })
+        let same : last ≡ o.span = same_Some last o.span
+        (sym there ∙ ap (slice_get spans) (sym e) ∙ member_at spans o.span o.among) in
+        record {
+          span = both;
+          among = found (slice_set spans n both) n both (written spans n both last there);
+          spans = last_both k at (subst (λ s. Spans s k at) (sym same) o.spans);
+        })
         (λ d. record {
           span = o.span;
           among = found (slice_set spans n both) o.among.0 o.span

@@ -58,8 +58,8 @@ module _ (f : CodeFn) (liveness : Liveness) where
     λ h. (adds k at).1 (⊎_elim
         (λ l. inl ((before k at).1 (h.0, l, h.2)))
         (λ g.
-            let same : h.0 ≡ n = omega (arith, g, h.1) in
-            inr (subst (λ u. IsNamed f liveness u k at) same h.2))
+        let same : h.0 ≡ n = omega (arith, g, h.1) in
+        inr (subst (λ u. IsNamed f liveness u k at) same h.2))
         (less_or h.0 n)),
   )
 

@@ -1,5 +1,4 @@
-use Rattle.std.proofs.Common.{◌≡◌, ◌∙◌, Some, None, List, sym, subst, ap}
-use Rattle.rgo_region_sets.specs.Branches.{AreBranches}
+use Rattle.std.proofs.Common.{sym}
 use Rattle.rgo_region_sets.proofs.Tables.{branch_more, other_instruction}
 use Rattle.rgo_region_sets.proofs.branches.add_branch.Goals as goal
 

@@ -1,4 +1,4 @@
-use Rattle.std.proofs.Common.{◌↔◌, ℕ, List, [], slice_get, sym, subst, arith}
+use Rattle.std.proofs.Common.{ℕ, List, [], slice_get, sym, subst, arith}
 use Rattle.std.specs.List.{Contains}
 use Rattle.rgo_region_sets.specs.Asked.{Creates, IsMissing}
 use Rattle.rgo_region_sets.specs.Sets.{IsSet}

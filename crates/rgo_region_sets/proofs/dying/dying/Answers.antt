@@ -1,4 +1,4 @@
-use Rattle.std.proofs.Common.{◌↔◌, ℕ, List, Vec, ◌+◌, length, sym, subst, arith}
+use Rattle.std.proofs.Common.{◌↔◌, ℕ, List, Vec, ◌+◌, sym, subst, arith}
 use Rattle.std.proofs.lemmas.Result.{IfOk-weaker}
 use Rattle.std.specs.Global.{Global}
 use Rattle.rgo_graphs.specs.Rows.{IsTransposed, Relates, rows_of}
@@ -35,9 +35,9 @@ loop-span-preserved c =
 pub transposed-requires-clause-below : goal.transposed-requires-clause-below
 transposed-requires-clause-below c =
     λ i x h.
-        let dies = (c.loop-span.invariant.rows i x).0
-        (subst (λ (l : List (Vec ℕ Global)). Relates (rows_of l) i x) c.deref.ensures.value h) in
-        dies.1.2.branch
+    let dies = (c.loop-span.invariant.rows i x).0
+    (subst (λ (l : List (Vec ℕ Global)). Relates (rows_of l) i x) c.deref.ensures.value h) in
+    dies.1.2.branch
 
 pub returns-clause-rows : goal.returns-clause-rows
 returns-clause-rows c =

@@ -22,4 +22,5 @@ loop-b-preserved c =
 pub returns : goal.returns
 returns c =
     all_branches c.args.spans.now c.args.points.now c.args.targets.now c.args.span c.branches_in-first.result.0
-    c.branches_in-first.result.1 c.branches_in-first.ensures c.loop-b.ends.items c.loop-b.b c.loop-b-test.false c.loop-b.invariant
+    c.branches_in-first.result.1 c.branches_in-first.ensures c.loop-b.ends.items c.loop-b.b c.loop-b-test.false
+    c.loop-b.invariant

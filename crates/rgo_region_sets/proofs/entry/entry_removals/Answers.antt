@@ -18,13 +18,13 @@ loop-class-preserved c =
     let i = c.loop-class.class-index in
     let old = c.loop-class.names.items in
     elim c.match-name_of.branch [
-      in-Some+in_ok-push_if w ↦
+      | in-Some+in_ok-push_if w ↦
           rw w.names-is (names_more classes i _ c.loop-class-test.true (IsMissing c.args.f.now 0) old
-              c.loop-class.invariant w.push_if.new.names.items w.is_missing-missing.result w.in-Some.name
-              (sym c.name_of.ensures ∙ w.in-Some.is) w.is_missing-missing.ensures w.in_ok-push_if.ensures)
+          c.loop-class.invariant w.push_if.new.names.items w.is_missing-missing.result w.in-Some.name
+          (sym c.name_of.ensures ∙ w.in-Some.is) w.is_missing-missing.ensures w.in_ok-push_if.ensures)
       | in_default w ↦
           rw w.names-is (names_same classes i _ c.loop-class-test.true (IsMissing c.args.f.now 0) old
-              c.loop-class.invariant (sym c.name_of.ensures ∙ w.in_default.is))
+          c.loop-class.invariant (sym c.name_of.ensures ∙ w.in_default.is))
     ]
 
 pub returns : goal.returns
@@ -33,5 +33,5 @@ returns c =
     let names = c.loop-class.names.items in
     set_with c.set_of.result.items (Contains names) (EntryRemoves c.args.f.now) c.set_of.ensures
     (entry_removed c.args.f.now classes names (c.deref-class-items.ensures.value ∙ c.in_ok-classes.ensures)
-    (all_names classes c.loop-class.class-index (IsMissing c.args.f.now 0) names (omega (arith, c.loop-class-test.false))
-    c.loop-class.invariant))
+    (all_names classes c.loop-class.class-index (IsMissing c.args.f.now 0) names
+    (omega (arith, c.loop-class-test.false)) c.loop-class.invariant))

@@ -1,4 +1,4 @@
-use Rattle.std.proofs.Common.{◌≡◌, ℕ, List, length, sym, subst}
+use Rattle.std.proofs.Common.{length, sym, subst}
 use Rattle.rgo_graphs.specs.Rows.{IsAscending, rows_of}
 use Rattle.rgo_tac.specs.Code.{TacFn}
 use Rattle.rgo_region_sets.specs.Branches.{AreBranches}
@@ -28,12 +28,14 @@ returns c =
     record {
       names = c.in_ok-spans.ensures.live;
       branches = λ at ways is.
-          let found = every_branch _ b.points.items b.targets.items b.others.items all at ways is in
-          (found.0, record {
-            point = found.1.point;
-            taken = dying_names spans b.points.items b.targets.items (rows_of c.in_ok-taken.taken.items) taken found.0
-                at ways.0 found.1.point found.1.target;
-            passed = dying_names spans b.points.items b.others.items (rows_of c.in_ok-passed.passed.items) passed
-                found.0 at ways.1 found.1.point found.1.other;
-          });
+          let found = every_branch _ b.points.items b.targets.items b.others.items all at ways is in (
+            found.0,
+            record {
+              point = found.1.point;
+              taken = dying_names spans b.points.items b.targets.items (rows_of c.in_ok-taken.taken.items) taken found.0
+                  at ways.0 found.1.point found.1.target;
+              passed = dying_names spans b.points.items b.others.items (rows_of c.in_ok-passed.passed.items) passed
+                  found.0 at ways.1 found.1.point found.1.other;
+            },
+          );
     }

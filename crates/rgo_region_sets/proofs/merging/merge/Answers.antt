@@ -14,7 +14,8 @@ pub returns-then-meets-clause-apart : goal.returns-then-meets-clause-apart
 returns-then-meets-clause-apart c =
     let counted : c.len-count.result ≡ length c.args.merged.now.items = omega (arith, c.len-count.ensures) in
     joined_apart c.args.merged.now.items c.len-count.result c.index-last.result.now c.args.next counted
-    c.if-count-eq0.false c.index-last.ensures c.requires.follows c.max.result c.max.ensures c.if-meets.ensures c.requires.apart
+    c.if-count-eq0.false c.index-last.ensures c.requires.follows c.max.result c.max.ensures c.if-meets.ensures
+    c.requires.apart
 
 pub returns-then-meets-clause-ends : goal.returns-then-meets-clause-ends
 returns-then-meets-clause-ends c =
@@ -33,4 +34,4 @@ returns-clause-apart c =
 pub returns-clause-ends : goal.returns-clause-ends
 returns-clause-ends c =
     λ later precedes. subst (λ (l : List Span). Follows l later) (sym c.in_ok-push-2.ensures.items)
-        (follows_pushed c.args.merged.now.items c.args.next later precedes)
+    (follows_pushed c.args.merged.now.items c.args.next later precedes)

@@ -1,4 +1,4 @@
-use Rattle.std.proofs.Common.{◌≡◌, ◌↔◌, ℕ, List, [], get_or, sym, subst, arith}
+use Rattle.std.proofs.Common.{◌↔◌, ℕ, List, [], sym, subst, arith}
 use Rattle.std.proofs.lemmas.Option.{slice_get-get_or}
 use Rattle.rgo_region_sets.specs.declared.spans.Span.{Span}
 use Rattle.rgo_region_sets.specs.Spans.{AreApart, Follows, IsSpanned}

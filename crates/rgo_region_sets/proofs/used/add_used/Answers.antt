@@ -11,6 +11,6 @@ returns c =
     let mid = c.add_read.new.names.items in
     let new = c.add_written.new.names.items in
     on_ok_weaker c.add_written.result (λ h. then_named c.args.f.now old mid new (operation_of c.args.op)
-        (subst (λ (l : List ℕ). AddsNames c.args.f.now old mid l) c.reads.ensures c.in_ok-add_read.ensures)
-        (subst (λ (o : Option ℕ). AddsNames c.args.f.now mid new (option_to_list o)) c.writes.ensures h))
+    (subst (λ (l : List ℕ). AddsNames c.args.f.now old mid l) c.reads.ensures c.in_ok-add_read.ensures)
+    (subst (λ (o : Option ℕ). AddsNames c.args.f.now mid new (option_to_list o)) c.writes.ensures h))
     c.add_written.ensures

@@ -7,9 +7,9 @@ use Rattle.rgo_region_sets.proofs.used.add_written.Goals as goal
 pub returns-in-Some : goal.returns-in-Some
 returns-in-Some c =
     on_ok_weaker c.add_name.result (λ h. subst
-        (λ (o : Option ℕ). AddsNames c.args.f.now c.args.names.now.items c.add_name.new.names.items (option_to_list o))
-        (sym c.in-Some.is)
-        (one_named c.args.f.now c.args.names.now.items c.add_name.new.names.items c.in-Some.variable h))
+    (λ (o : Option ℕ). AddsNames c.args.f.now c.args.names.now.items c.add_name.new.names.items (option_to_list o))
+    (sym c.in-Some.is)
+    (one_named c.args.f.now c.args.names.now.items c.add_name.new.names.items c.in-Some.variable h))
     c.add_name.ensures
 
 pub returns-in-None : goal.returns-in-None
