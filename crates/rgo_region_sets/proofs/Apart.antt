@@ -21,8 +21,8 @@ earlier_has_begun k at a b before begun = ⊎_elim
     (λ f. ⊎_elim
     (λ l. inl (omega (arith, l, f.0)))
     (λ g.
-        let same : a.name ≡ b.name = omega (arith, g, f.0, before.0) in
-        inr (same ∙ f.0, omega (arith, (before.1 same).0, f.1)))
+    let same : a.name ≡ b.name = omega (arith, g, f.0, before.0) in
+    inr (same ∙ f.0, omega (arith, (before.1 same).0, f.1)))
     (less_or a.name b.name))
     begun
 
@@ -64,8 +64,8 @@ begun_partitioned spans k at apart = λ i j d le within e.
     (apart i j (get_or spans i d) last less (slice_get-get_or spans i d (omega (arith, le, within))) there)
     (passed k at last e)))
     (λ past.
-        let same : i ≡ j = omega (arith, past, le) in
-        subst (λ n. has_begun k at (get_or spans n d) ≡ true) (sym same) e)
+    let same : i ≡ j = omega (arith, past, le) in
+    subst (λ n. has_begun k at (get_or spans n d) ≡ true) (sym same) e)
     (less_or i j)
 
 -- what a search finds
@@ -78,9 +78,9 @@ begun_found spans k at n bound point = record {
   only = λ i s is begun. ⊎_elim
       (λ l. l)
       (λ g.
-          let fails = point.1 i s g (slice_get_within spans i s is) in
-          absurd (false≢true (sym fails ∙ ap (has_begun k at) (get_or_from_slice_get spans i s s is)
-          ∙ passes k at s begun)))
+      let fails = point.1 i s g (slice_get_within spans i s is) in
+      absurd (false≢true (sym fails ∙ ap (has_begun k at) (get_or_from_slice_get spans i s s is)
+      ∙ passes k at s begun)))
       (less_or i n);
 }
 
@@ -104,15 +104,15 @@ is_the_last spans k at n last apart there begun least h =
     let below : h.among.0 ≤ n = least h.among.0 h.span place (inr (h.spans.0, h.spans.1)) in
     ⊎_elim
     (λ less.
-        let before = apart h.among.0 n h.span last less place there in
-        absurd (⊎_elim
-        (λ m. omega (arith, before.0, m, h.spans.0))
-        (λ f. omega (arith, (before.1 (h.spans.0 ∙ sym f.0)).1, f.1, h.spans.2))
-        begun))
+    let before = apart h.among.0 n h.span last less place there in
+    absurd (⊎_elim
+    (λ m. omega (arith, before.0, m, h.spans.0))
+    (λ f. omega (arith, (before.1 (h.spans.0 ∙ sym f.0)).1, f.1, h.spans.2))
+    begun))
     (λ past.
-        let e : h.among.0 ≡ n = omega (arith, past, below) in
-        let same : h.span ≡ last = same_Some h.span last (sym place ∙ ap (slice_get spans) e ∙ there) in
-        subst (λ s. Spans s k at) same h.spans)
+    let e : h.among.0 ≡ n = omega (arith, past, below) in
+    let same : h.span ≡ last = same_Some h.span last (sym place ∙ ap (slice_get spans) e ∙ there) in
+    subst (λ s. Spans s k at) same h.spans)
     (less_or h.among.0 n)
 
 pub none_begun : (spans : List Span) (k at n : ℕ) → AreBegun spans k at n → n ≡ 0
