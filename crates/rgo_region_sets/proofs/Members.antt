@@ -10,9 +10,11 @@ use Rattle.rgo_graphs.proofs.Lists.{no_member, take_cases, take_more_left, take_
 use Rattle.rgo_tac.specs.declared.regions.Class.{Class}
 use Rattle.rgo_tac.specs.declared.regions.Class.TheVariants.{Name}
 use Rattle.rgo_code.specs.Code.{Slot, CodeFn}
-use Rattle.rgo_code.specs.Names.{slot_class, class_of, parameter_classes, IsOwn}
+use Rattle.rgo_code.specs.Names.{slot_class, class_of, parameter_classes, IsOwn, Holds}
 use Rattle.rgo_region_sets.specs.declared.spans.Span.{Span}
-use Rattle.rgo_region_sets.specs.Asked.{IsPassedFor}
+use Rattle.rgo_region_sets.specs.Asked.{IsPassedFor, IsMissing, EntryRemoves}
+use Rattle.rgo_region_sets.specs.declared.table.LiveNames.{LiveNames}
+use Rattle.rgo_region_sets.specs.Live.{AreLiveNames}
 use Rattle.rgo_region_sets.specs.Sets.{IsSet, pushed_if}
 use Rattle.rgo_region_sets.specs.Spans.{Spans, IsSpanned}
 use Rattle.rgo_region_sets.specs.Used.{name_of}
@@ -51,15 +53,16 @@ module _ (classes : List Class) (i : ℕ) (d : Class) (within : i < length class
         λ h. ⊎_elim
             (λ o. let b = (before k).0 o in (take_more_left classes i d (Name k) within b.0, b.1))
             (λ e. (
-              subst (Contains (take (i + 1) classes)) (class_is ∙ ap Name (sym e.1)) (take_more_here classes i d within),
+              subst (Contains (take (i + 1) classes)) (class_is ∙ ap Name (sym e.1))
+                  (take_more_here classes i d within),
               subst P (sym e.1) (decides.0 e.0),
             ))
             ((pushed_members old new test j is k).0 h),
         λ h. (pushed_members old new test j is k).1 (⊎_elim
             (λ o. inl ((before k).1 (o, h.1)))
             (λ e.
-                let same = one_name (get_or classes i d) j k named e in
-                inr (decides.1 (subst P same h.1), same))
+            let same = one_name (get_or classes i d) j k named e in
+            inr (decides.1 (subst P same h.1), same))
             (take_cases classes i d (Name k) within h.0)),
       )
 
@@ -84,7 +87,8 @@ all_names classes i P names past h =
 
 -- ---- names that are passed for a class
 
-module _ (regions : List Class) (class : Class) (passes : List Class) (i : ℕ) (d : Class) (within : i < length passes) where
+module _ (regions : List Class) (class : Class) (passes : List Class) (i : ℕ) (d : Class)
+    (within : i < length passes) where
   for_later : (k : ℕ) → IsPassedFor regions class (take i passes) k → IsPassedFor regions class (take (i + 1) passes) k
   for_later k h =
       let a = get_taken passes i h.at (Name k) h.passed in
@@ -106,12 +110,12 @@ module _ (regions : List Class) (class : Class) (passes : List Class) (i : ℕ) 
         passed = taken_get passes i h.at (Name k) l a.1;
       }))
       (λ g.
-          let same : h.at ≡ i = omega (arith, g, a.0) in
-          inr (
-            ap (slice_get regions) (sym same) ∙ h.parameter,
-            same_Some (get_or passes i d) (Name k)
-                (sym (slice_get-get_or passes i d within) ∙ ap (slice_get passes) (sym same) ∙ a.1),
-          ))
+      let same : h.at ≡ i = omega (arith, g, a.0) in
+      inr (
+        ap (slice_get regions) (sym same) ∙ h.parameter,
+        same_Some (get_or passes i d) (Name k)
+            (sym (slice_get-get_or passes i d within) ∙ ap (slice_get passes) (sym same) ∙ a.1),
+      ))
       (less_or h.at i)
 
   for_here : (k : ℕ) → slice_get regions i ≡ Some class → get_or passes i d ≡ Name k
@@ -180,7 +184,7 @@ pub classes_all : (n m : ℕ) (slots : List Slot) → m ≡ min n (length slots)
 classes_all n m slots is = ⊎_elim
     (λ l. let same : m ≡ n = omega (arith, is, l) in ap (λ c. parameter_classes c slots) same)
     (λ g. let same : m ≡ length slots = omega (arith, is, g) in
-        ap (λ c. parameter_classes c slots) same ∙ sym (classes_past n slots g))
+    ap (λ c. parameter_classes c slots) same ∙ sym (classes_past n slots g))
     (less_or n (length slots))
 
 -- ---- over spans
@@ -213,14 +217,39 @@ held_more f spans i d old new test within before decides is k =
       λ h. ⊎_elim
           (λ o. let b = (before k).0 o in (b.0, spanned_later spans i d within k 0 b.1))
           (λ e.
-              let p = decides.0 e.0 in
-              (subst (IsOwn f) (sym e.1) p.1, spanned_here spans i d within k 0 (sym e.1, omega (arith, p.0), omega arith)))
+          let p = decides.0 e.0 in
+          (subst (IsOwn f) (sym e.1) p.1, spanned_here spans i d within k 0 (sym e.1, omega (arith, p.0), omega arith)))
           ((pushed_members old new test s.name is k).0 h),
       λ h. (pushed_members old new test s.name is k).1 (⊎_elim
           (λ o. inl ((before k).1 (h.0, o)))
           (λ n. inr (decides.1 (omega (arith, n.1), subst (IsOwn f) (sym n.0) h.0), sym n.0))
           (spanned_cases spans i d within k 0 h.1)),
     )
+
+pub held_none : (f : CodeFn) (k : ℕ) → Contains [] k ↔ (IsOwn f k × IsSpanned [] k 0)
+held_none f k = (λ h. absurd (no_member k h), λ h. absurd (no_member h.1.span h.1.among))
+
+pub held_all : (live : LiveNames) (f : CodeFn) (spans : List Span) (i : ℕ) (names : List ℕ)
+    → spans ≡ live.spans.items → length spans ≤ i → AreLiveNames live f
+    → ((k : ℕ) → Contains names k ↔ (IsOwn f k × IsSpanned (take i spans) k 0))
+    → (k : ℕ) → Contains names k ↔ Holds f k 0
+held_all live f spans i names is past tables held k =
+    let all = subst (λ (l : List Span). (j : ℕ) → Contains names j ↔ (IsOwn f j × IsSpanned l j 0))
+    (take_all i spans past ∙ is) held in (
+      λ h. let b = (all k).0 h in (b.0, (tables.names k 0).0 b.1),
+      λ h. (all k).1 (h.0, (tables.names k 0).1 h.1),
+    )
+
+-- ---- names of parameters that are missing at entry
+
+pub entry_removed : (f : CodeFn) (classes : List Class) (names : List ℕ)
+    → classes ≡ parameter_classes f.params f.variables
+    → ((k : ℕ) → Contains names k ↔ (Contains classes (Name k) × IsMissing f 0 k))
+    → (k : ℕ) → Contains names k ↔ EntryRemoves f k
+entry_removed f classes names is all k = (
+  λ h. let b = (all k).0 h in (b.1.0, subst (λ (l : List Class). Contains l (Name k)) is b.0, λ held. b.1.1 held.1),
+  λ h. (all k).1 (subst (λ (l : List Class). Contains l (Name k)) (sym is) h.1, (h.0, λ live. h.2 (h.0, live))),
+)
 
 -- two names for a set
 pub set_with : (names : List ℕ) (A B : ℕ → Type 0) → IsSet names A → ((k : ℕ) → A k ↔ B k) → IsSet names B

@@ -74,9 +74,9 @@ pub apart_pushed : (spans : List Span) (next : Span) → AreApart spans
     → ((a : Span) → slice_get spans (length spans - 1) ≡ Some a → IsBefore a next) → AreApart (spans ++ next ∷ [])
 apart_pushed spans next apart after i j a b less at_i at_j = ⊎_elim
     (λ old.
-        let within = slice_get_within spans j b old in
-        ⊎_elim (λ o. apart i j a b less o old) (λ n. absurd (omega (arith, n.0, less, within)))
-        (get_pushed spans next i a at_i))
+    let within = slice_get_within spans j b old in
+    ⊎_elim (λ o. apart i j a b less o old) (λ n. absurd (omega (arith, n.0, less, within)))
+    (get_pushed spans next i a at_i))
     (λ new. ⊎_elim
     (λ o. subst (IsBefore a) new.1 (last_first i a o))
     (λ n. absurd (omega (arith, n.0, new.0, less)))
@@ -92,6 +92,7 @@ apart_pushed spans next apart after i j a b less at_i at_j = ⊎_elim
         (λ n. before_all a last next (apart i (length spans - 1) a last (omega (arith, within, n)) at_a at_last)
         (after last at_last))
         (same_or i (length spans - 1))
+
     last_first : (i : ℕ) (a : Span) → slice_get spans i ≡ Some a → IsBefore a next
     last_first i a at_a =
         let within = slice_get_within spans i a at_a in
@@ -105,18 +106,18 @@ pub follows_pushed : (spans : List Span) (next later : Span) → Precedes next l
     → Follows (spans ++ next ∷ []) later
 follows_pushed spans next later precedes a e = ⊎_elim
     (λ o.
-        let within = slice_get_within spans (length (spans ++ next ∷ []) - 1) a o in
-        absurd (omega (arith, within, length-append spans (next ∷ []))))
+    let within = slice_get_within spans (length (spans ++ next ∷ []) - 1) a o in
+    absurd (omega (arith, within, length-append spans (next ∷ []))))
     (λ n. subst (λ s. Precedes s later) n.1 precedes)
     (get_pushed spans next (length (spans ++ next ∷ []) - 1) a e)
 
 -- ---- a next span that meets the last one
 
-module _ (spans : List Span) (n : ℕ) (last next joined : Span) (there : slice_get spans n ≡ Some last)
-    (is : joined ≡ record { name = last.name; from = last.from; to = max last.to next.to })
-    (is_last : n + 1 ≡ length spans) (precedes : Precedes last next) (met : Meets true last next) where
+module _ (spans : List Span) (n : ℕ) (last next : Span) (to : ℕ) (there : slice_get spans n ≡ Some last)
+    (is : to ≡ max last.to next.to) (is_last : n + 1 ≡ length spans) (precedes : Precedes last next)
+    (met : Meets true last next) where
   abbrev both : Span
-  both = record { name = last.name; from = last.from; to = max last.to next.to }
+  both = record { name = last.name; from = last.from; to = to }
 
   both_apart : AreApart spans → AreApart (slice_set spans n both)
   both_apart apart i j a b less at_i at_j = ⊎_elim
@@ -126,23 +127,23 @@ module _ (spans : List Span) (n : ℕ) (last next joined : Span) (there : slice_
       (get_written spans n both i a at_i))
       (λ new. ⊎_elim
       (λ o.
-          let before = apart i n a last (omega (arith, less, new.0)) o.0 there in
-          subst (IsBefore a) new.1 (before.0, λ e. before.1 e))
+      let before = apart i n a last (omega (arith, less, new.0)) o.0 there in
+      subst (IsBefore a) new.1 (before.0, λ e. before.1 e))
       (λ m. absurd (omega (arith, m.0, new.0, less)))
       (get_written spans n both i a at_i))
       (get_written spans n both j b at_j)
 
   both_spans : (k at : ℕ) → Spans both k at → Spans last k at ⊎ Spans next k at
   both_spans k at h = ⊎_elim
-      (λ late. inr (sym met.0 ∙ h.0, omega (arith, late, met.1), omega (arith, h.2, late)))
+      (λ late. inr (sym met.0 ∙ h.0, omega (arith, late, met.1), omega (arith, h.2, late, is)))
       (λ early. inl (h.0, h.1, early))
       (less_or last.to at)
 
   last_both : (k at : ℕ) → Spans last k at → Spans both k at
-  last_both k at h = (h.0, h.1, omega (arith, h.2))
+  last_both k at h = (h.0, h.1, omega (arith, h.2, is))
 
   next_both : (k at : ℕ) → Spans next k at → Spans both k at
-  next_both k at h = (met.0 ∙ h.0, omega (arith, h.1, precedes.1 met.0), omega (arith, h.2))
+  next_both k at h = (met.0 ∙ h.0, omega (arith, h.1, precedes.1 met.0), omega (arith, h.2, is))
 
   adds_both : AddsSpans spans (slice_set spans n both) (Spans next)
   adds_both k at = (
@@ -156,13 +157,13 @@ module _ (spans : List Span) (n : ℕ) (last next joined : Span) (there : slice_
     λ h. ⊎_elim
         (λ o. ⊎_elim
         (λ e.
-            let same : last ≡ o.span = same_Some last o.span
-            (sym there ∙ ap (slice_get spans) (sym e) ∙ member_at spans o.span o.among) in
-            record {
-              span = both;
-              among = found (slice_set spans n both) n both (written spans n both last there);
-              spans = last_both k at (subst (λ s. Spans s k at) (sym same) o.spans);
-            })
+        let same : last ≡ o.span = same_Some last o.span
+        (sym there ∙ ap (slice_get spans) (sym e) ∙ member_at spans o.span o.among) in
+        record {
+          span = both;
+          among = found (slice_set spans n both) n both (written spans n both last there);
+          spans = last_both k at (subst (λ s. Spans s k at) (sym same) o.spans);
+        })
         (λ d. record {
           span = o.span;
           among = found (slice_set spans n both) o.among.0 o.span
@@ -187,11 +188,33 @@ module _ (spans : List Span) (n : ℕ) (last next joined : Span) (there : slice_
       ))
       (get_written spans n both (length (slice_set spans n both) - 1) a e)
 
-  pub joined_apart : AreApart spans → AreApart (slice_set spans n joined)
-  joined_apart apart = subst (λ s. AreApart (slice_set spans n s)) (sym is) (both_apart apart)
+-- ---- a next span
 
-  pub adds_joined : AddsSpans spans (slice_set spans n joined) (Spans next)
-  adds_joined = subst (λ s. AddsSpans spans (slice_set spans n s) (Spans next)) (sym is) adds_both
+module _ (spans : List Span) (count : ℕ) (last next : Span) (is_count : count ≡ length spans) (some : count ≡ 0 → ⊥)
+    (read : last ≡ get_or spans (count - 1) last) (follows : Follows spans next) where
+  there : slice_get spans (count - 1) ≡ Some last
+  there = slice_get-get_or spans (count - 1) last (omega (arith, is_count, some)) ∙ ap Some (sym read)
 
-  pub joined_follows : (later : Span) → Precedes next later → Follows (slice_set spans n joined) later
-  joined_follows later after = subst (λ s. Follows (slice_set spans n s) later) (sym is) (both_follows later after)
+  at_the_end : slice_get spans (length spans - 1) ≡ Some last
+  at_the_end = ap (λ m. slice_get spans (m - 1)) (sym is_count) ∙ there
+
+  precedes : Precedes last next
+  precedes = follows last at_the_end
+
+  pub apart_after : Meets false last next → AreApart spans → AreApart (spans ++ next ∷ [])
+  apart_after apart before =
+      apart_pushed spans next before
+      (λ a e. subst (λ s. IsBefore s next) (same_Some last a (sym at_the_end ∙ e)) (not_met last next precedes apart))
+
+  module _ (to : ℕ) (is : to ≡ max last.to next.to) (met : Meets true last next) where
+    abbrev joined : List Span
+    joined = slice_set spans (count - 1) (record { name = last.name; from = last.from; to = to })
+
+    pub joined_added : AddsSpans spans joined (Spans next)
+    joined_added = adds_both spans (count - 1) last next to there is (omega (arith, is_count, some)) precedes met
+
+    pub joined_apart : AreApart spans → AreApart joined
+    joined_apart = both_apart spans (count - 1) last next to there is (omega (arith, is_count, some)) precedes met
+
+    pub joined_ends : (later : Span) → Precedes next later → Follows joined later
+    joined_ends = both_follows spans (count - 1) last next to there is (omega (arith, is_count, some)) precedes met

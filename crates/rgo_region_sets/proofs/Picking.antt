@@ -27,11 +27,14 @@ below_next names i d k rises within h =
     let is : get_or names h.0 k ≡ k = sym (get_or-take i names h.0 k place) ∙ h.2 in
     omega (arith, less, is, get_or_default names i k d within)
 
-pub set_none : (names : List ℕ) (P : ℕ → Type 0) → IsSet [] (λ k. Contains [] k × P k)
-set_none names P = record {
+pub set_empty : (Has : ℕ → Type 0) → ((k : ℕ) → Has k → ⊥) → IsSet [] Has
+set_empty Has none = record {
   ascends = λ k within. absurd (omega (arith, within));
-  members = λ k. (λ h. absurd (no_member k h), λ h. absurd (no_member k h.0));
+  members = λ k. (λ h. absurd (no_member k h), λ h. absurd (none k h));
 }
+
+pub set_none : (names : List ℕ) (P : ℕ → Type 0) → IsSet [] (λ k. Contains [] k × P k)
+set_none names P = set_empty (λ k. Contains [] k × P k) (λ k h. no_member k h.0)
 
 module _ (names out : List ℕ) (i d : ℕ) (P : ℕ → Type 0) (within : i < length names)
     (before : IsSet out (λ k. Contains (take i names) k × P k)) where

@@ -32,9 +32,9 @@ module _ (x y : ℕ) (xs ys : List ℕ) (up : IsStrictlyIncreasing (x ∷ xs)) (
   not_below : (x ≤ y) × (y ≤ x)
   not_below = (
     ⊎_elim (λ e. omega (arith, e)) (λ h. omega (arith, first_least x xs y up h))
-    (first_or_later x xs y ((same y).1 (here y ys))),
+        (first_or_later x xs y ((same y).1 (here y ys))),
     ⊎_elim (λ e. omega (arith, e)) (λ h. omega (arith, first_least y ys x up' h))
-    (first_or_later y ys x ((same x).0 (here x xs))),
+        (first_or_later y ys x ((same x).0 (here x xs))),
   )
 
   pub same_first : x ≡ y
@@ -64,4 +64,5 @@ same_list (x ∷ xs) (y ∷ ys) up up' same =
 -- two sets of the same are one list
 pub same_set : (xs ys : List ℕ) (Has : ℕ → Type 0) → IsSet xs Has → IsSet ys Has → xs ≡ ys
 same_set xs ys Has a b =
-    same_list xs ys a.ascends b.ascends (λ k. (λ h. (b.members k).1 ((a.members k).0 h), λ h. (a.members k).1 ((b.members k).0 h)))
+    same_list xs ys a.ascends b.ascends
+    (λ k. (λ h. (b.members k).1 ((a.members k).0 h), λ h. (a.members k).1 ((b.members k).0 h)))

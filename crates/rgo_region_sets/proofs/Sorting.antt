@@ -29,13 +29,15 @@ same x y e =
     ap (λ t. cond t Less (cond (x == y) Equal Greater)) less ∙ ap (λ t. cond t Equal Greater) equal where
       less : nat_lt x y ≡ false
       less = grind (arith, nat_tests)
+
       equal : x == y ≡ true
       equal = grind (arith, nat_tests)
 
 in_order : (a b : Span) → is_lt (key_cmp (key b) (key a)) ≡ false → Precedes a b
 in_order a b e = (
   ⊎_elim
-      (λ l. absurd (false≢true (sym e ∙ ap (λ o. is_lt (ordering_then o (nat_cmp b.from a.from))) (below b.name a.name l))))
+      (λ l. absurd (false≢true (sym e
+      ∙ ap (λ o. is_lt (ordering_then o (nat_cmp b.from a.from))) (below b.name a.name l))))
       (λ g. g)
       (less_or b.name a.name),
   λ names. ⊎_elim

@@ -87,7 +87,9 @@ ranges_more old mid name ranges i d s within is before =
     (λ k at. (
       λ h. ⊎_elim
           (λ c. (c.0, (covered_more ranges i d at within).1 (inl c.1)))
-          (λ n. let m = subst (λ x. Spans x k at) is n in (sym m.0, (covered_more ranges i d at within).1 (inr (m.1, m.2))))
+          (λ n.
+          let m = subst (λ x. Spans x k at) is n in
+          (sym m.0, (covered_more ranges i d at within).1 (inr (m.1, m.2))))
           h,
       λ h. ⊎_elim
           (λ c. inl (h.0, c))

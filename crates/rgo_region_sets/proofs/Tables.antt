@@ -1,18 +1,21 @@
 -- The tables of the branches, and of what dies on their ways.
-use Rattle.std.proofs.Common.{◌≡◌, ◌⊎◌, ⊎_elim, inl, inr, ◌<◌, ◌≤◌, ◌+◌, ℕ, zero, suc, Bool, true, false, not, Decides, List, [], ◌∷◌, ◌++◌, Option, Some, None, length, take, get_or, slice_get, refl, sym, ap, subst, ◌∙◌, arith, length-append}
-use Rattle.std.specs.Prelude.{◌↔◌}
+use Rattle.std.proofs.Common.{◌≡◌, ◌⊎◌, ⊎_elim, inl, inr, ◌<◌, ◌≤◌, ◌+◌, ℕ, zero, suc, Bool, true, false, not, nat_lt, nat_le, Decides, List, [], ◌∷◌, ◌++◌, Option, Some, None, length, take, get_or, slice_get, refl, sym, ap, subst, ◌∙◌, arith, length-append}
+use Rattle.std.specs.Prelude.{◌↔◌, Vec}
+use Rattle.std.specs.Global.{Global}
 use Rattle.std.specs.List.{Contains}
-use Rattle.std.specs.List.Sorted.{IsStrictlyIncreasing}
+use Rattle.std.specs.List.Sorted.{IsStrictlyIncreasing, IsPartitionPoint}
 use Rattle.std.proofs.lemmas.Bool.{false≢true}
+use Rattle.std.proofs.lemmas.Bool.Decides.{nat_tests}
 use Rattle.std.proofs.lemmas.List.Elements.{Contains-push, Contains-push_cases, Contains-append_left}
 use Rattle.std.proofs.lemmas.List.Kept.{AllPairs-from_increasing}
 use Rattle.std.proofs.lemmas.Option.{same_Some, none-some, slice_get_within, slice_get-get_or, get_or_from_slice_get}
-use Rattle.rgo_graphs.specs.Rows.{IsAscending, Relates, row_at, rows_of}
+use Rattle.rgo_graphs.specs.Rows.{IsAscending, IsTransposed, Relates, row_at, rows_of}
+use Rattle.rgo_graphs.specs.RowsTo.{RowsTo}
 use Rattle.rgo_tac.specs.Code.{Instr, TacFn}
 use Rattle.rgo_tac.specs.Ops.{op_in}
 use Rattle.rgo_region_sets.specs.declared.spans.Span.{Span}
 use Rattle.rgo_region_sets.specs.Branches.{ways_in, branch_at, IsListed, AreBranches}
-use Rattle.rgo_region_sets.specs.Dying.{Dies, DiesAt, NamesOf}
+use Rattle.rgo_region_sets.specs.Dying.{AreInSpan, Dies, DiesAt, NamesOf}
 use Rattle.rgo_region_sets.specs.Sets.{pushed_if}
 use Rattle.rgo_region_sets.specs.Spans.{IsSpanned}
 use Rattle.rgo_region_sets.proofs.Apart.{member_at}
@@ -63,8 +66,8 @@ module _ (f : TacFn) (points targets others : List ℕ) (n : ℕ) (before : AreB
     listed = λ at ways within is. ⊎_elim
         (λ l. before.listed at ways l is)
         (λ g.
-            let same : at ≡ n = omega (arith, g, within) in
-            absurd (none-some ways (sym none ∙ ap (branch_at f) (sym same) ∙ is)))
+        let same : at ≡ n = omega (arith, g, within) in
+        absurd (none-some ways (sym none ∙ ap (branch_at f) (sym same) ∙ is)))
         (less_or at n);
   }
 
@@ -80,22 +83,27 @@ module _ (f : TacFn) (points targets others : List ℕ) (n : ℕ) (before : AreB
         (get_pushed points n b at e);
     listed = λ at ways within is. ⊎_elim
         (λ l.
-            let old = before.listed at ways l is in
-            (old.0, record {
-              point = get_left points (n ∷ []) old.0 at old.1.point;
-              target = get_left targets (target ∷ []) old.0 ways.0 old.1.target;
-              other = get_left others (other ∷ []) old.0 ways.1 old.1.other;
-            }))
+        let old = before.listed at ways l is in (
+          old.0,
+          record {
+            point = get_left points (n ∷ []) old.0 at old.1.point;
+            target = get_left targets (target ∷ []) old.0 ways.0 old.1.target;
+            other = get_left others (other ∷ []) old.0 ways.1 old.1.other;
+          },
+        ))
         (λ g.
-            let same : at ≡ n = omega (arith, g, within) in
-            let ways_are : (target, other) ≡ ways = same_Some (target, other) ways (sym leads ∙ ap (branch_at f) (sym same) ∙ is) in
-            (length points, record {
-              point = get_last points n (length points) refl ∙ ap Some (sym same);
-              target = get_last targets target (length points) (sym before.target_len)
-                  ∙ ap (λ (w : ℕ × ℕ). Some w.0) ways_are;
-              other = get_last others other (length points) (sym before.other_len)
-                  ∙ ap (λ (w : ℕ × ℕ). Some w.1) ways_are;
-            }))
+        let same : at ≡ n = omega (arith, g, within) in
+        let ways_are : (target, other) ≡ ways = same_Some (target, other) ways
+        (sym leads ∙ ap (branch_at f) (sym same) ∙ is) in (
+          length points,
+          record {
+            point = get_last points n (length points) refl ∙ ap Some (sym same);
+            target = get_last targets target (length points) (sym before.target_len)
+                ∙ ap (λ (w : ℕ × ℕ). Some w.0) ways_are;
+            other = get_last others other (length points) (sym before.other_len)
+                ∙ ap (λ (w : ℕ × ℕ). Some w.1) ways_are;
+          },
+        ))
         (less_or at n);
   }
 
@@ -139,18 +147,23 @@ module _ (spans : List Span) (points targets : List ℕ) (rows : List (List ℕ)
         ),
     λ h.
         let s = h.0.span in
-        let dies : DiesAt spans points targets b h.0.among.0 = (s, member_at spans s h.0.among, record {
-          branch = slice_get_within points b at point;
-          from = omega (arith, h.0.spans.1, is_at);
-          to = omega (arith, h.0.spans.2, is_at);
-          dead = λ lives. h.1 (subst (λ n. IsSpanned spans n to) h.0.spans.0
-              (subst (IsSpanned spans s.name) is_to lives));
-        }) in
+        let dies : DiesAt spans points targets b h.0.among.0 = (
+          s,
+          member_at spans s h.0.among,
+          record {
+            branch = slice_get_within points b at point;
+            from = omega (arith, h.0.spans.1, is_at);
+            to = omega (arith, h.0.spans.2, is_at);
+            dead = λ lives. h.1 (subst (λ n. IsSpanned spans n to) h.0.spans.0
+                (subst (IsSpanned spans s.name) is_to lives));
+          },
+        ) in
         (h.0.among.0, (rows_are b h.0.among.0).1 dies, s, member_at spans s h.0.among, h.0.spans.0),
   )
     where
       is_at : get_or points b 0 ≡ at
       is_at = get_or_from_slice_get points b at 0 point
+
       is_to : get_or targets b 0 ≡ to
       is_to = get_or_from_slice_get targets b to 0 target
 
@@ -161,20 +174,29 @@ pub dies_at : (spans : List Span) (points targets : List ℕ) (i : ℕ) (d : Spa
 dies_at spans points targets i d ends within are b =
     let there = slice_get-get_or spans i d within in (
       λ h. (get_or spans i d, there, (are b).0 h),
-      λ h. (are b).1 (subst (λ s. Dies spans points targets s b) (same_Some h.0 (get_or spans i d) (sym h.1 ∙ there)) h.2),
+      λ h. (are b).1
+          (subst (λ s. Dies spans points targets s b) (same_Some h.0 (get_or spans i d) (sym h.1 ∙ there)) h.2),
     )
+
+-- all rows, from the other side
+pub dying_rows : (spans : List Span) (points targets : List ℕ) (rows : List (Vec ℕ Global)) (n : ℕ) (t : List (List ℕ))
+    → length spans ≤ n → RowsTo rows (λ s b. DiesAt spans points targets b s) n → IsTransposed (rows_of rows) t
+    → (b s : ℕ) → Relates t b s ↔ DiesAt spans points targets b s
+dying_rows spans points targets rows n t done all moved b s = (
+  λ h. ((all s b).0 ((moved s b).1 h)).1,
+  λ d. (moved s b).0 ((all s b).1 (omega (arith, slice_get_within spans s d.0 d.1, done), d)),
+)
 
 -- ---- the branches of a span
 
 module _ (spans : List Span) (points targets : List ℕ) (span : Span) (first end : ℕ)
-    (below : (j : ℕ) → j < first → j < length points → get_or points j 0 < span.from)
-    (from : (j : ℕ) → first ≤ j → j < length points → span.from ≤ get_or points j 0)
-    (to : (j : ℕ) → j < end → j < length points → get_or points j 0 ≤ span.to)
-    (past : (j : ℕ) → end ≤ j → j < length points → span.to < get_or points j 0) where
+    (bounds : AreInSpan points span first end) where
   pub none_before : (j : ℕ) → Contains [] j ↔ ((j < first) × Dies spans points targets span j)
   none_before j = (
     λ h. absurd (omega (arith, h.1)),
-    λ h. absurd (omega (arith, below j h.0 h.1.branch, h.1.from)),
+    λ h.
+        let inside = bounds.only j h.1.branch h.1.from h.1.to in
+        absurd (omega (arith, inside.0, h.0)),
   )
 
   pub one_branch : (ends ends' : List ℕ) (b : ℕ) (d : Bool) → first ≤ b → b < end → b < length points
@@ -186,25 +208,28 @@ module _ (spans : List Span) (points targets : List ℕ) (span : Span) (first en
     λ h. subst (λ l. Contains l j) (sym is) (⊎_elim
         (λ l. (before j).1 (l, h.1))
         (λ g.
-            let same : j ≡ b = omega (arith, g, h.0) in
-            absurd (h.1.dead (subst (λ n. IsSpanned spans span.name (get_or targets n 0)) (sym same) (decides.0 refl))))
+        let same : j ≡ b = omega (arith, g, h.0) in
+        absurd (h.1.dead (subst (λ n. IsSpanned spans span.name (get_or targets n 0)) (sym same) (decides.0 refl))))
         (less_or j b)),
   )
   one_branch ends ends' b false after inside within before decides is j = (
     λ h. ⊎_elim
         (λ o. let old = (before j).0 o in (omega (arith, old.0), old.1))
-        (λ e. subst (λ n. (n < b + 1) × Dies spans points targets span n) e (omega arith, record {
-          branch = within;
-          from = from b after within;
-          to = to b inside within;
-          dead = λ lives. false≢true (decides.1 lives);
-        }))
+        (λ e. subst (λ n. (n < b + 1) × Dies spans points targets span n) e (
+          omega arith,
+          record {
+            branch = within;
+            from = (bounds.inside b after inside).0;
+            to = (bounds.inside b after inside).1;
+            dead = λ lives. false≢true (decides.1 lives);
+          },
+        ))
         (Contains-push_cases ends b j (subst (λ l. Contains l j) is h)),
     λ h. subst (λ l. Contains l j) (sym is) (⊎_elim
         (λ l. Contains-append_left ends (b ∷ []) j ((before j).1 (l, h.1)))
         (λ g.
-            let same : b ≡ j = omega (arith, g, h.0) in
-            subst (Contains (ends ++ b ∷ [])) same (Contains-push ends b))
+        let same : b ≡ j = omega (arith, g, h.0) in
+        subst (Contains (ends ++ b ∷ [])) same (Contains-push ends b))
         (less_or j b)),
   )
 
@@ -213,8 +238,46 @@ module _ (spans : List Span) (points targets : List ℕ) (span : Span) (first en
       → (j : ℕ) → Contains ends j ↔ Dies spans points targets span j
   all_branches ends b done are j = (
     λ h. ((are j).0 h).1,
-    λ h. (are j).1 (⊎_elim
-        (λ l. l)
-        (λ g. absurd (omega (arith, past j (omega (arith, g, done)) h.branch, h.to)))
-        (less_or j b), h),
+    λ h. (are j).1 (
+      ⊎_elim
+          (λ l. l)
+          (λ g. let inside = bounds.only j h.branch h.from h.to in absurd (omega (arith, g, done, inside.1)))
+          (less_or j b),
+      h,
+    ),
   )
+
+-- what two searches find
+pub bounds_found : (points : List ℕ) (span : Span) (first end : ℕ)
+    → IsPartitionPoint (λ y. nat_lt y span.from ≡ true) (λ y. nat_lt y span.from ≡ false) points first
+    → IsPartitionPoint (λ y. nat_le y span.to ≡ true) (λ y. nat_le y span.to ≡ false) points end
+    → end ≤ length points → AreInSpan points span first end
+bounds_found points span first end from to bound = record {
+  bound = bound;
+  inside = λ b after before. (
+    not_less (get_or points b 0) span.from (from.1 b 0 after (omega (arith, before, bound))),
+    at_most (get_or points b 0) span.to (to.0 b 0 (omega arith) before),
+  );
+  only = λ b within after before. (
+    ⊎_elim
+        (λ l. absurd (less (get_or points b 0) span.from (from.0 b 0 (omega arith) l) after))
+        (λ g. g)
+        (less_or b first),
+    ⊎_elim
+        (λ l. l)
+        (λ g. absurd (more (get_or points b 0) span.to (to.1 b 0 g within) before))
+        (less_or b end),
+  );
+}
+  where
+    not_less : (a b : ℕ) → nat_lt a b ≡ false → b ≤ a
+    not_less a b e = grind (arith, nat_tests)
+
+    at_most : (a b : ℕ) → nat_le a b ≡ true → a ≤ b
+    at_most a b e = grind (arith, nat_tests)
+
+    less : (a b : ℕ) → nat_lt a b ≡ true → b ≤ a → ⊥
+    less a b e l = grind (arith, nat_tests)
+
+    more : (a b : ℕ) → nat_le a b ≡ false → a ≤ b → ⊥
+    more a b e l = grind (arith, nat_tests)

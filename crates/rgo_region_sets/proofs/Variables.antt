@@ -14,7 +14,7 @@ use Rattle.rgo_code.specs.Code.{Slot, CodeFn}
 use Rattle.rgo_code.specs.Erasure.{erased_fn}
 use Rattle.rgo_code.specs.Names.{slot_class, class_of, IsLiveName}
 use Rattle.rgo_region_sets.specs.declared.spans.Span.{Span}
-use Rattle.rgo_region_sets.specs.Spans.{Spans, IsSpanned, AddsSpans, IsNamed, Precedes, AreOrdered, Follows}
+use Rattle.rgo_region_sets.specs.Spans.{Spans, IsSpanned, AddsSpans, IsNamed, Precedes, AreOrdered, AreApart, Follows}
 use Rattle.rgo_region_sets.specs.Used.{name_of}
 use Rattle.rgo_region_sets.proofs.Members.{spanned_later, spanned_here, spanned_cases}
 use Rattle.rgo_region_sets.proofs.Naming.{name_is, one_name, no_name}
@@ -58,8 +58,8 @@ module _ (f : CodeFn) (liveness : Liveness) where
     λ h. (adds k at).1 (⊎_elim
         (λ l. inl ((before k at).1 (h.0, l, h.2)))
         (λ g.
-            let same : h.0 ≡ n = omega (arith, g, h.1) in
-            inr (subst (λ u. IsNamed f liveness u k at) same h.2))
+        let same : h.0 ≡ n = omega (arith, g, h.1) in
+        inr (subst (λ u. IsNamed f liveness u k at) same h.2))
         (less_or h.0 n)),
   )
 
@@ -83,6 +83,9 @@ module _ (f : CodeFn) (liveness : Liveness) where
   )
 
 -- ---- merging in order
+
+pub none_apart : AreApart []
+none_apart i j a b less at_i at_j = absurd (none-some a at_i)
 
 pub none_merged : (k at : ℕ) → IsSpanned [] k at ↔ IsSpanned [] k at
 none_merged k at = (λ h. h, λ h. h)

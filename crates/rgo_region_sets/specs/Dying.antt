@@ -3,6 +3,13 @@ use Rattle.std.specs.Prelude.{◌≡◌, ◌<◌, ◌≤◌, ℕ, List, length, 
 use Rattle.rgo_region_sets.specs.declared.spans.Span.{Span}
 use Rattle.rgo_region_sets.specs.Spans.{IsSpanned}
 
+-- the points from `first` on and before `end` are those that are in the span
+pub record AreInSpan (points : List ℕ) (span : Span) (first end : ℕ) : Type 0 where
+  pub bound : end ≤ length points
+  pub inside : (b : ℕ) → first ≤ b → b < end → (span.from ≤ slice_index points b) × (slice_index points b ≤ span.to)
+  pub only : (b : ℕ) → b < length points → span.from ≤ slice_index points b → slice_index points b ≤ span.to
+      → (first ≤ b) × (b < end)
+
 -- the span has branch b, whose target is in no span of the name
 pub record Dies (spans : List Span) (points targets : List ℕ) (span : Span) (b : ℕ) : Type 0 where
   pub branch : b < length points

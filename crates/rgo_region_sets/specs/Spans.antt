@@ -42,6 +42,16 @@ abbrev pub AreApart : List Span → Type 0
 AreApart spans =
     (i j : ℕ) (a b : Span) → i < j → slice_get spans i ≡ Some a → slice_get spans j ≡ Some b → IsBefore a b
 
+-- the span is of a lesser name, or of this one and begins no later than the instruction
+abbrev pub HasBegun : (k at : ℕ) → Span → Type 0
+HasBegun k at s = (s.name < k) ⊎ ((s.name ≡ k) × (s.from ≤ at))
+
+-- so are the first spans, up to this number, and no others
+pub record AreBegun (spans : List Span) (k at count : ℕ) : Type 0 where
+  pub bound : count ≤ length spans
+  pub begun : (i : ℕ) (s : Span) → slice_get spans i ≡ Some s → i < count → HasBegun k at s
+  pub only : (i : ℕ) (s : Span) → slice_get spans i ≡ Some s → HasBegun k at s → i < count
+
 -- ---- merging
 
 -- the next span begins no later than right after the last one, which has its name; or it does not

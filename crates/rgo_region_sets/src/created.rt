@@ -5,8 +5,8 @@ ghost use Rattle.rgo_region_sets.specs.Asked.{Creates, IsMissing};
 ghost use Rattle.rgo_region_sets.specs.Live.{AreLiveNames};
 ghost use Rattle.rgo_region_sets.specs.Sets.{IsSet};
 
-use crate::table::LiveNames;
 use crate::names::{is_own, push_if};
+use crate::table::LiveNames;
 use crate::used::used_names;
 use rgo_code::CodeFn;
 use std::alloc::{AllocError, Global};
@@ -24,7 +24,12 @@ pub(crate) fn is_missing(f: &CodeFn<'_>, live: &LiveNames, at: usize, name: u32)
 /// # Errors
 ///
 /// On allocation failure.
-pub fn creations(alloc: Global, f: &CodeFn<'_>, live: &LiveNames, at: usize) -> Result<Vec<u32>, AllocError>
+pub fn creations(
+    alloc: Global,
+    f: &CodeFn<'_>,
+    live: &LiveNames,
+    at: usize,
+) -> Result<Vec<u32>, AllocError>
     requires live { AreLiveNames live.now f.now }
     ensures { IfOk result (λ names. IsSet names.items (Creates f.now at)) }
 {

@@ -2,13 +2,24 @@
 
 ghost use Rattle.std.specs.Prelude.{◌≡◌, ◌<◌, ◌^◌, ◌↔◌, ℕ, length, vec_len, Contains, IfOk};
 ghost use Rattle.rgo_graphs.specs.Rows.{IsAscending, Relates, rows_of};
-ghost use Rattle.rgo_region_sets.specs.Dying.{Dies, DiesAt};
+ghost use Rattle.rgo_region_sets.specs.Dying.{AreInSpan, Dies, DiesAt};
 ghost use Rattle.rgo_region_sets.specs.Spans.{AreApart};
 
 use crate::names::push_if;
 use crate::spans::{Span, is_spanned};
 use rgo_graphs::transposed;
 use std::alloc::{AllocError, Global};
+
+/// Where the branches that are in a span begin and end.
+fn branches_in(points: &[u32], span: Span) -> (usize, usize)
+    requires points { IsAscending points.now }
+    ensures { AreInSpan points.now span result.0 result.1 }
+{
+    let (from, to) = (span.from, span.to);
+    let first = points.partition_point(|p| *p < from);
+    let end = points.partition_point(|p| *p <= to);
+    (first, end)
+}
 
 /// The branches in a span whose target is in no span of the name.
 fn ends_of(
@@ -25,9 +36,7 @@ fn ends_of(
     ensures { IfOk result (λ ends. (b : ℕ) → Contains ends.items b ↔ Dies spans.now points.now targets.now span b) }
 {
     let mut ends = Vec::new(alloc);
-    let (from, to) = (span.from, span.to);
-    let first = points.partition_point(|p| *p < from);
-    let end = points.partition_point(|p| *p <= to);
+    let (first, end) = branches_in(points, span);
     for b in first..end {
         let dies = !is_spanned(spans, span.name, targets[b] as usize);
         push_if(&mut ends, b as u32, dies)?;

@@ -6,12 +6,12 @@ ghost use Rattle.rgo_region_sets.specs.Asked.{EntryRemoves};
 ghost use Rattle.rgo_region_sets.specs.Live.{AreLiveNames};
 ghost use Rattle.rgo_region_sets.specs.Sets.{IsSet};
 
-use crate::spans::Span;
-use crate::table::LiveNames;
 use crate::created::is_missing;
 use crate::names::{is_own, name_of, push_if};
 use crate::regions::parameter_classes;
 use crate::sets::set_of;
+use crate::spans::Span;
+use crate::table::LiveNames;
 use rgo_code::CodeFn;
 use std::alloc::{AllocError, Global};
 
@@ -20,7 +20,11 @@ use std::alloc::{AllocError, Global};
 /// # Errors
 ///
 /// On allocation failure.
-pub fn entry_removals(alloc: Global, f: &CodeFn<'_>, live: &LiveNames) -> Result<Vec<u32>, AllocError>
+pub fn entry_removals(
+    alloc: Global,
+    f: &CodeFn<'_>,
+    live: &LiveNames,
+) -> Result<Vec<u32>, AllocError>
     requires live { AreLiveNames live.now f.now }
     ensures { IfOk result (λ names. IsSet names.items (EntryRemoves f.now)) }
 {
@@ -47,7 +51,11 @@ fn is_held(f: &CodeFn<'_>, span: Span) -> bool
 /// # Errors
 ///
 /// On allocation failure.
-pub fn holds_at_entry(alloc: Global, f: &CodeFn<'_>, live: &LiveNames) -> Result<Vec<u32>, AllocError>
+pub fn holds_at_entry(
+    alloc: Global,
+    f: &CodeFn<'_>,
+    live: &LiveNames,
+) -> Result<Vec<u32>, AllocError>
     requires live { AreLiveNames live.now f.now }
     ensures { IfOk result (λ names. IsSet names.items (λ k. Holds f.now k 0)) }
 {

@@ -6,8 +6,8 @@ ghost use Rattle.rgo_region_sets.specs.Live.{AreLiveNames, IsLiveIn};
 use crate::branches::branches_of;
 use crate::dying::dying;
 use crate::merging::spans_of;
-use crate::table::LiveNames;
 use crate::spans::is_spanned;
+use crate::table::LiveNames;
 use rgo_code::CodeFn;
 use std::alloc::{AllocError, Global};
 

@@ -4,7 +4,8 @@ ghost use Rattle.std.specs.Prelude.{◌≡◌, ◌↔◌, ℕ, IfOk, OnOk};
 ghost use Rattle.rgo_region_sets.specs.declared.spans.Span.{Span};
 ghost use Rattle.rgo_flow.specs.Ranges.{IsCovered};
 ghost use Rattle.rgo_code.specs.Names.{IsLiveName};
-ghost use Rattle.rgo_region_sets.specs.Spans.{AddsSpans, AreApart, AreOrdered, Follows, IsNamed, IsSpanned, Meets, Precedes, Spans};
+ghost use Rattle.rgo_region_sets.specs.Spans.{AddsSpans, AreApart, AreOrdered, IsNamed, IsSpanned, Spans};
+ghost use Rattle.rgo_region_sets.specs.Spans.{Follows, Meets, Precedes};
 
 use crate::names::name_of;
 use crate::spans::Span;

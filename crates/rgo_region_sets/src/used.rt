@@ -37,7 +37,11 @@ fn add_read(
     Ok(())
 }
 
-fn add_written(names: &mut Vec<u32>, f: &CodeFn<'_>, variable: Option<u32>) -> Result<(), AllocError>
+fn add_written(
+    names: &mut Vec<u32>,
+    f: &CodeFn<'_>,
+    variable: Option<u32>,
+) -> Result<(), AllocError>
     ensures { OnOk result (AddsNames f.now names.old.items names.new.items (option_to_list variable)) }
 {
     match variable {

@@ -1,5 +1,4 @@
-use Rattle.std.proofs.Common.{◌≡◌, ◌∙◌, Some, None, List, sym, subst, ap}
-use Rattle.rgo_region_sets.specs.Branches.{AreBranches}
+use Rattle.std.proofs.Common.{sym}
 use Rattle.rgo_region_sets.proofs.Tables.{branch_more, other_instruction}
 use Rattle.rgo_region_sets.proofs.branches.add_branch.Goals as goal
 
@@ -14,4 +13,4 @@ pub returns-in_default : goal.returns-in_default
 returns-in_default c =
     let b = c.args.branches.now in
     other_instruction c.args.function.now b.points.items b.targets.items b.others.items c.args.point c.requires
-    (sym c.in-None.ensures)
+    (sym c.in_default.ensures)

@@ -1,4 +1,3 @@
-use Rattle.std.proofs.Common.{ℕ}
 use Rattle.rgo_region_sets.specs.Branches.{AreBranches}
 use Rattle.rgo_region_sets.proofs.branches.branches_of.Given as goal
 

@@ -7,4 +7,4 @@ use Rattle.rgo_region_sets.proofs.entry.entry_removals.Given as goal
 abbrev pub invariant-loop-class : goal.invariant-loop-class
 invariant-loop-class l =
     (k : ℕ) → Contains l.names.items k
-    ↔ (Contains (take l.class-index l.classes.items) (Name k) × IsMissing l.f 0 k)
+    ↔ (Contains (take l.class-index l.class-items) (Name k) × IsMissing l.f 0 k)

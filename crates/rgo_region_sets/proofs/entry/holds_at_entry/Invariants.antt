@@ -6,4 +6,4 @@ use Rattle.rgo_region_sets.proofs.entry.holds_at_entry.Given as goal
 
 abbrev pub invariant-loop-span : goal.invariant-loop-span
 invariant-loop-span l =
-    (k : ℕ) → Contains l.names.items k ↔ (IsOwn l.f k × IsSpanned (take l.span-index l.live.spans.items) k 0)
+    (k : ℕ) → Contains l.names.items k ↔ (IsOwn l.f k × IsSpanned (take l.span-index l.span-items) k 0)

@@ -24,4 +24,5 @@ pub returns : goal.returns
 returns c =
     subst (λ (l : List Range). AddsSpans c.args.spans.now.items c.loop-range.spans.items
     (λ k at. (k ≡ c.args.name) × IsCovered l at))
-    (take_all c.loop-range.range-index c.args.ranges.now (omega (arith, c.loop-range-test.false))) c.loop-range.invariant
+    (take_all c.loop-range.range-index c.args.ranges.now (omega (arith, c.loop-range-test.false)))
+    c.loop-range.invariant

@@ -3,6 +3,7 @@ use Rattle.std.proofs.lemmas.List.{length-map}
 use Rattle.rgo_flow.specs.Live.{Live}
 use Rattle.rgo_flow.specs.Table.{IsLive}
 use Rattle.rgo_tac.specs.Code.{TacFn}
+use Rattle.rgo_code.specs.Code.{Slot}
 use Rattle.rgo_region_sets.specs.declared.spans.Span.{Span}
 use Rattle.rgo_region_sets.specs.Spans.{IsSpanned, IsNamed}
 use Rattle.rgo_region_sets.proofs.Variables.{no_variables, variables_more, all_variables}
@@ -23,9 +24,8 @@ pub returns : goal.returns
 returns c =
     let live = subst (λ (t : TacFn). (v at : ℕ) → IsLive c.in_ok-liveness.liveness v at ↔ Live t v at)
     c.tac.ensures c.in_ok-liveness.ensures in
-    let long : length c.variables.result.now ≡ length c.args.f.now.variables =
-    ap length (c.variables.ensures ∙ ap (λ (t : TacFn). t.variables) c.tac-2.ensures)
-    ∙ length-map (λ s. s.ty) c.args.f.now.variables in
+    let long : length c.variables-count.result.now ≡ length c.args.f.now.variables =
+    ap length (c.variables-count.ensures ∙ ap (λ (t : TacFn). t.variables) c.tac-2.ensures)
+    ∙ length-map c.args.f.now.variables (λ (s : Slot). s.ty) in
     all_variables c.args.f.now c.in_ok-liveness.liveness c.loop-variable.spans.items c.loop-variable.variable
-    (omega (arith, long, c.len-count.ensures, c.loop-variable-test.false, c.loop-variable.auto.variable-end)) live
-    c.loop-variable.invariant
+    (omega (arith, long, c.loop-variable-test.false)) live c.loop-variable.invariant

@@ -1,4 +1,4 @@
-use Rattle.std.proofs.Common.{◌≡◌, ◌∙◌, Some, None, sym, ap, refl}
+use Rattle.std.proofs.Common.{◌∙◌, sym, ap, refl}
 use Rattle.rgo_region_sets.specs.Used.{name_of}
 use Rattle.rgo_region_sets.proofs.Naming.{own_named, own_other}
 use Rattle.rgo_region_sets.proofs.names.is_own.Goals as goal
