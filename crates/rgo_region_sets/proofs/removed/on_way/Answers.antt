@@ -1,3 +1,9 @@
+use Rattle.std.proofs.Common.{◌≡◌, ◌∙◌, Some, None, Option, ℕ, sym, subst}
+use Rattle.std.specs.List.{Contains}
+use Rattle.std.specs.Result.{IfOk}
+use Rattle.std.proofs.lemmas.Result.{IfOk-weaker}
+use Rattle.rgo_region_sets.specs.Asked.{AreRemoved, IsDead, Removes, way}
+use Rattle.rgo_region_sets.specs.Sets.{IsSet}
 use Rattle.rgo_region_sets.proofs.Removing.{removed}
 use Rattle.rgo_region_sets.proofs.Members.{set_with}
 use Rattle.rgo_region_sets.proofs.removed.on_way.Goals as goal
