@@ -1,5 +1,5 @@
 -- Names that a call passes for the result of its callee, and those that it gives away.
-use Rattle.std.proofs.Common.{◌≡◌, ℕ, List, [], Option, Some, None}
+use Rattle.std.proofs.Common.{◌≡◌, ◌∙◌, ℕ, List, [], Option, Some, None, slice_get, sym, ap, subst}
 use Rattle.std.specs.Prelude.{◌↔◌}
 use Rattle.std.specs.List.{Contains}
 use Rattle.std.proofs.lemmas.Option.{none-some}
@@ -9,13 +9,29 @@ use Rattle.rgo_tac.specs.declared.regions.Class.TheVariants.{NoClass, Name}
 use Rattle.rgo_code.specs.Code.{CodeFn}
 use Rattle.rgo_code.specs.Names.{result_class, region_parameters, IsPassedForResult}
 use Rattle.rgo_region_sets.specs.Asked.{IsPassedFor, IsGiven, IsFree}
+use Rattle.rgo_region_sets.specs.Sets.{IsSet}
+use Rattle.rgo_region_sets.proofs.Members.{set_with}
 
-pub passed_for_result : (g : CodeFn) (passes : List Class) (k : ℕ)
-    → IsPassedFor (region_parameters g) (result_class g) passes k ↔ IsPassedForResult (Some g) passes k
-passed_for_result g passes k = (
-  λ h. record { at = h.at; parameter = h.parameter; passed = h.passed },
-  λ h. record { at = h.at; parameter = h.parameter; passed = h.passed },
-)
+module _ (g : CodeFn) (regions : List Class) (class : Class) (passes : List Class)
+    (parameters : regions ≡ region_parameters g) (result : class ≡ result_class g) where
+  passed_for_result : (k : ℕ) → IsPassedFor regions class passes k ↔ IsPassedForResult (Some g) passes k
+  passed_for_result k = (
+    λ h. record {
+      at = h.at;
+      parameter = ap (λ l. slice_get l h.at) (sym parameters) ∙ h.parameter ∙ ap Some result;
+      passed = h.passed;
+    },
+    λ h. record {
+      at = h.at;
+      parameter = ap (λ l. slice_get l h.at) parameters ∙ h.parameter ∙ ap Some (sym result);
+      passed = h.passed;
+    },
+  )
+
+  pub lent_set : (callee : Option CodeFn) (names : List ℕ) → callee ≡ Some g
+      → IsSet names (IsPassedFor regions class passes) → IsSet names (IsPassedForResult callee passes)
+  lent_set callee names is set = subst (λ o. IsSet names (IsPassedForResult o passes)) (sym is)
+      (set_with names (IsPassedFor regions class passes) (IsPassedForResult (Some g) passes) set passed_for_result)
 
 -- there is no callee
 pub none_passed : (passes : List Class) (k : ℕ) → Contains [] k ↔ IsPassedForResult None passes k
