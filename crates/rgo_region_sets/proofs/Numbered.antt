@@ -16,10 +16,12 @@ use Rattle.rgo_region_sets.specs.declared.spans.Span.{Span}
 use Rattle.rgo_region_sets.specs.declared.table.LiveNames.{LiveNames}
 use Rattle.rgo_region_sets.specs.Dying.{NamesOf}
 use Rattle.rgo_region_sets.specs.Live.{AreLiveNames, HasDying, IsKnown, IsWay, AddsDying}
-use Rattle.rgo_region_sets.specs.Asked.{AreCandidates}
+use Rattle.rgo_region_sets.specs.Asked.{AreCandidates, AreRemoved, IsDead, Removes}
 use Rattle.rgo_region_sets.specs.Branches.{branch_at}
+use Rattle.rgo_region_sets.specs.Sets.{IsSet}
 use Rattle.rgo_region_sets.specs.Used.{UsesName}
-use Rattle.rgo_region_sets.proofs.Removing.{branch_candidates, other_candidates}
+use Rattle.rgo_region_sets.proofs.Members.{set_with}
+use Rattle.rgo_region_sets.proofs.Removing.{branch_candidates, other_candidates, removed}
 use Rattle.rgo_region_sets.proofs.Tables.{one_place}
 
 pub no_spans : (spans : List Span) (k : ℕ) → NamesOf spans [] k → ⊥
@@ -52,8 +54,8 @@ module _ (spans : List Span) (numbers : List ℕ) (i d : ℕ) (within : i < leng
         (λ s. ⊎_elim
         (λ t. earlier (inr (s.0, t, s.2, s.3, s.4)))
         (λ same.
-            let e : s.2 ≡ span = same_Some s.2 span (sym s.3 ∙ ap (slice_get spans) (sym same) ∙ there) in
-            subst (Contains (mid ++ span.name ∷ [])) (ap (λ x. x.name) (sym e) ∙ s.4) (Contains-push mid span.name))
+        let e : s.2 ≡ span = same_Some s.2 span (sym s.3 ∙ ap (slice_get spans) (sym same) ∙ there) in
+        subst (Contains (mid ++ span.name ∷ [])) (ap (λ x. x.name) (sym e) ∙ s.4) (Contains-push mid span.name))
         (take_cases numbers i d s.0 within s.1))
         h),
   )
@@ -133,3 +135,13 @@ module _ (live : LiveNames) (f : CodeFn) (tables : AreLiveNames live f) (rows : 
     by : (o : Option (ℕ × ℕ)) → o ≡ branch_at (erased_fn f) at → is_some o ≡ false → AreCandidates f at next names
     by (Some ways) e none = absurd (false≢true (sym none))
     by None e none = other_candidates live f tables at next used names uses same (way.only (sym e))
+
+-- ---- what is removed on a way
+
+pub set_removed : (live : LiveNames) (f : CodeFn) (tables : AreLiveNames live f) (at next : ℕ) (gives names : List ℕ)
+    (candidates : AreCandidates f at next names) (leads : Option ℕ) → leads ≡ Some next
+    → (out : List ℕ) → IsSet out (λ k. Contains names k × IsDead f gives next k) → AreRemoved f at gives leads out
+set_removed live f tables at next gives names candidates leads is out set =
+    subst (λ (o : Option ℕ). AreRemoved f at gives o out) (sym is)
+    (set_with out (λ k. Contains names k × IsDead f gives next k) (Removes f at gives next) set
+    (removed live f tables at next gives names candidates))
