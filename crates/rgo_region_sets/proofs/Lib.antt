@@ -1,12 +1,15 @@
 pub mod Apart
 pub mod Distinct
+pub mod Giving
 pub mod Members
 pub mod Merges
 pub mod Naming
+pub mod Numbered
 pub mod Passed
 pub mod Picking
 pub mod Removing
 pub mod SameLists
+pub mod Seeing
 pub mod Sorting
 pub mod Spanning
 pub mod Tables

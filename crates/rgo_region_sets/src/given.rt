@@ -42,7 +42,11 @@ fn is_at(classes: &[Class], at: usize, class: Class) -> bool
 }
 
 /// The names that are passed for the class of the callee's result.
-fn lent(alloc: Global, callee: Option<&CodeFn<'_>>, passes: &[Class]) -> Result<Vec<u32>, AllocError>
+fn lent(
+    alloc: Global,
+    callee: Option<&CodeFn<'_>>,
+    passes: &[Class],
+) -> Result<Vec<u32>, AllocError>
     ensures { IfOk result (λ names. IsSet names.items
         (IsPassedForResult (option_map (λ f. f.now) callee.entry) passes.now)) }
 {

@@ -5,9 +5,9 @@ ghost use Rattle.rgo_region_sets.specs.Asked.{AddsPassed, IsNeeded, Protects};
 ghost use Rattle.rgo_region_sets.specs.Live.{AreLiveNames};
 ghost use Rattle.rgo_region_sets.specs.Sets.{IsSet};
 
-use crate::table::LiveNames;
 use crate::names::{is_own, name_of, push_if, see};
 use crate::sets::set_of;
+use crate::table::LiveNames;
 use rgo_code::{Class, CodeFn};
 use std::alloc::{AllocError, Global};
 use std::collections::BTreeSet;

@@ -1,11 +1,14 @@
-use Rattle.std.proofs.Common.{arith}
+use Rattle.std.proofs.Common.{ℕ, List, [], sym, subst, arith}
+use Rattle.std.specs.List.{Contains}
 use Rattle.rgo_region_sets.specs.Asked.{IsDead}
+use Rattle.rgo_region_sets.specs.Sets.{IsSet}
 use Rattle.rgo_region_sets.proofs.Picking.{set_none, set_step, set_all}
 use Rattle.rgo_region_sets.proofs.removed.dead.Goals as goal
 
 pub loop-name-init : goal.loop-name-init
 loop-name-init c =
-    ?
+    subst (λ (l : List ℕ). IsSet l (λ k. Contains [] k × IsDead c.args.f.now c.args.gives.now c.args.next k))
+    (sym c.new-dead.ensures.items) (set_none [] (IsDead c.args.f.now c.args.gives.now c.args.next))
 
 pub loop-name-preserved : goal.loop-name-preserved
 loop-name-preserved c =

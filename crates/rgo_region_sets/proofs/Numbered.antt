@@ -1,0 +1,147 @@
+-- The names of spans that are listed by their numbers, and what dies on the way from a branch.
+use Rattle.std.proofs.Common.{◌≡◌, Bool, true, false, ◌⊎◌, ⊎_elim, inl, inr, ◌<◌, ◌≤◌, ◌+◌, ℕ, zero, suc, List, [], ◌∷◌, ◌++◌, Option, Some, None, Vec, length, take, get_or, slice_get, refl, sym, ap, subst, ◌∙◌, arith}
+use Rattle.std.specs.Prelude.{◌↔◌}
+use Rattle.std.specs.Global.{Global}
+use Rattle.std.specs.List.{Contains}
+use Rattle.std.specs.Option.{is_some}
+use Rattle.std.proofs.lemmas.Bool.{false≢true}
+use Rattle.std.proofs.lemmas.List.{take_all}
+use Rattle.std.proofs.lemmas.List.Elements.{Contains-push, Contains-push_cases, Contains-append_left}
+use Rattle.std.proofs.lemmas.Option.{same_Some, none-some}
+use Rattle.rgo_graphs.specs.Rows.{rows_of, row_at}
+use Rattle.rgo_graphs.proofs.Lists.{no_member, take_cases, take_more_left, take_more_here}
+use Rattle.rgo_code.specs.Code.{CodeFn}
+use Rattle.rgo_code.specs.Erasure.{erased_fn}
+use Rattle.rgo_region_sets.specs.declared.spans.Span.{Span}
+use Rattle.rgo_region_sets.specs.declared.table.LiveNames.{LiveNames}
+use Rattle.rgo_region_sets.specs.Dying.{NamesOf}
+use Rattle.rgo_region_sets.specs.Live.{AreLiveNames, HasDying, IsKnown, IsWay, AddsDying}
+use Rattle.rgo_region_sets.specs.Asked.{AreCandidates, AreRemoved, IsDead, Removes}
+use Rattle.rgo_region_sets.specs.Branches.{branch_at}
+use Rattle.rgo_region_sets.specs.Sets.{IsSet}
+use Rattle.rgo_region_sets.specs.Used.{UsesName}
+use Rattle.rgo_region_sets.proofs.Members.{set_with}
+use Rattle.rgo_region_sets.proofs.Removing.{branch_candidates, other_candidates, removed}
+use Rattle.rgo_region_sets.proofs.Tables.{one_place}
+
+pub no_spans : (spans : List Span) (k : ℕ) → NamesOf spans [] k → ⊥
+no_spans spans k h = no_member h.0 h.1
+
+pub none_added : (spans : List Span) (old : List ℕ) (k : ℕ) → Contains old k ↔ (Contains old k ⊎ NamesOf spans [] k)
+none_added spans old k = (λ h. inl h, λ h. ⊎_elim (λ o. o) (λ s. absurd (no_spans spans k s)) h)
+
+-- ---- one number more
+
+module _ (spans : List Span) (numbers : List ℕ) (i d : ℕ) (within : i < length numbers) (old mid : List ℕ)
+    (before : (k : ℕ) → Contains mid k ↔ (Contains old k ⊎ NamesOf spans (take i numbers) k)) where
+  still_named : (k : ℕ) → Contains old k ⊎ NamesOf spans (take i numbers) k
+      → Contains old k ⊎ NamesOf spans (take (i + 1) numbers) k
+  still_named k h = ⊎_elim
+      (λ o. inl o)
+      (λ s. inr (s.0, take_more_left numbers i d s.0 within s.1, s.2, s.3, s.4))
+      h
+
+  pub span_more : (new : List ℕ) (span : Span) → slice_get spans (get_or numbers i d) ≡ Some span
+      → new ≡ mid ++ span.name ∷ []
+      → (k : ℕ) → Contains new k ↔ (Contains old k ⊎ NamesOf spans (take (i + 1) numbers) k)
+  span_more new span there is k = (
+    λ h. ⊎_elim
+        (λ m. still_named k ((before k).0 m))
+        (λ e. inr (get_or numbers i d, take_more_here numbers i d within, span, there, e))
+        (Contains-push_cases mid span.name k (subst (λ l. Contains l k) is h)),
+    λ h. subst (λ l. Contains l k) (sym is) (⊎_elim
+        (λ o. earlier (inl o))
+        (λ s. ⊎_elim
+        (λ t. earlier (inr (s.0, t, s.2, s.3, s.4)))
+        (λ same.
+        let e : s.2 ≡ span = same_Some s.2 span (sym s.3 ∙ ap (slice_get spans) (sym same) ∙ there) in
+        subst (Contains (mid ++ span.name ∷ [])) (ap (λ x. x.name) (sym e) ∙ s.4) (Contains-push mid span.name))
+        (take_cases numbers i d s.0 within s.1))
+        h),
+  )
+    where
+      earlier : Contains old k ⊎ NamesOf spans (take i numbers) k → Contains (mid ++ span.name ∷ []) k
+      earlier h = Contains-append_left mid (span.name ∷ []) k ((before k).1 h)
+
+  pub span_none : slice_get spans (get_or numbers i d) ≡ None
+      → (k : ℕ) → Contains mid k ↔ (Contains old k ⊎ NamesOf spans (take (i + 1) numbers) k)
+  span_none none k = (
+    λ h. still_named k ((before k).0 h),
+    λ h. (before k).1 (⊎_elim
+        (λ o. inl o)
+        (λ s. ⊎_elim
+        (λ t. inr (s.0, t, s.2, s.3, s.4))
+        (λ same. absurd (none-some s.2 (sym none ∙ ap (slice_get spans) same ∙ s.3)))
+        (take_cases numbers i d s.0 within s.1))
+        h),
+  )
+
+pub all_added : (spans : List Span) (numbers old new : List ℕ) (i : ℕ) → length numbers ≤ i
+    → ((k : ℕ) → Contains new k ↔ (Contains old k ⊎ NamesOf spans (take i numbers) k))
+    → (k : ℕ) → Contains new k ↔ (Contains old k ⊎ NamesOf spans numbers k)
+all_added spans numbers old new i past h =
+    subst (λ (l : List ℕ). (k : ℕ) → Contains new k ↔ (Contains old k ⊎ NamesOf spans l k))
+    (take_all i numbers past) h
+
+-- ---- from a branch
+
+-- the row of a number
+pub row_there : (rows : List (Vec ℕ Global)) (b : ℕ) (row : Vec ℕ Global) → slice_get rows b ≡ Some row
+    → row_at (rows_of rows) b ≡ row.items
+row_there [] b row e = absurd (none-some row e)
+row_there (r ∷ rows) zero row e = ap (λ x. x.items) (same_Some r row e)
+row_there (r ∷ rows) (suc b) row e = row_there rows b row e
+
+pub row_past : (rows : List (Vec ℕ Global)) (b : ℕ) → slice_get rows b ≡ None → row_at (rows_of rows) b ≡ []
+row_past [] b e = refl
+row_past (r ∷ rows) zero e = absurd (none-some r (sym e))
+row_past (r ∷ rows) (suc b) e = row_past rows b e
+
+module _ (live : LiveNames) (rows : List (List ℕ)) (at next b : ℕ) (old new : List ℕ)
+    (known : IsKnown live rows at next) (same : known.branch ≡ b) where
+  dying_at : HasDying live rows b at next
+  dying_at = subst (λ n. HasDying live rows n at next) same known.dying
+
+  pub row_added : (row : List ℕ) → row_at rows b ≡ row
+      → ((k : ℕ) → Contains new k ↔ (Contains old k ⊎ NamesOf live.spans.items row k)) → AddsDying live old new at next
+  row_added row is adds k =
+      let dies = dying_at k in (
+        λ h. ⊎_elim
+            (λ o. inl o)
+            (λ s. inr (dies.0 (subst (λ (l : List ℕ). NamesOf live.spans.items l k) (sym is) s)))
+            ((adds k).0 h),
+        λ h. (adds k).1 (⊎_elim
+            (λ o. inl o)
+            (λ d. inr (subst (λ (l : List ℕ). NamesOf live.spans.items l k) is (dies.1 d)))
+            h),
+      )
+
+-- ---- the candidates on a way
+
+module _ (live : LiveNames) (f : CodeFn) (tables : AreLiveNames live f) (rows : List (List ℕ)) (at next : ℕ)
+    (way : IsWay live f rows at next) (used names : List ℕ)
+    (uses : (k : ℕ) → Contains used k ↔ UsesName f (slice_get f.body at) k)
+    (found : Option (ℕ × ℕ)) (is : found ≡ branch_at (erased_fn f) at) where
+  pub from_branch : is_some found ≡ true
+      → ((to : ℕ) → IsKnown live rows at to → AddsDying live used names at to) → AreCandidates f at next names
+  from_branch some adds = by found is some where
+    by : (o : Option (ℕ × ℕ)) → o ≡ branch_at (erased_fn f) at → is_some o ≡ true → AreCandidates f at next names
+    by None e some = absurd (false≢true some)
+    by (Some ways) e some =
+        branch_candidates live f tables at next used names uses (adds next (way.known ways (sym e)))
+
+  pub from_other : is_some found ≡ false → names ≡ used → AreCandidates f at next names
+  from_other none same = by found is none where
+    by : (o : Option (ℕ × ℕ)) → o ≡ branch_at (erased_fn f) at → is_some o ≡ false → AreCandidates f at next names
+    by (Some ways) e none = absurd (false≢true (sym none))
+    by None e none = other_candidates live f tables at next used names uses same (way.only (sym e))
+
+-- ---- what is removed on a way
+
+pub set_removed : (live : LiveNames) (f : CodeFn) (tables : AreLiveNames live f) (at next : ℕ) (gives names : List ℕ)
+    (candidates : AreCandidates f at next names) (leads : Option ℕ) → leads ≡ Some next
+    → (out : List ℕ) → IsSet out (λ k. Contains names k × IsDead f gives next k) → AreRemoved f at gives leads out
+set_removed live f tables at next gives names candidates leads is out set =
+    subst (λ (o : Option ℕ). AreRemoved f at gives o out) (sym is)
+    (set_with out (λ k. Contains names k × IsDead f gives next k) (Removes f at gives next) set
+    (removed live f tables at next gives names candidates))
