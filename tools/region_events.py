@@ -27,7 +27,7 @@ PARAMETER = re.compile(rb"(?:^|,)\s*(\w+)")
 
 @dataclasses.dataclass(frozen=True)
 class Event:
-    """What happens to a region at a place of a function. `how` and `note` end what the list and the margin say of it."""
+    """What happens to a region at a place of a function. The list ends with `how`, the margin with `note`."""
 
     place: int
     function: str
@@ -90,7 +90,8 @@ def region_in(f, cls):
 def at_entry(f, head):
     """What a function is given, and what it removes at once."""
     for cls in code_text.region_parameters(f):
-        owners = [name.decode() for name, found in zip(head.parameters, code_text.parameter_classes(f)) if found == cls]
+        parameters = zip(head.parameters, code_text.parameter_classes(f))
+        owners = [name.decode() for name, found in parameters if found == cls]
         owners += ["the result"] if f.result and f.result.cls == cls else []
         yield Event(head.place, f.name, "given", region_of(cls, owners), how=" by the caller")
     for cls in f.entry:
@@ -152,13 +153,14 @@ def listed(found, source):
 
 
 def rows(found):
-    """What a margin says of the events of a line: a row for each kind, and apart what belongs to a call or a condition."""
+    """What a margin says of the events of a line: a row for each kind, and for each call and condition."""
     several = len({event.function for event in found}) > 1
     regions = collections.defaultdict(list)
     for event in sorted(found, key=lambda event: KINDS.index(event.kind)):
         start = f"{event.function}: {event.kind}" if several else event.kind
         regions[start, event.note, event.place if event.note else None].append(event.region + event.times)
-    return dict.fromkeys(f"{start} {', '.join(dict.fromkeys(names))}{note}" for (start, note, _), names in regions.items())
+    joined = {key: ", ".join(dict.fromkeys(names)) for key, names in regions.items()}
+    return dict.fromkeys(f"{start} {names}{note}" for (start, note, _), names in joined.items())
 
 
 def margins(found, source):

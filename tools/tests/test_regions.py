@@ -1,5 +1,5 @@
-"""Tests tools/regions: what is shown of a code text and a source, the command with programs that only play the part of rgo,
-and the program with it, if it knows the command `emit`.
+"""Tests tools/regions: what is shown of a code text and a source; the command, with programs that only play the part of
+rgo; and both with the program, if it knows the command `emit`.
 """
 
 import os
@@ -159,10 +159,18 @@ protected r0 (of the result) over      |
                                     21 |     return a
                                     22 | }
 """
+# A command in a document, and what it prints.
+SHOWN = re.compile(r"^\$ tools/regions (.*) tools/code_texts/(.*)\.go\n((?:(?!\$ |```).*\n)*)", re.MULTILINE)
 
 
 def lines(text):
     return text.splitlines()
+
+
+def texts_of(name):
+    """The source and the code of one of tools/code_texts."""
+    code = (TEXTS / f"{name}.code").read_text(encoding="ascii")
+    return (TEXTS / f"{name}.go").read_text(encoding="ascii"), code.removeprefix("rgo code 1\n")
 
 
 def read(text, code):
@@ -185,25 +193,41 @@ def beside(text, code, name=None):
 
 def main_of(variables, *instructions):
     """The code of a function `main`. The instructions have no numbers, and the last one is added."""
-    body = [f"{n} {op}\n" for n, op in enumerate([*instructions, "@<}> +[] return -"])]
-    return "".join(["func main 0 - -\n", *(f"var {variable}\n" for variable in variables), "entry -[]\n", *body, "end\n"])
+    body = [f"{n} {op}" for n, op in enumerate([*instructions, "@<}> +[] return -"])]
+    code = ["func main 0 - -", *(f"var {variable}" for variable in variables), "entry -[]", *body, "end"]
+    return "".join(line + "\n" for line in code)
+
+
+def taking(name, count, entry):
+    """The code of a function that takes slices in regions of their own, and does nothing. Its body has braces `{}`."""
+    variables = "".join(f"var []int r{n}\n" for n in range(count))
+    return f"func {name} {count} - -\n{variables}entry -[{entry}]\n0 @<{{}}> +[] return -\nend\n"
 
 
 class Shown(unittest.TestCase):
     def test_programs_worked_out_by_hand(self):
         for name, (margin, listing) in BY_HAND.items():
             with self.subTest(name):
-                text = (TEXTS / f"{name}.go").read_text(encoding="utf-8")
-                code = (TEXTS / f"{name}.code").read_text(encoding="ascii").removeprefix("rgo code 1\n")
+                text, code = texts_of(name)
                 self.assertEqual(lines(margin), beside(text, code))
                 self.assertEqual(lines(listing), listed(text, code))
 
     def test_one_function(self):
-        text = (TEXTS / "calls.go").read_text(encoding="utf-8")
-        code = (TEXTS / "calls.code").read_text(encoding="ascii").removeprefix("rgo code 1\n")
+        text, code = texts_of("calls")
         self.assertEqual(lines(TWICE), beside(text, code, "twice"))
         for name in ["sum", "next", "twice", "main"]:
             self.assertEqual([line for line in lines(CALLS_LIST) if f" {name}: " in line], listed(text, code, name))
+
+    def test_what_the_documents_show(self):
+        for document in ["README.md", "docs/REGIONS.md"]:
+            page = (TOP / document).read_text(encoding="utf-8")
+            shown = SHOWN.findall(page)
+            self.assertNotEqual([], shown)
+            for words, name, wanted in shown:
+                with self.subTest(document, words=words):
+                    self.assertIn(words, ["--list", "--function main"])
+                    found = listed(*texts_of(name)) if words == "--list" else beside(*texts_of(name), "main")
+                    self.assertEqual(lines(wanted), found)
 
     def test_a_program_without_regions(self):
         text, code = "package main\n\nfunc main() {}", main_of([])
@@ -212,12 +236,21 @@ class Shown(unittest.TestCase):
         self.assertEqual(["3 | func main() {}"], beside(text, code, "main"))
 
     def test_what_is_not_used_is_removed_at_entry(self):
-        text = "func f(n int, a, b []int) {\n}\nfunc main() {}\n"
-        code = "func f 3 - -\nvar int -\nvar []int r0\nvar []int r1\nentry -[r0,r1]\n0 @<}> +[] return -\nend\n" + main_of([])
-        wanted = [f"1:1: f: region {said}" for said in ["r0 (of a) given by the caller", "r1 (of b) given by the caller"]]
-        self.assertEqual([*wanted, "1:1: f: region r0 removed at entry", "1:1: f: region r1 removed at entry"], listed(text, code))
-        wanted = ["given r0 (of a), r1 (of b)  1 | func f(n int, a, b []int) {", "removed r0, r1 at entry       |"]
-        self.assertEqual(wanted, beside(text, code)[:2])
+        text = "func f(a, b []int) {}\nfunc main() {}\n"
+        code = taking("f", 2, "r0,r1") + main_of([])
+        wanted = [
+            "1:1: f: region r0 (of a) given by the caller",
+            "1:1: f: region r1 (of b) given by the caller",
+            "1:1: f: region r0 removed at entry",
+            "1:1: f: region r1 removed at entry",
+        ]
+        self.assertEqual(wanted, listed(text, code))
+        wanted = [
+            "given r0 (of a), r1 (of b)  1 | func f(a, b []int) {}",
+            "removed r0, r1 at entry       |",
+            "                            2 | func main() {}",
+        ]
+        self.assertEqual(wanted, beside(text, code))
 
     def test_the_ways_of_a_branch(self):
         for words, tested, note in [
@@ -236,7 +269,8 @@ class Shown(unittest.TestCase):
                 self.assertRegex(true, rf": main: region r1 removed if the {tested} is true$")
                 self.assertRegex(always, ": main: region r2 removed$")
                 said = [line.split("|")[0].rstrip("1 ") for line in beside(text, code)]
-                self.assertEqual([f"removed r0 {note}", f"removed r1 {note.replace('false', 'true')}", "removed r2"], said)
+                wanted = [f"removed r0 {note}", f"removed r1 {note.replace('false', 'true')}", "removed r2"]
+                self.assertEqual(wanted, said)
 
     def test_the_result_and_package_variables_are_named(self):
         text = "func f(a *N) *N { g(a, h, a, a); return a }"
@@ -251,9 +285,8 @@ class Shown(unittest.TestCase):
             end
             """
         )
-        # The head of `g` is only what is needed here.
-        text += "\nfunc g(a, b, c, d *N) {}"
-        code += "func g 4 - -\nvar *N r0\nvar *N r1\nvar *N r2\nvar *N r3\nentry -[r0,r1,r2,r3]\n0 @<{}> +[] return -\nend\n"
+        text += "\nfunc g(a, b, c, d []int) {}"
+        code += taking("g", 4, "")
         wanted = [
             "1:1: f: region r0 (of a, the result) given by the caller",
             "1:20: f: region r0 (of the result) passed 3 times to g",
@@ -279,8 +312,7 @@ class Shown(unittest.TestCase):
 
     def test_the_order_on_a_line(self):
         text = "func main() { y(x(1)) }\nfunc x(a []int) []int {}\nfunc y(a []int) {}"
-        callees = "func x 1 []int r1\nvar []int r0\nentry -[r0]\n0 @<{}> +[] return v0\nend\n"
-        callees += "func y 1 - -\nvar []int r0\nentry -[r0]\n0 @<{}> +[] return -\nend\n"
+        callees = taking("x", 1, "").replace("- -", "[]int r1") + taking("y", 1, "")
         calls = [
             "@<(1> +[r0,r1] call v1 x(v0) R[r0,r1] P[r1] -[]",
             "@<(x> +[r2] call - y(v1) R[r1] P[] -[r2]",
@@ -307,7 +339,7 @@ class Shown(unittest.TestCase):
     def test_functions_that_share_a_line(self):
         text = "func main() { x }; func f(a []int) {}"
         code = main_of(["[]int r0"], "@<x> +[r0] nil v0 -[r0]")
-        code += "func f 1 - -\nvar []int r0\nentry -[r0]\n0 @<{}> +[] return -\nend\n"
+        code += taking("f", 1, "r0")
         wanted = [
             "f: given r0 (of a)      1 | func main() { x }; func f(a []int) {}",
             "main: created r0          |",
@@ -330,9 +362,9 @@ class Shown(unittest.TestCase):
 
     def test_long_lines(self):
         name, words = "f" * 40, "x" * 200
-        text = f"func main() {{ {words} }}\nfunc {name}(a *N) {{}}"
+        text = f"func main() {{ {words} }}\nfunc {name}(a []int) {{}}"
         code = main_of(["*N r0"], f"@<{words}> +[r0] call - {name}(v0) R[r0] P[] -[]")
-        code += f"func {name} 1 - -\nvar *N r0\nentry -[]\n0 @<}}> +[] return -\nend\n"
+        code += taking(name, 1, "")
         wanted = [
             "created r0                            1 | func main() { " + words + " }",
             "passed r0 to fffffffffffffffffffffff    |",
@@ -352,10 +384,11 @@ class Heads(unittest.TestCase):
             ("func\tf (\n\ta,\n\tb int,\n) {}", ["a", "b"]),
             ("func /* func g( */ f( // func h(\na /*, x*/ int) {}", ["a"]),
         ]:
-            for before in ["", "var i int; ", "// func g() {}\n", 'const = "func g(a int) \\"{}"; ', '/* " */', "/* // */"]:
+            for before in ["", "var i int; ", "// func g() {}\n", 'x = "func g(a int) \\"{}"; ', '/* " */', "/* // */"]:
                 with self.subTest(before + text):
                     (head,) = region_events.Source((before + text).encode()).heads
-                    self.assertEqual((len(before), parameters), (head.place, [name.decode() for name in head.parameters]))
+                    self.assertEqual(len(before), head.place)
+                    self.assertEqual(parameters, [name.decode() for name in head.parameters])
 
     def test_what_is_no_head(self):
         self.assertEqual([], region_events.Source(b'func_ main(); myfunc f(); x := "func f()"').heads)
@@ -381,7 +414,7 @@ class Command(test_explain.Case):
         self.assertEqual((0, LOOP, ""), self.regions(self.file))
         self.assertEqual((0, LOOP_LIST, ""), self.regions("--list", self.file))
         for words in (["--function", "main", self.file], [self.file, "--function=main"]):
-            self.assertEqual((0, LOOP[LOOP.index(" " * 21 + "10"):], ""), self.regions(*words))
+            self.assertEqual((0, LOOP[LOOP.index(" " * 21 + "10") :], ""), self.regions(*words))
         self.assertEqual((0, LOOP_LIST, ""), self.regions("--function", "main", self.file, "--list"))
 
     def test_a_function_that_is_not_there(self):
@@ -410,9 +443,9 @@ class Command(test_explain.Case):
         self.assertEqual((11, "", f"{self.file}: out of memory"), (status, out, lines(err)[0]))
 
     def test_wrong_words(self):
-        for words in ([], ["--list"], ["--function", "main"], [self.file, self.file], ["--all", self.file], ["--help"], [self.file, "--function"]):
-            with self.subTest(words=words):
-                status, out, err = self.regions(*words)
+        for words in ["", "--list", "--function main", "a.go b.go", "--all a.go", "--help", "a.go --function"]:
+            with self.subTest(words):
+                status, out, err = self.regions(*words.split())
                 self.assertEqual((64, ""), (status, out))
                 self.assertIn("    regions --list FILE.go ", err)
 
@@ -453,7 +486,8 @@ class WithTheProgram(test_explain.Case):
         if not cls.program.is_file():
             raise unittest.SkipTest("no program is built at crates/rgo/out/rgo, and the variable RGO names none")
         text = (TEXTS / "field.go").read_bytes()
-        if subprocess.run([cls.program, "emit"], input=text, capture_output=True, timeout=60, check=False).returncode == 64:
+        ran = subprocess.run([cls.program, "emit"], input=text, capture_output=True, timeout=60, check=False)
+        if ran.returncode == 64:
             raise unittest.SkipTest("the program does not know the command `emit` yet")
 
     def regions(self, *words):
@@ -474,7 +508,7 @@ class WithTheProgram(test_explain.Case):
                 events = region_events.events(code, source)
                 shown = "\n".join(region_events.beside(events, source, region_events.line_numbers(code, source)))
                 wanted = [line.replace("\t", "    ").rstrip() for line in lines(text.decode())]
-                self.assertEqual(wanted, [line or "" for line in re.findall(r"\d \|(?: (.*))?$", shown, re.MULTILINE)])
+                self.assertEqual(wanted, re.findall(r"\d \|(?: (.*))?$", shown, re.MULTILINE))
                 # The places of a function's events are in the function.
                 for f in code.functions:
                     found = {source.line(event.place) for event in events if event.function == f.name}
