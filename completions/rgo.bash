@@ -1,4 +1,4 @@
-# Completions of bash for rgo and rgor.
+# Completions of bash for rgo, rgor and rgo-regions.
 
 # Offers these words, but none that another word of the line is already.
 _rgo_words() {
@@ -9,6 +9,13 @@ _rgo_words() {
         done
         COMPREPLY+=($(compgen -W "$word" -- "${COMP_WORDS[COMP_CWORD]}"))
     done
+}
+
+# Offers Go files and folders.
+_rgo_files() {
+    compopt -o filenames 2>/dev/null
+    local IFS=$'\n'
+    COMPREPLY=($(compgen -f -X '!*.go' -- "${COMP_WORDS[COMP_CWORD]}") $(compgen -d -- "${COMP_WORDS[COMP_CWORD]}"))
 }
 
 _rgo() {
@@ -27,13 +34,21 @@ _rgor() {
     if ((COMP_CWORD == 1)) && [[ ${COMP_WORDS[1]} == -* ]]; then
         _rgo_words --check
     elif ((COMP_CWORD == file)); then
-        compopt -o filenames 2>/dev/null
-        local IFS=$'\n'
-        COMPREPLY=($(compgen -f -X '!*.go' -- "${COMP_WORDS[COMP_CWORD]}") $(compgen -d -- "${COMP_WORDS[COMP_CWORD]}"))
+        _rgo_files
     elif ((file == 1)) && [[ ${COMP_WORDS[COMP_CWORD - 1]} != --* ]]; then
         _rgo_words --steps --goroutines
     fi
 }
 
+_rgo-regions() {
+    COMPREPLY=()
+    if [[ ${COMP_WORDS[COMP_CWORD]} == -* ]]; then
+        _rgo_words --list --function
+    elif [[ ${COMP_WORDS[COMP_CWORD - 1]} != --function ]]; then
+        _rgo_files
+    fi
+}
+
 complete -F _rgo rgo
 complete -F _rgor rgor
+complete -F _rgo-regions rgo-regions

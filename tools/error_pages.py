@@ -18,6 +18,7 @@ import os
 import pathlib
 import re
 import subprocess
+import sys
 import textwrap
 import unicodedata
 
@@ -161,6 +162,24 @@ def explained(line, file, text):
     parts.append(textwrap.fill(sections_of(path)[1], WIDTH, break_on_hyphens=False))
     parts.append(f"Read on: {where(path)}")
     return ("\n".join(parts) + "\n").encode("utf-8", "surrogateescape")
+
+
+def run(command, source, file, text, out=None):
+    """Runs a command and explains each line that it reports, as soon as it comes. Returns the status.
+
+    The input of the command is `source`, an open file. What is reported is about the file with the name `file` and with
+    `text`, in bytes. The output goes to the open file `out`, or to standard output.
+    """
+    with subprocess.Popen(command, stdin=source, stdout=out, stderr=subprocess.PIPE) as ran:
+        try:
+            for line in ran.stderr:
+                sys.stderr.buffer.write(explained(line, file, text))
+                sys.stderr.flush()
+            status = ran.wait()
+        except KeyboardInterrupt:
+            # The program was interrupted, too.
+            status = ran.wait()
+    return status if status >= 0 else 128 - status
 
 
 def program():

@@ -15,7 +15,7 @@ import unittest
 from error_pages import TOP
 
 OPTIONS = ["--goroutines", "--steps"]
-COMMANDS = ["check", "run"]
+COMMANDS = ["check", "emit", "run"]
 FAKE = '#!/bin/sh\necho "$@"\ncat >/dev/null\necho "rgo: 2:15: type 4 NoSuchName" >&2\nexit 1\n'
 TEXT = "package main\nfunc main() { zz() }\n"
 
@@ -69,6 +69,7 @@ class Install(Case):
         meaning = "Nothing in scope declares this name, and it is not built in."
         explained = f"{self.file}:2:15: type 4 NoSuchName\n{TEXT.splitlines()[1]}\n{' ' * 14}^\n{meaning}\nRead on: {page}\n"
         self.assertEqual((1, "run --steps 5\n", explained), self.run_it(bin_folder / "rgor", self.file, "--steps", "5"))
+        self.assertEqual((1, "", explained), self.run_it(bin_folder / "rgo-regions", self.file))
 
     def test_without_a_program(self):
         status, out, err = self.run_it(TOP / "tools" / "install", self.room / "prefix", RGO=self.room / "none")
@@ -133,6 +134,11 @@ class Completions(Case):
         ("rgor --", ["--check"]),
         ("rgor a.go --", OPTIONS),
         ("rgor a.go --goroutines 5 --", ["--steps"]),
+        ("rgo-regions --", ["--function", "--list"]),
+        ("rgo-regions --l", ["--list"]),
+        ("rgo-regions --list --", ["--function"]),
+        ("rgo-regions --function ", []),
+        ("rgo-regions a.go --function main --", ["--list"]),
     ]
 
     def offers(self, line, words):
@@ -143,7 +149,8 @@ class Completions(Case):
         self.room.joinpath("b.txt").touch()
         self.file.unlink()
         self.fake.unlink()
-        for line, wanted in [*self.LINES, ("rgor ", ["a.go"]), ("rgor --check ", ["a.go"])]:
+        files = [(line, ["a.go"]) for line in ["rgor ", "rgor --check ", "rgo-regions ", "rgo-regions --list "]]
+        for line, wanted in [*self.LINES, *files]:
             with self.subTest(line):
                 self.assertEqual(wanted, sorted(offered(line)))
 
@@ -157,7 +164,8 @@ class Completions(Case):
 
     @needs("fish")
     def test_fish(self):
-        script = f"source '{TOP}/completions/rgo.fish'; source '{TOP}/completions/rgor.fish'; complete -C $argv[1]"
+        sources = "".join(f"source '{TOP}/completions/{name}.fish'; " for name in ["rgo", "rgor", "rgo-regions"])
+        script = sources + "complete -C $argv[1]"
 
         def offered(line):
             lines = self.run_it("fish", "--no-config", "-c", script, line)[1].splitlines()
