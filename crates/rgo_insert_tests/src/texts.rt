@@ -1,0 +1,4 @@
+//! Programs with their code texts.
+
+pub(crate) mod codes;
+pub(crate) mod programs;
