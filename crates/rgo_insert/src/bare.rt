@@ -53,7 +53,7 @@ impl<'a> Bare<'a> {
     }
 }
 
-fn bare(alloc: Global, classes: Classes) -> Regions
+fn with_classes(alloc: Global, classes: Classes) -> Regions
     ensures { result ≡ spec.bare classes }
 {
     Regions {
@@ -75,7 +75,7 @@ pub(crate) fn bare_regions(
     let mut regions = Vec::new(alloc);
     for function in functions {
         let classes = classes_of(alloc, function, summaries)?;
-        regions.push(bare(alloc, classes))?;
+        regions.push(with_classes(alloc, classes))?;
     }
     Ok(regions)
 }
