@@ -4,6 +4,7 @@ pub mod ClassLaws
 pub mod EndLaws
 pub mod Fitting
 pub mod Formals
+pub mod Growing
 pub mod Inserting
 pub mod Longer
 pub mod Members

@@ -11,9 +11,6 @@ use Rattle.rgo_code.specs.declared.notes.Regions.{Regions}
 abbrev pub classes_by : Regions → Classes
 classes_by r = record { variables = r.classes; result = r.result }
 
-abbrev pub bare : Classes → Regions
-bare c = record { classes = c.variables; result = c.result; entry = []; notes = [] }
-
 -- each function has the classes that it has under these summaries
 pub record AreBare (summaries : List Summary) (functions : List TacFn) (regions : List Regions) : Type 0 where
   pub len : length regions ≡ length functions

@@ -2,10 +2,10 @@
 
 ghost use Rattle.std.specs.Prelude.{◌≡◌, length, slice_get, IfOk};
 ghost use Rattle.rgo_code.specs.Views.{code_fns};
-ghost use Rattle.rgo_insert.specs.Bare as spec;
-ghost use Rattle.rgo_insert.specs.Bare.{AreBare};
+ghost use Rattle.rgo_classes.specs.Classes.{AreClasses};
+ghost use Rattle.rgo_insert.specs.Bare.{AreBare, classes_by};
 
-use rgo_classes::{Classes, Summaries, classes_of};
+use rgo_classes::{Summaries, classes_of};
 use rgo_code::{CodeFn, Regions};
 use rgo_tac::TacFn;
 use rgo_typed::Row;
@@ -53,15 +53,17 @@ impl<'a> Bare<'a> {
     }
 }
 
-fn with_classes(alloc: Global, classes: Classes) -> Regions
-    ensures { result ≡ spec.bare classes }
+/// The classes of a function.
+fn bare_of(alloc: Global, function: &TacFn, summaries: &Summaries) -> Result<Regions, AllocError>
+    ensures { IfOk result (λ r. AreClasses summaries.now.functions function.now (classes_by r)) }
 {
-    Regions {
+    let classes = classes_of(alloc, function, summaries)?;
+    Ok(Regions {
         classes: classes.variables,
         result: classes.result,
         entry: Row::new(Vec::new(alloc)),
         notes: Row::new(Vec::new(alloc)),
-    }
+    })
 }
 
 /// The classes of all functions.
@@ -74,8 +76,7 @@ pub(crate) fn bare_regions(
 {
     let mut regions = Vec::new(alloc);
     for function in functions {
-        let classes = classes_of(alloc, function, summaries)?;
-        regions.push(with_classes(alloc, classes))?;
+        regions.push(bare_of(alloc, function, summaries)?)?;
     }
     Ok(regions)
 }

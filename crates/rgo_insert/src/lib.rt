@@ -3,10 +3,10 @@
 
 mod bare;
 mod filling;
-mod insert;
 mod laws;
 mod notes;
 mod passing;
+mod programs;
 
-pub use insert::insert;
 pub use laws::one_code;
+pub use programs::insert;

@@ -4,7 +4,7 @@ use Rattle.rgo_code.specs.Erasure.{erased}
 use Rattle.rgo_code.specs.NameRules.{Ascends}
 use Rattle.rgo_insert.specs.Inserted.{HasClasses}
 use Rattle.rgo_insert.proofs.Inserting.{inserted}
-use Rattle.rgo_insert.proofs.insert.insert.Goals as goal
+use Rattle.rgo_insert.proofs.programs.insert.Goals as goal
 
 pub returns-clause-checked : goal.returns-clause-checked
 returns-clause-checked c =
