@@ -1,9 +1,8 @@
 //! What calls and starts pass for the region parameters of their callees.
 
-ghost use Rattle.std.specs.Prelude.{◌≡◌, ◌++◌, ◌∷◌, [], map, length, get_or, slice_get, IfOk, OnOk};
+ghost use Rattle.std.specs.Prelude.{◌≡◌, ◌++◌, ◌∷◌, [], Some, length, get_or, slice_get, IfOk, OnOk};
 ghost use Rattle.rgo_tac.specs.declared.regions.Class.TheVariants.{NoClass};
 ghost use Rattle.rgo_tac.specs.Ops.{operation_of};
-ghost use Rattle.rgo_code.specs.Names as names;
 ghost use Rattle.rgo_insert.specs.Passing as spec;
 ghost use Rattle.rgo_insert.specs.Passing.{AddsActual, AreActuals, ArePassed, ArePassedTo, PassesFor};
 
@@ -111,22 +110,36 @@ fn passes_for(
     Ok(passes)
 }
 
+/// What is passed to a callee.
 fn passed_to(
     alloc: Global,
     f: &CodeFn<'_>,
-    callee: Option<CodeFn<'_>>,
+    callee: &CodeFn<'_>,
     to: Option<u32>,
     from: &[u32],
 ) -> Result<Vec<Class>, AllocError>
-    ensures { IfOk result (λ passes. ArePassedTo f.now callee to from.now passes.items) }
+    ensures { IfOk result (λ passes. ArePassedTo f.now (Some callee.now) to from.now passes.items) }
 {
-    match callee {
-        Some(callee) => {
-            let formals = formal_classes(alloc, &callee)?;
-            let actuals = actual_classes(alloc, f, to, from)?;
-            let regions = region_parameters(alloc, &callee)?;
-            passes_for(alloc, &formals, &actuals, &regions)
-        }
+    let formals = formal_classes(alloc, callee)?;
+    let actuals = actual_classes(alloc, f, to, from)?;
+    let regions = region_parameters(alloc, callee)?;
+    passes_for(alloc, &formals, &actuals, &regions)
+}
+
+/// What is passed to the function of this number.
+fn passed_by_number(
+    alloc: Global,
+    functions: &Bare<'_>,
+    f: &CodeFn<'_>,
+    function: u32,
+    to: Option<u32>,
+    from: &[u32],
+) -> Result<Vec<Class>, AllocError>
+    ensures { IfOk result (λ passes.
+        ArePassedTo f.now (slice_get functions.now function) to from.now passes.items) }
+{
+    match functions.function(function as usize) {
+        Some(callee) => passed_to(alloc, f, &callee, to, from),
         None => Ok(Vec::new(alloc)),
     }
 }
@@ -142,10 +155,10 @@ pub(crate) fn passes_of(
 {
     match op {
         Op::Call { to, function, from } => {
-            passed_to(alloc, f, functions.function(function as usize), to, from)
+            passed_by_number(alloc, functions, f, function, to, from)
         }
         Op::Go { function, from } => {
-            passed_to(alloc, f, functions.function(function as usize), None, from)
+            passed_by_number(alloc, functions, f, function, None, from)
         }
         _ => Ok(Vec::new(alloc)),
     }
