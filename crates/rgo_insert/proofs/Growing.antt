@@ -1,11 +1,12 @@
 -- Notes and regions, one after the other.
-use Rattle.std.proofs.Common.{◌≡◌, ◌+◌, ℕ, List, [], ◌∷◌, ◌++◌, length, Some, slice_get, refl, sym, ap, ◌∙◌, subst}
+use Rattle.std.proofs.Common.{◌≡◌, ◌<◌, ◌+◌, ℕ, List, [], ◌∷◌, ◌++◌, length, Some, None, slice_get, refl, sym, ap, ◌∙◌, subst}
 use Rattle.std.proofs.lemmas.List.{length_push}
 use Rattle.std.proofs.lemmas.Option.{same_Some, none-some}
 use Rattle.rgo_tac.specs.Code.{Op, TacFn}
 use Rattle.rgo_tac.specs.Ops.{op_in}
 use Rattle.rgo_classes.specs.declared.classes.Summary.{Summary}
 use Rattle.rgo_classes.specs.Classes.{AreClasses}
+use Rattle.rgo_summaries.proofs.Outer.{some_get}
 use Rattle.rgo_code.specs.declared.notes.Note.{Note}
 use Rattle.rgo_code.specs.declared.notes.Regions.{Regions}
 use Rattle.rgo_code.specs.Code.{CodeFn}
@@ -48,6 +49,12 @@ more_notes functions f notes at op note are here right = record {
       (λ k n. (o : Op) × (op_in (slice_get (erased_fn f).body k) ≡ Some o) × IsRight functions f k o n)
       notes note at are.len are.each (op, here, right);
 }
+
+-- at the number of an instruction there is one
+pub no_op : (f : TacFn) (at : ℕ) → at < length f.body → op_in (slice_get f.body at) ≡ None → ⊥
+no_op f at within none =
+    let found = some_get f.body at within in
+    none-some found.0.op (sym none ∙ ap op_in found.1)
 
 -- ---- functions
 
