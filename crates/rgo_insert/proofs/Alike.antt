@@ -1,12 +1,10 @@
 -- Functions that differ only in what is said of regions at their entry and at instructions: the rules see them alike.
-use Rattle.std.proofs.Common.{◌≡◌, ◌↔◌, ◌⊎◌, ⊎_elim, inl, inr, ◌+◌, ℕ, List, ◌∷◌, [], ◌++◌, Option, Some, None, slice_get, refl, sym, ap, ◌∙◌, subst}
+use Rattle.std.proofs.Common.{◌≡◌, ◌↔◌, ◌⊎◌, ⊎_elim, inl, inr, ℕ, List, ◌∷◌, [], ◌++◌, Option, Some, None, slice_get, refl, sym, ap, ◌∙◌, subst}
 use Rattle.std.specs.List.{Contains}
 use Rattle.rgo_tac.specs.declared.regions.Class.{Class}
 use Rattle.rgo_tac.specs.declared.regions.Class.TheVariants.{Name}
-use Rattle.rgo_tac.specs.declared.regions.Member.{Member}
-use Rattle.rgo_tac.specs.declared.regions.Member.TheVariants as member
 use Rattle.rgo_flow.specs.Live.{Live}
-use Rattle.rgo_code.specs.Code.{CodeFn, CodeOp, Slot}
+use Rattle.rgo_code.specs.Code.{CodeFn, CodeOp}
 use Rattle.rgo_code.specs.Erasure.{erased_fn, erased_op}
 use Rattle.rgo_code.specs.Exists.{Uses}
 use Rattle.rgo_code.specs.Names.{callee_regions, callee_result, class_of, distinct_names, parameter_classes, region_parameters, result_class, slot_class, Holds, IsLiveName, IsOwn, IsParameterName, IsPassedForResult, IsPassedTwice, Names}

@@ -1,23 +1,18 @@
 -- What is passed keeps the rules on calls and starts, since summaries describe the callees.
-use Rattle.std.proofs.Common.{◌≡◌, ◌≢◌, ◌⊎◌, inl, inr, ⊎_elim, ◌<◌, ◌≤◌, ◌+◌, ℕ, zero, suc, List, [], ◌∷◌, map, take, length, get_or, Option, Some, None, slice_get, refl, sym, ap, ◌∙◌, subst, arith}
-use Rattle.std.specs.Prelude.{is_some}
+use Rattle.std.proofs.Common.{◌≡◌, ◌≢◌, ◌<◌, ◌≤◌, ◌+◌, ℕ, zero, suc, List, length, get_or, Some, slice_get, refl, sym, ap, ◌∙◌, subst, arith}
 use Rattle.std.specs.Option.{option_map}
-use Rattle.std.proofs.lemmas.List.{length-map}
-use Rattle.std.proofs.lemmas.Option.{same_Some, none-some, slice_get-map, slice_get_within}
 use Rattle.rgo_typed.specs.declared.types.Type.{«Type»}
 use Rattle.rgo_tac.specs.declared.regions.Class.{Class}
 use Rattle.rgo_tac.specs.declared.regions.Class.TheVariants as class
 use Rattle.rgo_tac.specs.declared.regions.Member.{Member}
-use Rattle.rgo_tac.specs.declared.regions.Member.TheVariants.{Variable, Result, Global}
-use Rattle.rgo_tac.specs.Code.{Instr, TacFn, Tac}
-use Rattle.rgo_tac.specs.Joins.{is_pointer_like_type}
+use Rattle.rgo_tac.specs.declared.regions.Member.TheVariants.{Variable, Global}
+use Rattle.rgo_tac.specs.Code.{TacFn, Tac}
 use Rattle.rgo_classes.specs.declared.classes.Summary.{Summary}
 use Rattle.rgo_classes.specs.Classes.{AreClasses, InOneClass}
 use Rattle.rgo_classes.specs.Joins.{IsPointerLike, Joins}
 use Rattle.rgo_classes.proofs.Chains.{contains}
 use Rattle.rgo_summaries.specs.Calls.{Called, callee_at, member, passed}
-use Rattle.rgo_summaries.specs.Names.{class_at, Names}
-use Rattle.rgo_summaries.specs.Nodes.{IsOuter}
+use Rattle.rgo_summaries.specs.Names.{Names}
 use Rattle.rgo_summaries.proofs.Naming.{InOne, together}
 use Rattle.rgo_summaries.proofs.Outer.{place, some_get}
 use Rattle.rgo_summaries.proofs.Standing.{Together, joined_by_call}
@@ -28,7 +23,7 @@ use Rattle.rgo_code.specs.Names.{class_of, member_class, region_parameters}
 use Rattle.rgo_code.specs.Views.{code_fn}
 use Rattle.rgo_insert.specs.Bare.{classes_by}
 use Rattle.rgo_insert.specs.Passing.{actual_classes, formal_classes, ArePassed}
-use Rattle.rgo_insert.proofs.Formals.{IsFormal, actual_at, formal_at, formal_is, slots_long}
+use Rattle.rgo_insert.proofs.Formals.{actual_at, formal_at, formal_is, slots_long}
 use Rattle.rgo_insert.proofs.Members.{Placed, agree, class_in, global_of_class, like_of_class, placed_of_class, same_of_class, some_type}
 
 -- a call that fits its callee: arguments for its parameters, of their types, and a target for its result

@@ -1,23 +1,21 @@
 -- Classes under summaries keep the rules on classes and on what instructions join.
-use Rattle.std.proofs.Common.{◌≡◌, ◌≢◌, ◌↔◌, ℕ, List, Option, Some, None, slice_get, refl, sym, ap, ◌∙◌, subst}
+use Rattle.std.proofs.Common.{◌≡◌, ℕ, List, Option, Some, None, slice_get, refl, sym, ap, ◌∙◌, subst}
 use Rattle.std.specs.Option.{option_map}
 use Rattle.rgo_typed.specs.declared.types.Type.{«Type»}
-use Rattle.rgo_typed.specs.Types.{is_pointer_like}
-use Rattle.rgo_tac.specs.declared.regions.Class.TheVariants.{NoClass}
 use Rattle.rgo_tac.specs.declared.regions.Member.{Member}
 use Rattle.rgo_tac.specs.declared.regions.Member.TheVariants.{Variable, Result}
 use Rattle.rgo_tac.specs.Code.{Instr, TacFn}
 use Rattle.rgo_tac.specs.Joins.{is_pointer_like_type, joins}
 use Rattle.rgo_classes.specs.declared.classes.Summary.{Summary}
 use Rattle.rgo_classes.specs.Classes.{AreClasses}
-use Rattle.rgo_classes.specs.Joins.{IsPointerLike, Joins}
+use Rattle.rgo_classes.specs.Joins.{Joins}
 use Rattle.rgo_classes.proofs.Chains.{contains}
 use Rattle.rgo_summaries.proofs.Standing.{joined_own, pointer_like_joined}
 use Rattle.rgo_code.specs.declared.notes.Note.{Note}
 use Rattle.rgo_code.specs.declared.notes.Regions.{Regions}
 use Rattle.rgo_code.specs.ClassRules.{Agree, GlobalsAgree, JoinsAgree, OpAgrees, ResultFits, ReturnsAgree, SlotFits}
 use Rattle.rgo_code.specs.Code.{CodeFn, CodeOp, Slot, Do, Call, Go, Print, Jump, Branch, Return}
-use Rattle.rgo_code.specs.Erasure.{erased_fn, erased_op}
+use Rattle.rgo_code.specs.Erasure.{erased_op}
 use Rattle.rgo_code.specs.Views.{code_fn, code_op, slot}
 use Rattle.rgo_code.proofs.Erased.{fn_erased, op_erased}
 use Rattle.rgo_insert.specs.Bare.{classes_by}
@@ -57,8 +55,7 @@ module _ (sums : List Summary) (f : TacFn) (r : Regions) (are : AreClasses sums 
   pub slot_fits : (v : ℕ) (s : Slot) → slice_get (code_fn f r).variables v ≡ Some s → SlotFits s
   slot_fits v s e =
       let found = slot_found f r v s e in
-      let p = variable_placed sums f r are v s.ty found.0 in
-      (
+      let p = variable_placed sums f r are v s.ty found.0 in (
         λ some. sym (ap is_pointer_like_type found.0)
             ∙ like_of_class sums f r are (Variable v) p (λ none. some (sym found.1 ∙ none)),
         λ like none. class_of_like sums f r are (Variable v) p (ap is_pointer_like_type found.0 ∙ like)
@@ -69,8 +66,7 @@ module _ (sums : List Summary) (f : TacFn) (r : Regions) (are : AreClasses sums 
   result_by None e = tt
   result_by (Some ty) e =
       let p = result_placed sums f r are ty e in
-      let said : class_in sums f r are Result ≡ r.result = sym (result_by_type sums f r are f.result_type ty e) in
-      (
+      let said : class_in sums f r are Result ≡ r.result = sym (result_by_type sums f r are f.result_type ty e) in (
         λ some. sym (ap is_pointer_like_type e) ∙ like_of_class sums f r are Result p (λ none. some (sym said ∙ none)),
         λ like none. class_of_like sums f r are Result p (ap is_pointer_like_type e ∙ like) (said ∙ none),
       )

@@ -1,14 +1,14 @@
 -- Typed code keeps the rules on entries and on returns.
-use Rattle.std.proofs.Common.{◌≡◌, ◌≢◌, ◌⊎◌, ⊎_elim, ◌<◌, ◌≤◌, ℕ, zero, suc, List, [], ◌∷◌, length, Option, Some, None, slice_get, refl, sym, ap, ◌∙◌, subst, arith}
+use Rattle.std.proofs.Common.{◌≡◌, ⊎_elim, ◌<◌, ◌≤◌, ℕ, zero, suc, List, [], ◌∷◌, length, Option, Some, None, slice_get, refl, sym, ap, ◌∙◌, subst}
 use Rattle.std.specs.Prelude.{option_to_list}
 use Rattle.std.specs.List.{Contains}
-use Rattle.std.proofs.lemmas.Option.{same_Some, none-some, slice_get_within}
+use Rattle.std.proofs.lemmas.Option.{none-some}
 use Rattle.std.proofs.lemmas.List.Elements.{Contains-append_left}
 use Rattle.rgo_graphs.proofs.Lists.{member_one, no_member, one_member}
 use Rattle.rgo_typed.specs.declared.types.Type.{«Type»}
 use Rattle.rgo_tac.specs.declared.regions.Class.TheVariants as class
 use Rattle.rgo_tac.specs.declared.regions.Member.TheVariants.{Variable, Result}
-use Rattle.rgo_tac.specs.Code.{Instr, Op, TacFn, Return}
+use Rattle.rgo_tac.specs.Code.{Instr, TacFn, Return}
 use Rattle.rgo_tac.specs.Flow.{leads_to, reads}
 use Rattle.rgo_tac.specs.Joins.{is_pointer_like_type, joins}
 use Rattle.rgo_classes.specs.declared.classes.Summary.{Summary}
@@ -22,10 +22,10 @@ use Rattle.rgo_code.specs.declared.notes.Regions.{Regions}
 use Rattle.rgo_code.specs.ClassRules.{EntryIsKnown}
 use Rattle.rgo_code.specs.Code.{CodeFn}
 use Rattle.rgo_code.specs.Exists.{Uses}
-use Rattle.rgo_code.specs.Names.{class_of, parameter_classes, result_class, Holds, IsParameterName, Names}
+use Rattle.rgo_code.specs.Names.{class_of, parameter_classes, result_class, Holds}
 use Rattle.rgo_code.specs.NameRules.{CreatesUsed, HoldsNothing}
 use Rattle.rgo_code.specs.Types.{HasType}
-use Rattle.rgo_code.specs.Views.{code_fn, code_instr, code_op, slots}
+use Rattle.rgo_code.specs.Views.{code_fn, code_instr, slots}
 use Rattle.rgo_code.proofs.Erased.{fn_erased, op_erased}
 use Rattle.rgo_region_sets.proofs.Merges.{found}
 use Rattle.rgo_insert.specs.Bare.{classes_by}

@@ -1,13 +1,12 @@
 -- Calls and starts of typed code fit their callees.
-use Rattle.std.proofs.Common.{true, ◌≡◌, ◌≢◌, ◌<◌, ◌≤◌, ◌+◌, ℕ, zero, suc, List, [], ◌∷◌, map, take, length, Option, Some, None, slice_get, refl, sym, ap, ◌∙◌, subst, arith}
+use Rattle.std.proofs.Common.{true, ◌≡◌, ◌<◌, ◌≤◌, ℕ, zero, suc, List, [], ◌∷◌, take, length, Option, Some, None, slice_get, refl, sym, ap, ◌∙◌, subst, arith}
 use Rattle.std.specs.Prelude.{is_some}
 use Rattle.std.specs.Option.{option_map}
 use Rattle.std.proofs.lemmas.Option.{same_Some, none-some, slice_get-map, slice_get_within}
 use Rattle.std.proofs.lemmas.List.{length-take-le}
 use Rattle.rgo_typed.specs.declared.types.Type.{«Type»}
-use Rattle.rgo_tac.specs.declared.regions.Member.{Member}
-use Rattle.rgo_tac.specs.declared.regions.Member.TheVariants.{Variable, Result, Global}
-use Rattle.rgo_tac.specs.Code.{TacFn, Tac, Call, Go}
+use Rattle.rgo_tac.specs.declared.regions.Member.TheVariants.{Variable}
+use Rattle.rgo_tac.specs.Code.{TacFn, Tac, Go}
 use Rattle.rgo_tac.specs.Joins.{is_pointer_like_type}
 use Rattle.rgo_classes.specs.Joins.{IsPointerLike}
 use Rattle.rgo_summaries.specs.Calls.{Called, member, passed}

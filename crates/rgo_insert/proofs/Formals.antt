@@ -1,5 +1,5 @@
 -- The classes of a callee's parameters and result, by the numbers of its members, and what is passed for them.
-use Rattle.std.proofs.Common.{◌≡◌, ◌≢◌, ◌⊎◌, inl, inr, ⊎_elim, ◌<◌, ◌≤◌, ◌+◌, ℕ, zero, suc, List, [], ◌∷◌, ◌++◌, map, drop, length, get_or, Option, Some, None, slice_get, refl, sym, ap, ◌∙◌, subst, arith, length-append}
+use Rattle.std.proofs.Common.{◌≡◌, ⊎_elim, ◌<◌, ◌≤◌, ◌+◌, ℕ, zero, suc, List, [], ◌∷◌, map, drop, length, get_or, Option, Some, None, slice_get, refl, sym, ap, ◌∙◌, arith, length-append}
 use Rattle.std.specs.Option.{option_map}
 use Rattle.std.proofs.lemmas.Bool.{cases_lt}
 use Rattle.std.proofs.lemmas.List.{length-map}
@@ -7,10 +7,9 @@ use Rattle.std.proofs.lemmas.Option.{same_Some, none-some, slice_get-map, slice_
 use Rattle.rgo_typed.specs.declared.types.Type.{«Type»}
 use Rattle.rgo_tac.specs.declared.regions.Class.{Class}
 use Rattle.rgo_tac.specs.declared.regions.Class.TheVariants.{NoClass}
-use Rattle.rgo_tac.specs.declared.regions.Member.{Member}
-use Rattle.rgo_tac.specs.declared.regions.Member.TheVariants.{Variable, Result, Global}
+use Rattle.rgo_tac.specs.declared.regions.Member.TheVariants.{Variable}
 use Rattle.rgo_summaries.specs.Calls.{Called, member, passed}
-use Rattle.rgo_summaries.proofs.Outer.{get_last, get_left, place, some_get}
+use Rattle.rgo_summaries.proofs.Outer.{get_last, get_left, place}
 use Rattle.rgo_code.specs.Code.{CodeFn, Slot}
 use Rattle.rgo_code.specs.Names.{class_of, member_class, parameter_classes, result_class, slot_class}
 use Rattle.rgo_code.specs.Views.{slots}

@@ -73,10 +73,11 @@ pub more_filled : (functions : List CodeFn) (code : List TacFn) (bare filled : L
     → AllFilled functions code bare (filled ++ r ∷ [])
 more_filled functions code bare filled n f b r long at bare_at before now k g c s here is e =
     each_longer
-    (λ j x. (h : TacFn) (d : Regions) → slice_get code j ≡ Some h → slice_get bare j ≡ Some d → IsFilled functions h d x)
+    (λ j x. (h : TacFn) (d : Regions) → slice_get code j ≡ Some h → slice_get bare j ≡ Some d
+    → IsFilled functions h d x)
     filled r n long
     (λ j x there h d h_is d_is. before j h d x h_is d_is there)
     (λ h d h_is d_is.
-        subst (λ y. IsFilled functions h y r) (same_Some b d (sym bare_at ∙ d_is))
-        (subst (λ y. IsFilled functions y b r) (same_Some f h (sym at ∙ h_is)) now))
+    subst (λ y. IsFilled functions h y r) (same_Some b d (sym bare_at ∙ d_is))
+    (subst (λ y. IsFilled functions y b r) (same_Some f h (sym at ∙ h_is)) now))
     k s e g c here is

@@ -1,14 +1,10 @@
 -- What `insert` returns keeps all rules, with the classes of the summaries.
-use Rattle.std.proofs.Common.{◌≡◌, List, sym, subst}
+use Rattle.std.proofs.Common.{◌≡◌, List, subst}
 use Rattle.rgo_tac.specs.Code.{TacFn, Tac}
 use Rattle.rgo_classes.specs.declared.classes.Summary.{Summary}
 use Rattle.rgo_summaries.specs.Families.{IsFamily}
 use Rattle.rgo_code.specs.declared.code.Undeclared.{Undeclared}
 use Rattle.rgo_code.specs.declared.notes.Regions.{Regions}
-use Rattle.rgo_code.specs.Checked.{IsChecked}
-use Rattle.rgo_code.specs.Code.{Code}
-use Rattle.rgo_code.specs.Erasure.{erased}
-use Rattle.rgo_code.specs.NameRules.{Ascends}
 use Rattle.rgo_code.specs.TypedCode.{IsTypedCode}
 use Rattle.rgo_code.specs.Views.{code_fns, code_of}
 use Rattle.rgo_code.proofs.Erased.{erasure_is_code}
@@ -25,7 +21,7 @@ pub inserted : (tac : Tac) (fs : List TacFn) (sums : List Summary) (bare again f
 inserted tac fs sums bare again filled undeclared typed family are_fs is_again are_bare are =
     let b = subst (λ l. AreBare sums l bare) are_fs are_bare in
     let a = subst (λ l. AreFilled (code_fns l bare) l bare filled) are_fs
-        (subst (λ l. AreFilled (code_fns fs l) fs l filled) is_again are) in
+    (subst (λ l. AreFilled (code_fns fs l) fs l filled) is_again are) in
     record {
       erasure = erasure_is_code tac undeclared filled;
       classes = have_classes tac typed sums family bare filled b a undeclared;

@@ -1,16 +1,14 @@
 -- The classes of a function's members: two have one class if they are the same under the summaries.
-use Rattle.std.proofs.Common.{◌≡◌, ◌≢◌, ◌⊎◌, inl, inr, ⊎_elim, ◌↔◌, ℕ, zero, suc, ◌+◌, Bool, true, false, List, [], ◌∷◌, ◌++◌, map, drop, get_or, length, Option, Some, None, slice_get, refl, sym, ap, ◌∙◌, subst, arith, length-append}
+use Rattle.std.proofs.Common.{◌≡◌, ◌≢◌, ◌⊎◌, inl, inr, ⊎_elim, ℕ, ◌+◌, true, List, [], ◌∷◌, ◌++◌, map, length, Option, Some, None, slice_get, refl, sym, ap, ◌∙◌, subst, arith, length-append}
 use Rattle.std.specs.Option.{option_map}
 use Rattle.std.proofs.lemmas.Option.{same_Some, none-some, slice_get_within, slice_get-get_or}
 use Rattle.rgo_typed.specs.declared.types.Type.{«Type»}
-use Rattle.rgo_typed.specs.Types.{is_pointer_like}
 use Rattle.rgo_tac.specs.declared.regions.Class.{Class}
 use Rattle.rgo_tac.specs.declared.regions.Class.TheVariants as class
 use Rattle.rgo_tac.specs.declared.regions.Member.{Member}
 use Rattle.rgo_tac.specs.declared.regions.Member.TheVariants.{Variable, Result, Global}
 use Rattle.rgo_tac.specs.Code.{TacFn}
 use Rattle.rgo_tac.specs.Joins.{is_pointer_like_type}
-use Rattle.rgo_classes.specs.declared.classes.Classes.{Classes}
 use Rattle.rgo_classes.specs.declared.classes.Summary.{Summary}
 use Rattle.rgo_classes.specs.Classes.{AreClasses, InOneClass, all_members}
 use Rattle.rgo_classes.specs.Joins.{IsPointerLike, Joins}
@@ -18,9 +16,8 @@ use Rattle.rgo_classes.proofs.Chains.{symmetric}
 use Rattle.rgo_summaries.proofs.Naming.{pointer_like_or_not}
 use Rattle.rgo_summaries.proofs.Outer.{before_after, before_get, before_len, get_last, get_left}
 use Rattle.rgo_code.specs.declared.notes.Regions.{Regions}
-use Rattle.rgo_code.specs.Code.{CodeFn}
 use Rattle.rgo_code.specs.Erasure.{erased_fn}
-use Rattle.rgo_code.specs.Names.{class_of, member_class, result_class, slot_class}
+use Rattle.rgo_code.specs.Names.{member_class, result_class, slot_class}
 use Rattle.rgo_code.specs.Views.{code_fn, slot, slots}
 use Rattle.rgo_code.proofs.Erased.{fn_erased}
 use Rattle.rgo_code.proofs.Parts.{class_found, no_class}
@@ -150,7 +147,7 @@ module _ (sums : List Summary) (f : TacFn) (r : Regions) (are : AreClasses sums 
   no_result_class : f.result_type ≡ None → r.result ≡ class.NoClass
   no_result_class none =
       let plain : IsPointerLike f Result → ⊥ =
-          λ like. let t = some_type f.result_type like in none-some t.0 (sym none ∙ t.1) in
+      λ like. let t = some_type f.result_type like in none-some t.0 (sym none ∙ t.1) in
       same_Some r.result class.NoClass
       (sym (ap (slice_get classes) (sym long) ∙ get_last r.classes r.result)
       ∙ (are.none (length f.variables) Result

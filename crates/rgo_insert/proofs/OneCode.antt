@@ -1,16 +1,13 @@
 -- Of one three-address code with the same classes there is one code that keeps the rules.
-use Rattle.std.proofs.Common.{◌≡◌, ◌↔◌, ◌<◌, ◌≤◌, ℕ, zero, suc, List, [], ◌∷◌, map, length, Option, Some, None, slice_get, refl, sym, ap, ◌∙◌, subst, arith}
+use Rattle.std.proofs.Common.{◌≡◌, ◌≤◌, ℕ, List, [], ◌∷◌, map, length, Option, Some, None, slice_get, refl, sym, ap, ◌∙◌, subst, arith}
 use Rattle.std.specs.Prelude.{is_some}
-use Rattle.std.specs.List.{Contains}
 use Rattle.std.specs.Option.{option_map}
 use Rattle.std.proofs.lemmas.List.{length-map}
-use Rattle.std.proofs.lemmas.Option.{same_Some, none-some, slice_get-map, slice_get_within}
-use Rattle.rgo_typed.specs.declared.types.Type.{«Type»}
+use Rattle.std.proofs.lemmas.Option.{same_Some, none-some, slice_get-map}
 use Rattle.rgo_tac.specs.declared.regions.Class.{Class}
 use Rattle.rgo_tac.specs.Code as tac
 use Rattle.rgo_classes.specs.declared.classes.Classes.{Classes}
 use Rattle.rgo_tac.specs.Code.{Instr, Op, TacFn, Tac}
-use Rattle.rgo_summaries.proofs.Outer.{some_get}
 use Rattle.rgo_code.specs.declared.rules.Line.TheVariants as line
 use Rattle.rgo_code.specs.declared.rules.Rule.TheVariants as rule
 use Rattle.rgo_code.specs.Checked.{IsChecked}
@@ -19,13 +16,13 @@ use Rattle.rgo_code.specs.Code.{Code, CodeFn, CodeInstr, Slot}
 use Rattle.rgo_code.specs.Erasure.{erased, erased_fn, erased_instr, erased_op}
 use Rattle.rgo_code.specs.Exists.{OpExists}
 use Rattle.rgo_code.specs.Lists.{passes_of}
-use Rattle.rgo_code.specs.Names.{result_class, slot_class}
+use Rattle.rgo_code.specs.Names.{slot_class}
 use Rattle.rgo_code.specs.NameRules.{Ascends}
 use Rattle.rgo_region_sets.proofs.SameLists.{same_list}
 use Rattle.rgo_insert.specs.Inserted.{classes_in}
 use Rattle.rgo_insert.specs.Laws.{HaveSameClasses, OneCode}
 use Rattle.rgo_insert.proofs.Alike.{AreAlike, AreLikeCallees, holds, like_none, like_some, own, parameter_name}
-use Rattle.rgo_insert.proofs.OneInstr.{KeepsLists, PassesAt, one_instr, passes_at}
+use Rattle.rgo_insert.proofs.OneInstr.{PassesAt, one_instr, passes_at}
 use Rattle.rgo_insert.proofs.OnePassing.{IsCalled, lists_same, one_passing}
 
 -- ---- functions with the same types and classes
@@ -185,10 +182,10 @@ module _ (a b : Code) (a_checked : IsChecked a) (b_checked : IsChecked b) (a_asc
     instr_same : (i : ℕ) (x y : CodeInstr) → slice_get f.body i ≡ Some x → slice_get g.body i ≡ Some y → x ≡ y
     instr_same i x y at_x at_y =
         let erasure : erased_instr x ≡ erased_instr y =
-            same_Some (erased_instr x) (erased_instr y)
-            (sym (slice_get-map erased_instr f.body i ∙ ap (option_map erased_instr) at_x)
-            ∙ ap (λ (t : TacFn). slice_get t.body i) like.tac
-            ∙ slice_get-map erased_instr g.body i ∙ ap (option_map erased_instr) at_y) in
+        same_Some (erased_instr x) (erased_instr y)
+        (sym (slice_get-map erased_instr f.body i ∙ ap (option_map erased_instr) at_x)
+        ∙ ap (λ (t : TacFn). slice_get t.body i) like.tac
+        ∙ slice_get-map erased_instr g.body i ∙ ap (option_map erased_instr) at_y) in
         let ops : erased_op x.op ≡ erased_op y.op = ap (λ (z : Instr). z.op) erasure in
         let passes = passes_same f g like (erased_op y.op)
         (subst (OpExists (erased a) (erased_fn f)) ops (a_checked rule.Exists (line.Instr n i) f x at_f at_x).exists)
@@ -223,8 +220,7 @@ module _ (a b : Code) (a_checked : IsChecked a) (b_checked : IsChecked b) (a_asc
         let y = b_checked rule.Removals (line.Entry n) g at_g k in
         let o = own f g like k in
         let p = parameter_name f g like k in
-        let h = holds f g like k 0 in
-        (
+        let h = holds f g like k 0 in (
           λ c. let r = x.0 c in y.1 (o.0 r.0, p.0 r.1, λ z. r.2 (h.1 z)),
           λ c. let r = y.0 c in x.1 (o.1 r.0, p.1 r.1, λ z. r.2 (h.0 z)),
         ))

@@ -1,5 +1,5 @@
 -- The rules leave one form of an instruction.
-use Rattle.std.proofs.Common.{◌≡◌, ◌↔◌, ◌⊎◌, ⊎_elim, inl, inr, ◌+◌, ℕ, List, [], ◌∷◌, length, Option, Some, None, slice_get, refl, sym, ap, ◌∙◌, subst}
+use Rattle.std.proofs.Common.{◌≡◌, ◌↔◌, ◌⊎◌, ⊎_elim, inl, inr, ◌+◌, ℕ, List, [], ◌∷◌, slice_get, refl, sym, ap, ◌∙◌, subst}
 use Rattle.std.specs.List.{Contains}
 use Rattle.std.specs.List.Sorted.{IsStrictlyIncreasing}
 use Rattle.std.proofs.lemmas.List.Elements.{Contains-append_left, Contains-append_right}
@@ -13,7 +13,7 @@ use Rattle.rgo_code.specs.ClassRules.{CallPasses, CallsPass, StartPasses, Starts
 use Rattle.rgo_code.specs.Code.{Code, CodeFn, CodeInstr, CodeOp, Do, Call, Go, Print, Jump, Branch, Return}
 use Rattle.rgo_code.specs.Erasure.{erased_instr, erased_op}
 use Rattle.rgo_code.specs.Lists.{passes_of}
-use Rattle.rgo_code.specs.Names.{edges, result_class, Gives, Holds, IsLiveName, IsOwn, IsPassedForResult, IsPassedTwice, Names}
+use Rattle.rgo_code.specs.Names.{edges, result_class, Gives, Holds, IsLiveName, IsPassedForResult, IsPassedTwice}
 use Rattle.rgo_code.specs.NameRules.{protected_names, CreatesUsed, InstrAscends, MayRemove, ProtectsUsed, RemovesDead}
 use Rattle.rgo_region_sets.proofs.SameLists.{same_list}
 use Rattle.rgo_insert.proofs.Alike.{AreAlike, AreLikeCallees, holds, names, needed, own, passed_for_result}
@@ -192,8 +192,7 @@ module _ (a b : Code) (f g : CodeFn) (i : ℕ) (x y : CodeInstr) (like : AreAlik
   same_creates = same_list x.creates y.creates kx.ascends.creates ky.ascends.creates (λ k.
       let o = own f g like k in
       let n = names f g like x.op y.op ops k in
-      let h = holds f g like k i in
-      (
+      let h = holds f g like k i in (
         λ c. let p = (kx.creates k).0 c in (ky.creates k).1 (o.0 p.0, n.0 p.1, λ z. p.2 (h.1 z)),
         λ c. let p = (ky.creates k).0 c in (kx.creates k).1 (o.1 p.0, n.1 p.1, λ z. p.2 (h.0 z)),
       ))
@@ -239,8 +238,7 @@ module _ (a b : Code) (f g : CodeFn) (i : ℕ) (x y : CodeInstr) (like : AreAlik
   may_remove : (k : ℕ) → MayRemove a f i x k ↔ MayRemove b g i y k
   may_remove k =
       let h = holds f g like k i in
-      let w = same_gives k in
-      (
+      let w = same_gives k in (
         λ p. (
           ⊎_elim (λ z. inl (h.0 z)) (λ c. inr (subst (λ l. Contains l k) same_creates c)) p.0,
           λ z. p.1 (w.1 z),
@@ -261,10 +259,13 @@ module _ (a b : Code) (f g : CodeFn) (i : ℕ) (x y : CodeInstr) (like : AreAlik
   same_lists = same_removals Dies (edges x.op i) (edges y.op i)
       (targets_are x.op i ∙ ap (λ o. leads_to o i) ops ∙ sym (targets_are y.op i))
       (λ j l c. (kx.ascends.removes j l c, kx.removes j l c))
-      (λ j l c. (ky.ascends.removes j l c, λ k.
-          let r = ky.removes j l c k in
-          let d = dies j k in
-          (λ z. d.0 (r.0 z), λ z. r.1 (d.1 z))))
+      (λ j l c. (
+        ky.ascends.removes j l c,
+        λ k.
+            let r = ky.removes j l c k in
+            let d = dies j k in
+            (λ z. d.0 (r.0 z), λ z. r.1 (d.1 z)),
+      ))
 
   same_op : x.op ≡ y.op
   same_op =

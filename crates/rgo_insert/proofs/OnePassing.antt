@@ -4,7 +4,7 @@ use Rattle.std.specs.Prelude.{is_some}
 use Rattle.std.specs.Option.{option_map}
 use Rattle.std.proofs.lemmas.Option.{same_Some, none-some, slice_get_within}
 use Rattle.rgo_tac.specs.declared.regions.Class.{Class}
-use Rattle.rgo_tac.specs.declared.regions.Class.TheVariants.{NoClass, Global, Name}
+use Rattle.rgo_tac.specs.declared.regions.Class.TheVariants.{Name}
 use Rattle.rgo_tac.specs.declared.regions.Member.TheVariants.{Variable}
 use Rattle.rgo_summaries.specs.Calls.{Called, member, passed}
 use Rattle.rgo_summaries.proofs.Outer.{some_get}
@@ -14,7 +14,7 @@ use Rattle.rgo_code.specs.Names.{class_of, member_class, region_parameters, slot
 use Rattle.rgo_insert.specs.Passing.{formal_classes}
 use Rattle.rgo_insert.proofs.Alike.{AreAlike, same_class, same_regions, same_result}
 use Rattle.rgo_insert.proofs.Formals.{formal_is, variable_is}
-use Rattle.rgo_insert.proofs.RegionNames.{IsNameOf, name_of_one}
+use Rattle.rgo_insert.proofs.RegionNames.{name_of_one}
 
 -- lists of one length with the same items
 pub lists_same : {A : Type 0} (xs ys : List A) → length xs ≡ length ys
@@ -82,7 +82,7 @@ module _ (f g one other : CodeFn) (call : Called) (like : AreAlike f g) (callees
       let in_one : slice_get (region_parameters one) p ≡ Some (Name n.name) = region.1 ∙ ap Some n.is in
       let in_other = ap (λ l. slice_get l p) (sym (same_regions one other callees)) ∙ in_one in
       let class_there : member_class other (member m.number) ≡ Name n.name =
-          same_member one other callees m.number ∙ m.class_is in
+      same_member one other callees m.number ∙ m.class_is in
       same_Some c d (
       sym at_x
       ∙ for_name (region_parameters one) x (member_class one (member m.number)) n.name (class_of f a.0) m.class_is

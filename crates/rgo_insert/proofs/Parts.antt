@@ -1,8 +1,8 @@
 -- The functions of filled code, one by one.
-use Rattle.std.proofs.Common.{◌≡◌, ◌<◌, ℕ, List, map, get_or, length, Option, Some, None, slice_get, refl, sym, ap, ◌∙◌, subst, arith}
+use Rattle.std.proofs.Common.{◌≡◌, ℕ, List, get_or, length, Option, Some, None, slice_get, refl, sym, ap, ◌∙◌, subst, arith}
 use Rattle.std.specs.Option.{option_map}
 use Rattle.std.proofs.lemmas.Option.{same_Some, none-some, slice_get_within, slice_get-get_or}
-use Rattle.rgo_tac.specs.Code.{Op, Instr, TacFn, Tac}
+use Rattle.rgo_tac.specs.Code.{Instr, TacFn}
 use Rattle.rgo_tac.specs.Ops.{op_in}
 use Rattle.rgo_classes.specs.declared.classes.Summary.{Summary}
 use Rattle.rgo_classes.specs.Classes.{AreClasses}
@@ -103,5 +103,5 @@ right_note functions f b notes i plain are here =
     let note = get_or notes i no_note in
     let e = are.each i note (slice_get-get_or notes i no_note (omega (arith, within, are.len, long))) in
     let op : e.0 ≡ plain.op =
-        same_Some e.0 plain.op (sym e.1 ∙ ap (λ g. op_in (slice_get g.body i)) (fn_erased f b) ∙ ap op_in here) in
+    same_Some e.0 plain.op (sym e.1 ∙ ap (λ g. op_in (slice_get g.body i)) (fn_erased f b) ∙ ap op_in here) in
     subst (λ o. IsRight functions (code_fn f b) i o note) op e.2

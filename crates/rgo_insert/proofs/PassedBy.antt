@@ -1,8 +1,8 @@
 -- What is passed, by a map from names to actuals.
-use Rattle.std.proofs.Common.{◌≡◌, ◌≢◌, ◌⊎◌, ⊎_elim, ◌<◌, ◌≤◌, ◌+◌, ℕ, Bool, true, false, nat_eq, List, [], ◌∷◌, ◌++◌, map, length, get_or, Option, Some, None, slice_get, refl, sym, ap, ◌∙◌, subst, arith}
+use Rattle.std.proofs.Common.{◌≡◌, ◌≢◌, ⊎_elim, ◌<◌, ◌≤◌, ◌+◌, ℕ, Bool, true, false, nat_eq, List, map, length, get_or, Option, Some, None, slice_get, refl, sym, ap, ◌∙◌, arith}
 use Rattle.std.specs.HashMap.{HashMap, get}
 use Rattle.std.specs.Option.{option_map}
-use Rattle.std.proofs.lemmas.Bool.{cases_eq, cases_lt, false≢true, ne_eqb}
+use Rattle.std.proofs.lemmas.Bool.{cases_eq, cases_lt, ne_eqb}
 use Rattle.std.proofs.lemmas.List.{length-map}
 use Rattle.std.proofs.lemmas.Option.{same_Some, none-some, slice_get-map, slice_get_within}
 use Rattle.rgo_tac.specs.declared.regions.Class.{Class}
@@ -44,12 +44,11 @@ module _ {S : Type 0} (old new : HashMap ℕ Class S) (formals actuals : List Cl
       sound_by : (k : ℕ) (class : Class) (b : Bool) → is_name k formal ≡ b
           → chosen (is_name k formal) actual (get nat_eq old k) ≡ Some class
           → (i : ℕ) × (slice_get formals i ≡ Some (Name k)) × (get_or actuals i NoClass ≡ class)
-      sound_by k class true is e =
-          (
-            n,
-            at ∙ ap Some (is_name_is k formal is),
-            same_Some actual class (sym (ap (λ b. chosen b actual (get nat_eq old k)) is) ∙ e),
-          )
+      sound_by k class true is e = (
+        n,
+        at ∙ ap Some (is_name_is k formal is),
+        same_Some actual class (sym (ap (λ b. chosen b actual (get nat_eq old k)) is) ∙ e),
+      )
       sound_by k class false is e =
           are.sound k class (sym (ap (λ b. chosen b actual (get nat_eq old k)) is) ∙ e)
 
@@ -76,8 +75,7 @@ module _ {S : Type 0} (found : HashMap ℕ Class S) (formals actuals regions : L
           × (slice_get (map (passed_by found) regions) p ≡ Some (get_or actuals j NoClass))
       by p k region some None e = absurd (some e)
       by p k region some (Some class) e =
-          let s = are.sound k class e in
-          (
+          let s = are.sound k class e in (
             s.0,
             s.1,
             slice_get-map (passed_by found) regions p ∙ ap (option_map (passed_by found)) region

@@ -1,18 +1,15 @@
 -- Right notes keep the rules on creations, protections and removals.
-use Rattle.std.proofs.Common.{◌≡◌, ◌≢◌, ◌↔◌, ⊎_elim, inl, inr, ◌⊎◌, ◌+◌, ℕ, zero, suc, List, [], ◌∷◌, get_or, Option, Some, None, slice_get, refl, sym, ap, ◌∙◌, subst, arith}
+use Rattle.std.proofs.Common.{◌≡◌, ◌↔◌, ⊎_elim, inl, inr, ◌+◌, ℕ, List, [], ◌∷◌, Some, slice_get, refl, sym, ap, ◌∙◌, subst, arith}
 use Rattle.std.specs.List.{Contains}
 use Rattle.std.specs.List.Sorted.{IsStrictlyIncreasing}
 use Rattle.std.proofs.lemmas.List.Elements.{Contains-append_cases}
 use Rattle.rgo_graphs.proofs.Lists.{member_one, no_member}
-use Rattle.rgo_tac.specs.declared.regions.Class.{Class}
-use Rattle.rgo_tac.specs.declared.regions.Class.TheVariants.{Name}
 use Rattle.rgo_tac.specs.Code.{Instr, Op, TacFn, Do, Call, Go, Print, Jump, Branch, Return}
 use Rattle.rgo_tac.specs.Flow.{leads_to}
 use Rattle.rgo_flow.specs.Live.{led_to_by}
 use Rattle.rgo_code.specs.declared.notes.Note.{Note}
 use Rattle.rgo_code.specs.declared.notes.Regions.{Regions}
-use Rattle.rgo_code.specs.Code.{Code, CodeFn, CodeOp}
-use Rattle.rgo_code.specs.Erasure.{erased_fn}
+use Rattle.rgo_code.specs.Code.{Code, CodeFn}
 use Rattle.rgo_code.specs.Names.{edges, Gives, Holds}
 use Rattle.rgo_code.specs.NameRules.{protected_names, CreatesUsed, EntryLendsResult, EntryRemovesDead, InstrAscends, LendsResult, MayRemove, ProtectsUsed, RemovesDead}
 use Rattle.rgo_code.specs.Views.{code_instr, code_op}
@@ -45,8 +42,7 @@ module _ (f : TacFn) (b : Regions) (entry : List ℕ) (notes : List Note) where
         (λ h. no_member k (subst (λ l. Contains l k) e h), λ h. absurd h)
     given_is (Call to n from) m gives e k =
         let one = slice_get bares n in
-        let other = slice_get code.functions n in
-        (
+        let other = slice_get code.functions n in (
           λ h.
               let g = (e.members k).0 h in
               (g.0, g.1, λ p. g.2 ((passed_for_result one other (like n) m.passes k).1 p)),
@@ -68,8 +64,7 @@ module _ (f : TacFn) (b : Regions) (entry : List ℕ) (notes : List Note) where
       pub creates_used : CreatesUsed f1 i (code_instr plain m)
       creates_used k =
           let u = uses f b entry notes i plain m here k in
-          let h = holds f0 f1 like_bare k i in
-          (
+          let h = holds f0 f1 like_bare k i in (
             λ c. let p = (right.creates.members k).0 c in (p.0, u.0 p.1, λ z. p.2 (h.1 z)),
             λ p. (right.creates.members k).1 (p.0, u.1 p.1, λ z. p.2 (h.0 z)),
           )
@@ -162,11 +157,9 @@ module _ (f : TacFn) (b : Regions) (entry : List ℕ) (notes : List Note) where
       removes_when j removes d k =
           let h = holds f0 f1 like_bare k i in
           let n = holds f0 f1 like_bare k j in
-          let g = given_is plain.op m right.gives right.given k in
-          (
+          let g = given_is plain.op m right.gives right.given k in (
             λ c.
-                let p = (d.members k).0 c in
-                (
+                let p = (d.members k).0 c in (
                   (
                     ⊎_elim (λ z. inl (h.0 z)) (λ z. inr ((right.creates.members k).1 z)) p.0.0,
                     λ z. p.0.1 (g.1 z),
@@ -208,8 +201,7 @@ module _ (f : TacFn) (b : Regions) (entry : List ℕ) (notes : List Note) where
   module _ (set : IsSet entry (EntryRemoves f0)) where
     pub entry_removes_dead : EntryRemovesDead f1
     entry_removes_dead k =
-        let h = holds f0 f1 like_bare k 0 in
-        (
+        let h = holds f0 f1 like_bare k 0 in (
           λ c. let p = (set.members k).0 c in (p.0, p.1, λ z. p.2 (h.1 z)),
           λ p. (set.members k).1 (p.0, p.1, λ z. p.2 (h.0 z)),
         )

@@ -1,15 +1,11 @@
 -- What is said of regions at instructions changes nothing of classes, liveness and parameters.
-use Rattle.std.proofs.Common.{◌≡◌, ◌↔◌, ⊎_elim, inl, inr, ◌⊎◌, ℕ, List, [], ◌∷◌, map, get_or, Option, Some, None, slice_get, refl, sym, ap, ◌∙◌, subst}
+use Rattle.std.proofs.Common.{◌≡◌, ◌↔◌, ℕ, List, get_or, Option, Some, None, slice_get, refl, sym, ap, ◌∙◌, subst}
 use Rattle.std.specs.Option.{option_map}
 use Rattle.std.proofs.lemmas.Option.{same_Some, none-some, slice_get-map}
-use Rattle.rgo_typed.specs.declared.types.Type.{«Type»}
-use Rattle.rgo_tac.specs.declared.regions.Class.{Class}
-use Rattle.rgo_tac.specs.Code.{Instr, Op, TacFn}
-use Rattle.rgo_tac.specs.Ops.{op_in}
+use Rattle.rgo_tac.specs.Code.{Instr, TacFn}
 use Rattle.rgo_code.specs.declared.notes.Note.{Note}
 use Rattle.rgo_code.specs.declared.notes.Regions.{Regions}
 use Rattle.rgo_code.specs.Code.{CodeFn, CodeInstr, Slot}
-use Rattle.rgo_code.specs.Erasure.{erased_fn}
 use Rattle.rgo_code.specs.Names.{class_of, slot_class, Names}
 use Rattle.rgo_code.specs.Views.{code_fn, code_instr, code_op, no_note, slots}
 use Rattle.rgo_code.proofs.Erased.{fn_erased, op_erased, types_erased}
@@ -72,10 +68,9 @@ module _ (f : TacFn) (b : Regions) (entry : List ℕ) (notes : List Note) where
   uses i plain n here k =
       let m = get_or b.notes i no_note in
       let at : slice_get before.body i ≡ Some (code_instr plain m) =
-          instr_at f.body b.notes i ∙ ap (option_map (λ p. code_instr p (get_or b.notes i no_note))) here in
+      instr_at f.body b.notes i ∙ ap (option_map (λ p. code_instr p (get_or b.notes i no_note))) here in
       let w = names before after alike (code_op plain.op m) (code_op plain.op n)
-      (op_erased plain.op m ∙ sym (op_erased plain.op n)) k in
-      (
+      (op_erased plain.op m ∙ sym (op_erased plain.op n)) k in (
         λ u. w.0 (subst (λ o. UsesName before o k) at u),
         λ u. subst (λ o. UsesName before o k) (sym at) (w.1 u),
       )

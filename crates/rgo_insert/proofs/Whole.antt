@@ -1,11 +1,9 @@
 -- Filled code of typed code keeps all rules.
-use Rattle.std.proofs.Common.{◌≡◌, ◌≢◌, ◌<◌, ◌≤◌, ℕ, List, [], ◌∷◌, get_or, length, Option, Some, None, slice_get, refl, sym, ap, ◌∙◌, subst, arith}
+use Rattle.std.proofs.Common.{◌≡◌, ℕ, List, [], ◌∷◌, get_or, Some, None, slice_get, refl, sym, ap, ◌∙◌, subst, arith}
 use Rattle.std.specs.Option.{option_map}
 use Rattle.std.proofs.lemmas.Option.{slice_get_within}
-use Rattle.rgo_typed.specs.declared.types.Type.{«Type»}
 use Rattle.rgo_typed.specs.declared.programs.Struct.{Struct}
 use Rattle.rgo_typed.specs.declared.programs.Variable.{Variable}
-use Rattle.rgo_tac.specs.declared.regions.Class.{Class}
 use Rattle.rgo_tac.specs.Code.{Op, Instr, TacFn, Tac, Do, Call, Go, Print, Jump, Branch, Return}
 use Rattle.rgo_classes.specs.declared.classes.Summary.{Summary}
 use Rattle.rgo_classes.specs.Classes.{AreClasses}
@@ -17,15 +15,14 @@ use Rattle.rgo_summaries.proofs.Standing.{call_found}
 use Rattle.rgo_code.specs.declared.code.Undeclared.{Undeclared}
 use Rattle.rgo_code.specs.declared.notes.Note.{Note}
 use Rattle.rgo_code.specs.declared.notes.Regions.{Regions}
-use Rattle.rgo_code.specs.declared.rules.Line.{Line}
 use Rattle.rgo_code.specs.declared.rules.Line.TheVariants as line
 use Rattle.rgo_code.specs.declared.rules.Rule.{Rule}
 use Rattle.rgo_code.specs.declared.rules.Rule.TheVariants as rule
-use Rattle.rgo_code.specs.Checked.{IsChecked, KeptAt, KeptAfterLast, KeptByEnd, KeptByEntry, KeptByHead, KeptByInstr, KeptBySlot, KeptByStruct, KeptByVariable}
+use Rattle.rgo_code.specs.Checked.{IsChecked, KeptAfterLast, KeptByEnd, KeptByEntry, KeptByHead, KeptByInstr, KeptBySlot, KeptByStruct, KeptByVariable}
 use Rattle.rgo_code.specs.ClassRules.{CallsPass, CallPasses, OpAgrees, Passes, StartsPass, StartPasses}
 use Rattle.rgo_code.specs.Code.{Code, CodeFn, CodeInstr, Slot}
 use Rattle.rgo_code.specs.Erasure.{erased, erased_fn, erased_op}
-use Rattle.rgo_code.specs.NameRules.{Ascends, CreatesUsed, FnAscends, HoldsNothing, InstrAscends, ReturnsHoldNothing}
+use Rattle.rgo_code.specs.NameRules.{Ascends, CreatesUsed, FnAscends, InstrAscends, ReturnsHoldNothing}
 use Rattle.rgo_code.specs.TypedCode.{IsTypedCode, IsTypedFn, IsTypedInstr, StartFits}
 use Rattle.rgo_code.specs.Types.{OpFits}
 use Rattle.rgo_code.specs.Exists.{HasMain, HeadExists, InstrExists, StructExists, TypeExists, VariableExists}
@@ -43,7 +40,7 @@ use Rattle.rgo_insert.proofs.Fitting.{call_fits, start_fits}
 use Rattle.rgo_insert.proofs.Members.{has_classes}
 use Rattle.rgo_insert.proofs.Parts.{IsPart, Part, is_part, like_callees, part, right_note}
 use Rattle.rgo_insert.proofs.Removing.{ascends, creates_used, entry_lends_result, entry_removes_dead, lends_result, protects_used, removes_dead}
-use Rattle.rgo_insert.proofs.Told.{Found, instr_found, slot_found}
+use Rattle.rgo_insert.proofs.Told.{instr_found, slot_found}
 
 no_body : (is : List Instr) (notes : List Note) → code_body is notes ≡ [] → is ≡ []
 no_body [] notes e = refl

@@ -1,5 +1,5 @@
 -- Functions with their classes, of which nothing else is said.
-use Rattle.std.specs.Prelude.{◌≡◌, ℕ, List, [], map, length, Some, slice_get}
+use Rattle.std.specs.Prelude.{◌≡◌, ℕ, List, [], length, Some, slice_get}
 use Rattle.rgo_tac.specs.Code.{TacFn}
 use Rattle.rgo_classes.specs.declared.classes.Classes.{Classes}
 use Rattle.rgo_classes.specs.declared.classes.Summary.{Summary}

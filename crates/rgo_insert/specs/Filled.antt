@@ -1,7 +1,7 @@
 -- Notes that say what the rules on creations, passing, protections and removals ask for.
 use Rattle.std.specs.Prelude.{◌≡◌, ℕ, List, [], Some, length, slice_get}
 use Rattle.rgo_tac.specs.declared.regions.Class.{Class}
-use Rattle.rgo_tac.specs.Code.{Op, TacFn, Do, Call, Go, Print, Jump, Branch, Return}
+use Rattle.rgo_tac.specs.Code.{Op, TacFn, Call}
 use Rattle.rgo_tac.specs.Ops.{op_in}
 use Rattle.rgo_code.specs.declared.notes.Note.{Note}
 use Rattle.rgo_code.specs.declared.notes.Regions.{Regions}

@@ -3,7 +3,7 @@ use Rattle.std.specs.Prelude.{◌≡◌, ◌≢◌, ◌<◌, ℕ, Bool, true, fa
 use Rattle.std.specs.HashMap.{HashMap, get}
 use Rattle.rgo_tac.specs.declared.regions.Class.{Class}
 use Rattle.rgo_tac.specs.declared.regions.Class.TheVariants.{NoClass, Name}
-use Rattle.rgo_tac.specs.Code.{Op, Do, Call, Go, Print, Jump, Branch, Return}
+use Rattle.rgo_tac.specs.Code.{Op, Call, Go}
 use Rattle.rgo_code.specs.Code.{CodeFn}
 use Rattle.rgo_code.specs.Names.{class_of, is_name, parameter_classes, region_parameters, result_class}
 

@@ -1,8 +1,8 @@
 //! Functions with their classes, of which nothing else is said yet.
 
 ghost use Rattle.std.specs.Prelude.{◌≡◌, length, slice_get, IfOk};
-ghost use Rattle.rgo_code.specs.Views.{code_fns};
 ghost use Rattle.rgo_classes.specs.Classes.{AreClasses};
+ghost use Rattle.rgo_code.specs.Views.{code_fns};
 ghost use Rattle.rgo_insert.specs.Bare.{AreBare, classes_by};
 
 use rgo_classes::{Summaries, classes_of};

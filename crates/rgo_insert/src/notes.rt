@@ -1,6 +1,6 @@
 //! The notes of instructions.
 
-ghost use Rattle.std.specs.Prelude.{◌≡◌, ◌<◌, ◌^◌, [], IfOk};
+ghost use Rattle.std.specs.Prelude.{◌<◌, ◌^◌, IfOk};
 ghost use Rattle.std.specs.List.Sorted.{IsStrictlyIncreasing};
 ghost use Rattle.rgo_tac.specs.Ops.{operation_of};
 ghost use Rattle.rgo_region_sets.specs.Live.{AreLiveNames};

@@ -1,6 +1,6 @@
 //! What calls and starts pass for the region parameters of their callees.
 
-ghost use Rattle.std.specs.Prelude.{◌≡◌, ◌++◌, ◌∷◌, [], Some, length, get_or, slice_get, IfOk, OnOk};
+ghost use Rattle.std.specs.Prelude.{◌≡◌, Some, length, get_or, slice_get, IfOk, OnOk};
 ghost use Rattle.rgo_tac.specs.declared.regions.Class.TheVariants.{NoClass};
 ghost use Rattle.rgo_tac.specs.Ops.{operation_of};
 ghost use Rattle.rgo_insert.specs.Passing as spec;
@@ -157,9 +157,7 @@ pub(crate) fn passes_of(
         Op::Call { to, function, from } => {
             passed_by_number(alloc, functions, f, function, to, from)
         }
-        Op::Go { function, from } => {
-            passed_by_number(alloc, functions, f, function, None, from)
-        }
+        Op::Go { function, from } => { passed_by_number(alloc, functions, f, function, None, from) }
         _ => Ok(Vec::new(alloc)),
     }
 }

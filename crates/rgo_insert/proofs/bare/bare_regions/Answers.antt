@@ -8,7 +8,7 @@ pub loop-function-preserved : goal.loop-function-preserved
 loop-function-preserved c =
     let functions = c.args.functions.now in
     let here = slice_get_read functions (length functions) c.loop-function.function-index c.function-item.result refl
-        c.loop-function-test.true c.function-item.is in
+    c.loop-function-test.true c.function-item.is in
     rw c.in_ok-push.ensures.items (record {
       len = length_push c.loop-function.regions.items c.in_ok-bare_of.field-0
           ∙ ap (λ n. n + 1) c.loop-function.invariant.len;

@@ -8,7 +8,7 @@ pub returns : goal.returns
 returns c =
     let found = c.in_ok-found.found in
     let all = c.loop-region.invariant
-        ∙ ap (map (passed_by found))
-        (take_all c.loop-region.region-index c.args.regions.now (omega (arith, c.loop-region-test.false))) in
+    ∙ ap (map (passed_by found))
+    (take_all c.loop-region.region-index c.args.regions.now (omega (arith, c.loop-region-test.false))) in
     subst (ArePassed c.args.formals.now c.args.actuals.now c.args.regions.now) (sym all)
     (all_passed found c.args.formals.now c.args.actuals.now c.args.regions.now c.in_ok-found.ensures)
