@@ -6,8 +6,8 @@
 `--table` writes the tables to crates/rgo_code_tests/src/code_texts/, and `--check` fails if those are others. What has to
 be reported comes from tools/code_text.py. Each table is made from texts in tools/code_texts, which keep all rules:
 
-- RULES: a line of `all.code` is replaced, so that a rule is broken. There is a row, or several, for each rule but the
-  fourteenth and each kind of line at which it can be broken.
+- EXISTENCE, TYPES, CLASSES and REGIONS: a line of `all.code` is replaced, so that a rule is broken. There is a row, or
+  several, for each rule but the fourteenth and each kind of line at which it can be broken.
 - FORMS: a line of `all.code` is replaced by one that has no form, or by one that only seems to have none.
 - CUTS: a text ends after one of its lines.
 - BYTES: in each line of a text the last digit is replaced by the next one, 9 by 0. In a line without digits the last byte
@@ -44,6 +44,8 @@ KINDS = {
     12: ["entry", *WITH_EDGE],
     13: ["entry", *WITH_EDGE],
 }
+# The tables of rows that break a rule, with their rules. One table of all rows is more than the prover can take.
+TABLES_OF_RULES = {"EXISTENCE": [1], "TYPES": [2], "CLASSES": [3, 4, 5, 6, 7, 11], "REGIONS": [8, 9, 10, 12, 13]}
 # How many instructions of each word are changed.
 LINES_PER_WORD = 2
 
@@ -137,7 +139,7 @@ def edits_of(line):
 
 
 def rules(lines):
-    """The rows of RULES: the number of a line, what replaces it, the rule that is broken, and its line."""
+    """The rows of all rules: the number of a line, what replaces it, the rule that is broken, and its line."""
     rows, wanted = {}, {(rule, kind) for rule, kinds in KINDS.items() for kind in kinds}
     of_kind = collections.Counter()
     for number, line in enumerate(lines, start=1):
@@ -275,7 +277,7 @@ WITH_FORM = {
 
 
 def forms(lines):
-    """The rows of FORMS, as those of RULES."""
+    """The rows of FORMS, as those of rules."""
     # The last line without its newline, or with more after it.
     last = ["end", "end\nfunc", "end\nfunc more 0 - -\n"]
     rows = [(len(lines), edit, *result_of(text_with(lines, len(lines), edit))) for edit in last]
@@ -360,10 +362,11 @@ def tables():
     every = lines_of("all")
     yield "texts.rt", file_of("Code texts that keep all rules", *map(text_table, ["all", *NAMES]))
     doc = "The number of a line of ALL, what replaces it, the rule that is then broken, and the line that breaks it."
-    found = table(doc, "RULES", "usize, &str, u8, u32", rules(every))
-    yield "rules.rt", file_of("Code texts that break a rule", found)
+    types, rows = "usize, &str, u8, u32", rules(every)
+    found = [table(doc, name, types, [row for row in rows if row[2] in of]) for name, of in TABLES_OF_RULES.items()]
+    yield "rules.rt", file_of("Code texts that break a rule", *found)
     doc = "The same; the rule is 0 if a line has no form, and rule and line are 0 if the text keeps all rules."
-    found = table(doc, "FORMS", "usize, &str, u8, u32", forms(every))
+    found = table(doc, "FORMS", types, forms(every))
     yield "forms.rt", file_of("Code texts of which a line has no form", found)
     doc = "How many lines of {} are left, the rule that is then broken, or 0, and the line."
     found = [table(doc.format(name.upper()), name.upper(), "usize, u8, u32", cuts(lines_of(name))) for name in NAMES]

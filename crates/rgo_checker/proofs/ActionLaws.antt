@@ -1,5 +1,5 @@
 -- The tests on what actions take and return decide the typing rules of actions.
-use Rattle.std.proofs.Common.{◌≡◌, ℕ, suc, ◌+◌, ◌<◌, Bool, true, false, ◌&&◌, not, List, [], ◌∷◌, length, map, Option, Some, None, slice_get, nat_lt, refl, sym, ap, ◌∙◌, subst, arith}
+use Rattle.std.proofs.Common.{◌≡◌, ℕ, suc, Bool, true, false, ◌&&◌, not, List, [], ◌∷◌, length, map, Some, slice_get, nat_lt, refl, sym, ap, ◌∙◌, subst, arith}
 use Rattle.std.proofs.lemmas.Bool.{false≢true}
 use Rattle.std.proofs.lemmas.Bool.Decides.{Decides-and, Decides-like}
 use Rattle.std.specs.Bool.{Decides}
@@ -15,7 +15,7 @@ use Rattle.rgo_wellformed.specs.TypeRules.{Compares, Computes, Takes, HasField, 
 use Rattle.rgo_tac.specs.Code.{Tac}
 use Rattle.rgo_code.specs.Exists.{declared_by}
 use Rattle.rgo_code.specs.Types.{ReturnsType}
-use Rattle.rgo_checker.specs.TypeTests.{same_type, is_int, is_bool, is_chan, is_plain, is_around, is_variable, is_field, is_new, compares, orders, counts, computes, returns, takes}
+use Rattle.rgo_checker.specs.TypeTests.{same_type, is_int, is_bool, is_chan, is_plain, is_around, is_variable, is_field, is_new, compares, computes, returns, takes}
 use Rattle.rgo_checker.proofs.Deciding.{always, never, decides_less}
 use Rattle.rgo_checker.proofs.TypeLaws.{same_type_decided, is_plain_decided, is_int_decided, is_bool_decided, is_slice_decided, is_chan_decided, is_around_decided, is_field_decided, is_variable_decided}
 

@@ -1,20 +1,18 @@
 -- The tests on classes decide the rules on them.
-use Rattle.std.proofs.Common.{◌≡◌, ◌≢◌, ◌↔◌, ℕ, Bool, true, false, ◌&&◌, ◌||◌, not, List, [], ◌∷◌, Option, Some, None, refl, sym, ap, ◌∙◌, subst, if◌then◌else◌}
+use Rattle.std.proofs.Common.{◌≡◌, ◌≢◌, ◌↔◌, Bool, true, false, not, Option, Some, None, refl, ap, if◌then◌else◌}
 use Rattle.std.proofs.lemmas.Bool.{false≢true}
-use Rattle.std.proofs.lemmas.Bool.Decides.{Decides-at}
 use Rattle.std.specs.Bool.{Decides}
-use Rattle.rgo_typed.specs.declared.types.Type.{«Type»}
 use Rattle.rgo_typed.specs.Types.{is_pointer_like}
 use Rattle.rgo_tac.specs.declared.regions.Class.{Class}
 use Rattle.rgo_tac.specs.declared.regions.Class.TheVariants.{NoClass, Global, Name}
 use Rattle.rgo_tac.specs.declared.regions.Member.{Member}
 use Rattle.rgo_tac.specs.Joins.{joins}
 use Rattle.rgo_code.specs.Code.{Slot, CodeOp, CodeFn, Do, Call, Go, Print, Jump, Branch, Return}
-use Rattle.rgo_code.specs.ClassRules.{SlotFits, ResultFits, is_of_package, Agree, OpAgrees, JoinsAgree, GlobalsAgree, ReturnsAgree}
+use Rattle.rgo_code.specs.ClassRules.{SlotFits, is_of_package, Agree, JoinsAgree, GlobalsAgree, ReturnsAgree}
 use Rattle.rgo_code.specs.Erasure.{erased_op, erased_fn}
 use Rattle.rgo_code.specs.Names.{member_class}
 use Rattle.rgo_checker.specs.ClassTests.{same_class, has_class, class_fits, agree, op_agrees, joins_agree, globals_agree, return_agrees}
-use Rattle.rgo_checker.proofs.Deciding.{always, never, from_true, unless, only_if, decides_same}
+use Rattle.rgo_checker.proofs.Deciding.{always, never, unless, only_if, decides_same}
 
 pub same_class_decided : (a b : Class) → Decides (same_class a b) (a ≡ b)
 same_class_decided NoClass NoClass = always refl

@@ -1,7 +1,7 @@
 -- The tests on existence decide the first rule.
-use Rattle.std.proofs.Common.{◌≡◌, ◌≢◌, ◌⊎◌, inl, inr, ℕ, zero, suc, ◌+◌, ◌<◌, ◌≤◌, Bool, true, false, ◌&&◌, ◌||◌, not, List, [], ◌∷◌, length, map, Option, Some, None, is_some, slice_get, nat_lt, nat_le, nat_eq, refl, sym, ap, ◌∙◌, subst, Contains, arith}
+use Rattle.std.proofs.Common.{◌≡◌, inl, inr, ℕ, suc, ◌+◌, ◌<◌, ◌≤◌, Bool, true, false, ◌&&◌, ◌||◌, not, List, [], ◌∷◌, length, map, Option, Some, None, is_some, slice_get, nat_lt, nat_le, nat_eq, refl, sym, ap, ◌∙◌, subst, Contains, arith}
 use Rattle.std.proofs.lemmas.Bool.{false≢true}
-use Rattle.std.proofs.lemmas.Bool.Decides.{Decides-and, Decides-or, Decides-not, Decides-like}
+use Rattle.std.proofs.lemmas.Bool.Decides.{Decides-and, Decides-like}
 use Rattle.std.proofs.lemmas.Option.{same_Some, none-some}
 use Rattle.std.specs.Bool.{Decides}
 use Rattle.rgo_typed.specs.declared.actions.Action.{Action}
@@ -14,11 +14,10 @@ use Rattle.rgo_wellformed.specs.TypeRules.{IsBase, pointer_to}
 use Rattle.rgo_tac.specs.Code.{Op, TacFn, Tac, Do, Call, Go, Print, Jump, Branch, Return}
 use Rattle.rgo_tac.specs.Flow.{reads, writes}
 use Rattle.rgo_code.specs.Exists.{declared_by, TypeExists, Uses, ActionExists, HasField, FieldExists, CallExists, StartExists, OpExists, leaves, InstrExists}
-use Rattle.rgo_checker.specs.TypeTests.{pointed}
-use Rattle.rgo_checker.specs.Tests.{base_exists, type_exists, types_exist, result_exists, head_exists, action_exists, has_fields, struct_has_field, pointed_by, variable_has_field, field_exists, both_or_neither, call_exists, start_exists, act_exists, op_exists, are_below, is_below, variables_exist, ends_right, instr_exists}
+use Rattle.rgo_checker.specs.Tests.{base_exists, type_exists, types_exist, result_exists, head_exists, action_exists, has_fields, struct_has_field, pointed_by, variable_has_field, field_exists, both_or_neither, call_exists, start_exists, op_exists, are_below, is_below, variables_exist, ends_right, instr_exists}
 use Rattle.rgo_checker.proofs.Deciding.{always, never, decides_less, decides_at_most, decides_same}
 use Rattle.rgo_checker.proofs.Listing.{all_decided, all_at_decided}
-use Rattle.rgo_checker.proofs.TypeLaws.{pointed_some, pointed_is}
+use Rattle.rgo_checker.proofs.TypeLaws.{pointed_some}
 
 -- ---- types
 

@@ -1,7 +1,7 @@
 -- The lines of the first walk, one by one.
-use Rattle.std.proofs.Common.{◌≡◌, ◌≢◌, ℕ, zero, suc, ◌+◌, ◌<◌, ◌≤◌, Bool, true, false, ◌&&◌, ◌||◌, not, List, [], ◌∷◌, length, map, take, Option, Some, None, is_some, slice_get, nat_eq, nat_lt, bytes_eq, codes, refl, sym, ap, ◌∙◌, subst, arith, Contains}
+use Rattle.std.proofs.Common.{◌≡◌, ◌≢◌, ℕ, zero, suc, ◌<◌, ◌≤◌, Bool, true, false, ◌&&◌, ◌||◌, not, List, [], ◌∷◌, length, map, take, Option, Some, None, is_some, slice_get, nat_eq, nat_lt, bytes_eq, codes, refl, sym, ap, ◌∙◌, subst, arith, Contains}
 use Rattle.std.proofs.lemmas.Bool.{false≢true}
-use Rattle.std.proofs.lemmas.Bool.Decides.{Decides-and, Decides-or, Decides-like}
+use Rattle.std.proofs.lemmas.Bool.Decides.{Decides-and, Decides-like}
 use Rattle.std.proofs.lemmas.Option.{same_Some, none-some, slice_get-map}
 use Rattle.std.proofs.lemmas.Slice.Eq.{bytes_eq-Decides}
 use Rattle.std.specs.Bool.{Decides}
@@ -10,14 +10,14 @@ use Rattle.std.specs.Option.{option_map}
 use Rattle.rgo_typed.specs.declared.programs.Struct.{Struct}
 use Rattle.rgo_typed.specs.declared.programs.Variable.{Variable}
 use Rattle.rgo_typed.specs.declared.types.Type.{«Type»}
-use Rattle.rgo_tac.specs.Code.{TacFn, Tac}
+use Rattle.rgo_tac.specs.Code.{TacFn}
 use Rattle.rgo_tac.specs.Ops.{op_in}
 use Rattle.rgo_code.specs.declared.rules.Line.{Line}
 use Rattle.rgo_code.specs.declared.rules.Line.TheVariants.{Struct as StructLine, Variable as VariableLine, Function as FunctionLine, Slot as SlotLine, Entry as EntryLine, Instr as InstrLine, End as EndLine, AfterLast}
 use Rattle.rgo_code.specs.declared.rules.Rule.{Rule}
 use Rattle.rgo_code.specs.declared.rules.Rule.TheVariants as rule
 use Rattle.rgo_code.specs.Checked.{rule_number}
-use Rattle.rgo_code.specs.Code.{Slot, CodeInstr, CodeFn, Code}
+use Rattle.rgo_code.specs.Code.{Slot, CodeFn, Code}
 use Rattle.rgo_code.specs.Erasure.{erased_instr, erased_fn, erased}
 use Rattle.rgo_code.specs.Exists.{TypeExists, HasMain}
 use Rattle.rgo_checker.specs.declared.scan.Scan.{Scan}

@@ -1,5 +1,5 @@
 -- The rules at an instruction, by what the checker computes.
-use Rattle.std.proofs.Common.{◌≡◌, ℕ, Bool, true, List, Some, slice_get, refl, sym, ap, ◌∙◌, subst}
+use Rattle.std.proofs.Common.{◌≡◌, ℕ, Bool, true, List, Some, slice_get, sym, ap, ◌∙◌, subst}
 use Rattle.std.specs.Bool.{Decides}
 use Rattle.rgo_tac.specs.declared.regions.Class.{Class}
 use Rattle.rgo_tac.specs.Code.{Op}
@@ -7,7 +7,7 @@ use Rattle.rgo_tac.specs.Ops.{op_in}
 use Rattle.rgo_code.specs.declared.rules.Rule.TheVariants as rule
 use Rattle.rgo_code.specs.Code.{CodeFn, Code}
 use Rattle.rgo_code.specs.Erasure.{erased_op, erased_fn, erased}
-use Rattle.rgo_code.specs.Lists.{creates_in, passes_in, removes_in, otherwise_in, passes_of, removes_of, otherwise_of}
+use Rattle.rgo_code.specs.Lists.{creates_in, passes_in, removes_in, otherwise_in}
 use Rattle.rgo_code.specs.Names.{result_class}
 use Rattle.rgo_checker.specs.ClassTests.{joins_agree, globals_agree, return_agrees, CallPassesBy, StartPassesBy, lends, ends_empty}
 use Rattle.rgo_checker.specs.Instrs.{InstrKept}

@@ -1,5 +1,5 @@
 -- The tests on the region of the result, and on returns, decide their rules.
-use Rattle.std.proofs.Common.{◌≡◌, ℕ, zero, suc, ◌+◌, ◌<◌, Bool, true, false, ◌&&◌, not, List, [], ◌∷◌, Option, Some, None, slice_get, map, nat_eq, option_to_list, refl, sym, ap, ◌∙◌, subst, Contains, ◌⊎◌, inl, inr}
+use Rattle.std.proofs.Common.{◌≡◌, ℕ, zero, suc, ◌+◌, Bool, true, false, ◌&&◌, not, List, [], ◌∷◌, Option, Some, None, slice_get, nat_eq, option_to_list, refl, sym, ap, ◌∙◌, subst, Contains, ◌⊎◌, inl, inr}
 use Rattle.std.proofs.lemmas.Bool.{false≢true}
 use Rattle.std.proofs.lemmas.Bool.Decides.{Decides-and, Decides-not, Decides-like}
 use Rattle.std.proofs.lemmas.Option.{same_Some, none-some, slice_get-map}
@@ -8,13 +8,11 @@ use Rattle.std.specs.List.{list_any}
 use Rattle.std.specs.Option.{option_map}
 use Rattle.rgo_tac.specs.declared.regions.Class.{Class}
 use Rattle.rgo_tac.specs.declared.regions.Class.TheVariants.{NoClass, Global, Name}
-use Rattle.rgo_tac.specs.Code.{Instr}
-use Rattle.rgo_tac.specs.Code as tac
-use Rattle.rgo_flow.specs.Live.{read_by, led_to_by, Live, IsReadAfter}
+use Rattle.rgo_flow.specs.Live.{read_by, led_to_by, Live}
 use Rattle.rgo_code.specs.Code.{CodeFn, CodeOp, CodeInstr, Do, Call, Go, Print, Jump, Branch, Return}
 use Rattle.rgo_code.specs.Erasure.{erased_op, erased_instr, erased_fn}
 use Rattle.rgo_code.specs.Lists.{removes_of, otherwise_of}
-use Rattle.rgo_code.specs.Names.{result_class, class_of, edges, Holds, IsOwn, IsLiveName}
+use Rattle.rgo_code.specs.Names.{result_class, class_of, edges, Holds}
 use Rattle.rgo_code.specs.NameRules.{LendsResult, EntryLendsResult, ReturnsHoldNothing}
 use Rattle.rgo_checker.specs.ClassTests.{same_class, is_free, lends, is_empty, is_lent, value_is_lent, ends_empty}
 use Rattle.rgo_checker.proofs.ClassLaws.{same_class_decided}

@@ -1,13 +1,12 @@
 -- A rule at a line, by what it says of what is there.
-use Rattle.std.proofs.Common.{◌≡◌, ◌≢◌, ◌↔◌, ℕ, suc, ◌+◌, ◌<◌, ◌≤◌, Bool, true, false, not, ◌&&◌, List, length, Option, Some, None, slice_get, nat_lt, nat_eq, if◌then◌else◌, refl, sym, ap, ◌∙◌, subst, arith, ◌⊎◌, inl, inr}
-use Rattle.std.proofs.lemmas.Bool.{false≢true, cases_lt}
+use Rattle.std.proofs.Common.{◌≡◌, ◌≢◌, ℕ, ◌<◌, ◌≤◌, Bool, true, false, not, ◌&&◌, Option, Some, None, slice_get, nat_lt, nat_eq, if◌then◌else◌, refl, sym, ap, ◌∙◌, subst, arith}
+use Rattle.std.proofs.lemmas.Bool.{false≢true}
 use Rattle.std.proofs.lemmas.Option.{same_Some}
 use Rattle.std.specs.Bool.{Decides}
 use Rattle.rgo_typed.specs.declared.programs.Struct.{Struct}
 use Rattle.rgo_typed.specs.declared.programs.Variable.{Variable}
 use Rattle.rgo_code.specs.declared.rules.Line.TheVariants.{Struct as StructLine, Variable as VariableLine, Function as FunctionLine, Slot as SlotLine, Entry as EntryLine, Instr as InstrLine, End as EndLine}
 use Rattle.rgo_code.specs.declared.rules.Rule.{Rule}
-use Rattle.rgo_code.specs.declared.rules.Rule.TheVariants as rule
 use Rattle.rgo_code.specs.Checked.{KeptByStruct, KeptByVariable, KeptByHead, KeptBySlot, KeptByEntry, KeptByInstr, KeptByEnd, rule_number}
 use Rattle.rgo_code.specs.Code.{Slot, CodeInstr, CodeFn, Code}
 use Rattle.rgo_checker.specs.Instrs.{InstrKept, EntryKept, LeastBroken}

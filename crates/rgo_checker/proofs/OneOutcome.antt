@@ -3,7 +3,7 @@ use Rattle.std.proofs.Common.{◌≡◌, ℕ, ◌<◌, ◌≤◌, refl, sym, ap,
 use Rattle.std.proofs.lemmas.Bool.{cases_lt}
 use Rattle.rgo_code.specs.declared.rules.Rule.{Rule}
 use Rattle.rgo_code.specs.declared.rules.Rule.TheVariants as rule
-use Rattle.rgo_code.specs.Checked.{KeptAt, IsFirstBroken, rule_number}
+use Rattle.rgo_code.specs.Checked.{IsFirstBroken, rule_number}
 use Rattle.rgo_code.specs.Code.{Code}
 use Rattle.rgo_checker.specs.Outcomes.{OneOutcome}
 

@@ -1,21 +1,18 @@
 -- The tests on the types of an instruction's variables decide the second rule.
-use Rattle.std.proofs.Common.{◌≡◌, ℕ, Bool, true, false, ◌&&◌, not, List, [], ◌∷◌, map, take, Option, Some, None, is_some, slice_get, refl, sym, ap, ◌∙◌, subst, Contains}
+use Rattle.std.proofs.Common.{◌≡◌, ℕ, Bool, true, false, not, List, [], ◌∷◌, map, take, Option, Some, None, is_some, slice_get, refl, sym, ap, ◌∙◌, subst}
 use Rattle.std.proofs.lemmas.Bool.{false≢true}
 use Rattle.std.proofs.lemmas.Bool.Decides.{Decides-and, Decides-like}
 use Rattle.std.proofs.lemmas.Option.{same_Some, none-some}
 use Rattle.std.specs.Bool.{Decides}
-use Rattle.std.specs.Cmp.Lexicographic.{pointwise}
-use Rattle.std.specs.List.{list_all}
-use Rattle.std.specs.Option.{option_map}
 use Rattle.rgo_typed.specs.declared.actions.Action.{Action}
 use Rattle.rgo_typed.specs.declared.types.Type.{«Type»}
 use Rattle.rgo_typed.specs.Types.{is_pointer_like}
 use Rattle.rgo_wellformed.specs.TypeRules.{bool}
 use Rattle.rgo_wellformed.specs.WellFormed.{IsPrinted}
 use Rattle.rgo_tac.specs.Code.{Op, TacFn, Tac, Do, Call, Go, Print, Jump, Branch, Return}
-use Rattle.rgo_code.specs.Types.{HasType, HaveTypes, DoFits, ArgumentsFit, TargetFits, OpFits}
+use Rattle.rgo_code.specs.Types.{HasType, DoFits, ArgumentsFit, TargetFits, OpFits}
 use Rattle.rgo_checker.specs.TypeTests.{is_type, is_bool}
-use Rattle.rgo_checker.specs.Tests.{with_first, types_at, returns_to, acts_on, acts_on_found, have_types, arguments_fit, has_type, target_has, target_fits, is_printed, are_printed, is_test, has_result, return_fits, op_fits}
+use Rattle.rgo_checker.specs.Tests.{with_first, types_at, returns_to, acts_on, acts_on_found, have_types, arguments_fit, target_has, target_fits, is_printed, is_test, has_result, return_fits, op_fits}
 use Rattle.rgo_checker.proofs.ActionLaws.{returns_decided, takes_decided}
 use Rattle.rgo_checker.proofs.Deciding.{always, never}
 use Rattle.rgo_checker.proofs.Listing.{all_decided}

@@ -1,16 +1,15 @@
 -- What the two walks find out.
-use Rattle.std.proofs.Common.{◌≡◌, ℕ, ◌+◌, ◌<◌, ◌≤◌, List, [], ◌∷◌, ◌++◌, length, Option, Some, None, slice_get, ap, sym, ◌∙◌, subst, refl, arith, ◌⊎◌, inl, inr, length-append, append_assoc, MatchOption}
+use Rattle.std.proofs.Common.{◌≡◌, ℕ, ◌+◌, ◌<◌, ◌≤◌, List, [], ◌∷◌, ◌++◌, length, None, sym, ◌∙◌, subst, refl, arith, ◌⊎◌, inl, inr, length-append, append_assoc, MatchOption}
 use Rattle.std.proofs.lemmas.Bool.{cases_lt}
 use Rattle.std.proofs.lemmas.Option.{none-some}
 use Rattle.rgo_code.specs.declared.rules.Line.{Line}
 use Rattle.rgo_code.specs.declared.rules.Line.TheVariants.{Struct as StructLine, Variable as VariableLine, AfterLast}
 use Rattle.rgo_code.specs.declared.rules.Rule.{Rule}
 use Rattle.rgo_code.specs.declared.rules.Rule.TheVariants as rule
-use Rattle.rgo_code.specs.Checked.{KeptAt, Keeps, IsChecked, IsFirstBroken, rule_number}
+use Rattle.rgo_code.specs.Checked.{Keeps, IsChecked, IsFirstBroken, rule_number}
 use Rattle.rgo_code.specs.Code.{Code}
 use Rattle.rgo_checker.specs.declared.scan.Scan.{Scan}
 use Rattle.rgo_checker.specs.Lines.{struct_lines, variable_lines, functions_lines, lines_of}
-use Rattle.rgo_checker.specs.Outcomes.{OneOutcome}
 use Rattle.rgo_checker.specs.Scan.{IsKept, Scanned, Walks, passed}
 use Rattle.rgo_checker.proofs.Getting.{IsIn, get_split, first_inv}
 use Rattle.rgo_checker.proofs.Reaching.{structs_long, variables_long}

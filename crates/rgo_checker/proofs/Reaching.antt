@@ -1,5 +1,5 @@
 -- The lines of a code text, by their places and numbers.
-use Rattle.std.proofs.Common.{◌≡◌, ℕ, zero, suc, ◌+◌, ◌<◌, List, [], ◌∷◌, ◌++◌, length, Some, slice_get, ap, sym, ◌∙◌, subst, refl, arith, inl, inr}
+use Rattle.std.proofs.Common.{◌≡◌, ℕ, suc, ◌+◌, ◌<◌, List, [], ◌∷◌, ◌++◌, length, Some, slice_get, ap, ◌∙◌, subst, refl, arith, inl, inr}
 use Rattle.std.proofs.lemmas.Option.{slice_get_within}
 use Rattle.rgo_typed.specs.declared.programs.Struct.{Struct}
 use Rattle.rgo_typed.specs.declared.programs.Variable.{Variable}

@@ -1,9 +1,9 @@
 -- The lists that the rules on creations, protections and removals ask for decide these rules.
-use Rattle.std.proofs.Common.{◌≡◌, ◌↔◌, ℕ, zero, suc, ◌+◌, ◌<◌, ◌≤◌, Bool, true, false, ◌&&◌, ◌||◌, List, [], ◌∷◌, ◌++◌, length, min, Option, Some, None, slice_get, bytes_eq, nat_eq, refl, sym, ap, ◌∙◌, subst, arith, ◌⊎◌, inl, inr, Contains}
+use Rattle.std.proofs.Common.{◌≡◌, ◌↔◌, ℕ, zero, suc, ◌+◌, ◌<◌, ◌≤◌, Bool, true, false, ◌&&◌, ◌||◌, List, [], ◌∷◌, ◌++◌, length, Option, Some, None, slice_get, bytes_eq, nat_eq, refl, sym, ap, ◌∙◌, subst, arith, ◌⊎◌, inl, inr, Contains}
 use Rattle.std.proofs.lemmas.Bool.{false≢true}
 use Rattle.std.proofs.lemmas.Bool.Decides.{Decides-and, Decides-like}
 use Rattle.std.proofs.lemmas.List.Elements.{Contains-append_left, Contains-push, Contains-push_cases}
-use Rattle.std.proofs.lemmas.Option.{same_Some, none-some, slice_get-map}
+use Rattle.std.proofs.lemmas.Option.{slice_get-map}
 use Rattle.std.proofs.lemmas.Slice.Eq.{bytes_eq-Decides}
 use Rattle.std.specs.Bool.{Decides}
 use Rattle.std.specs.HashSet.{HashSet, contains}
@@ -28,7 +28,7 @@ use Rattle.rgo_region_sets.specs.Used.{UsesName}
 use Rattle.rgo_region_sets.proofs.SameLists.{same_list}
 use Rattle.rgo_checker.specs.Instrs.{InstrKept, EntryKept}
 use Rattle.rgo_checker.specs.Regions.{has_name, is_call, GivenBy}
-use Rattle.rgo_checker.proofs.Deciding.{always, never, kept_at, decides_same}
+use Rattle.rgo_checker.proofs.Deciding.{never, kept_at, decides_same}
 use Rattle.rgo_checker.proofs.LendingLaws.{from_ways}
 use Rattle.rgo_checker.proofs.Listing.{contains_none, contains_here, contains_there, contains_cases, all_decided}
 
@@ -75,7 +75,7 @@ module _ (code : Code) (f : CodeFn) (i : ℕ) (o : Op) (b : Bool)
       → b ≡ bytes_eq names wanted → Decides b (InstrKept code f i rule.Creations)
   creates_kept names wanted n set e = kept_at code f i rule.Creations o b here (λ instr there q.
       subst (λ x. Decides b
-          ((k : ℕ) → Contains instr.creates k ↔ (IsOwn f k × UsesName f x k × (Holds f k i → ⊥)))) there
+      ((k : ℕ) → Contains instr.creates k ↔ (IsOwn f k × UsesName f x k × (Holds f k i → ⊥)))) there
       (set_decided instr.creates wanted (Creates f i) b (up.body i instr there).creates set
       (e ∙ ap (λ ns. bytes_eq ns wanted) (n ∙ ap creates_in there))))
 
@@ -193,9 +193,11 @@ module _ (code : Code) (f : CodeFn) (i : ℕ) (instr : CodeInstr) (there : slice
   from_each (Go n from passes removes) h = (at_first (i + 1) removes [] h, refl)
   from_each (Print pieces from removes) h = (at_first (i + 1) removes [] h, refl)
   from_each (Jump target removes) h = (at_first target removes [] h, refl)
-  from_each (Branch test target removes other otherwise) h =
-      (at_first target removes ((other, otherwise) ∷ []) h, at_first other otherwise []
-      (λ j rs c. h j rs (contains_there {X = ℕ × List ℕ} (target, removes) ((other, otherwise) ∷ []) (j, rs) c)))
+  from_each (Branch test target removes other otherwise) h = (
+    at_first target removes ((other, otherwise) ∷ []) h,
+    at_first other otherwise []
+        (λ j rs c. h j rs (contains_there {X = ℕ × List ℕ} (target, removes) ((other, otherwise) ∷ []) (j, rs) c)),
+  )
   from_each (Return value) h = (refl, refl)
 
   ways_dead : (b : Bool) → Decides b (Ways instr.op) → Decides b (RemovesDead code f i instr)

@@ -1,18 +1,17 @@
 -- Walks over lines, one after the other, and what is known at their end.
-use Rattle.std.proofs.Common.{◌≡◌, ℕ, ◌+◌, ◌<◌, ◌≤◌, List, [], ◌∷◌, ◌++◌, length, Option, Some, None, slice_get, ap, sym, ◌∙◌, subst, refl, arith, ◌⊎◌, inl, inr, length-append, append_assoc, MatchOption}
+use Rattle.std.proofs.Common.{◌≡◌, ℕ, ◌+◌, ◌<◌, ◌≤◌, List, [], ◌∷◌, ◌++◌, length, Option, Some, None, slice_get, sym, ◌∙◌, subst, refl, arith, ◌⊎◌, inl, inr, length-append, append_assoc, MatchOption}
 use Rattle.std.proofs.lemmas.Bool.{cases_lt}
 use Rattle.std.proofs.lemmas.List.{append-nil}
-use Rattle.std.proofs.lemmas.Option.{slice_get_within, none-some}
+use Rattle.std.proofs.lemmas.Option.{slice_get_within}
 use Rattle.rgo_code.specs.declared.rules.CodeRefusal.{CodeRefusal}
 use Rattle.rgo_code.specs.declared.rules.Line.{Line}
 use Rattle.rgo_code.specs.declared.rules.Rule.{Rule}
-use Rattle.rgo_code.specs.Checked.{KeptAt, Keeps, IsFirstBroken, rule_number}
+use Rattle.rgo_code.specs.Checked.{Keeps, IsFirstBroken, rule_number}
 use Rattle.rgo_code.specs.Code.{Code}
-use Rattle.rgo_code.specs.Lines.{line_number}
 use Rattle.rgo_checker.specs.declared.scan.Scan.{Scan}
 use Rattle.rgo_checker.specs.Instrs.{LeastBroken}
 use Rattle.rgo_checker.specs.Lines.{lines_of}
-use Rattle.rgo_checker.specs.Scan.{IsKept, AreKept, BreaksFirst, IsBroken, BrokenIs, Scanned, Walks, passed}
+use Rattle.rgo_checker.specs.Scan.{IsKept, BreaksFirst, IsBroken, BrokenIs, Scanned, Walks, passed}
 use Rattle.rgo_checker.proofs.Getting.{IsIn, get_left, get_right, get_split, get_one}
 use Rattle.rgo_checker.proofs.Reaching.{reach, number_at}
 

@@ -1,5 +1,5 @@
 -- The tests on types decide the equations that the rules state.
-use Rattle.std.proofs.Common.{◌≡◌, ℕ, ◌<◌, Bool, true, false, ◌&&◌, not, List, [], ◌∷◌, length, map, Option, Some, None, slice_get, refl, sym, ap, ◌∙◌, subst}
+use Rattle.std.proofs.Common.{◌≡◌, ℕ, List, [], ◌∷◌, Option, Some, None, slice_get, refl, sym, ap, ◌∙◌, subst}
 use Rattle.std.proofs.lemmas.Bool.Decides.{Decides-and, Decides-like}
 use Rattle.std.proofs.lemmas.Option.{same_Some, none-some, slice_get-map}
 use Rattle.std.proofs.lemmas.Slice.Eq.{slice_eq-Decides}
@@ -12,10 +12,10 @@ use Rattle.rgo_typed.specs.declared.types.Base.TheVariants as base
 use Rattle.rgo_typed.specs.declared.types.Layer.{Layer}
 use Rattle.rgo_typed.specs.declared.types.Layer.TheVariants.{Slice, Chan}
 use Rattle.rgo_typed.specs.declared.types.Type.{«Type»}
-use Rattle.rgo_wellformed.specs.TypeRules.{Declared, HasField, int, bool, pointer_to, slice_of, chan_of, is_slice_in, is_slice}
+use Rattle.rgo_wellformed.specs.TypeRules.{HasField, int, bool, pointer_to, slice_of, chan_of, is_slice_in, is_slice}
 use Rattle.rgo_tac.specs.Code.{Tac}
 use Rattle.rgo_code.specs.Exists.{declared_by}
-use Rattle.rgo_checker.specs.TypeTests.{same_base, same_layer, same_layers, same_type, is_bare, is_plain, is_int, is_bool, is_chan_in, is_chan, are_around, is_around, pointed_base, pointed_in, pointed, is_type, is_field_of, is_field_in, is_field, is_variable}
+use Rattle.rgo_checker.specs.TypeTests.{same_base, same_layer, same_layers, same_type, is_bare, is_plain, is_int, is_bool, is_chan_in, is_chan, are_around, is_around, pointed_in, pointed, is_type, is_field_of, is_field_in, is_field, is_variable}
 use Rattle.rgo_checker.proofs.Deciding.{always, never, decides_same}
 
 same_base_decided : (a b : Base) → Decides (same_base a b) (a ≡ b)

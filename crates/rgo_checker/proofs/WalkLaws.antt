@@ -1,5 +1,5 @@
 -- The lines of the second walk, one by one.
-use Rattle.std.proofs.Common.{◌≡◌, ◌≢◌, ℕ, zero, suc, ◌+◌, ◌<◌, ◌≤◌, Bool, List, [], ◌∷◌, ◌++◌, length, map, take, Option, Some, None, slice_get, get_or, refl, sym, ap, ◌∙◌, subst, arith, append_assoc}
+use Rattle.std.proofs.Common.{◌≡◌, ◌≢◌, ℕ, zero, suc, ◌+◌, ◌≤◌, Bool, List, [], ◌∷◌, ◌++◌, take, Option, Some, None, slice_get, refl, sym, ap, ◌∙◌, subst, arith, append_assoc}
 use Rattle.std.proofs.lemmas.List.{append-nil}
 use Rattle.std.proofs.lemmas.Option.{same_Some, none-some, slice_get-map}
 use Rattle.std.specs.Bool.{Decides}
@@ -25,7 +25,7 @@ use Rattle.rgo_checker.proofs.ClassLaws.{class_fits_decided}
 use Rattle.rgo_checker.proofs.Deciding.{always}
 use Rattle.rgo_checker.proofs.Getting.{first_more}
 use Rattle.rgo_checker.proofs.LineKept.{at_head, at_slot, least_of_one, least_at_instr, least_at_entry}
-use Rattle.rgo_checker.proofs.Scanning.{walks_none, walks_then, walks_line}
+use Rattle.rgo_checker.proofs.Scanning.{walks_then, walks_line}
 
 -- ---- loops over lines of one kind
 

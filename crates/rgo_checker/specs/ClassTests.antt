@@ -2,18 +2,17 @@
 use Rattle.std.specs.Prelude.{◌≡◌, ◌<◌, ℕ, Bool, true, false, ◌&&◌, ◌||◌, not, List, [], ◌∷◌, Option, Some, None, slice_get, nat_eq, if◌then◌else◌, ⊤}
 use Rattle.std.specs.HashMap.{HashMap, get}
 use Rattle.std.specs.List.{list_any}
-use Rattle.rgo_typed.specs.declared.actions.Action.{Action}
 use Rattle.rgo_typed.specs.declared.types.Type.{«Type»}
 use Rattle.rgo_typed.specs.Types.{is_pointer_like}
 use Rattle.rgo_tac.specs.declared.regions.Class.{Class}
 use Rattle.rgo_tac.specs.declared.regions.Class.TheVariants.{NoClass, Global, Name}
 use Rattle.rgo_tac.specs.declared.regions.Member.{Member}
-use Rattle.rgo_tac.specs.Code.{Op, Do, Call, Go, Print, Jump, Branch, Return}
+use Rattle.rgo_tac.specs.Code.{Op, Do, Call, Go, Return}
 use Rattle.rgo_tac.specs.Joins.{joins}
-use Rattle.rgo_code.specs.Code.{Slot, CodeFn, Code}
+use Rattle.rgo_code.specs.Code.{CodeFn, Code}
 use Rattle.rgo_code.specs.ClassRules.{is_of_package, IsPassedFor, CallPasses, StartPasses}
 use Rattle.rgo_code.specs.Erasure.{erased_fn}
-use Rattle.rgo_code.specs.Names.{class_of, result_class, member_class, region_parameters}
+use Rattle.rgo_code.specs.Names.{class_of, result_class, member_class}
 use Rattle.rgo_checker.specs.declared.passing.Called.{Called}
 
 abbrev pub same_class : Class → Class → Bool

@@ -1,9 +1,9 @@
 -- What the checker computes for the rules on creations, protections and removals.
-use Rattle.std.specs.Prelude.{◌≡◌, ℕ, Bool, true, false, List, [], Option, Some, None, Contains, slice_get, nat_eq}
+use Rattle.std.specs.Prelude.{ℕ, Bool, true, false, List, Option, Some, None, slice_get, nat_eq}
 use Rattle.rgo_tac.specs.declared.regions.Class.{Class}
-use Rattle.rgo_tac.specs.declared.regions.Class.TheVariants.{NoClass, Global, Name}
-use Rattle.rgo_tac.specs.Code.{Op, Do, Call, Go, Print, Jump, Branch, Return}
-use Rattle.rgo_code.specs.Code.{CodeFn, Code}
+use Rattle.rgo_tac.specs.declared.regions.Class.TheVariants.{Name}
+use Rattle.rgo_tac.specs.Code.{Op, Call}
+use Rattle.rgo_code.specs.Code.{Code}
 use Rattle.rgo_region_sets.specs.Asked.{IsGiven}
 
 abbrev pub has_name : Class → ℕ → Bool

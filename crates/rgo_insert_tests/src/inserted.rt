@@ -1,25 +1,16 @@
 //! The regions of programs.
 
 use crate::texts::{codes, programs};
-use rgo_code_text::print_code;
-use rgo_insert::insert;
-use rgo_lowering_laws::lowered_is_typed;
-use rgo_run::{compile, programs_are_well_formed};
-use rgo_summaries::summaries;
+use rgo_code_printing::print_code;
+use rgo_run::compile;
 use std::alloc::Global;
 use std::process::Abort;
 use std::test::Fail;
 
 /// The code text of a program.
 fn code_text(alloc: Global, text: &str) -> Result<Vec<u8>, Fail> {
-    programs_are_well_formed();
-    lowered_is_typed();
     match compile(alloc, text.as_bytes()) {
-        Ok(code) => {
-            let family = summaries(alloc, &code)?;
-            let inserted = insert(alloc, &code, &family)?;
-            Ok(print_code(alloc, &inserted)?)
-        }
+        Ok(code) => Ok(print_code(alloc, code.code())?),
         Err(_) => Err(Fail::from("no program")),
     }
 }

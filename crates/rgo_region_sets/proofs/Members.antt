@@ -1,5 +1,5 @@
 -- Lists of names that are made from lists of classes and of spans.
-use Rattle.std.proofs.Common.{◌≡◌, ◌⊎◌, ⊎_elim, inl, inr, ◌<◌, ◌≤◌, ◌+◌, min, ℕ, zero, suc, Bool, true, false, Decides, List, [], ◌∷◌, ◌++◌, Option, Some, None, length, take, get_or, slice_get, refl, sym, ap, subst, ◌∙◌, arith}
+use Rattle.std.proofs.Common.{◌≡◌, ◌⊎◌, ⊎_elim, inl, inr, ◌<◌, ◌≤◌, ◌+◌, min, ℕ, zero, suc, Bool, true, false, Decides, List, [], ◌∷◌, ◌++◌, Some, None, length, take, get_or, slice_get, refl, sym, ap, subst, ◌∙◌, arith}
 use Rattle.std.specs.Prelude.{◌↔◌}
 use Rattle.std.specs.List.{Contains}
 use Rattle.std.proofs.lemmas.Bool.{false≢true}
@@ -10,7 +10,7 @@ use Rattle.rgo_graphs.proofs.Lists.{no_member, take_cases, take_more_left, take_
 use Rattle.rgo_tac.specs.declared.regions.Class.{Class}
 use Rattle.rgo_tac.specs.declared.regions.Class.TheVariants.{Name}
 use Rattle.rgo_code.specs.Code.{Slot, CodeFn}
-use Rattle.rgo_code.specs.Names.{slot_class, class_of, parameter_classes, IsOwn, Holds}
+use Rattle.rgo_code.specs.Names.{slot_class, parameter_classes, IsOwn, Holds}
 use Rattle.rgo_region_sets.specs.declared.spans.Span.{Span}
 use Rattle.rgo_region_sets.specs.Asked.{IsPassedFor, IsMissing, EntryRemoves}
 use Rattle.rgo_region_sets.specs.declared.table.LiveNames.{LiveNames}

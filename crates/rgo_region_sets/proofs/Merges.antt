@@ -1,11 +1,10 @@
 -- Spans that are merged in their order.
-use Rattle.std.proofs.Common.{◌≡◌, ◌≢◌, ◌⊎◌, ⊎_elim, inl, inr, ◌<◌, ◌≤◌, ◌+◌, ◌-◌, max, ℕ, zero, suc, List, [], ◌∷◌, ◌++◌, Some, None, length, take, get_or, slice_get, slice_set, true, false, refl, sym, ap, subst, ◌∙◌, arith}
-use Rattle.std.specs.Prelude.{◌↔◌}
+use Rattle.std.proofs.Common.{◌≡◌, ◌⊎◌, ⊎_elim, inl, inr, ◌<◌, ◌≤◌, ◌+◌, ◌-◌, max, ℕ, zero, suc, List, [], ◌∷◌, ◌++◌, Some, length, get_or, slice_get, slice_set, true, false, refl, sym, ap, subst, ◌∙◌, arith}
 use Rattle.std.specs.List.{Contains}
 use Rattle.std.proofs.lemmas.Option.{same_Some, none-some, slice_get_within, slice_get-get_or, get_or_from_slice_get}
 use Rattle.std.proofs.lemmas.List.{length-append}
 use Rattle.rgo_region_sets.specs.declared.spans.Span.{Span}
-use Rattle.rgo_region_sets.specs.Spans.{Spans, IsSpanned, AddsSpans, Precedes, AreOrdered, IsBefore, AreApart, Follows, Meets}
+use Rattle.rgo_region_sets.specs.Spans.{Spans, AddsSpans, Precedes, IsBefore, AreApart, Follows, Meets}
 use Rattle.rgo_region_sets.proofs.Apart.{member_at}
 
 less_or : (a b : ℕ) → (a < b) ⊎ (b ≤ a)

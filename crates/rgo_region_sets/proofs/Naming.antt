@@ -1,5 +1,5 @@
 -- Names of variables, and the names that instructions use.
-use Rattle.std.proofs.Common.{◌≡◌, ◌≢◌, Decides, not, nat_eq, ◌⊎◌, ⊎_elim, inl, inr, ◌<◌, ◌≤◌, ◌+◌, ℕ, Bool, true, false, List, [], ◌∷◌, ◌++◌, Option, Some, None, length, take, get_or, slice_get, option_to_list, refl, sym, ap, subst, ◌∙◌, arith}
+use Rattle.std.proofs.Common.{◌≡◌, ◌≢◌, Decides, not, nat_eq, ⊎_elim, inl, inr, ◌≤◌, ◌+◌, ℕ, Bool, true, false, List, [], ◌∷◌, ◌++◌, Option, Some, None, length, take, get_or, slice_get, option_to_list, refl, sym, ap, subst, ◌∙◌, arith}
 use Rattle.std.specs.Prelude.{◌↔◌}
 use Rattle.std.specs.List.{Contains}
 use Rattle.std.proofs.lemmas.Bool.{false≢true}
@@ -11,13 +11,13 @@ use Rattle.std.specs.Option.{option_map}
 use Rattle.rgo_graphs.proofs.Lists.{no_member, member_one, one_member, take_cases, take_more_left, take_more_here}
 use Rattle.rgo_tac.specs.declared.regions.Class.{Class}
 use Rattle.rgo_tac.specs.declared.regions.Class.TheVariants.{NoClass, Global, Name}
-use Rattle.rgo_tac.specs.Code.{Op, Instr}
+use Rattle.rgo_tac.specs.Code.{Op}
 use Rattle.rgo_tac.specs.Flow.{reads, writes}
 use Rattle.rgo_tac.specs.Ops.{op_in}
 use Rattle.rgo_code.specs.Code.{CodeInstr, CodeFn}
 use Rattle.rgo_code.specs.Erasure.{erased_op, erased_instr, erased_fn}
-use Rattle.rgo_code.specs.Names.{class_of, result_class, Names, IsOwn}
-use Rattle.rgo_region_sets.specs.Used.{name_of, UsesName, AddsName, NamesOne, AddsNames, AddsUsed}
+use Rattle.rgo_code.specs.Names.{class_of, Names}
+use Rattle.rgo_region_sets.specs.Used.{name_of, UsesName, AddsName, AddsNames, AddsUsed}
 
 -- ---- names of classes
 
@@ -169,6 +169,7 @@ own_named c k name differ named is = (
   where
     equal : (a b : ℕ) → a ≡ b → nat_eq a b ≡ true
     equal a b e = grind (arith, nat_tests)
+
     unequal : (a b : ℕ) → (a ≡ b → ⊥) → nat_eq a b ≡ false
     unequal a b e = grind (arith, nat_tests)
 

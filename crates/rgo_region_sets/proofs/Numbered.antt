@@ -1,5 +1,5 @@
 -- The names of spans that are listed by their numbers, and what dies on the way from a branch.
-use Rattle.std.proofs.Common.{◌≡◌, Bool, true, false, ◌⊎◌, ⊎_elim, inl, inr, ◌<◌, ◌≤◌, ◌+◌, ℕ, zero, suc, List, [], ◌∷◌, ◌++◌, Option, Some, None, Vec, length, take, get_or, slice_get, refl, sym, ap, subst, ◌∙◌, arith}
+use Rattle.std.proofs.Common.{◌≡◌, true, false, ◌⊎◌, ⊎_elim, inl, inr, ◌<◌, ◌≤◌, ◌+◌, ℕ, zero, suc, List, [], ◌∷◌, ◌++◌, Option, Some, None, Vec, length, take, get_or, slice_get, refl, sym, ap, subst, ◌∙◌}
 use Rattle.std.specs.Prelude.{◌↔◌}
 use Rattle.std.specs.Global.{Global}
 use Rattle.std.specs.List.{Contains}
@@ -22,7 +22,6 @@ use Rattle.rgo_region_sets.specs.Sets.{IsSet}
 use Rattle.rgo_region_sets.specs.Used.{UsesName}
 use Rattle.rgo_region_sets.proofs.Members.{set_with}
 use Rattle.rgo_region_sets.proofs.Removing.{branch_candidates, other_candidates, removed}
-use Rattle.rgo_region_sets.proofs.Tables.{one_place}
 
 pub no_spans : (spans : List Span) (k : ℕ) → NamesOf spans [] k → ⊥
 no_spans spans k h = no_member h.0 h.1

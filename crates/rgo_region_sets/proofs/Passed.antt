@@ -1,20 +1,20 @@
 -- Classes that are passed, one after the other: the names seen among them, and those passed twice.
-use Rattle.std.proofs.Common.{◌≡◌, ◌≢◌, ◌⊎◌, ⊎_elim, inl, inr, ◌<◌, ◌≤◌, ◌+◌, ◌||◌, ℕ, zero, suc, Bool, true, false, not, nat_eq, List, [], ◌∷◌, ◌++◌, Option, Some, None, length, take, get_or, slice_get, refl, sym, ap, subst, ◌∙◌, arith}
+use Rattle.std.proofs.Common.{◌≡◌, ◌⊎◌, ⊎_elim, inl, inr, ◌<◌, ◌≤◌, ◌+◌, ◌||◌, ℕ, zero, suc, Bool, true, false, not, nat_eq, List, [], ◌∷◌, ◌++◌, Option, Some, None, length, take, get_or, slice_get, refl, sym, ap, subst, ◌∙◌, arith}
 use Rattle.std.specs.Prelude.{◌↔◌}
 use Rattle.std.specs.BTreeSet.{BTreeSet, contains}
 use Rattle.std.specs.Ordering.{nat_cmp}
 use Rattle.std.specs.List.{Contains, list_any}
 use Rattle.std.proofs.lemmas.Bool.{false≢true}
 use Rattle.std.proofs.lemmas.Bool.Decides.{nat_tests}
-use Rattle.std.proofs.lemmas.List.{take_more, take_all, get_or_default}
+use Rattle.std.proofs.lemmas.List.{take_more}
 use Rattle.std.proofs.lemmas.List.Folds.{Any-from_list_any, list_any-from_Any, list_any-append}
-use Rattle.std.proofs.lemmas.Option.{same_Some, none-some, slice_get_within, slice_get-get_or, get_or_from_slice_get}
-use Rattle.rgo_graphs.proofs.Lists.{no_member, take_cases, take_more_left, take_more_here}
+use Rattle.std.proofs.lemmas.Option.{same_Some, none-some, slice_get-get_or}
+use Rattle.rgo_graphs.proofs.Lists.{take_cases, take_more_left, take_more_here}
 use Rattle.rgo_tac.specs.declared.regions.Class.{Class}
 use Rattle.rgo_tac.specs.declared.regions.Class.TheVariants.{NoClass, Global, Name}
 use Rattle.rgo_code.specs.Code.{CodeFn}
-use Rattle.rgo_code.specs.Names.{result_class, is_name, IsLiveName, IsPassedTwice}
-use Rattle.rgo_region_sets.specs.Asked.{Protects, IsNeeded, AddsNeeded, AddsPassed}
+use Rattle.rgo_code.specs.Names.{is_name, IsPassedTwice}
+use Rattle.rgo_region_sets.specs.Asked.{Protects, IsNeeded, AddsPassed}
 use Rattle.rgo_region_sets.specs.Seen.{IsSeen}
 use Rattle.rgo_region_sets.specs.Used.{name_of}
 use Rattle.rgo_region_sets.proofs.Naming.{name_is}
@@ -141,12 +141,16 @@ module _ (passes : List Class) (n : ℕ) (d : Class) (within : n < length passes
         first = taken_get passes n h.one (Name k) l a.1;
         second = taken_get passes n h.other (Name k) m b.1;
       }))
-      (λ m. inr (at_end h.other (omega (arith, b.0, m)) b.1,
-      found (take n passes) h.one (Name k) (taken_get passes n h.one (Name k) l a.1)))
+      (λ m. inr (
+        at_end h.other (omega (arith, b.0, m)) b.1,
+        found (take n passes) h.one (Name k) (taken_get passes n h.one (Name k) l a.1),
+      ))
       (less_or h.other n))
       (λ l. ⊎_elim
-      (λ m. inr (at_end h.one (omega (arith, a.0, l)) a.1,
-      found (take n passes) h.other (Name k) (taken_get passes n h.other (Name k) m b.1)))
+      (λ m. inr (
+        at_end h.one (omega (arith, a.0, l)) a.1,
+        found (take n passes) h.other (Name k) (taken_get passes n h.other (Name k) m b.1),
+      ))
       (λ m. absurd (h.differ (omega (arith, a.0, l, b.0, m))))
       (less_or h.other n))
       (less_or h.one n)

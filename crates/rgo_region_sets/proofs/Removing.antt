@@ -1,24 +1,23 @@
 -- What dies on the ways of an instruction.
-use Rattle.std.proofs.Common.{◌≡◌, ◌⊎◌, ⊎_elim, inl, inr, ◌<◌, ◌≤◌, ◌+◌, ℕ, zero, suc, List, [], ◌∷◌, Option, Some, None, length, slice_get, refl, sym, ap, subst, ◌∙◌, arith}
+use Rattle.std.proofs.Common.{◌≡◌, ◌⊎◌, ⊎_elim, inl, inr, ◌+◌, ℕ, zero, suc, List, [], ◌∷◌, Option, Some, None, slice_get, sym, ap, subst, ◌∙◌, arith}
 use Rattle.std.specs.Prelude.{◌↔◌}
 use Rattle.std.specs.List.{Contains}
 use Rattle.std.specs.Option.{option_map}
 use Rattle.std.proofs.lemmas.Option.{same_Some, none-some, slice_get-map}
 use Rattle.rgo_tac.specs.declared.regions.Class.TheVariants.{Name}
 use Rattle.rgo_tac.specs.Code.{Op, Instr, Do, Call, Go, Print, Jump, Branch, Return}
-use Rattle.rgo_tac.specs.Flow.{reads, writes, leads_to}
+use Rattle.rgo_tac.specs.Flow.{leads_to}
 use Rattle.rgo_tac.specs.Ops.{op_in}
-use Rattle.rgo_flow.specs.Live.{read_by, Reads, Writes, Leads, Live, IsReadAfter, led_to_by, written_by}
+use Rattle.rgo_flow.specs.Live.{read_by, Reads, Leads, Live, IsReadAfter, led_to_by}
 use Rattle.rgo_graphs.specs.Rows.{rows_of}
 use Rattle.rgo_graphs.proofs.Lists.{member_one}
-use Rattle.rgo_flow.proofs.Choices.{member_or}
 use Rattle.rgo_code.specs.Code.{CodeInstr, CodeFn}
-use Rattle.rgo_code.specs.Erasure.{erased_op, erased_instr, erased_fn}
-use Rattle.rgo_code.specs.Names.{class_of, Names, IsOwn, IsLiveName, Holds}
-use Rattle.rgo_region_sets.specs.Asked.{Creates, MayRemove, Removes, IsDead, AreCandidates, way}
+use Rattle.rgo_code.specs.Erasure.{erased_instr, erased_fn}
+use Rattle.rgo_code.specs.Names.{class_of, IsOwn, IsLiveName, Holds}
+use Rattle.rgo_region_sets.specs.Asked.{Creates, Removes, IsDead, AreCandidates, way}
 use Rattle.rgo_region_sets.specs.Branches.{ways_of, ways_in, branch_at}
 use Rattle.rgo_region_sets.specs.declared.table.LiveNames.{LiveNames}
-use Rattle.rgo_region_sets.specs.Live.{IsLiveIn, AreLiveNames, IsRecorded, HasDying, IsKnown, IsWay, AddsDying}
+use Rattle.rgo_region_sets.specs.Live.{AreLiveNames, HasDying, IsWay, AddsDying}
 use Rattle.rgo_region_sets.specs.Used.{UsesName}
 use Rattle.rgo_region_sets.proofs.Spanning.{spanned_or}
 
@@ -108,6 +107,7 @@ module _ (live : LiveNames) (f : CodeFn) (tables : AreLiveNames live f) where
     where
       own_of : Holds f k at ⊎ Creates f at k → IsOwn f k
       own_of may = ⊎_elim (λ held. held.0) (λ created. created.0) may
+
       by_use : IsDead f gives next k → IsLiveName f k at ⊎ UsesName f (slice_get f.body at) k
           → Holds f k at ⊎ Creates f at k
       by_use dead known = ⊎_elim

@@ -1,5 +1,5 @@
 -- Spans that are sorted by their name and first instruction.
-use Rattle.std.proofs.Common.{◌≡◌, ◌⊎◌, ⊎_elim, ◌<◌, ◌≤◌, ◌+◌, ℕ, Bool, true, false, cond, nat_lt, ◌==◌, Ordering, Less, Equal, Greater, List, Some, length, get_or, slice_get, refl, sym, ap, subst, ◌∙◌, arith}
+use Rattle.std.proofs.Common.{◌≡◌, ◌⊎◌, ⊎_elim, ◌<◌, ◌≤◌, ◌+◌, ℕ, true, false, cond, nat_lt, ◌==◌, Ordering, Less, Equal, Greater, List, get_or, sym, ap, ◌∙◌, arith}
 use Rattle.std.specs.Prelude.{◌↔◌}
 use Rattle.std.specs.Ordering.{nat_cmp, ordering_then, is_lt}
 use Rattle.std.specs.List.Sorted.{IsSortedByKey, IsPermutation}

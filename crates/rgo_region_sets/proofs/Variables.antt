@@ -1,10 +1,9 @@
 -- The spans of all variables, and the same spans merged.
-use Rattle.std.proofs.Common.{◌≡◌, ◌⊎◌, ⊎_elim, inl, inr, ◌<◌, ◌≤◌, ◌+◌, ℕ, Bool, true, false, List, [], ◌∷◌, Option, Some, None, map, length, take, get_or, slice_get, refl, sym, ap, subst, ◌∙◌, arith}
+use Rattle.std.proofs.Common.{◌≡◌, ◌⊎◌, ⊎_elim, inl, inr, ◌<◌, ◌≤◌, ◌+◌, ℕ, List, [], Option, Some, None, length, take, get_or, slice_get, refl, sym, ap, subst, ◌∙◌, arith}
 use Rattle.std.specs.Prelude.{◌↔◌}
 use Rattle.std.proofs.lemmas.Option.{none-some, slice_get_within, slice_get-get_or}
 use Rattle.std.proofs.lemmas.List.{take_all}
-use Rattle.rgo_tac.specs.declared.regions.Class.{Class}
-use Rattle.rgo_tac.specs.declared.regions.Class.TheVariants.{NoClass, Global, Name}
+use Rattle.rgo_tac.specs.declared.regions.Class.TheVariants.{Name}
 use Rattle.rgo_flow.specs.Live.{Live}
 use Rattle.rgo_flow.specs.Ranges.{IsCovered}
 use Rattle.rgo_flow.specs.Table.{IsLive}

@@ -1,7 +1,7 @@
 -- The branches of a function.
 use Rattle.std.specs.Prelude.{◌≡◌, ◌<◌, ℕ, List, Option, Some, None, length, slice_get}
 use Rattle.std.specs.List.Sorted.{IsStrictlyIncreasing}
-use Rattle.rgo_tac.specs.Code.{Op, TacFn, Do, Call, Go, Print, Jump, Branch, Return}
+use Rattle.rgo_tac.specs.Code.{Op, TacFn, Branch}
 use Rattle.rgo_tac.specs.Ops.{op_in}
 
 -- where a branch leads, if its variable is true and if it is false

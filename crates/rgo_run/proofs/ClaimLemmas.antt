@@ -64,16 +64,12 @@ emits_ends bytes call Valid w = tt
 emits_ends bytes call WriteFault w = tt
 emits_ends bytes call _ w = absurd w
 
--- such an ending is no other
-emit_not : (P : Ending → Type 0) (e other : Ending) → (EndsEmit other → ⊥) → EndsEmit e → e ≡ other → ⊥
-emit_not P e other not ends is = not (subst EndsEmit is ends)
-
 emit_status : (e : Ending) → EndsEmit e → status_of e ≡ 1 → ⊥
 emit_status Valid ends s = cc
 emit_status WriteFault ends s = cc
 emit_status _ ends s = ends
 
-emit_ends : (call : Call) (text : List ℕ) (e : Ending) → Emits text e call.out → EndsEmit e
+pub emit_ends : (call : Call) (text : List ℕ) (e : Ending) → Emits text e call.out → EndsEmit e
 emit_ends call text e em = emits_ends em.0 call e em.2
 
 emit_is_no_run : (e : Ending) (end : RunEnd) → EndsEmit e → e ≡ Ran end → ⊥

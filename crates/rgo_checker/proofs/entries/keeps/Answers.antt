@@ -1,4 +1,4 @@
-use Rattle.std.proofs.Common.{◌≡◌, ◌∙◌, sym, subst}
+use Rattle.std.proofs.Common.{◌∙◌, sym, subst}
 use Rattle.std.specs.Bool.{Decides}
 use Rattle.rgo_code.specs.NameRules.{EntryLendsResult}
 use Rattle.rgo_checker.specs.ClassTests.{is_free}

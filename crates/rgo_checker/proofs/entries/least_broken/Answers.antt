@@ -1,4 +1,4 @@
-use Rattle.std.proofs.Common.{◌≡◌, ◌∙◌, sym, arith}
+use Rattle.std.proofs.Common.{◌∙◌, sym, arith}
 use Rattle.std.proofs.lemmas.Bool.{false≢true}
 use Rattle.rgo_checker.specs.Instrs.{EntryKept}
 use Rattle.rgo_checker.proofs.RuleOrder.{more_kept, broken_here, none_broken, all_kept}

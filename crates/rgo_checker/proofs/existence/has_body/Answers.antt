@@ -1,4 +1,4 @@
-use Rattle.std.proofs.Common.{◌≡◌, ◌∙◌, length, nat_lt, ap}
+use Rattle.std.proofs.Common.{◌∙◌, length, nat_lt, ap}
 use Rattle.std.proofs.lemmas.List.{length-map}
 use Rattle.rgo_code.specs.Erasure.{erased_instr}
 use Rattle.rgo_checker.proofs.existence.has_body.Goals as goal

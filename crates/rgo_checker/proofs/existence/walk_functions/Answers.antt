@@ -1,10 +1,7 @@
-use Rattle.std.proofs.Common.{◌≡◌, ◌∙◌, ◌≤◌, length, map, take, slice_get, ap, subst, arith}
+use Rattle.std.proofs.Common.{◌≤◌, length, take, subst, arith}
 use Rattle.std.proofs.lemmas.List.{take_all}
-use Rattle.std.proofs.lemmas.Option.{slice_get-map}
-use Rattle.std.specs.Option.{option_map}
-use Rattle.rgo_code.specs.Erasure.{erased, erased_fn}
 use Rattle.rgo_checker.specs.Lines.{functions_lines}
-use Rattle.rgo_checker.specs.Naming.{AreNames, fn_names}
+use Rattle.rgo_checker.specs.Naming.{fn_names}
 use Rattle.rgo_checker.specs.Scan.{Walks}
 use Rattle.rgo_checker.proofs.ExistenceWalk.{name_at}
 use Rattle.rgo_checker.proofs.Getting.{there}

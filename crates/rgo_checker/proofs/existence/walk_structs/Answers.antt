@@ -1,10 +1,9 @@
-use Rattle.std.proofs.Common.{◌≡◌, ◌∙◌, ◌∷◌, ◌++◌, [], List, Some, length, map, take, slice_get, refl, sym, ap, subst, arith}
+use Rattle.std.proofs.Common.{◌≡◌, ◌∙◌, List, Some, length, map, take, slice_get, refl, ap, subst, arith}
 use Rattle.std.proofs.lemmas.Option.{slice_get_read, slice_get-map}
 use Rattle.std.specs.Option.{option_map}
 use Rattle.rgo_typed.specs.declared.programs.Struct.{Struct}
 use Rattle.rgo_code.specs.declared.rules.Line.TheVariants.{Struct as StructLine}
 use Rattle.rgo_checker.specs.Lines.{first_lines}
-use Rattle.rgo_checker.specs.Naming.{AreNames}
 use Rattle.rgo_checker.specs.Scan.{Walks}
 use Rattle.rgo_checker.proofs.NamingLaws.{no_names, names_next}
 use Rattle.rgo_checker.proofs.Scanning.{walks_none}

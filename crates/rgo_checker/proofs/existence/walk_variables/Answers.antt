@@ -1,10 +1,9 @@
-use Rattle.std.proofs.Common.{◌≡◌, ◌∙◌, ◌∷◌, ◌++◌, [], List, Some, length, map, take, slice_get, refl, sym, ap, subst, arith}
+use Rattle.std.proofs.Common.{◌≡◌, ◌∙◌, List, Some, length, map, take, slice_get, refl, ap, subst, arith}
 use Rattle.std.proofs.lemmas.Option.{slice_get_read, slice_get-map}
 use Rattle.std.specs.Option.{option_map}
 use Rattle.rgo_typed.specs.declared.programs.Variable.{Variable}
 use Rattle.rgo_code.specs.declared.rules.Line.TheVariants.{Variable as VariableLine}
 use Rattle.rgo_checker.specs.Lines.{first_lines}
-use Rattle.rgo_checker.specs.Naming.{AreNames}
 use Rattle.rgo_checker.specs.Scan.{Walks}
 use Rattle.rgo_checker.proofs.NamingLaws.{no_names, names_next}
 use Rattle.rgo_checker.proofs.Scanning.{walks_none}
@@ -32,8 +31,8 @@ loop-n-preserved c =
           (slice_get-map (λ y. y.name) code.variables n ∙ ap (option_map (λ y. y.name)) here) c.walk_variable.new.names
           (c.in_ok-walk_variable.ensures.names (take n (map (λ y. y.name) code.variables)) c.loop-n.invariant.names);
       walks =
-          walks_more code 1 2 VariableLine n c.args.scan.now c.loop-n.scan c.walk_variable.new.scan c.loop-n.invariant.walks
-          (c.in_ok-walk_variable.ensures.walks n here c.loop-n.invariant.names);
+          walks_more code 1 2 VariableLine n c.args.scan.now c.loop-n.scan c.walk_variable.new.scan
+          c.loop-n.invariant.walks (c.in_ok-walk_variable.ensures.walks n here c.loop-n.invariant.names);
     }
 
 pub returns : goal.returns

@@ -1,4 +1,4 @@
-use Rattle.std.proofs.Common.{◌≡◌, ◌∙◌, true, refl}
+use Rattle.std.proofs.Common.{◌∙◌, true, refl}
 use Rattle.rgo_tac.specs.Ops.{operation_of}
 use Rattle.rgo_checker.specs.Tests.{instr_exists, op_fits}
 use Rattle.rgo_checker.proofs.Deciding.{on_ok}

@@ -1,4 +1,4 @@
-use Rattle.std.proofs.Common.{◌≡◌, ◌∙◌, slice_get, sym, ap}
+use Rattle.std.proofs.Common.{◌∙◌, slice_get, sym, ap}
 use Rattle.std.specs.Option.{option_map}
 use Rattle.rgo_tac.specs.Ops.{op_in, operation_of}
 use Rattle.rgo_checker.proofs.ExistenceWalk.{no_instr}

@@ -1,4 +1,4 @@
-use Rattle.std.proofs.Common.{◌≡◌, ◌∙◌, sym, arith}
+use Rattle.std.proofs.Common.{◌∙◌, sym, arith}
 use Rattle.std.proofs.lemmas.Bool.{false≢true}
 use Rattle.rgo_checker.specs.Instrs.{InstrKept}
 use Rattle.rgo_checker.proofs.RuleOrder.{more_kept, broken_here, none_broken, all_kept}
@@ -7,7 +7,8 @@ use Rattle.rgo_checker.proofs.instructions.least_broken_by.Goals as goal
 pub returns-then-number-limit : goal.returns-then-number-limit
 returns-then-number-limit c =
     none_broken
-    (InstrKept c.args.site.now.code.now c.args.site.now.f.now c.args.site.now.at) c.loop-number.number c.loop-number.invariant c.args.limit (omega arith)
+    (InstrKept c.args.site.now.code.now c.args.site.now.f.now c.args.site.now.at) c.loop-number.number
+    c.loop-number.invariant c.args.limit (omega arith)
 
 pub keeps-requires-clause-before : goal.keeps-requires-clause-before
 keeps-requires-clause-before c =
@@ -26,4 +27,5 @@ loop-number-preserved c =
 
 pub returns : goal.returns
 returns c =
-    all_kept (InstrKept c.args.site.now.code.now c.args.site.now.f.now c.args.site.now.at) c.loop-number.number c.loop-number.invariant c.args.limit (omega arith)
+    all_kept (InstrKept c.args.site.now.code.now c.args.site.now.f.now c.args.site.now.at) c.loop-number.number
+    c.loop-number.invariant c.args.limit (omega arith)

@@ -1,4 +1,4 @@
-use Rattle.std.proofs.Common.{◌≡◌, ◌<◌, ◌∙◌, get_or, slice_get, Some, length, sym, arith}
+use Rattle.std.proofs.Common.{◌∙◌, get_or, sym, arith}
 use Rattle.std.proofs.lemmas.Bool.{false≢true}
 use Rattle.std.proofs.lemmas.Option.{slice_get-get_or, slice_get_within}
 use Rattle.rgo_checker.specs.ClassTests.{ArgumentPasses}

@@ -1,4 +1,4 @@
-use Rattle.std.proofs.Common.{◌≡◌, ◌&&◌, ◌∙◌, length, nat_eq, sym, ap, subst}
+use Rattle.std.proofs.Common.{◌&&◌, ◌∙◌, length, nat_eq, sym, ap, subst}
 use Rattle.std.specs.Bool.{Decides}
 use Rattle.rgo_code.specs.ClassRules.{Passes}
 use Rattle.rgo_checker.proofs.PassingLaws.{passes_decided}

@@ -1,4 +1,4 @@
-use Rattle.std.proofs.Common.{◌≡◌, ◌∙◌, ◌&&◌, slice_get, sym, subst}
+use Rattle.std.proofs.Common.{◌∙◌, ◌&&◌, slice_get, sym, subst}
 use Rattle.std.specs.Bool.{Decides}
 use Rattle.rgo_code.specs.ClassRules.{StartPasses}
 use Rattle.rgo_checker.proofs.Deciding.{always}

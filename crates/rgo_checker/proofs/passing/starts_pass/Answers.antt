@@ -1,4 +1,4 @@
-use Rattle.std.proofs.Common.{◌≡◌, ◌∙◌, sym, ap}
+use Rattle.std.proofs.Common.{◌∙◌, sym, ap}
 use Rattle.std.specs.Option.{option_map}
 use Rattle.rgo_tac.specs.Ops.{operation_of}
 use Rattle.rgo_checker.specs.ClassTests.{called}

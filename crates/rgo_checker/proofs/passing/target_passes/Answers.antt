@@ -1,4 +1,3 @@
-use Rattle.std.proofs.Common.{◌∙◌}
 use Rattle.rgo_checker.proofs.Deciding.{always}
 use Rattle.rgo_checker.proofs.PassingLaws.{target_decided, no_target}
 use Rattle.rgo_checker.proofs.passing.target_passes.Goals as goal

@@ -4,7 +4,7 @@ use Rattle.rgo_checker.proofs.RegionLaws.{creates_kept}
 use Rattle.rgo_checker.proofs.regions.creates_used.Goals as goal
 
 pub creations-requires : goal.creations-requires
-creations-requires c = c.requires.prepared.live
+creations-requires c = record { live = c.requires.prepared.live }
 
 pub returns : goal.returns
 returns c =

@@ -5,7 +5,7 @@ use Rattle.rgo_checker.proofs.RegionLaws.{entry_known_kept}
 use Rattle.rgo_checker.proofs.regions.entry_known.Goals as goal
 
 pub holds_at_entry-requires : goal.holds_at_entry-requires
-holds_at_entry-requires c = c.requires.live
+holds_at_entry-requires c = record { live = c.requires.live }
 
 pub returns : goal.returns
 returns c =

@@ -3,7 +3,7 @@ use Rattle.rgo_checker.proofs.RegionLaws.{entry_removes_kept}
 use Rattle.rgo_checker.proofs.regions.entry_removes_dead.Goals as goal
 
 pub entry_removals-requires : goal.entry_removals-requires
-entry_removals-requires c = c.requires.live
+entry_removals-requires c = record { live = c.requires.live }
 
 pub returns : goal.returns
 returns c =

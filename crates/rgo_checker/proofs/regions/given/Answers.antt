@@ -1,5 +1,4 @@
 use Rattle.std.proofs.Common.{◌∙◌, None, sym, subst}
-use Rattle.rgo_tac.specs.Ops.{operation_of}
 use Rattle.rgo_region_sets.specs.Sets.{IsSet}
 use Rattle.rgo_checker.specs.Regions.{GivenTo}
 use Rattle.rgo_checker.proofs.Deciding.{on_ok}

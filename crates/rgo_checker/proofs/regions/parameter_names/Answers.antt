@@ -1,9 +1,8 @@
-use Rattle.std.proofs.Common.{◌≡◌, ◌≤◌, ◌<◌, ◌∙◌, ◌⊎◌, ⊎_elim, inl, inr, ℕ, List, length, nat_eq, min, ap, subst, arith, Contains}
+use Rattle.std.proofs.Common.{◌≤◌, ◌<◌, ◌∙◌, ⊎_elim, inl, inr, List, length, nat_eq, ap, subst, arith, Contains}
 use Rattle.std.proofs.lemmas.Bool.{cases_lt}
 use Rattle.std.proofs.lemmas.List.{length-map}
 use Rattle.std.specs.Bool.{Decides}
 use Rattle.std.specs.HashSet.{contains}
-use Rattle.std.specs.List.{list_any}
 use Rattle.rgo_typed.specs.declared.types.Type.{«Type»}
 use Rattle.rgo_tac.specs.declared.regions.Class.TheVariants.{Name}
 use Rattle.rgo_code.specs.Names.{class_of}

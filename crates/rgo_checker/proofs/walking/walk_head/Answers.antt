@@ -1,4 +1,4 @@
-use Rattle.std.proofs.Common.{◌≡◌, ◌∙◌, ap}
+use Rattle.std.proofs.Common.{◌∙◌, ap}
 use Rattle.std.proofs.lemmas.Result.{on_ok_weaker}
 use Rattle.rgo_checker.specs.ClassTests.{result_fits}
 use Rattle.rgo_checker.proofs.WalkLaws.{head_walked}

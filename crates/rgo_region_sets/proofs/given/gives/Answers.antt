@@ -1,4 +1,4 @@
-use Rattle.std.proofs.Common.{◌≡◌, Decides, ◌↔◌, ◌∙◌, ℕ, List, [], Bor, sym, subst}
+use Rattle.std.proofs.Common.{Decides, ◌↔◌, ◌∙◌, ℕ, List, [], Bor, sym, subst}
 use Rattle.std.specs.List.{Contains}
 use Rattle.std.specs.Option.{option_map}
 use Rattle.rgo_tac.specs.declared.regions.Class.TheVariants.{Name}

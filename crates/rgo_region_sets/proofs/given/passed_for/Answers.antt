@@ -1,4 +1,4 @@
-use Rattle.std.proofs.Common.{◌≡◌, ◌↔◌, ◌∙◌, ℕ, List, [], sym, subst, arith}
+use Rattle.std.proofs.Common.{◌↔◌, ◌∙◌, ℕ, List, [], sym, subst, arith}
 use Rattle.std.specs.List.{Contains}
 use Rattle.rgo_region_sets.specs.Asked.{IsPassedFor}
 use Rattle.rgo_region_sets.proofs.Members.{for_none, for_more, for_same, for_all, set_with}

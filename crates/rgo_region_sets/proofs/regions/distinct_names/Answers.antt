@@ -1,4 +1,4 @@
-use Rattle.std.proofs.Common.{◌≡◌, ◌++◌, ◌∙◌, List, [], take, subst, sym, ap, arith}
+use Rattle.std.proofs.Common.{◌++◌, List, [], take, subst, sym, ap, arith}
 use Rattle.std.proofs.lemmas.List.{take_more}
 use Rattle.rgo_tac.specs.declared.regions.Class.{Class}
 use Rattle.rgo_code.specs.Names.{distinct_names}

@@ -1,4 +1,4 @@
-use Rattle.std.proofs.Common.{◌≡◌, ◌∙◌, Option, ℕ, List, sym, subst}
+use Rattle.std.proofs.Common.{◌∙◌, Option, ℕ, List, sym, subst}
 use Rattle.std.specs.List.{Contains}
 use Rattle.std.proofs.lemmas.Result.{IfOk-weaker}
 use Rattle.rgo_region_sets.specs.Asked.{AreRemoved, IsDead, way}

@@ -1,4 +1,4 @@
-use Rattle.std.proofs.Common.{◌≡◌, ◌∙◌, Ok, Err, Some, ap, arith}
+use Rattle.std.proofs.Common.{◌∙◌, Ok, Err, Some, ap, arith}
 use Rattle.std.proofs.lemmas.List.Sorted.{searched}
 use Rattle.std.proofs.lemmas.Option.{slice_get-get_or, get_or_from_slice_get}
 use Rattle.rgo_region_sets.proofs.Picking.{missing_name}
