@@ -102,7 +102,8 @@ distinct_more classes out out' i d within before step =
     ap (λ o. o ++ distinct_names (take (i + 1) classes) (drop (i + 1) classes)) step
     ∙ append_assoc out (distinct_names (take i classes) (get_or classes i d ∷ []))
     (distinct_names (take (i + 1) classes) (drop (i + 1) classes))
-    ∙ ap (λ s. out ++ (distinct_names (take i classes) (get_or classes i d ∷ []) ++ distinct_names s (drop (i + 1) classes)))
+    ∙ ap (λ s. out
+    ++ (distinct_names (take i classes) (get_or classes i d ∷ []) ++ distinct_names s (drop (i + 1) classes)))
     (take_more classes i d within)
     ∙ ap (λ l. out ++ l) (sym (distinct_step (take i classes) (get_or classes i d) (drop (i + 1) classes)))
     ∙ ap (λ l. out ++ distinct_names (take i classes) l) (sym (at_drop_more (λ (l : List Class). l) classes i d within))

@@ -63,7 +63,8 @@ pub seen_more : (seen seen' : BTreeSet ℕ) (classes : List Class) (c : Class) (
     → IsSeen seen' (classes ++ c ∷ [])
 seen_more seen seen' classes c j e adds before k =
     adds k ∙ ap (λ b. b || nat_eq k j) (before k)
-    ∙ ap (λ b. list_any (is_name k) classes || b) (sym (or_same (nat_eq k j)) ∙ ap (λ b. b || false) (sym (by_name c j k e)))
+    ∙ ap (λ b. list_any (is_name k) classes || b)
+    (sym (or_same (nat_eq k j)) ∙ ap (λ b. b || false) (sym (by_name c j k e)))
     ∙ sym (list_any-append (is_name k) classes (c ∷ []))
 
 pub seen_same : (seen : BTreeSet ℕ) (classes : List Class) (c : Class) → name_of c ≡ None → IsSeen seen classes

@@ -73,8 +73,8 @@ module _ (live : LiveNames) (f : CodeFn) (tables : AreLiveNames live f) (at next
   }
 
 -- the same candidates in another list
-pub same_candidates : (f : CodeFn) (at next : ℕ) (names sorted : List ℕ) → ((k : ℕ) → Contains sorted k ↔ Contains names k)
-    → AreCandidates f at next names → AreCandidates f at next sorted
+pub same_candidates : (f : CodeFn) (at next : ℕ) (names sorted : List ℕ)
+    → ((k : ℕ) → Contains sorted k ↔ Contains names k) → AreCandidates f at next names → AreCandidates f at next sorted
 same_candidates f at next names sorted same h = record {
   known = λ k m. h.known k ((same k).0 m);
   used = λ k u. (same k).1 (h.used k u);

@@ -36,7 +36,8 @@ was false first is e = absurd (false≢true (sym e ∙ is))
 
 module _ (seen seen' : BTreeSet ℕ) (old : List Class) (class : Class) (k : ℕ) (named : name_of class ≡ Some k)
     (adds : (j : ℕ) → contains nat_cmp seen' j ≡ (contains nat_cmp seen j || nat_eq j k))
-    (first : Bool) (is : first ≡ not (contains nat_cmp seen k)) (classes : List Class) (before : IsSeen seen classes) where
+    (first : Bool) (is : first ≡ not (contains nat_cmp seen k))
+    (classes : List Class) (before : IsSeen seen classes) where
   pub adds_first : first ≡ true
       → (old ++ class ∷ [] ≡ old ++ distinct_names classes (class ∷ [])) × IsSeen seen' (classes ++ class ∷ [])
   adds_first e = (
@@ -63,7 +64,8 @@ adds_no_name seen old class none classes before = (
 )
 
 pub distinct_all : (classes out : List Class) (i : ℕ) → length classes ≤ i
-    → out ++ distinct_names (take i classes) (drop i classes) ≡ distinct_names [] classes → out ≡ distinct_names [] classes
+    → out ++ distinct_names (take i classes) (drop i classes) ≡ distinct_names [] classes
+    → out ≡ distinct_names [] classes
 distinct_all classes out i past h =
     sym (append-nil out)
     ∙ ap (λ l. out ++ l) (sym (at_drop_all (λ (l : List Class). distinct_names (take i classes) l) classes i past)) ∙ h
@@ -74,7 +76,8 @@ pub none_protected : (f : CodeFn) (at k : ℕ) → Contains [] k ↔ Protects f 
 none_protected f at k = (λ h. absurd (no_member k h), λ h. absurd (no_member (Name k) h.0))
 
 pub all_protected : (f : CodeFn) (at : ℕ) (passes : List Class) (names : List ℕ) (i : ℕ) → length passes ≤ i
-    → ((k : ℕ) → Contains names k ↔ Protects f at (take i passes) k) → (k : ℕ) → Contains names k ↔ Protects f at passes k
+    → ((k : ℕ) → Contains names k ↔ Protects f at (take i passes) k)
+    → (k : ℕ) → Contains names k ↔ Protects f at passes k
 all_protected f at passes names i past h =
     subst (λ (l : List Class). (k : ℕ) → Contains names k ↔ Protects f at l k) (take_all i passes past) h
 

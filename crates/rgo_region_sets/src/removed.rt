@@ -42,7 +42,7 @@ fn add_spans(names: &mut Vec<u32>, spans: &[Span], these: &[u32]) -> Result<(), 
 /// The place of a point.
 fn place_of(points: &[u32], at: usize) -> Option<usize>
     requires rising { IsStrictlyIncreasing points.now }
-    ensures { (b : ℕ) → slice_get points.now b ≡ Some at → result ≡ Some b }
+    ensures { (b : ℕ) → (slice_get points.now b ≡ Some at) ↔ (result ≡ Some b) }
 {
     if at > u32::MAX as usize {
         return None;

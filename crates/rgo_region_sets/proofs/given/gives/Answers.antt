@@ -11,8 +11,9 @@ use Rattle.rgo_region_sets.proofs.given.gives.Goals.{in-Some+in_ok-push_if, in_d
 
 pub loop-class-init : goal.loop-class-init
 loop-class-init c =
-    subst (λ (l : List ℕ). (k : ℕ) → Contains l k ↔ (Contains [] (Name k) × IsFree c.args.protects.now c.in_ok-lent.lent.items k))
-    (sym c.new-names.ensures.items) (no_names c.args.passes.now (IsFree c.args.protects.now c.in_ok-lent.lent.items))
+    let free = IsFree c.args.protects.now c.in_ok-lent.lent.items in
+    subst (λ (l : List ℕ). (k : ℕ) → Contains l k ↔ (Contains [] (Name k) × free k))
+    (sym c.new-names.ensures.items) (no_names c.args.passes.now free)
 
 pub loop-class-preserved : goal.loop-class-preserved
 loop-class-preserved c =
@@ -35,4 +36,5 @@ returns c =
     c.loop-class.names.items c.loop-class-test.false c.loop-class.invariant in
     set_with c.set_of.result.items (Contains c.loop-class.names.items) (IsGiven callee c.args.passes.now protects)
     c.set_of.ensures
-    (given callee c.args.passes.now protects c.in_ok-lent.lent.items c.loop-class.names.items c.in_ok-lent.ensures.members all)
+    (given callee c.args.passes.now protects c.in_ok-lent.lent.items c.loop-class.names.items
+    c.in_ok-lent.ensures.members all)

@@ -11,13 +11,17 @@ loop-at-init c =
     (sym c.new-names.ensures.items) (for_none c.args.regions.now c.args.result_class)
 
 pub loop-at-preserved : goal.loop-at-preserved
-loop-at-preserved c = elim c.match-name_of.branch [
-  | in-Some+in_ok-push_if w ↦ rw w.names-is (for_more c.args.regions.now c.args.result_class c.args.passes.now c.loop-at.at _
-      c.loop-at-test.true c.loop-at.names.items c.loop-at.invariant w.push_if.new.names.items w.is_at-lent.result
-      w.in-Some.name (sym c.name_of.ensures ∙ w.in-Some.is) w.is_at-lent.ensures w.in_ok-push_if.ensures)
-  | in_default w ↦ rw w.names-is (for_same c.args.regions.now c.args.result_class c.args.passes.now c.loop-at.at _
-      c.loop-at-test.true c.loop-at.names.items c.loop-at.invariant (sym c.name_of.ensures ∙ w.in_default.is))
-]
+loop-at-preserved c =
+    let regions = c.args.regions.now in
+    let class = c.args.result_class in
+    let at = c.loop-at.at in
+    elim c.match-name_of.branch [
+      | in-Some+in_ok-push_if w ↦ rw w.names-is (for_more regions class c.args.passes.now at _ c.loop-at-test.true
+          c.loop-at.names.items c.loop-at.invariant w.push_if.new.names.items w.is_at-lent.result w.in-Some.name
+          (sym c.name_of.ensures ∙ w.in-Some.is) w.is_at-lent.ensures w.in_ok-push_if.ensures)
+      | in_default w ↦ rw w.names-is (for_same regions class c.args.passes.now at _ c.loop-at-test.true
+          c.loop-at.names.items c.loop-at.invariant (sym c.name_of.ensures ∙ w.in_default.is))
+    ]
 
 pub returns : goal.returns
 returns c =

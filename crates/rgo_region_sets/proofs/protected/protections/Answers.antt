@@ -22,7 +22,7 @@ loop-class-preserved c =
 
 pub returns : goal.returns
 returns c =
-    set_with c.set_of.result.items (Contains c.loop-class.names.items) (Protects c.args.f.now c.args.at c.args.passes.now)
-    c.set_of.ensures
+    set_with c.set_of.result.items (Contains c.loop-class.names.items)
+    (Protects c.args.f.now c.args.at c.args.passes.now) c.set_of.ensures
     (all_protected c.args.f.now c.args.at c.args.passes.now c.loop-class.names.items c.loop-class.class-index
     (omega (arith, c.loop-class-test.false)) c.loop-class.invariant.names)

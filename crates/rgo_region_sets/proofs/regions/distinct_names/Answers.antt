@@ -15,7 +15,8 @@ loop-class-init c = record {
 
 pub loop-class-preserved : goal.loop-class-preserved
 loop-class-preserved c =
-    let step = c.in_ok-add_distinct.ensures (take c.loop-class.class-index c.args.classes.now) c.loop-class.invariant.sees in
+    let before = take c.loop-class.class-index c.args.classes.now in
+    let step = c.in_ok-add_distinct.ensures before c.loop-class.invariant.sees in
     record {
       names = distinct_more c.args.classes.now c.loop-class.distinct.items c.add_distinct.new.distinct.items
           c.loop-class.class-index _ c.loop-class-test.true c.loop-class.invariant.names step.0;

@@ -2,24 +2,29 @@ use Rattle.std.proofs.Common.{◌≡◌, ◌++◌, ◌∷◌, ◌∙◌, List, [
 use Rattle.std.proofs.lemmas.List.{length-map}
 use Rattle.rgo_tac.specs.Code.{TacFn}
 use Rattle.rgo_tac.specs.declared.regions.Class.{Class}
+use Rattle.rgo_code.specs.Code.{CodeFn}
+use Rattle.rgo_code.specs.Erasure.{erased_fn}
 use Rattle.rgo_code.specs.Names.{parameter_classes}
 use Rattle.rgo_region_sets.proofs.Members.{classes_more, classes_all}
 use Rattle.rgo_region_sets.proofs.regions.parameter_classes.Goals as goal
 
+-- as many types as variables
+as_many : (f : CodeFn) (t : TacFn) → t ≡ erased_fn f → length t.variables ≡ length f.variables
+as_many f t is = ap (λ (u : TacFn). length u.variables) is ∙ length-map f.variables (λ s. s.ty)
+
 pub loop-variable-preserved : goal.loop-variable-preserved
 loop-variable-preserved c =
-    let slots = c.args.f.now.variables in
-    let long : length c.variables.result.now ≡ length slots =
-    ap length c.variables.ensures ∙ ap (λ (t : TacFn). length t.variables) c.tac-2.ensures ∙ length-map slots (λ s. s.ty) in
-    let more = classes_more c.loop-variable.variable slots (omega (arith, long, c.min-count.ensures)) in
+    let f = c.args.f.now in
+    let v = c.loop-variable.variable in
+    let many = ap length c.variables.ensures ∙ as_many f c.tac-2.result.now c.tac-2.ensures in
+    let more = classes_more v f.variables (omega (arith, many, c.min-count.ensures)) in
     c.in_ok-push.ensures.items ∙ ap (λ (l : List Class). l ++ c.class_of.result ∷ []) c.loop-variable.invariant
-    ∙ ap (λ x. parameter_classes c.loop-variable.variable slots ++ x ∷ []) c.class_of.ensures ∙ sym more
+    ∙ ap (λ class. parameter_classes v f.variables ++ class ∷ []) c.class_of.ensures ∙ sym more
 
 pub returns : goal.returns
 returns c =
-    let slots = c.args.f.now.variables in
-    let long : length c.variables.result.now ≡ length slots =
-    ap length c.variables.ensures ∙ ap (λ (t : TacFn). length t.variables) c.tac-2.ensures ∙ length-map slots (λ s. s.ty) in
-    let params : c.params.result ≡ c.args.f.now.params = c.params.ensures ∙ ap (λ (t : TacFn). t.params) c.tac.ensures in
+    let f = c.args.f.now in
+    let many = ap length c.variables.ensures ∙ as_many f c.tac-2.result.now c.tac-2.ensures in
+    let params = c.params.ensures ∙ ap (λ (t : TacFn). t.params) c.tac.ensures in
     c.loop-variable.invariant
-    ∙ classes_all c.args.f.now.params c.loop-variable.variable slots (omega (arith, long, params, c.min-count.ensures))
+    ∙ classes_all f.params c.loop-variable.variable f.variables (omega (arith, many, params, c.min-count.ensures))

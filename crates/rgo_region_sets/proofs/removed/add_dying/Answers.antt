@@ -17,8 +17,9 @@ returns-in-Some-get c =
     let old = c.args.names.now.items in
     let new = c.add_spans.new.names.items in
     let row = c.in-Some-get.row.now in
+    let lookup = c.in-Some-get.ensures.lookup in
     let there : slice_get rows c.in-Some.b ≡ Some row =
-    slice_get-get_or rows c.in-Some.b row c.in-Some-get.ensures.lookup.3.0 ∙ ap Some (sym c.in-Some-get.ensures.lookup.1) in
+    slice_get-get_or rows c.in-Some.b row lookup.3.0 ∙ ap Some (sym lookup.1) in
     IfOk-weaker c.add_spans.result
     (λ ok. (k : ℕ) → Contains new k
     ↔ (Contains old k ⊎ NamesOf c.deref-in-Some-get.result.now c.deref-in-Some-get-2.result.now k))
@@ -26,7 +27,7 @@ returns-in-Some-get c =
     (λ ok adds next known.
     let found = ap (λ (l : List ℕ). slice_get l known.branch) c.deref.ensures.value ∙ known.point in
     let same : known.branch ≡ c.in-Some.b =
-    same_Some known.branch c.in-Some.b (sym (c.place_of.ensures known.branch found) ∙ c.in-Some.is) in
+    same_Some known.branch c.in-Some.b (sym ((c.place_of.ensures known.branch).0 found) ∙ c.in-Some.is) in
     row_added live (rows_of rows) c.args.at next c.in-Some.b old new known same c.deref-in-Some-get-2.result.now
     (row_there rows c.in-Some.b row there ∙ sym c.deref-in-Some-get-2.ensures.value)
     (subst (λ (l : List Span). (k : ℕ) → Contains new k

@@ -16,12 +16,15 @@ loop-n-preserved c =
     elim c.match-get.branch [
       | in-Some+in_ok-push w ↦
           let span = w.in-Some.span.now in
+          let lookup = w.in-Some.ensures.lookup in
           let there : slice_get spans (get_or these n 0) ≡ Some span =
-          slice_get-get_or spans (get_or these n 0) span w.in-Some.ensures.lookup.3.0 ∙ ap Some (sym w.in-Some.ensures.lookup.1) in
+          slice_get-get_or spans (get_or these n 0) span lookup.3.0 ∙ ap Some (sym lookup.1) in
           rw w.names-is (span_more spans these n 0 c.loop-n-test.true c.args.names.now.items c.loop-n.names.items
           c.loop-n.invariant w.push.new.self.items span there w.in_ok-push.ensures.items)
-      | in_default w ↦ rw w.names-is (span_none spans these n 0 c.loop-n-test.true c.args.names.now.items
-          c.loop-n.names.items c.loop-n.invariant (slice_get_past spans (get_or these n 0) w.in_default.ensures.lookup.3))
+      | in_default w ↦
+          let none = slice_get_past spans (get_or these n 0) w.in_default.ensures.lookup.3 in
+          rw w.names-is (span_none spans these n 0 c.loop-n-test.true c.args.names.now.items c.loop-n.names.items
+          c.loop-n.invariant none)
     ]
 
 pub returns : goal.returns
