@@ -10,11 +10,11 @@ use Rattle.rgo_command_line.specs.Commands.{command_of}
 use Rattle.rgo_command_line.specs.Laws.{ArePlain, AreWordsOf, AskExactly, AskForCommands, AskForNothing, IsEnd}
 use Rattle.rgo_command_line.specs.Limits.{goroutine_bounds, limit_by, step_bounds}
 use Rattle.rgo_command_line.specs.declared.commands.Command.{Command}
-use Rattle.rgo_command_line.specs.declared.commands.Command.TheVariants.{Run, Check, Emit}
+use Rattle.rgo_command_line.specs.declared.commands.Command.TheVariants.{Run, Check, Emit, Code}
 use Rattle.rgo_machine.specs.declared.limits.Limits.{Limits}
 use Rattle.rgo_command_line.proofs.FirstWordLemmas.{other_word}
 use Rattle.rgo_command_line.proofs.OptionLemmas.{AreOptions, MetOptions, asks, met_options}
-use Rattle.rgo_command_line.proofs.RestLemmas.{Plain, check, emit, more_rest, name_of, other_rest, plain_command}
+use Rattle.rgo_command_line.proofs.RestLemmas.{Plain, check, code, emit, more_rest, name_of, other_rest, plain_command}
 use Rattle.rgo_command_line.proofs.RunLemmas.{at_first, between, from}
 
 -- at words that are written out, `clap`'s definition computes what they ask for
@@ -31,6 +31,8 @@ commands = record {
   check_ended = λ program. refl;
   emit = λ program. refl;
   emit_ended = λ program. refl;
+  code = λ program. refl;
+  code_ended = λ program. refl;
 }
 
 pub nothing : AskForNothing
@@ -46,6 +48,7 @@ nothing = record {
   before = λ program. refl;
   check_option = λ program. refl;
   emit_option = λ program. refl;
+  code_option = λ program. refl;
   two_commands = λ program. refl;
   option_twice = λ program. refl;
   no_steps = λ program. refl;
@@ -123,14 +126,17 @@ behind_run program rest command e = by_met (met_options rest)
 alone : (p : Plain) (program : Text) → command_of (program ∷ name_of p ∷ []) ≡ Some (plain_command p)
 alone check = commands.check
 alone emit = commands.emit
+alone code = commands.code
 
 ended : (p : Plain) (program : Text) → command_of (program ∷ name_of p ∷ codes "--" ∷ []) ≡ Some (plain_command p)
 ended check = commands.check_ended
 ended emit = commands.emit_ended
+ended code = commands.code_ended
 
 are_words : (p : Plain) (words : List Text) → ArePlain (name_of p) words → AreWordsOf (plain_command p) words
 are_words check words are = are
 are_words emit words are = are
+are_words code words are = are
 
 tells_plain : (p : Plain) (program : Text) (rest : List Text)
     → IsEnd rest
@@ -169,14 +175,24 @@ tells [] = tells_nothing [] nothing.no_words
 tells (program ∷ []) = tells_nothing (program ∷ []) (nothing.no_command program)
 tells (program ∷ w ∷ rest) = by_run (bytes_eq (codes "run") w) refl
   where
+    by_code : (b : Bool)
+        → bytes_eq (codes "run") w ≡ false
+        → bytes_eq (codes "check") w ≡ false
+        → bytes_eq (codes "emit") w ≡ false
+        → bytes_eq (codes "code") w ≡ b
+        → Tells (program ∷ w ∷ rest)
+    by_code true r c e is = at_plain code program w rest is
+    by_code false r c e is =
+        tells_nothing (program ∷ w ∷ rest)
+        (other_word program w rest (record { run = r; check = c; emit = e; code = is }))
+
     by_emit : (b : Bool)
         → bytes_eq (codes "run") w ≡ false
         → bytes_eq (codes "check") w ≡ false
         → bytes_eq (codes "emit") w ≡ b
         → Tells (program ∷ w ∷ rest)
     by_emit true r c is = at_plain emit program w rest is
-    by_emit false r c is =
-        tells_nothing (program ∷ w ∷ rest) (other_word program w rest (record { run = r; check = c; emit = is }))
+    by_emit false r c is = by_code (bytes_eq (codes "code") w) r c is refl
 
     by_check : (b : Bool)
         → bytes_eq (codes "run") w ≡ false
@@ -201,6 +217,7 @@ ask words (Run limits) (program, options, ending, sets, ends, is) =
     ap command_of is ∙ at_first program (options ++ ending) ∙ asks limits options ending sets ends
 ask words Check are = ask_plain check words are
 ask words Emit are = ask_plain emit words are
+ask words Code are = ask_plain code words are
 
 pub exactly : AskExactly
 exactly words command = (tells words command, ask words command)

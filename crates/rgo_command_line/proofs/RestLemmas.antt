@@ -16,7 +16,7 @@ use Rattle.rgo_command_line.specs.Commands.{command_met, command_of, has_fault}
 use Rattle.rgo_command_line.specs.Limits.{limits_of}
 use Rattle.rgo_command_line.specs.Parser.{bare_parser, parser, run_parser}
 use Rattle.rgo_command_line.specs.declared.commands.Command.{Command}
-use Rattle.rgo_command_line.specs.declared.commands.Command.TheVariants.{Run, Check, Emit}
+use Rattle.rgo_command_line.specs.declared.commands.Command.TheVariants.{Run, Check, Emit, Code}
 use Rattle.rgo_command_line.proofs.StrayLemmas.{stray, with_first}
 
 abbrev app : App
@@ -36,14 +36,17 @@ run_leaf = built_leaf (inherited bare_parser.top run_parser.top)
 pub data Plain : Type 0 where
   check : Plain
   emit : Plain
+  code : Plain
 
 abbrev pub name_of : Plain → Text
 name_of check = codes "check"
 name_of emit = codes "emit"
+name_of code = codes "code"
 
 abbrev pub plain_command : Plain → Command
 plain_command check = Check
 plain_command emit = Emit
+plain_command code = Code
 
 abbrev leaf : Plain → Shape
 leaf p = built_leaf (inherited bare_parser.top (new_shape (name_of p)))
@@ -106,6 +109,9 @@ behind_plain check program rest =
 behind_plain emit program rest =
     ap₂ whole (stands (codes "emit") [] rest) (no_fault (codes "emit") [] rest)
     ∙ ap (λ b. cond b None (Some Emit)) (just_one (rest_fault (leaf emit) rest))
+behind_plain code program rest =
+    ap₂ whole (stands (codes "code") [] rest) (no_fault (codes "code") [] rest)
+    ∙ ap (λ b. cond b None (Some Code)) (just_one (rest_fault (leaf code) rest))
 
 refused : (p : Plain) (program : Text) (rest : List Text)
     → has_fault (rest_fault (leaf p) rest) ≡ true

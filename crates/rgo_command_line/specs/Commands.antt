@@ -6,7 +6,7 @@ use Rattle.clap.specs.Words.{Kinds, Row, Text, fault_of, subcommand_of}
 use Rattle.rgo_command_line.specs.Limits.{LieInBounds, limits_of}
 use Rattle.rgo_command_line.specs.Parser.{parser}
 use Rattle.rgo_command_line.specs.declared.commands.Command.{Command}
-use Rattle.rgo_command_line.specs.declared.commands.Command.TheVariants.{Run, Check, Emit}
+use Rattle.rgo_command_line.specs.declared.commands.Command.TheVariants.{Run, Check, Emit, Code}
 use Rattle.rgo_command_line.specs.declared.commands.WordsError.{WordsError}
 use Rattle.rgo_command_line.specs.declared.commands.WordsError.TheVariants.{Usage}
 
@@ -15,7 +15,8 @@ abbrev pub command_named : Text → List Row → Option Command
 command_named name rows =
     if bytes_eq name (codes "run") then option_map Run (limits_of rows)
     else (if bytes_eq name (codes "check") then Some Check
-    else (if bytes_eq name (codes "emit") then Some Emit else None))
+    else (if bytes_eq name (codes "emit") then Some Emit
+    else (if bytes_eq name (codes "code") then Some Code else None)))
 
 -- the command of the subcommand that was met, if any
 abbrev pub command_met : Option (Text × List Row) → Option Command

@@ -4,7 +4,7 @@ use Rattle.clap.specs.Words.{Text}
 use Rattle.rgo_command_line.specs.Commands.{command_of}
 use Rattle.rgo_command_line.specs.Limits.{goroutine_bounds, limit_by, step_bounds}
 use Rattle.rgo_command_line.specs.declared.commands.Command.{Command}
-use Rattle.rgo_command_line.specs.declared.commands.Command.TheVariants.{Run, Check, Emit}
+use Rattle.rgo_command_line.specs.declared.commands.Command.TheVariants.{Run, Check, Emit, Code}
 use Rattle.rgo_machine.specs.declared.limits.Limits.{Limits}
 
 -- the words that give the option of this name this value: `--name value`, `--name=value`, or none
@@ -39,6 +39,7 @@ AreWordsOf (Run limits) words = (program : Text) × (options ending : List Text)
     × (words ≡ program ∷ codes "run" ∷ (options ++ ending))
 AreWordsOf Check words = ArePlain (codes "check") words
 AreWordsOf Emit words = ArePlain (codes "emit") words
+AreWordsOf Code words = ArePlain (codes "code") words
 
 -- these words ask for the command, and no others
 abbrev pub AskExactly : Type 0
@@ -69,6 +70,8 @@ pub record AskForCommands : Type 0 where
   pub check_ended : Ask (codes "check" ∷ codes "--" ∷ []) (Some Check)
   pub emit : Ask (codes "emit" ∷ []) (Some Emit)
   pub emit_ended : Ask (codes "emit" ∷ codes "--" ∷ []) (Some Emit)
+  pub code : Ask (codes "code" ∷ []) (Some Code)
+  pub code_ended : Ask (codes "code" ∷ codes "--" ∷ []) (Some Code)
 
 -- some of the words that ask for nothing
 pub record AskForNothing : Type 0 where
@@ -77,12 +80,13 @@ pub record AskForNothing : Type 0 where
   pub help : Ask (codes "help" ∷ []) None
   pub help_flag : Ask (codes "--help" ∷ []) None
   pub version_flag : Ask (codes "--version" ∷ []) None
-  pub unknown : Ask (codes "code" ∷ []) None
+  pub unknown : Ask (codes "build" ∷ []) None
   pub twice : Ask (codes "run" ∷ codes "run" ∷ []) None
   pub before : Ask (codes "--steps=5" ∷ codes "run" ∷ []) None
   pub check_option : Ask (codes "check" ∷ codes "--steps=5" ∷ []) None
   pub emit_option : Ask (codes "emit" ∷ codes "--steps=5" ∷ []) None
-  pub two_commands : Ask (codes "emit" ∷ codes "check" ∷ []) None
+  pub code_option : Ask (codes "code" ∷ codes "--steps=5" ∷ []) None
+  pub two_commands : Ask (codes "emit" ∷ codes "code" ∷ []) None
   pub option_twice : Ask (codes "run" ∷ codes "--steps=5" ∷ codes "--steps=5" ∷ []) None
   pub no_steps : Ask (codes "run" ∷ codes "--steps=0" ∷ []) None
   pub many_steps : Ask (codes "run" ∷ codes "--steps=4398046511105" ∷ []) None

@@ -28,4 +28,5 @@ with_plain app name = with_subcommand app (new_app name).top
 
 -- one level of subcommands, of which `run` has options
 abbrev pub parser : App
-parser = with_plain (with_plain (with_subcommand bare_parser run_parser.top) (codes "check")) (codes "emit")
+parser = with_plain (with_plain (with_plain (with_subcommand bare_parser run_parser.top) (codes "check"))
+    (codes "emit")) (codes "code")

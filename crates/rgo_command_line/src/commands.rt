@@ -22,6 +22,8 @@ pub enum Command {
     Check,
     /// `emit`: reads a text and prints its code.
     Emit,
+    /// `code`: reads a code text and checks it.
+    Code,
 }
 
 /// Why the words are no command.
@@ -51,6 +53,7 @@ fn command_named(name: &str, matches: &ArgMatches<'_>) -> Option<Command>
         "run" => Some(Command::Run(limits_of(matches)?)),
         "check" => Some(Command::Check),
         "emit" => Some(Command::Emit),
+        "code" => Some(Command::Code),
         _ => None,
     }
 }
@@ -68,7 +71,7 @@ fn command_met(matches: &ArgMatches<'_>) -> Option<Command>
 /// `run` takes the options `--steps N` and `--goroutines N`, also written `--steps=N`, each at most
 /// once and in any order. `N` is one or more decimal digits, from 1 to 4,398,046,511,104 for
 /// steps, which is also their default, and from 1 to 1,000,000 for goroutines, by default 100,000.
-/// `check` and `emit` take none. A `--` may end the words.
+/// `check`, `emit` and `code` take none. A `--` may end the words.
 ///
 /// `Usage` is returned only where they ask for nothing; `NoMemory` may be returned for any words.
 pub fn read_words(alloc: Global, words: &[String]) -> Result<Command, WordsError>

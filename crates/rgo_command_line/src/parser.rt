@@ -36,5 +36,6 @@ pub(crate) fn parser<'a>(alloc: Global) -> Result<Command<'a>, AllocError>
         .disable_help_subcommand(true)
         .subcommand(run)?
         .subcommand(Command::new(alloc, "check"))?
-        .subcommand(Command::new(alloc, "emit"))
+        .subcommand(Command::new(alloc, "emit"))?
+        .subcommand(Command::new(alloc, "code"))
 }

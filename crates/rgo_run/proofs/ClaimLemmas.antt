@@ -9,24 +9,35 @@ use Rattle.rgo_command_line.specs.Commands.{command_of}
 use Rattle.rgo_run.specs.declared.endings.Ending.{Ending}
 use Rattle.rgo_run.specs.declared.endings.Ending.TheVariants.{Valid, Ran, Usage, ReadFault}
 use Rattle.rgo_run.specs.declared.endings.Ending.TheVariants.{WriteFault, NoMemory}
-use Rattle.rgo_run.specs.Calls.{Call, IsRun, IsCheck, IsEmit, AsksRun, SourceHeld, Failed, Held, Grew, IsUntouched}
+use Rattle.rgo_command_line.specs.declared.commands.Command.{Command}
+use Rattle.rgo_command_line.specs.declared.commands.Command.TheVariants.{Run, Check, Emit, Code}
+use Rattle.rgo_run.specs.Calls.{Call, Asks, IsRun, IsCheck, IsEmit, IsCode, AsksRun, SourceHeld, Failed, Held, Grew, IsUntouched}
+use Rattle.rgo_run.specs.CodeVerdicts.{CodePasses}
 use Rattle.rgo_run.specs.Compiled.{Emits, IsCodeText, WritesCode}
 use Rattle.rgo_run.specs.Endings.{status_of, is_fault_status, line_of}
 use Rattle.rgo_run.specs.Reports.{Tells}
 use Rattle.rgo_run.specs.Runs.{ProgramRuns, RunsTo}
-use Rattle.rgo_run.specs.Texts.{IsTextOf, AskSome, Fails}
+use Rattle.rgo_run.specs.Texts.{IsTextOf, AskSome, RefusedBy, AcceptedBy}
 use Rattle.rgo_run.specs.Verdicts.{Passes, IsProgram, Refused}
 use Rattle.rgo_run.specs.Headline.{EndsRun, EndsEmit, MayRun, MayEmit, Print, Faults, Suffices, RunsWhole, MustRunWhole, IsSilent, EmitsWhole}
-use Rattle.rgo_run.proofs.EndingLemmas.{fails_no_usage, fails_no_fault, fails_not_valid, fails_no_run, fails_no_emit, fails_no_write_fault}
-use Rattle.rgo_run.proofs.EndingLemmas.{fails_memory, is_refused, not_status_1, read_fault, write_fault}
+use Rattle.rgo_run.proofs.EndingLemmas.{refused_status, not_one, one_is_no_run, one_is_no_emit, not_status_1, read_fault, write_fault}
+use Rattle.rgo_run.proofs.CodeVerdictLemmas as codes
 use Rattle.rgo_run.proofs.VerdictLemmas as verdicts
+
+-- the command checks its text, and does nothing else with it
+abbrev pub OnlyChecks : Command → Type 0
+OnlyChecks Check = Unit {0}
+OnlyChecks Code = Unit {0}
+OnlyChecks _ = ⊥
 
 -- how a call ended that read its text, or had no memory for that
 pub data Outcome (call : Call) (text : List ℕ) (e : Ending) : Type 0 where
-  checked : e ≡ Valid → IsCheck call → Passes text → IsUntouched call.out → Outcome call text e
+  accepted : e ≡ Valid → (command : Command) → Asks call command → OnlyChecks command → AcceptedBy command text
+      → IsUntouched call.out → Outcome call text e
   ran : (limits : Limits) → IsRun call limits → RunsTo limits text e call.out → Outcome call text e
   emitted : IsEmit call → Emits text e call.out → Outcome call text e
-  failed : Fails text e → IsUntouched call.out → Outcome call text e
+  refused : (command : Command) → Asks call command → RefusedBy command text e → IsUntouched call.out → Outcome call text e
+  no_memory : e ≡ NoMemory → IsUntouched call.out → Outcome call text e
 
 pub record Went (call : Call) (text : List ℕ) (e : Ending) : Type 0 where
   pub is_text : IsTextOf call.source.left text
@@ -45,14 +56,36 @@ passes text program p = (p.tree, p.is_well_typed)
 same_limits : (call : Call) (a b : Limits) → IsRun call a → IsRun call b → a ≡ b
 same_limits call a b c d = cc
 
-not_both : (call : Call) (limits : Limits) → IsCheck call → IsRun call limits → ⊥
-not_both call limits c d = cc
+same_command : (call : Call) (a b : Command) → Asks call a → Asks call b → a ≡ b
+same_command call a b c d = cc
+
+no_run : (call : Call) (command : Command) (limits : Limits) → Asks call command → OnlyChecks command → IsRun call limits → ⊥
+no_run call command limits c k r = subst OnlyChecks (same_command call command (Run limits) c r) k
+
+no_emit : (call : Call) (command : Command) → Asks call command → OnlyChecks command → IsEmit call → ⊥
+no_emit call command c k d = subst OnlyChecks (same_command call command Emit c d) k
 
 run_or_emit : (call : Call) (limits : Limits) → IsEmit call → IsRun call limits → ⊥
-run_or_emit call limits c d = cc
+run_or_emit call limits c d = let same = same_command call Emit (Run limits) c d in cc
 
-check_or_emit : (call : Call) → IsCheck call → IsEmit call → ⊥
-check_or_emit call c d = cc
+-- ---- verdicts by commands
+
+one_refusal : (command : Command) (text : List ℕ) (a b : Ending) → RefusedBy command text a → RefusedBy command text b → a ≡ b
+one_refusal (Run limits) text a b r s = verdicts.one_refusal text a b r s
+one_refusal Check text a b r s = verdicts.one_refusal text a b r s
+one_refusal Emit text a b r s = verdicts.one_refusal text a b r s
+one_refusal Code text a b r s = codes.one_refusal text a b r s
+
+never_both : (command : Command) (text : List ℕ) (why : Ending) → AcceptedBy command text → RefusedBy command text why → ⊥
+never_both (Run limits) text why p r = p
+never_both Check text why p r = verdicts.never_both text why p r
+never_both Emit text why p r = verdicts.never_both text why p r
+never_both Code text why p r = codes.never_both text why p r
+
+-- the refusal of a program, by the command that was asked for
+program_refused : (call : Call) (text : List ℕ) (command other : Command) (e : Ending) → Asks call command
+    → Asks call other → RefusedBy command text e → RefusedBy other text e
+program_refused call text command other e c d r = subst (λ x. RefusedBy x text e) (same_command call command other c d) r
 
 -- ---- code that was printed
 
@@ -88,46 +121,55 @@ emit_held bytes call _ w n = absurd w
 -- ---- the refusal
 
 pub usage : (call : Call) (text : List ℕ) (e : Ending) → Outcome call text e → e ≡ Usage → command_of call.words ≡ None
-usage call text e (checked is c p o) u = cc
+usage call text e (accepted is command c k p o) u = cc
 usage call text e (ran limits c r) u = absurd (let is = r.is_end in cc)
 usage call text e (emitted c em) u = absurd (subst EndsEmit u (emit_ends call text e em))
-usage call text e (failed f o) u = absurd (fails_no_usage text e f u)
+usage call text e (refused command c f o) u =
+    absurd (not_one e Usage (refused_status command text e f) (λ s. cc) u)
+usage call text e (no_memory is o) u = absurd (let memory = is in cc)
 
 pub unknown : (call : Call) (e : Ending) → AskSome call.words ⊎ (e ≡ NoMemory) → command_of call.words ≡ None
     → (e ≡ Usage) ⊎ (e ≡ NoMemory)
 unknown call e (inl asked) n = absurd (let some = asked.1 in cc)
 unknown call e (inr is) n = inr is
 
-pub refused : (call : Call) (text : List ℕ) (e : Ending) → Outcome call text e → status_of e ≡ 1 → Refused text e
-refused call text e (checked is c p o) s = absurd (let t = subst (λ x. status_of x ≡ 1) is s in cc)
-refused call text e (ran limits c r) s = absurd (not_status_1 r.run_end (subst (λ x. status_of x ≡ 1) r.is_end s))
-refused call text e (emitted c em) s = absurd (emit_status e (emit_ends call text e em) s)
-refused call text e (failed f o) s = is_refused text e f s
+pub is_refused : (call : Call) (text : List ℕ) (e : Ending) → Outcome call text e → status_of e ≡ 1
+    → (command : Command) × Asks call command × RefusedBy command text e
+is_refused call text e (accepted is command c k p o) s = absurd (let t = subst (λ x. status_of x ≡ 1) is s in cc)
+is_refused call text e (ran limits c r) s = absurd (not_status_1 r.run_end (subst (λ x. status_of x ≡ 1) r.is_end s))
+is_refused call text e (emitted c em) s = absurd (emit_status e (emit_ends call text e em) s)
+is_refused call text e (refused command c f o) s = (command, c, f)
+is_refused call text e (no_memory is o) s = absurd (let t = subst (λ x. status_of x ≡ 1) is s in cc)
 
 pub valid : (call : Call) (text : List ℕ) (e : Ending) → Outcome call text e → e ≡ Valid
-    → (IsCheck call ⊎ IsEmit call) × Passes text
-valid call text e (checked is c p o) x = (inl c, p)
+    → (command : Command) × Asks call command × AcceptedBy command text
+valid call text e (accepted is command c k p o) x = (command, c, p)
 valid call text e (ran limits c r) x = absurd (let is = r.is_end in cc)
-valid call text e (emitted c em) x = (inr c, compiled_passes text em.0 em.1)
-valid call text e (failed f o) x = absurd (fails_not_valid text e f x)
+valid call text e (emitted c em) x = (Emit, c, compiled_passes text em.0 em.1)
+valid call text e (refused command c f o) x =
+    absurd (not_one e Valid (refused_status command text e f) (λ s. cc) x)
+valid call text e (no_memory is o) x = absurd (let memory = is in cc)
 
-fails_first : (text : List ℕ) (e : Ending) → Fails text e → (why : Ending) → Refused text why → (e ≡ why) ⊎ (e ≡ NoMemory)
-fails_first text NoMemory f why w = inr refl
-fails_first text e f why w = inl (verdicts.one_refusal text e why f w)
-
-pub first : (call : Call) (text : List ℕ) (e : Ending) → Outcome call text e → (why : Ending) → Refused text why
-    → (e ≡ why) ⊎ (e ≡ NoMemory)
-first call text e (checked is c p o) why w = absurd (verdicts.never_both text why p w)
-first call text e (ran limits c r) why w = absurd (verdicts.never_both text why (passes text r.program r.is_program) w)
-first call text e (emitted c em) why w = absurd (verdicts.never_both text why (compiled_passes text em.0 em.1) w)
-first call text e (failed f o) why w = fails_first text e f why w
+pub first : (call : Call) (text : List ℕ) (e : Ending) → Outcome call text e → (command : Command) → Asks call command
+    → (why : Ending) → RefusedBy command text why → (e ≡ why) ⊎ (e ≡ NoMemory)
+first call text e (accepted is other c k p o) command d why w =
+    absurd (never_both other text why p (program_refused call text command other why d c w))
+first call text e (ran limits c r) command d why w =
+    absurd (verdicts.never_both text why (passes text r.program r.is_program)
+    (program_refused call text command (Run limits) why d c w))
+first call text e (emitted c em) command d why w =
+    absurd (verdicts.never_both text why (compiled_passes text em.0 em.1) (program_refused call text command Emit why d c w))
+first call text e (refused other c f o) command d why w =
+    inl (one_refusal other text e why f (program_refused call text command other why d c w))
+first call text e (no_memory is o) command d why w = inr is
 
 pub untouched : (call : Call) (text : List ℕ) (e : Ending) → Outcome call text e → (MayRun call e → ⊥)
     → (MayEmit call e → ⊥) → IsUntouched call.out
-untouched call text e (checked is c p o) r m = o
+untouched call text e (accepted is command c k p o) r m = o
 untouched call text e (ran limits c run) r m = absurd (r ((limits, c), subst EndsRun (sym run.is_end) tt))
 untouched call text e (emitted c em) r m = absurd (m (c, emit_ends call text e em))
-untouched call text e (failed f o) r m = o
+untouched call text e (refused command c f o) r m = o
+untouched call text e (no_memory is o) r m = o
 
 -- ---- the print and the end
 
@@ -137,24 +179,29 @@ emit_no_run_end WriteFault ends m = m
 emit_no_run_end _ ends m = ends
 
 pub print : (call : Call) (text : List ℕ) (e : Ending) → Outcome call text e → Print call text e
-print call text e (checked is c p o) limits d m = absurd (subst EndsRun is m)
+print call text e (accepted is command c k p o) limits d m = absurd (subst EndsRun is m)
 print call text e (ran l c r) limits d m =
     inl (subst (λ l. RunsTo l text e call.out) (same_limits call l limits c d) r)
 print call text e (emitted c em) limits d m = absurd (emit_no_run_end e (emit_ends call text e em) m)
-print call text e (failed f o) limits d m = inr (fails_memory text e f m, o)
+print call text e (refused command c f o) limits d m =
+    absurd (one_is_no_run e (refused_status command text e f) m)
+print call text e (no_memory is o) limits d m = inr (is, o)
 
 pub emission : (call : Call) (text : List ℕ) (e : Ending) → Outcome call text e → IsEmit call → EndsEmit e
     → Emits text e call.out
-emission call text e (checked is c p o) d m = absurd (check_or_emit call c d)
+emission call text e (accepted is command c k p o) d m = absurd (no_emit call command c k d)
 emission call text e (ran limits c r) d m = absurd (run_or_emit call limits d c)
 emission call text e (emitted c em) d m = em
-emission call text e (failed f o) d m = absurd (fails_no_emit text e f m)
+emission call text e (refused command c f o) d m = absurd (one_is_no_emit e (refused_status command text e f) m)
+emission call text e (no_memory is o) d m = absurd (subst EndsEmit is m)
 
 pub not_read_fault : (call : Call) (text : List ℕ) (e : Ending) → Outcome call text e → e ≡ ReadFault → ⊥
-not_read_fault call text e (checked is c p o) x = cc
+not_read_fault call text e (accepted is command c k p o) x = cc
 not_read_fault call text e (ran limits c r) x = let is = r.is_end in cc
 not_read_fault call text e (emitted c em) x = subst EndsEmit x (emit_ends call text e em)
-not_read_fault call text e (failed f o) x = fails_no_fault text e f x
+not_read_fault call text e (refused command c f o) x =
+    not_one e ReadFault (refused_status command text e f) (λ s. cc) x
+not_read_fault call text e (no_memory is o) x = let memory = is in cc
 
 -- a write to `out` failed
 abbrev pub IsWriteFault : Ending → Type 0
@@ -171,26 +218,36 @@ emit_write_failed : (call : Call) (text : List ℕ) (e : Ending) → Emits text 
 emit_write_failed call text e em (inl x) = absurd (emit_is_no_run e run_end.WriteFault (emit_ends call text e em) x)
 emit_write_failed call text e em (inr x) = emit_failed em.0 call e em.2 x
 
-valid_is_no_fault : (e : Ending) → e ≡ Valid → IsWriteFault e → ⊥
-valid_is_no_fault e is (inl x) = cc
-valid_is_no_fault e is (inr x) = cc
+-- an ending that is not such a one
+pub no_write_fault : (e : Ending) → (e ≡ Ran run_end.WriteFault → ⊥) → (e ≡ WriteFault → ⊥) → IsWriteFault e → ⊥
+no_write_fault e run emit (inl x) = run x
+no_write_fault e run emit (inr x) = emit x
 
-fails_no_fault_of_writes : (text : List ℕ) (e : Ending) → Fails text e → IsWriteFault e → ⊥
-fails_no_fault_of_writes text e f (inl x) = fails_no_run text e run_end.WriteFault f x
-fails_no_fault_of_writes text e f (inr x) = fails_no_write_fault text e f x
+-- nor is it another ending than the one that it is
+not_other : (e is other : Ending) → e ≡ is → (is ≡ other → ⊥) → e ≡ other → ⊥
+not_other e is other x n y = n (sym x ∙ y)
 
 pub write_failed : (call : Call) (text : List ℕ) (e : Ending) → Outcome call text e → IsWriteFault e → Failed call.out
-write_failed call text e (checked is c p o) x = absurd (valid_is_no_fault e is x)
+write_failed call text e (accepted is command c k p o) x =
+    absurd (no_write_fault e (not_other e Valid (Ran run_end.WriteFault) is (λ w. cc))
+    (not_other e Valid WriteFault is (λ w. cc)) x)
 write_failed call text e (ran limits c r) x = run_write_failed limits call text e r x
 write_failed call text e (emitted c em) x = emit_write_failed call text e em x
-write_failed call text e (failed f o) x = absurd (fails_no_fault_of_writes text e f x)
+write_failed call text e (refused command c f o) x =
+    let one = refused_status command text e f in
+    absurd (no_write_fault e (not_one e (Ran run_end.WriteFault) one (λ s. cc)) (not_one e WriteFault one (λ s. cc)) x)
+write_failed call text e (no_memory is o) x =
+    absurd (no_write_fault e (not_other e NoMemory (Ran run_end.WriteFault) is (λ w. cc))
+    (not_other e NoMemory WriteFault is (λ w. cc)) x)
 
 pub ran_asks : (call : Call) (text : List ℕ) (e : Ending) → Outcome call text e → (end : RunEnd) → e ≡ Ran end
     → AsksRun call.words
-ran_asks call text e (checked is c p o) end x = absurd (let is = is in cc)
+ran_asks call text e (accepted is command c k p o) end x = absurd (not_other e Valid (Ran end) is (λ w. cc) x)
 ran_asks call text e (ran limits c r) end x = (limits, c)
 ran_asks call text e (emitted c em) end x = absurd (emit_is_no_run e end (emit_ends call text e em) x)
-ran_asks call text e (failed f o) end x = absurd (fails_no_run text e end f x)
+ran_asks call text e (refused command c f o) end x =
+    absurd (not_one e (Ran end) (refused_status command text e f) (not_status_1 end) x)
+ran_asks call text e (no_memory is o) end x = absurd (not_other e NoMemory (Ran end) is (λ w. cc) x)
 
 -- ---- faults
 
@@ -216,10 +273,11 @@ not_fault call e other is t s x =
 
 out_held : (call : Call) (text : List ℕ) (e : Ending) → Outcome call text e → (e ≡ Ran run_end.WriteFault → ⊥)
     → (e ≡ WriteFault → ⊥) → Held call.out
-out_held call text e (checked is c p o) n m = o.1
+out_held call text e (accepted is command c k p o) n m = o.1
 out_held call text e (ran limits c r) n m = r.held (λ w. n (r.is_end ∙ ap Ran w))
 out_held call text e (emitted c em) n m = emit_held em.0 call e em.2 m
-out_held call text e (failed f o) n m = o.1
+out_held call text e (refused command c f o) n m = o.1
+out_held call text e (no_memory is o) n m = o.1
 
 faults_write : (call : Call) (text : List ℕ) (e : Ending) → Outcome call text e
     → IsWriteFault e ⊎ Failed call.err → Failed call.out ⊎ Failed call.err
@@ -258,16 +316,15 @@ runs_whole limits call text program run_end.GoroutinesSpent r s t w =
 runs_whole limits call text program run_end.WriteFault r s t w = absurd (w refl)
 runs_whole limits call text program run_end.NoMemory r s t w = inr t.0
 
--- the text is a program: then only memory kept it from being one
-must_be_memory : (call : Call) (text : List ℕ) (e : Ending) → Fails text e → Passes text
-    → Tells text e call.status call.err → (Failed call.err → ⊥) → call.status ≡ 11
-must_be_memory call text NoMemory f p t n = (told_whole call text NoMemory t n).0
-must_be_memory call text e f p t n = absurd (verdicts.never_both text e p f)
+-- an ending for want of memory is reported so
+memory_status : (call : Call) (text : List ℕ) (e : Ending) → e ≡ NoMemory → Tells text e call.status call.err
+    → (Failed call.err → ⊥) → call.status ≡ 11
+memory_status call text e is t n = (told_whole call text e t n).0 ∙ ap status_of is
 
 pub complete_run : (call : Call) (text : List ℕ) (e : Ending) → Outcome call text e → Tells text e call.status call.err
     → (limits : Limits) → IsRun call limits → (Failed call.out → ⊥) → (Failed call.err → ⊥)
     → MustRunWhole limits call text
-complete_run call text e (checked is c u o) t limits d w n program p s = absurd (not_both call limits c d)
+complete_run call text e (accepted is command c k u o) t limits d w n program p s = absurd (no_run call command limits c k d)
 complete_run call text e (ran l c r) t limits d w n program p s =
     let same = same_limits call l limits c d in
     let q = verdicts.one_program text r.program program r.is_program p in
@@ -278,17 +335,22 @@ complete_run call text e (ran l c r) t limits d w n program p s =
     (subst (λ x. (call.status ≡ status_of x) × Grew call.err (line_of text x)) r.is_end (told_whole call text e t n))
     (λ f. w (r.failed f))
 complete_run call text e (emitted c em) t limits d w n program p s = absurd (run_or_emit call limits c d)
-complete_run call text e (failed f o) t limits d w n program p s =
-    inr (must_be_memory call text e f (passes text program p) t n)
+complete_run call text e (refused command c f o) t limits d w n program p s =
+    absurd (verdicts.never_both text e (passes text program p) (program_refused call text command (Run limits) e c d f))
+complete_run call text e (no_memory is o) t limits d w n program p s = inr (memory_status call text e is t n)
 
-pub complete_check : (call : Call) (text : List ℕ) (e : Ending) → Outcome call text e → Tells text e call.status call.err
-    → IsCheck call → (Failed call.err → ⊥) → Passes text → IsSilent call ⊎ (call.status ≡ 11)
-complete_check call text e (checked is c u o) t d n p =
+-- a text that is only checked, and that the command accepts
+pub complete_checking : (call : Call) (text : List ℕ) (e : Ending) → Outcome call text e
+    → Tells text e call.status call.err → (command : Command) → Asks call command → OnlyChecks command
+    → (Failed call.err → ⊥) → AcceptedBy command text → IsSilent call ⊎ (call.status ≡ 11)
+complete_checking call text e (accepted is other c k u o) t command d only n p =
     let told = subst (λ x. (call.status ≡ status_of x) × Grew call.err (line_of text x)) is (told_whole call text e t n) in
     inl (record { status = told.0; untouched = o; silent = told.1 })
-complete_check call text e (ran limits c r) t d n p = absurd (not_both call limits d c)
-complete_check call text e (emitted c em) t d n p = absurd (check_or_emit call d c)
-complete_check call text e (failed f o) t d n p = inr (must_be_memory call text e f p t n)
+complete_checking call text e (ran limits c r) t command d only n p = absurd (no_run call command limits d only c)
+complete_checking call text e (emitted c em) t command d only n p = absurd (no_emit call command d only c)
+complete_checking call text e (refused other c f o) t command d only n p =
+    absurd (never_both command text e p (program_refused call text other command e c d f))
+complete_checking call text e (no_memory is o) t command d only n p = inr (memory_status call text e is t n)
 
 emits_whole : (call : Call) (text : List ℕ) (e : Ending) (bytes : List ℕ) → IsCodeText text bytes
     → WritesCode bytes e call.out → (call.status ≡ status_of e) × Grew call.err (line_of text e)
@@ -307,8 +369,10 @@ emits_whole call text _ bytes is w t n = absurd w
 pub complete_emit : (call : Call) (text : List ℕ) (e : Ending) → Outcome call text e → Tells text e call.status call.err
     → IsEmit call → (Failed call.out → ⊥) → (Failed call.err → ⊥) → Passes text
     → EmitsWhole call text ⊎ (call.status ≡ 11)
-complete_emit call text e (checked is c u o) t d w n p = absurd (check_or_emit call c d)
+complete_emit call text e (accepted is command c k u o) t d w n p = absurd (no_emit call command c k d)
 complete_emit call text e (ran limits c r) t d w n p = absurd (run_or_emit call limits d c)
 complete_emit call text e (emitted c em) t d w n p =
     inl (emits_whole call text e em.0 em.1 em.2 (told_whole call text e t n) w)
-complete_emit call text e (failed f o) t d w n p = inr (must_be_memory call text e f p t n)
+complete_emit call text e (refused command c f o) t d w n p =
+    absurd (verdicts.never_both text e p (program_refused call text command Emit e c d f))
+complete_emit call text e (no_memory is o) t d w n p = inr (memory_status call text e is t n)

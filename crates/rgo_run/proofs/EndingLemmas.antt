@@ -3,42 +3,37 @@ use Rattle.std.proofs.Common.{◌≡◌, ◌⊎◌, inl, inr, true, ℕ, List, r
 use Rattle.rgo_machine.specs.declared.picks.End.TheVariants as the_end
 use Rattle.rgo_driver.specs.declared.ends.RunEnd.{RunEnd}
 use Rattle.rgo_driver.specs.declared.ends.RunEnd.TheVariants as run_end
+use Rattle.rgo_command_line.specs.declared.commands.Command.{Command}
+use Rattle.rgo_command_line.specs.declared.commands.Command.TheVariants.{Run, Check, Emit, Code}
 use Rattle.rgo_run.specs.declared.endings.Ending.{Ending}
-use Rattle.rgo_run.specs.declared.endings.Ending.TheVariants.{Valid, Ran, Usage, ReadFault, TooLong}
-use Rattle.rgo_run.specs.declared.endings.Ending.TheVariants.{Lexical, Syntax, Nesting, Typing, WriteFault, NoMemory}
+use Rattle.rgo_run.specs.declared.endings.Ending.TheVariants.{Valid, Ran, Usage, ReadFault, TooLong, CodeTooLong}
+use Rattle.rgo_run.specs.declared.endings.Ending.TheVariants.{Lexical, Syntax, Nesting, Typing, NoForm, Breaks, WriteFault, NoMemory}
 use Rattle.rgo_run.specs.Endings.{status_of, status_of_run, is_run_status}
 use Rattle.rgo_run.specs.Headline.{EndsEmit, EndsRun}
-use Rattle.rgo_run.specs.Texts.{Fails}
+use Rattle.rgo_run.specs.CodeVerdicts.{CodeRefused}
+use Rattle.rgo_run.specs.Texts.{RefusedBy}
 use Rattle.rgo_run.specs.Verdicts.{Refused}
 
-pub fails_no_usage : (text : List ℕ) (e : Ending) → Fails text e → e ≡ Usage → ⊥
-fails_no_usage text e f u = subst (Fails text) u f
+-- a refusal has status 1
+text_refused : (text : List ℕ) (e : Ending) → Refused text e → status_of e ≡ 1
+text_refused text TooLong r = refl
+text_refused text (Lexical refusal) r = refl
+text_refused text (Syntax at) r = refl
+text_refused text (Nesting at) r = refl
+text_refused text (Typing refusal) r = refl
+text_refused text _ r = absurd r
 
-pub fails_no_fault : (text : List ℕ) (e : Ending) → Fails text e → e ≡ ReadFault → ⊥
-fails_no_fault text e f u = subst (Fails text) u f
+code_refused : (text : List ℕ) (e : Ending) → CodeRefused text e → status_of e ≡ 1
+code_refused text CodeTooLong r = refl
+code_refused text (NoForm line) r = refl
+code_refused text (Breaks refusal) r = refl
+code_refused text _ r = absurd r
 
-pub fails_not_valid : (text : List ℕ) (e : Ending) → Fails text e → e ≡ Valid → ⊥
-fails_not_valid text e f u = subst (Fails text) u f
-
-pub fails_no_run : (text : List ℕ) (e : Ending) (end : RunEnd) → Fails text e → e ≡ Ran end → ⊥
-fails_no_run text e end f u = subst (Fails text) u f
-
-pub fails_no_write_fault : (text : List ℕ) (e : Ending) → Fails text e → e ≡ WriteFault → ⊥
-fails_no_write_fault text e f u = subst (Fails text) u f
-
-pub fails_no_emit : (text : List ℕ) (e : Ending) → Fails text e → EndsEmit e → ⊥
-fails_no_emit text Valid f m = f
-fails_no_emit text WriteFault f m = f
-fails_no_emit text _ f m = m
-
-pub fails_memory : (text : List ℕ) (e : Ending) → Fails text e → EndsRun e → e ≡ NoMemory
-fails_memory text NoMemory f m = refl
-fails_memory text (Ran end) f m = absurd f
-fails_memory text _ f m = absurd m
-
-pub is_refused : (text : List ℕ) (e : Ending) → Fails text e → status_of e ≡ 1 → Refused text e
-is_refused text NoMemory f s = cc
-is_refused text e f s = f
+pub refused_status : (command : Command) (text : List ℕ) (e : Ending) → RefusedBy command text e → status_of e ≡ 1
+refused_status (Run limits) text e r = text_refused text e r
+refused_status Check text e r = text_refused text e r
+refused_status Emit text e r = text_refused text e r
+refused_status Code text e r = code_refused text e r
 
 -- the status of a run is none of a refusal or of a failed read
 pub not_status_1 : (end : RunEnd) → status_of_run end ≡ 1 → ⊥
@@ -50,6 +45,20 @@ not_status_1 run_end.StepsSpent s = cc
 not_status_1 run_end.GoroutinesSpent s = cc
 not_status_1 run_end.WriteFault s = cc
 not_status_1 run_end.NoMemory s = cc
+
+-- an ending with status 1 is none with another status
+pub not_one : (e other : Ending) → status_of e ≡ 1 → (status_of other ≡ 1 → ⊥) → e ≡ other → ⊥
+not_one e other s differs is = differs (subst (λ x. status_of x ≡ 1) is s)
+
+pub one_is_no_run : (e : Ending) → status_of e ≡ 1 → EndsRun e → ⊥
+one_is_no_run (Ran end) s m = not_status_1 end s
+one_is_no_run NoMemory s m = cc
+one_is_no_run _ s m = m
+
+pub one_is_no_emit : (e : Ending) → status_of e ≡ 1 → EndsEmit e → ⊥
+one_is_no_emit Valid s m = cc
+one_is_no_emit WriteFault s m = cc
+one_is_no_emit _ s m = m
 
 -- with status 9 a read failed
 pub read_fault : (e : Ending) → status_of e ≡ 9 → e ≡ ReadFault
@@ -69,6 +78,9 @@ read_fault (Lexical refusal) s = cc
 read_fault (Syntax at) s = cc
 read_fault (Nesting at) s = cc
 read_fault (Typing refusal) s = cc
+read_fault CodeTooLong s = cc
+read_fault (NoForm line) s = cc
+read_fault (Breaks refusal) s = cc
 read_fault WriteFault s = cc
 read_fault NoMemory s = cc
 
@@ -91,6 +103,9 @@ write_fault (Lexical refusal) s = cc
 write_fault (Syntax at) s = cc
 write_fault (Nesting at) s = cc
 write_fault (Typing refusal) s = cc
+write_fault CodeTooLong s = cc
+write_fault (NoForm line) s = cc
+write_fault (Breaks refusal) s = cc
 write_fault NoMemory s = cc
 
 pub run_of_status : (e : Ending) → is_run_status (status_of e) ≡ true → (end : RunEnd) × (e ≡ Ran end)
@@ -104,4 +119,7 @@ run_of_status (Lexical refusal) s = cc
 run_of_status (Syntax at) s = cc
 run_of_status (Nesting at) s = cc
 run_of_status (Typing refusal) s = cc
+run_of_status CodeTooLong s = cc
+run_of_status (NoForm line) s = cc
+run_of_status (Breaks refusal) s = cc
 run_of_status WriteFault s = cc

@@ -5,22 +5,23 @@ use Rattle.rgo_machine.specs.declared.picks.End.TheVariants as the_end
 use Rattle.rgo_driver.specs.declared.ends.RunEnd.{RunEnd}
 use Rattle.rgo_driver.specs.declared.ends.RunEnd.TheVariants as run_end
 use Rattle.rgo_command_line.specs.declared.commands.Command.{Command}
-use Rattle.rgo_command_line.specs.declared.commands.Command.TheVariants.{Run, Check, Emit}
+use Rattle.rgo_command_line.specs.declared.commands.Command.TheVariants.{Run, Check, Emit, Code}
 use Rattle.rgo_machine.specs.declared.limits.Limits.{Limits}
 use Rattle.rgo_command_line.specs.Commands.{command_of}
 use Rattle.rgo_run.specs.declared.endings.Ending.{Ending}
-use Rattle.rgo_run.specs.declared.endings.Ending.TheVariants.{Valid, Ran, Usage, ReadFault, TooLong}
+use Rattle.rgo_run.specs.declared.endings.Ending.TheVariants.{Valid, Ran, Usage, ReadFault, TooLong, CodeTooLong}
 use Rattle.rgo_run.specs.declared.endings.Ending.TheVariants.{WriteFault, NoMemory}
 use Rattle.rgo_run.specs.Calls.{AsksRun, Call, Asks, IsCheck, SourceFailed, SourceHeld, IsUntouched}
 use Rattle.rgo_run.specs.Endings.{status_of, is_run_status, is_fault_status}
 use Rattle.rgo_run.specs.Reports.{Tells, HasPlace, Reports}
 use Rattle.rgo_run.specs.Runs.{ProgramRuns, RunsTo}
-use Rattle.rgo_run.specs.Texts.{IsTextOf, IsRead, AskSome, NotRead, Checks, Performs}
+use Rattle.rgo_run.specs.Texts.{IsTextOf, IsRead, AskSome, NotRead, ReadTooMuch, Checks, ChecksCode, Fails, Performs, RefusedBy}
+use Rattle.rgo_run.specs.Verdicts.{Refused}
 use Rattle.rgo_run.specs.Headline.{EndsEmit, EndsRun, Headline}
 use Rattle.rgo_run.proofs.EndingLemmas.{run_of_status}
-use Rattle.rgo_run.proofs.ClaimLemmas.{IsWriteFault, Outcome, checked, ran, emitted, failed, Went}
-use Rattle.rgo_run.proofs.ClaimLemmas.{complete_check, complete_emit, complete_run, emission, err_held, faults, first}
-use Rattle.rgo_run.proofs.ClaimLemmas.{not_read_fault, print, ran_asks, refused, status_10, status_9}
+use Rattle.rgo_run.proofs.ClaimLemmas.{IsWriteFault, Outcome, accepted, ran, emitted, refused, no_memory, Went}
+use Rattle.rgo_run.proofs.ClaimLemmas.{complete_checking, complete_emit, complete_run, emission, err_held, faults, first}
+use Rattle.rgo_run.proofs.ClaimLemmas.{is_refused, no_write_fault, not_read_fault, print, ran_asks, status_10, status_9}
 use Rattle.rgo_run.proofs.ClaimLemmas.{emit_ends, unknown, untouched, usage, valid, write_failed}
 
 -- ---- calls that read their text, or had no memory for that
@@ -33,9 +34,9 @@ headline_told call text e went t = record {
   refusal = record {
     usage = usage call text e went.outcome;
     unknown = unknown call e went.asks;
-    refused = refused call text e went.outcome;
+    refused = is_refused call text e went.outcome;
     passes = valid call text e went.outcome;
-    first = λ command c n. first call text e went.outcome;
+    first = λ command c n. first call text e went.outcome command c;
     untouched = untouched call text e went.outcome;
   };
   print = print call text e went.outcome;
@@ -49,8 +50,9 @@ headline_told call text e went t = record {
   faults = faults call text e went t;
   complete = record {
     run = λ limits c s o n. complete_run call text e went.outcome t limits c o n;
-    check = λ c s n. complete_check call text e went.outcome t c n;
+    check = λ c s n. complete_checking call text e went.outcome t Check c tt n;
     emit = λ c s o n. complete_emit call text e went.outcome t c o n;
+    code = λ c s n. complete_checking call text e went.outcome t Code c tt n;
   };
 }
 
@@ -106,7 +108,7 @@ no_place _ ends h = ends
 
 no_line : (call : Call) (text : List ℕ) (e : Ending) → Went call text e → Outcome call text e → HasPlace e
     → Tells text NoMemory call.status call.err → Headline call
-no_line call text e went (checked is c p o) h t = absurd (subst HasPlace is h)
+no_line call text e went (accepted is command c k p o) h t = absurd (subst HasPlace is h)
 no_line call text e went (ran limits c r) h t =
     headline_told call text (Ran run_end.NoMemory) (record {
       is_text = went.is_text;
@@ -115,29 +117,45 @@ no_line call text e went (ran limits c r) h t =
       outcome = ran limits c (no_line_run limits text call e r.run_end r refl (subst HasPlace r.is_end h));
     }) t
 no_line call text e went (emitted c em) h t = absurd (no_place e (emit_ends call text e em) h)
-no_line call text e went (failed f o) h t =
+no_line call text e went (refused command c f o) h t =
     headline_told call text NoMemory (record {
       is_text = went.is_text;
       held = went.held;
       asks = inr refl;
-      outcome = failed tt o;
+      outcome = no_memory refl o;
     }) t
+no_line call text e went (no_memory is o) h t = absurd (subst HasPlace is h)
 
 pub headline_of : (call : Call) (text : List ℕ) (e : Ending) → Went call text e → Reports text e call.status call.err → Headline call
 headline_of call text e went (inl t) = headline_told call text e went t
 headline_of call text e went (inr t) = no_line call text e went went.outcome t.0 t.1
 
-checked_outcome : (call : Call) (text : List ℕ) (e : Ending) → IsCheck call → Checks text e → IsUntouched call.out → Outcome call text e
-checked_outcome call text Valid c p u = checked refl c p u
-checked_outcome call text e c p u = failed p u
+-- a program that was not made, for a refusal or for want of memory
+failed_outcome : (call : Call) (command : Command) (text : List ℕ) (e : Ending) → Asks call command
+    → ((why : Ending) → Refused text why → RefusedBy command text why) → Fails text e → IsUntouched call.out
+    → Outcome call text e
+failed_outcome call command text NoMemory c by f u = no_memory refl u
+failed_outcome call command text e c by f u = refused command c (by e f) u
+
+checked_outcome : (call : Call) (text : List ℕ) (e : Ending) → Asks call Check → Checks text e → IsUntouched call.out
+    → Outcome call text e
+checked_outcome call text Valid c p u = accepted refl Check c tt p u
+checked_outcome call text e c p u = failed_outcome call Check text e c (λ why f. f) p u
+
+code_outcome : (call : Call) (text : List ℕ) (e : Ending) → Asks call Code → ChecksCode text e → IsUntouched call.out
+    → Outcome call text e
+code_outcome call text Valid c p u = accepted refl Code c tt p u
+code_outcome call text NoMemory c p u = no_memory refl u
+code_outcome call text e c p u = refused Code c p u
 
 performed_outcome : (call : Call) (command : Command) (text : List ℕ) (e : Ending) → Asks call command
     → Performs command text e call.out → Outcome call text e
 performed_outcome call Check text e c p = checked_outcome call text e c p.0 p.1
 performed_outcome call (Run limits) text e c (inl r) = ran limits c r
-performed_outcome call (Run limits) text e c (inr f) = failed f.0 f.1
+performed_outcome call (Run limits) text e c (inr f) = failed_outcome call (Run limits) text e c (λ why r. r) f.0 f.1
 performed_outcome call Emit text e c (inl em) = emitted c em
-performed_outcome call Emit text e c (inr f) = failed f.0 f.1
+performed_outcome call Emit text e c (inr f) = failed_outcome call Emit text e c (λ why r. r) f.0 f.1
+performed_outcome call Code text e c p = code_outcome call text e c p.0 p.1
 
 -- a call whose text was read
 pub headline_of_text : (call : Call) (command : Command) (text : List ℕ) (e : Ending)
@@ -208,12 +226,9 @@ headline_outside call e outside u t of_usage to_usage of_fault kept only = recor
     run = λ limits c s o n. absurd (only (Run limits) c s);
     check = λ c s n. absurd (only Check c s);
     emit = λ c s o n. absurd (only Emit c s);
+    code = λ c s n. absurd (only Code c s);
   };
 }
-
-no_write : (e : Ending) → (e ≡ Ran run_end.WriteFault → ⊥) → (e ≡ WriteFault → ⊥) → IsWriteFault e → ⊥
-no_write e run emit (inl x) = run x
-no_write e run emit (inr x) = emit x
 
 usage_outside : IsOutside Usage
 usage_outside = record {
@@ -221,7 +236,7 @@ usage_outside = record {
   not_valid = λ x. cc;
   no_run = λ m. m;
   no_emit = λ m. m;
-  no_write_fault = no_write Usage (λ x. cc) (λ x. cc);
+  no_write_fault = no_write_fault Usage (λ x. cc) (λ x. cc);
   not_ran = λ end x. cc;
 }
 
@@ -231,7 +246,7 @@ fault_outside = record {
   not_valid = λ x. cc;
   no_run = λ m. m;
   no_emit = λ m. m;
-  no_write_fault = no_write ReadFault (λ x. cc) (λ x. cc);
+  no_write_fault = no_write_fault ReadFault (λ x. cc) (λ x. cc);
   not_ran = λ end x. cc;
 }
 
@@ -241,6 +256,16 @@ none_asked call n command c = cc
 some_asked : (call : Call) → AskSome call.words → command_of call.words ≡ None → ⊥
 some_asked call some n = let c = some.1 in cc
 
+-- a source that had too many bytes left
+too_much : (call : Call) (e : Ending) → (n : ReadTooMuch call.words call.source e) → IsUntouched call.out
+    → Went call n.text e
+too_much call e n u = record {
+  is_text = n.is_text;
+  held = n.held;
+  asks = inl (n.command, n.asked);
+  outcome = refused n.command n.asked n.refused u;
+}
+
 pub headline_of_words : (call : Call) (e : Ending) → NotRead call.words call.source e → IsUntouched call.out
     → Reports [] e call.status call.err → Headline call
 headline_of_words call Usage n u (inl t) =
@@ -249,18 +274,20 @@ headline_of_words call Usage n u (inl t) =
 headline_of_words call ReadFault n u (inl t) =
     headline_outside call ReadFault fault_outside u t (λ x. cc) (λ none. absurd (some_asked call n.0 none)) (λ _. n.1)
     (λ s. cc) (λ command c no. no n.1)
-headline_of_words call TooLong n u (inl t) =
-    headline_told call n.2 TooLong (record { is_text = n.3; held = n.1; asks = inl n.0; outcome = failed n.4 u }) t
+headline_of_words call TooLong n u (inl t) = headline_told call n.text TooLong (too_much call TooLong n u) t
+headline_of_words call CodeTooLong n u (inl t) =
+    headline_told call n.text CodeTooLong (too_much call CodeTooLong n u) t
 headline_of_words call NoMemory n u (inl t) =
     headline_told call (some_text call.source.left) NoMemory (record {
       is_text = is_some_text call.source.left;
       held = n;
       asks = inr refl;
-      outcome = failed tt u;
+      outcome = no_memory refl u;
     }) t
 headline_of_words call Usage n u (inr t) = absurd t.0
 headline_of_words call ReadFault n u (inr t) = absurd t.0
 headline_of_words call TooLong n u (inr t) = absurd t.0
+headline_of_words call CodeTooLong n u (inr t) = absurd t.0
 headline_of_words call NoMemory n u (inr t) = absurd t.0
 headline_of_words call _ n u t = absurd n
 

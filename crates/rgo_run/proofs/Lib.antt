@@ -1,5 +1,6 @@
 pub mod EndingLemmas
 pub mod ClaimLemmas
+pub mod CodeVerdictLemmas
 pub mod HeadlineLemmas
 pub mod ProgramLemmas
 pub mod TextLemmas

@@ -1,5 +1,5 @@
 -- What the parts of the compiler say of a text, as the endings that report it.
-use Rattle.std.proofs.Common.{◌≡◌, ℕ, suc, ◌≤◌, inl, Bool, true, false, List, [], ◌∷◌, ◌++◌, length, Option, None, Some, refl, arith, subst}
+use Rattle.std.proofs.Common.{◌≡◌, ℕ, suc, ◌<◌, ◌≤◌, inl, Bool, true, false, List, [], ◌∷◌, ◌++◌, length, Option, None, Some, refl, arith, subst}
 use Rattle.std.specs.Prelude.{max, nat_le, codes, bytes_eq, if◌then◌else◌}
 use Rattle.std.proofs.lemmas.Bool.Decides.{nat_tests}
 use Rattle.rgo_outside.specs.Moves.{ReadsAll, GivesTooMany}
@@ -33,49 +33,96 @@ use Rattle.rgo_driver.specs.Runs.{Ends, Runs}
 use Rattle.rgo_driver.specs.declared.ends.RunEnd.{RunEnd}
 use Rattle.rgo_driver.specs.declared.ends.RunEnd.TheVariants.{Deadlock, WriteFault}
 use Rattle.rgo_command_line.specs.Commands.{command_of}
-use Rattle.rgo_command_line.specs.declared.commands.Command.TheVariants.{Emit, Run}
+use Rattle.rgo_command_line.specs.declared.commands.Command.{Command}
+use Rattle.rgo_command_line.specs.declared.commands.Command.TheVariants.{Check, Code, Emit, Run}
 use Rattle.rgo_command_line.specs.declared.commands.WordsError.{WordsError}
 use Rattle.rgo_command_line.specs.declared.commands.WordsError.TheVariants as words
 use Rattle.rgo_machine.specs.declared.limits.Limits.{Limits}
-use Rattle.rgo_code.specs.Code.{Code}
+use Rattle.rgo_code.specs.Code as code
 use Rattle.rgo_code_printing.specs.Text.{text_of}
+use Rattle.rgo_code_text.specs.Refusing.{Refuses as ReadFails}
+use Rattle.rgo_code_text.specs.declared.refusals.ReadError.{ReadError}
+use Rattle.rgo_code_text.specs.declared.refusals.ReadError.TheVariants as reading
+use Rattle.rgo_checker.specs.Outcomes.{CheckFails}
+use Rattle.rgo_checker.specs.declared.errors.CheckError.{CheckError}
+use Rattle.rgo_checker.specs.declared.errors.CheckError.TheVariants as check
 use Rattle.rgo_run.specs.declared.endings.Ending.{Ending}
-use Rattle.rgo_run.specs.declared.endings.Ending.TheVariants.{Ran, Usage, TooLong}
+use Rattle.rgo_run.specs.declared.endings.Ending.TheVariants.{Ran, Usage}
 use Rattle.rgo_run.specs.Compiled.{IsCompiled, WritesCode}
 use Rattle.rgo_run.specs.Calls.{SourceUse, SourceFailed, SourceHeld, SinkUse, Failed, Held}
-use Rattle.rgo_run.specs.Errors.{command_error, read_error, lex_error, type_error}
+use Rattle.rgo_run.specs.Errors.{command_error, read_error, too_long, lex_error, type_error, reading_error, check_error}
 use Rattle.rgo_run.specs.Runs.{IsCodeOf, SourceRun}
-use Rattle.rgo_run.specs.Texts.{IsTextOf, AskSome, NotRead, Fails, Performs}
-use Rattle.rgo_run.specs.Verdicts.{IsTree, Refused, text_limit}
+use Rattle.rgo_run.specs.CodeVerdicts.{IsTextOfCode, code_limit}
+use Rattle.rgo_run.specs.Texts.{IsTextOf, NotRead, ReadTooMuch, RefusedBy, Fails, ChecksCode, Performs, limit_of}
+use Rattle.rgo_run.specs.Verdicts.{IsTree, text_limit}
 
 -- the bytes that were read to the end are the text
-pub is_text : (left rest : Option (List ℕ)) (bytes : List ℕ) → ReadsAll text_limit left rest bytes → IsTextOf left bytes
-is_text left rest bytes read = ReadsAll-told text_limit left rest bytes (λ text. bytes ≡ text) read refl
+pub is_text : (limit : ℕ) (left rest : Option (List ℕ)) (bytes : List ℕ) → ReadsAll limit left rest bytes → IsTextOf left bytes
+is_text limit left rest bytes read = ReadsAll-told limit left rest bytes (λ text. bytes ≡ text) read refl
 
--- too many bytes are the beginning of a text that is too long
-pub too_long : (left rest : Option (List ℕ)) → GivesTooMany text_limit left rest
-    → (text : List ℕ) × IsTextOf left text × Refused text TooLong
-too_long None rest gave = (gave.0, tt, omega (arith, gave.1))
-too_long (Some text) rest gave = (text, refl, GivesTooMany-told text_limit (Some text) rest gave)
+-- more bytes than the limit are the beginning of a text that is longer
+longer : (limit : ℕ) (left rest : Option (List ℕ)) → GivesTooMany limit left rest
+    → (text : List ℕ) × IsTextOf left text × (limit < length text)
+longer limit None rest gave = (gave.0, tt, omega (arith, gave.1))
+longer limit (Some text) rest gave = (text, refl, GivesTooMany-told limit (Some text) rest gave)
+
+-- such a text is refused
+too_long_refused : (command : Command) (text : List ℕ) → limit_of command < length text
+    → RefusedBy command text (too_long command)
+too_long_refused (Run limits) text h = h
+too_long_refused Check text h = h
+too_long_refused Emit text h = h
+too_long_refused Code text h = h
+
+too_much : (command : Command) (w : List (List ℕ)) (source : SourceUse) (rest : Option (List ℕ))
+    → command_of w ≡ Some command → SourceHeld source → GivesTooMany (limit_of command) source.left rest
+    → ReadTooMuch w source (too_long command)
+too_much command w source rest asked held gave =
+    let t = longer (limit_of command) source.left rest gave in
+    record {
+      command = command;
+      asked = asked;
+      held = held;
+      text = t.0;
+      is_text = t.1;
+      refused = too_long_refused command t.0 t.2;
+    }
+
+not_read : (command : Command) (w : List (List ℕ)) (source : SourceUse) → ReadTooMuch w source (too_long command)
+    → NotRead w source (too_long command)
+not_read (Run limits) w source much = much
+not_read Check w source much = much
+not_read Emit w source much = much
+not_read Code w source much = much
+
+pub limit_is_small : (command : Command) → limit_of command ≤ code_limit
+limit_is_small (Run limits) = omega arith
+limit_is_small Check = omega arith
+limit_is_small Emit = omega arith
+limit_is_small Code = omega arith
 
 pub no_words : (w : List (List ℕ)) (source : SourceUse) (error : WordsError)
     → (error ≡ words.Usage → command_of w ≡ None) → SourceHeld source → NotRead w source (command_error error)
 no_words w source words.Usage asked held = (asked refl, held)
 no_words w source words.NoMemory asked held = held
 
-pub no_text : (w : List (List ℕ)) (source : SourceUse) (rest : Option (List ℕ)) (end : ReadEnd) → AskSome w
+pub no_text : (command : Command) (w : List (List ℕ)) (source : SourceUse) (rest : Option (List ℕ)) (end : ReadEnd)
+    → command_of w ≡ Some command
     → (end ≡ read.Fault → SourceFailed source)
-    → (end ≡ read.TooLong → SourceHeld source × GivesTooMany text_limit source.left rest)
-    → (end ≡ read.NoMemory → SourceHeld source) → NotRead w source (read_error end)
-no_text w source rest read.Fault asked fault long memory = (asked, fault refl)
-no_text w source rest read.TooLong asked fault long memory =
-    let h = long refl in let t = too_long source.left rest h.1 in (asked, h.0, t.0, t.1, t.2)
-no_text w source rest read.NoMemory asked fault long memory = memory refl
+    → (end ≡ read.TooLong → SourceHeld source × GivesTooMany (limit_of command) source.left rest)
+    → (end ≡ read.NoMemory → SourceHeld source) → NotRead w source (read_error command end)
+no_text command w source rest read.Fault asked fault long memory = ((command, asked), fault refl)
+no_text command w source rest read.TooLong asked fault long memory =
+    let h = long refl in not_read command w source (too_much command w source rest asked h.0 h.1)
+no_text command w source rest read.NoMemory asked fault long memory = memory refl
 
-pub no_usage : (end : ReadEnd) → read_error end ≡ Usage → ⊥
-no_usage read.Fault x = cc
-no_usage read.TooLong x = cc
-no_usage read.NoMemory x = cc
+pub no_usage : (command : Command) (end : ReadEnd) → read_error command end ≡ Usage → ⊥
+no_usage command read.Fault x = cc
+no_usage (Run limits) read.TooLong x = cc
+no_usage Check read.TooLong x = cc
+no_usage Emit read.TooLong x = cc
+no_usage Code read.TooLong x = cc
+no_usage command read.NoMemory x = cc
 
 pub lex_fails : (text : List ℕ) (error : LexError) → length text ≤ text_limit → LexFails text error
     → Fails text (lex_error error)
@@ -153,7 +200,19 @@ ran limits text code end out is_code runs failed held = inl (record {
 
 -- ---- code that is printed
 
-pub emitted : (text : List ℕ) (code : Code) (bytes : List ℕ) (e : Ending) (out : SinkUse) → IsCompiled text code
+pub emitted : (text : List ℕ) (code : code.Code) (bytes : List ℕ) (e : Ending) (out : SinkUse) → IsCompiled text code
     → bytes ≡ text_of code → WritesCode bytes e out → Performs Emit text e out
 emitted text code bytes e out is is_text writes =
     inl (bytes, record { code = code; compiled = is; is_text = is_text }, writes)
+
+-- ---- code texts
+
+pub read_fails : (text : List ℕ) (error : ReadError) → length text ≤ code_limit → ReadFails text error
+    → ChecksCode text (reading_error error)
+read_fails text reading.NoMemory within fails = tt
+read_fails text (reading.Refused refusal) within fails = (within, fails)
+
+pub check_fails : (text : List ℕ) (c : code.Code) (error : CheckError) → IsTextOfCode text c → CheckFails error c
+    → ChecksCode text (check_error error)
+check_fails text c check.NoMemory is fails = tt
+check_fails text c (check.Refused refusal) is fails = record { code = c; is_text = is; broken = fails }

@@ -3,7 +3,7 @@ use Rattle.std.specs.Prelude.{◌≡◌, ℕ, Bool, true, List, [], Option, Some
 use Rattle.std.specs.Io.KnownBytes.{Appends}
 use Rattle.rgo_outside.specs.Causes.{Rose}
 use Rattle.rgo_command_line.specs.declared.commands.Command.{Command}
-use Rattle.rgo_command_line.specs.declared.commands.Command.TheVariants.{Run, Check, Emit}
+use Rattle.rgo_command_line.specs.declared.commands.Command.TheVariants.{Run, Check, Emit, Code}
 use Rattle.rgo_machine.specs.declared.limits.Limits.{Limits}
 use Rattle.rgo_command_line.specs.Commands.{command_of}
 
@@ -56,6 +56,9 @@ IsCheck call = Asks call Check
 
 abbrev pub IsEmit : Call → Type 0
 IsEmit call = Asks call Emit
+
+abbrev pub IsCode : Call → Type 0
+IsCode call = Asks call Code
 
 -- a read failed
 abbrev pub SourceFailed : SourceUse → Type 0

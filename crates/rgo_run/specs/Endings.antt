@@ -7,8 +7,9 @@ use Rattle.rgo_machine.specs.declared.picks.End.TheVariants as the_end
 use Rattle.rgo_driver.specs.declared.ends.RunEnd.{RunEnd}
 use Rattle.rgo_driver.specs.declared.ends.RunEnd.TheVariants as run_end
 use Rattle.rgo_run.specs.declared.endings.Ending.{Ending}
-use Rattle.rgo_run.specs.declared.endings.Ending.TheVariants.{Valid, Ran, Usage, ReadFault, TooLong}
-use Rattle.rgo_run.specs.declared.endings.Ending.TheVariants.{Lexical, Syntax, Nesting, Typing, WriteFault, NoMemory}
+use Rattle.rgo_code.specs.Checked.{rule_number}
+use Rattle.rgo_run.specs.declared.endings.Ending.TheVariants.{Valid, Ran, Usage, ReadFault, TooLong, CodeTooLong}
+use Rattle.rgo_run.specs.declared.endings.Ending.TheVariants.{Lexical, Syntax, Nesting, Typing, NoForm, Breaks, WriteFault, NoMemory}
 use Rattle.rgo_run.specs.Positions.{position_of}
 
 abbrev pub status_of_run : RunEnd → ℕ
@@ -27,10 +28,13 @@ status_of (Ran end) = status_of_run end
 status_of Usage = 64
 status_of ReadFault = 9
 status_of TooLong = 1
+status_of CodeTooLong = 1
 status_of (Lexical refusal) = 1
 status_of (Syntax at) = 1
 status_of (Nesting at) = 1
 status_of (Typing refusal) = 1
+status_of (NoForm line) = 1
+status_of (Breaks refusal) = 1
 status_of WriteFault = 10
 status_of NoMemory = 11
 
@@ -52,6 +56,10 @@ positioned text at message =
 abbrev pub numbered : List ℕ → ℕ → List ℕ → List ℕ
 numbered kind number name = kind ++ (codes " " ++ (decimal number ++ (codes " " ++ (name ++ codes "\n"))))
 
+-- `rgo: line LINE: ` and what is wrong with a line of a code text
+abbrev pub numbered_line : ℕ → List ℕ → List ℕ
+numbered_line line message = codes "rgo: line " ++ (decimal line ++ (codes ": " ++ message))
+
 -- one line, or nothing where `main` returned
 abbrev pub line_of_run : List ℕ → RunEnd → List ℕ
 line_of_run text (run_end.Ended the_end.Exit) = []
@@ -71,11 +79,15 @@ line_of text (Ran end) = line_of_run text end
 line_of text Usage = codes "usage: rgo run [--steps N] [--pages N] [--page-words N] [--regions N] [--goroutines N] [--workers N] [--stats] | check | emit | code | big N\n"
 line_of text ReadFault = codes "rgo: read failed\n"
 line_of text TooLong = codes "rgo: text longer than 1048576 bytes\n"
+line_of text CodeTooLong = codes "rgo: text longer than 67108864 bytes\n"
 line_of text (Lexical refusal) =
     positioned text refusal.at (numbered (codes "lexical") (kinds.number_of refusal.kind) (kinds.name_of refusal.kind))
 line_of text (Syntax at) = positioned text at (codes "syntax\n")
 line_of text (Nesting at) = positioned text at (codes "nesting\n")
 line_of text (Typing refusal) =
     positioned text refusal.at (numbered (codes "type") (rules.number_of refusal.rule) (rules.name_of refusal.rule))
+line_of text (NoForm line) = numbered_line line (codes "code text\n")
+line_of text (Breaks refusal) =
+    numbered_line refusal.line (codes "code " ++ (decimal (rule_number refusal.rule) ++ codes "\n"))
 line_of text WriteFault = codes "rgo: write failed\n"
 line_of text NoMemory = codes "rgo: out of memory\n"

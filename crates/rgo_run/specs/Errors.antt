@@ -8,17 +8,37 @@ use Rattle.rgo_lexer.specs.declared.refusals.LexError.{LexError}
 use Rattle.rgo_lexer.specs.declared.refusals.LexError.TheVariants as lex
 use Rattle.rgo_typing_rules.specs.declared.errors.TypeError.{TypeError}
 use Rattle.rgo_typing_rules.specs.declared.errors.TypeError.TheVariants as type
+use Rattle.rgo_code_text.specs.declared.refusals.ReadError.{ReadError}
+use Rattle.rgo_code_text.specs.declared.refusals.ReadError.TheVariants as reading
+use Rattle.rgo_checker.specs.declared.errors.CheckError.{CheckError}
+use Rattle.rgo_checker.specs.declared.errors.CheckError.TheVariants as check
+use Rattle.rgo_command_line.specs.declared.commands.Command.{Command}
+use Rattle.rgo_command_line.specs.declared.commands.Command.TheVariants.{Code}
 use Rattle.rgo_run.specs.declared.endings.Ending.{Ending}
-use Rattle.rgo_run.specs.declared.endings.Ending.TheVariants.{Usage, ReadFault, TooLong, Lexical, Typing, NoMemory}
+use Rattle.rgo_run.specs.declared.endings.Ending.TheVariants.{Usage, ReadFault, TooLong, CodeTooLong, Lexical, Typing}
+use Rattle.rgo_run.specs.declared.endings.Ending.TheVariants.{NoForm, Breaks, NoMemory}
 
 abbrev pub command_error : WordsError → Ending
 command_error words.Usage = Usage
 command_error words.NoMemory = NoMemory
 
-abbrev pub read_error : ReadEnd → Ending
-read_error read.Fault = ReadFault
-read_error read.TooLong = TooLong
-read_error read.NoMemory = NoMemory
+-- the source gave more bytes than the command reads
+abbrev pub too_long : Command → Ending
+too_long Code = CodeTooLong
+too_long _ = TooLong
+
+abbrev pub read_error : Command → ReadEnd → Ending
+read_error command read.Fault = ReadFault
+read_error command read.TooLong = too_long command
+read_error command read.NoMemory = NoMemory
+
+abbrev pub reading_error : ReadError → Ending
+reading_error (reading.Refused refusal) = NoForm refusal.line
+reading_error reading.NoMemory = NoMemory
+
+abbrev pub check_error : CheckError → Ending
+check_error (check.Refused refusal) = Breaks refusal
+check_error check.NoMemory = NoMemory
 
 abbrev pub lex_error : LexError → Ending
 lex_error (lex.Refused refusal) = Lexical refusal

@@ -14,13 +14,14 @@ use Rattle.rgo_machine.specs.declared.limits.Limits.{Limits}
 use Rattle.rgo_command_line.specs.Commands.{command_of}
 use Rattle.rgo_run.specs.declared.endings.Ending.{Ending}
 use Rattle.rgo_run.specs.declared.endings.Ending.TheVariants.{Valid, Ran, Usage, ReadFault, WriteFault, NoMemory}
-use Rattle.rgo_run.specs.Calls.{AsksRun, Call, Asks, IsRun, IsCheck, IsEmit, SourceFailed, SourceHeld, Failed, Held, Grew, IsUntouched}
+use Rattle.rgo_run.specs.Calls.{AsksRun, Call, Asks, IsRun, IsCheck, IsEmit, IsCode, SourceFailed, SourceHeld, Failed, Held, Grew, IsUntouched}
 use Rattle.rgo_run.specs.Compiled.{Emits, IsCodeText}
 use Rattle.rgo_run.specs.Endings.{status_of, line_of, is_fault_status}
 use Rattle.rgo_run.specs.Reports.{Tells}
 use Rattle.rgo_run.specs.Runs.{ProgramRuns, RunsTo}
-use Rattle.rgo_run.specs.Texts.{IsTextOf}
-use Rattle.rgo_run.specs.Verdicts.{Passes, IsProgram, Refused}
+use Rattle.rgo_run.specs.CodeVerdicts.{CodePasses}
+use Rattle.rgo_run.specs.Texts.{IsTextOf, RefusedBy, AcceptedBy}
+use Rattle.rgo_run.specs.Verdicts.{Passes, IsProgram}
 
 -- a run ends so
 abbrev pub EndsRun : Ending → Type 0
@@ -48,13 +49,13 @@ pub record Refusal (call : Call) (text : List ℕ) (ending : Ending) : Type 0 wh
   pub usage : ending ≡ Usage → command_of call.words ≡ None
   -- and these have no other end, where memory sufficed
   pub unknown : command_of call.words ≡ None → (ending ≡ Usage) ⊎ (ending ≡ NoMemory)
-  -- a refusal is the text's, whatever the words ask for
-  pub refused : status_of ending ≡ 1 → Refused text ending
+  -- a refusal is that of the text that the words have read: a program, or a code text
+  pub refused : status_of ending ≡ 1 → (command : Command) × Asks call command × RefusedBy command text ending
   -- what is checked, or whose code is printed, and not refused is valid
-  pub passes : ending ≡ Valid → (IsCheck call ⊎ IsEmit call) × Passes text
+  pub passes : ending ≡ Valid → (command : Command) × Asks call command × AcceptedBy command text
   -- and what refuses the text is the end, where the text was read and memory sufficed
   pub first : (command : Command) → Asks call command → (SourceFailed call.source → ⊥)
-      → (why : Ending) → Refused text why → (ending ≡ why) ⊎ (ending ≡ NoMemory)
+      → (why : Ending) → RefusedBy command text why → (ending ≡ why) ⊎ (ending ≡ NoMemory)
   pub untouched : (MayRun call ending → ⊥) → (MayEmit call ending → ⊥) → IsUntouched call.out
 
 -- The bytes given out are the print of a run of the text's program, and the ending reports how that run ended; or memory
@@ -131,7 +132,7 @@ pub record EmitsWhole (call : Call) (text : List ℕ) : Type 0 where
   pub silent : Grew call.err []
 
 -- Where nothing failed and memory sufficed, a valid program of which no run meets a limit is run to its own end, and a
--- valid program passes the check and has its code printed.
+-- valid program passes the check and has its code printed. A code text that keeps all rules passes.
 pub record Complete (call : Call) (text : List ℕ) : Type 0 where
   pub run : (limits : Limits) → IsRun call limits
       → (SourceFailed call.source → ⊥) → (Failed call.out → ⊥) → (Failed call.err → ⊥)
@@ -140,6 +141,8 @@ pub record Complete (call : Call) (text : List ℕ) : Type 0 where
       → Passes text → IsSilent call ⊎ (call.status ≡ 11)
   pub emit : IsEmit call → (SourceFailed call.source → ⊥) → (Failed call.out → ⊥) → (Failed call.err → ⊥)
       → Passes text → EmitsWhole call text ⊎ (call.status ≡ 11)
+  pub code : IsCode call → (SourceFailed call.source → ⊥) → (Failed call.err → ⊥)
+      → CodePasses text → IsSilent call ⊎ (call.status ≡ 11)
 
 -- Some text that is consistent with what the source reports was checked, run or compiled as the words ask.
 pub record Headline (call : Call) : Type 0 where

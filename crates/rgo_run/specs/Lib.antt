@@ -1,4 +1,5 @@
 pub mod Calls
+pub mod CodeVerdicts
 pub mod Compiled
 pub mod Endings
 pub mod Errors

@@ -3,7 +3,7 @@ use Rattle.std.specs.Prelude.{◌≡◌, ℕ, ◌⊎◌, List, take}
 use Rattle.rgo_machine.specs.declared.picks.End.TheVariants.{Trap}
 use Rattle.rgo_driver.specs.declared.ends.RunEnd.TheVariants.{Ended}
 use Rattle.rgo_run.specs.declared.endings.Ending.{Ending}
-use Rattle.rgo_run.specs.declared.endings.Ending.TheVariants.{Ran, Lexical, Syntax, Nesting, Typing, NoMemory}
+use Rattle.rgo_run.specs.declared.endings.Ending.TheVariants.{Ran, Lexical, Syntax, Nesting, Typing, NoForm, Breaks, NoMemory}
 use Rattle.rgo_run.specs.Calls.{SinkUse, Failed, Held, Grew}
 use Rattle.rgo_run.specs.Endings.{status_of, line_of}
 
@@ -25,6 +25,8 @@ HasPlace (Lexical refusal) = Unit {0}
 HasPlace (Syntax at) = Unit {0}
 HasPlace (Nesting at) = Unit {0}
 HasPlace (Typing refusal) = Unit {0}
+HasPlace (NoForm line) = Unit {0}
+HasPlace (Breaks refusal) = Unit {0}
 HasPlace _ = ⊥
 
 -- the line of the ending was written, or on allocation failure for it, that memory ran out

@@ -3,21 +3,37 @@
 ghost use Rattle.std.specs.Prelude.{◌≡◌, ℕ, List};
 ghost use Rattle.rgo_command_line.specs.declared.commands.Command.TheVariants.{Check, Emit, Run};
 ghost use Rattle.rgo_run.specs.Calls.{sink_use};
+ghost use Rattle.rgo_run.specs.CodeVerdicts.{IsTextOfCode};
 ghost use Rattle.rgo_run.specs.Compiled.{IsCompiled, WritesCode};
 ghost use Rattle.rgo_run.specs.Endings.{status_of};
 ghost use Rattle.rgo_run.specs.Runs.{IsCodeOf};
-ghost use Rattle.rgo_run.specs.Texts.{Checks, Performs};
+ghost use Rattle.rgo_run.specs.Texts.{Checks, ChecksCode, Performs, limit_of};
 
 use crate::endings::Ending;
-use crate::pipeline::{check_text, compile, lower_text};
-use rgo_code::Checked;
+use crate::pipeline::{TEXT_LIMIT, check_text, compile, lower_text};
+use rgo_checker::check_code;
+use rgo_code::{Checked, Code};
 use rgo_code_printing::print_code;
+use rgo_code_text::read_code;
 use rgo_command_line::Command;
 use rgo_driver::run;
 use rgo_machine::Limits;
 use rgo_outside::{Sink, write_all};
 use rgo_tac::{Tac, TacMachine, start};
 use std::alloc::Global;
+
+/// The most bytes of a code text.
+const CODE_LIMIT: usize = 67_108_864;
+
+/// The most bytes that a command reads.
+pub(crate) fn limit_of(command: Command) -> usize
+    ensures { result ≡ limit_of command }
+{
+    match command {
+        Command::Code => CODE_LIMIT,
+        _ => TEXT_LIMIT,
+    }
+}
 
 // Checks a text.
 fn check_only(alloc: Global, text: &[u8]) -> Ending
@@ -93,6 +109,29 @@ fn emit_text<K: Sink>(alloc: Global, text: &[u8], out: &mut K) -> Ending
     }
 }
 
+// Checks code that was read.
+fn check_rules(alloc: Global, code: &Code) -> Ending
+    ensures { (text : List ℕ) → IsTextOfCode text code.now → ChecksCode text result }
+{
+    match check_code(alloc, code) {
+        Ok(()) => Ending::Valid,
+        Err(error) => Ending::from(error),
+    }
+}
+
+// Checks a code text.
+fn check_code_text(alloc: Global, text: &[u8]) -> Ending
+    ensures { ChecksCode text.now result }
+{
+    if text.len() > CODE_LIMIT {
+        return Ending::CodeTooLong;
+    }
+    match read_code(alloc, text) {
+        Ok(code) => check_rules(alloc, &code),
+        Err(error) => Ending::from(error),
+    }
+}
+
 /// Does what the command says with a text: checks it, runs it, or prints its code.
 pub(crate) fn perform<K: Sink>(alloc: Global, command: Command, text: &[u8], out: &mut K) -> Ending
     ensures performs { Performs command text.now result (sink_use (K.contents out.old)
@@ -104,5 +143,6 @@ pub(crate) fn perform<K: Sink>(alloc: Global, command: Command, text: &[u8], out
         Command::Run(limits) => run_text(alloc, limits, text, out),
         Command::Check => check_only(alloc, text),
         Command::Emit => emit_text(alloc, text, out),
+        Command::Code => check_code_text(alloc, text),
     }
 }

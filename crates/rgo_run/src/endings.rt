@@ -1,13 +1,15 @@
 //! How a call of `rgo` ends.
 
 ghost use Rattle.std.specs.Prelude.{◌≡◌};
-ghost use Rattle.rgo_run.specs.Errors.{command_error, lex_error, memory_error, read_error, type_error};
+ghost use Rattle.rgo_run.specs.Errors.{check_error, command_error, lex_error, memory_error, reading_error, type_error};
 
 use rgo_ast::Place;
+use rgo_checker::CheckError;
+use rgo_code::CodeRefusal;
+use rgo_code_text::ReadError;
 use rgo_command_line::WordsError;
 use rgo_driver::RunEnd;
 use rgo_lexer::{LexError, LexRefusal};
-use rgo_outside::ReadEnd;
 use rgo_typing_rules::{TypeError, TypeRefusal};
 use std::alloc::AllocError;
 
@@ -15,7 +17,7 @@ use std::alloc::AllocError;
 /// text, in bytes from its beginning.
 #[derive(Clone, Copy, Debug, PartialEq, Eq)]
 pub enum Ending {
-    /// The text was to be checked, or its code to be printed: it is a valid program, and that is done.
+    /// The text was to be checked, or its code to be printed: it is valid, and that is done.
     Valid,
     /// The text's program was run, and its run ended so.
     Ran(RunEnd),
@@ -25,6 +27,8 @@ pub enum Ending {
     ReadFault,
     /// The source gave more bytes than a text may have.
     TooLong,
+    /// The source gave more bytes than a code text may have.
+    CodeTooLong,
     /// The text has no lexemes: what is wrong first, and where.
     Lexical(LexRefusal),
     /// The text is not a program: where the first token is with which no program continues.
@@ -33,6 +37,10 @@ pub enum Ending {
     Nesting { at: Place },
     /// The program breaks a typing rule: the first that it breaks, and where.
     Typing(TypeRefusal),
+    /// The text is that of no code: the number of its first line without form, from 1.
+    NoForm { line: u32 },
+    /// The code breaks a rule: the least that it breaks, and the number of the first line that does.
+    Breaks(CodeRefusal),
     /// A write of the code to `out` failed.
     WriteFault,
     /// Memory ran out, and there was no run.
@@ -50,14 +58,24 @@ impl From<WordsError> for Ending {
     }
 }
 
-impl From<ReadEnd> for Ending {
-    ghost from_gives = { λ error ending. ending ≡ read_error error };
+impl From<ReadError> for Ending {
+    ghost from_gives = { λ error ending. ending ≡ reading_error error };
 
-    fn from(error: ReadEnd) -> Ending {
+    fn from(error: ReadError) -> Ending {
         match error {
-            ReadEnd::Fault => Ending::ReadFault,
-            ReadEnd::TooLong => Ending::TooLong,
-            ReadEnd::NoMemory => Ending::NoMemory,
+            ReadError::Refused(refusal) => Ending::NoForm { line: refusal.line },
+            ReadError::NoMemory => Ending::NoMemory,
+        }
+    }
+}
+
+impl From<CheckError> for Ending {
+    ghost from_gives = { λ error ending. ending ≡ check_error error };
+
+    fn from(error: CheckError) -> Ending {
+        match error {
+            CheckError::Refused(refusal) => Ending::Breaks(refusal),
+            CheckError::NoMemory => Ending::NoMemory,
         }
     }
 }

@@ -1,11 +1,17 @@
 //! What holds of the definitions by themselves.
 
+ghost use Rattle.rgo_run.specs.CodeVerdicts.{OneCodeVerdict};
 ghost use Rattle.rgo_run.specs.Programs.{ProgramsAreWellFormed};
 ghost use Rattle.rgo_run.specs.Verdicts.{OneVerdict};
 
 /// Each text is one program at most, and is within the rules or has one refusal, and never both.
 pub fn one_verdict()
     ensures { OneVerdict }
+{}
+
+/// Each code text is the text of one code at most, and has at most one refusal, and none if that code keeps all rules.
+pub fn one_code_verdict()
+    ensures { OneCodeVerdict }
 {}
 
 /// The program of every valid text is well-formed, and no function with a result reaches the end of its body.

@@ -2,12 +2,14 @@
 
 ghost use Rattle.std.specs.Prelude.{◌≡◌, ◌<◌, ◌^◌, ◌++◌, [], codes, length, IfOk, MatchResult, string_bytes};
 ghost use Rattle.rgo_run.specs.Calls.{sink_use};
-ghost use Rattle.rgo_run.specs.Endings.{line_of, numbered, positioned};
+ghost use Rattle.rgo_run.specs.Endings.{line_of, numbered, numbered_line, positioned};
 ghost use Rattle.rgo_run.specs.Reports.{Reports, Writes};
+ghost use Rattle.rgo_run.specs.declared.endings.Ending.TheVariants.{Breaks};
 
 use crate::endings::Ending;
 use crate::positions::position_of;
 use rgo_ast::Place;
+use rgo_code::CodeRefusal;
 use rgo_driver::RunEnd;
 use rgo_machine::End;
 use rgo_outside::{Sink, write_all};
@@ -45,6 +47,22 @@ fn numbered_line_at(
     let line = position.line;
     let column = position.column;
     format!(in alloc; "rgo: {line}:{column}: {kind} {number} {name}\n")
+}
+
+// What is wrong with a line of a code text.
+fn numbered_line(alloc: Global, line: u32, message: &str) -> Result<String, AllocError>
+    ensures { IfOk result (λ text. string_bytes text ≡ numbered_line line (message.now ++ codes "\n")) }
+{
+    format!(in alloc; "rgo: line {line}: {message}\n")
+}
+
+// The rule that a line of a code text breaks.
+fn broken_line(alloc: Global, refusal: CodeRefusal) -> Result<String, AllocError>
+    ensures { IfOk result (λ text. string_bytes text ≡ line_of [] (Breaks refusal)) }
+{
+    let line = refusal.line;
+    let rule = refusal.rule.number();
+    format!(in alloc; "rgo: line {line}: code {rule}\n")
 }
 
 // Writes the line once. If that fails, the status is 10.
@@ -144,6 +162,15 @@ pub(crate) fn report<E: Sink>(alloc: Global, text: &[u8], ending: Ending, err: &
                 rule.number(),
                 rule.name(),
             );
+            write_or_no_memory(err, line, 1)
+        }
+        Ending::CodeTooLong => write(err, b"rgo: text longer than 67108864 bytes\n", 1),
+        Ending::NoForm { line } => {
+            let line = numbered_line(alloc, line, "code text");
+            write_or_no_memory(err, line, 1)
+        }
+        Ending::Breaks(refusal) => {
+            let line = broken_line(alloc, refusal);
             write_or_no_memory(err, line, 1)
         }
         Ending::WriteFault => write(err, b"rgo: write failed\n", 10),

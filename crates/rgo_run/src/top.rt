@@ -5,18 +5,32 @@ ghost use Rattle.std.specs.Prelude.{IfErr, IfOk, IsErrOf, Some, None};
 ghost use Rattle.rgo_outside.specs.Causes.{Rose};
 ghost use Rattle.rgo_command_line.specs.Commands.{command_of};
 ghost use Rattle.rgo_command_line.specs.declared.commands.Command.TheVariants.{Check};
+ghost use Rattle.rgo_run.specs.Errors.{read_error};
 ghost use Rattle.rgo_run.specs.Texts.{IsRead, NotRead};
 ghost use Rattle.rgo_run.specs.Calls.{AsksRun, sink_use, source_use};
 ghost use Rattle.rgo_run.specs.Endings.{is_fault_status, is_run_status};
 ghost use Rattle.rgo_run.specs.Headline.{Headline};
 
-use crate::commands::perform;
+use crate::commands::{limit_of, perform};
 use crate::endings::Ending;
-use crate::pipeline::TEXT_LIMIT;
 use crate::report::report;
 use rgo_command_line::{Command, read_words};
-use rgo_outside::{Gate, Sink, Source, read_all};
+use rgo_outside::{Gate, ReadEnd, Sink, Source, read_all};
 use std::alloc::Global;
+
+// Why no text was read for the command.
+fn read_ending(command: Command, end: ReadEnd) -> Ending
+    ensures { result ≡ read_error command end }
+{
+    match end {
+        ReadEnd::Fault => Ending::ReadFault,
+        ReadEnd::TooLong => match command {
+            Command::Code => Ending::CodeTooLong,
+            _ => Ending::TooLong,
+        },
+        ReadEnd::NoMemory => Ending::NoMemory,
+    }
+}
 
 // Reads the words and the text.
 fn read<S: Source>(
@@ -32,22 +46,25 @@ fn read<S: Source>(
     ensures usage { IsErrOf result Ending.Usage → source.new ≡ source.old }
 {
     let command = read_words(alloc, words)?;
-    let text = read_all(alloc, source, TEXT_LIMIT)?;
-    Ok((command, text))
+    match read_all(alloc, source, limit_of(command)) {
+        Ok(text) => Ok((command, text)),
+        Err(end) => Err(read_ending(command, end)),
+    }
 }
 
 /// All that the program does: reads the words and the text, checks it, runs it or prints its code, and
 /// returns the status.
 ///
-/// The words are the program's name, which is ignored, and `check`, `emit`, or `run` with its options
-/// `--steps N` and `--goroutines N`, followed by nothing or a `--`. The text is what the source
+/// The words are the program's name, which is ignored, and `check`, `emit`, `code`, or `run` with its
+/// options `--steps N` and `--goroutines N`, followed by nothing or a `--`. The text is what the source
 /// has left, at most 1,048,576 bytes. `run` writes its print to `out`, line by line; `emit` writes the
-/// text of the code with regions; `check` leaves `out` as it was. At most one line is written to `err`.
+/// text of the code with regions; `check` leaves `out` as it was. `code` reads such a text of code, at
+/// most 67,108,864 bytes, checks it, and leaves `out` as it was. At most one line is written to `err`.
 /// After a failed write nothing more is written to that sink.
 ///
 /// | status | where |
 /// |---|---|
-/// | 0 | `main` returned; for `check` and `emit` the text is a valid program |
+/// | 0 | `main` returned; for `check` and `emit` the text is a valid program; for `code` the code keeps all rules |
 /// | 1 | the text is too long, or breaks a rule: `err` says which, and at which line and column |
 /// | 2 | a goroutine trapped: `err` says why, and at which line and column |
 /// | 3 | no goroutine can step, alone or with another, and `main` has not returned |

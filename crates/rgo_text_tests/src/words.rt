@@ -72,7 +72,9 @@ static CHECKS: [&str; 3] = ["rgo|check", "rgo|check|--", "-|check"];
 
 static EMITS: [&str; 3] = ["rgo|emit", "rgo|emit|--", "-|emit"];
 
-static REFUSED: [&str; 166] = [
+static CODES: [&str; 3] = ["rgo|code", "rgo|code|--", "-|code"];
+
+static REFUSED: [&str; 167] = [
     "rgo",
     "",
     "run",
@@ -122,15 +124,16 @@ static REFUSED: [&str; 166] = [
     "rgo|run|--stats",
     "rgo|--stats|run",
     "rgo|emi",
-    "rgo|code",
+    "rgo|codes",
     "rgo|Emit",
-    "rgo|--emit",
-    "rgo|emit|check",
+    "rgo|--code",
+    "rgo|emit|code",
     "rgo|emit|",
     "rgo|emit|--|x",
     "rgo|emit|--steps=5",
-    "rgo|emit|--goroutines|5",
-    "rgo|emit|--|--",
+    "rgo|code|x",
+    "rgo|code|--|--",
+    "rgo|code|--goroutines|5",
     "rgo|big|5",
     // The number of an option is missing, or no number.
     "rgo|run|--steps",
@@ -258,6 +261,9 @@ fn words_ask_for_their_commands(rt: HostRuntime) -> Result<(), Fail> {
     }
     for line in &EMITS {
         asks(&rt, line, Ok(Command::Emit))?;
+    }
+    for line in &CODES {
+        asks(&rt, line, Ok(Command::Code))?;
     }
     Ok(())
 }

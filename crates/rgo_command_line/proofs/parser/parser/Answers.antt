@@ -12,6 +12,8 @@ returns c =
     (ap (λ (a : App). a.top) c.in_ok-run.ensures.app) in
     let check = with_command _ _ _ _ _ c.in_ok-subcommand-2.ensures c.new-2.ensures.local run
     (ap (λ (a : App). a.top) c.new-2.ensures.app) in
-    IfOk-weaker c.subcommand-3.result _ _
-    (λ r adds. with_command _ _ _ _ _ adds c.new-3.ensures.local check
-    (ap (λ (a : App). a.top) c.new-3.ensures.app)) c.subcommand-3.ensures
+    let emit = with_command _ _ _ _ _ c.in_ok-subcommand-3.ensures c.new-3.ensures.local check
+    (ap (λ (a : App). a.top) c.new-3.ensures.app) in
+    IfOk-weaker c.subcommand-4.result _ _
+    (λ r adds. with_command _ _ _ _ _ adds c.new-4.ensures.local emit
+    (ap (λ (a : App). a.top) c.new-4.ensures.app)) c.subcommand-4.ensures

@@ -12,14 +12,13 @@ returns-in_err-command-clause-err g c =
     (no_words (map string_bytes c.args.words.now) (source_use (g.S.Source.left c.args.source.now) faults faults)
     c.in_err-command.field-0.0 c.in_err-command.ensures.asked refl)
 
-pub returns-in_err-text-clause-err : goal.returns-in_err-text-clause-err
-returns-in_err-text-clause-err g c =
-    let p = err_from_is_err_and c.from_residual-in_err-text.result c.from_residual-in_err-text.ensures.1 in
-    let end = c.in_err-text in
+pub returns-in-Err-clause-err : goal.returns-in-Err-clause-err
+returns-in-Err-clause-err g c =
+    let end = c.in-Err in
     let source = source_use (g.S.Source.left c.args.source.now) (g.S.Source.faults c.args.source.now)
     (g.S.Source.faults c.read_all.new.source) in
-    rw (p.1, p.2)
-    (no_text (map string_bytes c.args.words.now) source (g.S.Source.left c.read_all.new.source) end.field-0.0
-    (c.in_ok-command.command, c.in_ok-command.ensures.asked) (λ e. end.ensures.fault (ap Err e))
-    (λ e. (end.ensures.kept_too_long (ap Err e), end.ensures.too_long (ap Err e)))
+    rw c.read_ending.ensures
+    (no_text c.in_ok-command.command (map string_bytes c.args.words.now) source (g.S.Source.left c.read_all.new.source)
+    end.end c.in_ok-command.ensures.asked (λ e. end.ensures.fault (ap Err e))
+    (λ e. (end.ensures.kept_too_long (ap Err e), rw c.limit_of.ensures at (end.ensures.too_long (ap Err e))))
     (λ e. ap g.S.Source.faults (end.ensures.no_memory (ap Err e))))

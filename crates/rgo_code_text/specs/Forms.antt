@@ -1,0 +1,51 @@
+-- The first line of a text that has no form in its place.
+use Rattle.std.specs.Prelude.{◌≡◌, ◌≢◌, ◌⊎◌, ◌+◌, ℕ, List, [], ◌∷◌, ◌++◌, length, All, Contains}
+use Rattle.std.specs.List.{flat_map}
+use Rattle.rgo_code.specs.Code.{Code}
+use Rattle.rgo_code_printing.specs.Text.{text_of}
+use Rattle.rgo_code_text.specs.Written.{IsWritten}
+
+-- bytes without a newline
+abbrev pub IsLine : List ℕ → Type 0
+IsLine bytes = ¬ (Contains bytes 10)
+
+-- each line with its newline
+abbrev pub ended : List (List ℕ) → List ℕ
+ended lines = flat_map (λ bytes. bytes ++ 10 ∷ []) lines
+
+-- the text of some code begins with these bytes
+pub record Begins (bytes : List ℕ) : Type 0 where
+  pub code : Code
+  pub rest : List ℕ
+  pub written : IsWritten code
+  pub text : text_of code ≡ bytes ++ rest
+
+-- these bytes are the text of some code
+pub record IsText (bytes : List ℕ) : Type 0 where
+  pub code : Code
+  pub written : IsWritten code
+  pub text : text_of code ≡ bytes
+
+-- a line follows with which no text goes on
+pub record HasNoForm (head tail : List ℕ) : Type 0 where
+  pub bytes : List ℕ
+  pub more : List ℕ
+  pub line : IsLine bytes
+  pub cut : tail ≡ bytes ++ 10 ∷ more
+  pub stops : ¬ (Begins (head ++ (bytes ++ 10 ∷ [])))
+
+-- the text ends, without a last newline or before its time
+pub record EndsEarly (head tail : List ℕ) : Type 0 where
+  pub line : IsLine tail
+  pub stops : ¬ (IsText (head ++ tail))
+
+-- Line n is the first line without form: the lines before it begin the text of some code, and no text goes on with it.
+-- If the text ends early, it is what follows the last newline, which may be nothing.
+pub record IsFirstWithoutForm (text : List ℕ) (n : ℕ) : Type 0 where
+  pub before : List (List ℕ)
+  pub tail : List ℕ
+  pub lines : All IsLine before
+  pub number : length before + 1 ≡ n
+  pub cut : text ≡ ended before ++ tail
+  pub begins : Begins (ended before)
+  pub stops : HasNoForm (ended before) tail ⊎ EndsEarly (ended before) tail

@@ -1,0 +1,216 @@
+-- Code that has a text: its names are words, its numbers small, and each name that it uses has one number.
+use Rattle.std.specs.Prelude.{◌≡◌, ◌≢◌, ◌<◌, ◌≤◌, ◌^◌, ◌+◌, ℕ, ℤ, Bool, true, false, not, ◌&&◌, ◌||◌, ◌==◌, nat_le, List, [], ◌∷◌, ◌++◌, map, length, Option, Some, None, All, IfSome, pos, negsuc, if◌then◌else◌, codes, ⊤}
+use Rattle.std.specs.List.{flat_map, list_all, list_any, position_or_len}
+use Rattle.std.specs.List.Sorted.{IsStrictlyIncreasing}
+use Rattle.std.specs.Str.{bytes_eq}
+use Rattle.rgo_ast.specs.declared.ops.BinaryOp.{BinaryOp}
+use Rattle.rgo_ast.specs.declared.ops.BinaryOp.TheVariants as binary
+use Rattle.rgo_typed.specs.declared.actions.Action.{Action}
+use Rattle.rgo_typed.specs.declared.actions.Action.TheVariants as action
+use Rattle.rgo_typed.specs.declared.statements.Piece.{Piece}
+use Rattle.rgo_typed.specs.declared.statements.Piece.TheVariants as piece
+use Rattle.rgo_typed.specs.declared.types.Base.{Base}
+use Rattle.rgo_typed.specs.declared.types.Base.TheVariants as base
+use Rattle.rgo_typed.specs.declared.types.Type.{«Type»}
+use Rattle.rgo_tac.specs.declared.regions.Class.{Class}
+use Rattle.rgo_tac.specs.declared.regions.Class.TheVariants as class
+use Rattle.rgo_code.specs.Code.{Slot, CodeOp, CodeInstr, CodeFn, Code, Do, Call, Go, Print, Jump, Branch, Return}
+use Rattle.rgo_code_printing.specs.Words.{name_at, value_count}
+use Rattle.rgo_code_printing.specs.Text.{Names, names_of, action_words}
+
+-- ---- names
+
+-- a letter or `_`
+abbrev pub is_letter : ℕ → Bool
+is_letter b = (nat_le 65 b && nat_le b 90) || (nat_le 97 b && nat_le b 122) || b == 95
+
+abbrev pub is_word_byte : ℕ → Bool
+is_word_byte b = is_letter b || (nat_le 48 b && nat_le b 57)
+
+-- the keywords of Go
+abbrev pub keywords : List (List ℕ)
+keywords =
+    codes "break" ∷ codes "case" ∷ codes "chan" ∷ codes "const" ∷ codes "continue" ∷ codes "default" ∷ codes "defer"
+    ∷ codes "else" ∷ codes "fallthrough" ∷ codes "for" ∷ codes "func" ∷ codes "go" ∷ codes "goto" ∷ codes "if"
+    ∷ codes "import" ∷ codes "interface" ∷ codes "map" ∷ codes "package" ∷ codes "range" ∷ codes "return"
+    ∷ codes "select" ∷ codes "struct" ∷ codes "switch" ∷ codes "type" ∷ codes "var" ∷ []
+
+-- these bytes are among the names
+abbrev pub is_among : List (List ℕ) → List ℕ → Bool
+is_among names name = list_any (λ known. bytes_eq known name) names
+
+-- a word of letters, digits and `_` that begins with no digit
+abbrev pub is_word : List ℕ → Bool
+is_word [] = false
+is_word (b ∷ bytes) = is_letter b && list_all is_word_byte bytes
+
+-- a word that is no keyword
+abbrev pub is_name : List ℕ → Bool
+is_name bytes = is_word bytes && not (is_among keywords bytes)
+
+abbrev pub AreNames : List (List ℕ) → Type 0
+AreNames names = All (λ name. is_name name ≡ true) names
+
+-- ---- numbers
+
+abbrev pub IsSmall : ℕ → Type 0
+IsSmall k = k < 2 ^ 32
+
+abbrev pub AreSmall : List ℕ → Type 0
+AreSmall ks = All IsSmall ks
+
+-- a list of names of regions
+abbrev pub AreRegions : List ℕ → Type 0
+AreRegions names = IsStrictlyIncreasing names × AreSmall names
+
+abbrev pub ClassFits : Class → Type 0
+ClassFits (class.Name k) = IsSmall k
+ClassFits c = ⊤
+
+-- ---- instructions
+
+abbrev pub OperatorFits : BinaryOp → Type 0
+OperatorFits binary.And = ⊥
+OperatorFits binary.Or = ⊥
+OperatorFits op = ⊤
+
+-- an integer of 64 bits
+abbrev pub IntFits : ℤ → Type 0
+IntFits (pos n) = n < 2 ^ 63
+IntFits (negsuc n) = n < 2 ^ 63
+
+abbrev pub ActionFits : Action → Type 0
+ActionFits (action.Int k) = IntFits k
+ActionFits (action.Binary op) = OperatorFits op
+ActionFits (action.Load k) = IsSmall k
+ActionFits (action.Store k) = IsSmall k
+ActionFits action = ⊤
+
+-- without names; what has words in any way has words in each
+abbrev pub no_names : Names
+no_names = record { structs = []; variables = []; functions = [] }
+
+-- the action with these operands is an instruction
+abbrev pub IsInstruction : Action → Option ℕ → List ℕ → Type 0
+IsInstruction action to from = action_words no_names action to from ≢ []
+
+-- how many variables are printed
+abbrev pub values_in : List Piece → ℕ
+values_in [] = 0
+values_in (p ∷ pieces) = value_count p + values_in pieces
+
+-- a string consists of bytes
+abbrev pub PieceFits : Piece → Type 0
+PieceFits (piece.Text bytes) = All (λ b. b < 2 ^ 8) bytes
+PieceFits piece.Value = ⊤
+
+abbrev pub ValueFits : Option ℕ → Type 0
+ValueFits value = IfSome value IsSmall
+
+abbrev pub OpFits : CodeOp → Type 0
+OpFits (Do to action from removes) =
+    IsInstruction action to from × ActionFits action × ValueFits to × AreSmall from × AreRegions removes
+OpFits (Call to f from passes protects removes) =
+    ValueFits to × AreSmall from × All ClassFits passes × AreRegions protects × AreRegions removes
+OpFits (Go f from passes removes) = AreSmall from × All ClassFits passes × AreRegions removes
+OpFits (Print pieces from removes) =
+    All PieceFits pieces × (length from ≡ values_in pieces) × AreSmall from × AreRegions removes
+OpFits (Jump target removes) = IsSmall target × AreRegions removes
+OpFits (Branch test target removes other otherwise) =
+    IsSmall test × IsSmall target × AreRegions removes × IsSmall other × AreRegions otherwise
+OpFits (Return value) = ValueFits value
+
+abbrev pub InstrFits : CodeInstr → Type 0
+InstrFits instr = IsSmall instr.place × AreRegions instr.creates × OpFits instr.op
+
+abbrev pub SlotFits : Slot → Type 0
+SlotFits s = ClassFits s.class
+
+pub record FnFits (f : CodeFn) : Type 0 where
+  pub params : IsSmall f.params
+  pub result : IfSome f.result SlotFits
+  pub variables : All SlotFits f.variables
+  pub entry : AreRegions f.entry
+  pub indexes : length f.body ≤ 2 ^ 32
+  pub body : All InstrFits f.body
+
+-- ---- uses of names
+
+abbrev pub base_uses : Base → List ℕ
+base_uses (base.Pointer n) = n ∷ []
+base_uses b = []
+
+abbrev pub type_uses : «Type» → List ℕ
+type_uses ty = base_uses ty.base
+
+abbrev pub result_uses : Option Slot → List ℕ
+result_uses None = []
+result_uses (Some s) = type_uses s.ty
+
+-- the struct, the package variable or the function of an instruction
+abbrev pub struct_in : CodeOp → List ℕ
+struct_in (Do to (action.New n) from removes) = n ∷ []
+struct_in op = []
+
+abbrev pub variable_in : CodeOp → List ℕ
+variable_in (Do to (action.Get n) from removes) = n ∷ []
+variable_in (Do to (action.Set n) from removes) = n ∷ []
+variable_in op = []
+
+abbrev pub function_in : CodeOp → List ℕ
+function_in (Call to f from passes protects removes) = f ∷ []
+function_in (Go f from passes removes) = f ∷ []
+function_in op = []
+
+abbrev pub fn_structs : CodeFn → List ℕ
+fn_structs f =
+    result_uses f.result ++ (flat_map (λ s. type_uses s.ty) f.variables ++ flat_map (λ i. struct_in i.op) f.body)
+
+abbrev pub fn_variables : CodeFn → List ℕ
+fn_variables f = flat_map (λ i. variable_in i.op) f.body
+
+abbrev pub fn_functions : CodeFn → List ℕ
+fn_functions f = flat_map (λ i. function_in i.op) f.body
+
+-- the numbers that the code uses, in the order of its text
+pub record Uses : Type 0 where
+  pub structs : List ℕ
+  pub variables : List ℕ
+  pub functions : List ℕ
+
+abbrev pub uses_of : Code → Uses
+uses_of code = record {
+  structs = flat_map (λ s. flat_map type_uses s.fields) code.structs
+      ++ (flat_map (λ v. type_uses v.ty) code.variables ++ flat_map fn_structs code.functions);
+  variables = flat_map fn_variables code.functions;
+  functions = flat_map fn_functions code.functions;
+}
+
+-- the number of the first of these names
+abbrev pub number_of : List (List ℕ) → List ℕ → ℕ
+number_of names name = position_or_len (λ known. bytes_eq known name) names
+
+-- each is the number of the first one of its name
+abbrev pub AreFirst : List (List ℕ) → List ℕ → Type 0
+AreFirst names ns = All (λ n. (n < length names) × (number_of names (name_at names n) ≡ n)) ns
+
+-- the names that are not known, in the order of their first use, each once
+abbrev pub unknown : (known names : List (List ℕ)) → List (List ℕ)
+unknown known [] = []
+unknown known (name ∷ names) =
+    if is_among known name then unknown known names else name ∷ unknown (name ∷ known) names
+
+-- ---- code
+
+-- one kind: what is declared, what else is used, and the numbers that are used
+pub record KindIsWritten (declared undeclared : List (List ℕ)) (uses : List ℕ) : Type 0 where
+  pub names : AreNames (declared ++ undeclared)
+  pub first : AreFirst (declared ++ undeclared) uses
+  pub unknown : undeclared ≡ unknown declared (map (name_at (declared ++ undeclared)) uses)
+
+-- the code has a text
+pub record IsWritten (code : Code) : Type 0 where
+  pub structs : KindIsWritten (map (λ s. s.name) code.structs) code.undeclared.structs (uses_of code).structs
+  pub variables : KindIsWritten (map (λ v. v.name) code.variables) code.undeclared.variables (uses_of code).variables
+  pub functions : KindIsWritten (map (λ f. f.name) code.functions) code.undeclared.functions (uses_of code).functions
+  pub fits : All FnFits code.functions

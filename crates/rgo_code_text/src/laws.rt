@@ -1,0 +1,8 @@
+//! What holds of code texts.
+
+ghost use Rattle.rgo_code_text.specs.Laws.{OneRefusal};
+
+/// A text has at most one first line without form, and the text of code has none.
+pub fn one_refusal()
+    ensures { OneRefusal }
+{}

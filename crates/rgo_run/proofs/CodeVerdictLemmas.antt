@@ -1,0 +1,61 @@
+-- A code text is the text of one code at most, and has one refusal at most.
+use Rattle.std.proofs.Common.{◌≡◌, refl, sym, ◌∙◌, ap, ap₂, subst, ℕ, List, length, arith}
+use Rattle.rgo_code.specs.Checked.{IsChecked, IsFirstBroken}
+use Rattle.rgo_code.specs.Code.{Code}
+use Rattle.rgo_code.specs.declared.rules.CodeRefusal.{CodeRefusal}
+use Rattle.rgo_code_printing.specs.Text.{text_of}
+use Rattle.rgo_code_text.specs.Forms.{IsFirstWithoutForm}
+use Rattle.rgo_code_text.proofs.OneRefusal.{one_refusal as forms}
+use Rattle.rgo_code_text.specs.Laws.{OneText}
+use Rattle.rgo_checker.proofs.OneOutcome.{one_outcome}
+use Rattle.rgo_run.specs.declared.endings.Ending.{Ending}
+use Rattle.rgo_run.specs.declared.endings.Ending.TheVariants.{CodeTooLong, NoForm, Breaks}
+use Rattle.rgo_run.specs.CodeVerdicts.{IsTextOfCode, CodePasses, CodeBreaks, CodeRefused, OneCodeVerdict, code_limit}
+
+-- STUB
+one_text : OneText
+one_text = ?
+
+one_code : (text : List ℕ) (a b : Code) → IsTextOfCode text a → IsTextOfCode text b → a ≡ b
+one_code text a b is also = one_text a b is.written also.written (sym is.text_is ∙ also.text_is)
+
+-- the text of code has a form
+has_form : (text : List ℕ) (code : Code) (n : ℕ) → IsTextOfCode text code → IsFirstWithoutForm text n → ⊥
+has_form text code n is first =
+    forms.not_both code n is.written (subst (λ t. IsFirstWithoutForm t n) is.text_is first)
+
+same_refusal : (p q : CodeRefusal) → p.rule ≡ q.rule → p.line ≡ q.line → Breaks p ≡ Breaks q
+same_refusal p q rule line = ap₂ (λ r n. Breaks (record { rule = r; line = n })) rule line
+
+same_break : (text : List ℕ) (p q : CodeRefusal) → CodeBreaks text p → CodeBreaks text q → Breaks p ≡ Breaks q
+same_break text p q a b =
+    let code = one_code text a.code b.code a.is_text b.is_text in
+    let both = one_outcome.one b.code p.rule q.rule p.line q.line
+    (subst (λ c. IsFirstBroken c p.rule p.line) code a.broken) b.broken in
+    same_refusal p q both.0 both.1
+
+pub one_refusal : (text : List ℕ) (a b : Ending) → CodeRefused text a → CodeRefused text b → a ≡ b
+one_refusal text CodeTooLong CodeTooLong r s = refl
+one_refusal text CodeTooLong (NoForm n) r s = absurd (omega (arith, s.0))
+one_refusal text CodeTooLong (Breaks q) r s = absurd (omega (arith, s.is_text.within))
+one_refusal text (NoForm m) CodeTooLong r s = absurd (omega (arith, r.0))
+one_refusal text (NoForm m) (NoForm n) r s = ap NoForm (forms.one text m n r.1 s.1)
+one_refusal text (NoForm m) (Breaks q) r s = absurd (has_form text s.code m s.is_text r.1)
+one_refusal text (Breaks p) CodeTooLong r s = absurd (omega (arith, r.is_text.within))
+one_refusal text (Breaks p) (NoForm n) r s = absurd (has_form text r.code n r.is_text s.1)
+one_refusal text (Breaks p) (Breaks q) r s = same_break text p q r s
+one_refusal text CodeTooLong _ r s = absurd s
+one_refusal text (NoForm m) _ r s = absurd s
+one_refusal text (Breaks p) _ r s = absurd s
+one_refusal text _ b r s = absurd r
+
+pub never_both : (text : List ℕ) (a : Ending) → CodePasses text → CodeRefused text a → ⊥
+never_both text CodeTooLong p r = omega (arith, p.is_text.within)
+never_both text (NoForm n) p r = has_form text p.code n p.is_text r.1
+never_both text (Breaks q) p r =
+    one_outcome.not_both r.code q.rule q.line
+    (subst (λ c. IsChecked c) (one_code text p.code r.code p.is_text r.is_text) p.checked) r.broken
+never_both text _ p r = r
+
+pub one_code_verdict : OneCodeVerdict
+one_code_verdict = record { one_code = one_code; one_refusal = one_refusal; never_both = never_both }
