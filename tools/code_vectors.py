@@ -3,7 +3,7 @@
 
     tools/code_vectors.py --table | --check
 
-`--table` writes the tables to crates/rgo_code_tests/src/code_texts/, and `--check` fails if those are others. What has to
+`--table` writes the tables to crates/rgo_code_text_tests/src/code_texts/, and `--check` fails if those are others. What has to
 be reported comes from tools/code_text.py. Each table is made from texts in tools/code_texts, which keep all rules:
 
 - EXISTENCE, TYPES, CLASSES and REGIONS: a line of `all.code` is replaced, so that a rule is broken. There is a row, or
@@ -24,7 +24,7 @@ from code_text import FORMS, GLOBAL_JOINS, JOINS, OPERATORS
 
 TOP = pathlib.Path(__file__).resolve().parent.parent
 TEXTS = TOP / "tools" / "code_texts"
-TABLES = TOP / "crates" / "rgo_code_tests" / "src" / "code_texts"
+TABLES = TOP / "crates" / "rgo_code_text_tests" / "src" / "code_texts"
 
 WORDS = list(FORMS)
 WITH_EDGE = [word for word in WORDS if word != "return"]

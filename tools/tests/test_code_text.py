@@ -226,8 +226,6 @@ class Producer(unittest.TestCase):
 
 class Tables(unittest.TestCase):
     def test_the_tables_are_those_of_today(self):
-        if not (TOP / "crates" / "rgo_code_tests" / "src" / "code_texts").is_dir():
-            self.skipTest("the tests of the compiler do not have the tables yet")
         ran = subprocess.run([TOP / "tools" / "code_vectors.py", "--check"], capture_output=True, check=False)
         self.assertEqual((0, b""), (ran.returncode, ran.stderr))
 

@@ -108,6 +108,16 @@ fn code_is_emitted(rt: HostRuntime) -> Result<(), Fail> {
 }
 
 #[test]
+fn code_texts_are_checked(rt: HostRuntime) -> Result<(), Fail> {
+    for (code, report) in &emitting::CHECKED {
+        let text = code.as_bytes().to_vec(rt.alloc())?;
+        let status = if report.is_empty() { 0 } else { 1 };
+        expect(&rt, "rgo code", text, SOUND, ("", report, status))?;
+    }
+    Ok(())
+}
+
+#[test]
 fn other_ends_are_reported(rt: HostRuntime) -> Result<(), Fail> {
     for (words, line, print, report, status) in &ends::ENDS {
         let text = with_head(rt.alloc(), line)?;

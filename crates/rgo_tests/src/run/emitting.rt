@@ -11,6 +11,23 @@ pub(super) static CODES: [(&str, &str, &str); 3] = [
     ),
 ];
 
+/// Code texts, and what is reported of them: nothing if they keep all rules.
+pub(super) static CHECKED: [(&str, &str); 7] = [
+    (NOTHING, ""),
+    (FIELD, ""),
+    ("", "rgo: line 1: code text\n"),
+    ("rgo code 1\n", "rgo: line 2: code 1\n"),
+    ("rgo code 2\n", "rgo: line 1: code text\n"),
+    (
+        "rgo code 1\nfunc main 0 - -\nentry -[]\nend\n",
+        "rgo: line 4: code 1\n",
+    ),
+    (
+        "rgo code 1\nfunc main 0 - -\nvar []int r0\nentry -[]\n0 @0 +[r0] nil v0 -[]\n1 @0 +[] return -\nend\n",
+        "rgo: line 5: code 13\n",
+    ),
+];
+
 const NOTHING: &str =
     "rgo code 1\nstruct N int *N\nfunc main 0 - -\nentry -[]\n0 @69 +[] return -\nend\n";
 

@@ -14,7 +14,7 @@ const USAGE: &str =
 
 static OTHER_WORDS: [&str; 12] = [
     "rgo",
-    "rgo code",
+    "rgo big 5",
     "rgo help",
     "rgo --help",
     "rgo run --steps",
