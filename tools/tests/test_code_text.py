@@ -278,6 +278,14 @@ class WithTheProgram(unittest.TestCase):
             with self.subTest(program=program):
                 self.assertEqual((0, code.encode(), ""), self.command("emit", program.encode()))
 
+    def test_what_is_emitted_keeps_all_rules(self):
+        self.need("emit", (TEXTS / "field.go").read_bytes())
+        self.need("code", (TEXTS / "field.code").read_bytes())
+        for path in sorted([*TEXTS.glob("*.go"), *(TOP / "examples").glob("*.go")]):
+            with self.subTest(path.name):
+                text = self.command("emit", path.read_bytes())[1]
+                self.assertEqual((0, b"", ""), self.command("code", text))
+
     def test_the_examples_have_the_regions_that_the_producer_finds(self):
         self.need("emit", (TEXTS / "field.go").read_bytes())
         for path in sorted((TOP / "examples").glob("*.go")):
