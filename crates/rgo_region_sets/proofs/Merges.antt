@@ -4,7 +4,7 @@ use Rattle.std.specs.List.{Contains}
 use Rattle.std.proofs.lemmas.Option.{same_Some, none-some, slice_get_within, slice_get-get_or, get_or_from_slice_get}
 use Rattle.std.proofs.lemmas.List.{length-append}
 use Rattle.rgo_region_sets.specs.declared.spans.Span.{Span}
-use Rattle.rgo_region_sets.specs.Spans.{Spans, AddsSpans, Precedes, IsBefore, AreApart, Follows, Meets}
+use Rattle.rgo_region_sets.specs.Spans.{Spans, AddsSpans, Precedes, IsBefore, AreApart, Continues, Follows, Meets}
 use Rattle.rgo_region_sets.proofs.Apart.{member_at}
 
 less_or : (a b : ℕ) → (a < b) ⊎ (b ≤ a)
@@ -186,6 +186,15 @@ module _ (spans : List Span) (n : ℕ) (last next : Span) (to : ℕ) (there : sl
         λ same. omega (arith, precedes.1 met.0, after.1 (sym met.0 ∙ same)),
       ))
       (get_written spans n both (length (slice_set spans n both) - 1) a e)
+
+-- a next span that continues the last one
+pub continued_added : (spans : List Span) (count : ℕ) (last next : Span) (to : ℕ) → count ≡ length spans
+    → (count ≡ 0 → ⊥) → last ≡ get_or spans (count - 1) last → to ≡ max last.to next.to → Continues true last next
+    → AddsSpans spans (slice_set spans (count - 1) (record { name = last.name; from = last.from; to = to })) (Spans next)
+continued_added spans count last next to is_count some read is met =
+    adds_both spans (count - 1) last next to
+    (slice_get-get_or spans (count - 1) last (omega (arith, is_count, some)) ∙ ap Some (sym read)) is
+    (omega (arith, is_count, some)) (omega (arith, met.1.0), λ _. met.0) met.1
 
 -- ---- a next span
 

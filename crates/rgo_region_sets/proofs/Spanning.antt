@@ -75,12 +75,12 @@ covered_more ranges i d at within = (
       h,
 )
 
-pub ranges_more : (old mid : List Span) (name : ℕ) (ranges : List Range) (i : ℕ) (d : Range) (s : Span)
+pub ranges_more : (old mid new : List Span) (name : ℕ) (ranges : List Range) (i : ℕ) (d : Range) (s : Span)
     → i < length ranges → s ≡ record { name = name; from = (get_or ranges i d).from; to = (get_or ranges i d).to }
-    → AddsSpans old mid (λ k at. (k ≡ name) × IsCovered (take i ranges) at)
-    → AddsSpans old (mid ++ s ∷ []) (λ k at. (k ≡ name) × IsCovered (take (i + 1) ranges) at)
-ranges_more old mid name ranges i d s within is before =
-    adds_as old (mid ++ s ∷ []) (λ k at. ((k ≡ name) × IsCovered (take i ranges) at) ⊎ Spans s k at)
+    → AddsSpans old mid (λ k at. (k ≡ name) × IsCovered (take i ranges) at) → AddsSpans mid new (Spans s)
+    → AddsSpans old new (λ k at. (k ≡ name) × IsCovered (take (i + 1) ranges) at)
+ranges_more old mid new name ranges i d s within is before after =
+    adds_as old new (λ k at. ((k ≡ name) × IsCovered (take i ranges) at) ⊎ Spans s k at)
     (λ k at. (k ≡ name) × IsCovered (take (i + 1) ranges) at)
     (λ k at. (
       λ h. ⊎_elim
@@ -94,8 +94,7 @@ ranges_more old mid name ranges i d s within is before =
           (λ n. inr (subst (λ x. Spans x k at) (sym is) (sym h.0, n.0, n.1)))
           ((covered_more ranges i d at within).0 h.1),
     ))
-    (then_adds old mid (mid ++ s ∷ []) (λ k at. (k ≡ name) × IsCovered (take i ranges) at) (Spans s) before
-    (pushed mid s))
+    (then_adds old mid new (λ k at. (k ≡ name) × IsCovered (take i ranges) at) (Spans s) before after)
 
 -- ---- is decided
 

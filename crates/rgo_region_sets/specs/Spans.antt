@@ -1,5 +1,5 @@
 -- Spans of instructions in which names are live.
-use Rattle.std.specs.Prelude.{◌≡◌, ◌<◌, ◌≤◌, ◌+◌, ◌-◌, ◌⊎◌, ◌↔◌, ℕ, Bool, true, false, List, length, Contains, slice_get, Some}
+use Rattle.std.specs.Prelude.{◌≡◌, ◌<◌, ◌≤◌, ◌+◌, ◌-◌, ◌⊎◌, ◌↔◌, ⊤, ℕ, Bool, true, false, List, length, Contains, slice_get, Some}
 use Rattle.rgo_tac.specs.declared.regions.Class.TheVariants.{Name}
 use Rattle.rgo_flow.specs.declared.table.Liveness.{Liveness}
 use Rattle.rgo_flow.specs.Table.{IsLive}
@@ -58,6 +58,11 @@ pub record AreBegun (spans : List Span) (k at count : ℕ) : Type 0 where
 abbrev pub Meets : Bool → (last next : Span) → Type 0
 Meets true last next = (last.name ≡ next.name) × (next.from ≤ last.to + 1)
 Meets false last next = last.name ≡ next.name → last.to < next.from
+
+-- the next span meets the last one, and does not begin before it
+abbrev pub Continues : Bool → (last next : Span) → Type 0
+Continues true last next = (last.from ≤ next.from) × Meets true last next
+Continues false last next = ⊤
 
 -- the last of the spans, if there is one, precedes the next one
 abbrev pub Follows : List Span → Span → Type 0

@@ -5,7 +5,7 @@ ghost use Rattle.rgo_region_sets.specs.declared.spans.Span.{Span};
 ghost use Rattle.rgo_flow.specs.Ranges.{IsCovered};
 ghost use Rattle.rgo_code.specs.Names.{IsLiveName};
 ghost use Rattle.rgo_region_sets.specs.Spans.{AddsSpans, AreApart, AreOrdered, IsNamed, IsSpanned, Spans};
-ghost use Rattle.rgo_region_sets.specs.Spans.{Follows, Meets, Precedes};
+ghost use Rattle.rgo_region_sets.specs.Spans.{Continues, Follows, Meets, Precedes};
 
 use crate::names::name_of;
 use crate::spans::Span;
@@ -13,17 +13,55 @@ use rgo_code::CodeFn;
 use rgo_flow::{Liveness, Range, live};
 use std::alloc::{AllocError, Global};
 
+/// Whether a span begins no later than right after the end of another one of its name.
+fn meets(last: Span, next: Span) -> bool
+    ensures { Meets result last next }
+{
+    last.name == next.name && next.from <= last.to.saturating_add(1)
+}
+
+/// Whether a span meets another one, and does not begin before it.
+fn continues(last: Span, next: Span) -> bool
+    ensures { Continues result last next }
+{
+    last.from <= next.from && meets(last, next)
+}
+
+/// One more span. The last one grows instead if the next one continues it: a variable that is live through many blocks
+/// has many ranges, and most of them continue the one before.
+fn append(spans: &mut Vec<Span>, next: Span) -> Result<(), AllocError>
+    ensures { OnOk result (AddsSpans spans.old.items spans.new.items (Spans next)) }
+{
+    let count = spans.len();
+    if count == 0 {
+        spans.push(next)?;
+        return Ok(());
+    }
+    let last = spans[count - 1];
+    if continues(last, next) {
+        spans[count - 1] = Span {
+            name: last.name,
+            from: last.from,
+            to: last.to.max(next.to),
+        };
+        return Ok(());
+    }
+    spans.push(next)?;
+    Ok(())
+}
+
 /// The ranges become spans of the name.
 fn add_ranges(spans: &mut Vec<Span>, name: u32, ranges: &[Range]) -> Result<(), AllocError>
     ensures { OnOk result (AddsSpans spans.old.items spans.new.items
         (λ k at. (k ≡ name) × IsCovered ranges.now at)) }
 {
     for range in ranges {
-        spans.push(Span {
+        let next = Span {
             name,
             from: range.from,
             to: range.to,
-        })?;
+        };
+        append(spans, next)?;
     }
     Ok(())
 }
@@ -67,13 +105,6 @@ fn ordered(mut spans: Vec<Span>) -> Vec<Span>
 {
     spans.sort_unstable_by_key(|s| (s.name, s.from));
     spans
-}
-
-/// Whether a span begins no later than right after the end of another one of its name.
-fn meets(last: Span, next: Span) -> bool
-    ensures { Meets result last next }
-{
-    last.name == next.name && next.from <= last.to.saturating_add(1)
 }
 
 /// The next span, in their order.

@@ -1,9 +1,8 @@
-use Rattle.std.proofs.Common.{◌≡◌, ◌+◌, List, take, refl, sym, subst, arith}
+use Rattle.std.proofs.Common.{◌≡◌, List, refl, subst, arith}
 use Rattle.std.proofs.lemmas.List.{take_all}
 use Rattle.rgo_flow.specs.declared.ranges.Range.{Range}
 use Rattle.rgo_flow.specs.Ranges.{IsCovered}
 use Rattle.rgo_flow.proofs.Covering.{not_empty}
-use Rattle.rgo_region_sets.specs.declared.spans.Span.{Span}
 use Rattle.rgo_region_sets.specs.Spans.{AddsSpans}
 use Rattle.rgo_region_sets.proofs.Spanning.{adds_none, ranges_more}
 use Rattle.rgo_region_sets.proofs.merging.add_ranges.Goals as goal
@@ -14,11 +13,8 @@ loop-range-init c =
 
 pub loop-range-preserved : goal.loop-range-preserved
 loop-range-preserved c =
-    subst (λ (l : List Span). AddsSpans c.args.spans.now.items l
-    (λ k at. (k ≡ c.args.name) × IsCovered (take (c.loop-range.range-index + 1) c.args.ranges.now) at))
-    (sym c.in_ok-push.ensures.items)
-    (ranges_more c.args.spans.now.items c.loop-range.spans.items c.args.name c.args.ranges.now c.loop-range.range-index
-    _ _ c.loop-range-test.true refl c.loop-range.invariant)
+    ranges_more c.args.spans.now.items c.loop-range.spans.items c.append.new.spans.items c.args.name c.args.ranges.now
+    c.loop-range.range-index _ _ c.loop-range-test.true refl c.loop-range.invariant c.in_ok-append.ensures
 
 pub returns : goal.returns
 returns c =
