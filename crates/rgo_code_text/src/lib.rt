@@ -1,10 +1,25 @@
-//! The text of code with regions, read.
+//! The text of code with regions, read: the code, or the first line that has no form.
 #![tactic(auto)]
 
+mod actions;
+mod building;
+mod calls;
+mod cuts;
+mod items;
+mod jumps;
 mod laws;
+mod lists;
+mod numbered;
+mod numbers;
+mod ops;
+mod pieces;
+mod places;
+mod prints;
 mod reading;
 mod refusals;
+mod types;
+mod words;
 
-pub use laws::one_refusal;
+pub use laws::{one_refusal, one_text};
 pub use reading::read_code;
 pub use refusals::{CodeText, ReadError};

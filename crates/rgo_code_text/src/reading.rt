@@ -1,13 +1,65 @@
 //! A code text, read line by line.
 
-ghost use Rattle.std.specs.Prelude.{◌≡◌, MatchResult};
+ghost use Rattle.std.specs.Prelude.{◌≡◌, map, IfOk, MatchResult};
+ghost use Rattle.std.specs.Option.{option_map};
 ghost use Rattle.rgo_code_printing.specs.Text.{text_of};
-ghost use Rattle.rgo_code_text.specs.Refusing.{Refuses};
+ghost use Rattle.rgo_code_text.specs.Walk.{AreItems, StepIs, StopsIn, Refuses};
+ghost use Rattle.rgo_code_text.specs.Views.{item_of};
 ghost use Rattle.rgo_code_text.specs.Written.{IsWritten};
 
-use crate::refusals::ReadError;
+use crate::building::code;
+use crate::cuts::len_to;
+use crate::items::{Item, read_item};
+use crate::numbers::number_names;
+use crate::places::Place;
+use crate::refusals::{CodeText, ReadError};
 use rgo_code::Code;
-use std::alloc::Global;
+use std::alloc::{AllocError, Global};
+
+/// The item of a line and the place after it, if the line has a form in its place.
+fn step<'t>(
+    alloc: Global,
+    place: Place,
+    line: &'t [u8],
+) -> Result<Option<(Item<'t>, Place)>, AllocError>
+    ensures { IfOk result (λ r. StepIs place line.now (option_map (λ s. (item_of s.0, s.1)) r)) }
+{
+    let Some(item) = read_item(alloc, line)? else {
+        return Ok(None);
+    };
+    match place.after(&item) {
+        Some(next) => Ok(Some((item, next))),
+        None => Ok(None),
+    }
+}
+
+/// The items of a text's lines.
+pub(crate) fn items(alloc: Global, text: &[u8]) -> Result<Vec<Item<'_>>, ReadError>
+    ensures { MatchResult result (λ items. AreItems text.now (map item_of items.items)) (λ e. StopsIn text.now e) }
+{
+    let mut items = Vec::new(alloc);
+    let mut place = Place::First;
+    let mut at = 0;
+    for line in 1..u32::MAX {
+        let rest = &text[at..];
+        let len = len_to(rest, b'\n');
+        if len == rest.len() {
+            if len == 0 && place.is_last() {
+                return Ok(items);
+            }
+            return Err(ReadError::Refused(CodeText { line }));
+        }
+        match step(alloc, place, &rest[..len])? {
+            Some((item, next)) => {
+                items.push(item)?;
+                place = next;
+            }
+            None => return Err(ReadError::Refused(CodeText { line })),
+        }
+        at = at + len + 1;
+    }
+    Err(ReadError::NoMemory)
+}
 
 /// The code of which this is the text.
 ///
@@ -17,5 +69,10 @@ use std::alloc::Global;
 pub fn read_code(alloc: Global, text: &[u8]) -> Result<Code, ReadError>
     ensures { MatchResult result (λ code. (text.now ≡ text_of code) × IsWritten code) (λ e. Refuses text.now e) }
 {
-    Err(ReadError::NoMemory)
+    let items = items(alloc, text)?;
+    let (tables, counts) = number_names(alloc, &items)?;
+    match code(alloc, &tables, counts, items) {
+        Ok(code) => Ok(code),
+        Err(_) => Err(ReadError::NoMemory),
+    }
 }

@@ -6,18 +6,14 @@ use Rattle.rgo_code.specs.declared.rules.CodeRefusal.{CodeRefusal}
 use Rattle.rgo_code_printing.specs.Text.{text_of}
 use Rattle.rgo_code_text.specs.Forms.{IsFirstWithoutForm}
 use Rattle.rgo_code_text.proofs.OneRefusal.{one_refusal as forms}
-use Rattle.rgo_code_text.specs.Laws.{OneText}
+use Rattle.rgo_code_text.proofs.Refusing.{no_two}
 use Rattle.rgo_checker.proofs.OneOutcome.{one_outcome}
 use Rattle.rgo_run.specs.declared.endings.Ending.{Ending}
 use Rattle.rgo_run.specs.declared.endings.Ending.TheVariants.{CodeTooLong, NoForm, Breaks}
 use Rattle.rgo_run.specs.CodeVerdicts.{IsTextOfCode, CodePasses, CodeBreaks, CodeRefused, OneCodeVerdict, code_limit}
 
--- STUB
-one_text : OneText
-one_text = ?
-
 one_code : (text : List ℕ) (a b : Code) → IsTextOfCode text a → IsTextOfCode text b → a ≡ b
-one_code text a b is also = one_text a b is.written also.written (sym is.text_is ∙ also.text_is)
+one_code text a b is also = no_two a b is.written also.written (sym is.text_is ∙ also.text_is)
 
 -- the text of code has a form
 has_form : (text : List ℕ) (code : Code) (n : ℕ) → IsTextOfCode text code → IsFirstWithoutForm text n → ⊥

@@ -40,7 +40,7 @@ use Rattle.rgo_command_line.specs.declared.commands.WordsError.TheVariants as wo
 use Rattle.rgo_machine.specs.declared.limits.Limits.{Limits}
 use Rattle.rgo_code.specs.Code as code
 use Rattle.rgo_code_printing.specs.Text.{text_of}
-use Rattle.rgo_code_text.specs.Refusing.{Refuses as ReadFails}
+use Rattle.rgo_code_text.specs.Walk.{Refuses as ReadFails}
 use Rattle.rgo_code_text.specs.declared.refusals.ReadError.{ReadError}
 use Rattle.rgo_code_text.specs.declared.refusals.ReadError.TheVariants as reading
 use Rattle.rgo_checker.specs.Outcomes.{CheckFails}

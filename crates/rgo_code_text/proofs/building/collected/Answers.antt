@@ -1,0 +1,34 @@
+use Rattle.std.proofs.Common.{◌≡◌, ◌∙◌, ◌++◌, ◌∷◌, [], sym, ap, map, map-id, rules}
+use Rattle.std.proofs.lemmas.Iterator.Adapters.{YieldsList-from_vec}
+use Rattle.std.proofs.lemmas.Iterator.Consumers.{YieldsList-end}
+use Rattle.std.proofs.lemmas.List.{map_push}
+use Rattle.rgo_code_text.specs.Building.{names_now, numbered}
+use Rattle.rgo_code_text.specs.CodeLines.{Line, nothing, with_line, with_lines}
+use Rattle.rgo_code_text.specs.Opened.{building_of}
+use Rattle.rgo_code_text.specs.Views.{item_of}
+use Rattle.rgo_code_text.proofs.Opening.{lines_push}
+use Rattle.rgo_code_text.proofs.building.collected.Goals as goal
+
+pub loop-item-preserved : goal.loop-item-preserved
+loop-item-preserved c =
+    let n = names_now c.args.tables.now in
+    let xs = c.loop-item.yielded in
+    let x = c.in-Some.item in
+    record {
+      built = c.in_ok-add.ensures.line
+          ∙ ap (λ b. with_line b (numbered n (item_of x))) c.loop-item.invariant.built
+          ∙ sym (lines_push nothing (map (numbered n) (map item_of xs)) (numbered n (item_of x)))
+          ∙ ap (with_lines nothing) (sym (map_push (numbered n) (map item_of xs) (item_of x)))
+          ∙ ap (λ ys. with_lines nothing (map (numbered n) ys)) (sym (map_push item_of xs x));
+      aligned = c.in_ok-add.ensures.aligned;
+    }
+
+pub returns : goal.returns
+returns c =
+    let end = YieldsList-end (YieldsList-from_vec {s = c.into_iter-item-iterator.result} c.args.items.items (search rules) (search rules))
+    c.loop-item.yielded c.loop-item.item-iterator c.loop-item.yielded_by c.next.result c.next.new.self c.in-None.is c.next.ensures.steps in
+    record {
+      built = c.loop-item.invariant.built ∙ ap (λ xs. with_lines nothing (map (numbered (names_now c.args.tables.now)) (map item_of xs)))
+          (sym (map-id c.loop-item.yielded) ∙ end.0);
+      aligned = c.loop-item.invariant.aligned;
+    }

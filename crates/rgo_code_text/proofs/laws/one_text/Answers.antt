@@ -1,0 +1,5 @@
+use Rattle.rgo_code_text.proofs.Refusing.{no_two}
+use Rattle.rgo_code_text.proofs.laws.one_text.Goals as goal
+
+pub returns : goal.returns
+returns c = no_two

@@ -1,0 +1,20 @@
+use Rattle.std.proofs.Common.{◌≡◌, ℕ, List, Option, sym, ap, ◌∙◌, subst}
+use Rattle.std.specs.Option.{option_map}
+use Rattle.rgo_code_text.specs.Cuts.{nows, cut}
+use Rattle.rgo_code_text.specs.Ops.{NamedOp, read_op, op_text, NamedOpFits}
+use Rattle.rgo_code_text.specs.Readers.{IsRead}
+use Rattle.rgo_code_text.specs.Views.{named_op_of}
+use Rattle.rgo_code_text.specs.declared.ops.NamedOp.{NamedOp as CodeNamedOp}
+use Rattle.rgo_code_text.proofs.Options.{if_ok}
+use Rattle.rgo_code_text.proofs.OpTexts.{text_read, op_one}
+use Rattle.rgo_code_text.proofs.ops.named_op.Goals as goal
+
+pub returns : goal.returns
+returns c =
+    let text = c.args.text.now in
+    if_ok c.op.result
+    (λ (r : Option CodeNamedOp). option_map named_op_of r ≡ read_op (nows c.deref.result.now))
+    (λ (r : Option CodeNamedOp). IsRead NamedOpFits op_text text (option_map named_op_of r)) c.op.ensures
+    (λ r e. subst (IsRead NamedOpFits op_text text)
+    (sym (e ∙ ap (λ ws. read_op (nows ws)) c.deref.ensures.value ∙ ap read_op c.in_ok-words.ensures))
+    (text_read text (sym c.is_print.ensures ∙ c.if-is_print.false)))

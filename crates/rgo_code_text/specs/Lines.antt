@@ -1,0 +1,62 @@
+-- Lines of a code text, as they are read.
+use Rattle.std.specs.Prelude.{ℕ, ◌==◌, Bool, true, false, ◌&&◌, ◌||◌, if◌then◌else◌, List, [], ◌∷◌, length, Option, Some, None, codes, ⊤}
+use Rattle.std.specs.Option.{option_map}
+use Rattle.std.specs.List.{slice_split, before_first}
+use Rattle.std.specs.Str.{bytes_eq}
+use Rattle.rgo_code_text.specs.Cuts.{is_space, cut, word_at}
+use Rattle.rgo_code_text.specs.Items.{NamedSlot, Item, Head, Struct, Global, Function, Slot, Entry, Instr, End, ItemFits}
+use Rattle.rgo_code_text.specs.Ops.{NamedOp}
+use Rattle.rgo_code_text.specs.Readers.{NamedType, on_some, read_class, read_each, read_number, read_regions, read_type}
+use Rattle.rgo_code_text.specs.Written.{is_name}
+
+abbrev pub read_fields : List ℕ → Option (List NamedType)
+read_fields list = read_each read_type (slice_split is_space list)
+
+abbrev pub read_slot : (ty word : List ℕ) → Option NamedSlot
+read_slot ty word =
+    on_some (read_class word) (λ class. option_map (λ t. record { ty = t; class = class }) (read_type ty))
+
+abbrev pub read_result : (ty word : List ℕ) → Option (Option NamedSlot)
+read_result ty word =
+    if bytes_eq ty (codes "-") && bytes_eq word (codes "-") then Some None else option_map Some (read_slot ty word)
+
+-- ---- lines by their words
+
+abbrev pub struct_of : List (List ℕ) → Option Item
+struct_of words =
+    if is_name (word_at words 1)
+    then (if length words == 2 then Some (Struct (word_at words 1) [])
+    else option_map (Struct (word_at words 1)) (read_fields (word_at words 2)))
+    else None
+
+abbrev pub global_of : List (List ℕ) → Option Item
+global_of words =
+    if length words == 3 && is_name (word_at words 1)
+    then option_map (Global (word_at words 1)) (read_type (word_at words 2))
+    else None
+
+abbrev pub function_of : List (List ℕ) → Option Item
+function_of words =
+    if length words == 5 && is_name (word_at words 1)
+    then on_some (read_number (word_at words 2)) (λ params.
+    option_map (Function (word_at words 1) params) (read_result (word_at words 3) (word_at words 4)))
+    else None
+
+abbrev pub slot_of : List (List ℕ) → Option Item
+slot_of words = if length words == 3 then option_map Slot (read_slot (word_at words 1) (word_at words 2)) else None
+
+abbrev pub entry_of : List (List ℕ) → Option Item
+entry_of words = if length words == 2 then option_map Entry (read_regions 45 (word_at words 1)) else None
+
+-- ---- instructions
+
+-- the instruction with this number, this place, these names that it creates, and this operation
+abbrev pub instr_with : (index place : ℕ) (creates : List ℕ) → NamedOp → Item
+instr_with index place creates o = Instr index (record { creates = creates; op = o.op; place = place }) o.name
+
+abbrev pub IsInstr : Item → Type 0
+IsInstr (Instr i instr name) = ⊤
+IsInstr item = ⊥
+
+abbrev pub InstrFits : Item → Type 0
+InstrFits item = IsInstr item × ItemFits item

@@ -1,0 +1,11 @@
+-- The numbers of names: where each is first among the names of its kind.
+use Rattle.std.specs.Prelude.{ℕ, nat_lt, if◌then◌else◌, List, [], ◌∷◌, ◌++◌, length, Option, Some, None}
+use Rattle.rgo_code_text.specs.Written.{is_among, number_of}
+
+-- the number of a name, if it is among the names
+abbrev pub first_of : List (List ℕ) → List ℕ → Option ℕ
+first_of names name = if nat_lt (number_of names name) (length names) then Some (number_of names name) else None
+
+-- one more name, unless it is among them
+abbrev pub with_name : List (List ℕ) → List ℕ → List (List ℕ)
+with_name names name = if is_among names name then names else names ++ name ∷ []

@@ -1,0 +1,77 @@
+-- What the code has of functions that are not complete yet.
+use Rattle.std.specs.Prelude.{◌≡◌, ◌<◌, ℕ, List, [], ◌∷◌, ◌++◌, length, get_or, All, ⊤}
+use Rattle.std.specs.Option.{option_map}
+use Rattle.rgo_typed.specs.declared.statements.Piece.{Piece}
+use Rattle.rgo_tac.specs.declared.code.Instr.{Instr}
+use Rattle.rgo_tac.specs.declared.code.Instr.TheVariants as code
+use Rattle.rgo_tac.specs.Views.{op_of, body_of}
+use Rattle.rgo_code.specs.Code.{Slot, CodeInstr, CodeFn}
+use Rattle.rgo_code.specs.Views.{slot, slots, code_op, code_body, code_fns}
+use Rattle.rgo_code_text.specs.declared.building.Building.{Building as CodeBuilding}
+use Rattle.rgo_code_text.specs.declared.building.Open.{Open}
+use Rattle.rgo_code_text.specs.declared.ops.NamedOp.{NamedOp}
+use Rattle.rgo_code_text.specs.Building.{numbered_op}
+use Rattle.rgo_code_text.specs.CodeLines.{Building}
+use Rattle.rgo_code_printing.specs.Text.{Names}
+use Rattle.rgo_code_text.specs.Views.{named_op_of}
+
+abbrev pub open_of : Open → CodeFn
+open_of o = record {
+  name = o.name;
+  params = o.params;
+  result = option_map (λ ty. slot ty o.result) o.result_type;
+  variables = slots o.types.items o.classes.items;
+  entry = o.entry.items;
+  body = code_body (body_of o.lists.items o.pieces.items o.instrs.items o.places.items) o.notes.items;
+}
+
+-- a function with one more variable, or instruction
+abbrev pub with_slot : CodeFn → Slot → CodeFn
+with_slot f slot = record f { variables = f.variables ++ slot ∷ [] }
+
+abbrev pub with_instr : CodeFn → CodeInstr → CodeFn
+with_instr f instr = record f { body = f.body ++ instr ∷ [] }
+
+-- the lists of an instruction have numbers below n
+abbrev pub ListsBelow : ℕ → Instr → Type 0
+ListsBelow n (code.Call d f k) = k < n
+ListsBelow n (code.Invoke f k) = k < n
+ListsBelow n (code.Go f k) = k < n
+ListsBelow n (code.Print p k) = (p < n) × (k < n)
+ListsBelow n instr = ⊤
+
+-- a copy of variable a to d, of any kind
+abbrev pub IsCopy : (d a : ℕ) → Instr → Type 0
+IsCopy d a (code.Copy e b) = (e ≡ d) × (b ≡ a)
+IsCopy d a (code.CopyInt e b) = (e ≡ d) × (b ≡ a)
+IsCopy d a (code.CopyBool e b) = (e ≡ d) × (b ≡ a)
+IsCopy d a instr = ⊥
+
+-- the instruction of an operation in a function that has its variables and its pieces at this number
+pub record IsNumbered (n : Names) (o : NamedOp) (list : ℕ) (instr : Instr) : Type 0 where
+  pub below : (k : ℕ) → list < k → ListsBelow k instr
+  pub op :
+      (lists : List (List ℕ)) (pieces : List (List Piece)) → get_or lists list [] ≡ o.from.items
+      → get_or pieces list [] ≡ o.pieces.items
+      → code_op (op_of lists pieces instr) o.note ≡ numbered_op n (named_op_of o).op o.name.now
+
+-- each variable has a class, and each instruction a place, lists and a note
+pub record IsAligned (o : Open) : Type 0 where
+  pub classes : length o.classes.items ≡ length o.types.items
+  pub places : length o.places.items ≡ length o.instrs.items
+  pub lists : length o.lists.items ≡ length o.instrs.items
+  pub pieces : length o.pieces.items ≡ length o.instrs.items
+  pub notes : length o.notes.items ≡ length o.instrs.items
+  pub below : All (ListsBelow (length o.instrs.items)) o.instrs.items
+
+abbrev pub building_of : CodeBuilding → Building
+building_of b = record {
+  structs = b.structs.items;
+  variables = b.variables.items;
+  functions = code_fns b.functions.items b.regions.items;
+  current = open_of b.current;
+}
+
+pub record AllAligned (b : CodeBuilding) : Type 0 where
+  pub regions : length b.regions.items ≡ length b.functions.items
+  pub current : IsAligned b.current

@@ -1,0 +1,122 @@
+-- Operations of a code text, as they are read. The numbers of what they name are 0.
+use Rattle.std.specs.Prelude.{◌≡◌, ◌<◌, ◌≤◌, ◌⊎◌, ◌++◌, ℕ, ◌-◌, ◌==◌, if◌then◌else◌, List, [], ◌∷◌, length, take, drop, Option, Some, None, codes}
+use Rattle.std.specs.Option.{option_map}
+use Rattle.std.specs.List.{join_with_byte, position_or_len}
+use Rattle.std.specs.Str.{bytes_eq}
+use Rattle.rgo_tac.specs.Code as tac
+use Rattle.rgo_code.specs.declared.notes.Note.{Note}
+use Rattle.rgo_code.specs.Code.{CodeOp, Do, Call, Go, Print, Jump, Branch, Return}
+use Rattle.rgo_code.specs.Views.{code_op}
+use Rattle.rgo_code_text.specs.Actions.{NamedAction, read_action}
+use Rattle.rgo_code_text.specs.Cuts.{is_space, word_at}
+use Rattle.rgo_code_text.specs.Items.{only, OpIsNamed}
+use Rattle.rgo_code_text.specs.Readers.{on_some, read_number, read_lettered, read_variable, read_value, read_regions, read_passes, read_within, inside}
+use Rattle.rgo_code_printing.specs.Text.{op_words}
+use Rattle.rgo_code_text.specs.Written.{is_name, OpFits}
+
+pub record NamedOp : Type 0 where
+  pub op : CodeOp
+  pub name : List ℕ
+
+abbrev pub unnamed : CodeOp → Option NamedOp
+unnamed op = Some (record { op = op; name = [] })
+
+-- nothing but these removals
+abbrev pub removing : List ℕ → Note
+removing names = record { creates = []; passes = []; protects = []; removes = names; otherwise = [] }
+
+abbrev pub read_removes : List ℕ → Option (List ℕ)
+read_removes word = read_regions 45 word
+
+abbrev pub last_of : List (List ℕ) → List ℕ
+last_of words = word_at words (length words - 1)
+
+-- an action, and its removals
+abbrev pub acting : List (List ℕ) → Option NamedOp
+acting words =
+    on_some (read_action (take (length words - 1) words)) (λ a.
+    on_some (read_removes (last_of words)) (λ removes.
+    Some (record { op = code_op a.op (removing removes); name = a.name })))
+
+-- a name and its arguments
+pub record Callee : Type 0 where
+  pub name : List ℕ
+  pub from : List ℕ
+
+abbrev pub callee_at : ℕ → List ℕ → Option Callee
+callee_at n word =
+    if is_name (take n word)
+    then option_map (λ from. record { name = take n word; from = from })
+    (read_within (read_lettered 118) (inside (codes "(") 41 (drop n word)))
+    else None
+
+abbrev pub read_callee : List ℕ → Option Callee
+read_callee word = callee_at (position_or_len (λ b. b == 40) word) word
+
+abbrev pub calling : List (List ℕ) → Option NamedOp
+calling words =
+    on_some (read_value (word_at words 1)) (λ to.
+    on_some (read_callee (word_at words 2)) (λ c.
+    on_some (read_passes (word_at words 3)) (λ passes.
+    on_some (read_regions 80 (word_at words 4)) (λ protects.
+    on_some (read_removes (word_at words 5)) (λ removes.
+    Some (record { op = Call to 0 c.from passes protects removes; name = c.name }))))))
+
+abbrev pub starting : List (List ℕ) → Option NamedOp
+starting words =
+    on_some (read_callee (word_at words 1)) (λ c.
+    on_some (read_passes (word_at words 2)) (λ passes.
+    on_some (read_removes (word_at words 3)) (λ removes.
+    Some (record { op = Go 0 c.from passes removes; name = c.name }))))
+
+abbrev pub jumping : List (List ℕ) → Option NamedOp
+jumping words =
+    on_some (read_number (word_at words 1)) (λ target.
+    on_some (read_removes (word_at words 2)) (λ removes. unnamed (Jump target removes)))
+
+-- a branch without its removals
+abbrev pub branch_of : List (List ℕ) → Option tac.Op
+branch_of words =
+    on_some (read_variable (word_at words 1)) (λ test.
+    on_some (read_number (word_at words 2)) (λ target.
+    on_some (read_number (word_at words 4)) (λ other. Some (tac.Branch test target other))))
+
+abbrev pub with_ways : tac.Op → (removes otherwise : List ℕ) → Option NamedOp
+with_ways op removes otherwise = unnamed (code_op op (record (removing removes) { otherwise = otherwise }))
+
+abbrev pub branching : List (List ℕ) → Option NamedOp
+branching words =
+    on_some (branch_of words) (λ op.
+    on_some (read_removes (word_at words 3)) (λ removes.
+    on_some (read_removes (word_at words 5)) (λ otherwise. with_ways op removes otherwise)))
+
+abbrev pub returning : List (List ℕ) → Option NamedOp
+returning words = on_some (read_value (word_at words 1)) (λ value. unnamed (Return value))
+
+abbrev pub of_length : ℕ → List (List ℕ) → Option NamedOp → Option NamedOp
+of_length n words op = if length words == n then op else None
+
+-- an operation that is no print, by its words
+abbrev pub read_op : List (List ℕ) → Option NamedOp
+read_op words =
+    if bytes_eq (word_at words 0) (codes "call") then of_length 6 words (calling words)
+    else (if bytes_eq (word_at words 0) (codes "go") then of_length 4 words (starting words)
+    else (if bytes_eq (word_at words 0) (codes "jump") then of_length 3 words (jumping words)
+    else (if bytes_eq (word_at words 0) (codes "branch") then of_length 6 words (branching words)
+    else (if bytes_eq (word_at words 0) (codes "return") then of_length 2 words (returning words)
+    else acting words))))
+
+-- ---- texts
+
+-- the words of an operation, with spaces between them
+abbrev pub op_text : NamedOp → List ℕ
+op_text o = join_with_byte 32 (op_words (only o.name) o.op)
+
+abbrev pub NamedOpFits : NamedOp → Type 0
+NamedOpFits o = OpFits o.op × OpIsNamed o.op o.name
+
+-- the last word begins at this byte, after the last space
+pub record LastWord (bytes : List ℕ) (at : ℕ) : Type 0 where
+  pub within : at ≤ length bytes
+  pub before : (at ≡ 0) ⊎ ((0 < at) × (bytes ≡ take (at - 1) bytes ++ 32 ∷ drop at bytes))
+  pub last : position_or_len is_space (drop at bytes) ≡ length (drop at bytes)

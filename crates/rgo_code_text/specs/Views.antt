@@ -1,0 +1,60 @@
+-- What the code's parts of lines are, as plain data.
+use Rattle.std.specs.Prelude.{ℕ, List, [], ◌∷◌, map, Option, Some, None}
+use Rattle.std.specs.Option.{option_map}
+use Rattle.std.specs.declared.alloc.Global.{Global as Memory}
+use Rattle.std.specs.declared.vec.Vec.{Vec}
+use Rattle.rgo_tac.specs.Views.{op_of}
+use Rattle.rgo_code_text.specs.declared.actions.Action.{Action}
+use Rattle.rgo_code_text.specs.declared.items.Item.{Item as CodeItem}
+use Rattle.rgo_code_text.specs.declared.items.Item.TheVariants as code
+use Rattle.rgo_code_text.specs.declared.items.NamedInstr.{NamedInstr as CodeNamedInstr}
+use Rattle.rgo_code_text.specs.declared.items.NamedSlot.{NamedSlot as CodeSlot}
+use Rattle.rgo_code_text.specs.declared.types.NamedType.{NamedType as CodeType}
+use Rattle.rgo_code_text.specs.declared.calls.Callee.{Callee as CodeCallee}
+use Rattle.rgo_code_text.specs.declared.ops.NamedOp.{NamedOp as CodeNamedOp}
+use Rattle.rgo_code_text.specs.declared.pieces.Pieces.{Pieces}
+use Rattle.rgo_typed.specs.declared.statements.Piece.{Piece}
+use Rattle.rgo_code.specs.Code.{CodeInstr}
+use Rattle.rgo_code.specs.Views.{code_op}
+use Rattle.rgo_code_text.specs.Actions.{NamedAction}
+use Rattle.rgo_code_text.specs.Items.{NamedSlot, Item, Head, Struct, Global, Function, Slot, Entry, Instr, End}
+use Rattle.rgo_code_text.specs.Ops.{NamedOp, Callee}
+use Rattle.rgo_code_text.specs.Readers.{NamedType}
+
+abbrev pub named_type_of : CodeType → NamedType
+named_type_of t = record { ty = t.ty; name = t.name.now }
+
+abbrev pub types_of : Vec CodeType Memory → List NamedType
+types_of ts = map named_type_of ts.items
+
+abbrev pub callee_of : CodeCallee → Callee
+callee_of c = record { name = c.name.now; from = c.from }
+
+abbrev pub named_op_of : CodeNamedOp → NamedOp
+named_op_of o = record {
+  op = code_op (op_of (o.from.items ∷ []) (o.pieces.items ∷ []) o.instr) o.note;
+  name = o.name.now;
+}
+
+abbrev pub pieces_of : Pieces → List Piece × List ℕ
+pieces_of p = (p.pieces.items, p.from.items)
+
+abbrev pub action_of : Action → NamedAction
+action_of a = record { op = op_of [] [] a.instr; name = a.name.now }
+
+abbrev pub named_slot_of : CodeSlot → NamedSlot
+named_slot_of s = record { ty = named_type_of s.ty; class = s.class }
+
+-- an instruction with what is created before it, and its place
+abbrev pub instr_of : CodeNamedInstr → CodeInstr
+instr_of i = record { creates = i.op.note.creates; op = (named_op_of i.op).op; place = i.place }
+
+abbrev pub item_of : CodeItem → Item
+item_of code.Head = Head
+item_of (code.Struct name types) = Struct name.now (map named_type_of types.items)
+item_of (code.Global name ty) = Global name.now (named_type_of ty)
+item_of (code.Function name params slot) = Function name.now params (option_map named_slot_of slot)
+item_of (code.Slot slot) = Slot (named_slot_of slot)
+item_of (code.Entry names) = Entry names.items
+item_of (code.Instr instr) = Instr instr.value.index (instr_of instr.value) instr.value.op.name.now
+item_of code.End = End

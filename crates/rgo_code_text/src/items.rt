@@ -1,0 +1,265 @@
+//! Lines of a code text, as they are read. What they name is not resolved yet.
+
+ghost use Rattle.std.specs.Prelude.{◌≡◌, IfOk};
+ghost use Rattle.std.specs.Option.{option_map};
+ghost use Rattle.rgo_code_text.specs.Cuts as cuts;
+ghost use Rattle.rgo_code_text.specs.Items.{ItemFits, item_line};
+ghost use Rattle.rgo_code_text.specs.Lines.{read_fields, read_slot, read_result, instr_with, InstrFits};
+ghost use Rattle.rgo_code_text.specs.Lines.{struct_of, global_of, function_of, slot_of, entry_of};
+ghost use Rattle.rgo_code_text.specs.Readers.{IsRead};
+ghost use Rattle.rgo_code_text.specs.Views.{item_of, instr_of, named_op_of, named_slot_of, types_of};
+
+use crate::cuts::{cut, len_to, word_at};
+use crate::lists::{regions, removes};
+use crate::ops::{NamedOp, named_op};
+use crate::types::{NamedType, named_type};
+use crate::words::{class, is, is_name, lettered, number};
+use rgo_code::Class;
+use rgo_typed::Row;
+use std::alloc::{AllocError, Global};
+
+/// A type with a class.
+#[derive(Drop)]
+pub(crate) struct NamedSlot<'t> {
+    pub(crate) ty: NamedType<'t>,
+    pub(crate) class: Class,
+}
+
+/// An instruction with its number and its place.
+#[derive(Drop)]
+pub(crate) struct NamedInstr<'t> {
+    pub(crate) index: u32,
+    pub(crate) place: u32,
+    pub(crate) op: NamedOp<'t>,
+}
+
+/// A line. Instructions are boxed, which keeps the others small.
+#[derive(Drop)]
+pub(crate) enum Item<'t> {
+    Head,
+    Struct(&'t [u8], Vec<NamedType<'t>>),
+    Global(&'t [u8], NamedType<'t>),
+    Function(&'t [u8], u32, Option<NamedSlot<'t>>),
+    Slot(NamedSlot<'t>),
+    Entry(Vec<u32>),
+    Instr(Box<NamedInstr<'t>>),
+    End,
+}
+
+/// The types of a struct's fields, at least one.
+fn fields(alloc: Global, list: &[u8]) -> Result<Option<Vec<NamedType<'_>>>, AllocError>
+    ensures { IfOk result (λ r. option_map types_of r ≡ read_fields list.now) }
+{
+    let mut types = Vec::new(alloc);
+    let mut at = 0;
+    'types: loop {
+        let rest = &list[at..];
+        let len = len_to(rest, b' ');
+        match named_type(alloc, &rest[..len])? {
+            Some(ty) => types.push(ty)?,
+            None => return Ok(None),
+        }
+        if len == rest.len() {
+            return Ok(Some(types));
+        }
+        at = at + len + 1;
+    }
+}
+
+/// `struct NAME TYPE..`.
+fn a_struct(alloc: Global, line: &[u8]) -> Result<Option<Item<'_>>, AllocError>
+    ensures { IfOk result (λ r. option_map item_of r ≡ struct_of (cuts.cut 2 line.now)) }
+{
+    let words = cut(alloc, line, 2)?;
+    let name = word_at(&words, 1);
+    if !is_name(name) {
+        return Ok(None);
+    }
+    if words.len() == 2 {
+        return Ok(Some(Item::Struct(name, Vec::new(alloc))));
+    }
+    match fields(alloc, word_at(&words, 2))? {
+        Some(types) => Ok(Some(Item::Struct(name, types))),
+        None => Ok(None),
+    }
+}
+
+/// `global NAME TYPE`.
+fn a_global(alloc: Global, line: &[u8]) -> Result<Option<Item<'_>>, AllocError>
+    ensures { IfOk result (λ r. option_map item_of r ≡ global_of (cuts.cut 2 line.now)) }
+{
+    let words = cut(alloc, line, 2)?;
+    let name = word_at(&words, 1);
+    if words.len() != 3 || !is_name(name) {
+        return Ok(None);
+    }
+    match named_type(alloc, word_at(&words, 2))? {
+        Some(ty) => Ok(Some(Item::Global(name, ty))),
+        None => Ok(None),
+    }
+}
+
+/// `TYPE CLASS`.
+fn slot<'t>(alloc: Global, ty: &'t [u8], word: &[u8]) -> Result<Option<NamedSlot<'t>>, AllocError>
+    ensures { IfOk result (λ r. option_map named_slot_of r ≡ read_slot ty.entry.now word.now) }
+{
+    let Some(class) = class(word) else {
+        return Ok(None);
+    };
+    match named_type(alloc, ty)? {
+        Some(ty) => Ok(Some(NamedSlot { ty, class })),
+        None => Ok(None),
+    }
+}
+
+/// `TYPE CLASS`, or `- -` where there is no result.
+fn result<'t>(
+    alloc: Global,
+    ty: &'t [u8],
+    word: &[u8],
+) -> Result<Option<Option<NamedSlot<'t>>>, AllocError>
+    ensures { IfOk result (λ r. option_map (option_map named_slot_of) r ≡ read_result ty.entry.now word.now) }
+{
+    if is(ty, "-") && is(word, "-") {
+        return Ok(Some(None));
+    }
+    match slot(alloc, ty, word)? {
+        Some(slot) => Ok(Some(Some(slot))),
+        None => Ok(None),
+    }
+}
+
+/// `func NAME COUNT TYPE CLASS`.
+fn a_function(alloc: Global, line: &[u8]) -> Result<Option<Item<'_>>, AllocError>
+    ensures { IfOk result (λ r. option_map item_of r ≡ function_of (cuts.cut 4 line.now)) }
+{
+    let words = cut(alloc, line, 4)?;
+    let name = word_at(&words, 1);
+    if words.len() != 5 || !is_name(name) {
+        return Ok(None);
+    }
+    let Some(params) = number(word_at(&words, 2)) else {
+        return Ok(None);
+    };
+    match result(alloc, word_at(&words, 3), word_at(&words, 4))? {
+        Some(result) => Ok(Some(Item::Function(name, params, result))),
+        None => Ok(None),
+    }
+}
+
+/// `var TYPE CLASS`.
+fn a_slot(alloc: Global, line: &[u8]) -> Result<Option<Item<'_>>, AllocError>
+    ensures { IfOk result (λ r. option_map item_of r ≡ slot_of (cuts.cut 2 line.now)) }
+{
+    let words = cut(alloc, line, 2)?;
+    if words.len() != 3 {
+        return Ok(None);
+    }
+    match slot(alloc, word_at(&words, 1), word_at(&words, 2))? {
+        Some(slot) => Ok(Some(Item::Slot(slot))),
+        None => Ok(None),
+    }
+}
+
+/// `entry -[..]`.
+fn an_entry(alloc: Global, line: &[u8]) -> Result<Option<Item<'_>>, AllocError>
+    ensures { IfOk result (λ r. option_map item_of r ≡ entry_of (cuts.cut 1 line.now)) }
+{
+    let words = cut(alloc, line, 1)?;
+    if words.len() != 2 {
+        return Ok(None);
+    }
+    match removes(alloc, word_at(&words, 1))? {
+        Some(names) => Ok(Some(Item::Entry(names.into_items()))),
+        None => Ok(None),
+    }
+}
+
+/// An instruction that creates these regions first.
+fn with_creates<'t>(index: u32, place: u32, creates: Row<u32>, op: NamedOp<'t>) -> NamedInstr<'t>
+    ensures index { result.index ≡ index }
+    ensures instr { instr_of result
+        ≡ record { creates = creates; op = (named_op_of op.entry).op; place = place } }
+    ensures name { result.op.name.now ≡ op.entry.name.now }
+{
+    let NamedOp {
+        instr,
+        name,
+        from,
+        pieces,
+        note,
+    } = op;
+    let mut note = note;
+    note.creates = creates;
+    let op = NamedOp {
+        instr,
+        name,
+        from,
+        pieces,
+        note,
+    };
+    NamedInstr { index, place, op }
+}
+
+/// The line of an instruction.
+fn instr_item<'t>(
+    alloc: Global,
+    index: u32,
+    place: u32,
+    creates: Row<u32>,
+    op: NamedOp<'t>,
+) -> Result<Item<'t>, AllocError>
+    ensures { IfOk result (λ x. item_of x ≡ instr_with index place creates (named_op_of op.entry)) }
+{
+    let instr = with_creates(index, place, creates, op);
+    Ok(Item::Instr(Box::new(alloc, instr)?))
+}
+
+/// `INDEX @PLACE +[..]`, and an operation.
+fn an_instr(alloc: Global, line: &[u8]) -> Result<Option<Item<'_>>, AllocError>
+    ensures { IfOk result (λ r. IsRead InstrFits item_line line.now (option_map item_of r)) }
+{
+    let words = cut(alloc, line, 3)?;
+    if words.len() != 4 {
+        return Ok(None);
+    }
+    let Some(index) = number(word_at(&words, 0)) else {
+        return Ok(None);
+    };
+    let Some(place) = lettered(word_at(&words, 1), b'@') else {
+        return Ok(None);
+    };
+    let Some(creates) = regions(alloc, word_at(&words, 2), b'+')? else {
+        return Ok(None);
+    };
+    match named_op(alloc, word_at(&words, 3))? {
+        Some(op) => Ok(Some(instr_item(alloc, index, place, creates, op)?)),
+        None => Ok(None),
+    }
+}
+
+/// What a line is, if it has a form.
+pub(crate) fn read_item(alloc: Global, line: &[u8]) -> Result<Option<Item<'_>>, AllocError>
+    ensures { IfOk result (λ r. IsRead ItemFits item_line line.now (option_map item_of r)) }
+{
+    if is(line, "rgo code 1") {
+        return Ok(Some(Item::Head));
+    }
+    if is(line, "end") {
+        return Ok(Some(Item::End));
+    }
+    let word = &line[..len_to(line, b' ')];
+    if is(word, "struct") {
+        a_struct(alloc, line)
+    } else if is(word, "global") {
+        a_global(alloc, line)
+    } else if is(word, "func") {
+        a_function(alloc, line)
+    } else if is(word, "var") {
+        a_slot(alloc, line)
+    } else if is(word, "entry") {
+        an_entry(alloc, line)
+    } else {
+        an_instr(alloc, line)
+    }
+}
