@@ -15,7 +15,7 @@ import unittest
 from error_pages import TOP
 
 OPTIONS = ["--goroutines", "--steps"]
-COMMANDS = ["check", "emit", "run"]
+COMMANDS = ["check", "code", "emit", "run"]
 FAKE = '#!/bin/sh\necho "$@"\ncat >/dev/null\necho "rgo: 2:15: type 4 NoSuchName" >&2\nexit 1\n'
 TEXT = "package main\nfunc main() { zz() }\n"
 
@@ -116,7 +116,8 @@ class Manual(Case):
     def test_it_is_formatted_without_warnings(self):
         status, out, err = self.run_it("man", "--warnings=w", "-l", TOP / "man" / "rgo.1", MANPAGER="cat", MANWIDTH="80")
         self.assertEqual((0, ""), (status, err))
-        self.assertIn("rgo check [--]", out)
+        for command in ["check", "emit", "code"]:
+            self.assertIn(f"rgo {command} [--]", out)
 
 
 class Completions(Case):
@@ -125,12 +126,14 @@ class Completions(Case):
     LINES = [
         ("rgo ", COMMANDS),
         ("rgo r", ["run"]),
+        ("rgo c", ["check", "code"]),
         ("rgo run", ["run"]),
         ("rgo run --", OPTIONS),
         ("rgo run --s", ["--steps"]),
         ("rgo run --steps ", []),
         ("rgo run --steps 5 --", ["--goroutines"]),
         ("rgo check --", []),
+        ("rgo code --", []),
         ("rgor --", ["--check"]),
         ("rgor a.go --", OPTIONS),
         ("rgor a.go --goroutines 5 --", ["--steps"]),
