@@ -13,7 +13,7 @@ A text is a block of `go`, or a block of `sh` with commands that write it. In th
 backquotes replaces the commands of the message.
 
 If the command is `rgo code`, a text is a code text: a block without a language, or one of `sh`. "Why" says why there is
-the rule and what a producer of code often forgets. The title of a rule has the rule's name, which the message does not have.
+the rule and what a producer of code often forgets. The title of a rule has its name, which the message does not have.
 """
 
 import collections

@@ -89,7 +89,8 @@ class Explain(Case):
         status, out, err = self.tool("explain", self.file, said=b"rgo: line 2: code text\n")
         wanted = [f"{self.file}:2: code text", "func f"]
         self.assertEqual((0, wanted, ""), (status, out.splitlines()[:2], err))
-        self.assertEqual((0, f"rgo: line 7: code 9\n{CREATIONS}", ""), self.tool("explain", said=b"rgo: line 7: code 9\n"))
+        message = "rgo: line 7: code 9\n"
+        self.assertEqual((0, message + CREATIONS, ""), self.tool("explain", said=message.encode()))
         status, out, _ = self.tool("explain", self.file, said=b"rgo: text longer than 67108864 bytes\n")
         self.assertEqual((0, f"{self.file}: text longer than 67108864 bytes"), (status, out.splitlines()[0]))
 
@@ -99,7 +100,7 @@ class Explain(Case):
         self.assertEqual((0, wanted, ""), self.tool("explain", self.file, said=b"rgo: 2:6: trap 7 CloseNil\n"))
 
     def test_other_lines_are_kept(self):
-        lines = b"rgo: proving rgo_lexer, 2 of 20\nrgo: 1:1: type 99 Unheard\nrgo:deadlock\nrgo: line 2: code 15\n\xff\n"
+        lines = b"rgo: proving rgo_lexer, 2 of 20\nrgo: 1:1: type 99 No\nrgo: line 2: code 15\nrgo:deadlock\n\xff\n"
         ran = subprocess.run([sys.executable, TOP / "tools" / "explain"], input=lines, capture_output=True, check=False)
         self.assertEqual((1, lines, b""), (ran.returncode, ran.stdout, ran.stderr))
 

@@ -246,12 +246,14 @@ SHOWN = [
     ),
     (
         "1 @0 +[] branch v0 2 -[r0] 3 -[]",
-        "LineNr:1 Comment:@0 Comment:+[] Statement:branch Identifier:v0 Constant:2 DiffDelete:-[r0] Constant:3 Comment:-[]",
+        "LineNr:1 Comment:@0 Comment:+[] Statement:branch Identifier:v0 Constant:2 DiffDelete:-[r0] Constant:3"
+        " Comment:-[]",
     ),
     ("2 @0 +[] print -[]", "LineNr:2 Comment:@0 Comment:+[] Statement:print Comment:-[]"),
     (
         r'3 @0 +[] print " v1\"",v1 -[]',
-        r'LineNr:3 Comment:@0 Comment:+[] Statement:print Constant:"_v1 Special:\" Constant:" Identifier:,v1 Comment:-[]',
+        r'LineNr:3 Comment:@0 Comment:+[] Statement:print Constant:"_v1 Special:\" Constant:" Identifier:,v1'
+        " Comment:-[]",
     ),
     ("end", "Statement:end"),
     # From the first part that has no form the line is an error.
@@ -315,7 +317,8 @@ class Editors(Case):
     def test_vim_knows_code_texts_by_their_first_line(self):
         self.room.joinpath("a.txt").write_text("rgo code 1\n")
         self.room.joinpath("b.txt").write_text("\nrgo code 1\n")
-        script = "".join(f"edit {name}\ncall writefile([&filetype], 'found', 'a')\n" for name in ["a.txt", "b.txt", "a.txt"])
+        names = ["a.txt", "b.txt", "a.txt"]
+        script = "".join(f"edit {name}\ncall writefile([&filetype], 'found', 'a')\n" for name in names)
         self.assertEqual(["rgocode", "text", "rgocode"], self.vim(f"filetype on\n{script}"))
 
     @needs("vim")
@@ -326,7 +329,8 @@ class Editors(Case):
 
     @needs("vim")
     def test_vim_shows_lines_without_form_as_errors(self):
-        texts = [line for path in sorted(code_vectors.TEXTS.glob("*.code")) for line in path.read_text().splitlines()[1:]]
+        files = sorted(code_vectors.TEXTS.glob("*.code"))
+        texts = [line for path in files for line in path.read_text(encoding="ascii").splitlines()[1:]]
         right = [line for edits in code_vectors.WITH_FORM.values() for edit in edits for line in edit.splitlines()]
         edits = [edit for edits in code_vectors.WITHOUT_FORM.values() for edit in edits]
         wrong = [edit[:-1] for edit in edits if edit != "\n" and edit.count("\n") == 1 and not NOT_SEEN.search(edit)]

@@ -72,7 +72,8 @@ def file_name(title, status):
 
 def pages(of_code):
     """All pages about code texts, or all others."""
-    return [page for page in map(error_pages.read_page, error_pages.page_paths()) if error_pages.is_of_code(page) == of_code]
+    every = map(error_pages.read_page, error_pages.page_paths())
+    return [page for page in every if error_pages.is_of_code(page) == of_code]
 
 
 def anchors(path):

@@ -1,8 +1,8 @@
 " Vim syntax file
 " Language: code texts of rgo, as docs/CODE_TEXT.md defines them
 "
-" A line is shown as an error from where it has no form to its end. Which lines follow each other is not looked at, and
-" neither is the size and the order of numbers.
+" From where a line has no form to its end it is shown as an error. The order of lines, and the order and the size of
+" numbers, are not looked at.
 
 if exists('b:current_syntax')
   finish
@@ -20,8 +20,8 @@ function! s:listed(pattern)
 endfunction
 
 let s:number = '\%(0\|[1-9]\d*\)'
-let s:keywords = 'break case chan const continue default defer else fallthrough for func go goto if import interface map'
-      \ . ' package range return select struct switch type var'
+let s:keywords = 'break case chan const continue default defer else fallthrough for func go goto if import interface'
+      \ . ' map package range return select struct switch type var'
 let s:name = '\%(\%(' . join(split(s:keywords), '\|') . '\)\>\)\@!\h\w*'
 let s:variable = 'v' . s:number
 let s:type = '\%(\[\]\|chan\.\)*\%(int\|bool\|\*' . s:name . '\)'
@@ -127,7 +127,8 @@ for [s:word, s:groups] in s:begun(s:lines)
 endfor
 execute 'syn match rgocodeIndex /^' . s:number . ' \@=/ nextgroup=rgocodePlace'
 execute 'syn match rgocodePlace / @' . s:number . ' \@=/hs=s+1 contained nextgroup=rgocodeCreates'
-execute 'syn match rgocodeCreates / +' . s:names . ' \@=/hs=s+1 contained contains=rgocodeEmpty nextgroup=rgocodeInstruction'
+execute 'syn match rgocodeCreates / +' . s:names . ' \@=/hs=s+1 contained contains=rgocodeEmpty'
+      \ 'nextgroup=rgocodeInstruction'
 for [s:word, s:groups] in s:begun(s:instructions)
   execute 'syn match rgocodeInstruction / ' . s:word . ' \@=/hs=s+1 contained nextgroup=' . join(s:groups, ',')
 endfor
