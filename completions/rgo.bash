@@ -21,7 +21,7 @@ _rgo_files() {
 _rgo() {
     COMPREPLY=()
     if ((COMP_CWORD == 1)); then
-        _rgo_words run check emit
+        _rgo_words run check emit code
     elif [[ ${COMP_WORDS[1]} == run && ${COMP_WORDS[COMP_CWORD - 1]} != --* ]]; then
         _rgo_words --steps --goroutines
     fi

@@ -118,8 +118,9 @@ CLASS = f"(?:r{NUMBER}|G|-)"
 NAMES = rf"\[{listed(f'r{NUMBER}')}\]"
 # The bytes from 32 to 126 are themselves, except for `"` and `\`, and each other byte is written in one way.
 PRINTED = r"[ !#-\[\]-~]"
-BYTE = rf'(?:{PRINTED}|\\["\\n]|\\x(?:0[0-9b-f]|1[0-9a-f]|7f|[89a-f][0-9a-f]))'
-PIECE = f'(?:v{NUMBER}|"{BYTE}*")'
+ESCAPE = r'\\(?:["\\n]|x(?:0[0-9b-f]|1[0-9a-f]|7f|[89a-f][0-9a-f]))'
+# In this form a long string takes little memory: what is between two escapes is one match.
+PIECE = f'(?:v{NUMBER}|"{PRINTED}*(?:{ESCAPE}{PRINTED}*)*")'
 
 
 def number(digits):
@@ -186,7 +187,7 @@ ESCAPES = {'\\"': b'"', "\\\\": b"\\", "\\n": b"\n"}
 
 
 def text_of(quoted):
-    each = re.findall(BYTE, quoted[1:-1])
+    each = re.findall(f"{PRINTED}+|{ESCAPE}", quoted[1:-1])
     return Text(b"".join(ESCAPES.get(e) or (bytes([int(e[2:], 16)]) if e[0] == "\\" else e.encode()) for e in each))
 
 

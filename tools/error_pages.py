@@ -11,6 +11,9 @@ All pages have the same form, and `read_page` accepts no other:
 
 A text is a block of `go`, or a block of `sh` with commands that write it. In the last section a command in
 backquotes replaces the commands of the message.
+
+If the command is `rgo code`, a text is a code text: a block without a language, or one of `sh`. "Why" says why there is
+the rule and what a producer of code often forgets. The title of a rule has its name, which the message does not have.
 """
 
 import collections
@@ -34,17 +37,18 @@ Page = collections.namedtuple(
 BLOCK = re.compile(r"^```(\w*)\n(.*?\n)```$", re.MULTILINE | re.DOTALL)
 COMMAND = re.compile(r"`(rgo(?: [^`]*)?)`")
 REPORTS = re.compile(r"^((?:`rgo[^`]*`(?:, | and )?)+) reports?, and exits? with (\d+):$", re.MULTILINE)
-LINE = re.compile(r"rgo: (?:(\d+):(\d+): )?(.*)", re.DOTALL)
+LINE = re.compile(r"rgo: (?:(?P<line>\d+):(?P<column>\d+): |line (?P<whole>\d+): )?(?P<what>.*)", re.DOTALL)
+CODE = "rgo code"
 
 
 class BadPage(Exception):
     """A page does not have the form of all pages."""
 
 
-def text_of(blocks):
+def text_of(blocks, is_code):
     """The text that a section contains, in bytes, or None."""
     for language, source in blocks:
-        if language == "go":
+        if language == ("" if is_code else "go"):
             return source.encode()
         if language == "sh":
             return subprocess.run(["sh", "-c", source], capture_output=True, check=True).stdout
@@ -73,23 +77,25 @@ def read_page(path):
     reports = REPORTS.search(sections["Message"])
     if not reports or len(plain_blocks(blocks["Message"])) != 1:
         raise BadPage(f"{path.name}: no command, status and message")
-    if text_of(blocks["Corrected example"]) is None:
-        raise BadPage(f"{path.name}: no corrected text")
     commands = COMMAND.findall(reports[1])
+    is_code = commands == [CODE]
+    corrected = text_of(blocks["Corrected example"], is_code)
+    if corrected is None:
+        raise BadPage(f"{path.name}: no corrected text")
     words = BLOCK.sub("", sections["Corrected example"])
-    printed = plain_blocks(blocks["Corrected example"])
+    printed = [] if is_code else plain_blocks(blocks["Corrected example"])
     if len(printed) > 1 or bool(printed) != ("It prints:" in words):
         raise BadPage(f"{path.name}: it is not clear what the corrected text prints")
     return Page(
         path,
         title,
         meaning,
-        text_of(blocks["Example"]),
+        text_of(blocks["Example"], is_code),
         commands,
         int(reports[2]),
         plain_blocks(blocks["Message"])[0],
         " ".join(sections["Why"].split()),
-        text_of(blocks["Corrected example"]),
+        corrected,
         COMMAND.findall(words) or commands,
         "".join(printed),
     )
@@ -100,9 +106,19 @@ def page_paths():
     return sorted(path for path in PAGES.glob("*.md") if path.name != "README.md")
 
 
+def is_of_code(page):
+    """Whether a page is about code texts."""
+    return page.commands == [CODE]
+
+
 def titles():
     """The files of the pages by their titles."""
     return {path.read_text(encoding="utf-8").split("\n", 1)[0][2:]: path for path in page_paths()}
+
+
+def message_of(title):
+    """What the message says, without its place: the message of a rule of code texts does not name the rule."""
+    return re.sub(r"^(code \d+) \w+$", r"\1", title)
 
 
 def shown(text):
@@ -133,12 +149,37 @@ def marked_line(text, line, column):
     return f"{before}{after}\n{' ' * columns(before)}^"
 
 
+def whole_line(text, line):
+    """A line of a code text as it is shown from its beginning, or None if there is no such line."""
+    lines = text.split(b"\n")
+    if not 1 <= line <= len(lines):
+        return None
+    whole = shown(lines[line - 1].decode("utf-8", "replace"))
+    if columns(whole) > WIDTH:
+        whole = whole[: WIDTH - 3] + "..."
+    # A last line without its newline has no form.
+    return whole + ("(end of the text)" if line == len(lines) else "") or "(an empty line)"
+
+
 def where(path):
     """A path as it is shortest to type."""
     try:
         return path.relative_to(pathlib.Path.cwd())
     except ValueError:
         return path
+
+
+def place_of(message, text):
+    """The place of a message as it follows the name of a file, and the lines that show it. Both may be empty."""
+    if message["column"]:
+        place = f"{message['line']}:{message['column']}:"
+        found = marked_line(text, int(message["line"]), int(message["column"]))
+    elif message["whole"]:
+        place = f"{message['whole']}:"
+        found = whole_line(text, int(message["whole"]))
+    else:
+        return "", []
+    return place, [found or "(The file has no such place: the message is of another text.)"]
 
 
 def explained(line, file, text):
@@ -148,17 +189,14 @@ def explained(line, file, text):
     """
     said = line.decode("utf-8", "replace").rstrip("\n")
     message = LINE.fullmatch(said)
-    title = "usage" if said.startswith("usage: rgo ") else message[3] if message else ""
-    path = titles().get(title) if title else None
+    what = "usage" if said.startswith("usage: rgo ") else message["what"] if message else ""
+    path = {message_of(title): path for title, path in titles().items()}.get(what)
     if not path:
         return line
     parts = [said]
     if message and file:
-        place = f"{message[1]}:{message[2]}: " if message[1] else " "
-        parts = [f"{file}:{place}{title}"]
-    if message and message[1] and file:
-        marked = marked_line(text, int(message[1]), int(message[2]))
-        parts.append(marked or "(The file has no such place: the message is of another text.)")
+        place, place_shown = place_of(message, text)
+        parts = [f"{file}:{place} {what}", *place_shown]
     parts.append(textwrap.fill(sections_of(path)[1], WIDTH, break_on_hyphens=False))
     parts.append(f"Read on: {where(path)}")
     return ("\n".join(parts) + "\n").encode("utf-8", "surrogateescape")

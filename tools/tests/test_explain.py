@@ -30,6 +30,24 @@ PLACES = [
     (b"x\n", "1:3", "(The file has no such place: the message is of another text.)"),
     (b"x\n", "0:0", "(The file has no such place: the message is of another text.)"),
 ]
+# Code texts, a line of them, and what is shown of it.
+LINES = [
+    (b"rgo code 1\nend\n", 1, "rgo code 1"),
+    (b"rgo code 1\n\tend \n", 2, "    end "),
+    (b"rgo code 1\r\n", 1, "rgo code 1\ufffd"),
+    (b"rgo code 1\n\nend\n", 2, "(an empty line)"),
+    (b"rgo code 1\n", 2, "(end of the text)"),
+    (b"", 1, "(end of the text)"),
+    (b"rgo code 1\nend", 2, "end(end of the text)"),
+    (b"1" * 80 + b"\n", 1, "1" * 80),
+    (b"1" * 81 + b"\n", 1, "1" * 77 + "..."),
+    (b"rgo code 1\n", 3, "(The file has no such place: the message is of another text.)"),
+    (b"rgo code 1\n", 0, "(The file has no such place: the message is of another text.)"),
+]
+CREATIONS = """CREATES of this instruction are not exactly the own names that it uses and that
+are not held before it.
+Read on: docs/errors/code-9-creations.md
+"""
 NIL = """A channel that is `nil` is closed. The place is the `(` of `close`.
 Read on: docs/errors/trap-7-close-nil.md
 """
@@ -60,13 +78,29 @@ class Explain(Case):
                 said = error_pages.explained(f"rgo: {place}: trap 7 CloseNil\n".encode(), "a file", text)
                 self.assertEqual(f"a file:{place}: trap 7 CloseNil\n{shown}\n{NIL}", said.decode())
 
+    def test_lines_of_code_texts_are_shown(self):
+        for text, line, shown in LINES:
+            with self.subTest(text=text, line=line):
+                said = error_pages.explained(f"rgo: line {line}: code 9\n".encode(), "a file", text)
+                self.assertEqual(f"a file:{line}: code 9\n{shown}\n{CREATIONS}", said.decode())
+
+    def test_a_code_text_and_its_message(self):
+        self.file.write_bytes(b"rgo code 1\nfunc f\n")
+        status, out, err = self.tool("explain", self.file, said=b"rgo: line 2: code text\n")
+        wanted = [f"{self.file}:2: code text", "func f"]
+        self.assertEqual((0, wanted, ""), (status, out.splitlines()[:2], err))
+        message = "rgo: line 7: code 9\n"
+        self.assertEqual((0, message + CREATIONS, ""), self.tool("explain", said=message.encode()))
+        status, out, _ = self.tool("explain", self.file, said=b"rgo: text longer than 67108864 bytes\n")
+        self.assertEqual((0, f"{self.file}: text longer than 67108864 bytes"), (status, out.splitlines()[0]))
+
     def test_a_file_and_its_message(self):
         self.file.write_bytes(b"package main\nclose(c)\n")
         wanted = f"{self.file}:2:6: trap 7 CloseNil\nclose(c)\n     ^\n{NIL}"
         self.assertEqual((0, wanted, ""), self.tool("explain", self.file, said=b"rgo: 2:6: trap 7 CloseNil\n"))
 
     def test_other_lines_are_kept(self):
-        lines = b"rgo: proving rgo_lexer, 2 of 20\nrgo: 1:1: type 99 Unheard\nrgo:deadlock\n\xff\n"
+        lines = b"rgo: proving rgo_lexer, 2 of 20\nrgo: 1:1: type 99 No\nrgo: line 2: code 15\nrgo:deadlock\n\xff\n"
         ran = subprocess.run([sys.executable, TOP / "tools" / "explain"], input=lines, capture_output=True, check=False)
         self.assertEqual((1, lines, b""), (ran.returncode, ran.stdout, ran.stderr))
 

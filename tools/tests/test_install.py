@@ -12,10 +12,11 @@ import threading
 import time
 import unittest
 
+import code_vectors
 from error_pages import TOP
 
 OPTIONS = ["--goroutines", "--steps"]
-COMMANDS = ["check", "emit", "run"]
+COMMANDS = ["check", "code", "emit", "run"]
 FAKE = '#!/bin/sh\necho "$@"\ncat >/dev/null\necho "rgo: 2:15: type 4 NoSuchName" >&2\nexit 1\n'
 TEXT = "package main\nfunc main() { zz() }\n"
 
@@ -71,6 +72,13 @@ class Install(Case):
         self.assertEqual((1, "run --steps 5\n", explained), self.run_it(bin_folder / "rgor", self.file, "--steps", "5"))
         self.assertEqual((1, "", explained), self.run_it(bin_folder / "rgo-regions", self.file))
 
+    def test_documents_lead_to_what_is_installed(self):
+        self.install()
+        for path in self.room.joinpath("a prefix", "lib", "rgo").rglob("*.md"):
+            for link in re.findall(r"\]\(([^)#:]+)[)#]", path.read_text(encoding="utf-8")):
+                with self.subTest(f"{path.name}: {link}"):
+                    self.assertTrue(path.parent.joinpath(link).exists())
+
     def test_without_a_program(self):
         status, out, err = self.run_it(TOP / "tools" / "install", self.room / "prefix", RGO=self.room / "none")
         self.assertEqual((1, "", "install: no program at "), (status, out, err[:23]))
@@ -116,7 +124,8 @@ class Manual(Case):
     def test_it_is_formatted_without_warnings(self):
         status, out, err = self.run_it("man", "--warnings=w", "-l", TOP / "man" / "rgo.1", MANPAGER="cat", MANWIDTH="80")
         self.assertEqual((0, ""), (status, err))
-        self.assertIn("rgo check [--]", out)
+        for command in ["check", "emit", "code"]:
+            self.assertIn(f"rgo {command} [--]", out)
 
 
 class Completions(Case):
@@ -125,12 +134,14 @@ class Completions(Case):
     LINES = [
         ("rgo ", COMMANDS),
         ("rgo r", ["run"]),
+        ("rgo c", ["check", "code"]),
         ("rgo run", ["run"]),
         ("rgo run --", OPTIONS),
         ("rgo run --s", ["--steps"]),
         ("rgo run --steps ", []),
         ("rgo run --steps 5 --", ["--goroutines"]),
         ("rgo check --", []),
+        ("rgo code --", []),
         ("rgor --", ["--check"]),
         ("rgor a.go --", OPTIONS),
         ("rgor a.go --goroutines 5 --", ["--steps"]),
@@ -220,21 +231,113 @@ def read_some(terminal):
         return b""
 
 
+# Lines of code texts, and how Vim shows them: the parts with the groups of their colours.
+SHOWN = [
+    ("struct int chan.[]*N", "Statement:struct Type:int_chan.[]*N"),
+    ("global new int", "Statement:global Constant:new Type:int"),
+    ("func f 1 *r1 r1", "Statement:func Identifier:f Constant:1 Type:*r1_ Special:r1"),
+    ("func f 0 - -", "Statement:func Identifier:f Constant:0 Type:-_ Special:-"),
+    ("var []int G", "Statement:var Type:[]int Special:G"),
+    ("entry -[r0,r12]", "Statement:entry DiffDelete:-[r0,r12]"),
+    (
+        "0 @17 +[r0] call v1 v0(v2,v3) R[r0,G,-] P[r1] -[]",
+        "LineNr:0 Comment:@17 DiffAdd:+[r0] Statement:call Identifier:v1 Identifier:v0(v2,v3) Special:R[r0,G,-]"
+        " DiffChange:P[r1] Comment:-[]",
+    ),
+    (
+        "1 @0 +[] branch v0 2 -[r0] 3 -[]",
+        "LineNr:1 Comment:@0 Comment:+[] Statement:branch Identifier:v0 Constant:2 DiffDelete:-[r0] Constant:3"
+        " Comment:-[]",
+    ),
+    ("2 @0 +[] print -[]", "LineNr:2 Comment:@0 Comment:+[] Statement:print Comment:-[]"),
+    (
+        r'3 @0 +[] print " v1\"",v1 -[]',
+        r'LineNr:3 Comment:@0 Comment:+[] Statement:print Constant:"_v1 Special:\" Constant:" Identifier:,v1'
+        " Comment:-[]",
+    ),
+    ("end", "Statement:end"),
+    # From the first part that has no form the line is an error.
+    ("end ", "Error:end_"),
+    ("0 @0 +[] copy v1 v0", "LineNr:0 Comment:@0 Comment:+[] Statement:copy Identifier:v1 Error:_v0"),
+    ("0 @0 +[] nil v1x -[]", "LineNr:0 Comment:@0 Comment:+[] Statement:nil Error:_v1x_-[]"),
+    ("0 @0 +[] nil v1 -[] -[]", "LineNr:0 Comment:@0 Comment:+[] Statement:nil Identifier:v1 Comment:-[] Error:_-[]"),
+    ("func go 0 - -", "Statement:func Error:_go_0_-_-"),
+]
+# What has no form but is shown as if it had one: the order and the size of numbers.
+NOT_SEEN = re.compile(r"^1 @117|\[r0,r0\]|\[r1,r0\]|\d{10}")
+# Writes the parts of each line with their groups to the file `found`. A blank of a part is written as `_`.
+PARTS = """
+let found = []
+for l in range(1, line('$'))
+  let parts = []
+  let last = ''
+  for c in range(1, col([l, '$']) - 1)
+    let group = synIDattr(synIDtrans(synID(l, c, 0)), 'name')
+    let byte = getline(l)[c - 1]
+    if group != last
+      let parts += group == '' ? [] : [group . ':']
+      let last = group
+    endif
+    if group != ''
+      let parts[-1] .= byte == ' ' ? '_' : byte
+    endif
+  endfor
+  let found += [join(parts)]
+endfor
+call writefile(found, 'found')
+"""
+
+
 class Editors(Case):
+    def vim(self, script, **variables):
+        """What a script writes to the file `found` in Vim, which looks for its files in the installation."""
+        self.install()
+        folder = str(self.room / "a prefix" / "share" / "vim" / "vimfiles").replace(" ", "\\ ")
+        self.room.joinpath("script.vim").write_text(f"set encoding=utf-8 rtp^={folder}\n{script}\nqall!\n")
+        status, _, err = self.run_it("vim", "-Nu", "NONE", "-es", "-S", self.room / "script.vim", **variables)
+        self.assertEqual(0, status, err)
+        return self.room.joinpath("found").read_text(encoding="latin-1").splitlines()
+
+    def groups(self, lines):
+        """How Vim shows these lines of a code text, after its first line."""
+        self.room.joinpath("text").write_text("rgo code 1\n" + "".join(line + "\n" for line in lines), encoding="utf-8")
+        first, *found = self.vim(f"filetype on\nsyntax on\nedit ++ff=unix text\n{PARTS}")
+        self.assertEqual(("PreProc:rgo_code_1", len(lines)), (first, len(found)))
+        return zip(lines, found)
+
     @needs("vim")
     def test_vim_jumps_to_the_place(self):
-        self.install()
-        script = self.room / "script.vim"
-        script.write_text(
-            f"set rtp^={TOP}/editors/vim\nedit {self.file}\n".replace(" file", "\\ file")
-            + "compiler rgo\nsilent make!\nredir! > found\n"
-            + "for e in getqflist()\necho join([bufname(e.bufnr), e.lnum, e.col, e.valid, e.text], '|')\nendfor\nredir END\nqall!\n"
-        )
-        path = f"{self.room}/a prefix/bin:{os.environ['PATH']}"
-        status, _, err = self.run_it("vim", "-Nu", "NONE", "-es", "-S", script, PATH=path)
-        self.assertEqual(0, status, err)
-        found = self.room.joinpath("found").read_text().strip()
-        self.assertEqual(f"{self.file}|2|15|1|type 4 NoSuchName", found)
+        file = str(self.file).replace(" ", "\\ ")
+        errors = "map(getqflist(), {_, e -> join([bufname(e.bufnr), e.lnum, e.col, e.valid, e.text], '|')})"
+        script = f"edit {file}\ncompiler rgo\nsilent make!\ncall writefile({errors}, 'found')\n"
+        found = self.vim(script, PATH=f"{self.room}/a prefix/bin:{os.environ['PATH']}")
+        self.assertEqual([f"{self.file}|2|15|1|type 4 NoSuchName"], found)
+
+    @needs("vim")
+    def test_vim_knows_code_texts_by_their_first_line(self):
+        self.room.joinpath("a.txt").write_text("rgo code 1\n")
+        self.room.joinpath("b.txt").write_text("\nrgo code 1\n")
+        names = ["a.txt", "b.txt", "a.txt"]
+        script = "".join(f"edit {name}\ncall writefile([&filetype], 'found', 'a')\n" for name in names)
+        self.assertEqual(["rgocode", "text", "rgocode"], self.vim(f"filetype on\n{script}"))
+
+    @needs("vim")
+    def test_vim_shows_code_texts(self):
+        for (line, found), (_, wanted) in zip(self.groups([line for line, _ in SHOWN]), SHOWN):
+            with self.subTest(line):
+                self.assertEqual(wanted, found)
+
+    @needs("vim")
+    def test_vim_shows_lines_without_form_as_errors(self):
+        files = sorted(code_vectors.TEXTS.glob("*.code"))
+        texts = [line for path in files for line in path.read_text(encoding="ascii").splitlines()[1:]]
+        right = [line for edits in code_vectors.WITH_FORM.values() for edit in edits for line in edit.splitlines()]
+        edits = [edit for edits in code_vectors.WITHOUT_FORM.values() for edit in edits]
+        wrong = [edit[:-1] for edit in edits if edit != "\n" and edit.count("\n") == 1 and not NOT_SEEN.search(edit)]
+        self.assertGreater(len(wrong), 100)
+        for n, (line, found) in enumerate(self.groups([*texts, *right, *wrong])):
+            with self.subTest(line):
+                self.assertEqual(n >= len(texts) + len(right), "Error:" in found)
 
     def test_vs_code_finds_the_place(self):
         self.install()

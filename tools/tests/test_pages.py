@@ -9,11 +9,14 @@ import subprocess
 import tempfile
 import unittest
 
+import code_text
 import error_pages
 from error_pages import PAGES, TOP
 
 ROW = re.compile(r"^\| (.+) \|$", re.MULTILINE)
-LINK = re.compile(r"\]\(([^)#]+\.md)(#[\w-]+)?\)")
+LINK = re.compile(r"\]\(([^)#:]+\.md|)(?:#([\w-]+))?\)")
+# The rule of code texts that is never the least that is broken. Its page has the message of another one.
+NEVER = "code 14 Endings"
 
 
 def cells(row):
@@ -32,13 +35,19 @@ def numbered(kind, text):
     return [f"{kind} {number} {name}" for number, name in re.findall(r"(\d+) ([A-Z]\w+)", text)]
 
 
+def code_rules():
+    """The titles of the rules of code texts, as the checker numbers and names them."""
+    rules = TOP.joinpath("crates", "rgo_code", "src", "rules.rt").read_text(encoding="utf-8")
+    return [f"code {number} {name}" for name, number in re.findall(r"Rule::(\w+) => (\d+),", rules)]
+
+
 def messages():
     """The titles of all messages of the README and of docs/LANGUAGE.md, with their statuses and what they say of them."""
     rules = rows(TOP / "docs" / "LANGUAGE.md", "## The rules")
     traps = rows(TOP / "docs" / "LANGUAGE.md", "### Traps")
     table = TOP.joinpath("README.md").read_text(encoding="utf-8").split("| status | line on standard error | meaning |\n")[1]
     for status, line, meaning in map(cells, ROW.findall(table.split("\n\n")[0])[1:]):
-        said = re.sub("^rgo: (L:C: )?", "", line.strip("`"))
+        said = re.sub("^rgo: (L:C: |line L: )?", "", line.strip("`"))
         if said == "lexical K Name":
             yield from ((title, int(status), None) for title in numbered("lexical", meaning))
         elif said == "type K Name":
@@ -46,6 +55,8 @@ def messages():
         elif said == "trap K Name":
             assert numbered("trap", meaning) == [f"trap {number} {name}" for number, name, _ in traps]
             yield from ((f"trap {number} {name}", int(status), what) for number, name, what in traps)
+        elif said == "code K":
+            yield from ((title, int(status), None) for title in code_rules())
         elif said == "the usage line":
             yield "usage", int(status), meaning
         elif said:
@@ -55,7 +66,20 @@ def messages():
 def file_name(title, status):
     """The name of a page's file: of its title, or of its status and words of its own."""
     words = re.sub(r"(?<=[a-z0-9])(?=[A-Z])", "-", title).lower().replace(" ", "-")
-    return words if re.search(r"\d-|^syntax$|^nesting$", words) and " longer " not in title else rf"status-{status}-[a-z-]+"
+    is_named = re.search(r"\d-|^syntax$|^nesting$|^code-text$", words) and " longer " not in title
+    return words if is_named else rf"status-{status}-[a-z-]+"
+
+
+def pages(of_code):
+    """All pages about code texts, or all others."""
+    every = map(error_pages.read_page, error_pages.page_paths())
+    return [page for page in every if error_pages.is_of_code(page) == of_code]
+
+
+def anchors(path):
+    """What follows the `#` in links to the headings of a document."""
+    headings = re.findall(r"^#+ (.+)$", path.read_text(encoding="utf-8"), re.MULTILINE)
+    return {re.sub(r"[^\w -]", "", heading.lower()).replace(" ", "-") for heading in headings}
 
 
 class Form(unittest.TestCase):
@@ -63,14 +87,15 @@ class Form(unittest.TestCase):
 
     def test_each_message_has_a_page(self):
         wanted = {title: status for title, status, _ in messages()}
-        pages = {page.title: page for page in map(error_pages.read_page, error_pages.page_paths())}
-        self.assertEqual(sorted(wanted), sorted(pages))
+        found = {page.title: page for page in map(error_pages.read_page, error_pages.page_paths())}
+        self.assertEqual(sorted(wanted), sorted(found))
         for title, status in wanted.items():
             with self.subTest(title):
-                self.assertEqual(status, pages[title].status)
-                self.assertRegex(pages[title].path.stem, f"^{file_name(title, status)}$")
+                self.assertEqual(status, found[title].status)
+                self.assertRegex(found[title].path.stem, f"^{file_name(title, status)}$")
                 if title != "usage":
-                    self.assertRegex(pages[title].message, rf"\Argo: (\d+:\d+: )?{re.escape(title)}\n\Z")
+                    said = "code 9" if title == NEVER else re.escape(error_pages.message_of(title))
+                    self.assertRegex(found[title].message, rf"\Argo: (\d+:\d+: |line \d+: )?{said}\n\Z")
 
     def test_the_index_has_each_page_with_the_words_of_the_rule(self):
         index = PAGES.joinpath("README.md").read_text(encoding="utf-8")
@@ -87,17 +112,37 @@ class Form(unittest.TestCase):
                     self.assertEqual(what, listed[title][1])
 
     def test_each_page_names_the_specification_and_says_what_go_does(self):
-        for page in map(error_pages.read_page, error_pages.page_paths()):
+        for page in pages(of_code=False):
             with self.subTest(page.title):
                 self.assertRegex(page.why, r"https://go\.dev/ref/spec#\w+|The specification does not say")
                 if page.example is not None and "does not say what happens when printing" not in page.why:
                     self.assertRegex(page.why, "Go (accepts|rejects) this text")
 
-    def test_links_lead_to_files(self):
-        for path in PAGES.glob("*.md"):
-            for link, _ in LINK.findall(path.read_text(encoding="utf-8")):
-                with self.subTest(f"{path.name}: {link}"):
-                    self.assertTrue(PAGES.joinpath(link).is_file())
+    def test_each_page_of_code_texts_names_the_rule_and_says_what_producers_forget(self):
+        for page in pages(of_code=True):
+            with self.subTest(page.title):
+                rule = re.match(r"code (\d+) ", page.title)
+                anchor = f"rule-{rule[1]}" if rule else "grammar"
+                self.assertIn(f"](../CODE_TEXT.md#{anchor})", page.why)
+                self.assertRegex(page.why, r"\b[Aa] producer .*\b(forgets|need not think)\b")
+
+    def test_code_texts_have_what_the_pages_say(self):
+        for page in pages(of_code=True):
+            with self.subTest(page.title):
+                self.assertEqual(page.message, f"{code_text.report(page.example)}\n")
+                self.assertIsNone(code_text.report(page.corrected))
+                rule = re.match(r"code (\d+) ", page.title)
+                if rule:
+                    # Rule 14, too, is broken, although another one is reported.
+                    self.assertNotEqual([], list(code_text.RULES[int(rule[1]) - 1](code_text.read(page.example))))
+
+    def test_links_lead_to_files_and_headings(self):
+        for path in TOP.joinpath("docs").rglob("*.md"):
+            for link, anchor in LINK.findall(path.read_text(encoding="utf-8")):
+                with self.subTest(f"{path.name}: {link}#{anchor}"):
+                    to = path.parent / link if link else path
+                    self.assertTrue(to.is_file())
+                    self.assertIn(anchor, {"", *anchors(to)})
 
 
 class WithTheProgram(unittest.TestCase):
@@ -130,18 +175,36 @@ class WithTheProgram(unittest.TestCase):
         )
         return ran.returncode, ran.stdout.decode(), ran.stderr.decode()
 
-    def test_examples_have_their_messages(self):
-        for page in map(error_pages.read_page, error_pages.page_paths()):
+    def check_examples(self, found):
+        for page in found:
             for command in page.commands:
                 with self.subTest(page.title, command=command):
                     self.assertEqual((page.status, "", page.message), self.run_command(command, page.example))
 
-    def test_corrected_examples_pass(self):
-        for page in map(error_pages.read_page, error_pages.page_paths()):
+    def check_corrected(self, found):
+        for page in found:
             for command in page.corrected_commands:
                 with self.subTest(page.title, command=command):
                     printed = page.printed if command.startswith("rgo run") else ""
                     self.assertEqual((0, printed, ""), self.run_command(command, page.corrected))
+
+    def pages_of_code(self):
+        """The pages about code texts. The test is skipped if the program does not know their command."""
+        if self.run_command(error_pages.CODE, b"")[0] == 64:
+            self.skipTest(f"the program does not know the command `{error_pages.CODE}` yet")
+        return pages(of_code=True)
+
+    def test_examples_have_their_messages(self):
+        self.check_examples(pages(of_code=False))
+
+    def test_corrected_examples_pass(self):
+        self.check_corrected(pages(of_code=False))
+
+    def test_code_texts_have_their_messages(self):
+        self.check_examples(self.pages_of_code())
+
+    def test_corrected_code_texts_pass(self):
+        self.check_corrected(self.pages_of_code())
 
     def test_the_readme_shows_what_happens(self):
         readme = TOP.joinpath("README.md").read_text(encoding="utf-8")
@@ -185,7 +248,7 @@ class WithGo(unittest.TestCase):
 
     def test_go_does_what_the_pages_say(self):
         texts, accepted = {}, {}
-        for page in map(error_pages.read_page, error_pages.page_paths()):
+        for page in pages(of_code=False):
             if page.example is not None:
                 texts[f"{page.path.stem}/example"] = page.example
                 accepted[f"{page.path.stem}/example"] = "Go rejects this text" not in page.why
