@@ -1,9 +1,8 @@
 -- An action needs no lists.
-use Rattle.std.proofs.Common.{◌≡◌, ℕ, zero, suc, List, [], ◌∷◌, get_or, Option, Some, None, refl, ap, ◌∙◌}
-use Rattle.rgo_typed.specs.declared.statements.Piece.{Piece}
+use Rattle.std.proofs.Common.{◌≡◌, ℕ, zero, suc, List, [], ◌∷◌, get_or, Some, None, refl, ap, ◌∙◌}
 use Rattle.rgo_tac.specs.declared.code.Instr.{Instr}
 use Rattle.rgo_tac.specs.declared.code.Instr.TheVariants as code
-use Rattle.rgo_tac.specs.Code.{Op, Do, Call, Go, Print}
+use Rattle.rgo_tac.specs.Code.{Call, Go, Print}
 use Rattle.rgo_tac.specs.Views.{op_of}
 
 empty_at : {A : Type 0} (n : ℕ) → ◌≡◌ {A = List A} (get_or ([] ∷ []) n []) []

@@ -1,6 +1,5 @@
 -- Actions are read back from their words.
-use Rattle.std.proofs.Common.{◌≡◌, ◌≢◌, ℕ, ◌<◌, ◌^◌, Bool, true, false, List, [], ◌∷◌, Option, Some, None, if◌then◌else◌, refl, sym, ap, ◌∙◌, subst, arith, decimal, codes, IfSome}
-use Rattle.std.specs.List.{All}
+use Rattle.std.proofs.Common.{◌≡◌, ℕ, true, false, List, [], ◌∷◌, Option, Some, None, if◌then◌else◌, refl, sym, ap, ◌∙◌, subst, decimal, codes}
 use Rattle.std.specs.Fmt.{signed_decimal}
 use Rattle.std.specs.Str.{bytes_eq}
 use Rattle.std.proofs.lemmas.List.Elements.{All-head, All-tail}
@@ -9,11 +8,11 @@ use Rattle.rgo_ast.specs.declared.ops.BinaryOp.TheVariants as binary
 use Rattle.rgo_typed.specs.declared.actions.Action.{Action}
 use Rattle.rgo_typed.specs.declared.actions.Action.TheVariants as action
 use Rattle.rgo_tac.specs.Code as tac
-use Rattle.rgo_code_text.specs.Actions.{NamedAction, named, with_one, with_two, with_three, with_operator, giving, taking, int_of, bool_of, storing, loading, three_variables, read_action}
+use Rattle.rgo_code_text.specs.Actions.{NamedAction, named, with_one, with_two, with_three, with_operator, giving, taking, read_action}
 use Rattle.rgo_code_text.specs.Items.{only, ActionIsNamed}
-use Rattle.rgo_code_text.specs.Readers.{on_some, read_number, read_int, read_operator, read_truth}
+use Rattle.rgo_code_text.specs.Readers.{on_some, read_number, read_operator}
 use Rattle.rgo_code_printing.specs.Text.{action_words}
-use Rattle.rgo_code_printing.specs.Words.{variable_word, operator_word, bool_word}
+use Rattle.rgo_code_printing.specs.Words.{variable_word, operator_word}
 use Rattle.rgo_code_text.specs.Written.{is_name, IsSmall, AreSmall, ValueFits, ActionFits, OperatorFits, IsInstruction}
 use Rattle.rgo_code_text.proofs.Integers.{int_back}
 use Rattle.rgo_code_text.proofs.Numerals.{number_back}

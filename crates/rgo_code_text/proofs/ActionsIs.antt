@@ -1,7 +1,5 @@
 -- What is read of the words of an action: nothing else has these words.
-use Rattle.std.proofs.Common.{◌≡◌, ◌≢◌, ℕ, ◌<◌, ◌^◌, ◌==◌, ◌&&◌, Bool, true, false, List, [], ◌∷◌, length, Option, Some, None, if◌then◌else◌, refl, sym, ap, ◌∙◌, subst, arith, decimal, codes, IfSome}
-use Rattle.std.specs.List.{All}
-use Rattle.std.specs.Str.{bytes_eq}
+use Rattle.std.proofs.Common.{◌≡◌, ◌≢◌, ℕ, ◌==◌, List, [], ◌∷◌, length, Option, Some, None, refl, sym, ap, ◌∙◌, subst, decimal, codes}
 use Rattle.std.proofs.lemmas.Bool.Decides.{Decides-eqb}
 use Rattle.std.proofs.lemmas.List.Elements.{All-nil, All-cons}
 use Rattle.rgo_ast.specs.declared.ops.BinaryOp.{BinaryOp}
@@ -9,12 +7,12 @@ use Rattle.rgo_ast.specs.declared.ops.BinaryOp.TheVariants as binary
 use Rattle.rgo_typed.specs.declared.actions.Action.{Action}
 use Rattle.rgo_typed.specs.declared.actions.Action.TheVariants as action
 use Rattle.rgo_tac.specs.Code as tac
-use Rattle.rgo_code_text.specs.Actions.{NamedAction, nameless, named, with_one, with_two, with_three, with_operator, giving, taking, int_of, bool_of, storing, loading, three_variables, two_words, three_words, four_words, five_words, setting, computing, read_action}
+use Rattle.rgo_code_text.specs.Actions.{NamedAction, with_one, with_two, with_three, with_operator, giving, taking, two_words, three_words, four_words, five_words, setting, read_action}
 use Rattle.rgo_code_text.specs.Cuts.{word_at}
 use Rattle.rgo_code_text.specs.Items.{only, ActionIsNamed}
-use Rattle.rgo_code_text.specs.Readers.{on_some, read_number, read_int, read_operator, read_truth, read_variable}
+use Rattle.rgo_code_text.specs.Readers.{read_number, read_int, read_operator, read_truth, read_variable}
 use Rattle.rgo_code_printing.specs.Text.{action_words}
-use Rattle.rgo_code_printing.specs.Words.{variable_word, operator_word, bool_word}
+use Rattle.rgo_code_printing.specs.Words.{variable_word, operator_word}
 use Rattle.rgo_code_text.specs.Written.{is_name, IsSmall, AreSmall, ValueFits, ActionFits, OperatorFits, IsInstruction}
 use Rattle.rgo_code_text.proofs.Cutting.{two_of, three_of, four_of, five_of}
 use Rattle.rgo_code_text.proofs.Integers.{int_sound}

@@ -3,14 +3,14 @@ use Rattle.std.proofs.Common.{◌≡◌, ℕ, ◌+◌, ◌==◌, Bool, true, fal
 use Rattle.std.specs.Bool.{Decides}
 use Rattle.std.specs.List.{flat_map}
 use Rattle.std.proofs.lemmas.Bool.Decides.{Decides-eqb}
-use Rattle.std.proofs.lemmas.List.{map_push, length_push, map-append}
+use Rattle.std.proofs.lemmas.List.{map_push, length_push}
 use Rattle.rgo_typed.specs.declared.programs.Struct.{Struct as StructType}
 use Rattle.rgo_typed.specs.declared.programs.Variable.{Variable}
 use Rattle.rgo_code.specs.Code.{Slot, CodeInstr, CodeFn}
 use Rattle.rgo_code_text.specs.declared.places.Place.{Place}
 use Rattle.rgo_code_text.specs.declared.places.Place.TheVariants.{First, Structs, Globals, Functions, Slots, Body}
 use Rattle.rgo_code_text.specs.CodeLines.{Line, Head, Struct, Global, Function, Var, Entry, Instr, End, instrs_from, lines_of_fn, line_kind, Building, nothing, no_function, with_line, with_lines}
-use Rattle.rgo_code_text.specs.Order.{Kind, after_kind, after_kinds}
+use Rattle.rgo_code_text.specs.Order.{after_kind, after_kinds}
 use Rattle.rgo_code_text.specs.Readers.{on_some}
 use Rattle.rgo_code_text.proofs.ListFacts.{flat_push}
 use Rattle.rgo_code_text.proofs.Options.{some_same, not_none}

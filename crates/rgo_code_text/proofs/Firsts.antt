@@ -1,12 +1,10 @@
 -- The first place of a name among names, and what a further name changes.
-use Rattle.std.proofs.Common.{◌≡◌, ◌≢◌, ℕ, zero, suc, ◌+◌, ◌<◌, ◌≤◌, ◌==◌, ◌||◌, not, nat_lt, Bool, true, false, true≢false, cond, if◌then◌else◌, List, [], ◌∷◌, ◌++◌, map, length, get_or, drop, Option, Some, None, is_some, refl, sym, ap, subst, ◌∙◌, arith, length-append}
-use Rattle.std.specs.Bool.{Decides}
-use Rattle.std.specs.List.{All, list_any, position_or_len}
+use Rattle.std.proofs.Common.{◌≡◌, ℕ, suc, ◌+◌, ◌≤◌, ◌==◌, ◌||◌, not, nat_lt, Bool, true, false, true≢false, cond, if◌then◌else◌, List, [], ◌∷◌, ◌++◌, length, Some, None, is_some, refl, sym, ap, ◌∙◌, arith, length-append}
 use Rattle.std.specs.Str.{bytes_eq}
-use Rattle.std.proofs.lemmas.Bool.Decides.{Decides-eqb, Decides-ltb, nat_tests, not_from_Decides}
+use Rattle.std.proofs.lemmas.Bool.Decides.{Decides-ltb, nat_tests, not_from_Decides}
 use Rattle.std.proofs.lemmas.List.Folds.{position_or_len_push}
 use Rattle.std.proofs.lemmas.Slice.Eq.{bytes_eq-Decides}
-use Rattle.rgo_code_text.specs.Numbers.{first_of, with_name}
+use Rattle.rgo_code_text.specs.Numbers.{first_of}
 use Rattle.rgo_code_text.specs.Written.{is_among, number_of}
 use Rattle.rgo_code_text.proofs.Options.{not_none}
 

@@ -1,5 +1,5 @@
 -- What is made of lines that fit, fits.
-use Rattle.std.proofs.Common.{◌≡◌, ◌≢◌, ℕ, ◌<◌, ◌≤◌, ◌+◌, ◌^◌, List, [], ◌∷◌, ◌++◌, map, length, get_or, Option, Some, None, IfSome, refl, sym, ap, subst, ◌∙◌, arith, slice_get}
+use Rattle.std.proofs.Common.{◌≡◌, ℕ, ◌+◌, List, [], ◌∷◌, map, Option, Some, None, IfSome, subst, arith, slice_get}
 use Rattle.std.specs.List.{All, Contains}
 use Rattle.std.specs.List.Sorted.{IsStrictlyIncreasing}
 use Rattle.std.specs.Option.{option_map}
@@ -7,14 +7,14 @@ use Rattle.std.proofs.lemmas.List.Elements.{All-push, All-head, All-tail, All-ni
 use Rattle.std.proofs.lemmas.Option.{slice_get_within, get_or_from_slice_get}
 use Rattle.rgo_typed.specs.declared.actions.Action.{Action}
 use Rattle.rgo_typed.specs.declared.actions.Action.TheVariants as action
-use Rattle.rgo_code.specs.Code.{Slot, CodeOp, CodeInstr, CodeFn, Do, Call, Go, Print, Jump, Branch, Return}
+use Rattle.rgo_code.specs.Code.{CodeOp, CodeInstr, CodeFn, Do, Call, Go, Print, Jump, Branch, Return}
 use Rattle.rgo_code.specs.NameRules.{InstrAscends, FnAscends, protected_names}
 use Rattle.rgo_code.specs.Names.{edges}
 use Rattle.rgo_code_text.specs.Building.{numbered, numbered_slot, numbered_action, numbered_op, numbered_instr}
 use Rattle.rgo_code_text.specs.CodeLines.{Building, nothing, no_function, with_line, with_lines}
 use Rattle.rgo_code_text.specs.Items.{NamedSlot, Item, Head, Struct, Global, Function, Slot as SlotLine, Entry, Instr, End, ItemFits, NamedSlotFits}
 use Rattle.rgo_code_printing.specs.Text.{Names}
-use Rattle.rgo_code_text.specs.Written.{IsSmall, AreSmall, AreRegions, IsInstruction, ActionFits, OpFits, InstrFits, SlotFits}
+use Rattle.rgo_code_text.specs.Written.{IsSmall, AreRegions, IsInstruction, ActionFits, OpFits, InstrFits, SlotFits}
 
 -- ---- lists
 

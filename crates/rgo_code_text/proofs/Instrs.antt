@@ -1,5 +1,5 @@
 -- Instructions are read back, and nothing else is read.
-use Rattle.std.proofs.Common.{◌≡◌, ◌≢◌, ℕ, ◌+◌, ◌<◌, ◌≤◌, ◌==◌, List, [], ◌∷◌, ◌++◌, length, Option, Some, None, refl, sym, ap, subst, ◌∙◌, arith, codes, decimal}
+use Rattle.std.proofs.Common.{◌≡◌, ◌≢◌, ℕ, ◌<◌, List, [], ◌∷◌, ◌++◌, length, Some, None, refl, sym, ap, ◌∙◌, arith, decimal}
 use Rattle.std.specs.List.{join_with_byte}
 use Rattle.rgo_code.specs.Code.{CodeInstr, CodeOp, Do, Call, Go, Print, Jump, Branch, Return}
 use Rattle.rgo_code_text.specs.Cuts.{cut, word_at}

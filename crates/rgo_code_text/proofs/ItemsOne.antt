@@ -1,11 +1,10 @@
 -- No two items have one line.
-use Rattle.std.proofs.Common.{◌≡◌, ℕ, List, [], ◌∷◌, Option, Some, sym, ap, ◌∙◌, refl, arith, codes, decimal}
+use Rattle.std.proofs.Common.{◌≡◌, ℕ, List, sym, ap, ◌∙◌, refl, arith, codes, decimal}
 use Rattle.std.specs.List.{before_first}
 use Rattle.rgo_code.specs.Code.{CodeInstr}
 use Rattle.rgo_code_text.specs.Cuts.{is_space, cut}
-use Rattle.rgo_code_text.specs.Items.{NamedSlot, Item, Head, Struct, Global, Function, Slot, Entry, Instr, End, ItemFits, item_line}
+use Rattle.rgo_code_text.specs.Items.{Item, Head, Struct, Global, Function, Slot, Entry, Instr, End, ItemFits, item_line}
 use Rattle.rgo_code_text.specs.Lines.{struct_of, global_of, function_of, slot_of, entry_of}
-use Rattle.rgo_code_text.specs.Readers.{NamedType}
 use Rattle.rgo_code_text.proofs.Instrs.{instrs_one}
 use Rattle.rgo_code_text.proofs.LineWords.{first_word, line_first, number_differs}
 use Rattle.rgo_code_text.proofs.LinesBack.{struct_back, global_back, function_back, slot_line_back, entry_back}

@@ -1,20 +1,19 @@
 -- Lines that are no instructions are read back, and nothing else is read.
-use Rattle.std.proofs.Common.{◌≡◌, ◌≢◌, ℕ, zero, suc, ◌+◌, ◌<◌, ◌≤◌, ◌==◌, ◌&&◌, nat_le, Bool, true, false, true≢false, cond, List, [], ◌∷◌, ◌++◌, map, length, Option, Some, None, IfSome, if◌then◌else◌, refl, sym, ap, subst, ◌∙◌, arith, codes, decimal, get_or}
-use Rattle.std.specs.List.{All, list_all, join_with_byte, before_first, after_first, position_or_len}
+use Rattle.std.proofs.Common.{◌≡◌, ℕ, suc, ◌+◌, ◌<◌, ◌≤◌, ◌==◌, ◌&&◌, nat_le, Bool, true, false, true≢false, List, [], ◌∷◌, ◌++◌, map, length, Option, Some, None, IfSome, if◌then◌else◌, refl, sym, ap, subst, ◌∙◌, arith, codes, decimal}
+use Rattle.std.specs.List.{list_all, join_with_byte, before_first}
 use Rattle.std.specs.Option.{option_map}
 use Rattle.std.specs.Str.{bytes_eq}
 use Rattle.std.proofs.lemmas.Bool.Decides.{Decides-eqb, not_from_Decides}
-use Rattle.std.proofs.lemmas.List.{get_or_past}
-use Rattle.std.proofs.lemmas.List.Elements.{All-nil, All-cons, All-head, All-tail}
+use Rattle.std.proofs.lemmas.List.Elements.{All-nil}
 use Rattle.std.proofs.lemmas.Slice.Eq.{bytes_eq-Decides}
 use Rattle.rgo_code_text.specs.Cuts.{is_space, cut, word_at}
 use Rattle.rgo_code_text.specs.Items.{NamedSlot, Item, Head, Struct, Global, Function, Slot, Entry, Instr, End, ItemFits, IsName, item_line, TypeFits, NamedSlotFits, named_type_word, named_slot_words, named_result_words}
 use Rattle.rgo_code_text.specs.Lines.{read_fields, read_slot, read_result, struct_of, global_of, function_of, slot_of, entry_of, InstrFits}
 use Rattle.rgo_code_text.specs.Readers.{NamedType, IsRead, on_some, read_class, read_number, read_regions, read_type}
 use Rattle.rgo_code_printing.specs.Words.{class_word, removes_word}
-use Rattle.rgo_code_text.specs.Written.{is_name, ClassFits, AreRegions}
+use Rattle.rgo_code_text.specs.Written.{is_name}
 use Rattle.rgo_code_text.proofs.Cutting.{cut_words, cut_more, cut_joined, cut_short, first_of_cut, two_of, three_of, five_of}
-use Rattle.rgo_code_text.proofs.Lacks.{Lacks, From, AllFrom, from_test, lacks_from, all_lack_from, both_true}
+use Rattle.rgo_code_text.proofs.Lacks.{Lacks, from_test, lacks_from, all_lack_from, both_true}
 use Rattle.rgo_code_text.proofs.LineWords.{type_reads, type_from, slot_from, result_from, named_from, first_word, line_first, number_differs}
 use Rattle.rgo_code_text.proofs.ListWords.{words_back, words_is, words_some}
 use Rattle.rgo_code_text.proofs.Numerals.{number_back, number_sound}

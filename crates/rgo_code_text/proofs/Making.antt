@@ -1,5 +1,5 @@
 -- Code that is made of the lines of a text has this text.
-use Rattle.std.proofs.Common.{◌≡◌, ◌≢◌, ℕ, ◌+◌, ◌<◌, List, [], ◌∷◌, ◌++◌, map, length, drop, Option, Some, None, IfSome, refl, sym, ap, subst, ◌∙◌, arith, codes, decimal}
+use Rattle.std.proofs.Common.{◌≡◌, ◌≢◌, ℕ, List, [], ◌∷◌, ◌++◌, map, length, drop, Option, Some, None, IfSome, refl, sym, ap, subst, ◌∙◌, codes, decimal}
 use Rattle.std.specs.List.{All, flat_map}
 use Rattle.std.specs.Option.{option_map}
 use Rattle.std.proofs.lemmas.List.{map-append}
@@ -8,17 +8,17 @@ use Rattle.rgo_typed.specs.declared.actions.Action.{Action}
 use Rattle.rgo_typed.specs.declared.actions.Action.TheVariants as action
 use Rattle.rgo_typed.specs.declared.types.Base.{Base}
 use Rattle.rgo_typed.specs.declared.types.Base.TheVariants as base
-use Rattle.rgo_code.specs.Code.{CodeOp, CodeInstr, Code, Do, Call, Go, Print, Jump, Branch, Return}
+use Rattle.rgo_code.specs.Code.{CodeOp, Code, Do, Call, Go, Print, Jump, Branch, Return}
 use Rattle.rgo_code_text.specs.declared.places.Place.{Place}
 use Rattle.rgo_code_text.specs.declared.places.Place.TheVariants.{First, Structs, Globals, Functions, Slots, Body}
-use Rattle.rgo_code_text.specs.Building.{numbered, numbered_type, numbered_slot, numbered_op, numbered_action, code_of, names_in, declared_in, declared_struct, declared_variable, declared_function, used_structs, used_variables, used_functions, type_names, base_names, slot_names, op_structs, op_variables, op_functions, with_names}
+use Rattle.rgo_code_text.specs.Building.{numbered, numbered_type, numbered_slot, numbered_op, numbered_action, code_of, names_in, declared_in, declared_struct, declared_variable, declared_function, used_structs, used_variables, used_functions, type_names, base_names, slot_names, op_structs, op_variables, op_functions}
 use Rattle.rgo_code_text.specs.CodeLines.{Line, Building, nothing, with_lines, lines_of, line_kind, line_words, LineFits, line_struct, line_variable, line_function, uses_structs, uses_variables, uses_functions}
-use Rattle.rgo_code_text.specs.Items.{NamedSlot, Item, Head, Struct, Global, Function, Slot, Entry, Instr, End, ItemFits, IsName, IsNamed, BaseFits, TypeFits, NamedSlotFits, ActionIsNamed, OpIsNamed, item_kind, item_words, items_text, after_all, named_type_word}
-use Rattle.rgo_code_text.specs.Order.{Kind, after_kinds, IsLast}
+use Rattle.rgo_code_text.specs.Items.{NamedSlot, Item, Head, Struct, Global, Function, Slot, Entry, Instr, End, ItemFits, IsName, IsNamed, BaseFits, TypeFits, NamedSlotFits, OpIsNamed, item_kind, item_words, items_text, after_all, named_type_word}
+use Rattle.rgo_code_text.specs.Order.{after_kinds, IsLast}
 use Rattle.rgo_code_text.specs.Readers.{NamedType}
-use Rattle.rgo_code_printing.specs.Text.{Names, names_of, line, lines_with, text_of, action_words}
+use Rattle.rgo_code_printing.specs.Text.{Names, names_of, line, lines_with, text_of}
 use Rattle.rgo_code_printing.specs.Words.{type_word, place_word, creates_word}
-use Rattle.rgo_code_text.specs.Written.{AreNames, IsWritten, KindIsWritten, uses_of, number_of, SlotFits, InstrFits, OpFits, ActionFits, IsInstruction, no_names}
+use Rattle.rgo_code_text.specs.Written.{AreNames, IsWritten, KindIsWritten, uses_of, number_of, SlotFits, OpFits, ActionFits, IsInstruction}
 use Rattle.rgo_code_text.proofs.Assembling.{lines_so_far, whole_lines, all_grow}
 use Rattle.rgo_code_text.proofs.Knowing.{used_known, kind_written, whole_is, all_flat, flat_all}
 use Rattle.rgo_code_text.proofs.LinesOfCode.{code_words, structs_used, variables_used, functions_used, structs_declared, variables_declared, functions_declared, fits_code}

@@ -1,18 +1,18 @@
 -- Words do not change where names get their numbers.
-use Rattle.std.proofs.Common.{◌≡◌, ℕ, List, [], ◌∷◌, ◌++◌, map, Option, Some, None, IfSome, refl, sym, ap, subst, ◌∙◌, codes}
+use Rattle.std.proofs.Common.{◌≡◌, ℕ, List, [], ◌∷◌, ◌++◌, Option, Some, None, IfSome, refl, sym, ap, ◌∙◌, codes}
 use Rattle.std.specs.List.{All, flat_map}
 use Rattle.std.specs.Option.{option_map}
-use Rattle.std.proofs.lemmas.List.Elements.{All-head, All-tail}
+use Rattle.std.proofs.lemmas.List.Elements.{All-head}
 use Rattle.rgo_typed.specs.declared.actions.Action.{Action}
 use Rattle.rgo_typed.specs.declared.actions.Action.TheVariants as action
 use Rattle.rgo_typed.specs.declared.types.Base.{Base}
 use Rattle.rgo_typed.specs.declared.types.Base.TheVariants as base
-use Rattle.rgo_code.specs.Code.{CodeOp, CodeInstr, Do, Call, Go, Print, Jump, Branch, Return}
-use Rattle.rgo_code_text.specs.Building.{numbered_base, numbered_type, numbered_slot, numbered_action, numbered_op, numbered_instr}
+use Rattle.rgo_code.specs.Code.{CodeOp, Do, Call, Go, Print, Jump, Branch, Return}
+use Rattle.rgo_code_text.specs.Building.{numbered_base, numbered_type, numbered_slot, numbered_action, numbered_op}
 use Rattle.rgo_code_text.specs.Building.{base_names, type_names, slot_names, op_structs, op_variables, op_functions}
 use Rattle.rgo_code_text.specs.Items.{NamedSlot, only, named_type_word, named_slot_words, named_result_words, TypeFits, BaseFits, ActionIsNamed, OpIsNamed, NamedSlotFits}
 use Rattle.rgo_code_text.specs.Readers.{NamedType}
-use Rattle.rgo_code_printing.specs.Text.{Names, action_words, value_word, op_words, instr_words, slot_words, result_words}
+use Rattle.rgo_code_printing.specs.Text.{Names, action_words, value_word, op_words, slot_words, result_words}
 use Rattle.rgo_code_printing.specs.Words.{name_at, base_word, type_word, layer_word, class_word, variable_word, callee_word, removes_word, passes_word, protects_word}
 use Rattle.rgo_code_text.specs.Written.{number_of}
 

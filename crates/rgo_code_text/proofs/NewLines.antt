@@ -1,22 +1,21 @@
 -- Lines have no newline inside, so that a text has one list of lines.
-use Rattle.std.proofs.Common.{◌≡◌, ◌≢◌, ℕ, zero, suc, ◌+◌, ◌/◌, ◌%◌, ◌<◌, ◌≤◌, ◌^◌, ◌==◌, ◌||◌, nat_lt, Bool, true, false, true≢false, List, [], ◌∷◌, ◌++◌, map, length, drop, get_or, Option, Some, None, if◌then◌else◌, refl, sym, ap, subst, ◌∙◌, arith, append-nil, append_assoc, length-append, codes, decimal}
+use Rattle.std.proofs.Common.{◌≡◌, ℕ, ◌+◌, ◌/◌, ◌%◌, ◌≤◌, ◌==◌, ◌||◌, nat_lt, Bool, true, false, true≢false, List, [], ◌∷◌, ◌++◌, map, length, drop, get_or, if◌then◌else◌, refl, sym, ap, ◌∙◌, arith, append-nil, append_assoc, length-append, codes, decimal}
 use Rattle.std.specs.List.{All, flat_map, join_with_byte}
 use Rattle.std.proofs.lemmas.Bool.Decides.{Decides-eqb, nat_tests}
 use Rattle.std.proofs.lemmas.List.{get_or_default}
 use Rattle.std.proofs.lemmas.List.Elements.{All-nil, All-cons, All-head, All-tail, All-append}
 use Rattle.rgo_typed.specs.declared.statements.Piece.{Piece}
 use Rattle.rgo_typed.specs.declared.statements.Piece.TheVariants as piece
-use Rattle.rgo_code.specs.Code.{CodeOp, CodeInstr, Do, Call, Go, Print, Jump, Branch, Return}
+use Rattle.rgo_code.specs.Code.{CodeOp, Do, Call, Go, Print, Jump, Branch, Return}
 use Rattle.rgo_code_text.specs.Forms.{IsLine}
 use Rattle.rgo_code_text.specs.Items.{Item, Head, Struct, Global, Function, Slot, Entry, Instr, End, ItemFits, TypeFits, item_words, item_line, items_text, only, OpIsNamed, named_type_word, named_slot_words, named_result_words}
-use Rattle.rgo_code_text.specs.Ops.{op_text, NamedOp, NamedOpFits}
 use Rattle.rgo_code_printing.specs.Text.{op_words}
-use Rattle.rgo_code_printing.specs.Words.{hex_digit, byte_word, string_word, piece_word, piece_words, variable_word, place_word, creates_word, removes_word, in_one, listed, value_count}
-use Rattle.rgo_code_text.specs.Written.{OpFits, AreSmall, IsSmall, AreRegions, PieceFits, values_in}
+use Rattle.rgo_code_printing.specs.Words.{hex_digit, byte_word, string_word, piece_word, piece_words, place_word, creates_word, removes_word, in_one, listed, value_count}
+use Rattle.rgo_code_text.specs.Written.{OpFits, AreSmall, values_in}
 use Rattle.rgo_code_text.proofs.ItemsOne.{items_one}
 use Rattle.rgo_code_text.proofs.Lacks.{Lacks, From, AllFrom, from_test, from_both, from_cons, from_less, from_nil, joined_from, lacks_from, lettered_from}
 use Rattle.rgo_code_text.proofs.LineWords.{type_from, slot_from, result_from, named_from}
-use Rattle.rgo_code_text.proofs.OpWords.{IsPrint, op_worded, no_words, and_word, number_from, removes_from}
+use Rattle.rgo_code_text.proofs.OpWords.{op_worded, no_words, and_word, number_from, removes_from}
 use Rattle.rgo_code_text.proofs.WordsBack.{each_from, regions_from}
 
 -- ---- strings

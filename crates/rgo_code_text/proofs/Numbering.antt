@@ -3,11 +3,10 @@ use Rattle.std.proofs.Common.{◌≡◌, ℕ, List, [], ◌∷◌, ◌++◌, map
 use Rattle.std.specs.List.{flat_map}
 use Rattle.std.specs.Option.{option_map}
 use Rattle.std.proofs.lemmas.List.{map-append}
-use Rattle.rgo_typed.specs.declared.actions.Action.{Action}
 use Rattle.rgo_typed.specs.declared.actions.Action.TheVariants as action
 use Rattle.rgo_typed.specs.declared.types.Base.{Base}
 use Rattle.rgo_typed.specs.declared.types.Base.TheVariants as base
-use Rattle.rgo_code.specs.Code.{CodeOp, Do, Call, Go, Print, Jump, Branch, Return}
+use Rattle.rgo_code.specs.Code.{CodeOp, Do, Call, Go}
 use Rattle.rgo_code_text.specs.Building.{numbered_base, numbered_type, numbered_slot, numbered_op}
 use Rattle.rgo_code_text.specs.Building.{base_names, type_names, slot_names, op_structs, op_variables, op_functions}
 use Rattle.rgo_code_text.specs.Items.{NamedSlot}

@@ -1,13 +1,12 @@
 -- The text of an operation is read back, nothing else is read, and no two operations have one text.
-use Rattle.std.proofs.Common.{◌≡◌, ◌≢◌, ◌⊎◌, inl, inr, ℕ, suc, ◌+◌, ◌<◌, ◌≤◌, Bool, true, false, true≢false, List, [], ◌∷◌, ◌++◌, length, take, drop, Option, Some, None, refl, sym, ap, subst, ◌∙◌, arith, codes}
+use Rattle.std.proofs.Common.{◌≡◌, ◌≢◌, ℕ, true, false, true≢false, List, [], ◌∷◌, ◌++◌, length, take, drop, Option, Some, None, refl, sym, ap, subst, ◌∙◌, arith, codes}
 use Rattle.std.specs.List.{join_with_byte}
 use Rattle.std.specs.Str.{bytes_eq}
 use Rattle.std.proofs.lemmas.List.{take-append-drop}
-use Rattle.std.proofs.lemmas.List.Elements.{All-head}
 use Rattle.std.proofs.lemmas.Slice.Eq.{bytes_eq-Decides}
 use Rattle.rgo_typed.specs.declared.statements.Piece.{Piece}
 use Rattle.rgo_code.specs.Code.{CodeOp, Do, Call, Go, Print, Jump, Branch, Return}
-use Rattle.rgo_code_text.specs.Cuts.{cut, word_at}
+use Rattle.rgo_code_text.specs.Cuts.{cut}
 use Rattle.rgo_code_text.specs.Items.{only, OpIsNamed}
 use Rattle.rgo_code_text.specs.Ops.{NamedOp, op_text, NamedOpFits, read_op}
 use Rattle.rgo_code_text.specs.Pieces.{AreListed}
@@ -21,7 +20,7 @@ use Rattle.rgo_code_text.proofs.OpWords.{IsPrint, OpWorded, op_worded, removes_f
 use Rattle.rgo_code_text.proofs.OpsBack.{op_back, op_is}
 use Rattle.rgo_code_text.proofs.Options.{some_same, not_none}
 use Rattle.rgo_code_text.proofs.PieceLists.{listed_one}
-use Rattle.rgo_code_text.proofs.PrintWords.{PrintText, only_print, print_text, last_one, contains_space}
+use Rattle.rgo_code_text.proofs.PrintWords.{only_print, print_text, last_one, contains_space}
 use Rattle.rgo_code_text.proofs.WordsBack.{regions_back}
 
 -- whether an operation is a print

@@ -1,7 +1,6 @@
 -- The words of operations.
-use Rattle.std.proofs.Common.{◌≡◌, ◌≢◌, ℕ, zero, suc, ◌+◌, ◌<◌, ◌≤◌, ◌^◌, ℤ, pos, negsuc, Bool, true, false, ◌||◌, List, [], ◌∷◌, ◌++◌, map, length, take, drop, Option, Some, None, IfSome, refl, sym, ap, subst, ◌∙◌, arith, length-append, codes, decimal}
+use Rattle.std.proofs.Common.{◌≡◌, ℕ, suc, ◌<◌, ◌≤◌, ℤ, pos, negsuc, Bool, true, false, ◌||◌, List, [], ◌∷◌, ◌++◌, length, Option, Some, None, refl, sym, subst, arith, length-append, codes, decimal}
 use Rattle.std.specs.Fmt.{signed_decimal}
-use Rattle.std.specs.List.{All, list_all}
 use Rattle.std.specs.Str.{bytes_eq}
 use Rattle.std.proofs.lemmas.List.Elements.{All-nil, All-cons, All-head, All-tail, All-append}
 use Rattle.rgo_typed.specs.declared.actions.Action.{Action}
@@ -11,8 +10,8 @@ use Rattle.rgo_code_text.specs.Cuts.{word_at}
 use Rattle.rgo_code_text.specs.Items.{only, IsNamed, ActionIsNamed, OpIsNamed}
 use Rattle.rgo_code_printing.specs.Text.{action_words, op_words, value_word}
 use Rattle.rgo_code_printing.specs.Words.{name_at, operator_word, variable_word, removes_word, callee_word, passes_word, protects_word}
-use Rattle.rgo_code_text.specs.Written.{IntFits, IsSmall, AreSmall, AreRegions, ClassFits, ActionFits, ValueFits, IsInstruction, OpFits}
-use Rattle.rgo_code_text.proofs.Lacks.{From, AllFrom, from_test, from_cons, from_both, from_less, from_nil, decimal_from, lettered_from, name_from}
+use Rattle.rgo_code_text.specs.Written.{IntFits, IsSmall, AreSmall, AreRegions, ActionFits, ValueFits, IsInstruction, OpFits}
+use Rattle.rgo_code_text.proofs.Lacks.{From, AllFrom, from_test, from_cons, from_both, from_less, decimal_from, lettered_from, name_from}
 use Rattle.rgo_code_text.proofs.WordsBack.{arguments_from, bool_from, operator_from, regions_from, passes_from, value_from}
 
 -- the first words of operations that are no actions

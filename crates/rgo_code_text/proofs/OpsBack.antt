@@ -1,25 +1,24 @@
 -- Operations are read back from their words, and nothing else is read.
-use Rattle.std.proofs.Common.{◌≡◌, ℕ, ◌+◌, ◌-◌, ◌<◌, ◌≤◌, ◌==◌, Bool, true, false, ◌||◌, List, [], ◌∷◌, ◌++◌, map, length, take, drop, get_or, Option, Some, None, if◌then◌else◌, refl, sym, ap, subst, ◌∙◌, arith, length-append, codes, decimal}
-use Rattle.std.specs.List.{All, position_or_len}
+use Rattle.std.proofs.Common.{◌≡◌, ℕ, ◌+◌, ◌-◌, ◌<◌, ◌==◌, Bool, true, false, ◌||◌, List, [], ◌∷◌, ◌++◌, map, length, take, drop, Option, Some, None, if◌then◌else◌, refl, sym, ap, subst, ◌∙◌, arith, length-append, codes, decimal}
+use Rattle.std.specs.List.{position_or_len}
 use Rattle.std.specs.Option.{option_map}
 use Rattle.std.specs.Str.{bytes_eq}
 use Rattle.std.proofs.lemmas.Bool.Decides.{Decides-eqb}
 use Rattle.std.proofs.lemmas.List.{take_all, take_at, take_more, drop_at, get_or_at, take-append-drop}
 use Rattle.std.proofs.lemmas.List.Elements.{All-head, All-tail}
 use Rattle.rgo_tac.specs.Code as tac
-use Rattle.rgo_tac.specs.declared.regions.Class.{Class}
 use Rattle.rgo_code.specs.Code.{CodeOp, Do, Call, Go, Print, Jump, Branch, Return}
 use Rattle.rgo_code.specs.Views.{code_op}
 use Rattle.rgo_code_text.specs.Actions.{NamedAction, read_action}
 use Rattle.rgo_code_text.specs.Cuts.{word_at}
 use Rattle.rgo_code_text.specs.Items.{only, IsNamed, OpIsNamed}
-use Rattle.rgo_code_text.specs.Ops.{NamedOp, NamedOpFits, Callee, callee_at, read_callee, removing, read_removes, last_of, acting, calling, starting, jumping, branching, branch_of, with_ways, returning, of_length, read_op, unnamed}
+use Rattle.rgo_code_text.specs.Ops.{NamedOp, NamedOpFits, Callee, callee_at, read_callee, removing, read_removes, last_of, acting, calling, starting, jumping, branching, branch_of, with_ways, returning, of_length, read_op}
 use Rattle.rgo_code_text.specs.Readers.{on_some, inside, read_number, read_variable, read_value, read_lettered, read_within, read_regions, read_passes}
 use Rattle.rgo_code_printing.specs.Text.{op_words, action_words, value_word}
 use Rattle.rgo_code_printing.specs.Words.{name_at, variable_word, listed, callee_word, passes_word, protects_word, removes_word}
-use Rattle.rgo_code_text.specs.Written.{is_name, IsSmall, AreSmall, AreRegions, OpFits}
+use Rattle.rgo_code_text.specs.Written.{is_name, AreSmall, AreRegions, OpFits}
 use Rattle.rgo_code_text.proofs.ActionsBack.{action_back}
-use Rattle.rgo_code_text.proofs.ActionsIs.{IsAction, action_is}
+use Rattle.rgo_code_text.proofs.ActionsIs.{action_is}
 use Rattle.rgo_code_text.proofs.Cutting.{two_of, three_of, four_of, six_of}
 use Rattle.rgo_code_text.proofs.Lacks.{Lacks, lacks_from, name_from}
 use Rattle.rgo_code_text.proofs.ListWords.{inside_back, inside_is}

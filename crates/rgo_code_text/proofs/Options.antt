@@ -1,5 +1,5 @@
 -- What is known of a value that was read in steps.
-use Rattle.std.proofs.Common.{◌≡◌, Bool, true, false, true≢false, if◌then◌else◌, List, Option, Some, None, Result, Ok, Err, IfOk, MatchResult, ℕ, refl, sym, ap, subst, ◌∙◌}
+use Rattle.std.proofs.Common.{◌≡◌, Bool, true, false, true≢false, if◌then◌else◌, List, Option, Some, None, Result, Ok, Err, IfOk, MatchResult, ℕ, refl, sym, subst, ◌∙◌}
 use Rattle.std.specs.Result.{IsErrAnd}
 use Rattle.std.specs.Option.{option_map}
 use Rattle.std.specs.Str.{bytes_eq}

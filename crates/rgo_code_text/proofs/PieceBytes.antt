@@ -1,11 +1,11 @@
 -- Bytes of strings are read back, and nothing else is read.
-use Rattle.std.proofs.Common.{◌≡◌, ◌⊎◌, inl, inr, ℕ, suc, zero, ◌+◌, ◌-◌, ◌*◌, ◌/◌, ◌%◌, ◌<◌, ◌≤◌, ◌^◌, ◌==◌, ◌&&◌, ◌||◌, not, nat_lt, nat_le, Bool, true, false, true≢false, if◌then◌else◌, List, [], ◌∷◌, ◌++◌, length, take, drop, get_or, Option, Some, None, refl, sym, ap, subst, ◌∙◌, arith}
+use Rattle.std.proofs.Common.{◌≡◌, ℕ, ◌+◌, ◌-◌, ◌*◌, ◌/◌, ◌%◌, ◌<◌, ◌≤◌, ◌==◌, ◌&&◌, ◌||◌, nat_lt, nat_le, Bool, true, false, true≢false, if◌then◌else◌, List, [], ◌∷◌, ◌++◌, length, drop, get_or, Some, None, refl, sym, ap, subst, ◌∙◌, arith}
 use Rattle.std.specs.Option.{option_map}
 use Rattle.std.proofs.lemmas.Bool.Decides.{Decides-eqb, nat_tests}
 use Rattle.rgo_code_text.specs.Pieces.{hex_value, is_numbered, is_plain, if_numbered, numbered, escaped, string_byte}
 use Rattle.rgo_code_text.specs.Readers.{on_some}
 use Rattle.rgo_code_printing.specs.Words.{hex_digit, byte_word}
-use Rattle.rgo_code_text.proofs.Options.{some_same, not_none, under, after_some, mapped, either}
+use Rattle.rgo_code_text.proofs.Options.{some_same, under, after_some, mapped, either}
 
 -- ---- digits
 

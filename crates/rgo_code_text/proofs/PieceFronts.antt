@@ -1,20 +1,20 @@
 -- The piece at the front of some bytes: there is at most one.
-use Rattle.std.proofs.Common.{◌≡◌, ℕ, ◌+◌, ◌<◌, ◌≤◌, ◌^◌, ◌==◌, ◌≢◌, nat_lt, Bool, true, false, List, [], ◌∷◌, ◌++◌, length, take, drop, get_or, Option, Some, None, IfSome, refl, sym, ap, subst, ◌∙◌, arith, append_assoc, length-append, length-drop, get_or-drop, decimal}
-use Rattle.std.specs.List.{All, flat_map, position_or_len}
+use Rattle.std.proofs.Common.{◌≡◌, ℕ, ◌+◌, ◌<◌, ◌≤◌, ◌^◌, ◌==◌, ◌≢◌, nat_lt, Bool, true, false, List, [], ◌∷◌, ◌++◌, length, take, drop, get_or, Option, Some, None, refl, sym, ap, subst, ◌∙◌, arith, append_assoc, length-drop, get_or-drop}
+use Rattle.std.specs.List.{flat_map, position_or_len}
 use Rattle.std.specs.Bool.{Decides}
 use Rattle.std.proofs.lemmas.Bool.Decides.{Decides-eqb, Decides-ltb, not_from_Decides}
-use Rattle.std.proofs.lemmas.List.{take_at, drop_at, drop_all, drop-drop, take-append-drop, get_or_past}
+use Rattle.std.proofs.lemmas.List.{take_at, drop_all, drop-drop, take-append-drop, get_or_past}
 use Rattle.std.proofs.lemmas.List.Elements.{All-head, All-tail, All-append, All-cons, All-nil}
 use Rattle.std.proofs.lemmas.List.Sums.{passes_at_first}
 use Rattle.rgo_typed.specs.declared.statements.Piece.{Piece}
 use Rattle.rgo_typed.specs.declared.statements.Piece.TheVariants as piece
-use Rattle.rgo_code_text.specs.Pieces.{string_byte, AreBytes, IsInside, value_list, IsClosed, Fronts, NoneFronts}
-use Rattle.rgo_code_text.specs.Readers.{read_number, read_variable}
-use Rattle.rgo_code_printing.specs.Words.{byte_word, piece_word, string_word, variable_word}
-use Rattle.rgo_code_text.specs.Written.{IsSmall, PieceFits}
-use Rattle.rgo_code_text.proofs.Lacks.{Lacks, From, lacks_from, lettered_from}
-use Rattle.rgo_code_text.proofs.ListFacts.{rest_of, rest_same, flat_push, drop_here}
-use Rattle.rgo_code_text.proofs.Numerals.{number_back, number_sound}
+use Rattle.rgo_code_text.specs.Pieces.{string_byte, AreBytes, IsInside, value_list, Fronts, NoneFronts}
+use Rattle.rgo_code_text.specs.Readers.{read_variable}
+use Rattle.rgo_code_printing.specs.Words.{byte_word, string_word, variable_word}
+use Rattle.rgo_code_text.specs.Written.{IsSmall}
+use Rattle.rgo_code_text.proofs.Lacks.{Lacks, lacks_from, lettered_from}
+use Rattle.rgo_code_text.proofs.ListFacts.{rest_same, flat_push, drop_here}
+use Rattle.rgo_code_text.proofs.Numerals.{number_back}
 use Rattle.rgo_code_text.proofs.Options.{some_same, not_none}
 use Rattle.rgo_code_text.proofs.PieceBytes.{byte_back, byte_is}
 use Rattle.rgo_code_text.proofs.WordsBack.{lettered_back, lettered_is}

@@ -1,25 +1,24 @@
 -- Prints are read back: their last word follows the last space.
-use Rattle.std.proofs.Common.{◌≡◌, ◌≢◌, ◌⊎◌, inl, inr, ℕ, ◌+◌, ◌-◌, ◌<◌, ◌≤◌, ◌==◌, Bool, true, false, true≢false, List, [], ◌∷◌, ◌++◌, length, take, drop, get_or, Option, Some, None, refl, sym, ap, subst, ◌∙◌, arith, append_assoc, length-append, length-drop, get_or-drop, codes}
-use Rattle.std.specs.List.{All, position_or_len, before_first, join_with_byte}
-use Rattle.std.specs.Str.{bytes_eq}
+use Rattle.std.proofs.Common.{◌≡◌, ◌≢◌, ◌⊎◌, inl, inr, ℕ, ◌+◌, ◌-◌, ◌<◌, ◌==◌, false, true≢false, List, [], ◌∷◌, ◌++◌, length, take, drop, get_or, Some, None, refl, sym, ap, subst, ◌∙◌, arith, length-drop, get_or-drop, codes}
+use Rattle.std.specs.List.{position_or_len, before_first, join_with_byte}
 use Rattle.std.proofs.lemmas.Bool.Decides.{Decides-eqb}
-use Rattle.std.proofs.lemmas.List.{drop-drop, take_at, drop_at, drop_all, take-append-drop}
-use Rattle.std.proofs.lemmas.List.Elements.{All-head, All-tail, All-nil, All-from_get_or, All-append}
+use Rattle.std.proofs.lemmas.List.{take-append-drop}
+use Rattle.std.proofs.lemmas.List.Elements.{All-head, All-tail, All-nil, All-from_get_or}
 use Rattle.std.proofs.lemmas.List.Sums.{fails_before_first, passes_at_first}
 use Rattle.rgo_typed.specs.declared.statements.Piece.{Piece}
 use Rattle.rgo_code.specs.Code.{CodeOp, Do, Call, Go, Print, Jump, Branch, Return}
-use Rattle.rgo_code_text.specs.Cuts.{is_space, word_at}
+use Rattle.rgo_code_text.specs.Cuts.{is_space}
 use Rattle.rgo_code_text.specs.Items.{only, OpIsNamed}
 use Rattle.rgo_code_text.specs.Ops.{NamedOp, op_text, NamedOpFits, LastWord}
 use Rattle.rgo_code_text.specs.Pieces.{AreListed, ArePieces}
 use Rattle.rgo_code_text.specs.Readers.{read_regions, IsRead}
 use Rattle.rgo_code_printing.specs.Text.{op_words}
 use Rattle.rgo_code_printing.specs.Words.{listed, piece_words, in_one, removes_word}
-use Rattle.rgo_code_text.specs.Written.{OpFits, AreRegions, AreSmall, PieceFits, IsSmall}
+use Rattle.rgo_code_text.specs.Written.{OpFits, AreRegions, PieceFits, IsSmall}
 use Rattle.rgo_code_text.proofs.Cutting.{first_of_two, first_of_joined}
 use Rattle.rgo_code_text.proofs.Lacks.{Lacks, From, from_test, lacks_from}
 use Rattle.rgo_code_text.proofs.ListFacts.{drop_here}
-use Rattle.rgo_code_text.proofs.OpWords.{IsPrint, OpWorded, op_worded, removes_from}
+use Rattle.rgo_code_text.proofs.OpWords.{OpWorded, op_worded, removes_from}
 use Rattle.rgo_code_text.proofs.Options.{not_none, differ}
 use Rattle.rgo_code_text.proofs.WordsBack.{regions_back, regions_is}
 

@@ -1,6 +1,6 @@
 -- No two codes have one text, and a text is refused at the first line with which no text goes on.
-use Rattle.std.proofs.Common.{◌≡◌, ◌≢◌, ◌⊎◌, inl, inr, ℕ, ◌+◌, true≢false, List, [], ◌∷◌, ◌++◌, map, length, Option, Some, None, refl, sym, ap, subst, ◌∙◌, arith, append-nil, append_assoc, length-append}
-use Rattle.std.specs.List.{All, Contains, flat_map}
+use Rattle.std.proofs.Common.{◌≡◌, ◌⊎◌, inl, inr, ℕ, ◌+◌, List, [], ◌∷◌, ◌++◌, map, length, Option, Some, None, refl, sym, ap, subst, ◌∙◌, arith, append_assoc, length-append}
+use Rattle.std.specs.List.{All, Contains}
 use Rattle.std.specs.Option.{IsSome}
 use Rattle.std.proofs.lemmas.List.{map-append, length-map, get_or_at}
 use Rattle.std.proofs.lemmas.List.Elements.{All-nil, All-cons, All-head, All-tail, All-append}
@@ -10,20 +10,20 @@ use Rattle.rgo_code_text.specs.declared.places.Place.TheVariants.{First, Structs
 use Rattle.rgo_code_text.specs.declared.refusals.ReadError.{ReadError}
 use Rattle.rgo_code_text.specs.declared.refusals.ReadError.TheVariants as error
 use Rattle.rgo_code_text.specs.Building.{code_of}
-use Rattle.rgo_code_text.specs.Forms.{IsLine, ended, Begins, IsText, HasNoForm, EndsEarly, IsFirstWithoutForm}
-use Rattle.rgo_code_text.specs.Items.{Item, Head, Struct, Global, Function, Slot, Entry, Instr, End, ItemFits, item_kind, item_line, items_text, after, after_all}
+use Rattle.rgo_code_text.specs.Forms.{IsLine, ended, Begins, HasNoForm, EndsEarly, IsFirstWithoutForm}
+use Rattle.rgo_code_text.specs.Items.{Item, Head, Entry, End, ItemFits, item_kind, item_line, items_text, after, after_all}
 use Rattle.rgo_code_text.specs.Laws.{OneText}
-use Rattle.rgo_code_text.specs.Order.{Kind, after_kind, after_kinds, IsLast}
+use Rattle.rgo_code_text.specs.Order.{after_kinds, IsLast}
 use Rattle.rgo_code_text.specs.Readers.{on_some}
 use Rattle.rgo_code_printing.specs.Text.{text_of}
-use Rattle.rgo_code_text.specs.Walk.{AreItems, HasNoItem, Stops, Ends, StopsAt, StopsIn, Refuses}
+use Rattle.rgo_code_text.specs.Walk.{AreItems, Stops, Ends, StopsIn, Refuses}
 use Rattle.rgo_code_text.specs.Written.{IsWritten, AreRegions}
 use Rattle.rgo_code_text.proofs.LinesOfCode.{after_both}
-use Rattle.rgo_code_text.proofs.ListFacts.{front_all, back_all, flat_append}
-use Rattle.rgo_code_text.proofs.Making.{Made, made}
+use Rattle.rgo_code_text.proofs.ListFacts.{back_all, flat_append}
+use Rattle.rgo_code_text.proofs.Making.{made}
 use Rattle.rgo_code_text.proofs.NewLines.{line_lacks, is_line, lacks_newline, begins_with, first_line_is, texts_one, text_cons}
 use Rattle.rgo_code_text.proofs.Options.{some_same, not_none}
-use Rattle.rgo_code_text.proofs.Unmaking.{Lined, lined}
+use Rattle.rgo_code_text.proofs.Unmaking.{lined}
 
 -- ---- no two codes have one text
 

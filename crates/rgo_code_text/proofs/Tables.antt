@@ -1,8 +1,8 @@
 -- Names of one kind, by number: what is found of each, after one more.
-use Rattle.std.proofs.Common.{◌≡◌, ℕ, ◌<◌, ◌+◌, Bool, true, false, not, ◌||◌, nat_lt, if◌then◌else◌, List, [], ◌∷◌, ◌++◌, length, map, Option, Some, None, suc, refl, sym, ap, subst, ◌∙◌, true≢false, arith, take, drop, get_or, length-drop, ◌≤◌, ◌-◌, append-nil, append_assoc}
+use Rattle.std.proofs.Common.{◌≡◌, ℕ, ◌<◌, ◌+◌, Bool, true, false, not, ◌||◌, nat_lt, if◌then◌else◌, List, [], ◌∷◌, ◌++◌, length, Option, Some, None, suc, refl, sym, ap, ◌∙◌, true≢false, arith, take, drop, get_or, length-drop, ◌≤◌, ◌-◌, append-nil, append_assoc}
 use Rattle.std.specs.Bool.{Decides}
 use Rattle.std.proofs.lemmas.Bool.Decides.{Decides-ltb}
-use Rattle.std.specs.List.{flat_map, list_any, position_or_len}
+use Rattle.std.specs.List.{flat_map}
 use Rattle.std.specs.Option.{option_map, option_or, is_some, option_copied}
 use Rattle.std.specs.Str.{bytes_eq}
 use Rattle.std.proofs.lemmas.List.{map_push, take_more, get_or-drop, get_or-map}

@@ -1,5 +1,5 @@
 -- The text of code has lines that make the code again.
-use Rattle.std.proofs.Common.{◌≡◌, ℕ, ◌+◌, ◌<◌, List, [], ◌∷◌, ◌++◌, map, length, drop, get_or, Option, Some, None, IfSome, refl, sym, ap, subst, ◌∙◌, arith}
+use Rattle.std.proofs.Common.{◌≡◌, ℕ, ◌<◌, List, [], ◌∷◌, ◌++◌, map, length, drop, Option, Some, None, IfSome, refl, sym, ap, subst, ◌∙◌}
 use Rattle.std.specs.List.{All, flat_map}
 use Rattle.std.specs.Option.{option_map}
 use Rattle.std.proofs.lemmas.List.{map-append, drop_at}
@@ -12,15 +12,15 @@ use Rattle.rgo_typed.specs.declared.types.Type.{«Type»}
 use Rattle.rgo_code.specs.Code.{Slot as CodeSlot, CodeOp, CodeInstr, Code, Do, Call, Go, Print, Jump, Branch, Return}
 use Rattle.rgo_code_text.specs.declared.places.Place.{Place}
 use Rattle.rgo_code_text.specs.declared.places.Place.TheVariants.{First}
-use Rattle.rgo_code_text.specs.Building.{numbered, numbered_base, numbered_type, numbered_slot, numbered_op, numbered_action, numbered_instr, code_of, built, names_in, declared_in, declared_struct, declared_variable, declared_function, used_structs, used_variables, used_functions, type_names, base_names, slot_names, op_structs, op_variables, op_functions, with_names}
+use Rattle.rgo_code_text.specs.Building.{numbered, numbered_base, numbered_type, numbered_slot, numbered_op, numbered_action, code_of, built, names_in, declared_in, declared_struct, declared_variable, declared_function, used_structs, used_variables, used_functions, type_names, base_names, slot_names, op_structs, op_variables, op_functions, with_names}
 use Rattle.rgo_code_text.specs.CodeLines.{Line, Building, nothing, with_lines, lines_of, line_kind, LineFits, line_struct, line_variable, line_function, uses_structs, uses_variables, uses_functions}
 use Rattle.rgo_code_text.specs.CodeLines as line
-use Rattle.rgo_code_text.specs.Items.{NamedSlot, Item, Head, Struct, Global, Function, Slot, Entry, Instr, End, ItemFits, IsName, IsNamed, BaseFits, TypeFits, NamedSlotFits, ActionIsNamed, OpIsNamed, item_kind, items_text, after_all}
-use Rattle.rgo_code_text.specs.Order.{Kind, after_kinds, IsLast}
+use Rattle.rgo_code_text.specs.Items.{NamedSlot, Item, Head, Struct, Global, Function, Slot, Entry, Instr, End, ItemFits, IsName, BaseFits, TypeFits, NamedSlotFits, ActionIsNamed, OpIsNamed, item_kind, items_text, after_all}
+use Rattle.rgo_code_text.specs.Order.{after_kinds, IsLast}
 use Rattle.rgo_code_text.specs.Readers.{NamedType}
 use Rattle.rgo_code_printing.specs.Text.{Names, names_of, text_of}
 use Rattle.rgo_code_printing.specs.Words.{name_at}
-use Rattle.rgo_code_text.specs.Written.{unknown, AreNames, AreFirst, IsWritten, KindIsWritten, Uses, uses_of, number_of, base_uses, type_uses, result_uses, struct_in, variable_in, function_in, SlotFits, InstrFits, OpFits, ActionFits, IsInstruction, no_names}
+use Rattle.rgo_code_text.specs.Written.{unknown, AreNames, AreFirst, IsWritten, KindIsWritten, uses_of, number_of, base_uses, type_uses, result_uses, struct_in, variable_in, function_in, SlotFits, OpFits}
 use Rattle.rgo_code_text.proofs.Assembling.{code_again}
 use Rattle.rgo_code_text.proofs.Knowing.{names_are, all_flat}
 use Rattle.rgo_code_text.proofs.LinesOfCode.{structs_used, variables_used, functions_used, structs_declared, variables_declared, functions_declared, code_fits, code_ordered}

@@ -1,6 +1,6 @@
 -- Lines of a text, read one after the other.
 use Rattle.std.proofs.Common.{◌≡◌, ◌≢◌, inl, inr, ℕ, ◌+◌, ◌<◌, ◌≤◌, ◌==◌, true≢false, Bool, List, [], ◌∷◌, ◌++◌, length, take, drop, get_or, Option, Some, None, refl, sym, ap, subst, ◌∙◌, arith, append-nil, append_assoc, length-take, length-drop}
-use Rattle.std.specs.List.{All, flat_map, position_or_len, before_first, after_first}
+use Rattle.std.specs.List.{All, position_or_len, before_first, after_first}
 use Rattle.std.proofs.lemmas.Bool.Decides.{Decides-eqb}
 use Rattle.std.proofs.lemmas.List.{drop-drop, take_all, get_or-take, length_push}
 use Rattle.std.proofs.lemmas.List.Elements.{All-push}
@@ -8,8 +8,8 @@ use Rattle.std.proofs.lemmas.List.Sums.{split_at_first, passes_at_first, fails_b
 use Rattle.rgo_code_text.specs.declared.places.Place.{Place}
 use Rattle.rgo_code_text.specs.declared.places.Place.TheVariants.{First}
 use Rattle.rgo_code_text.specs.Forms.{IsLine}
-use Rattle.rgo_code_text.specs.Items.{Item, ItemFits, item_words, item_line, item_kind, after, after_all, items_text}
-use Rattle.rgo_code_text.specs.Order.{IsLast, after_kind, after_kinds}
+use Rattle.rgo_code_text.specs.Items.{Item, ItemFits, item_words, item_line, after, after_all, items_text}
+use Rattle.rgo_code_text.specs.Order.{IsLast}
 use Rattle.rgo_code_text.specs.Readers.{on_some}
 use Rattle.rgo_code_printing.specs.Text.{line}
 use Rattle.rgo_code_text.specs.Walk.{AreItems, HasNoItem, StepIs, StopsAt}

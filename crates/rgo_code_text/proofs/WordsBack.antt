@@ -1,8 +1,7 @@
 -- Words are read back, and nothing else is read.
-use Rattle.std.proofs.Common.{◌≡◌, ℕ, zero, suc, ◌+◌, ◌<◌, ◌≤◌, ◌^◌, ◌==◌, Bool, true, false, List, [], ◌∷◌, ◌++◌, map, length, Option, Some, None, IfSome, if◌then◌else◌, refl, sym, ap, subst, ◌∙◌, arith, codes, decimal}
+use Rattle.std.proofs.Common.{◌≡◌, ℕ, ◌<◌, ◌≤◌, ◌==◌, Bool, true, false, List, [], ◌∷◌, ◌++◌, map, length, Option, Some, None, if◌then◌else◌, refl, sym, ap, subst, ◌∙◌, arith, codes, decimal}
 use Rattle.std.specs.List.{All}
 use Rattle.std.specs.Option.{option_map}
-use Rattle.std.specs.Str.{bytes_eq}
 use Rattle.std.proofs.lemmas.Bool.Decides.{Decides-eqb}
 use Rattle.std.proofs.lemmas.List.Elements.{All-nil, All-cons, All-head, All-tail}
 use Rattle.rgo_ast.specs.declared.ops.BinaryOp.{BinaryOp}
@@ -14,10 +13,10 @@ use Rattle.rgo_code_printing.specs.Text.{value_word}
 use Rattle.rgo_code_printing.specs.Words.{variable_word, region_word, class_word, bool_word, operator_word, bracketed, listed, passes_word}
 use Rattle.rgo_code_text.specs.Written.{IsSmall, AreSmall, AreRegions, ClassFits, OperatorFits, ValueFits}
 use Rattle.rgo_code_text.proofs.Ascending.{ascending_is, ascending_back}
-use Rattle.rgo_code_text.proofs.Lacks.{Lacks, From, AllFrom, from_nil, from_test, from_both, from_cons, from_less, joined_from, lacks_from, lettered_from}
+use Rattle.rgo_code_text.proofs.Lacks.{From, AllFrom, from_nil, from_test, from_both, from_cons, from_less, joined_from, lacks_from, lettered_from}
 use Rattle.rgo_code_text.proofs.ListWords.{Reads, inside_back, inside_is, list_back, list_is}
 use Rattle.rgo_code_text.proofs.Numerals.{number_back, number_sound}
-use Rattle.rgo_code_text.proofs.Options.{some_same, not_none, under, mapped, either, by_word}
+use Rattle.rgo_code_text.proofs.Options.{some_same, not_none, under, mapped, by_word}
 
 -- ---- numbers after a letter
 

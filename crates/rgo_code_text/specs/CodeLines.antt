@@ -1,5 +1,5 @@
 -- Code, line by line, with the numbers of what its lines name.
-use Rattle.std.specs.Prelude.{ℕ, ◌+◌, List, [], ◌∷◌, ◌++◌, map, Option, Some, None, codes, decimal, ⊤, IfSome}
+use Rattle.std.specs.Prelude.{ℕ, ◌+◌, List, [], ◌∷◌, ◌++◌, map, Option, None, codes, decimal, ⊤, IfSome}
 use Rattle.std.specs.List.{flat_map}
 use Rattle.rgo_typed.specs.declared.programs.Struct.{Struct as StructType}
 use Rattle.rgo_typed.specs.declared.programs.Variable.{Variable}

@@ -1,5 +1,5 @@
 -- The first line of a text that has no form in its place.
-use Rattle.std.specs.Prelude.{◌≡◌, ◌≢◌, ◌⊎◌, ◌+◌, ℕ, List, [], ◌∷◌, ◌++◌, length, All, Contains}
+use Rattle.std.specs.Prelude.{◌≡◌, ◌⊎◌, ◌+◌, ℕ, List, [], ◌∷◌, ◌++◌, length, All, Contains}
 use Rattle.std.specs.List.{flat_map}
 use Rattle.rgo_code.specs.Code.{Code}
 use Rattle.rgo_code_printing.specs.Text.{text_of}

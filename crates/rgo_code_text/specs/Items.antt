@@ -1,12 +1,12 @@
 -- Lines of a code text by what they say, with names in place of numbers.
-use Rattle.std.specs.Prelude.{◌≡◌, ℕ, true, List, [], ◌∷◌, ◌++◌, map, Option, Some, None, All, IfSome, codes, decimal, ⊤}
+use Rattle.std.specs.Prelude.{◌≡◌, ℕ, true, List, [], ◌∷◌, map, Option, Some, None, All, IfSome, codes, decimal, ⊤}
 use Rattle.std.specs.List.{flat_map, join_with_byte}
 use Rattle.rgo_typed.specs.declared.actions.Action.{Action}
 use Rattle.rgo_typed.specs.declared.actions.Action.TheVariants as action
 use Rattle.rgo_typed.specs.declared.types.Base.{Base}
 use Rattle.rgo_typed.specs.declared.types.Base.TheVariants as base
 use Rattle.rgo_tac.specs.declared.regions.Class.{Class}
-use Rattle.rgo_code.specs.Code.{CodeOp, CodeInstr, Do, Call, Go, Print, Jump, Branch, Return}
+use Rattle.rgo_code.specs.Code.{CodeOp, CodeInstr, Do, Call, Go}
 use Rattle.rgo_code_text.specs.declared.places.Place.{Place}
 use Rattle.rgo_code_text.specs.Order.{Kind, OfHead, OfStruct, OfGlobal, OfFunction, OfSlot, OfEntry, OfInstr, OfEnd, after_kind, after_kinds}
 use Rattle.rgo_code_text.specs.Readers.{NamedType}

@@ -1,10 +1,10 @@
 -- Lines of a code text, as they are read.
-use Rattle.std.specs.Prelude.{ℕ, ◌==◌, Bool, true, false, ◌&&◌, ◌||◌, if◌then◌else◌, List, [], ◌∷◌, length, Option, Some, None, codes, ⊤}
+use Rattle.std.specs.Prelude.{ℕ, ◌==◌, ◌&&◌, if◌then◌else◌, List, [], length, Option, Some, None, codes, ⊤}
 use Rattle.std.specs.Option.{option_map}
-use Rattle.std.specs.List.{slice_split, before_first}
+use Rattle.std.specs.List.{slice_split}
 use Rattle.std.specs.Str.{bytes_eq}
-use Rattle.rgo_code_text.specs.Cuts.{is_space, cut, word_at}
-use Rattle.rgo_code_text.specs.Items.{NamedSlot, Item, Head, Struct, Global, Function, Slot, Entry, Instr, End, ItemFits}
+use Rattle.rgo_code_text.specs.Cuts.{is_space, word_at}
+use Rattle.rgo_code_text.specs.Items.{NamedSlot, Item, Struct, Global, Function, Slot, Entry, Instr, ItemFits}
 use Rattle.rgo_code_text.specs.Ops.{NamedOp}
 use Rattle.rgo_code_text.specs.Readers.{NamedType, on_some, read_class, read_each, read_number, read_regions, read_type}
 use Rattle.rgo_code_text.specs.Written.{is_name}

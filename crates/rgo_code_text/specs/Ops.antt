@@ -5,9 +5,9 @@ use Rattle.std.specs.List.{join_with_byte, position_or_len}
 use Rattle.std.specs.Str.{bytes_eq}
 use Rattle.rgo_tac.specs.Code as tac
 use Rattle.rgo_code.specs.declared.notes.Note.{Note}
-use Rattle.rgo_code.specs.Code.{CodeOp, Do, Call, Go, Print, Jump, Branch, Return}
+use Rattle.rgo_code.specs.Code.{CodeOp, Call, Go, Jump, Return}
 use Rattle.rgo_code.specs.Views.{code_op}
-use Rattle.rgo_code_text.specs.Actions.{NamedAction, read_action}
+use Rattle.rgo_code_text.specs.Actions.{read_action}
 use Rattle.rgo_code_text.specs.Cuts.{is_space, word_at}
 use Rattle.rgo_code_text.specs.Items.{only, OpIsNamed}
 use Rattle.rgo_code_text.specs.Readers.{on_some, read_number, read_lettered, read_variable, read_value, read_regions, read_passes, read_within, inside}

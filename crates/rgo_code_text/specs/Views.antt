@@ -1,5 +1,5 @@
 -- What the code's parts of lines are, as plain data.
-use Rattle.std.specs.Prelude.{ℕ, List, [], ◌∷◌, map, Option, Some, None}
+use Rattle.std.specs.Prelude.{ℕ, List, [], ◌∷◌, map}
 use Rattle.std.specs.Option.{option_map}
 use Rattle.std.specs.declared.alloc.Global.{Global as Memory}
 use Rattle.std.specs.declared.vec.Vec.{Vec}

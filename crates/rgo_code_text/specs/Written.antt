@@ -16,7 +16,7 @@ use Rattle.rgo_tac.specs.declared.regions.Class.{Class}
 use Rattle.rgo_tac.specs.declared.regions.Class.TheVariants as class
 use Rattle.rgo_code.specs.Code.{Slot, CodeOp, CodeInstr, CodeFn, Code, Do, Call, Go, Print, Jump, Branch, Return}
 use Rattle.rgo_code_printing.specs.Words.{name_at, value_count}
-use Rattle.rgo_code_printing.specs.Text.{Names, names_of, action_words}
+use Rattle.rgo_code_printing.specs.Text.{Names, action_words}
 
 -- ---- names
 

@@ -3,10 +3,9 @@ use Rattle.std.proofs.lemmas.List.{length_push}
 use Rattle.std.specs.List.{All}
 use Rattle.rgo_typed.specs.declared.statements.Piece.{Piece}
 use Rattle.rgo_tac.specs.declared.code.Instr.{Instr}
-use Rattle.rgo_tac.specs.Views.{op_of, body_of}
-use Rattle.rgo_code.specs.Code.{CodeFn, CodeInstr, CodeOp}
-use Rattle.rgo_code.specs.Views.{code_body, code_op}
-use Rattle.rgo_code.specs.declared.notes.Note.{Note}
+use Rattle.rgo_tac.specs.Views.{op_of}
+use Rattle.rgo_code.specs.Code.{CodeFn, CodeOp}
+use Rattle.rgo_code.specs.Views.{code_op}
 use Rattle.rgo_code_text.specs.Building.{names_now, numbered_op}
 use Rattle.rgo_code_text.specs.Opened.{open_of, ListsBelow}
 use Rattle.rgo_code_text.specs.Views.{named_op_of}

@@ -1,7 +1,5 @@
-use Rattle.std.proofs.Common.{◌≡◌, ◌∙◌, ◌++◌, ◌∷◌, [], sym, ap, List}
-use Rattle.rgo_typed.specs.declared.types.Type.{«Type»}
-use Rattle.rgo_tac.specs.declared.regions.Class.{Class}
-use Rattle.rgo_code.specs.Code.{CodeFn, Slot}
+use Rattle.std.proofs.Common.{◌≡◌, ◌∙◌, ◌++◌, ◌∷◌, [], ap}
+use Rattle.rgo_code.specs.Code.{CodeFn}
 use Rattle.rgo_code.specs.Views.{slot, slots}
 use Rattle.rgo_code_text.specs.Opened.{open_of}
 use Rattle.rgo_code_text.proofs.Opening.{slots_push}

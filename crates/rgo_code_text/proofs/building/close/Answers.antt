@@ -1,6 +1,6 @@
-use Rattle.std.proofs.Common.{◌≡◌, ◌∙◌, ◌++◌, ◌∷◌, [], sym, ap, List}
+use Rattle.std.proofs.Common.{◌≡◌, ◌∙◌, ◌++◌, ◌∷◌, [], ap}
 use Rattle.rgo_code.specs.Code.{CodeFn}
-use Rattle.rgo_code.specs.Views.{code_fn, code_fns}
+use Rattle.rgo_code.specs.Views.{code_fns}
 use Rattle.rgo_code_text.specs.CodeLines.{Building, no_function}
 use Rattle.rgo_code_text.specs.Opened.{open_of, building_of}
 use Rattle.rgo_code_text.proofs.Opening.{fns_push}

@@ -1,11 +1,9 @@
-use Rattle.std.proofs.Common.{◌≡◌, ◌∙◌, sym, ap, subst, map, drop, length, List, ℕ}
+use Rattle.std.proofs.Common.{◌≡◌, ◌∙◌, sym, ap, subst, map, drop, List}
 use Rattle.std.specs.List.{All}
-use Rattle.rgo_typed.specs.declared.programs.Struct.{Struct}
-use Rattle.rgo_typed.specs.declared.programs.Variable.{Variable}
 use Rattle.rgo_tac.specs.Code.{Tac, TacFn}
 use Rattle.rgo_code.specs.declared.code.Undeclared.{Undeclared}
 use Rattle.rgo_code.specs.Views.{code_fns}
-use Rattle.rgo_code_text.specs.Building.{built, names_now, names_in, declared_in, numbered}
+use Rattle.rgo_code_text.specs.Building.{built, names_now, declared_in, numbered}
 use Rattle.rgo_code_text.specs.CodeLines.{Building, nothing, with_lines}
 use Rattle.rgo_code_printing.specs.Text.{Names}
 use Rattle.rgo_code_text.specs.Views.{item_of}

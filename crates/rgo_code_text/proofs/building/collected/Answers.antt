@@ -1,10 +1,9 @@
-use Rattle.std.proofs.Common.{◌≡◌, ◌∙◌, ◌++◌, ◌∷◌, [], sym, ap, map, map-id, rules}
+use Rattle.std.proofs.Common.{◌∙◌, sym, ap, map, map-id, rules}
 use Rattle.std.proofs.lemmas.Iterator.Adapters.{YieldsList-from_vec}
 use Rattle.std.proofs.lemmas.Iterator.Consumers.{YieldsList-end}
 use Rattle.std.proofs.lemmas.List.{map_push}
 use Rattle.rgo_code_text.specs.Building.{names_now, numbered}
-use Rattle.rgo_code_text.specs.CodeLines.{Line, nothing, with_line, with_lines}
-use Rattle.rgo_code_text.specs.Opened.{building_of}
+use Rattle.rgo_code_text.specs.CodeLines.{nothing, with_line, with_lines}
 use Rattle.rgo_code_text.specs.Views.{item_of}
 use Rattle.rgo_code_text.proofs.Opening.{lines_push}
 use Rattle.rgo_code_text.proofs.building.collected.Goals as goal

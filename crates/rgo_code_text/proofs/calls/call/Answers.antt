@@ -1,14 +1,13 @@
-use Rattle.std.proofs.Common.{◌≡◌, ◌==◌, Bool, true, ℕ, List, [], ◌∷◌, length, Option, Some, None, sym, ap, ◌∙◌, refl}
+use Rattle.std.proofs.Common.{◌≡◌, ◌==◌, true, ℕ, List, [], ◌∷◌, length, Some, None, sym, ap, ◌∙◌, refl}
 use Rattle.std.specs.Option.{option_map}
 use Rattle.std.proofs.lemmas.Bool.Decides.{Decides-eqb}
 use Rattle.std.proofs.lemmas.List.{length-map}
-use Rattle.rgo_tac.specs.declared.regions.Class.{Class}
 use Rattle.rgo_tac.specs.Code as tac
 use Rattle.rgo_code.specs.Code.{Call}
 use Rattle.rgo_code.specs.Views.{code_op}
 use Rattle.rgo_code.specs.declared.notes.Note.{Note}
 use Rattle.rgo_code_text.specs.Cuts.{nows, word_at}
-use Rattle.rgo_code_text.specs.Ops.{Callee, NamedOp, read_callee, removing}
+use Rattle.rgo_code_text.specs.Ops.{read_callee}
 use Rattle.rgo_code_text.specs.Readers.{read_value, read_passes, read_regions}
 use Rattle.rgo_code_text.specs.Views.{callee_of}
 use Rattle.rgo_code_text.proofs.calls.call.Goals as goal

@@ -1,11 +1,11 @@
-use Rattle.std.proofs.Common.{◌≡◌, ◌==◌, Bool, true, ℕ, List, [], ◌∷◌, length, Option, Some, None, sym, ap, ◌∙◌, refl}
+use Rattle.std.proofs.Common.{◌≡◌, ◌==◌, true, ℕ, List, length, Some, None, sym, ap, ◌∙◌, refl}
 use Rattle.std.specs.Option.{option_map}
 use Rattle.std.proofs.lemmas.Bool.Decides.{Decides-eqb}
 use Rattle.std.proofs.lemmas.List.{length-map}
 use Rattle.rgo_code.specs.Code.{Go}
 use Rattle.rgo_code.specs.declared.notes.Note.{Note}
 use Rattle.rgo_code_text.specs.Cuts.{nows, word_at}
-use Rattle.rgo_code_text.specs.Ops.{Callee, read_callee}
+use Rattle.rgo_code_text.specs.Ops.{read_callee}
 use Rattle.rgo_code_text.specs.Readers.{read_passes, read_regions}
 use Rattle.rgo_code_text.specs.Views.{callee_of}
 use Rattle.rgo_code_text.proofs.calls.go.Goals as goal

@@ -1,4 +1,4 @@
-use Rattle.std.proofs.Common.{◌≡◌, ◌≤◌, ◌<◌, ◌-◌, ◌+◌, List, ℕ, length, take, drop, arith, length-drop, ap, ◌∙◌, sym, refl}
+use Rattle.std.proofs.Common.{◌≡◌, ◌<◌, ◌-◌, List, ℕ, length, take, drop, arith, length-drop, ap, ◌∙◌, sym, refl}
 use Rattle.std.proofs.lemmas.List.{take_all}
 use Rattle.rgo_code_text.proofs.Cutting.{cut_ends, cut_goes_on}
 use Rattle.rgo_code_text.proofs.cuts.cut.Goals as goal

@@ -1,10 +1,10 @@
-use Rattle.std.proofs.Common.{◌≡◌, ℕ, List, length, Option, Some, None, sym, ap, ◌∙◌, subst, rules}
+use Rattle.std.proofs.Common.{◌≡◌, length, Some, None, sym, ap, ◌∙◌, subst, rules}
 use Rattle.std.specs.Option.{option_map}
 use Rattle.std.proofs.lemmas.List.{length-map}
 use Rattle.rgo_code_text.specs.Cuts.{cut, nows, word_at}
-use Rattle.rgo_code_text.specs.Items.{Item, item_line}
-use Rattle.rgo_code_text.specs.Lines.{instr_with, InstrFits}
-use Rattle.rgo_code_text.specs.Ops.{NamedOp, op_text, NamedOpFits}
+use Rattle.rgo_code_text.specs.Items.{item_line}
+use Rattle.rgo_code_text.specs.Lines.{InstrFits}
+use Rattle.rgo_code_text.specs.Ops.{op_text, NamedOpFits}
 use Rattle.rgo_code_text.specs.Readers.{IsRead, read_number, read_lettered, read_regions}
 use Rattle.rgo_code_text.specs.Views.{named_op_of}
 use Rattle.rgo_code_text.proofs.Instrs.{wrong_count, wrong_index, wrong_place, wrong_creates, wrong_op, instr_is}

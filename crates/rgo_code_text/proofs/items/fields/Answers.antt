@@ -1,4 +1,4 @@
-use Rattle.std.proofs.Common.{◌≡◌, ◌≤◌, ◌-◌, ◌+◌, List, ℕ, map, length, take, drop, arith, length-drop, ap, ◌∙◌}
+use Rattle.std.proofs.Common.{◌-◌, map, length, take, drop, arith, length-drop, ap, ◌∙◌}
 use Rattle.std.specs.Option.{option_map}
 use Rattle.std.proofs.lemmas.List.{map_push}
 use Rattle.rgo_code_text.specs.Readers.{read_type}

@@ -1,13 +1,13 @@
-use Rattle.std.proofs.Common.{◌≡◌, ℕ, List, take, Option, sym, ap, ◌∙◌, subst, codes}
+use Rattle.std.proofs.Common.{◌≡◌, take, Option, sym, ap, ◌∙◌, subst, codes}
 use Rattle.std.specs.Option.{option_map}
 use Rattle.std.proofs.lemmas.Slice.Eq.{bytes_eq-Decides}
 use Rattle.rgo_code_text.specs.declared.items.Item.{Item as CodeItem}
 use Rattle.rgo_code_text.specs.Cuts.{cut}
-use Rattle.rgo_code_text.specs.Items.{Item, ItemFits, item_line}
+use Rattle.rgo_code_text.specs.Items.{ItemFits, item_line}
 use Rattle.rgo_code_text.specs.Lines.{struct_of, global_of, function_of, slot_of, entry_of}
 use Rattle.rgo_code_text.specs.Readers.{IsRead}
 use Rattle.rgo_code_text.specs.Views.{item_of}
-use Rattle.rgo_code_text.proofs.LinesBack.{struct_read, global_read, function_read, slot_read, entry_read, instr_read}
+use Rattle.rgo_code_text.proofs.LinesBack.{struct_read, global_read, function_read, slot_read, entry_read}
 use Rattle.rgo_code_text.proofs.Options.{if_ok}
 use Rattle.rgo_code_text.proofs.items.read_item.Goals as goal
 

@@ -1,4 +1,3 @@
-use Rattle.std.proofs.Common.{◌≡◌, ◌-◌, arith}
 use Rattle.rgo_code_text.proofs.Ascending.{ascends, falls, all_ascend}
 use Rattle.rgo_code_text.proofs.lists.is_ascending.Goals as goal
 

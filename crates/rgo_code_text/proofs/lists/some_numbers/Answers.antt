@@ -1,4 +1,4 @@
-use Rattle.std.proofs.Common.{◌≡◌, ◌≤◌, ◌-◌, ◌+◌, List, ℕ, length, take, drop, arith, length-drop, ap, ◌∙◌, sym}
+use Rattle.std.proofs.Common.{◌≡◌, ◌-◌, List, ℕ, length, take, drop, arith, length-drop, ap, ◌∙◌}
 use Rattle.std.proofs.lemmas.List.{take_all}
 use Rattle.rgo_code_text.specs.Readers.{read_lettered}
 use Rattle.rgo_code_text.proofs.Listing.{list_none, list_last, list_more}

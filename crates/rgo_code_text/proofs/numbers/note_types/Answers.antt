@@ -1,8 +1,7 @@
-use Rattle.std.proofs.Common.{◌≡◌, ◌∙◌, ◌+◌, ◌∷◌, sym, ap, map, drop, List}
+use Rattle.std.proofs.Common.{◌∙◌, ◌+◌, ◌∷◌, sym, ap, map, drop, List}
 use Rattle.std.specs.List.{flat_map}
 use Rattle.std.proofs.lemmas.List.{at_drop_more}
 use Rattle.rgo_code_text.specs.Building.{names_now, with_structs, type_names}
-use Rattle.rgo_code_text.specs.Readers.{NamedType}
 use Rattle.rgo_code_text.specs.Views.{named_type_of}
 use Rattle.rgo_code_text.specs.declared.types.NamedType.{NamedType as CodeType}
 use Rattle.rgo_code_text.proofs.Tables.{structs_append}

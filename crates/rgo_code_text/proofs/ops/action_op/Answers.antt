@@ -1,8 +1,7 @@
-use Rattle.std.proofs.Common.{◌≡◌, ℕ, List, [], ◌∷◌, sym, ap, ◌∙◌}
+use Rattle.std.proofs.Common.{◌≡◌, ℕ, List, [], ◌∷◌, ap, ◌∙◌}
 use Rattle.rgo_code.specs.Views.{code_op}
 use Rattle.rgo_code.specs.declared.notes.Note.{Note}
 use Rattle.rgo_typed.specs.declared.statements.Piece.{Piece}
-use Rattle.rgo_tac.specs.Code.{Op}
 use Rattle.rgo_tac.specs.Views.{op_of}
 use Rattle.rgo_tac.specs.declared.code.Instr.{Instr}
 use Rattle.rgo_code_text.specs.Ops.{NamedOp, removing}

@@ -1,12 +1,12 @@
-use Rattle.std.proofs.Common.{◌≡◌, ℕ, List, Option, sym, ap, ◌∙◌, subst}
+use Rattle.std.proofs.Common.{◌≡◌, Option, sym, ap, ◌∙◌, subst}
 use Rattle.std.specs.Option.{option_map}
-use Rattle.rgo_code_text.specs.Cuts.{nows, cut}
-use Rattle.rgo_code_text.specs.Ops.{NamedOp, read_op, op_text, NamedOpFits}
+use Rattle.rgo_code_text.specs.Cuts.{nows}
+use Rattle.rgo_code_text.specs.Ops.{read_op, op_text, NamedOpFits}
 use Rattle.rgo_code_text.specs.Readers.{IsRead}
 use Rattle.rgo_code_text.specs.Views.{named_op_of}
 use Rattle.rgo_code_text.specs.declared.ops.NamedOp.{NamedOp as CodeNamedOp}
 use Rattle.rgo_code_text.proofs.Options.{if_ok}
-use Rattle.rgo_code_text.proofs.OpTexts.{text_read, op_one}
+use Rattle.rgo_code_text.proofs.OpTexts.{text_read}
 use Rattle.rgo_code_text.proofs.ops.named_op.Goals as goal
 
 pub returns : goal.returns

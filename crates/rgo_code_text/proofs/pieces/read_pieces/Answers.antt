@@ -1,7 +1,6 @@
-use Rattle.std.proofs.Common.{◌≡◌, ◌≢◌, ℕ, ◌+◌, ◌-◌, ◌<◌, ◌≤◌, List, [], ◌∷◌, ◌++◌, length, take, drop, get_or, refl, sym, ap, ◌∙◌, subst, arith, length-drop, get_or-drop}
+use Rattle.std.proofs.Common.{◌≡◌, ℕ, ◌+◌, ◌<◌, List, [], ◌∷◌, ◌++◌, length, drop, get_or, refl, sym, ap, ◌∙◌, subst, arith, length-drop}
 use Rattle.std.proofs.lemmas.List.{drop-drop, drop_all}
-use Rattle.rgo_code_text.specs.Pieces.{Fronts, NoneFronts, AreListed, value_list}
-use Rattle.rgo_typed.specs.declared.statements.Piece.{Piece}
+use Rattle.rgo_code_text.specs.Pieces.{Fronts, NoneFronts, AreListed}
 use Rattle.rgo_code_text.proofs.ListFacts.{rest_of, drop_here}
 use Rattle.rgo_code_text.proofs.PieceLists.{Leads, leads_none, leads_end, leads_wrong, leads_more}
 use Rattle.rgo_code_text.proofs.pieces.read_pieces.Goals as goal

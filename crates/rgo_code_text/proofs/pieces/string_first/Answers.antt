@@ -1,4 +1,4 @@
-use Rattle.std.proofs.Common.{◌≡◌, ℕ, sym, ◌∙◌, subst}
+use Rattle.std.proofs.Common.{sym, ◌∙◌, subst}
 use Rattle.rgo_code_text.specs.Pieces.{IsInside}
 use Rattle.rgo_code_text.proofs.ListFacts.{rest_of}
 use Rattle.rgo_code_text.proofs.PieceFronts.{string_fronts, string_none}

@@ -1,4 +1,4 @@
-use Rattle.std.proofs.Common.{◌≡◌, ◌-◌, ◌+◌, ◌<◌, ℕ, length, take, drop, length-drop, arith, sym, ap, ◌∙◌, subst}
+use Rattle.std.proofs.Common.{◌-◌, length, take, drop, length-drop, arith, sym, ap, ◌∙◌}
 use Rattle.rgo_code_text.specs.Pieces.{string_byte}
 use Rattle.rgo_code_text.proofs.ListFacts.{rest_of}
 use Rattle.rgo_code_text.proofs.PieceFronts.{inside_more, byte_some}

@@ -1,4 +1,4 @@
-use Rattle.std.proofs.Common.{◌≡◌, ℕ, sym, ◌∙◌}
+use Rattle.std.proofs.Common.{sym, ◌∙◌}
 use Rattle.rgo_code_text.proofs.PieceFronts.{variable_fronts, variable_none}
 use Rattle.rgo_code_text.proofs.pieces.variable_first.Goals as goal
 

@@ -1,4 +1,4 @@
-use Rattle.std.proofs.Common.{◌≡◌, ◌⊎◌, inl, inr, ℕ, ◌+◌, ◌-◌, ◌<◌, ◌≤◌, List, [], ◌∷◌, ◌++◌, length, take, drop, sym, ap, ◌∙◌, arith, length-drop}
+use Rattle.std.proofs.Common.{inr, ◌-◌, ◌<◌, length, take, drop, ap, arith, length-drop}
 use Rattle.rgo_code_text.proofs.ListFacts.{rest_of}
 use Rattle.rgo_code_text.proofs.PrintWords.{space_here}
 use Rattle.rgo_code_text.proofs.prints.last_word.Goals as goal

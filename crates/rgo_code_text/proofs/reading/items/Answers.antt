@@ -1,4 +1,4 @@
-use Rattle.std.proofs.Common.{◌≡◌, ◌+◌, ◌-◌, ℕ, List, map, length, take, drop, Option, Some, None, true≢false, sym, ap, ◌∙◌, subst, arith}
+use Rattle.std.proofs.Common.{◌-◌, map, length, take, drop, Option, true≢false, sym, ap, ◌∙◌, subst}
 use Rattle.std.specs.Option.{option_map}
 use Rattle.std.proofs.lemmas.List.{map_push}
 use Rattle.rgo_code_text.specs.declared.items.Item.{Item as CodeItem}
@@ -6,7 +6,7 @@ use Rattle.rgo_code_text.specs.declared.places.Place.{Place}
 use Rattle.rgo_code_text.specs.Views.{item_of}
 use Rattle.rgo_code_text.specs.Walk.{StepIs}
 use Rattle.rgo_code_text.proofs.ListFacts.{rest_of}
-use Rattle.rgo_code_text.proofs.Walking.{ends_here, stops_here, all_read, goes_on}
+use Rattle.rgo_code_text.proofs.Walking.{ends_here, stops_here, goes_on}
 use Rattle.rgo_code_text.proofs.reading.items.Goals as goal
 use Rattle.rgo_code_text.proofs.reading.items.Goals.{else-len-eq0-via-then-len-eq0+else-is_last, else-len-eq0-via-else-len-eq0}
 

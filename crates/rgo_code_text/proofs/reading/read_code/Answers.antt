@@ -1,4 +1,4 @@
-use Rattle.std.proofs.Common.{◌≡◌, ◌∙◌, sym, ap, subst, map, List}
+use Rattle.std.proofs.Common.{◌≡◌, sym, subst, map}
 use Rattle.rgo_code.specs.Code.{Code}
 use Rattle.rgo_code_text.specs.Building.{code_of}
 use Rattle.rgo_code_printing.specs.Text.{text_of}

@@ -1,6 +1,6 @@
-use Rattle.std.proofs.Common.{◌≡◌, Option, Some, None, true≢false, sym, ap, ◌∙◌, subst}
+use Rattle.std.proofs.Common.{◌≡◌, Some, None, true≢false, sym, ap, ◌∙◌, subst}
 use Rattle.std.specs.Option.{option_map, IsSome}
-use Rattle.rgo_code_text.specs.Items.{Item, ItemFits, item_line, after}
+use Rattle.rgo_code_text.specs.Items.{ItemFits, item_line, after}
 use Rattle.rgo_code_text.specs.Readers.{IsRead}
 use Rattle.rgo_code_text.specs.Views.{item_of}
 use Rattle.rgo_code_text.proofs.ItemsOne.{items_one}

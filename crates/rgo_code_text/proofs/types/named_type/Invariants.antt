@@ -1,5 +1,5 @@
 use Rattle.std.proofs.Common.{◌≡◌, ◌≤◌, ◌-◌, length, drop}
-use Rattle.rgo_code_text.specs.Readers.{type_after, read_type}
+use Rattle.rgo_code_text.specs.Readers.{read_type}
 use Rattle.rgo_code_text.proofs.TypeSteps.{with_layers}
 use Rattle.rgo_code_text.proofs.types.named_type.Given as goal
 

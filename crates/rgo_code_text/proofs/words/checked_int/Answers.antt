@@ -1,4 +1,4 @@
-use Rattle.std.proofs.Common.{◌≡◌, Some, None, Option, ℤ, rules, sym, ap, ◌∙◌, FitsSigned, w64}
+use Rattle.std.proofs.Common.{rules, sym, ◌∙◌, FitsSigned, w64}
 use Rattle.std.proofs.lemmas.Int.{to_z-of_z}
 use Rattle.rgo_code_text.proofs.Integers.{int_here, int_elsewhere, int_nowhere, fits_int}
 use Rattle.rgo_code_text.proofs.words.checked_int.Goals as goal

@@ -1,6 +1,6 @@
-use Rattle.std.proofs.Common.{◌≡◌, ℤ, Option, Some, sym, ap, ◌∙◌, rules, FitsSigned, w64}
+use Rattle.std.proofs.Common.{Some, ap, ◌∙◌, rules, FitsSigned, w64}
 use Rattle.std.proofs.lemmas.Int.{to_z-of_z}
-use Rattle.rgo_code_text.proofs.Integers.{int_parsed, int_fits}
+use Rattle.rgo_code_text.proofs.Integers.{int_parsed}
 use Rattle.rgo_code_text.proofs.words.parsed_int.Goals as goal
 
 pub returns-in-Ok : goal.returns-in-Ok

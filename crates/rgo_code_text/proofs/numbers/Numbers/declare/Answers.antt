@@ -1,5 +1,5 @@
-use Rattle.std.proofs.Common.{◌≡◌, ◌∙◌, ◌++◌, ◌∷◌, [], sym, ap, subst, arith, Some, length, not, false, true}
-use Rattle.std.specs.Option.{is_some, option_copied}
+use Rattle.std.proofs.Common.{◌∙◌, ◌++◌, ◌∷◌, [], sym, ap, subst, arith, Some, not}
+use Rattle.std.specs.Option.{is_some}
 use Rattle.indexmap.specs.IndexMap.{get_by, UpdatesBy}
 use Rattle.std.specs.Str.{bytes_eq}
 use Rattle.rgo_code_text.specs.Cuts.{nows}

@@ -1,10 +1,10 @@
-use Rattle.std.proofs.Common.{◌≡◌, ◌∙◌, ◌++◌, ◌∷◌, [], sym, ap, subst, arith, Some, not, true, false, refl, List, ℕ, if◌then◌else◌}
+use Rattle.std.proofs.Common.{◌∙◌, ◌++◌, ◌∷◌, [], sym, ap, subst, arith, Some, not}
 use Rattle.std.specs.Option.{is_some}
-use Rattle.indexmap.specs.IndexMap.{get_by, UpdatesBy}
+use Rattle.indexmap.specs.IndexMap.{UpdatesBy}
 use Rattle.std.specs.Str.{bytes_eq}
 use Rattle.rgo_code_text.specs.Cuts.{nows}
 use Rattle.rgo_code_text.specs.Numbers.{first_of}
-use Rattle.rgo_code_text.proofs.Tables.{finds_added, nows_push, nows_length, among_first, copied_some, with_new, with_known}
+use Rattle.rgo_code_text.proofs.Tables.{finds_added, nows_push, nows_length, copied_some, with_new, with_known}
 use Rattle.rgo_code_text.proofs.numbers.Numbers.note.Goals as goal
 
 pub invariant_of-self-then-is_none : goal.invariant_of-self-then-is_none
