@@ -28,6 +28,34 @@ def main(variables, *instructions):
     return "".join(line + "\n" for line in [*lines, "end"]).encode()
 
 
+# Programs of other tests, each after HEADER.
+HEADER = 'package main\nimport "fmt"\ntype N struct { v int; p *N }\n'
+LISTS = """func list(n int) *N { var l *N; for i := 0; i < n; i++ { l = &N{i, l} }; return l }
+func sum(l *N) int { s := 0; for l != nil { s += l.v; l = l.p }; return s }
+"""
+PROGRAMS = [
+    'func main() { fmt.Println("hi", 1, true) }',
+    LISTS + "func main() { s := 0; for i := 0; i < 1000; i++ { s += sum(list(10)) }; fmt.Println(s) }",
+    "func f(a, b *N) int { s := a.v; return s + b.v }\nfunc main() { x := &N{21, nil}; fmt.Println(f(x, x)) }",
+    "func f(a *N) *N { return &N{a.v + 1, nil} }\nfunc main() { x := &N{1, nil}; x = f(x); fmt.Println(x.v) }",
+    "func main() { s := make([]int, 3); fmt.Println(s[3]) }",
+    "var head *N\nfunc main() { for i := 0; i < 100; i++ { fmt.Println(i); head = &N{i, head} } }",
+    "func echo(a, b chan int) { for i := 0; i < 5; i++ { b <- <-a + 1 } }\n"
+    "func main() { a := make(chan int); b := make(chan int); go echo(a, b); a <- 10; fmt.Println(<-b) }",
+    "func prod(c chan int) { for i := 0; i < 100; i++ { c <- i }; close(c) }\n"
+    "func main() { c := make(chan int, 2); go prod(c); s := 0; for i := 0; i < 100; i++ { s += <-c }; fmt.Println(s) }",
+    LISTS + "func child(l *N, d chan int) { fmt.Println(sum(l)); d <- 1 }\n"
+    "func main() { d := make(chan int); l := list(4); go child(l, d); <-d }",
+    "func f(a, b *N, d chan int) { s := a.v; d <- s + b.v }\n"
+    "func main() { x := &N{21, nil}; d := make(chan int); go f(x, x, d); fmt.Println(<-d) }",
+    "func g(c chan int) { c <- 1 }\nfunc main() { var c chan int; go g(c); <-c }",
+    "func main() { c := make(chan int, 2); c <- 7; close(c); fmt.Println(<-c, <-c); c <- 1 }",
+    "func g() { for { fmt.Println(1) } }\nfunc main() { go g() }",
+    "func main() { x := &N{1, nil}; y := &N{2, nil}; fmt.Println(x.v + y.v) }",
+    "func f() { f() }\nfunc main() { f() }",
+    "func main() { x := " + "(" * 198 + "1" + ")" * 198 + " }",
+]
+
 # Texts with what is reported of them, worked out by hand.
 BY_HAND = [
     (b"", "line 1: code text"),
@@ -281,9 +309,11 @@ class WithTheProgram(unittest.TestCase):
     def test_what_is_emitted_keeps_all_rules(self):
         self.need("emit", (TEXTS / "field.go").read_bytes())
         self.need("code", (TEXTS / "field.code").read_bytes())
-        for path in sorted([*TEXTS.glob("*.go"), *(TOP / "examples").glob("*.go")]):
-            with self.subTest(path.name):
-                text = self.command("emit", path.read_bytes())[1]
+        files = [path.read_bytes() for path in sorted([*TEXTS.glob("*.go"), *(TOP / "examples").glob("*.go")])]
+        for program in [*files, *((HEADER + text + "\n").encode() for text in PROGRAMS)]:
+            with self.subTest(program=program):
+                status, text, _ = self.command("emit", program)
+                self.assertEqual(0, status)
                 self.assertEqual((0, b"", ""), self.command("code", text))
 
     def test_the_examples_have_the_regions_that_the_producer_finds(self):
