@@ -1,0 +1,33 @@
+-- What a run has made and done.
+use Rattle.std.specs.Prelude.{ℕ, ◌+◌, Bool, List, length, sum_by, count_by, nat_eq, if◌then◌else◌}
+use Rattle.rgo_region_machine.specs.Regions.{RegionInfo}
+use Rattle.rgo_region_machine.specs.States.{RegionState}
+
+pub record Counts : Type 0 where
+  -- regions
+  pub made : ℕ
+  pub removed : ℕ
+  -- pages, and those of regions that were removed
+  pub taken : ℕ
+  pub returned : ℕ
+  pub steps : ℕ
+  pub objects : ℕ
+  -- `main` included
+  pub goroutines : ℕ
+
+abbrev pub is_removed : RegionInfo → Bool
+is_removed info = nat_eq info.stakes 0
+
+abbrev pub pages_if_removed : RegionInfo → ℕ
+pages_if_removed info = if is_removed info then info.pages else 0
+
+abbrev pub counts_of : RegionState → Counts
+counts_of s = record {
+  made = length s.regions;
+  removed = count_by is_removed s.regions;
+  taken = s.global_pages + sum_by (λ info. info.pages) s.regions;
+  returned = sum_by pages_if_removed s.regions;
+  steps = s.steps;
+  objects = length s.plain.memory.heap;
+  goroutines = length s.plain.goroutines;
+}

@@ -1,0 +1,9 @@
+pub mod Counts
+pub mod Duties
+pub mod Instructions
+pub mod Machine
+pub mod Objects
+pub mod Offers
+pub mod Owed
+pub mod Regions
+pub mod States

@@ -1,0 +1,126 @@
+-- The region machine: three-address code that runs with its regions. One event is one instruction, two that meet, or one
+-- step with a region. There is no event that touches a region which is not live.
+use Rattle.std.specs.Prelude.{ℕ, ◌+◌, ◌&&◌, List, [], ◌∷◌, Option, Some, None}
+use Rattle.std.specs.Prelude.{slice_get, option_and_then, if◌then◌else◌}
+use Rattle.rgo_memory.specs.Memory.{Object}
+use Rattle.rgo_machine.specs.declared.picks.Pick.{Pick}
+use Rattle.rgo_machine.specs.declared.picks.Pick.TheVariants.{One}
+use Rattle.rgo_machine.specs.Runs.{run}
+use Rattle.rgo_tac.specs.declared.regions.Class.TheVariants.{NoClass}
+use Rattle.rgo_tac.specs.Frames.{Frame}
+use Rattle.rgo_tac.specs.Tac.{TacState, tac_start, tac_step}
+use Rattle.rgo_code.specs.Code.{CodeInstr, Code}
+use Rattle.rgo_code.specs.Erasure.{erased}
+use Rattle.rgo_region_machine.specs.declared.limits.Limit.{Limit}
+use Rattle.rgo_region_machine.specs.declared.regions.Region.{Region}
+use Rattle.rgo_region_machine.specs.declared.regions.Region.TheVariants.{Global as GlobalRegion, Numbered}
+use Rattle.rgo_region_machine.specs.Duties.{attended, may_go, attend}
+use Rattle.rgo_region_machine.specs.Instructions.{has_none, instruct}
+use Rattle.rgo_region_machine.specs.Objects.{making_region, new_object, wants_page, fill_of, with_fill}
+use Rattle.rgo_region_machine.specs.Offers.{make_offer, acknowledge}
+use Rattle.rgo_region_machine.specs.Owed.{function_at, current, next_duties}
+use Rattle.rgo_region_machine.specs.Regions.{is_live, with_info, one_page_more}
+use Rattle.rgo_region_machine.specs.States.{Holder, NoOffer, Mark, Stopped, RegionState, frames_of, environment_of, top_names}
+
+-- Goroutines are given by their numbers.
+pub data Event : Type 0 where
+  -- an instruction, or two that meet
+  Instruct : Pick → Event
+  -- the first of a goroutine's duties
+  Attend : (goroutine : ℕ) → Event
+  TakePage : (goroutine : ℕ) → Event
+  MakeOffer : (goroutine : ℕ) → Event
+  Acknowledge : (goroutine : ℕ) → Event
+  -- an end that is no instruction's
+  Finish : Limit → Event
+
+-- the step of the three-address machine
+abbrev pub plain_step : Code → TacState → Pick → Option TacState
+plain_step code p pick = tac_step (erased code) p pick
+
+-- ---- pages
+
+-- a page more in a region, which the goroutine fills from its beginning
+abbrev pub page_taken : RegionState → ℕ → Holder → Region → RegionState
+page_taken s g h GlobalRegion = record (attended s g (record h { fills = with_fill h.fills GlobalRegion 0 })) {
+  global_pages = s.global_pages + 1;
+}
+page_taken s g h (Numbered r) = record (attended s g (record h { fills = with_fill h.fills (Numbered r) 0 })) {
+  regions = with_info s.regions r one_page_more;
+}
+
+abbrev pub object_made : RegionState → Option TacState → Option Object
+object_made s None = None
+object_made s (Some next) = new_object s.plain next
+
+-- the object that a goroutine's next instruction makes
+abbrev pub next_object : Code → RegionState → ℕ → Option Object
+next_object code s g = object_made s (plain_step code s.plain (One g))
+
+-- the goroutine owes nothing, and its next instruction makes an object that does not fit its own page in this region
+abbrev pub takes_page : Code → ℕ → RegionState → ℕ → Holder → Region → Option RegionState
+takes_page code page_words s g h r =
+    if has_none h.duties && may_go h.offer && is_live s.regions r
+        && wants_page page_words (fill_of h.fills r) (next_object code s g)
+    then Some (page_taken s g h r) else None
+
+abbrev pub page_for : Code → ℕ → RegionState → ℕ → Holder → Frame → CodeInstr → Option RegionState
+page_for code page_words s g h frame i =
+    option_and_then (takes_page code page_words s g h)
+    (making_region (function_at code frame) (top_names h.environments) i.op)
+
+abbrev pub take_page : Code → ℕ → RegionState → ℕ → Holder → List Frame → Option RegionState
+take_page code page_words s g h [] = None
+take_page code page_words s g h (frame ∷ callers) =
+    option_and_then (page_for code page_words s g h frame) (current code frame)
+
+-- ---- the end
+
+abbrev pub kept : Option Mark → Limit → Option Mark
+kept None limit = Some (Stopped limit)
+kept (Some first) limit = Some first
+
+abbrev pub finished : RegionState → Limit → RegionState
+finished s limit = record s { mark = kept s.mark limit }
+
+-- ---- the machine
+
+-- pages have so many words
+abbrev pub region_step : Code → (page_words : ℕ) → RegionState → Event → Option RegionState
+region_step code page_words s (Instruct pick) =
+    option_and_then (instruct code page_words s pick) (plain_step code s.plain pick)
+region_step code page_words s (Attend g) =
+    option_and_then (λ (h : Holder). attend s g h h.duties) (slice_get s.holders g)
+region_step code page_words s (TakePage g) =
+    option_and_then (λ h. take_page code page_words s g h (frames_of s.plain g)) (slice_get s.holders g)
+region_step code page_words s (MakeOffer g) =
+    option_and_then (λ h. make_offer code s g h (frames_of s.plain g)) (slice_get s.holders g)
+region_step code page_words s (Acknowledge g) =
+    option_and_then (λ (h : Holder). acknowledge s g h h.offer) (slice_get s.holders g)
+region_step code page_words s (Finish limit) = Some (finished s limit)
+
+abbrev pub main_holder : Code → List Frame → Holder
+main_holder code frames = record {
+  stakes = [];
+  pending = [];
+  environments = environment_of NoClass [] ∷ [];
+  base = [];
+  fills = [];
+  duties = next_duties code frames;
+  offer = NoOffer;
+}
+
+abbrev pub region_start : Code → RegionState
+region_start code = record {
+  plain = tac_start (erased code);
+  owners = [];
+  regions = [];
+  global_pages = 0;
+  holders = main_holder code (frames_of (tac_start (erased code)) 0) ∷ [];
+  steps = 0;
+  mark = None;
+}
+
+-- the state behind these events, if each has a step in its turn
+abbrev pub region_run : Code → (page_words : ℕ) → List Event → Option RegionState
+region_run code page_words events = run (region_step code page_words) (region_start code) events

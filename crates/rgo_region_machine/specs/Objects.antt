@@ -1,0 +1,107 @@
+-- Which objects instructions make and touch, and how objects lie in pages.
+use Rattle.std.specs.Prelude.{ℕ, ◌+◌, Bool, true, false, not, ◌&&◌, List, [], ◌∷◌, map, length, Option, Some, None}
+use Rattle.std.specs.Prelude.{slice_get, nat_le, max, option_and_then, if◌then◌else◌}
+use Rattle.rgo_typed.specs.declared.actions.Action.{Action}
+use Rattle.rgo_typed.specs.declared.actions.Action.TheVariants as action
+use Rattle.rgo_memory.specs.declared.values.Value.{Value}
+use Rattle.rgo_memory.specs.declared.values.Value.TheVariants as value
+use Rattle.rgo_memory.specs.Memory.{Object, StructObject, SliceObject, Channel}
+use Rattle.rgo_tac.specs.declared.regions.Class.{Class}
+use Rattle.rgo_tac.specs.declared.regions.Class.TheVariants.{NoClass}
+use Rattle.rgo_tac.specs.Frames.{Frame, values_of}
+use Rattle.rgo_tac.specs.Tac.{TacState}
+use Rattle.rgo_code.specs.Code.{CodeOp, CodeFn, Do}
+use Rattle.rgo_code.specs.Names.{class_of}
+use Rattle.rgo_region_machine.specs.declared.regions.Region.{Region}
+use Rattle.rgo_region_machine.specs.Regions.{same_region, is_live, Bindings, class_region}
+use Rattle.rgo_region_machine.specs.States.{Holder, RegionState}
+
+-- ---- objects that are made
+
+abbrev pub makes_object : Action → Bool
+makes_object (action.New n) = true
+makes_object action.Slice = true
+makes_object action.Chan = true
+makes_object _ = false
+
+abbrev pub target_class : Option CodeFn → Option ℕ → Class
+target_class None to = NoClass
+target_class (Some f) None = NoClass
+target_class (Some f) (Some d) = class_of f d
+
+-- the region in which an instruction makes an object
+abbrev pub making_region : Option CodeFn → Bindings → CodeOp → Option Region
+making_region f names (Do to action from removes) =
+    if makes_object action then class_region names (target_class f to) else None
+making_region f names _ = None
+
+-- the object that a step made, if it made one
+abbrev pub new_object : TacState → TacState → Option Object
+new_object old next = slice_get next.memory.heap (length old.memory.heap)
+
+-- ---- objects that are read or written
+
+abbrev pub touched_by : Action → List Value → Option ℕ
+touched_by (action.Load k) (value.Object o ∷ vs) = Some o
+touched_by (action.Store k) (value.Object o ∷ vs) = Some o
+touched_by action.At (value.Object o ∷ vs) = Some o
+touched_by action.Put (value.Object o ∷ vs) = Some o
+touched_by action.Len (value.Object o ∷ vs) = Some o
+touched_by action.Recv (value.Object o ∷ vs) = Some o
+touched_by action.Send (value.Object o ∷ vs) = Some o
+touched_by action.Close (value.Object o ∷ vs) = Some o
+touched_by _ _ = None
+
+abbrev pub touched : Frame → CodeOp → Option ℕ
+touched frame (Do to action from removes) = touched_by action (values_of frame from)
+touched frame _ = None
+
+abbrev pub owner_live : RegionState → Option Region → Bool
+owner_live s None = false
+owner_live s (Some r) = is_live s.regions r
+
+-- whether the object's region is live
+abbrev pub may_touch : RegionState → Option ℕ → Bool
+may_touch s None = true
+may_touch s (Some o) = owner_live s (slice_get s.owners o)
+
+-- ---- pages
+
+-- how many words of a page an object takes: at least one for the cells of a struct and of a channel; one more for the
+-- length of a slice, two for what a channel is
+abbrev pub words : Object → ℕ
+words (StructObject cells) = max 1 (length cells)
+words (SliceObject cells) = 1 + length cells
+words (Channel capacity queue closed) = 2 + max 1 capacity
+
+-- the words used of a goroutine's own page; none where it has no page there
+abbrev pub fill_of : List (Region × ℕ) → Region → Option ℕ
+fill_of [] r = None
+fill_of (f ∷ fs) r = if same_region f.0 r then Some f.1 else fill_of fs r
+
+abbrev pub with_fill : List (Region × ℕ) → Region → ℕ → List (Region × ℕ)
+with_fill [] r n = (r, n) ∷ []
+with_fill (f ∷ fs) r n = if same_region f.0 r then (r, n) ∷ fs else f ∷ with_fill fs r n
+
+abbrev pub fits : (page_words : ℕ) → Option ℕ → ℕ → Bool
+fits page_words None n = false
+fits page_words (Some used) n = nat_le (used + n) page_words
+
+-- whether an object that fits a page does not fit what is left of the own page
+abbrev pub wants_page : (page_words : ℕ) → Option ℕ → Option Object → Bool
+wants_page page_words used None = false
+wants_page page_words used (Some object) =
+    nat_le (words object) page_words && not (fits page_words used (words object))
+
+-- An object is placed in the own page in its region, if it fits there. The holder after it, and the owner of the new
+-- object.
+abbrev pub placed : (page_words : ℕ) → Holder → Region → Object → Option ℕ → Option (Holder × List Region)
+placed page_words h r object None = None
+placed page_words h r object (Some used) =
+    if nat_le (used + words object) page_words
+    then Some (record h { fills = with_fill h.fills r (used + words object) }, r ∷ []) else None
+
+abbrev pub allotted : (page_words : ℕ) → Holder → Option Region → Option Object → Option (Holder × List Region)
+allotted page_words h region None = Some (h, [])
+allotted page_words h None (Some object) = None
+allotted page_words h (Some r) (Some object) = placed page_words h r object (fill_of h.fills r)

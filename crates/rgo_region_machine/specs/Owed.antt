@@ -1,0 +1,127 @@
+-- Which steps with regions a goroutine owes around its instructions, as the code says.
+use Rattle.std.specs.Prelude.{ℕ, Bool, true, false, not, ◌&&◌, ◌||◌, List, [], ◌∷◌, ◌++◌, map, Option, Some, None}
+use Rattle.std.specs.Prelude.{slice_get, nat_eq, option_and_then, if◌then◌else◌}
+use Rattle.std.specs.List.{list_any}
+use Rattle.rgo_machine.specs.Actions.{is_true}
+use Rattle.rgo_tac.specs.declared.regions.Class.{Class}
+use Rattle.rgo_tac.specs.declared.regions.Class.TheVariants.{NoClass, Global, Name}
+use Rattle.rgo_tac.specs.Frames.{Frame, value_at}
+use Rattle.rgo_code.specs.Code.{CodeOp, CodeInstr, CodeFn, Code, Do, Call, Go, Print, Jump, Branch, Return}
+use Rattle.rgo_code.specs.Names.{is_name, region_parameters, result_class}
+use Rattle.rgo_region_machine.specs.declared.regions.Region.{Region}
+use Rattle.rgo_region_machine.specs.declared.regions.Region.TheVariants.{Global as GlobalRegion, Numbered}
+use Rattle.rgo_region_machine.specs.Regions.{same_region, Bindings, class_region}
+use Rattle.rgo_region_machine.specs.States.{Duty, Create, Share, Protect, Unprotect, Remove, EndBase, Holder}
+
+-- ---- the code of a frame
+
+abbrev pub function_of : Code → ℕ → Option CodeFn
+function_of code n = slice_get code.functions n
+
+abbrev pub function_at : Code → Frame → Option CodeFn
+function_at code frame = function_of code frame.function
+
+abbrev pub current_in : Option CodeFn → ℕ → Option CodeInstr
+current_in None i = None
+current_in (Some f) i = slice_get f.body i
+
+-- the next instruction
+abbrev pub current : Code → Frame → Option CodeInstr
+current code frame = current_in (function_at code frame) frame.next
+
+abbrev pub entry_removes : Option CodeFn → List ℕ
+entry_removes None = []
+entry_removes (Some f) = f.entry
+
+abbrev pub formals_of : Option CodeFn → List Class
+formals_of None = []
+formals_of (Some f) = region_parameters f
+
+abbrev pub result_of : Option CodeFn → Class
+result_of None = NoClass
+result_of (Some f) = result_class f
+
+-- ---- before an instruction
+
+abbrev pub regions_named : List Class → List ℕ
+regions_named [] = []
+regions_named (Name k ∷ classes) = k ∷ regions_named classes
+regions_named (_ ∷ classes) = regions_named classes
+
+abbrev pub duties_of_op : CodeOp → List Duty
+duties_of_op (Call to n from passes protects removes) = map Protect protects
+duties_of_op (Go n from passes removes) = map Share (regions_named passes)
+duties_of_op _ = []
+
+abbrev pub duties_before : Option CodeInstr → List Duty
+duties_before None = []
+duties_before (Some i) = map Create i.creates ++ duties_of_op i.op
+
+abbrev pub next_duties : Code → List Frame → List Duty
+next_duties code [] = []
+next_duties code (frame ∷ callers) = duties_before (current code frame)
+
+-- ---- after an instruction
+
+-- the names that are removed on the way that a frame takes
+abbrev pub removes_behind : Frame → CodeOp → List ℕ
+removes_behind frame (Do to action from removes) = removes
+removes_behind frame (Call to n from passes protects removes) = removes
+removes_behind frame (Go n from passes removes) = removes
+removes_behind frame (Print pieces from removes) = removes
+removes_behind frame (Jump target removes) = removes
+removes_behind frame (Branch test target removes other otherwise) =
+    if is_true (value_at frame test) then removes else otherwise
+removes_behind frame (Return value) = []
+
+-- after a call has returned, the end of its protections comes first
+abbrev pub duties_behind : CodeOp → List Duty
+duties_behind (Call to n from passes protects removes) = map Unprotect protects ++ map Remove removes
+duties_behind _ = []
+
+abbrev pub duties_behind_call : Option CodeInstr → List Duty
+duties_behind_call None = []
+duties_behind_call (Some i) = duties_behind i.op
+
+-- what is owed after a return to these callers; without one, the end of the goroutine's base
+abbrev pub caller_duties : Code → Holder → List Frame → List Duty
+caller_duties code h [] = map EndBase h.base
+caller_duties code h (caller ∷ callers) = duties_behind_call (current code caller)
+
+-- ---- what is passed to a function
+
+-- the names of a called function: its region parameters, for the regions passed
+abbrev pub passed : List Class → List (Option Region) → Bindings
+passed (Name k ∷ formals) (Some r ∷ regions) = (k, r) ∷ passed formals regions
+passed (_ ∷ formals) (_ ∷ regions) = passed formals regions
+passed _ _ = []
+
+abbrev pub passed_regions : Bindings → List Class → List (Option Region)
+passed_regions names passes = map (class_region names) passes
+
+abbrev pub same_class : Class → Class → Bool
+same_class NoClass c = false
+same_class Global Global = true
+same_class Global _ = false
+same_class (Name k) c = is_name k c
+
+-- the names that a call leaves to its callee: passed, not protected, and not for the callee's result
+abbrev pub given_names : (result : Class) → (formals passes : List Class) → (protects : List ℕ) → List ℕ
+given_names result (formal ∷ formals) (Name k ∷ passes) protects =
+    if list_any (nat_eq k) protects || same_class formal result
+    then given_names result formals passes protects else k ∷ given_names result formals passes protects
+given_names result (formal ∷ formals) (_ ∷ passes) protects = given_names result formals passes protects
+given_names result _ _ protects = []
+
+abbrev pub stands_in : Region → List (Option Region) → Bool
+stands_in r [] = false
+stands_in r (None ∷ others) = stands_in r others
+stands_in r (Some s ∷ others) = same_region r s || stands_in r others
+
+-- the regions that are given at two positions, each once
+abbrev pub twice : List (Option Region) → List Region
+twice [] = []
+twice (Some (Numbered r) ∷ others) =
+    if stands_in (Numbered r) others && not (list_any (same_region (Numbered r)) (twice others))
+    then Numbered r ∷ twice others else twice others
+twice (_ ∷ others) = twice others

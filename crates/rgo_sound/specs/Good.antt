@@ -1,0 +1,28 @@
+-- The invariant of region runs of checked code, and that each step keeps it.
+use Rattle.std.specs.Prelude.{Some, ℕ, ◌≡◌}
+use Rattle.rgo_code.specs.Checked.{IsChecked}
+use Rattle.rgo_code.specs.Code.{Code}
+use Rattle.rgo_code.specs.NameRules.{Ascends}
+use Rattle.rgo_region_machine.specs.Machine.{Event, region_start, region_step}
+use Rattle.rgo_region_machine.specs.States.{RegionState}
+use Rattle.rgo_sound.specs.Invariant.{Fine}
+use Rattle.rgo_sound.specs.Offers.{OffersFit}
+use Rattle.rgo_sound.specs.Types.{Typed}
+use Rattle.rgo_sound.specs.Values.{ValuesStay}
+
+-- names and stakes, types, and where pointers lead
+pub record Good (code : Code) (s : RegionState) : Type 0 where
+  pub fine : Fine code s
+  pub typed : Typed code s.plain
+  pub values : ValuesStay code s
+
+-- and offers
+pub record AllGood (code : Code) (s : RegionState) : Type 0 where
+  pub good : Good code s
+  pub offers : OffersFit code s
+
+abbrev pub StartIsGood : Type 0
+StartIsGood = (code : Code) → IsChecked code → Ascends code → AllGood code (region_start code)
+
+abbrev pub StepsKeepGood : Type 0
+StepsKeepGood = (code : Code) (page_words : ℕ) (s t : RegionState) (event : Event) → IsChecked code → Ascends code → AllGood code s → region_step code page_words s event ≡ Some t → AllGood code t

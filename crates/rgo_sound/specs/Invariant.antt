@@ -1,0 +1,227 @@
+-- The invariant of region runs of checked code: what each goroutine's frames and duties say of its names.
+use Rattle.std.specs.List.{list_any}
+use Rattle.std.specs.Prelude.{Bool, Contains, List, None, Option, Some, [], false, if◌then◌else◌, length, map, nat_eq}
+use Rattle.std.specs.Prelude.{slice_get, suc, true, zero, ℕ, ◌+◌, ◌<◌, ◌∷◌, ◌≡◌, ◌≢◌}
+use Rattle.rgo_code.specs.Checked.{IsChecked}
+use Rattle.rgo_code.specs.Code.{Branch, Call, Code, CodeFn, CodeInstr, CodeOp, Do, Go, Jump, Print, Return}
+use Rattle.rgo_code.specs.NameRules.{Ascends, protected_names}
+use Rattle.rgo_code.specs.Names.{Gives, Holds, IsOwn, result_class}
+use Rattle.rgo_machine.specs.declared.picks.Pick.TheVariants.{Meet, One}
+use Rattle.rgo_region_machine.specs.Duties.{may_go}
+use Rattle.rgo_region_machine.specs.Machine.{Attend, Event, Instruct, region_run, region_step}
+use Rattle.rgo_region_machine.specs.Owed.{current, function_at, regions_named}
+use Rattle.rgo_region_machine.specs.Regions.{Bindings, RegionInfo, bound, removed_once, same_region, unbind}
+use Rattle.rgo_region_machine.specs.States.{Create, Duty, EndBase, Environment, Holder, Protect, RegionState, Remove}
+use Rattle.rgo_region_machine.specs.States.{Share, Unprotect, frames_of, top_names}
+use Rattle.rgo_region_machine.specs.declared.regions.Region.{Region}
+use Rattle.rgo_region_machine.specs.declared.regions.Region.TheVariants.{Global as GlobalRegion, Numbered}
+use Rattle.rgo_sound.specs.Core.{Core}
+use Rattle.rgo_sound.specs.Stakes.{holders_of, is_in, one_if, pending_of, times_in}
+use Rattle.rgo_tac.specs.Frames.{Frame}
+use Rattle.rgo_tac.specs.declared.regions.Class.{Class}
+use Rattle.rgo_tac.specs.declared.regions.Class.TheVariants.{Name}
+
+-- instruction i of a function
+abbrev pub HasInstr : CodeFn → ℕ → CodeInstr → Type 0
+HasInstr fn i instr = slice_get fn.body i ≡ Some instr
+
+-- ---- protections by number
+
+abbrev pub times : Region → List Region → ℕ
+times r [] = 0
+times r (s ∷ ss) = one_if (same_region r s) + times r ss
+
+abbrev pub same_bound : Region → Option Region → Bool
+same_bound r None = false
+same_bound r (Some s) = same_region r s
+
+-- how many of these names stand for r
+abbrev pub bound_times : Region → Bindings → List ℕ → ℕ
+bound_times r names [] = 0
+bound_times r names (k ∷ ks) = one_if (same_bound r (bound names k)) + bound_times r names ks
+
+abbrev pub AreProtections : List Region → Bindings → List ℕ → Type 0
+AreProtections protections names ks = (r : Region) → times r protections ≡ bound_times r names ks
+
+-- ---- a frame before its next instruction, when nothing is owed
+
+pub record Settled (fn : CodeFn) (i : ℕ) (instr : CodeInstr) (names : Bindings) (protections : List Region) : Type 0 where
+  pub there : (k : ℕ) → Holds fn k i → bound names k ≢ None
+  pub made : (k : ℕ) → Contains instr.creates k → bound names k ≢ None
+  pub gone : (k : ℕ) → IsOwn fn k → ¬ (Holds fn k i) → ¬ (Contains instr.creates k) → bound names k ≡ None
+  pub lent : (k : ℕ) → result_class fn ≡ Name k → bound names k ≢ None
+  pub protections_fit : AreProtections protections names (protected_names instr.op)
+
+-- what is there behind an instruction, before its removals: what a call gave is not there
+pub record Left (code : Code) (fn : CodeFn) (i : ℕ) (instr : CodeInstr) (names : Bindings) : Type 0 where
+  pub there : (k : ℕ) → Holds fn k i → ¬ (Gives code instr.op k) → bound names k ≢ None
+  pub made : (k : ℕ) → Contains instr.creates k → ¬ (Gives code instr.op k) → bound names k ≢ None
+  pub gone : (k : ℕ) → IsOwn fn k → ¬ (Holds fn k i) → ¬ (Contains instr.creates k) → bound names k ≡ None
+  pub given : (k : ℕ) → Gives code instr.op k → bound names k ≡ None
+  pub lent : (k : ℕ) → result_class fn ≡ Name k → bound names k ≢ None
+
+-- ---- duties
+
+-- what is created or removed before an instruction is an own name, and not held into it
+abbrev pub IsFree : CodeFn → ℕ → ℕ → Type 0
+IsFree fn i k = IsOwn fn k × (¬ (Holds fn k i))
+
+-- each duty can be done in its turn, and behind the last of them Then holds
+abbrev pub IsReady : (ℕ → Type 0) → (Bindings → List Region → Type 0) → List Duty → Bindings → List Region → Type 0
+IsReady Free Then [] names protections = Then names protections
+IsReady Free Then (Create k ∷ duties) names protections = (bound names k ≡ None) × Free k × ((r : ℕ) → IsReady Free Then duties ((k, Numbered r) ∷ unbind names k) protections)
+IsReady Free Then (Remove k ∷ duties) names protections = (protections ≡ []) × (bound names k ≢ None) × Free k × IsReady Free Then duties (unbind names k) protections
+IsReady Free Then (Share k ∷ duties) names protections = (bound names k ≢ None) × IsReady Free Then duties names protections
+IsReady Free Then (Protect k ∷ duties) names protections = (bound names k ≢ None) × ((r : Region) → bound names k ≡ Some r → IsReady Free Then duties names (r ∷ protections))
+IsReady Free Then (Unprotect k ∷ duties) names protections = (bound names k ≢ None) × ((r : Region) → bound names k ≡ Some r → IsReady Free Then duties names (removed_once r protections))
+IsReady Free Then (EndBase r ∷ duties) names protections = ⊥
+
+-- ---- stakes for a coming child
+
+abbrev pub at_most_one : ℕ → ℕ
+at_most_one zero = 0
+at_most_one (suc n) = 1
+
+-- each region for which one of the names stands is pending, once, and no other is
+abbrev pub ArePending : List ℕ → Bindings → List ℕ → Type 0
+ArePending pending names ks = (r : ℕ) → times_in r pending ≡ at_most_one (bound_times (Numbered r) names ks)
+
+-- what a share adds
+abbrev pub with_pending : Region → List ℕ → List ℕ
+with_pending GlobalRegion pending = pending
+with_pending (Numbered r) pending = if list_any (nat_eq r) pending then pending else r ∷ pending
+
+-- behind these duties the regions of the names ks are pending
+abbrev pub Shares : List ℕ → List Duty → Bindings → List ℕ → Type 0
+Shares ks [] names pending = ArePending pending names ks
+Shares ks (Create k ∷ duties) names pending = (r : ℕ) → Shares ks duties ((k, Numbered r) ∷ unbind names k) pending
+Shares ks (Remove k ∷ duties) names pending = Shares ks duties (unbind names k) pending
+Shares ks (Share k ∷ duties) names pending = (r : Region) → bound names k ≡ Some r → Shares ks duties names (with_pending r pending)
+Shares ks (Protect k ∷ duties) names pending = Shares ks duties names pending
+Shares ks (Unprotect k ∷ duties) names pending = Shares ks duties names pending
+Shares ks (EndBase r ∷ duties) names pending = Shares ks duties names pending
+
+-- the names that are shared before an instruction
+abbrev pub shared_names : CodeOp → List ℕ
+shared_names (Go n from passes removes) = regions_named passes
+shared_names op = []
+
+abbrev pub shared_before : Option CodeInstr → List ℕ
+shared_before None = []
+shared_before (Some instr) = shared_names instr.op
+
+abbrev pub to_share : Code → List Frame → List ℕ
+to_share code [] = []
+to_share code (frame ∷ callers) = shared_before (current code frame)
+
+-- ---- a goroutine
+
+-- the top frame
+pub record Stands (code : Code) (frame : Frame) (f : Environment) (duties : List Duty) : Type 0 where
+  pub fn : CodeFn
+  pub is_fn : function_at code frame ≡ Some fn
+  pub instr : CodeInstr
+  pub is_instr : HasInstr fn frame.next instr
+  pub lends : f.lent ≡ result_class fn
+  pub ready : IsReady (IsFree fn frame.next) (Settled fn frame.next instr) duties f.names f.protections
+
+abbrev pub IsCall : CodeOp → Type 0
+IsCall (Call to n from passes protects removes) = Unit {0}
+IsCall op = ⊥
+
+-- a caller
+pub record Waits (code : Code) (frame : Frame) (f : Environment) : Type 0 where
+  pub fn : CodeFn
+  pub is_fn : function_at code frame ≡ Some fn
+  pub instr : CodeInstr
+  pub is_instr : HasInstr fn frame.next instr
+  pub lends : f.lent ≡ result_class fn
+  pub calls : IsCall instr.op
+  pub left : Left code fn frame.next instr f.names
+  pub protections_fit : AreProtections f.protections f.names (protected_names instr.op)
+
+abbrev pub AllWait : Code → List Frame → List Environment → Type 0
+AllWait code [] [] = Unit {0}
+AllWait code (frame ∷ frames) (f ∷ fs) = Waits code frame f × AllWait code frames fs
+AllWait code _ _ = ⊥
+
+-- what a goroutine's frames, environments, base and duties say of each other
+abbrev pub FramesFit : Code → List Region → List Frame → List Environment → List Duty → Type 0
+FramesFit code base [] [] duties = duties ≡ map EndBase base
+FramesFit code base (frame ∷ callers) (f ∷ fs) duties = Stands code frame f duties × AllWait code callers fs
+FramesFit code base _ _ duties = ⊥
+
+abbrev pub EachOnce : List Region → Type 0
+EachOnce [] = Unit {0}
+EachOnce (r ∷ rs) = (list_any (same_region r) rs ≡ false) × EachOnce rs
+
+pub record GoodHolder (code : Code) (frames : List Frame) (h : Holder) : Type 0 where
+  pub core : Core h.stakes h.base h.environments
+  pub fit : FramesFit code h.base frames h.environments h.duties
+  pub base_once : EachOnce h.base
+  pub shares : Shares (to_share code frames) h.duties (top_names h.environments) h.pending
+
+-- ---- a state
+
+pub record Fine (code : Code) (s : RegionState) : Type 0 where
+  pub as_many : length s.holders ≡ length s.plain.goroutines
+  pub each : (g : ℕ) (h : Holder) → slice_get s.holders g ≡ Some h → GoodHolder code (frames_of s.plain g) h
+  -- stakes are the goroutines that have one, and pending ones
+  pub counted : (r : ℕ) (info : RegionInfo) → slice_get s.regions r ≡ Some info → info.stakes ≡ holders_of s r + pending_of s r
+  pub made : (g : ℕ) (h : Holder) (r : ℕ) → slice_get s.holders g ≡ Some h → is_in r h.stakes ≡ true → r < length s.regions
+  pub pended : (g : ℕ) (h : Holder) (r : ℕ) → slice_get s.holders g ≡ Some h → 0 < times_in r h.pending → r < length s.regions
+
+-- what a goroutine owes can be done, and what holds of the state holds behind it
+abbrev pub DutiesGo : Type 0
+DutiesGo =
+    (code : Code) (page_words : ℕ) (s : RegionState) (g : ℕ) (h : Holder) → Fine code s → slice_get s.holders g ≡ Some h → h.duties ≢ [] → may_go h.offer ≡ true →
+    (t : RegionState) × (region_step code page_words s (Attend g) ≡ Some t) × Fine code t
+
+-- no call, no start and no return
+abbrev pub IsSimple : CodeOp → Type 0
+IsSimple (Do to action from removes) = Unit {0}
+IsSimple (Call to n from passes protects removes) = ⊥
+IsSimple (Go n from passes removes) = ⊥
+IsSimple (Print pieces from removes) = Unit {0}
+IsSimple (Jump j removes) = Unit {0}
+IsSimple (Branch v j removes k others) = Unit {0}
+IsSimple (Return value) = ⊥
+
+-- such an instruction of checked code keeps what holds of the state
+abbrev pub MovesKeep : Type 0
+MovesKeep =
+    (code : Code) (page_words : ℕ) (s t : RegionState) (g : ℕ) (h : Holder) (frame : Frame) (callers : List Frame) (instr : CodeInstr) → IsChecked code → Ascends code → Fine code s →
+    slice_get s.holders g ≡ Some h → frames_of s.plain g ≡ frame ∷ callers → current code frame ≡ Some instr → IsSimple instr.op →
+    region_step code page_words s (Instruct (One g)) ≡ Some t → Fine code t
+
+abbrev pub CallsKeep : Type 0
+CallsKeep =
+    (code : Code) (page_words : ℕ) (s t : RegionState) (g : ℕ) (h : Holder) (frame : Frame) (callers : List Frame) (call : CodeInstr)
+    (to : Option ℕ) (n : ℕ) (from : List ℕ) (passes : List Class) (protects removes : List ℕ) → IsChecked code → Ascends code → Fine code s →
+    slice_get s.holders g ≡ Some h → frames_of s.plain g ≡ frame ∷ callers → current code frame ≡ Some call → call.op ≡ Call to n from passes protects removes →
+    region_step code page_words s (Instruct (One g)) ≡ Some t → Fine code t
+
+abbrev pub ReturnsKeep : Type 0
+ReturnsKeep =
+    (code : Code) (page_words : ℕ) (s t : RegionState) (g : ℕ) (h : Holder) (frame : Frame) (callers : List Frame) (instr : CodeInstr) (value : Option ℕ) → IsChecked code → Ascends code → Fine code s →
+    slice_get s.holders g ≡ Some h → frames_of s.plain g ≡ frame ∷ callers → current code frame ≡ Some instr → instr.op ≡ Return value →
+    region_step code page_words s (Instruct (One g)) ≡ Some t → Fine code t
+
+-- a meeting keeps what holds of the state
+abbrev pub MeetsKeep : Type 0
+MeetsKeep =
+    (code : Code) (page_words : ℕ) (s t : RegionState) (receiver sender : ℕ) → IsChecked code → Ascends code → Fine code s →
+    region_step code page_words s (Instruct (Meet receiver sender)) ≡ Some t → Fine code t
+
+-- a `go` keeps what holds of the state
+abbrev pub StartsKeep : Type 0
+StartsKeep =
+    (code : Code) (page_words : ℕ) (s t : RegionState) (g : ℕ) (h : Holder) (frame : Frame) (callers : List Frame) (instr : CodeInstr) (n : ℕ) (from : List ℕ) (passes : List Class) (removes : List ℕ) → IsChecked code → Ascends code → Fine code s →
+    slice_get s.holders g ≡ Some h → frames_of s.plain g ≡ frame ∷ callers → current code frame ≡ Some instr → instr.op ≡ Go n from passes removes →
+    region_step code page_words s (Instruct (One g)) ≡ Some t → Fine code t
+
+-- ---- runs
+
+-- every state of every run of checked code
+abbrev pub RunsAreFine : Type 0
+RunsAreFine = (code : Code) (page_words : ℕ) (events : List Event) (s : RegionState) → IsChecked code → Ascends code → region_run code page_words events ≡ Some s → Fine code s

@@ -1,0 +1,14 @@
+pub mod Core
+pub mod Erasure
+pub mod Good
+pub mod Holding
+pub mod Invariant
+pub mod NextNames
+pub mod Offers
+pub mod Progress
+pub mod Runs
+pub mod Safety
+pub mod Stakes
+pub mod Tally
+pub mod Types
+pub mod Values

@@ -1,0 +1,46 @@
+-- What holds of the offers of goroutines.
+use Rattle.std.specs.Prelude.{List, None, Option, Some, [], slice_get, true, ℕ, ◌∷◌, ◌≡◌}
+use Rattle.rgo_code.specs.Code.{Code, CodeInstr, Do}
+use Rattle.rgo_memory.specs.Memory.{Channel, Memory, Object, SliceObject, StructObject}
+use Rattle.rgo_region_machine.specs.Owed.{current}
+use Rattle.rgo_region_machine.specs.States.{Holder, NoOffer, Offer, RegionState, Standing, Taken, frames_of}
+use Rattle.rgo_region_machine.specs.declared.regions.Region.{Region}
+use Rattle.rgo_region_machine.specs.declared.regions.Region.TheVariants.{Numbered}
+use Rattle.rgo_sound.specs.Stakes.{is_in}
+use Rattle.rgo_tac.specs.Frames.{Frame, value_at}
+use Rattle.rgo_tac.specs.Tac.{TacState}
+use Rattle.rgo_typed.specs.declared.actions.Action.TheVariants.{Send}
+use Rattle.rgo_memory.specs.declared.values.Value.TheVariants as value
+
+abbrev pub capacity_of : Object → Option ℕ
+capacity_of (StructObject cells) = None
+capacity_of (SliceObject cells) = None
+capacity_of (Channel capacity queue closed) = Some capacity
+
+-- the object is a channel without a buffer; it stays one
+abbrev pub IsUnbuffered : Memory → ℕ → Type 0
+IsUnbuffered m o = (object : Object) × (slice_get m.heap o ≡ Some object) × (capacity_of object ≡ Some 0)
+
+-- the goroutine is to send on this channel
+pub record StandsAtSend (code : Code) (p : TacState) (g o : ℕ) : Type 0 where
+  pub frame : Frame
+  pub callers : List Frame
+  pub at : frames_of p g ≡ frame ∷ callers
+  pub instr : CodeInstr
+  pub cur : current code frame ≡ Some instr
+  pub to : Option ℕ
+  pub channel : ℕ
+  pub sent : ℕ
+  pub removes : List ℕ
+  pub is : instr.op ≡ Do to Send (channel ∷ sent ∷ []) removes
+  pub channel_is : value_at frame channel ≡ value.Object o
+
+-- a standing offer is that of the send at which its goroutine stands, which owes nothing; one that was taken is on a channel in
+-- a region with an own stake
+abbrev pub OfferFits : Code → RegionState → ℕ → Holder → Offer → Type 0
+OfferFits code s g h NoOffer = Unit {0}
+OfferFits code s g h (Standing o) = (h.duties ≡ []) × IsUnbuffered s.plain.memory o × StandsAtSend code s.plain g o
+OfferFits code s g h (Taken o) = (r : Region) × (slice_get s.owners o ≡ Some r) × ((q : ℕ) → r ≡ Numbered q → is_in q h.stakes ≡ true)
+
+pub record OffersFit (code : Code) (s : RegionState) : Type 0 where
+  pub fits : (g : ℕ) (h : Holder) → slice_get s.holders g ≡ Some h → OfferFits code s g h h.offer

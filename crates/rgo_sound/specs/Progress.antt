@@ -1,0 +1,49 @@
+-- No step is missing: where the three-address machine has a step, the region machine has it after some steps with regions.
+use Rattle.std.specs.Prelude.{IsSome, List, Some, [], ℕ, ◌<◌, ◌∷◌, ◌≡◌}
+use Rattle.rgo_code.specs.Checked.{IsChecked}
+use Rattle.rgo_code.specs.Code.{Code}
+use Rattle.rgo_code.specs.Erasure.{erased}
+use Rattle.rgo_code.specs.NameRules.{Ascends}
+use Rattle.rgo_machine.specs.Runs.{Leads}
+use Rattle.rgo_machine.specs.declared.picks.Pick.{Pick}
+use Rattle.rgo_machine.specs.declared.picks.Pick.TheVariants.{Meet, One}
+use Rattle.rgo_region_machine.specs.Machine.{Event, Finish, Instruct, region_run, region_step}
+use Rattle.rgo_region_machine.specs.Objects.{new_object, words}
+use Rattle.rgo_region_machine.specs.States.{RegionState}
+use Rattle.rgo_tac.specs.Tac.{TacState, tac_step}
+
+abbrev pub IsRegionStep : Event → Type 0
+IsRegionStep (Instruct pick) = ⊥
+IsRegionStep (Finish end) = ⊥
+IsRegionStep event = Unit {0}
+
+abbrev pub AreRegionSteps : List Event → Type 0
+AreRegionSteps [] = Unit {0}
+AreRegionSteps (event ∷ events) = IsRegionStep event × AreRegionSteps events
+
+-- the step makes an object larger than a page
+abbrev pub MakesTooLarge : ℕ → TacState → TacState → Type 0
+MakesTooLarge page_words old next = (object : _) × (new_object old next ≡ Some object) × (page_words < words object)
+
+-- after some region steps, there is an instruction's step of the kind of the pick: of the same goroutine, or a meeting of
+-- the same receiver, perhaps with another sender, whose offer stands there
+abbrev pub IsLike : Pick → Pick → Type 0
+IsLike (One g) pick = pick ≡ One g
+IsLike (Meet r t) pick = (u : ℕ) × (pick ≡ Meet r u)
+
+pub record CanInstruct (code : Code) (page_words : ℕ) (s : RegionState) (like : Pick) : Type 0 where
+  pub pick : Pick
+  pub is_like : IsLike like pick
+  pub before : List Event
+  pub only_regions : AreRegionSteps before
+  pub ready : RegionState
+  pub leads : Leads (region_step code page_words) s before ready
+  pub steps : IsSome (region_step code page_words ready (Instruct pick))
+
+-- checked code never gets stuck on a region
+abbrev pub NoStepMissing : Type 0
+NoStepMissing =
+    (code : Code) (page_words : ℕ) (events : List Event) (s : RegionState) (pick : Pick) (next : TacState) →
+    IsChecked code → Ascends code → region_run code page_words events ≡ Some s →
+    tac_step (erased code) s.plain pick ≡ Some next → ¬ (MakesTooLarge page_words s.plain next) →
+    CanInstruct code page_words s pick

@@ -1,0 +1,65 @@
+-- What holds in every state of every region run of checked code.
+use Rattle.std.specs.Prelude.{Contains, List, Some, [], length, map, max, slice_get, true, ℕ, ◌*◌, ◌++◌, ◌+◌, ◌∷◌, ◌≡◌}
+use Rattle.std.specs.Prelude.{◌≤◌}
+use Rattle.rgo_code.specs.Checked.{IsChecked}
+use Rattle.rgo_code.specs.Code.{Code, CodeFn, Slot}
+use Rattle.rgo_code.specs.NameRules.{Ascends}
+use Rattle.rgo_code.specs.Names.{distinct_names, result_class}
+use Rattle.rgo_memory.specs.Memory.{Channel, Object, SliceObject, StructObject}
+use Rattle.rgo_memory.specs.declared.values.Value.{Value}
+use Rattle.rgo_region_machine.specs.Counts.{counts_of}
+use Rattle.rgo_region_machine.specs.Machine.{Event, region_run, region_step}
+use Rattle.rgo_region_machine.specs.Regions.{RegionInfo, is_live}
+use Rattle.rgo_region_machine.specs.States.{Holder, RegionState}
+use Rattle.rgo_region_machine.specs.declared.regions.Region.{Region}
+use Rattle.rgo_sound.specs.Holding.{OneHoldingName}
+use Rattle.rgo_sound.specs.Stakes.{HasEnded, StakesAreCounted}
+use Rattle.rgo_memory.specs.declared.values.Value.TheVariants as value
+
+-- ---- pointers
+
+abbrev pub cells_of : Object → List Value
+cells_of (StructObject cells) = cells
+cells_of (SliceObject cells) = cells
+cells_of (Channel capacity queue closed) = queue
+
+-- a pointer in a cell of a live region leads into the same region
+abbrev pub PointersStay : RegionState → Type 0
+PointersStay s =
+    (o p : ℕ) (object : Object) (r : Region) → slice_get s.plain.memory.heap o ≡ Some object → slice_get s.owners o ≡ Some r → is_live s.regions r ≡ true →
+    Contains (cells_of object) (value.Object p) → slice_get s.owners p ≡ Some r
+
+
+-- ---- numbers
+
+abbrev pub name_count : CodeFn → ℕ
+name_count f = length (distinct_names [] (map (λ (slot : Slot). slot.class) f.variables ++ result_class f ∷ []))
+
+-- the most region names of one function
+abbrev pub most_names : List CodeFn → ℕ
+most_names [] = 0
+most_names (f ∷ fs) = max (name_count f) (most_names fs)
+
+abbrev pub AllEnded : RegionState → Type 0
+AllEnded s = (g : ℕ) (h : Holder) → slice_get s.holders g ≡ Some h → HasEnded s g h
+
+pub record CountsFit (code : Code) (s : RegionState) : Type 0 where
+  pub pages : (counts_of s).taken ≤ (counts_of s).objects + (counts_of s).goroutines
+  pub regions : (counts_of s).made ≤ ((counts_of s).steps + (counts_of s).goroutines) * most_names code.functions
+  pub all_removed : AllEnded s → (counts_of s).made ≡ (counts_of s).removed
+
+-- what holds in every state of a run of checked code
+pub record IsSafe (code : Code) (s : RegionState) : Type 0 where
+  pub stakes : StakesAreCounted s
+  pub names : OneHoldingName s
+  pub pointers : PointersStay s
+  pub counts : CountsFit code s
+
+abbrev pub Safety : Type 0
+Safety = (code : Code) (page_words : ℕ) (events : List Event) (s : RegionState) → IsChecked code → Ascends code → region_run code page_words events ≡ Some s → IsSafe code s
+
+-- a region whose last stake has ended stays as it was, whatever the code: so none is removed twice, nor gets a page again
+abbrev pub RemovedStays : Type 0
+RemovedStays =
+    (code : Code) (page_words : ℕ) (s t : RegionState) (event : Event) (r : ℕ) (info : RegionInfo) → region_step code page_words s event ≡ Some t →
+    slice_get s.regions r ≡ Some info → info.stakes ≡ 0 → slice_get t.regions r ≡ Some info

@@ -1,0 +1,35 @@
+-- Stakes: how they are counted.
+use Rattle.std.specs.Prelude.{Bool, List, Some, [], false, if◌then◌else◌, nat_eq, slice_get, true, ℕ, ◌+◌, ◌∷◌, ◌≡◌}
+use Rattle.rgo_region_machine.specs.Regions.{RegionInfo}
+use Rattle.rgo_region_machine.specs.States.{Holder, RegionState, frames_of}
+
+abbrev pub is_in : ℕ → List ℕ → Bool
+is_in r [] = false
+is_in r (x ∷ xs) = if nat_eq r x then true else is_in r xs
+
+abbrev pub one_if : Bool → ℕ
+one_if true = 1
+one_if false = 0
+
+abbrev pub times_in : ℕ → List ℕ → ℕ
+times_in r [] = 0
+times_in r (x ∷ xs) = one_if (nat_eq r x) + times_in r xs
+
+abbrev pub total : (Holder → ℕ) → List Holder → ℕ
+total f [] = 0
+total f (h ∷ hs) = f h + total f hs
+
+-- the goroutines that have a stake in a region, and the stakes for coming children
+abbrev pub holders_of : RegionState → ℕ → ℕ
+holders_of s r = total (λ h. one_if (is_in r h.stakes)) s.holders
+
+abbrev pub pending_of : RegionState → ℕ → ℕ
+pending_of s r = total (λ h. times_in r h.pending) s.holders
+
+-- a goroutine that has returned and owes nothing
+abbrev pub HasEnded : RegionState → ℕ → Holder → Type 0
+HasEnded s g h = (frames_of s.plain g ≡ []) × (h.duties ≡ [])
+
+pub record StakesAreCounted (s : RegionState) : Type 0 where
+  pub counted : (r : ℕ) (info : RegionInfo) → slice_get s.regions r ≡ Some info → info.stakes ≡ holders_of s r + pending_of s r
+  pub ended : (g : ℕ) (h : Holder) → slice_get s.holders g ≡ Some h → HasEnded s g h → h.stakes ≡ []

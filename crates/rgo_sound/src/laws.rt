@@ -1,0 +1,54 @@
+//! What holds of every run of checked code with its regions.
+
+ghost use Rattle.rgo_sound.specs.Erasure.{Erasure};
+ghost use Rattle.rgo_sound.specs.Good.{StartIsGood, StepsKeepGood};
+ghost use Rattle.rgo_sound.specs.NextNames.{NamesOnlyLive};
+ghost use Rattle.rgo_sound.specs.Progress.{NoStepMissing};
+ghost use Rattle.rgo_sound.specs.Safety.{Safety, RemovedStays};
+ghost use Rattle.rgo_sound.specs.Tally.{TallyAdds};
+ghost use Rattle.rgo_sound.specs.Types.{TypesKeep};
+
+/// The erasure of a region run is a run of the three-address machine, with the same print and the same end.
+pub fn erasure()
+    ensures { Erasure }
+{}
+
+/// A region whose last stake has ended stays as it was: none is removed twice, and none gets a page after its removal.
+pub fn removed_stays()
+    ensures { RemovedStays }
+{}
+
+/// The counts of a run are the sums of what its steps make and do.
+pub fn tally_adds()
+    ensures { TallyAdds }
+{}
+
+/// Each variable, cell and package variable has a value of its type.
+pub fn types_keep()
+    ensures { TypesKeep }
+{}
+
+/// What keeps regions safe holds at the start.
+pub fn start_is_good()
+    ensures { StartIsGood }
+{}
+
+/// Each step keeps it.
+pub fn steps_keep_good()
+    ensures { StepsKeepGood }
+{}
+
+/// What a goroutine names next is Global, or live with a stake of its own.
+pub fn names_only_live()
+    ensures { NamesOnlyLive }
+{}
+
+/// Where the three-address machine has a step, the region machine has it after some steps with regions.
+pub fn no_step_missing()
+    ensures { NoStepMissing }
+{}
+
+/// Stakes are counted, each is kept by one name, pointers stay in their regions, and all is removed in the end.
+pub fn safety()
+    ensures { Safety }
+{}

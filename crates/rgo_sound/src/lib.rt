@@ -1,0 +1,9 @@
+//! Region safety: what holds of every run of checked code with its regions.
+#![tactic(auto)]
+
+mod laws;
+
+pub use laws::{
+    erasure, names_only_live, no_step_missing, removed_stays, safety, start_is_good,
+    steps_keep_good, tally_adds, types_keep,
+};
