@@ -1,61 +1,137 @@
 -- Lists by number: what stands at a place after a write, in a longer list, and of each.
-use Rattle.std.proofs.Common.{◌≡◌, ℕ, zero, suc, ◌+◌, ◌≤◌, ◌<◌, false, List, [], ◌∷◌, ◌++◌, length, Some, None, refl, ap, subst, nat_eq, arith, ◌⊎◌, inl, inr, slice_get, slice_set, replicate}
+use Rattle.std.proofs.Common.{◌≡◌, ℕ, zero, suc, ◌+◌, ◌≤◌, ◌<◌, false, List, [], ◌∷◌, ◌++◌, length, Some, None}
+use Rattle.std.proofs.Common.{refl, sym, ap, subst, nat_eq, arith, ◌⊎◌, inl, inr, slice_get, slice_set, slice_index, get_or, replicate}
+use Rattle.std.specs.List.{Contains}
+use Rattle.std.specs.List.Sorted.{IsStrictlyIncreasing}
+use Rattle.std.proofs.lemmas.List.Kept.{AllPairs-from_increasing}
 use Rattle.rgo_sound.specs.Types.{Each}
 
 -- ---- after a write
 
 pub get_set_same : {X : Type 0} (xs : List X) (i : ℕ) (u v : X) → slice_get xs i ≡ Some u → slice_get (slice_set xs i v) i ≡ Some v
-get_set_same = ?
+get_set_same [] i u v h = cc
+get_set_same (x ∷ xs) zero u v h = refl
+get_set_same (x ∷ xs) (suc i) u v h = get_set_same xs i u v h
 
 pub get_set_other : {X : Type 0} (xs : List X) (i j : ℕ) (v : X) → nat_eq i j ≡ false → slice_get (slice_set xs i v) j ≡ slice_get xs j
-get_set_other = ?
+get_set_other [] i j v h = refl
+get_set_other (x ∷ xs) zero zero v h = absurd (omega (arith, zero_not h))
+  where
+    zero_not : nat_eq zero zero ≡ false → ⊥
+    zero_not h = grind arith
+get_set_other (x ∷ xs) zero (suc j) v h = refl
+get_set_other (x ∷ xs) (suc i) zero v h = refl
+get_set_other (x ∷ xs) (suc i) (suc j) v h = get_set_other xs i j v (down i j h)
+  where
+    down : (i j : ℕ) → nat_eq (suc i) (suc j) ≡ false → nat_eq i j ≡ false
+    down i j h = grind arith
 
 pub length_set : {X : Type 0} (xs : List X) (i : ℕ) (v : X) → length (slice_set xs i v) ≡ length xs
-length_set = ?
+length_set [] i v = refl
+length_set (x ∷ xs) zero v = refl
+length_set (x ∷ xs) (suc i) v = let e = length_set xs i v in omega (arith, e)
 
 pub get_below : {X : Type 0} (xs : List X) (i : ℕ) (x : X) → slice_get xs i ≡ Some x → i < length xs
-get_below = ?
+get_below [] i x h = cc
+get_below (y ∷ ys) zero x h = omega arith
+get_below (y ∷ ys) (suc i) x h = let k = get_below ys i x h in omega (arith, k)
 
 pub get_some : {X : Type 0} (xs : List X) (i : ℕ) → i < length xs → (x : X) × (slice_get xs i ≡ Some x)
-get_some = ?
+get_some [] i h = absurd (omega (arith, h))
+get_some (y ∷ ys) zero h = (y, refl)
+get_some (y ∷ ys) (suc i) h = get_some ys i (omega (arith, h))
 
 pub get_snoc : {X : Type 0} (xs : List X) (x : X) (i : ℕ) (y : X) → slice_get (xs ++ x ∷ []) i ≡ Some y → (slice_get xs i ≡ Some y) ⊎ ((i ≡ length xs) × (y ≡ x))
-get_snoc = ?
+get_snoc [] x zero y h = inr (refl, cc)
+get_snoc [] x (suc i) y h = cc
+get_snoc (z ∷ zs) x zero y h = inl h
+get_snoc (z ∷ zs) x (suc i) y h = go (get_snoc zs x i y h)
+  where
+    go : (slice_get zs i ≡ Some y) ⊎ ((i ≡ length zs) × (y ≡ x)) → (slice_get zs i ≡ Some y) ⊎ ((suc i ≡ length (z ∷ zs)) × (y ≡ x))
+    go (inl e) = inl e
+    go (inr (e, f)) = inr (omega (arith, e), f)
 
 -- ---- one list behind the other
 
 pub get_append_left : {X : Type 0} (xs ys : List X) (i : ℕ) → i < length xs → slice_get (xs ++ ys) i ≡ slice_get xs i
-get_append_left = ?
+get_append_left [] ys i h = absurd (omega (arith, h))
+get_append_left (x ∷ xs) ys zero h = refl
+get_append_left (x ∷ xs) ys (suc i) h = get_append_left xs ys i (omega (arith, h))
 
 pub get_append_last : {X : Type 0} (xs : List X) (y : X) (i : ℕ) → i ≡ length xs → slice_get (xs ++ y ∷ []) i ≡ Some y
-get_append_last = ?
+get_append_last [] y zero e = refl
+get_append_last [] y (suc i) e = absurd (omega (arith, e))
+get_append_last (x ∷ xs) y zero e = absurd (omega (arith, e))
+get_append_last (x ∷ xs) y (suc i) e = get_append_last xs y i (omega (arith, e))
 
 pub get_append_cases : {X : Type 0} (xs ys : List X) (i : ℕ) (x : X) → slice_get (xs ++ ys) i ≡ Some x → (slice_get xs i ≡ Some x) ⊎ ((j : ℕ) × (slice_get ys j ≡ Some x))
-get_append_cases = ?
+get_append_cases [] ys i x e = inr (i, e)
+get_append_cases (y ∷ xs) ys zero x e = inl e
+get_append_cases (y ∷ xs) ys (suc i) x e = get_append_cases xs ys i x e
 
 pub get_append_place : {X : Type 0} (xs ys : List X) (i : ℕ) (x : X) → slice_get (xs ++ ys) i ≡ Some x → (slice_get xs i ≡ Some x) ⊎ ((j : ℕ) × (i ≡ length xs + j) × (slice_get ys j ≡ Some x))
-get_append_place = ?
+get_append_place [] ys i x e = inr (i, omega arith, e)
+get_append_place (y ∷ xs) ys zero x e = inl e
+get_append_place (y ∷ xs) ys (suc i) x e = go (get_append_place xs ys i x e)
+  where
+    go : (slice_get xs i ≡ Some x) ⊎ ((j : ℕ) × (i ≡ length xs + j) × (slice_get ys j ≡ Some x)) → (slice_get xs i ≡ Some x) ⊎ ((j : ℕ) × (suc i ≡ length (y ∷ xs) + j) × (slice_get ys j ≡ Some x))
+    go (inl e) = inl e
+    go (inr (j, l, e)) = inr (j, omega (arith, l), e)
 
 pub get_append_right : {X : Type 0} (xs ys : List X) (i j : ℕ) → i ≡ length xs + j → slice_get (xs ++ ys) i ≡ slice_get ys j
-get_append_right = ?
+get_append_right [] ys i j e = ap (slice_get ys) (omega (arith, e))
+get_append_right (x ∷ xs) ys zero j e = absurd (omega (arith, e))
+get_append_right (x ∷ xs) ys (suc i) j e = get_append_right xs ys i j (omega (arith, e))
 
 pub get_beyond : {X : Type 0} (xs : List X) (i : ℕ) → length xs ≤ i → slice_get xs i ≡ None
-get_beyond = ?
+get_beyond [] i h = refl
+get_beyond (x ∷ xs) zero h = absurd (omega (arith, h))
+get_beyond (x ∷ xs) (suc i) h = get_beyond xs i (omega (arith, h))
 
 -- ---- of each
 
 module _ {X : Type 0} (P : X → Type 0) where
   pub each_get : (xs : List X) (i : ℕ) (x : X) → Each P xs → slice_get xs i ≡ Some x → P x
-  each_get = ?
+  each_get [] i x h e = cc
+  each_get (y ∷ ys) zero x h e = subst P (the_same y x e) h.0
+    where
+      the_same : (y x : X) → Some y ≡ Some x → y ≡ x
+      the_same y x e = cc
+  each_get (y ∷ ys) (suc i) x h e = each_get ys i x h.1 e
 
   pub each_set : (xs : List X) (i : ℕ) (x : X) → Each P xs → P x → Each P (slice_set xs i x)
-  each_set = ?
+  each_set [] i x h p = tt
+  each_set (y ∷ ys) zero x h p = (p, h.1)
+  each_set (y ∷ ys) (suc i) x h p = (h.0, each_set ys i x h.1 p)
 
   pub each_snoc : (xs : List X) (x : X) → Each P xs → P x → Each P (xs ++ x ∷ [])
-  each_snoc = ?
+  each_snoc [] x h p = (p, tt)
+  each_snoc (y ∷ ys) x h p = (h.0, each_snoc ys x h.1 p)
 
   pub each_replicate : (n : ℕ) (x : X) → P x → Each P (replicate n x)
-  each_replicate = ?
+  each_replicate zero x p = tt
+  each_replicate (suc n) x p = (p, each_replicate n x p)
 
 pub each_more : {X : Type 0} (P Q : X → Type 0) (xs : List X) → ((x : X) → P x → Q x) → Each P xs → Each Q xs
-each_more = ?
+each_more P Q [] f h = tt
+each_more P Q (x ∷ xs) f h = (f x h.0, each_more P Q xs f h.1)
+
+-- ---- ascending lists have each number once
+
+abbrev pub AreDistinct : List ℕ → Type 0
+AreDistinct [] = Unit {0}
+AreDistinct (k ∷ ks) = (¬ (Contains ks k)) × AreDistinct ks
+
+ascending_tail : (k : ℕ) (ks : List ℕ) → IsStrictlyIncreasing (k ∷ ks) → IsStrictlyIncreasing ks
+ascending_tail k ks rises i l =
+    let e : suc i + 1 ≡ suc (i + 1) = omega arith in
+    subst (λ x. slice_index ks i < x) (ap (slice_index (k ∷ ks)) e) (rises (suc i) (omega (arith, l)))
+
+pub ascending_distinct : (ks : List ℕ) → IsStrictlyIncreasing ks → AreDistinct ks
+ascending_distinct [] rises = tt
+ascending_distinct (k ∷ ks) rises = (
+  λ h.
+      let less = AllPairs-from_increasing (k ∷ ks) rises 0 (suc h.0) k (omega arith) (omega (arith, h.1)) in
+      absurd (omega (arith, less, h.2)),
+  ascending_distinct ks (ascending_tail k ks rises),
+)
