@@ -7,7 +7,7 @@ use Rattle.rgo_sound.proofs.Static.{contains_here}
 use Rattle.rgo_code.specs.Code.{Branch, Call, Code, CodeFn, CodeInstr, CodeOp, Do, Go, Jump, Print, Return}
 use Rattle.rgo_code.specs.Erasure.{erased, erased_fn, erased_instr, erased_op}
 use Rattle.rgo_code.specs.Names.{edges}
-use Rattle.rgo_machine.specs.Machines.{AtReceive, AtSend, Elsewhere, Stand, met}
+use Rattle.rgo_machine.specs.Machines.{AtCall, AtClose, AtReceive, AtSend, AtStart, Elsewhere, Stand, met, with_frames}
 use Rattle.rgo_machine.specs.declared.picks.Pick.TheVariants.{Meet, One}
 use Rattle.rgo_memory.specs.Channels.{meets_at}
 use Rattle.rgo_memory.specs.Memory.{Object}
@@ -24,19 +24,13 @@ use Rattle.rgo_region_machine.specs.declared.regions.Region.{Region}
 use Rattle.rgo_sound.proofs.Acting.{after, Acted, alone}
 use Rattle.rgo_sound.specs.Invariant.{IsSimple}
 use Rattle.rgo_tac.specs.Frames.{Frame, going, value_at}
-use Rattle.rgo_tac.specs.Steps.{stand}
+use Rattle.rgo_tac.specs.Steps.{instr_of, stand}
+use Rattle.rgo_tac.specs.Tac.{TacState}
 use Rattle.rgo_typed.specs.declared.actions.Action.{Action}
 use Rattle.rgo_typed.specs.declared.actions.Action.TheVariants.{At, Binary, Bool as BoolConstant, Chan, Close, Copy}
 use Rattle.rgo_typed.specs.declared.actions.Action.TheVariants.{Get, Int, IsNil, Len, Load, Neg, New, Nil, Not, Put}
 use Rattle.rgo_typed.specs.declared.actions.Action.TheVariants.{Recv, Send, Set, Slice, Store}
 use Rattle.rgo_memory.specs.declared.values.Value.TheVariants as value
--- LOST: meet_of from Rattle.rgo_ast.specs.Machine
--- LOST: pick_step from Rattle.rgo_ast.specs.Machine
--- LOST: stands_at from Rattle.rgo_tac.specs.Tac
--- LOST: stands_before from Rattle.rgo_tac.specs.Tac
--- LOST: instruction_at from Rattle.rgo_tac.specs.Tac
-
-
 
 pub record SameHolder (h k : Holder) : Type 0 where
   pub fills : List (Region × ℕ)
@@ -53,7 +47,7 @@ Allots None (Some object) given = ⊥
 Allots (Some r) (Some object) given = given ≡ r ∷ []
 
 -- a frame's instruction in the erased code
-pub current_erased : (code : Code) (frame : Frame) → tac.current (erased code) frame ≡ option_map erased_instr (current code frame)
+pub current_erased : (code : Code) (frame : Frame) → instr_of (erased code) frame ≡ option_map erased_instr (current code frame)
 current_erased = ?
 
 -- ---- where a goroutine stands at a channel
@@ -69,7 +63,7 @@ pub record ReceivesAt (code : Code) (frames : List Frame) (c : Value) (go_on : V
   pub removes : List ℕ
   pub is : instr.op ≡ Do to Recv (channel ∷ []) removes
   pub channel_is : c ≡ value_at frame channel
-  pub goes : (v : Value) → go_on v ≡ going frame to v (frame.next + 1) ∷ callers
+  pub goes : (v : Value) → go_on v ≡ going frame to v ∷ callers
 
 pub record SendsAt (code : Code) (frames : List Frame) (c v : Value) (next : List Frame) : Type 0 where
   pub frame : Frame
@@ -84,14 +78,17 @@ pub record SendsAt (code : Code) (frames : List Frame) (c v : Value) (next : Lis
   pub is : instr.op ≡ Do to Send (channel ∷ sent ∷ []) removes
   pub channel_is : c ≡ value_at frame channel
   pub sent_is : v ≡ value_at frame sent
-  pub goes : next ≡ going frame None value.Nil (frame.next + 1) ∷ callers
+  pub goes : next ≡ going frame to value.Nil ∷ callers
 
-abbrev pub StandsAt : Code → List Frame → Stand Frame → Type 0
-StandsAt code frames (AtReceive c go_on) = ReceivesAt code frames c go_on
-StandsAt code frames (AtSend c v next) = SendsAt code frames c v next
-StandsAt code frames Elsewhere = Unit {0}
+abbrev pub StandsAt : Code → Frame → List Frame → Stand Frame → Type 0
+StandsAt code frame callers (AtReceive c blank go_on) = ReceivesAt code (frame ∷ callers) c (λ v. go_on v ∷ callers)
+StandsAt code frame callers (AtSend c v place next) = SendsAt code (frame ∷ callers) c v (next ∷ callers)
+StandsAt code frame callers (AtClose c place next) = Unit {0}
+StandsAt code frame callers (AtCall next callee) = Unit {0}
+StandsAt code frame callers (AtStart next child) = Unit {0}
+StandsAt code frame callers Elsewhere = Unit {0}
 
-pub stands_at_channel : (code : Code) (frames : List Frame) → StandsAt code frames (stand (erased code) frames)
+pub stands_at_channel : (code : Code) (frame : Frame) (callers : List Frame) → StandsAt code frame callers (stand (erased code) frame)
 stands_at_channel = ?
 
 -- the frames go on along an edge of a simple instruction
@@ -140,6 +137,7 @@ ready_is = ?
 
 -- an instruction of one goroutine
 pub record OneDone (code : Code) (page_words : ℕ) (s : RegionState) (g : ℕ) (t : RegionState) : Type 0 where
+  pub running : s.plain.ended ≡ None
   pub h : Holder
   pub there : slice_get s.holders g ≡ Some h
   pub frame : Frame
@@ -164,7 +162,12 @@ instr_is = ?
 
 -- ---- a meeting
 
+-- the state of the plain machine after it: both have other frames
+abbrev pub met_with : TacState → ℕ → ℕ → List Frame → List Frame → TacState
+met_with p r u receiver sender = with_frames (with_frames p r receiver) u sender
+
 pub record MeetDone (code : Code) (s : RegionState) (r u : ℕ) (t : RegionState) : Type 0 where
+  pub running : s.plain.ended ≡ None
   pub apart : nat_eq r u ≡ false
   pub h : Holder
   pub k : Holder
@@ -185,7 +188,7 @@ pub record MeetDone (code : Code) (s : RegionState) (r u : ℕ) (t : RegionState
   pub ready_h : Ready s h receives.frame receives.instr
   pub ready_k : Ready s k sends.frame sends.instr
   pub standing : standing_at k.offer ≡ true
-  pub plain : t.plain ≡ plain_after s (met s.plain r u (go_on v) next)
+  pub plain : t.plain ≡ plain_after s (met_with s.plain r u (go_on v) next)
   pub owners : t.owners ≡ s.owners
   pub regions : t.regions ≡ s.regions
   pub global_pages : t.global_pages ≡ s.global_pages
