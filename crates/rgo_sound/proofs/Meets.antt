@@ -6,7 +6,6 @@ use Rattle.rgo_sound.proofs.ErasureLemmas.{yields_is}
 use Rattle.rgo_sound.proofs.Instructs.{IsRuled, fine_plain, frame_goes}
 use Rattle.rgo_sound.proofs.Ruled.{ruled}
 use Rattle.rgo_code.specs.Code.{Code}
-use Rattle.rgo_machine.specs.Machines.{met}
 use Rattle.rgo_machine.specs.declared.picks.Pick.TheVariants.{Meet}
 use Rattle.rgo_region_machine.specs.Instructions.{taken_offer}
 use Rattle.rgo_region_machine.specs.Machine.{Instruct, region_step}
@@ -24,9 +23,6 @@ side_good = ?
 module _ (code : Code) (s : RegionState) (r u : ℕ) (fine : Fine code s) (rules : IsRuled code) (a b a' b' : List Frame) (ne : nat_eq r u ≡ false) (qa : slice_get s.plain.goroutines r ≡ Some a) (qb : slice_get s.plain.goroutines u ≡ Some b) (x : OnFrom code a a') (y : OnFrom code b b') (h k : Holder) (e : slice_get s.holders r ≡ Some h) (e' : slice_get s.holders u ≡ Some k) (dh : h.duties ≡ []) (dk : k.duties ≡ []) where
   flip : (x y : ℕ) → nat_eq x y ≡ false → nat_eq y x ≡ false
   flip = ?
-
-  abbrev next : TacState
-  next = met s.plain r u a' b'
 
   abbrev k' : Holder
   k' = record k { offer = taken_offer k.offer }

@@ -1,5 +1,6 @@
 -- Pages, offers, acknowledgements, ends and the start; and all runs.
 use Rattle.std.proofs.Common.{◌≡◌, ℕ, zero, suc, ◌+◌, ◌<◌, Bool, true, false, List, [], ◌∷◌, ◌++◌, map, length, Option, Some, None, refl, sym, ap, ◌∙◌, subst, nat_eq, if◌then◌else◌, arith, true≢false, slice_get, slice_set, option_map, option_and_then, Contains}
+use Rattle.std.specs.Prelude.{codes}
 use Rattle.rgo_sound.proofs.Places.{get_below, get_some}
 use Rattle.rgo_sound.proofs.ErasureLemmas.{Yields, yields, yields_none, yields_if, yields_then, yields_at, yields_from}
 use Rattle.rgo_sound.proofs.CoreLemmas.{split, eq_of}
@@ -21,8 +22,6 @@ use Rattle.rgo_code.specs.Erasure.{erased, erased_fn}
 use Rattle.rgo_code.specs.Exists.{HasMain}
 use Rattle.rgo_code.specs.NameRules.{Ascends, EntryRemovesDead}
 use Rattle.rgo_code.specs.Names.{result_class, slot_class}
-use Rattle.rgo_machine.specs.declared.picks.End.{End}
-use Rattle.rgo_machine.specs.declared.picks.End.TheVariants.{Exit, Trap}
 use Rattle.rgo_machine.specs.declared.picks.Pick.TheVariants.{Meet, One}
 use Rattle.rgo_region_machine.specs.Duties.{attend, attended, may_go}
 use Rattle.rgo_region_machine.specs.Machine.{Acknowledge, Attend, Event, Finish, Instruct, MakeOffer, TakePage}
@@ -34,29 +33,16 @@ use Rattle.rgo_region_machine.specs.Owed.{current, current_in, duties_before}
 use Rattle.rgo_region_machine.specs.Regions.{RegionInfo, one_page_more, with_info}
 use Rattle.rgo_region_machine.specs.States.{Duty, Holder, NoOffer, Offer, RegionState, Remove, Standing, Taken}
 use Rattle.rgo_region_machine.specs.States.{frames_of}
+use Rattle.rgo_region_machine.specs.declared.limits.Limit.{Limit}
 use Rattle.rgo_region_machine.specs.declared.regions.Region.{Region}
 use Rattle.rgo_region_machine.specs.declared.regions.Region.TheVariants.{Global as GlobalRegion, Numbered}
 use Rattle.rgo_sound.specs.Invariant.{Fine, GoodHolder, IsFree, IsReady, IsSimple, RunsAreFine, Settled}
 use Rattle.rgo_sound.specs.Stakes.{holders_of, is_in, one_if, pending_of, times_in, total}
-use Rattle.rgo_tac.specs.Frames.{Frame}
+use Rattle.rgo_tac.specs.Frames.{Frame, called}
 use Rattle.rgo_tac.specs.Tac.{main_frames, tac_start}
-use Rattle.rgo_tac.specs.Transfers.{Steps}
 use Rattle.rgo_tac.specs.declared.regions.Class.TheVariants.{Name, NoClass}
 use Rattle.rgo_code.specs.declared.rules.Line.TheVariants as line
 use Rattle.rgo_code.specs.declared.rules.Rule.TheVariants as rule
--- LOST: main_name from Rattle.rgo_tac.specs.Tac
--- LOST: fresh_frame from Rattle.rgo_tac.specs.Tac
--- LOST: function_number from Rattle.rgo_tac.specs.Tac
--- LOST: number_in from Rattle.rgo_tac.specs.Tac
--- LOST: Deadlock from Rattle.rgo_code.specs.declared.code.End.TheVariants
--- LOST: Pages from Rattle.rgo_code.specs.declared.code.End.TheVariants
--- LOST: Regions from Rattle.rgo_code.specs.declared.code.End.TheVariants
--- LOST: TooLarge from Rattle.rgo_code.specs.declared.code.End.TheVariants
--- LOST: TooDeep from Rattle.rgo_code.specs.declared.code.End.TheVariants
--- LOST: Goroutines from Rattle.rgo_code.specs.declared.code.End.TheVariants
--- LOST: WriteFault from Rattle.rgo_code.specs.declared.code.End.TheVariants
--- LOST: NoMemory from Rattle.rgo_code.specs.declared.code.End.TheVariants
--- LOST: function_in from Rattle.rgo_code.specs.Checked
 
 module _ (code : Code) (page_words : ℕ) (s : RegionState) (fine : Fine code s) where
   -- another offer, or another fill
@@ -81,10 +67,7 @@ module _ (code : Code) (page_words : ℕ) (s : RegionState) (fine : Fine code s)
   fine_acknowledge : (g : ℕ) (h : Holder) (o : Offer) → slice_get s.holders g ≡ Some h → Yields (Fine code) (acknowledge s g h o)
   fine_acknowledge = ?
 
-  fine_marked : (end : End) → Fine code (record s { mark = kept s.mark end })
-  fine_marked = ?
-
-  fine_finish : (end : End) → Yields (Fine code) (finished s end)
+  fine_finish : (limit : Limit) → Fine code (finished s limit)
   fine_finish = ?
 
   fine_attend : (g : ℕ) → Yields (Fine code) (region_step code page_words s (Attend g))
@@ -98,8 +81,19 @@ module _ (code : Code) (page_words : ℕ) (s : RegionState) (fine : Fine code s)
 
 -- ---- the start
 
-pub number_back : (fs : List CodeFn) (name : List ℕ) (n : ℕ) (c : CodeFn) → function_in fs name ≡ Some c → (m : ℕ) × (number_in (map erased_fn fs) name n ≡ Some (n + m)) × (slice_get fs m ≡ Some c)
-number_back = ?
+-- the `main` with which checked code starts
+pub record Main (code : Code) : Type 0 where
+  pub number : ℕ
+  pub main : CodeFn
+  pub declared : slice_get code.functions number ≡ Some main
+  pub named : main.name ≡ codes "main"
+  pub no_params : main.params ≡ 0
+  pub no_result : main.result ≡ None
+  -- it is the first of that name
+  pub begins : main_frames (erased code).functions 0 ≡ called (erased_fn main) number [] ∷ []
+
+pub main_of : (code : Code) → IsChecked code → Main code
+main_of = ?
 
 no_elements : (ks : List ℕ) → ((k : ℕ) → Contains ks k → ⊥) → ks ≡ []
 no_elements = ?

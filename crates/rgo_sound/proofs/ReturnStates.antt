@@ -26,16 +26,11 @@ use Rattle.rgo_sound.proofs.Acting.{after, Acted, act, act_at, alone, end_by, mo
 use Rattle.rgo_sound.specs.Core.{Core}
 use Rattle.rgo_sound.specs.Invariant.{AllWait, EachOnce, Fine, FramesFit, GoodHolder, HasInstr, IsCall, IsFree, IsReady}
 use Rattle.rgo_sound.specs.Invariant.{ReturnsKeep, Settled, Shares, Stands, Waits, shared_names, to_share}
-use Rattle.rgo_sound.specs.Values.{call_target}
-use Rattle.rgo_tac.specs.Frames.{Frame, going, values_of}
+use Rattle.rgo_tac.specs.Frames.{Frame, value_at}
+use Rattle.rgo_tac.specs.Steps.{resumed}
 use Rattle.rgo_tac.specs.Tac.{TacState}
 use Rattle.rgo_code.specs.declared.rules.Line.TheVariants as line
 use Rattle.rgo_code.specs.declared.rules.Rule.TheVariants as rule
--- LOST: returned_value from Rattle.rgo_tac.specs.Tac
--- LOST: instruction_at from Rattle.rgo_tac.specs.Tac
--- LOST: fresh_frame from Rattle.rgo_tac.specs.Tac
--- LOST: function_number from Rattle.rgo_tac.specs.Tac
--- LOST: number_in from Rattle.rgo_tac.specs.Tac
 
 
 
@@ -45,7 +40,7 @@ the_instr = ?
 -- the frames behind a return
 abbrev behind_frames : Code → Frame → Option ℕ → List Frame → List Frame
 behind_frames code frame value [] = []
-behind_frames code frame value (c ∷ cs) = going c (call_target (tac.current (erased code) c)) (returned_value frame value) (c.next + 1) ∷ cs
+behind_frames code frame value (c ∷ cs) = resumed (erased code) c (option_map (value_at frame) value) ∷ cs
 
 module _ (code : Code) (checked : IsChecked code) (written : Ascends code) (frame : Frame) (instr : CodeInstr) (value : Option ℕ) (is : instr.op ≡ Return value) (cur : current code frame ≡ Some instr) where
   rules : IsRuled code

@@ -14,13 +14,13 @@ use Rattle.rgo_sound.proofs.Passable.{all_passable, go_reads}
 use Rattle.rgo_sound.proofs.Enters.{IsParameter, enters, passed_bound}
 use Rattle.rgo_sound.proofs.Instructs.{IsRuled}
 use Rattle.rgo_sound.proofs.OneStep.{SameHolder, none_owed, OneDone, one_done, instr_is}
-use Rattle.rgo_sound.proofs.CallStates.{number_found, first_instr}
+use Rattle.rgo_sound.proofs.CallStates.{first_instr}
 use Rattle.rgo_sound.proofs.OneStep.{current_erased}
 use Rattle.rgo_sound.proofs.Ruled.{ruled}
 use Rattle.rgo_code.specs.Checked.{IsChecked}
 use Rattle.rgo_code.specs.ClassRules.{Passes, StartsPass}
 use Rattle.rgo_code.specs.Code.{Code, CodeFn, CodeInstr, CodeOp, Go}
-use Rattle.rgo_code.specs.Erasure.{erased, erased_instr, erased_op}
+use Rattle.rgo_code.specs.Erasure.{erased, erased_fn, erased_instr, erased_op}
 use Rattle.rgo_code.specs.NameRules.{Ascends, protected_names}
 use Rattle.rgo_code.specs.Names.{Gives, IsOwn, edges, is_name, region_parameters, result_class, slot_class}
 use Rattle.rgo_code.specs.Types.{ArgumentsFit}
@@ -44,18 +44,12 @@ use Rattle.rgo_sound.specs.Invariant.{ArePending, EachOnce, Fine, FramesFit, Goo
 use Rattle.rgo_sound.specs.Invariant.{Settled, Shares, Stands, StartsKeep, at_most_one, bound_times, same_bound}
 use Rattle.rgo_sound.specs.Invariant.{shared_before, shared_names, to_share}
 use Rattle.rgo_sound.specs.Stakes.{holders_of, is_in, one_if, pending_of, times_in, total}
-use Rattle.rgo_tac.specs.Frames.{Frame, going, values_of}
+use Rattle.rgo_tac.specs.Frames.{Frame, called, moved_to, values_of}
 use Rattle.rgo_tac.specs.Tac.{TacState}
 use Rattle.rgo_tac.specs.declared.regions.Class.{Class}
 use Rattle.rgo_tac.specs.declared.regions.Class.TheVariants.{Global, Name, NoClass}
 use Rattle.rgo_code.specs.declared.rules.Line.TheVariants as line
 use Rattle.rgo_code.specs.declared.rules.Rule.TheVariants as rule
-use Rattle.rgo_memory.specs.declared.values.Value.TheVariants as value
--- LOST: fresh_frame from Rattle.rgo_tac.specs.Tac
--- LOST: function_number from Rattle.rgo_tac.specs.Tac
--- LOST: OpIsThere from Rattle.rgo_code.specs.Checked
--- LOST: CallIsThere from Rattle.rgo_code.specs.Checked
--- LOST: TypesFitAt from Rattle.rgo_code.specs.Checked
 
 
 -- ---- what is passed to a child, by number
@@ -68,7 +62,7 @@ given_times r (o ∷ given) = one_if (same_bound (Numbered r) o) + given_times r
 zero_add : (n : ℕ) → 0 + n ≡ n
 zero_add = ?
 
-given_is : (r : ℕ) (names : Bindings) (regions : List Class) → given_times r (passed_regions names regions) ≡ bound_times (Numbered r) names (regions_named passes)
+given_is : (r : ℕ) (names : Bindings) (passes : List Class) → given_times r (passed_regions names passes) ≡ bound_times (Numbered r) names (regions_named passes)
 given_is = ?
 
 stands_yes : (r : ℕ) (given : List (Option Region)) → stands_in (Numbered r) given ≡ true → 1 ≤ given_times r given
@@ -91,7 +85,7 @@ twice_once : (given : List (Option Region)) → EachOnce (twice given)
 twice_once = ?
 
 -- the names of a child for a region
-held_passed : (r : ℕ) (names : Bindings) (formals regions : List Class) → AreFormals formals → length regions ≡ length formals → held_in NoClass r (passed formals (passed_regions names regions)) ≡ given_times r (passed_regions names regions)
+held_passed : (r : ℕ) (names : Bindings) (formals passes : List Class) → AreFormals formals → length passes ≡ length formals → held_in NoClass r (passed formals (passed_regions names passes)) ≡ given_times r (passed_regions names passes)
 held_passed = ?
 
 pub in_of_times : (r : ℕ) (xs : List ℕ) → 1 ≤ times_in r xs → is_in r xs ≡ true
@@ -101,7 +95,7 @@ pub times_of_in : (r : ℕ) (xs : List ℕ) → is_in r xs ≡ true → 1 ≤ ti
 times_of_in = ?
 
 -- the child's part of the count: what is passed once has one name, what is passed more often is its base
-child_core : (pending : List ℕ) (names : Bindings) (formals regions : List Class) → AreFormals formals → length regions ≡ length formals → ArePending pending names (regions_named passes) → Core pending (twice (passed_regions names regions)) (environment_of NoClass (passed formals (passed_regions names regions)) ∷ [])
+child_core : (pending : List ℕ) (names : Bindings) (formals passes : List Class) → AreFormals formals → length passes ≡ length formals → ArePending pending names (regions_named passes) → Core pending (twice (passed_regions names passes)) (environment_of NoClass (passed formals (passed_regions names passes)) ∷ [])
 child_core = ?
 
 -- ---- both goroutines
@@ -118,8 +112,8 @@ module _ (code : Code) (checked : IsChecked code) (written : Ascends code) (fram
       record {
         stakes = h.pending;
         pending = [];
-        environments = environment_of (result_class callee) (passed (region_parameters callee) (passed_regions (top_names environments) regions)) ∷ [];
-        base = twice (passed_regions (top_names environments) regions);
+        environments = environment_of (result_class callee) (passed (region_parameters callee) (passed_regions (top_names environments) passes)) ∷ [];
+        base = twice (passed_regions (top_names environments) passes);
         fills = [];
         duties = map Remove callee.entry ++ next_duties code frames;
         offer = NoOffer;
@@ -133,7 +127,7 @@ module _ (code : Code) (checked : IsChecked code) (written : Ascends code) (fram
     pub child : GoodHolder code (entered ∷ []) (child_of h environments callee (entered ∷ []))
     pub once : (r : ℕ) → times_in r h.pending ≤ 1
 
-  started : (h : Holder) (environments : List Environment) (duties : List Duty) (frame' entered : Frame) (m : ℕ) (callee : CodeFn) → frame'.function ≡ frame.function → frame'.next ≡ frame.next + 1 → entered.function ≡ m → entered.next ≡ 0 → slice_get code.functions m ≡ Some callee → function_of code name ≡ Some callee → duties ≡ [] →
+  started : (h : Holder) (environments : List Environment) (duties : List Duty) (frame' entered : Frame) (callee : CodeFn) → frame'.function ≡ frame.function → frame'.next ≡ frame.next + 1 → entered.function ≡ n → entered.next ≡ 0 → slice_get code.functions n ≡ Some callee → duties ≡ [] →
       Core h.stakes h.base environments → EachOnce h.base → FramesFit code h.base (frame ∷ callers) environments duties → Shares (to_share code (frame ∷ callers)) duties (top_names environments) h.pending → Started h environments frame' entered callee
   started = ?
 
@@ -156,32 +150,34 @@ module _ (code : Code) (page_words : ℕ) (s : RegionState) (g : ℕ) (h : Holde
   good : GoodHolder code (frame ∷ callers) h
   good = ?
 
-  abbrev entered : ℕ → Frame
-  entered n = fresh_frame (erased code) n (values_of frame arguments)
+  abbrev entered : CodeFn → Frame
+  entered callee = called (erased_fn callee) n (values_of frame from)
 
   abbrev frame' : Frame
-  frame' = going frame None value.Nil (frame.next + 1)
+  frame' = moved_to frame (frame.next + 1)
 
-  abbrev acted : ℕ → Acted
-  acted n = record { memory = s.plain.memory; frames = frame' ∷ callers; started = (entered n ∷ []) ∷ []; printed = []; trap = None }
+  abbrev acted : CodeFn → Acted
+  acted callee = record { memory = s.plain.memory; frames = frame' ∷ callers; started = (entered callee ∷ []) ∷ []; printed = []; trap = None }
 
-  abbrev next : ℕ → TacState
-  next n = after s.plain g (acted n)
+  abbrev next : CodeFn → TacState
+  next callee = after s.plain g (acted callee)
 
   no_end : (g : ℕ) (f : Frame) (fs : List Frame) → end_by g (f ∷ fs) None ≡ None
   no_end = ?
 
-  own : (n : ℕ) (frames : List Frame) → slice_get s.plain.goroutines g ≡ Some frames → frames_of (next n) g ≡ frame' ∷ callers
+  own : (callee : CodeFn) (frames : List Frame) → slice_get s.plain.goroutines g ≡ Some frames → frames_of (next callee) g ≡ frame' ∷ callers
   own = ?
 
-  behind : (n : ℕ) (callee : CodeFn) (frames : List Frame) (given : Holder × List Region) → slice_get code.functions n ≡ Some callee → function_of code name ≡ Some callee → slice_get s.plain.goroutines g ≡ Some frames → has_none h.duties ≡ true → SameHolder h given.0 → Fine code (instructed_with code s g frame callers instr (next n) given)
+  behind : (callee : CodeFn) (frames : List Frame) (given : Holder × List Region) → slice_get code.functions n ≡ Some callee → slice_get s.plain.goroutines g ≡ Some frames → has_none h.duties ≡ true → SameHolder h given.0 → Fine code (instructed_with code s g frame callers instr (next callee) given)
   behind = ?
 
-  abbrev IsStarted : Option (Acted) → Type 0
-  IsStarted None = Unit {0}
-  IsStarted (Some a) = (n : ℕ) × (callee : CodeFn) × (a ≡ acted n) × (slice_get code.functions n ≡ Some callee) × (function_of code name ≡ Some callee)
+  -- a function that exists is started
+  record IsStarted : Type 0 where
+    callee : CodeFn
+    declared : slice_get code.functions n ≡ Some callee
+    acts : alone (erased code) s.plain.memory (frame ∷ callers) ≡ Some (acted callee)
 
-  is_started : IsStarted (alone (erased code) s.plain.memory (frame ∷ callers))
+  is_started : IsStarted
   is_started = ?
 
 pub fine_start_of : (code : Code) (page_words : ℕ) (s t : RegionState) (g : ℕ) (x : OneDone code page_words s g t) (n : ℕ) (from : List ℕ) (passes : List Class) (removes : List ℕ) → IsChecked code → Ascends code → Fine code s → x.instr.op ≡ Go n from passes removes → Fine code t
