@@ -7,8 +7,11 @@ use Rattle.rgo_sound.proofs.Others.{runs_are_fine}
 use Rattle.rgo_sound.proofs.CoreLemmas.{split, eq_of, or_right}
 use Rattle.rgo_sound.proofs.Static.{contains_nil, contains_cases, contains_here, contains_there}
 use Rattle.rgo_sound.proofs.Attends.{staked_live, same_reflexive, total_none}
+use Rattle.rgo_code.specs.Checked.{IsChecked}
 use Rattle.rgo_code.specs.Code.{Code}
-use Rattle.rgo_region_machine.specs.Counts.{is_removed}
+use Rattle.rgo_code.specs.NameRules.{Ascends}
+use Rattle.rgo_region_machine.specs.Counts.{counts_of, is_removed}
+use Rattle.rgo_region_machine.specs.Machine.{Event, region_run}
 use Rattle.rgo_region_machine.specs.Duties.{guards}
 use Rattle.rgo_region_machine.specs.Regions.{RegionInfo, bound, same_region}
 use Rattle.rgo_region_machine.specs.States.{Create, Duty, EndBase, Environment, Holder, Protect, RegionState, Remove}
@@ -20,9 +23,8 @@ use Rattle.rgo_sound.specs.Holding.{OneHoldingName, held}
 use Rattle.rgo_sound.specs.Invariant.{Fine, FramesFit, IsFree, IsReady, Settled, Shares, to_share}
 use Rattle.rgo_sound.specs.NextNames.{DutyNames, HasStake}
 use Rattle.rgo_sound.specs.Safety.{AllEnded}
-use Rattle.rgo_sound.specs.Stakes.{HasEnded, holders_of, is_in, one_if, pending_of, times_in}
+use Rattle.rgo_sound.specs.Stakes.{HasEnded, StakesAreCounted, holders_of, is_in, one_if, pending_of, times_in}
 use Rattle.rgo_tac.specs.Frames.{Frame}
--- LOST: StakesAlways from Rattle.rgo_code.specs.Kept
 
 contains_in : (xs : List ℕ) (r : ℕ) → Contains xs r → is_in r xs ≡ true
 contains_in [] r c = absurd (contains_nil r c)
@@ -133,6 +135,16 @@ no_stakes (x ∷ xs) h = absurd (true≢false (sym (ap (λ b. if b then true els
     self x = grind arith
 
 -- ---- (a) to (d) of every run
+
+-- a region's stakes are the goroutines that have one, none of them ended, and the pending ones; each stake that is under no own protection has one holding name; what a goroutine's next duty names is Global, or live with an own stake; and where all have ended, each region that was made is removed
+pub record StakesKept (s : RegionState) : Type 0 where
+  pub stakes : StakesAreCounted s
+  pub names : OneHoldingName s
+  pub duties : (g : ℕ) (h : Holder) (d : Duty) (ds : List Duty) (r : Region) → slice_get s.holders g ≡ Some h → h.duties ≡ d ∷ ds → DutyNames h d r → HasStake s h r
+  pub all_removed : AllEnded s → (counts_of s).made ≡ (counts_of s).removed
+
+abbrev pub StakesAlways : Type 0
+StakesAlways = (code : Code) (page_words : ℕ) (events : List Event) (s : RegionState) → IsChecked code → Ascends code → region_run code page_words events ≡ Some s → StakesKept s
 
 pub stakes_always : StakesAlways
 stakes_always code page_words events s checked written r =

@@ -105,7 +105,7 @@ left_named code fn i k instr names a l g n e = split (is_name k (result_class fn
     own o (inl c) = l.made k c g e
     own o (inr m) = m ((a.creates k).1 (o, n, (λ h. l.there k h g e)))
 
-pub returns_on : (code : Code) (fn caller_fn : CodeFn) (frame caller caller' : Frame) (callers : List Frame) (instr call next : CodeInstr) (value : Option ℕ) (to : Option ℕ) (name : List ℕ) (arguments : List ℕ) (regions : List Class) (protects removes : List ℕ) (h : Holder) (f d : Environment) (fs : List Environment) →
+pub returns_on : (code : Code) (fn caller_fn : CodeFn) (frame caller caller' : Frame) (callers : List Frame) (instr call next : CodeInstr) (value : Option ℕ) (to : Option ℕ) (n : ℕ) (from : List ℕ) (passes : List Class) (protects removes : List ℕ) (h : Holder) (f d : Environment) (fs : List Environment) →
     instr.op ≡ Return value → ReturnsHoldNothing fn frame.next instr (Return value) →
     call.op ≡ Call to n from passes protects removes → Kept code caller_fn caller.next call → function_at code caller' ≡ Some caller_fn → Kept code caller_fn caller'.next next → caller'.next ≡ caller.next + 1 →
     Core h.stakes h.base (f ∷ d ∷ fs) → EachOnce h.base → f.lent ≡ result_class fn → Settled fn frame.next instr f.names f.protections →
@@ -113,14 +113,14 @@ pub returns_on : (code : Code) (fn caller_fn : CodeFn) (frame caller caller' : F
     GoodHolder code (caller' ∷ callers) (record h { environments = d ∷ fs; duties = (map Unprotect protects ++ map Remove removes) ++ duties_before (Some next) })
 returns_on code fn caller_fn frame caller caller' callers instr call next value to n from passes protects removes h f d fs is empty is_call a is' b step core once lends s dl l fit w none_left' =
     record {
-      core = core_popped h.stakes h.base f (d ∷ fs) (λ k m. s.gone k (λ r. true≢false (sym m ∙ lent_names f.lent k (lends ∙ r))) (empty.1 k) (λ c. none_created k c)) core;
+      core = core_popped h.stakes h.base f (d ∷ fs) (λ k m. s.gone k (λ r. true≢false (sym m ∙ lent_names f.lent k (lends ∙ r))) (empty.holds k) (λ c. none_created k c)) core;
       fit = (record { fn = caller_fn; is_fn = is'; instr = next; is_instr = b.here; lends = dl; ready = ready }, w);
       base_once = once;
       shares = owed code caller' callers next (map Unprotect protects ++ map Remove removes) (behind_call_share_none protects removes) d.names h.pending caller_fn is' b.here none_left';
     }
   where
     none_created : (k : ℕ) → Contains instr.creates k → ⊥
-    none_created k c = let x : Contains [] k = subst (λ y. Contains y k) empty.0 c in omega (arith, x.1)
+    none_created k c = let x : Contains [] k = subst (λ y. Contains y k) empty.creates c in omega (arith, x.1)
 
     edge : Contains {X = ℕ × List ℕ} (edges call.op caller.next) (caller'.next, removes)
     edge =
@@ -145,11 +145,11 @@ pub returns_last : (code : Code) (fn : CodeFn) (frame : Frame) (instr : CodeInst
     GoodHolder code [] (record h { environments = []; duties = map EndBase h.base })
 returns_last code fn frame instr value h f empty core once lends s none_left' =
     record {
-      core = core_popped h.stakes h.base f [] (λ k m. s.gone k (λ r. true≢false (sym m ∙ lent_names f.lent k (lends ∙ r))) (empty.1 k) (λ c. none_created k c)) core;
+      core = core_popped h.stakes h.base f [] (λ k m. s.gone k (λ r. true≢false (sym m ∙ lent_names f.lent k (lends ∙ r))) (empty.holds k) (λ c. none_created k c)) core;
       fit = refl;
       base_once = once;
       shares = subst (λ x. Shares [] (map EndBase h.base) [] x) (sym none_left') (subst (λ x. Shares [] x [] []) (append-nil (map EndBase h.base)) (shares_front [] (map EndBase h.base) [] [] (ends_share_none h.base) (λ names r. refl) []));
     }
   where
     none_created : (k : ℕ) → Contains instr.creates k → ⊥
-    none_created k c = let x : Contains [] k = subst (λ y. Contains y k) empty.0 c in omega (arith, x.1)
+    none_created k c = let x : Contains [] k = subst (λ y. Contains y k) empty.creates c in omega (arith, x.1)

@@ -2,6 +2,7 @@
 use Rattle.std.proofs.Common.{◌≡◌, ◌≢◌, ℕ, zero, suc, ◌+◌, true, false, List, [], ◌∷◌, ◌++◌, map, Option, Some, None, refl, sym, ap, ◌∙◌, subst, nat_eq, arith, ◌⊎◌, inl, inr, Contains, option_map, slice_get, rules, if◌then◌else◌}
 use Rattle.std.proofs.lemmas.Option.{slice_get-map}
 use Rattle.rgo_sound.proofs.CoreLemmas.{split, eq_of, bound_unbind, bound_unbind_other}
+use Rattle.rgo_sound.proofs.Places.{AreDistinct, ascending_distinct}
 use Rattle.rgo_code.specs.Code.{Branch, Call, Code, CodeFn, CodeInstr, CodeOp, Do, Go, Jump, Print, Return}
 use Rattle.rgo_code.specs.Erasure.{erased_fn, erased_instr, erased_op}
 use Rattle.rgo_code.specs.NameRules.{CreatesUsed, InstrAscends, MayRemove, ProtectsUsed, RemovesDead, protected_names}
@@ -18,7 +19,6 @@ use Rattle.rgo_sound.specs.Stakes.{one_if}
 use Rattle.rgo_tac.specs.Flow.{leads_to, writes}
 use Rattle.rgo_tac.specs.declared.regions.Class.{Class}
 use Rattle.rgo_tac.specs.declared.regions.Class.TheVariants.{Global, Name, NoClass}
-use Rattle.std.specs.List.Sorted.{IsStrictlyIncreasing}
 
 -- ---- lists
 
@@ -57,13 +57,6 @@ stands_or_not (x ∷ xs) v = go (stands_or_not xs v)
         neither : nat_eq x v ≡ false → (x ≡ v) ⊎ Contains xs v → ⊥
         neither f (inl e) = refutes x v f e
         neither f (inr c) = n c
-
-abbrev pub AreDistinct : List ℕ → Type 0
-AreDistinct [] = Unit {0}
-AreDistinct (k ∷ ks) = (¬ (Contains ks k)) × AreDistinct ks
-
-pub ascending_distinct : (ks : List ℕ) → IsStrictlyIncreasing ks → AreDistinct ks
-ascending_distinct = ?
 
 -- ---- duties that can be done
 
