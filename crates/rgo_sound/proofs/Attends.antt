@@ -3,7 +3,7 @@ use Rattle.std.proofs.Common.{◌≡◌, ℕ, zero, suc, ◌+◌, ◌-◌, ◌�
 use Rattle.std.specs.List.{list_any}
 use Rattle.rgo_sound.proofs.Places.{get_below, get_set_other, get_set_same, get_snoc, get_some, length_set}
 use Rattle.rgo_sound.proofs.Static.{is_named}
-use Rattle.rgo_sound.proofs.CoreLemmas.{split, eq_of, core_kept, core_removed, core_created, core_shielded, core_unbased, in_without, not_in_without}
+use Rattle.rgo_sound.proofs.CoreLemmas.{split, eq_of, core_kept, core_removed, core_created, core_protected, core_unbased, in_without, not_in_without}
 use Rattle.rgo_code.specs.Code.{Code, CodeFn, CodeInstr}
 use Rattle.rgo_code.specs.Names.{IsOwn, is_name, result_class}
 use Rattle.rgo_region_machine.specs.Duties.{attend, attended, duty_done, guards, may_go, protected, removal, shared}
@@ -25,6 +25,7 @@ use Rattle.rgo_tac.specs.declared.regions.Class.TheVariants.{Name}
 
 -- ---- sums over the goroutines
 
+-- a sum after one goroutine's part has changed; each part is at most the sum; a sum of nothing
 pub total_set : (f : Holder → ℕ) (hs : List Holder) (g : ℕ) (h k : Holder) → slice_get hs g ≡ Some h → total f (slice_set hs g k) + f h ≡ total f hs + f k
 total_set f [] g h k e = cc
 total_set f (x ∷ xs) zero h k e = let q : f x ≡ f h = ap f (the_same x h e) in omega (arith, q)
@@ -47,6 +48,7 @@ total_none f (x ∷ xs) n = let a = n 0 x refl in let b = total_none f xs (λ g 
 
 -- ---- regions
 
+-- what a change of one region leaves of it, and of the others
 pub with_info_same : (xs : List RegionInfo) (r : ℕ) (c : RegionInfo → RegionInfo) → slice_get (with_info xs r c) r ≡ option_map c (slice_get xs r)
 with_info_same [] r c = refl
 with_info_same (x ∷ xs) zero c = refl
@@ -106,6 +108,7 @@ fine_with code s g h k regions fine e more good staked pending counts =
 
 -- ---- one duty
 
+-- a holder by its fields in order
 abbrev pub holder : List ℕ → List ℕ → List Environment → List Region → List (Region × ℕ) → List Duty → Offer → Holder
 holder stakes pending environments base fills duties offer =
     record { stakes = stakes; pending = pending; environments = environments; base = base; fills = fills; duties = duties; offer = offer }
@@ -116,6 +119,7 @@ pub record Goes (code : Code) (o : Option RegionState) : Type 0 where
   pub goes : o ≡ Some state
   pub fine : Fine code state
 
+-- a function's own name is the frame's
 mine_of : (fn : CodeFn) (f : Environment) (k : ℕ) → f.lent ≡ result_class fn → IsOwn fn k → is_mine f.lent k ≡ true
 mine_of fn f k l own = split (is_name k f.lent) (λ t. absurd (own (sym l ∙ is_named k f.lent t))) (λ n. ap (λ x. not x) n)
 
@@ -123,12 +127,14 @@ pub not_positive : (n : ℕ) → (0 < n → ⊥) → n ≡ 0
 not_positive zero h = refl
 not_positive (suc n) h = absurd (h (omega arith))
 
+-- the name that is lent is no own name
 pub lent_names : (lent : Class) (j : ℕ) → lent ≡ Name j → is_mine lent j ≡ false
 lent_names lent j e = ap (λ x. is_mine x j) e ∙ ap (λ x. not x) (self j)
   where
     self : (j : ℕ) → nat_eq j j ≡ true
     self j = grind arith
 
+-- what is protected behind the end of a protection was protected before it
 any_removed : (p : Region → Bool) (q : Region) (ss : List Region) → list_any p (removed_once q ss) ≡ true → list_any p ss ≡ true
 any_removed p q [] e = e
 any_removed p q (s ∷ ss) e = go (same_region q s) e (any_removed p q ss)
@@ -194,6 +200,7 @@ stake_ends code s g h k r fine e staked ks kp good =
             omega (arith, a, p, d, y, a', p')
 
 module _ (code : Code) (s : RegionState) (g : ℕ) (stakes pending : List ℕ) (f : Environment) (fs : List Environment) (base : List Region) (fills : List (Region × ℕ)) (ds : List Duty) (offer : Offer) (frame : Frame) (callers : List Frame) (fine : Fine code s) (once : EachOnce base) (at : frames_of s.plain g ≡ frame ∷ callers) where
+  -- the holder before its duty d and behind it, where nothing else has changed
   abbrev before : Duty → Holder
   before d = holder stakes pending (f ∷ fs) base fills (d ∷ ds) offer
 
@@ -358,8 +365,8 @@ module _ (code : Code) (s : RegionState) (g : ℕ) (stakes pending : List ℕ) (
           record { state = x.state; goes = ap (option_and_then (removal s g (unnamed k))) b ∙ x.goes; fine = x.fine }
 
   -- Protect
-  abbrev shielding : Region → Holder
-  shielding q = holder stakes pending (record f { protections = q ∷ f.protections } ∷ fs) base fills ds offer
+  abbrev protecting : Region → Holder
+  protecting q = holder stakes pending (record f { protections = q ∷ f.protections } ∷ fs) base fills ds offer
 
   goes_protect : (k : ℕ) → slice_get s.holders g ≡ Some (before (Protect k)) → Core stakes base (f ∷ fs) → Stands code frame f (Protect k ∷ ds) → AllWait code callers fs → Sharing (Protect k) → Goes code (duty_done s g left (Protect k))
   goes_protect k e c st w sh = go (bound f.names k) refl
@@ -383,14 +390,14 @@ module _ (code : Code) (s : RegionState) (g : ℕ) (stakes pending : List ℕ) (
       go None b = absurd (st.ready.0 b)
       go (Some q) b =
           record {
-            state = attended s g (shielding q);
-            goes = ap (option_and_then (protected s g left)) b ∙ ap (λ x. if x then Some (attended s g (shielding q)) else None) (live q b);
-            fine = same_stakes (Protect k) (shielding q) e refl refl (record { core = core_shielded stakes base f fs (q ∷ f.protections) (protections q b) c; fit = (stands_on (Protect k) st f.names (q ∷ f.protections) (λ fn instr x. x.1 q b), w); base_once = once; shares = sh });
+            state = attended s g (protecting q);
+            goes = ap (option_and_then (protected s g left)) b ∙ ap (λ x. if x then Some (attended s g (protecting q)) else None) (live q b);
+            fine = same_stakes (Protect k) (protecting q) e refl refl (record { core = core_protected stakes base f fs (q ∷ f.protections) (protections q b) c; fit = (stands_on (Protect k) st f.names (q ∷ f.protections) (λ fn instr x. x.1 q b), w); base_once = once; shares = sh });
           }
 
   -- Unprotect
-  abbrev unshielding : Region → Holder
-  unshielding q = holder stakes pending (record f { protections = removed_once q f.protections } ∷ fs) base fills ds offer
+  abbrev unprotecting : Region → Holder
+  unprotecting q = holder stakes pending (record f { protections = removed_once q f.protections } ∷ fs) base fills ds offer
 
   goes_unprotect : (k : ℕ) → slice_get s.holders g ≡ Some (before (Unprotect k)) → Core stakes base (f ∷ fs) → Stands code frame f (Unprotect k ∷ ds) → AllWait code callers fs → Sharing (Unprotect k) → Goes code (duty_done s g left (Unprotect k))
   goes_unprotect k e c st w sh = go (bound f.names k) refl
@@ -399,9 +406,9 @@ module _ (code : Code) (s : RegionState) (g : ℕ) (stakes pending : List ℕ) (
       go None b = absurd (st.ready.0 b)
       go (Some q) b =
           record {
-            state = attended s g (unshielding q);
+            state = attended s g (unprotecting q);
             goes = ap (option_and_then (λ r. Some (attended s g (unprotected left r)))) b;
-            fine = same_stakes (Unprotect k) (unshielding q) e refl refl (record { core = core_shielded stakes base f fs (removed_once q f.protections) (λ r i. c.staked.1 r (any_removed (same_region (Numbered r)) q f.protections i)) c; fit = (stands_on (Unprotect k) st f.names (removed_once q f.protections) (λ fn instr x. x.1 q b), w); base_once = once; shares = sh });
+            fine = same_stakes (Unprotect k) (unprotecting q) e refl refl (record { core = core_protected stakes base f fs (removed_once q f.protections) (λ r i. c.staked.1 r (any_removed (same_region (Numbered r)) q f.protections i)) c; fit = (stands_on (Unprotect k) st f.names (removed_once q f.protections) (λ fn instr x. x.1 q b), w); base_once = once; shares = sh });
           }
 
   -- Share
@@ -490,6 +497,7 @@ module _ (code : Code) (s : RegionState) (g : ℕ) (stakes pending : List ℕ) (
           let x = goes_shared k q b e c st w sh in
           record { state = x.state; goes = ap (option_and_then (shared s g left)) b ∙ x.goes; fine = x.fine }
 
+  -- each duty of a goroutine with a frame
   goes_duty : (d : Duty) → slice_get s.holders g ≡ Some (before d) → Core stakes base (f ∷ fs) → Stands code frame f (d ∷ ds) → AllWait code callers fs → Sharing d → Goes code (duty_done s g left d)
   goes_duty (Create k) e c st w sh = goes_create k e c st w sh
   goes_duty (Share k) e c st w sh = goes_share k e c st w sh
@@ -500,6 +508,7 @@ module _ (code : Code) (s : RegionState) (g : ℕ) (stakes pending : List ℕ) (
 
 -- ---- the end of a goroutine that has returned
 
+-- each region is the same as itself
 pub same_reflexive : (r : Region) → same_region r r ≡ true
 same_reflexive GlobalRegion = refl
 same_reflexive (Numbered r) = grind arith
@@ -508,6 +517,7 @@ module _ (code : Code) (s : RegionState) (g : ℕ) (stakes pending : List ℕ) (
   abbrev ended : List ℕ → List Region → Holder
   ended st base = holder st pending [] base fills ds offer
 
+  -- the end of a protection that the goroutine had from its start, and the end of the stake with it
   goes_end : (r : Region) → slice_get s.holders g ≡ Some (holder stakes pending [] (r ∷ rs) fills (EndBase r ∷ ds) offer) → Core stakes (r ∷ rs) [] → EachOnce (r ∷ rs) → ds ≡ map EndBase rs → Shares [] ds [] pending → Goes code (removal s g (ended stakes rs) r)
   goes_end GlobalRegion e c o d sh =
       record {

@@ -1,4 +1,4 @@
--- T3's bullets, from what holds of a state.
+-- What region safety says of stakes, from what holds of a state: one holding name, duties that name what is live, and nothing left at the end.
 use Rattle.std.proofs.Common.{◌≡◌, ℕ, zero, suc, Bool, true, false, ◌||◌, List, [], ◌∷◌, map, length, Some, refl, sym, ap, ◌∙◌, subst, nat_eq, if◌then◌else◌, arith, ◌⊎◌, inl, inr, true≢false, slice_get, Contains, count_by, cond}
 use Rattle.std.specs.List.{list_any}
 use Rattle.std.proofs.lemmas.List.Sums.{sum_by-cons}
@@ -26,6 +26,8 @@ use Rattle.rgo_sound.specs.Safety.{AllEnded}
 use Rattle.rgo_sound.specs.Stakes.{HasEnded, StakesAreCounted, holders_of, is_in, one_if, pending_of, times_in}
 use Rattle.rgo_tac.specs.Frames.{Frame}
 
+-- ---- being in a list, as a test
+
 contains_in : (xs : List ℕ) (r : ℕ) → Contains xs r → is_in r xs ≡ true
 contains_in [] r c = absurd (contains_nil r c)
 contains_in (x ∷ xs) r c = go (contains_cases x xs r c) (contains_in xs r)
@@ -45,8 +47,9 @@ in_contains : (xs : List ℕ) (r : ℕ) → is_in r xs ≡ true → Contains xs 
 in_contains [] r e = cc
 in_contains (x ∷ xs) r e = split (nat_eq r x) (λ t. subst (λ y. Contains (x ∷ xs) y) (sym (eq_of r x t)) (contains_here x xs)) (λ n. contains_there x xs r (in_contains xs r (ap (λ b. if b then true else is_in r xs) (sym n) ∙ e)))
 
--- ---- (c) one holding name
+-- ---- one holding name
 
+-- a region that no frame protects is held once in all
 held_once : (r : ℕ) (base : List Region) (environments : List Environment) → IsHeldOnce r base environments → guards base environments (Numbered r) ≡ false → held r environments ≡ 1
 held_once r base [] o g = absurd (true≢false (sym o ∙ g))
 held_once r base (f ∷ fs) o g = o.0 (or_right (list_any (same_region (Numbered r)) f.protections) (guards base fs (Numbered r)) g)
@@ -54,8 +57,9 @@ held_once r base (f ∷ fs) o g = o.0 (or_right (list_any (same_region (Numbered
 pub one_holding_name : (code : Code) (s : RegionState) → Fine code s → OneHoldingName s
 one_holding_name code s fine g h r e c n = held_once r h.base h.environments ((fine.each g h e).core.once r (contains_in h.stakes r c)) n
 
--- ---- (a) what a duty names is Global, or live with an own stake
+-- ---- what a duty names is Global, or live with an own stake
 
+-- a region that is Global, or in which the goroutine has a stake
 pub has_stake : (code : Code) (s : RegionState) (g : ℕ) (h : Holder) (r : Region) → Fine code s → slice_get s.holders g ≡ Some h → ((q : ℕ) → r ≡ Numbered q → is_in q h.stakes ≡ true) → HasStake s h r
 has_stake code s g h GlobalRegion fine e i = tt
 has_stake code s g h (Numbered q) fine e i = (staked_live code s g h q fine e (i q refl), in_contains h.stakes q (i q refl))
@@ -68,6 +72,7 @@ name_staked code s g h k r fine e b = has_stake code s g h r fine e (λ q i. go 
     go [] c b = cc
     go {q} (f ∷ fs) c b = c.staked.0 k q b
 
+-- what a goroutine's first duty names
 pub duty_staked : (code : Code) (s : RegionState) (g : ℕ) (h : Holder) (d : Duty) (ds : List Duty) (r : Region) → Fine code s → slice_get s.holders g ≡ Some h → h.duties ≡ d ∷ ds → DutyNames h d r → HasStake s h r
 duty_staked code s g h (Create k) ds r fine e q n = absurd n
 duty_staked code s g h (Share k) ds r fine e q n = name_staked code s g h k r fine e n
@@ -89,8 +94,9 @@ duty_staked code s g h (EndBase p) ds r fine e q n =
     go (f ∷ fs) [] duties q fit x i = absurd fit
     go (f ∷ fs) (frame ∷ callers) duties q fit x i = absurd (subst (λ y. IsReady (IsFree fit.0.fn frame.next) (Settled fit.0.fn frame.next fit.0.instr) y f.names f.protections) q fit.0.ready)
 
--- ---- (d) where all have ended, nobody has a stake, and each region is removed
+-- ---- where all have ended, nobody has a stake, and each region is removed
 
+-- one that has ended has no stake
 ended_unstaked : (code : Code) (s : RegionState) (g : ℕ) (h : Holder) → Fine code s → slice_get s.holders g ≡ Some h → HasEnded s g h → (r : ℕ) → is_in r h.stakes ≡ false
 ended_unstaked code s g h fine e n r = split (is_in r h.stakes) (λ t. absurd (go h.environments (frames_of s.plain g) h.duties n.0 n.1 (fine.each g h e).core (fine.each g h e).fit t)) (λ f. f)
   where
@@ -108,6 +114,7 @@ ended_unpending : (code : Code) (s : RegionState) (g : ℕ) (h : Holder) → Fin
 ended_unpending code s g h fine e n =
     none_pending (top_names h.environments) h.pending (subst (λ (x : List Duty). Shares [] x (top_names h.environments) h.pending) n.1 (subst (λ (x : List Frame). Shares (to_share code x) h.duties (top_names h.environments) h.pending) n.0 (fine.each g h e).shares))
 
+-- where all have ended, no region has a stake
 pub all_unstaked : (code : Code) (s : RegionState) → Fine code s → AllEnded s → (r : ℕ) (info : RegionInfo) → slice_get s.regions r ≡ Some info → info.stakes ≡ 0
 all_unstaked code s fine ended r info e =
     let a = fine.counted r info e in
@@ -115,6 +122,7 @@ all_unstaked code s fine ended r info e =
     let c : pending_of s r ≡ 0 = total_none (λ (h : Holder). times_in r h.pending) s.holders (λ g h i. ap (times_in r) (ended_unpending code s g h fine i (ended g h i))) in
     omega (arith, a, b, c)
 
+-- and so each is removed
 count_all : (regions : List RegionInfo) → ((r : ℕ) (info : RegionInfo) → slice_get regions r ≡ Some info → info.stakes ≡ 0) → count_by is_removed regions ≡ length regions
 count_all [] h = refl
 count_all (info ∷ regions) h =
@@ -134,7 +142,7 @@ no_stakes (x ∷ xs) h = absurd (true≢false (sym (ap (λ b. if b then true els
     self : (x : ℕ) → nat_eq x x ≡ true
     self x = grind arith
 
--- ---- (a) to (d) of every run
+-- ---- of every run
 
 -- a region's stakes are the goroutines that have one, none of them ended, and the pending ones; each stake that is under no own protection has one holding name; what a goroutine's next duty names is Global, or live with an own stake; and where all have ended, each region that was made is removed
 pub record StakesKept (s : RegionState) : Type 0 where

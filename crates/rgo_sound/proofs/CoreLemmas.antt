@@ -1,4 +1,4 @@
--- How the count of holding names changes.
+-- How the count of holding names changes with each step of a goroutine, and why each of its regions keeps its one holding name.
 use Rattle.std.proofs.Common.{◌≡◌, ℕ, ◌+◌, ◌≤◌, Bool, true, false, not, ◌&&◌, ◌||◌, List, [], ◌∷◌, Some, None, refl, sym, ap, ◌∙◌, subst, nat_eq, if◌then◌else◌, arith, ◌⊎◌, inl, inr, true≢false}
 use Rattle.std.specs.List.{list_any}
 use Rattle.rgo_region_machine.specs.Duties.{guards}
@@ -13,16 +13,22 @@ use Rattle.rgo_sound.specs.Stakes.{is_in, one_if}
 use Rattle.rgo_tac.specs.declared.regions.Class.{Class}
 use Rattle.rgo_tac.specs.declared.regions.Class.TheVariants.{Global, Name, NoClass}
 
+-- ---- numbers and tests
+
 nat_eq_refl : (a : ℕ) → nat_eq a a ≡ true
 nat_eq_refl a = grind arith
 
 pub eq_of : (a b : ℕ) → nat_eq a b ≡ true → a ≡ b
 eq_of a b e = grind arith
 
+-- by cases on a test, with what it says
 pub split : {A : Type 0} (b : Bool) → (b ≡ true → A) → (b ≡ false → A) → A
 split true f g = f refl
 split false f g = g refl
 
+-- ---- names
+
+-- a name that is unbound stands for nothing, and the others for what they stood for
 pub bound_unbind : (names : Bindings) (k : ℕ) → bound (unbind names k) k ≡ None
 bound_unbind [] k = refl
 bound_unbind (b ∷ bs) k = grind (arith, bound_unbind bs k)
@@ -34,6 +40,7 @@ bound_unbind_other (b ∷ bs) k j h = grind (arith, bound_unbind_other bs k j h)
 bound_unbind_none : (names : Bindings) (k j : ℕ) → bound names j ≡ None → bound (unbind names k) j ≡ None
 bound_unbind_none names k j e = split (nat_eq k j) (λ t. subst (λ x. bound (unbind names k) x ≡ None) (eq_of k j t) (bound_unbind names k)) (λ f. bound_unbind_other names k j f ∙ e)
 
+-- to unbind what is not bound changes nothing
 pub unbind_none : (names : Bindings) (k : ℕ) → bound names k ≡ None → unbind names k ≡ names
 unbind_none [] k e = refl
 unbind_none (b ∷ bs) k e = grind (arith, unbind_none bs k)
@@ -48,6 +55,7 @@ unique_unbind (b ∷ bs) k u = go (nat_eq b.0 k) (unique_unbind bs k u.1)
 
 -- ---- counting
 
+-- a name that is unbound leaves the count without what it counted for
 pub held_unbind : (lent : Class) (r : ℕ) (names : Bindings) (k : ℕ) (q : Region) → AreUnique names → bound names k ≡ Some q → held_in lent r names ≡ one_if (is_mine lent k && same_region (Numbered r) q) + held_in lent r (unbind names k)
 held_unbind lent r [] k q u e = cc
 held_unbind lent r (b ∷ bs) k q u e = split (nat_eq b.0 k) (λ t. here t) (λ f. there f (held_unbind lent r bs k q u.1))
@@ -73,6 +81,7 @@ held_unbind lent r (b ∷ bs) k q u e = split (nat_eq b.0 k) (λ t. here t) (λ 
 same_self : (r : ℕ) → same_region (Numbered r) (Numbered r) ≡ true
 same_self r = nat_eq_refl r
 
+-- an own name that stands for r counts for r
 pub bound_held : (lent : Class) (r : ℕ) (names : Bindings) (k : ℕ) → AreUnique names → bound names k ≡ Some (Numbered r) → is_mine lent k ≡ true → 1 ≤ held_in lent r names
 bound_held lent r names k u e m =
     let h = held_unbind lent r names k (Numbered r) u e in
@@ -98,6 +107,7 @@ found lent r (b ∷ bs) u = go (is_mine lent b.0) (same_region (Numbered r) b.1)
     go false t em et (inl z) = inl (let a : one_if (is_mine lent b.0 && same_region (Numbered r) b.1) ≡ 0 = ap (λ x. one_if (x && same_region (Numbered r) b.1)) em in omega (arith, a, z))
     go true false em et (inl z) = inl (let a : one_if (is_mine lent b.0 && same_region (Numbered r) b.1) ≡ 0 = ap (λ x. one_if (x && same_region (Numbered r) b.1)) em ∙ ap one_if et in omega (arith, a, z))
 
+-- what is not a frame's own is the class that it was lent
 lent_name : (lent : Class) (k : ℕ) → is_mine lent k ≡ false → lent ≡ Name k
 lent_name NoClass k e = cc
 lent_name Global k e = cc
@@ -118,6 +128,7 @@ binds_held base f fs k r u l g e =
     below : 1 ≤ held r fs → 1 ≤ held r (f ∷ fs)
     below h = omega arith
 
+-- stakes without those in r: the others stay, and r has none
 pub in_without : (r q : ℕ) (stakes : List ℕ) → nat_eq r q ≡ false → is_in q (without r stakes) ≡ is_in q stakes
 in_without r q [] f = refl
 in_without r q (s ∷ ss) f = grind (arith, in_without r q ss f)
@@ -135,17 +146,16 @@ pub or_right : (a b : Bool) → (a || b) ≡ false → b ≡ false
 or_right true b e = cc
 or_right false b e = e
 
-or_here : (a b : Bool) → a ≡ true → (a || b) ≡ true
-or_here a b e = ap (λ x. x || b) e
-
 or_there : (a b : Bool) → b ≡ true → (a || b) ≡ true
 or_there true b e = refl
 or_there false b e = e
 
+-- what is in the base is guarded at every frame
 base_guards : (base : List Region) (fs : List Environment) (r : Region) → list_any (same_region r) base ≡ true → guards base fs r ≡ true
 base_guards base [] r e = e
 base_guards base (f ∷ fs) r e = or_there (list_any (same_region r) f.protections) (guards base fs r) (base_guards base fs r e)
 
+-- where no frame holds r, and none protects it, no frame names it: so its stake may end
 pub names_below : (base : List Region) (r : ℕ) (stakes : List ℕ) (fs : List Environment) → AreUniqueIn fs → AreLentBelow base fs → guards base fs (Numbered r) ≡ false → held r fs ≡ 0 → AreStaked stakes fs → AreStaked (without r stakes) fs
 names_below base r stakes [] u l g z s = tt
 names_below base r stakes (f ∷ fs) u l g z s = (here, protections, names_below base r stakes fs u.1 l.1 gs (omega arith) s.2)
@@ -172,9 +182,6 @@ names_below base r stakes (f ∷ fs) u l g z s = (here, protections, names_below
             true≢false (sym yes' ∙ no)
 
 -- ---- steps of the goroutine: its top frame has other names
-
-cut : Environment → Bindings → Environment
-cut f names = record f { names = names }
 
 -- the top frame loses a name, and keeps its count of every region that is not protected below
 pub core_unbound : (stakes : List ℕ) (base : List Region) (f : Environment) (fs : List Environment) (k : ℕ) → ((r : ℕ) → guards base fs (Numbered r) ≡ false → held_in f.lent r (unbind f.names k) ≡ held_in f.lent r f.names) → Core stakes base (f ∷ fs) → Core stakes base (record f { names = unbind f.names k } ∷ fs)
@@ -305,8 +312,8 @@ core_removed stakes base f fs k r e m g c =
                 omega (arith, h, z)
 
 -- protections of the top frame begin and end
-pub core_shielded : (stakes : List ℕ) (base : List Region) (f : Environment) (fs : List Environment) (protections : List Region) → RegionsStaked stakes protections → Core stakes base (f ∷ fs) → Core stakes base (record f { protections = protections } ∷ fs)
-core_shielded stakes base f fs protections h c = record { unique = c.unique; staked = (c.staked.0, h, c.staked.2); based = c.based; once = c.once; lent = c.lent }
+pub core_protected : (stakes : List ℕ) (base : List Region) (f : Environment) (fs : List Environment) (protections : List Region) → RegionsStaked stakes protections → Core stakes base (f ∷ fs) → Core stakes base (record f { protections = protections } ∷ fs)
+core_protected stakes base f fs protections h c = record { unique = c.unique; staked = (c.staked.0, h, c.staked.2); based = c.based; once = c.once; lent = c.lent }
 
 -- a frame that holds nothing goes
 pub core_popped : (stakes : List ℕ) (base : List Region) (f : Environment) (fs : List Environment) → ((k : ℕ) → is_mine f.lent k ≡ true → bound f.names k ≡ None) → Core stakes base (f ∷ fs) → Core stakes base fs
@@ -344,6 +351,7 @@ unstaked_unheld stakes (f ∷ fs) r u s n = go (found f.lent r f.names u.0) (uns
     go (inl z) h = omega (arith, z, h)
     go (inr (k, e, m)) h = absurd (true≢false (sym (s.0 k r e) ∙ n))
 
+-- a stake more
 in_more : (r q : ℕ) (stakes : List ℕ) → is_in q stakes ≡ true → is_in q (r ∷ stakes) ≡ true
 in_more r q stakes e = go (nat_eq q r)
   where
@@ -439,6 +447,7 @@ pub record Passes (base : List Region) (f : Environment) (fs : List Environment)
   pub guarded : (r : ℕ) → guards base fs (Numbered r) ≡ false → guards base (f ∷ fs) (Numbered r) ≡ true → held_in f.lent r left ≡ held_in f.lent r f.names
   pub lends : (m r : ℕ) → g.lent ≡ Name m → bound g.names m ≡ Some (Numbered r) → guards base (f ∷ fs) (Numbered r) ≡ false → 1 ≤ held_in f.lent r left + held r fs
 
+-- the call of a function: its frame stands on the caller's, which has lost what it gave
 pub core_called : (stakes : List ℕ) (base : List Region) (f : Environment) (fs : List Environment) (ks : List ℕ) (g : Environment) (left : Bindings) → Passes base f fs ks g left → Core stakes base (f ∷ fs) → Core stakes base (g ∷ record f { names = left } ∷ fs)
 core_called stakes base f fs ks g left p c =
     record {

@@ -20,8 +20,9 @@ use Rattle.rgo_sound.specs.Stakes.{one_if}
 use Rattle.rgo_tac.specs.Frames.{Frame}
 use Rattle.rgo_tac.specs.declared.regions.Class.{Class}
 
--- ---- no protection is left where none is counted
+-- ---- protections by number
 
+-- none is left where none is counted
 none_left : (protections : List Region) → ((r : Region) → times r protections ≡ 0) → protections ≡ []
 none_left [] n = refl
 none_left (s ∷ ss) n = let a = n s in let b : one_if (same_region s s) ≡ 1 = ap one_if (same_reflexive s) in absurd (omega (arith, a, b))
@@ -32,6 +33,7 @@ same_regions GlobalRegion (Numbered s) e = cc
 same_regions (Numbered r) GlobalRegion e = cc
 same_regions (Numbered r) (Numbered s) e = ap Numbered (eq_of r s e)
 
+-- one less of q, where there is one
 times_removed : (r q : Region) (protections : List Region) → 1 ≤ times q protections → times r (removed_once q protections) + one_if (same_region r q) ≡ times r protections
 times_removed r q [] h = absurd (omega (arith, h))
 times_removed r q (s ∷ ss) h = go (same_region q s) refl (λ l. times_removed r q ss l)
@@ -45,6 +47,7 @@ times_removed r q (s ∷ ss) h = go (same_region q s) refl (λ l. times_removed 
 
 -- ---- protections end behind a call
 
+-- the protections of the names ks end one after the other, and leave none
 ready_unprotects : (Own : ℕ → Type 0) (Then : Bindings → List Region → Type 0) (ks : List ℕ) (duties : List Duty) (names : Bindings) (protections : List Region) → ((k : ℕ) → Contains ks k → bound names k ≢ None) → AreProtections protections names ks → IsReady Own Then duties names [] → IsReady Own Then (map Unprotect ks ++ duties) names protections
 ready_unprotects Own Then [] duties names protections h fit next = subst (λ x. IsReady Own Then duties names x) (sym (none_left protections fit)) next
 ready_unprotects Own Then (k ∷ ks) duties names protections h fit next =
@@ -73,9 +76,11 @@ settled_pending code frame callers instr names duties pending cur none d sh =
 
 -- ---- along an edge, behind an instruction that is no call
 
+-- what gives nothing away leaves what was there
 settled_left : (code : Code) (fn : CodeFn) (i : ℕ) (instr : CodeInstr) (names : Bindings) (protections : List Region) → ((k : ℕ) → ¬ (Gives code instr.op k)) → Settled fn i instr names protections → Left code fn i instr names
 settled_left code fn i instr names protections n s = record { there = λ k h g. s.there k h; made = λ k c g. s.made k c; gone = s.gone; given = λ k g. absurd (n k g); lent = s.lent }
 
+-- an instruction along an edge: what is owed on it is removed, and then what the next instruction asks for is done
 pub moves_on : (code : Code) (fn : CodeFn) (frame frame' : Frame) (callers : List Frame) (instr next : CodeInstr) (removes : List ℕ) (h : Holder) (f : Environment) (fs : List Environment) →
     function_at code frame ≡ Some fn → Kept code fn frame.next instr → function_at code frame' ≡ Some fn → Kept code fn frame'.next next →
     Contains (edges instr.op frame.next) (frame'.next, removes) → ((k : ℕ) → ¬ (Gives code instr.op k)) → protected_names instr.op ≡ [] →
@@ -105,6 +110,7 @@ left_named code fn i k instr names a l g n e = split (is_name k (result_class fn
     own o (inl c) = l.made k c g e
     own o (inr m) = m ((a.creates k).1 (o, n, (λ h. l.there k h g e)))
 
+-- a return to a caller: the protections of its call end, and then it goes on along the call's edge
 pub returns_on : (code : Code) (fn caller_fn : CodeFn) (frame caller caller' : Frame) (callers : List Frame) (instr call next : CodeInstr) (value : Option ℕ) (to : Option ℕ) (n : ℕ) (from : List ℕ) (passes : List Class) (protects removes : List ℕ) (h : Holder) (f d : Environment) (fs : List Environment) →
     instr.op ≡ Return value → ReturnsHoldNothing fn frame.next instr (Return value) →
     call.op ≡ Call to n from passes protects removes → Kept code caller_fn caller.next call → function_at code caller' ≡ Some caller_fn → Kept code caller_fn caller'.next next → caller'.next ≡ caller.next + 1 →

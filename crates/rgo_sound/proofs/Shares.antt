@@ -23,6 +23,7 @@ HasNoShare (Unprotect k ∷ ds) = HasNoShare ds
 HasNoShare (Remove k ∷ ds) = HasNoShare ds
 HasNoShare (EndBase r ∷ ds) = HasNoShare ds
 
+-- removals, the end of protections and creations share nothing
 pub removes_share_none : (ks : List ℕ) → HasNoShare (map Remove ks)
 removes_share_none [] = tt
 removes_share_none (k ∷ ks) = removes_share_none ks
@@ -35,6 +36,7 @@ creates_share_none : (ks : List ℕ) → HasNoShare (map Create ks)
 creates_share_none [] = tt
 creates_share_none (k ∷ ks) = creates_share_none ks
 
+-- duties without a share may stand before any others
 pub shares_front : (ks : List ℕ) (front ds : List Duty) (pending : List ℕ) → HasNoShare front → ((names : Bindings) → Shares ks ds names pending) → (names : Bindings) → Shares ks (front ++ ds) names pending
 shares_front ks [] ds pending n next names = next names
 shares_front ks (Create k ∷ front) ds pending n next names = λ r. shares_front ks front ds pending n next ((k, Numbered r) ∷ unbind names k)
@@ -47,6 +49,7 @@ shares_front ks (EndBase r ∷ front) ds pending n next names = shares_front ks 
 zero_add : (n : ℕ) → n ≡ 0 + n
 zero_add n = omega arith
 
+-- what stands in a list is counted, and what does not is not
 times_any : (r : ℕ) (xs : List ℕ) → list_any (nat_eq r) xs ≡ true → 1 ≤ times_in r xs
 times_any r [] e = absurd (true≢false (sym e))
 times_any r (x ∷ xs) e = go (nat_eq r x) e (times_any r xs)
@@ -63,6 +66,7 @@ times_none r (x ∷ xs) e = go (nat_eq r x) e (times_none r xs)
     go true e next = absurd (true≢false e)
     go false e next = sym (zero_add (times_in r xs)) ∙ next e
 
+-- a number cut off at one
 pub at_most_one_is : (n : ℕ) → 1 ≤ n → at_most_one n ≡ 1
 at_most_one_is zero h = absurd (omega (arith, h))
 at_most_one_is (suc n) h = refl
@@ -70,10 +74,6 @@ at_most_one_is (suc n) h = refl
 pub at_most_one_some : (n : ℕ) → 1 ≤ at_most_one n → 1 ≤ n
 at_most_one_some zero h = h
 at_most_one_some (suc n) h = omega arith
-
-pub at_most_one_none : (n : ℕ) → at_most_one n ≡ 0 → n ≡ 0
-at_most_one_none zero h = refl
-at_most_one_none (suc n) h = absurd (omega (arith, h))
 
 -- one share more
 more_pending : (q : Region) (pending : List ℕ) (c : ℕ → ℕ) → ((r : ℕ) → times_in r pending ≡ at_most_one (c r)) → (r : ℕ) → times_in r (with_pending q pending) ≡ at_most_one (one_if (same_region (Numbered r) q) + c r)
@@ -107,6 +107,7 @@ shares_all ks (k ∷ todo) names pending c h t =
     λ q b. shares_all ks todo names (with_pending q pending) (λ r. one_if (same_region (Numbered r) q) + c r) (more_pending q pending c h)
     (λ r. let a = t r in let e : one_if (same_bound (Numbered r) (bound names k)) ≡ one_if (same_region (Numbered r) q) = ap (λ x. one_if (same_bound (Numbered r) x)) b in omega (arith, a, e))
 
+-- protections share nothing, and what is asked for before an instruction shares what it is to share
 shares_protects : (ps : List ℕ) (names : Bindings) → Shares [] (map Protect ps) names []
 shares_protects [] names = λ r. refl
 shares_protects (p ∷ ps) names = shares_protects ps names
@@ -132,6 +133,7 @@ shares_next code frames front n names = shares_front (to_share code frames) fron
     next [] names = λ r. refl
     next (frame ∷ callers) names = shares_before (current code frame) names
 
+-- where nothing is counted, nothing is pending
 none_in : (xs : List ℕ) → ((r : ℕ) → times_in r xs ≡ 0) → xs ≡ []
 none_in [] h = refl
 none_in (x ∷ xs) h = let a = h x in let b : one_if (nat_eq x x) ≡ 1 = ap one_if (self x) in absurd (omega (arith, a, b))

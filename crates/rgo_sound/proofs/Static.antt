@@ -22,6 +22,7 @@ use Rattle.rgo_tac.specs.declared.regions.Class.TheVariants.{Global, Name, NoCla
 
 -- ---- lists
 
+-- what stands in a list of none, of one, and behind a first element
 pub contains_nil : {X : Type 0} (x : X) → Contains [] x → ⊥
 contains_nil x c = omega (arith, c.1)
 
@@ -61,6 +62,7 @@ stands_or_not (x ∷ xs) v = go (stands_or_not xs v)
 -- ---- duties that can be done
 
 module _ (Own : ℕ → Type 0) (Then : Bindings → List Region → Type 0) where
+  -- names that are bound, and free to go, can be removed in their turn; behind the removals none of them is bound, and the others are as they were
   pub ready_removes : (rs : List ℕ) (duties : List Duty) (names : Bindings) → AreDistinct rs → ((k : ℕ) → Contains rs k → (bound names k ≢ None) × Own k) → ((left : Bindings) → ((k : ℕ) → Contains rs k → bound left k ≡ None) → ((k : ℕ) → ¬ (Contains rs k) → bound left k ≡ bound names k) → IsReady Own Then duties left []) → IsReady Own Then (map Remove rs ++ duties) names []
   ready_removes [] duties names d h next = next names (λ k c. absurd (contains_nil k c)) (λ k n. refl)
   ready_removes (r ∷ rs) duties names d h next = (
@@ -81,6 +83,7 @@ module _ (Own : ℕ → Type 0) (Then : Bindings → List Region → Type 0) whe
       first left gone kept k (inl e) = subst (λ x. bound left x ≡ None) e (kept r d.0 ∙ bound_unbind names r)
       first left gone kept k (inr c) = gone k c
 
+  -- the same of creations, of names that are not bound
   pub ready_creates : (cs : List ℕ) (duties : List Duty) (names : Bindings) (protections : List Region) → AreDistinct cs → ((k : ℕ) → Contains cs k → (bound names k ≡ None) × Own k) → ((new : Bindings) → ((k : ℕ) → Contains cs k → bound new k ≢ None) → ((k : ℕ) → ¬ (Contains cs k) → bound new k ≡ bound names k) → IsReady Own Then duties new protections) → IsReady Own Then (map Create cs ++ duties) names protections
   ready_creates [] duties names protections d h next = next names (λ k c. absurd (contains_nil k c)) (λ k n. refl)
   ready_creates (c ∷ cs) duties names protections d h next = (
@@ -110,10 +113,12 @@ module _ (Own : ℕ → Type 0) (Then : Bindings → List Region → Type 0) whe
           some_none r e = cc
       first r new made kept k (inr i) = made k i
 
+  -- bound names can be shared, and nothing of the names changes
   pub ready_shares : (ks : List ℕ) (names : Bindings) (protections : List Region) → ((k : ℕ) → Contains ks k → bound names k ≢ None) → Then names protections → IsReady Own Then (map Share ks) names protections
   ready_shares [] names protections h t = t
   ready_shares (k ∷ ks) names protections h t = (h k (contains_here k ks), ready_shares ks names protections (λ j c. h j (contains_there k ks j c)) t)
 
+  -- bound names can be protected, and each is counted once more among the protections
   pub ready_protects : (ks : List ℕ) (names : Bindings) (protections : List Region) → ((k : ℕ) → Contains ks k → bound names k ≢ None) → ((more : List Region) → ((r : Region) → times r more ≡ bound_times r names ks + times r protections) → Then names more) → IsReady Own Then (map Protect ks) names protections
   ready_protects [] names protections h next = next protections (λ r. omega arith)
   ready_protects (k ∷ ks) names protections h next = (
@@ -125,6 +130,7 @@ module _ (Own : ℕ → Type 0) (Then : Bindings → List Region → Type 0) whe
 
 -- ---- along an edge
 
+-- an edge of an instruction with regions is one of what is left of it without
 edge_leads : (op : CodeOp) (i j : ℕ) (removes : List ℕ) → Contains (edges op i) (j, removes) → Contains (leads_to (erased_op op) i) j
 edge_leads (Do to action from rs) i j removes c = subst (λ x. Contains ((i + 1) ∷ []) x) (ap (λ (p : ℕ × List ℕ). p.0) (contains_one (i + 1, rs) (j, removes) c)) (contains_here (i + 1) [])
 edge_leads (Call to n from passes protects rs) i j removes c = subst (λ x. Contains ((i + 1) ∷ []) x) (ap (λ (p : ℕ × List ℕ). p.0) (contains_one (i + 1, rs) (j, removes) c)) (contains_here (i + 1) [])
@@ -138,6 +144,7 @@ edge_leads (Branch v t rs u rs') i j removes c = go (contains_cases (t, rs) ((u,
     go (inr d) = contains_there t (u ∷ []) j (subst (λ x. Contains (u ∷ []) x) (ap (λ (p : ℕ × List ℕ). p.0) (contains_one (u, rs') (j, removes) d)) (contains_here u []))
 edge_leads (Return value) i j removes c = absurd (contains_nil (j, removes) c)
 
+-- what is live behind an edge and not written before it is live before it
 pub live_back : (fn : CodeFn) (i j v : ℕ) (instr : CodeInstr) (removes : List ℕ) → HasInstr fn i instr → Contains (edges instr.op i) (j, removes) → (writes (erased_op instr.op) ≡ Some v → ⊥) → Live (erased_fn fn) v j → Live (erased_fn fn) v i
 live_back fn i j v instr removes here c w (n, l) =
     let e : slice_get (erased_fn fn).body i ≡ Some (erased_instr instr) = slice_get-map erased_instr fn.body i ∙ ap (option_map erased_instr) here in
@@ -166,6 +173,7 @@ asked_names (Call to n from passes protects removes) = protects
 asked_names (Go n from passes removes) = regions_named passes
 asked_names op = []
 
+-- what an instruction asks for can be done where all of it is bound; behind it the protections are those that it names
 pub ready_ops : (Own : ℕ → Type 0) (Then : Bindings → List Region → Type 0) (op : CodeOp) (names : Bindings) → ((k : ℕ) → Contains (asked_names op) k → bound names k ≢ None) → ((protections : List Region) → AreProtections protections names (protected_names op) → Then names protections) → IsReady Own Then (duties_of_op op) names []
 ready_ops Own Then (Call to n from passes protects rs) names h next = ready_protects Own Then protects names [] h (λ more eq. next more (λ r. let a = eq r in omega (arith, a)))
 ready_ops Own Then (Go n from passes rs) names h next = ready_shares Own Then (regions_named passes) names [] h (next [] (λ r. refl))
@@ -175,10 +183,12 @@ ready_ops Own Then (Jump t rs) names h next = next [] (λ r. refl)
 ready_ops Own Then (Branch v t rs u rs') names h next = next [] (λ r. refl)
 ready_ops Own Then (Return value) names h next = next [] (λ r. refl)
 
+-- whether a name is bound
 pub decide : (o : Option Region) → (o ≡ None) ⊎ (o ≢ None)
 decide None = inl refl
 decide (Some r) = inr (λ e. cc)
 
+-- whether a class is a name
 pub is_named : (k : ℕ) (c : Class) → is_name k c ≡ true → c ≡ Name k
 is_named k NoClass e = cc
 is_named k Global e = cc
