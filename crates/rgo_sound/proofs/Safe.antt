@@ -6,4 +6,15 @@ use Rattle.rgo_sound.proofs.Bounded.{regions_always}
 use Rattle.rgo_sound.specs.Safety.{Safety}
 
 pub safety : Safety
-safety = ?
+safety code page_words events s checked written run =
+    let stakes = stakes_always code page_words events s checked written run in
+    record {
+      stakes = stakes.stakes;
+      names = stakes.names;
+      pointers = pointers_always code page_words events s checked written run;
+      counts = record {
+        pages = pages_always code page_words events s checked written run;
+        regions = regions_always code page_words events s checked written run;
+        all_removed = stakes.all_removed;
+      };
+    }
