@@ -6,7 +6,6 @@ use Rattle.std.specs.List.{list_any}
 use Rattle.std.proofs.Math.Nat.{le-max_left, le-max_right}
 use Rattle.std.proofs.lemmas.List.Elements.{Contains-append_left}
 use Rattle.std.proofs.lemmas.Option.{slice_get-map}
-use Rattle.rgo_typed.specs.Types.{is_pointer_like}
 use Rattle.rgo_typed.specs.declared.actions.Action.TheVariants.{Recv, Send}
 use Rattle.rgo_typed.specs.declared.types.Type.{«Type»}
 use Rattle.rgo_machine.specs.declared.picks.End.{End}
@@ -14,7 +13,7 @@ use Rattle.rgo_machine.specs.declared.picks.End.TheVariants.{Exit, Trap}
 use Rattle.rgo_machine.specs.declared.picks.Pick.TheVariants.{Meet, One}
 use Rattle.rgo_tac.specs.Code.{TacFn}
 use Rattle.rgo_tac.specs.Flow.{reads, writes}
-use Rattle.rgo_tac.specs.Frames.{Frame, called, moved_to, values_of}
+use Rattle.rgo_tac.specs.Frames.{Frame, called, values_of}
 use Rattle.rgo_tac.specs.Joins.{is_pointer_like_in, is_pointer_like_type, joined}
 use Rattle.rgo_tac.specs.Tac.{TacState, tac_start}
 use Rattle.rgo_tac.specs.declared.regions.Class.{Class}
@@ -28,7 +27,7 @@ use Rattle.rgo_code.specs.Code.{Branch, Call, Code, CodeFn, CodeInstr, CodeOp, D
 use Rattle.rgo_code.specs.Erasure.{erased, erased_fn, erased_instr, erased_op}
 use Rattle.rgo_code.specs.Exists.{InstrExists, OpExists, StartExists}
 use Rattle.rgo_code.specs.NameRules.{Ascends}
-use Rattle.rgo_code.specs.Names.{Holds, IsOwn, Names, class_of, distinct_names, is_name, member_class, result_class, slot_class}
+use Rattle.rgo_code.specs.Names.{Holds, IsOwn, Names, class_of, distinct_names, is_name, result_class, slot_class}
 use Rattle.rgo_code.specs.Types.{DoFits, HaveTypes, OpFits}
 use Rattle.rgo_code.specs.declared.rules.Line.TheVariants as line
 use Rattle.rgo_code.specs.declared.rules.Rule.TheVariants as rule
@@ -64,7 +63,7 @@ use Rattle.rgo_sound.proofs.Others.{fine_step, fine_start}
 use Rattle.rgo_sound.proofs.Places.{AreDistinct, ascending_distinct, get_append_left, get_below, get_set_other, get_set_same, length_set}
 use Rattle.rgo_sound.proofs.RunLemmas.{run_keeps}
 use Rattle.rgo_sound.proofs.Starts.{last_frames_snoc}
-use Rattle.rgo_sound.proofs.Static.{contains_here, contains_there, contains_nil}
+use Rattle.rgo_sound.proofs.Static.{contains_here, contains_there}
 use Rattle.rgo_sound.proofs.TypedSteps.{here}
 use Rattle.rgo_sound.proofs.ValueSteps.{Top, top_of}
 use Rattle.rgo_sound.specs.Invariant.{Fine, GoodHolder, HasInstr}

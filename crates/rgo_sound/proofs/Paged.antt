@@ -38,10 +38,10 @@ use Rattle.rgo_region_machine.specs.Machine.{Acknowledge, Attend, Event, Finish,
 use Rattle.rgo_region_machine.specs.Machine.{finished, next_object, object_made, page_for, page_taken, region_run}
 use Rattle.rgo_region_machine.specs.Machine.{region_start, region_step, take_page, takes_page}
 use Rattle.rgo_region_machine.specs.Objects.{fill_of, fits, makes_object, making_region, wants_page, with_fill, words}
-use Rattle.rgo_region_machine.specs.Offers.{acknowledge, make_offer, offer_at, offer_for, offered}
+use Rattle.rgo_region_machine.specs.Offers.{acknowledge, make_offer, offer_for, offered}
 use Rattle.rgo_region_machine.specs.Owed.{current, function_at}
 use Rattle.rgo_region_machine.specs.Regions.{Bindings, RegionInfo, is_live, one_fewer, one_more, one_page_more}
-use Rattle.rgo_region_machine.specs.Regions.{removed_once, unbind, with_info, without}
+use Rattle.rgo_region_machine.specs.Regions.{unbind, with_info, without}
 use Rattle.rgo_region_machine.specs.States.{Create, Duty, EndBase, Holder, NoOffer, Offer, Protect, RegionState, Remove}
 use Rattle.rgo_region_machine.specs.States.{Share, Standing, Taken, Unprotect, frames_in, frames_of, top_names, with_top}
 use Rattle.rgo_region_machine.specs.declared.limits.Limit.{Limit}
@@ -328,6 +328,12 @@ heap_grows code m frame callers instr a cur acts = split (makes_at instr.op) (λ
 
 -- ---- each step
 
+differs : (j g : ℕ) → g < j → nat_eq j g ≡ false
+differs j g l = grind arith
+
+flip : (x y : ℕ) → nat_eq x y ≡ false → nat_eq y x ≡ false
+flip x y n = grind arith
+
 the_heads : (f g : Frame) (fs gs : List Frame) → f ∷ fs ≡ g ∷ gs → f ≡ g
 the_heads f g fs gs e = cc
 
@@ -529,12 +535,6 @@ module _ (code : Code) (page_words : ℕ) (s : RegionState) (paged : Paged code 
               long : length t.holders ≡ length s.holders
               long = ap length hs ∙ length_set s.holders g k
 
-              differs : (j g : ℕ) → g < j → nat_eq j g ≡ false
-              differs j g l = grind arith
-
-              flip : (x y : ℕ) → nat_eq x y ≡ false → nat_eq y x ≡ false
-              flip x y n = grind arith
-
               each : (j : ℕ) (y : Holder) → slice_get (slice_set s.holders g (record h { fills = with_fill h.fills r 0 })) j ≡ Some y → with_at paged.c g 1 j ≡ 1 → Full code page_words s.plain j y
               each j y q w =
                   split (nat_eq g j)
@@ -590,12 +590,6 @@ module _ (code : Code) (page_words : ℕ) (s : RegionState) (paged : Paged code 
           go zero e l = omega (arith, e, grows)
           go (suc zero) e l = let a = made_one (paged.full g x.h x.there e) in omega (arith, a, e)
           go (suc (suc n)) e l = absurd (omega (arith, l))
-
-      differs : (j g : ℕ) → g < j → nat_eq j g ≡ false
-      differs j g l = grind arith
-
-      flip : (x y : ℕ) → nat_eq x y ≡ false → nat_eq y x ≡ false
-      flip x y n = grind arith
 
       zero_beyond : (j : ℕ) → length s.holders ≤ j → with_at paged.c g 0 j ≡ 0
       zero_beyond j l = let a = at_other paged.c g 0 j (differs j g (omega (arith, l, below))) in let b = paged.beyond j l in omega (arith, a, b)
@@ -658,12 +652,6 @@ module _ (code : Code) (page_words : ℕ) (s : RegionState) (paged : Paged code 
         full = λ j y q w. full j y (sym (ap (λ z. slice_get z j) x.holders) ∙ q) w;
       }
     where
-      h' : Holder
-      h' = gone_on (receive_goes x.receives x.v) x.h
-
-      k' : Holder
-      k' = record (gone_on (send_goes x.sends) x.k) { offer = taken_offer x.k.offer }
-
       pages : t.global_pages + sum_by (λ (i : RegionInfo). i.pages) t.regions ≡ s.global_pages + sum_by (λ (i : RegionInfo). i.pages) s.regions
       pages = ap (λ z. z + sum_by (λ (i : RegionInfo). i.pages) t.regions) x.global_pages ∙ ap (λ z. s.global_pages + sum_by (λ (i : RegionInfo). i.pages) z) x.regions
 
