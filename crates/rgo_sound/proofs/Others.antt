@@ -255,7 +255,7 @@ fine_start code checked written =
     enters_rightly = checked rule.Removals (line.Entry start.number) start.main start.declared
 
     no_entry : start.main.entry ≡ []
-    no_entry = no_elements start.main.entry (λ k c. contains_nil (Name k) (subst (λ n. Contains (parameter_classes n start.main.variables) (Name k)) start.no_params ((enters_rightly k).0 c).1.0))
+    no_entry = no_elements start.main.entry (λ k c. contains_nil (Name k) (subst (λ n. Contains (parameter_classes n start.main.variables) (Name k)) start.no_params ((enters_rightly k).0 c).1))
 
     ready : IsReady (IsFree start.main 0) (Settled start.main 0 first.0) (duties_before (Some first.0)) [] []
     ready =
