@@ -11,12 +11,11 @@ use Rattle.rgo_region_machine.specs.Duties.{attend, duty_done, protected, remova
 use Rattle.rgo_region_machine.specs.Instructions.{both_instructed, instruct, instructed, instructed_at, marked}
 use Rattle.rgo_region_machine.specs.Instructions.{one_instructed, plain_after, printed_if, some_instructed}
 use Rattle.rgo_region_machine.specs.Machine.{Acknowledge, Attend, Event, Finish, Instruct, MakeOffer, TakePage}
-use Rattle.rgo_region_machine.specs.Machine.{finished, kept, page_for, page_taken, region_start, region_step, take_page}
+use Rattle.rgo_region_machine.specs.Machine.{kept, page_for, page_taken, region_start, region_step, take_page}
 use Rattle.rgo_region_machine.specs.Machine.{plain_step, takes_page}
 use Rattle.rgo_region_machine.specs.Offers.{acknowledge, make_offer, offer_at, offer_for, offered}
 use Rattle.rgo_region_machine.specs.States.{Create, Duty, EndBase, Ended, Holder, Mark, NoOffer, Offer, Protect, RegionState, Remove}
 use Rattle.rgo_region_machine.specs.States.{Share, Standing, Stopped, Taken, Unprotect, frames_of}
-use Rattle.rgo_region_machine.specs.declared.limits.Limit.{Limit}
 use Rattle.rgo_region_machine.specs.declared.regions.Region.{Region}
 use Rattle.rgo_region_machine.specs.declared.regions.Region.TheVariants.{Global as GlobalRegion, Numbered}
 use Rattle.rgo_sound.specs.Erasure.{Erasure, SameEnd, erased_picks, event_picks}
@@ -204,9 +203,6 @@ over_here s t (MakeOffer g) code page_words end m f = record { printed = ap (λ 
 over_here s t (Acknowledge g) code page_words end m f = record { printed = ap (λ p. p.printed) f.plain; mark = f.mark ∙ m }
 
 module _ (code : Code) (page_words : ℕ) where
-  next_of : RegionState → Event → Option RegionState
-  next_of s event = region_step code page_words s event
-
   over_stays : (events : List Event) (s t : RegionState) (end : Mark) → s.mark ≡ Some end → run (region_step code page_words) s events ≡ Some t → Over s t end
   over_stays [] s t end m r = let e = some_same s t r in record { printed = ap (λ (q : RegionState). q.plain.printed) (sym e); mark = ap (λ (q : RegionState). q.mark) (sym e) ∙ m }
   over_stays (event ∷ events) s t end m r = go (region_step code page_words s event) (step_follows code page_words s event) r (λ s' m' r'. over_stays events s' t end m' r')

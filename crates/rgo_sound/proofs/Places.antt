@@ -1,6 +1,6 @@
 -- Lists by number: what stands at a place after a write, in a longer list, and of each.
 use Rattle.std.proofs.Common.{◌≡◌, ℕ, zero, suc, ◌+◌, ◌≤◌, ◌<◌, false, List, [], ◌∷◌, ◌++◌, length, Some, None}
-use Rattle.std.proofs.Common.{refl, sym, ap, subst, nat_eq, arith, ◌⊎◌, inl, inr, slice_get, slice_set, slice_index, get_or, replicate}
+use Rattle.std.proofs.Common.{refl, ap, subst, nat_eq, arith, ◌⊎◌, inl, inr, slice_get, slice_set, slice_index, replicate}
 use Rattle.std.specs.List.{Contains}
 use Rattle.std.specs.List.Sorted.{IsStrictlyIncreasing}
 use Rattle.std.proofs.lemmas.List.Kept.{AllPairs-from_increasing}
