@@ -288,7 +288,16 @@ module _ (code : Code) (checked : IsChecked code) (written : Ascends code) (fram
 
       passable : ArePassable f.names passes
       passable =
-          ?
+          all_passable st.fn callee instr None from passes f.names (go_reads instr n from passes removes is) (λ d e. cc)
+          as_many
+          (sym (ap is_some starts_rightly.0))
+          starts_rightly.1
+          (λ v s q. checked rule.Classes (line.Slot frame.function v) st.fn s st.is_fn q)
+          (λ v s q. checked rule.Classes (line.Slot n v) callee s found q)
+          (checked rule.Classes (line.Function n) callee found)
+          types
+          tt
+          (λ k n. named_bound st.fn frame.next k instr f.names (checked rule.Creations (line.Instr frame.function frame.next) st.fn instr st.is_fn here) settled.there settled.made settled.lent n)
 
       formals : AreFormals (region_parameters callee)
       formals = formals_once callee
