@@ -35,6 +35,7 @@ any_contains (j ∷ ks) k c = go (contains_cases j ks k c) (any_contains ks k)
     go (inl e) next = ap (λ x. nat_eq k x || list_any (nat_eq k) ks) e ∙ ap (λ x. x || list_any (nat_eq k) ks) (self k)
     go (inr d) next = there (nat_eq k j) (list_any (nat_eq k) ks) (next d)
 
+-- a name that is passed has a position
 named_at : (k : ℕ) (cs : List Class) → 1 ≤ times_named k cs → (p : ℕ) × (slice_get cs p ≡ Some (Name k))
 named_at k [] h = absurd (omega (arith, h))
 named_at k (c ∷ cs) h = go (is_name k c) refl h (named_at k cs)
@@ -43,6 +44,7 @@ named_at k (c ∷ cs) h = go (is_name k c) refl h (named_at k cs)
     go true e h next = (0, ap Some (is_named k c e))
     go false e h next = let x = next (omega (arith, h)) in (suc x.0, x.1)
 
+-- one that is passed more than once has two
 named_twice : (k : ℕ) (cs : List Class) → 2 ≤ times_named k cs → IsPassedTwice cs k
 named_twice k [] h = absurd (omega (arith, h))
 named_twice k (c ∷ cs) h = go (is_name k c) refl h (named_twice k cs) (named_at k cs)

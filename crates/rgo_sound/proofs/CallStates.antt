@@ -1,5 +1,5 @@
 -- A call of checked code keeps what holds of the state.
-use Rattle.std.proofs.Common.{◌≡◌, ◌≢◌, ℕ, zero, suc, ◌+◌, ◌≤◌, Bool, true, false, List, [], ◌∷◌, ◌++◌, map, length, Option, Some, None, is_some, refl, sym, ap, ◌∙◌, subst, nat_eq, if◌then◌else◌, arith, ◌↔◌, true≢false, slice_get, slice_set, option_map, option_and_then, append-nil}
+use Rattle.std.proofs.Common.{◌≡◌, ◌≢◌, ℕ, zero, suc, ◌+◌, ◌≤◌, true, false, List, [], ◌∷◌, ◌++◌, map, length, Option, Some, None, is_some, refl, sym, ap, ◌∙◌, subst, nat_eq, arith, ◌↔◌, true≢false, slice_get, slice_set, option_map, append-nil}
 use Rattle.rgo_sound.proofs.Places.{ascending_distinct, get_set_other, get_set_same, length_set}
 use Rattle.rgo_sound.proofs.ErasureLemmas.{yields_is}
 use Rattle.rgo_sound.proofs.Static.{named_bound}
@@ -45,6 +45,7 @@ use Rattle.rgo_tac.specs.declared.regions.Class.{Class}
 use Rattle.rgo_code.specs.declared.rules.Line.TheVariants as line
 use Rattle.rgo_code.specs.declared.rules.Rule.TheVariants as rule
 
+-- a body that is not empty has a first instruction
 pub first_instr : (body : List CodeInstr) → body ≢ [] → (i : CodeInstr) × (slice_get body 0 ≡ Some i)
 first_instr [] n = absurd (n refl)
 first_instr (i ∷ is) n = (i, refl)
@@ -167,7 +168,7 @@ call_enters code m frame callers call to n from passes protects removes checked 
         ∙ ap (λ o. act (erased code) m (erased_op o) call.place frame callers) is
         ∙ ap (acting.call m frame callers n (values_of frame from)) (erased_found code n there.callee there.found)
 
-module _ (code : Code) (page_words : ℕ) (s : RegionState) (g : ℕ) (h : Holder) (frame : Frame) (callers : List Frame) (call : CodeInstr) (to : Option ℕ) (n : ℕ) (from : List ℕ) (passes : List Class) (protects removes : List ℕ) (checked : IsChecked code) (written : Ascends code) (fine : Fine code s) (e : slice_get s.holders g ≡ Some h) (at : frames_of s.plain g ≡ frame ∷ callers) (cur : current code frame ≡ Some call) (is : call.op ≡ Call to n from passes protects removes) where
+module _ (code : Code) (s : RegionState) (g : ℕ) (h : Holder) (frame : Frame) (callers : List Frame) (call : CodeInstr) (to : Option ℕ) (n : ℕ) (from : List ℕ) (passes : List Class) (protects removes : List ℕ) (checked : IsChecked code) (written : Ascends code) (fine : Fine code s) (e : slice_get s.holders g ≡ Some h) (at : frames_of s.plain g ≡ frame ∷ callers) (cur : current code frame ≡ Some call) (is : call.op ≡ Call to n from passes protects removes) where
   good : GoodHolder code (frame ∷ callers) h
   good = subst (λ x. GoodHolder code x h) at (fine.each g h e)
 
@@ -196,6 +197,7 @@ module _ (code : Code) (page_words : ℕ) (s : RegionState) (g : ℕ) (h : Holde
     duties = map Remove callee.entry ++ next_duties code frames;
   }
 
+  -- the state behind the call
   behind : (callee : CodeFn) (frames : List Frame) (given : Holder × List Region) → function_of code n ≡ Some callee → slice_get s.plain.goroutines g ≡ Some frames → has_none h.duties ≡ true → SameHolder h given.0 → Fine code (instructed_with code s g frame callers call (next callee) given)
   behind callee frames given found q d same =
       fine_plain code s (instructed_with code s g frame callers call (next callee) given) g h (behind_holder (record h { fills = same.fills }) callee (entered callee ∷ frame ∷ callers)) fine e refl hs refl refl (as_long callee) (the_others callee)
@@ -219,12 +221,13 @@ module _ (code : Code) (page_words : ℕ) (s : RegionState) (g : ℕ) (h : Holde
           ∙ ap (λ (x : Holder). slice_set s.holders g (behind_holder x callee (frames_of (next callee) g))) same.same
           ∙ ap (λ x. slice_set s.holders g (behind_holder (record h { fills = same.fills }) callee x)) (goroutines callee frames q)
 
+-- a call keeps what holds of the state: of an instruction that was done, and of a step
 pub fine_call : (code : Code) (page_words : ℕ) (s t : RegionState) (g : ℕ) (x : OneDone code page_words s g t) (to : Option ℕ) (n : ℕ) (from : List ℕ) (passes : List Class) (protects removes : List ℕ) → IsChecked code → Ascends code → Fine code s → x.instr.op ≡ Call to n from passes protects removes → Fine code t
 fine_call code page_words s t g x to n from passes protects removes checked written fine is =
     let c = call_enters code s.plain.memory x.frame x.callers x.instr to n from passes protects removes checked x.cur is in
     subst (Fine code) (sym x.is)
     (subst (λ a. Fine code (instructed_with code s g x.frame x.callers x.instr (after s.plain g a) x.given)) (the_same (has_called s.plain.memory x.frame x.callers n from c.0) x.a (sym c.2 ∙ x.acts))
-    (behind code page_words s g x.h x.frame x.callers x.instr to n from passes protects removes checked written fine x.there (ap frames_in x.at) x.cur is c.0 (x.frame ∷ x.callers) x.given c.1 x.at (ap has_none x.ready.none) x.same))
+    (behind code s g x.h x.frame x.callers x.instr to n from passes protects removes checked written fine x.there (ap frames_in x.at) x.cur is c.0 (x.frame ∷ x.callers) x.given c.1 x.at (ap has_none x.ready.none) x.same))
   where
     the_same : (a b : Acted) → Some a ≡ Some b → a ≡ b
     the_same a b e = cc

@@ -55,6 +55,7 @@ module _ (names : Bindings) (lent : Class) (protects : List ℕ) where
 
   -- ---- what the callee's names stand for
 
+  -- a region that a callee knows is one that the caller knows
   pub came : (formals regions : List Class) (j q : ℕ) → bound (to_callee formals regions) j ≡ Some (Numbered q) → (k : ℕ) × (bound names k ≡ Some (Numbered q))
   came [] regions j q e = cc
   came (Name i ∷ formals) [] j q e = cc
@@ -77,6 +78,7 @@ module _ (names : Bindings) (lent : Class) (protects : List ℕ) where
   came (Global ∷ formals) (c ∷ regions) j q e = came formals regions j q e
   came (NoClass ∷ formals) (c ∷ regions) j q e = came formals regions j q e
 
+  -- only formals are bound in a callee
   pub not_passed : (formals regions : List Class) (k : ℕ) → list_any (is_name k) formals ≡ false → bound (to_callee formals regions) k ≡ None
   not_passed [] regions k n = refl
   not_passed (Name i ∷ formals) [] k n = refl
@@ -110,6 +112,7 @@ module _ (names : Bindings) (lent : Class) (protects : List ℕ) where
   none_if true = refl
   none_if false = refl
 
+  -- the callee's own names for an unprotected region are as many as the names for it that are given
   pub received : (r : ℕ) (formals regions : List Class) → AreFormals formals → ArePassable names regions → ((k : ℕ) → list_any (nat_eq k) protects ≡ true → same_bound (Numbered r) (bound names k) ≡ false) → held_in lent r (to_callee formals regions) ≡ bound_times (Numbered r) names (given formals regions)
   received r [] regions f p u = refl
   received r (Name i ∷ formals) [] f p u = refl
@@ -207,6 +210,7 @@ module _ (names : Bindings) (lent : Class) (protects : List ℕ) where
 
 -- ---- what is left to the caller
 
+-- what is not given stands for what it stood for
 pub left_other : (ks : List ℕ) (names : Bindings) (j : ℕ) → times_in j ks ≡ 0 → bound (without_all names ks) j ≡ bound names j
 left_other [] names j z = refl
 left_other (k ∷ ks) names j z = go (nat_eq j k) refl z (λ z'. left_other ks (unbind names k) j z')
@@ -218,10 +222,12 @@ left_other (k ∷ ks) names j z = go (nat_eq j k) refl z (λ z'. left_other ks (
     go true t z next = absurd (omega (arith, z))
     go false n z next = next (omega (arith, z)) ∙ bound_unbind_other names k j (flip j k n)
 
+-- what stood for none still does
 pub left_gone : (ks : List ℕ) (names : Bindings) (j : ℕ) → bound names j ≡ None → bound (without_all names ks) j ≡ None
 left_gone [] names j e = e
 left_gone (k ∷ ks) names j e = left_gone ks (unbind names k) j (split (nat_eq k j) (λ t. subst (λ x. bound (unbind names k) x ≡ None) (eq_of k j t) (bound_unbind names k)) (λ n. bound_unbind_other names k j n ∙ e))
 
+-- what is given stands for none
 pub left_given : (ks : List ℕ) (names : Bindings) (j : ℕ) → 1 ≤ times_in j ks → bound (without_all names ks) j ≡ None
 left_given [] names j h = absurd (omega (arith, h))
 left_given (k ∷ ks) names j h = go (nat_eq j k) refl h (λ h'. left_given ks (unbind names k) j h')
@@ -234,6 +240,7 @@ pub left_unique : (ks : List ℕ) (names : Bindings) → AreUnique names → Are
 left_unique [] names u = u
 left_unique (k ∷ ks) names u = left_unique ks (unbind names k) (unique_unbind names k u)
 
+-- what still stands for a region stood for it before
 pub left_was : (ks : List ℕ) (names : Bindings) (j : ℕ) (q : Region) → bound (without_all names ks) j ≡ Some q → bound names j ≡ Some q
 left_was ks names j q e = go (bound names j) refl
   where
@@ -293,6 +300,7 @@ left_count mine r (k ∷ ks) names u d m = go (bound names k) refl (left_count m
 
 -- ---- a call keeps the counts of the goroutine
 
+-- among these names none stands for r, or one does
 found_in : (r : Region) (names : Bindings) (ks : List ℕ) → (bound_times r names ks ≡ 0) ⊎ ((k : ℕ) × (1 ≤ times_in k ks) × (bound names k ≡ Some r))
 found_in r names [] = inl refl
 found_in r names (k ∷ ks) = go (bound names k) refl (found_in r names ks)
@@ -336,6 +344,7 @@ none_times r (s ∷ ss) e = go (same_region r s) e (none_times r ss)
     go true e next = cc
     go false e next = let h = next e in omega (arith, h)
 
+-- where none of these names stands for r, each of them does not
 none_bound : (r : Region) (names : Bindings) (ks : List ℕ) (k : ℕ) → bound_times r names ks ≡ 0 → list_any (nat_eq k) ks ≡ true → same_bound r (bound names k) ≡ false
 none_bound r names [] k z e = cc
 none_bound r names (j ∷ ks) k z e = go (nat_eq k j) refl e (same_bound r (bound names j)) refl z (none_bound r names ks k)
@@ -353,12 +362,13 @@ module _ (stakes : List ℕ) (base : List Region) (f : Environment) (fs : List E
   abbrev gives : List ℕ
   gives = given_names callee formals regions protects
 
-  abbrev callee_shelf : Environment
-  callee_shelf = record { lent = callee; names = passed formals (passed_regions f.names regions); protections = [] }
+  abbrev callee_environment : Environment
+  callee_environment = record { lent = callee; names = passed formals (passed_regions f.names regions); protections = [] }
 
   abbrev left_names : Bindings
   left_names = without_all f.names (given_names callee formals regions protects)
 
+  -- a name that is protected does not stand for a region that is not
   free : (r : ℕ) → guards base (f ∷ fs) (Numbered r) ≡ false → (k : ℕ) → list_any (nat_eq k) protects ≡ true → same_bound (Numbered r) (bound f.names k) ≡ false
   free r u k p = none_bound (Numbered r) f.names protects k (sym (protections (Numbered r)) ∙ none_times (Numbered r) f.protections (or_left (list_any (same_region (Numbered r)) f.protections) (guards base fs (Numbered r)) u)) p
 
@@ -378,7 +388,8 @@ module _ (stakes : List ℕ) (base : List Region) (f : Environment) (fs : List E
   count : (r : ℕ) → held_in f.lent r f.names ≡ bound_times (Numbered r) f.names gives + held_in f.lent r left_names
   count r = left_count f.lent r gives f.names core.unique.0 given_once given_mine
 
-  conserved : (r : ℕ) → guards base (f ∷ fs) (Numbered r) ≡ false → held_in callee r callee_shelf.names + held_in f.lent r left_names ≡ held_in f.lent r f.names
+  -- what is not protected is held as often behind the call as before
+  conserved : (r : ℕ) → guards base (f ∷ fs) (Numbered r) ≡ false → held_in callee r callee_environment.names + held_in f.lent r left_names ≡ held_in f.lent r f.names
   conserved r u =
       let a = received f.names callee protects r formals regions fits.formals_fit fits.passable (free r u) in
       let b = count r in
@@ -388,11 +399,11 @@ module _ (stakes : List ℕ) (base : List Region) (f : Environment) (fs : List E
   guarded : (r : ℕ) → guards base fs (Numbered r) ≡ false → guards base (f ∷ fs) (Numbered r) ≡ true → held_in f.lent r left_names ≡ held_in f.lent r f.names
   guarded r n t = go (found_in (Numbered r) f.names gives)
     where
-      shield : list_any (same_region (Numbered r)) f.protections ≡ true
-      shield = or_second (list_any (same_region (Numbered r)) f.protections) (guards base fs (Numbered r)) t n
+      protected_here : list_any (same_region (Numbered r)) f.protections ≡ true
+      protected_here = or_second (list_any (same_region (Numbered r)) f.protections) (guards base fs (Numbered r)) t n
 
       some : 1 ≤ bound_times (Numbered r) f.names protects
-      some = let a = any_times (Numbered r) f.protections shield in let b = protections (Numbered r) in omega (arith, a, b)
+      some = let a = any_times (Numbered r) f.protections protected_here in let b = protections (Numbered r) in omega (arith, a, b)
 
       clash : (k j : ℕ) → 1 ≤ times_in k gives → bound f.names k ≡ Some (Numbered r) → 1 ≤ times_in j protects → bound f.names j ≡ Some (Numbered r) → ⊥
       clash k j gk bk pj bj =
@@ -436,7 +447,8 @@ module _ (stakes : List ℕ) (base : List Region) (f : Environment) (fs : List E
           with_protected (inl z) = omega (arith, z, some)
           with_protected (inr (j, pj, bj)) = clash k j gk bk pj bj
 
-  lends : (m r : ℕ) → callee ≡ Name m → bound callee_shelf.names m ≡ Some (Numbered r) → guards base (f ∷ fs) (Numbered r) ≡ false → 1 ≤ held_in f.lent r left_names + held r fs
+  -- the region of the callee's result is held below, where it is not protected
+  lends : (m r : ℕ) → callee ≡ Name m → bound callee_environment.names m ≡ Some (Numbered r) → guards base (f ∷ fs) (Numbered r) ≡ false → 1 ≤ held_in f.lent r left_names + held r fs
   lends m r l e u = go (lent_at f.names callee protects formals regions m r l fits.formals_fit e)
     where
       self : (x : ℕ) → nat_eq x x ≡ true
@@ -444,17 +456,17 @@ module _ (stakes : List ℕ) (base : List Region) (f : Environment) (fs : List E
 
       go : (k : ℕ) × (bound f.names k ≡ Some (Numbered r)) × (suc (times_in k gives) ≤ times_named k regions) → 1 ≤ held_in f.lent r left_names + held r fs
       go (k, b, h) =
-          let no_shield : list_any (nat_eq k) protects ≡ false = split (list_any (nat_eq k) protects) (λ t. absurd (true≢false (sym (ap (same_bound (Numbered r)) b ∙ self r) ∙ free r u k t))) (λ n. n) in
-          let t = fits.twice k no_shield in
+          let unprotected : list_any (nat_eq k) protects ≡ false = split (list_any (nat_eq k) protects) (λ t. absurd (true≢false (sym (ap (same_bound (Numbered r)) b ∙ self r) ∙ free r u k t))) (λ n. n) in
+          let t = fits.twice k unprotected in
           let z : times_in k gives ≡ 0 = omega (arith, h, t) in
-          let mine = fits.own k no_shield (omega (arith, h)) in
+          let mine = fits.own k unprotected (omega (arith, h)) in
           let x = bound_held f.lent r left_names k (left_unique gives f.names core.unique.0) (left_other gives f.names k z ∙ b) mine in
           omega (arith, x)
 
   -- the counts behind a call
-  pub called_core : Core stakes base (callee_shelf ∷ record f { names = left_names } ∷ fs)
+  pub called_core : Core stakes base (callee_environment ∷ record f { names = left_names } ∷ fs)
   called_core =
-      core_called stakes base f fs gives callee_shelf left_names
+      core_called stakes base f fs gives callee_environment left_names
       (record {
         without_protection = refl;
         unique = passed_unique f.names callee protects formals regions fits.formals_fit;

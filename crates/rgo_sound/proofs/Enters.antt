@@ -31,13 +31,15 @@ use Rattle.rgo_tac.specs.declared.regions.Class.TheVariants.{Global, Name, NoCla
 abbrev pub IsParameter : CodeFn → ℕ → Type 0
 IsParameter fn k = (i : ℕ) × (i < fn.params) × (class_of fn i ≡ Name k)
 
+-- as the rules say it
 pub is_parameter : (fn : CodeFn) (k : ℕ) → IsParameterName fn k → IsParameter fn k
 is_parameter fn k c = parameter_member fn.params fn.variables (Name k) c
 
 pub parameter_name : (fn : CodeFn) (k : ℕ) → IsParameter fn k → IsParameterName fn k
 parameter_name fn k (i, below, is) = parameter_listed fn.params fn.variables i k below is
 
--- a callee's entry
+-- What is owed at the entry of a called function can be done: its removals, and what its first instruction wants. Its
+-- parameters and its result stand for regions, and no other name of its own does.
 pub enters : (code : Code) (fn : CodeFn) (next : CodeInstr) (names : Bindings) → Kept code fn 0 next → EntryRemovesDead fn → EntryIsKnown fn → AreDistinct fn.entry → ((k : ℕ) → IsParameter fn k → bound names k ≢ None) → ((k : ℕ) → result_class fn ≡ Name k → bound names k ≢ None) → ((k : ℕ) → IsOwn fn k → ¬ (IsParameter fn k) → bound names k ≡ None) → IsReady (IsFree fn 0) (Settled fn 0 next) (map Remove fn.entry ++ duties_before (Some next)) names []
 enters code fn next names b e known d there lent gone =
     ready_removes (IsFree fn 0) (Settled fn 0 next) fn.entry (duties_before (Some next)) names d (λ k c. let x = (e k).0 c in (there k (is_parameter fn k x.1), (x.0, x.2)))
@@ -69,6 +71,7 @@ enters code fn next names b e known d there lent gone =
 
 -- ---- what a callee's names are
 
+-- each formal stands for a region
 pub passed_bound : (names : Bindings) (formals regions : List Class) (k : ℕ) → AreFormals formals → ArePassable names regions → length regions ≡ length formals → list_any (is_name k) formals ≡ true → bound (passed formals (passed_regions names regions)) k ≢ None
 passed_bound names [] regions k f p l e = λ z. absurd (true≢false (sym e))
 passed_bound names (Name i ∷ formals) [] k f p l e = λ z. absurd (omega (arith, l))
@@ -110,6 +113,7 @@ pub record CallIsRight (code : Code) (callee : CodeFn) (call : CodeInstr) (passe
   pub gives : (k : ℕ) → Gives code call.op k ↔ (1 ≤ times_in k (given_names (result_class callee) (region_parameters callee) passes protects))
   pub kept : (k : ℕ) → Contains protects k → times_in k (given_names (result_class callee) (region_parameters callee) passes protects) ≡ 0
 
+-- the goroutine behind a call: the callee enters, and the caller waits
 pub calls_on : (code : Code) (fn callee : CodeFn) (frame entered : Frame) (callers : List Frame) (call next : CodeInstr) (to : Option ℕ) (n : ℕ) (from : List ℕ) (passes : List Class) (protects removes : List ℕ) (h : Holder) (f : Environment) (fs : List Environment) →
     call.op ≡ Call to n from passes protects removes → function_at code frame ≡ Some fn → HasInstr fn frame.next call →
     function_at code entered ≡ Some callee → entered.next ≡ 0 → Kept code callee 0 next → EntryRemovesDead callee → EntryIsKnown callee → AreDistinct callee.entry →

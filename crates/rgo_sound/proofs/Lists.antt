@@ -1,5 +1,5 @@
 -- The lists of a call, from the rules.
-use Rattle.std.proofs.Common.{◌≡◌, ◌≢◌, ℕ, zero, suc, ◌+◌, ◌≤◌, ◌<◌, Bool, true, false, ◌||◌, List, [], ◌∷◌, ◌++◌, length, Option, Some, refl, sym, ap, ◌∙◌, subst, nat_eq, if◌then◌else◌, arith, ◌⊎◌, inl, inr, ◌↔◌, true≢false, slice_get, Contains}
+use Rattle.std.proofs.Common.{◌≡◌, ◌≢◌, ℕ, zero, suc, ◌+◌, ◌≤◌, Bool, true, false, ◌||◌, List, [], ◌∷◌, ◌++◌, length, Option, Some, refl, sym, ap, ◌∙◌, subst, nat_eq, if◌then◌else◌, arith, ◌⊎◌, inl, inr, ◌↔◌, true≢false, slice_get, Contains}
 use Rattle.std.proofs.lemmas.List.Elements.{Contains-append_left, Contains-append_right, Contains-append_cases}
 use Rattle.std.specs.List.{list_any}
 use Rattle.rgo_sound.proofs.Places.{get_below, get_some}
@@ -9,10 +9,10 @@ use Rattle.rgo_sound.proofs.CallRules.{get_contains, any_contains}
 use Rattle.rgo_sound.proofs.Calls.{AreFormals, given_free}
 use Rattle.rgo_sound.proofs.Enters.{IsParameter}
 use Rattle.rgo_sound.proofs.Ruled.{distinct_member, parameter_member, parameter_listed, contains_get}
-use Rattle.rgo_code.specs.Code.{Call, Code, CodeFn, Slot}
+use Rattle.rgo_code.specs.Code.{Call, Code, CodeFn}
 use Rattle.rgo_code.specs.NameRules.{ProtectsUsed}
 use Rattle.rgo_code.specs.Names.{Gives, IsPassedForResult, callee_regions, callee_result, distinct_names, is_name}
-use Rattle.rgo_code.specs.Names.{parameter_classes, region_parameters, result_class, slot_class}
+use Rattle.rgo_code.specs.Names.{parameter_classes, region_parameters, result_class}
 use Rattle.rgo_region_machine.specs.Owed.{function_of, given_names, same_class}
 use Rattle.rgo_region_machine.specs.Regions.{Bindings}
 use Rattle.rgo_sound.specs.Stakes.{one_if, times_in}
@@ -24,6 +24,7 @@ use Rattle.rgo_tac.specs.declared.regions.Class.TheVariants.{Global, Name, NoCla
 self_named : (k : ℕ) → is_name k (Name k) ≡ true
 self_named k = grind arith
 
+-- a name that was seen is not listed
 not_again : (seen cs : List Class) (k : ℕ) → list_any (is_name k) seen ≡ true → list_any (is_name k) (distinct_names seen cs) ≡ false
 not_again seen [] k e = refl
 not_again seen (NoClass ∷ cs) k e = not_again seen cs k e
@@ -38,6 +39,7 @@ not_again seen (Name j ∷ cs) k e = go (list_any (is_name j) seen) refl (not_ag
     go true q one two = one
     go false q one two = split (nat_eq k j) (λ t. absurd (true≢false (sym e ∙ ap (λ x. list_any (is_name x) seen) (eq_of k j t) ∙ q))) (λ n. ap (λ x. x || list_any (is_name k) (distinct_names (Name j ∷ seen) cs)) n ∙ two)
 
+-- what is listed are names, each once
 are_formals : (seen cs : List Class) → AreFormals (distinct_names seen cs)
 are_formals seen [] = tt
 are_formals seen (NoClass ∷ cs) = are_formals seen cs
@@ -48,6 +50,7 @@ are_formals seen (Name j ∷ cs) = go (list_any (is_name j) seen) (are_formals s
     go true one two = one
     go false one two = (not_again (Name j ∷ seen) cs j (ap (λ x. x || list_any (is_name j) seen) (self_named j)), two)
 
+-- a name among the classes that was not seen is listed
 pub listed : (seen cs : List Class) (k : ℕ) → Contains cs (Name k) → list_any (is_name k) seen ≡ false → list_any (is_name k) (distinct_names seen cs) ≡ true
 listed seen [] k c n = absurd (contains_nil (Name k) c)
 listed seen (NoClass ∷ cs) k c n = go (contains_cases NoClass cs (Name k) c) (λ d. listed seen cs k d n)
@@ -75,6 +78,7 @@ listed seen (Name j ∷ cs) k c n = go (list_any (is_name j) seen) refl (contain
         there true b e = refl
         there false b e = e
 
+-- a name in a list has a position
 pub any_at : (k : ℕ) (cs : List Class) → list_any (is_name k) cs ≡ true → (p : ℕ) × (slice_get cs p ≡ Some (Name k))
 any_at k [] e = cc
 any_at k (c ∷ cs) e = go (is_name k c) refl e (any_at k cs)
@@ -86,6 +90,7 @@ any_at k (c ∷ cs) e = go (is_name k c) refl e (any_at k cs)
 pub formals_once : (g : CodeFn) → AreFormals (region_parameters g)
 formals_once g = are_formals [] (parameter_classes g.params g.variables ++ result_class g ∷ [])
 
+-- a function's region parameters are the names of its parameters, and of its result
 pub formals_are : (g : CodeFn) (k : ℕ) → (list_any (is_name k) (region_parameters g) ≡ true) ↔ (IsParameter g k ⊎ (result_class g ≡ Name k))
 formals_are g k = (to, from)
   where
@@ -109,6 +114,7 @@ formals_are g k = (to, from)
 -- ---- what a call gives
 
 module _ (lent : Class) (protects : List ℕ) where
+  -- what is passed at a position, without protection and not for the callee's result, is given
   given_at : (formals regions : List Class) (p m k : ℕ) → slice_get formals p ≡ Some (Name m) → slice_get regions p ≡ Some (Name k) → list_any (nat_eq k) protects ≡ false → is_name m lent ≡ false → 1 ≤ times_in k (given_names lent formals regions protects)
   given_at [] regions p m k f r n l = cc
   given_at (c ∷ formals) [] p m k f r n l = cc
@@ -129,6 +135,7 @@ module _ (lent : Class) (protects : List ℕ) where
   given_at (c ∷ formals) (Global ∷ regions) (suc p) m k f r n l = given_at formals regions p m k f r n l
   given_at (c ∷ formals) (NoClass ∷ regions) (suc p) m k f r n l = given_at formals regions p m k f r n l
 
+  -- what is given is passed at a position, not for the callee's result
   given_from : (formals regions : List Class) (k : ℕ) → 1 ≤ times_in k (given_names lent formals regions protects) → (p : ℕ) × (c : Class) × (slice_get formals p ≡ Some c) × (slice_get regions p ≡ Some (Name k)) × (same_class c lent ≡ false)
   given_from [] regions k h = absurd (omega (arith, h))
   given_from (Name i ∷ formals) [] k h = absurd (omega (arith, h))

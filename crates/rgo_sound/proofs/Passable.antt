@@ -15,7 +15,6 @@ use Rattle.rgo_code.specs.Exists.{Uses}
 use Rattle.rgo_code.specs.Names.{Names, class_of, parameter_classes, region_parameters, result_class, slot_class}
 use Rattle.rgo_code.specs.Types.{ArgumentsFit, HasType, HaveTypes, TargetFits}
 use Rattle.rgo_region_machine.specs.Regions.{Bindings, bound}
-use Rattle.rgo_tac.specs.Code.{TacFn}
 use Rattle.rgo_tac.specs.declared.regions.Class.{Class}
 use Rattle.rgo_tac.specs.declared.regions.Class.TheVariants.{Global, Name, NoClass}
 use Rattle.rgo_typed.specs.Types.{is_pointer_like}
@@ -57,6 +56,7 @@ argument_fits fn g from i v formal fit below at is =
 
 -- ---- what has a region
 
+-- Global, or a name that stands for a region
 abbrev IsThere : Bindings → Class → Type 0
 IsThere names c = (c ≡ Global) ⊎ ((k : ℕ) × (c ≡ Name k) × (bound names k ≢ None))
 
@@ -84,6 +84,7 @@ same_kind s t m fs ft c k = ft.1 (ap is_pointer_like k ∙ fs.0 (λ n. clash n))
     clash : s.class ≡ NoClass → ⊥
     clash n = let x : NoClass ≡ Name m = sym n ∙ c in cc
 
+-- a class is there if it is one, and its name, if it has one, is bound
 classified : (names : Bindings) (c : Class) → c ≢ NoClass → ((k : ℕ) → c ≡ Name k → bound names k ≢ None) → IsThere names c
 classified names NoClass n h = absurd (n refl)
 classified names Global n h = inl refl

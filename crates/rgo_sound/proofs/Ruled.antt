@@ -32,7 +32,7 @@ use Rattle.rgo_code.specs.declared.rules.Rule.TheVariants as rule
 
 -- ---- functions of the erased code
 
--- the erased code's functions are the code's, erased
+-- a function of the erased code is one of the code, erased
 pub erased_function : (code : Code) (n : ℕ) (f : TacFn) → slice_get (erased code).functions n ≡ Some f → (g : CodeFn) × (function_of code n ≡ Some g) × (f ≡ erased_fn g)
 erased_function code n f e = go (function_of code n) refl
   where
@@ -46,17 +46,20 @@ erased_function code n f e = go (function_of code n) refl
     go None q = let x : Some f ≡ None = sym e ∙ is ∙ ap (option_map erased_fn) q in cc
     go (Some g) q = (g, q, the_same f (erased_fn g) (sym e ∙ is ∙ ap (option_map erased_fn) q))
 
+-- and each of the code is there
 pub erased_found : (code : Code) (n : ℕ) (g : CodeFn) → function_of code n ≡ Some g → slice_get (erased code).functions n ≡ Some (erased_fn g)
 erased_found code n g e = slice_get-map erased_fn code.functions n ∙ ap (option_map erased_fn) e
 
 -- ---- the function that a call or a `go` names
 
+-- the first rule, on a call
 pub record CallIsThere (code : Code) (to : Option ℕ) (n : ℕ) (from : List ℕ) : Type 0 where
   pub callee : CodeFn
   pub found : function_of code n ≡ Some callee
   pub arguments_fit : length from ≡ callee.params
   pub value_fits : is_some to ≡ is_some callee.result
 
+-- and on a `go`; that its function has no result is a matter of the rule on starts
 pub record StartIsThere (code : Code) (n : ℕ) (from : List ℕ) : Type 0 where
   pub callee : CodeFn
   pub found : function_of code n ≡ Some callee
@@ -85,6 +88,7 @@ start_is_there code n from x = go (erased_function code n x.callee x.declared)
 
 -- ---- the instruction of a frame
 
+-- the instruction that a frame is to do is one of its function
 pub record IsAt (code : Code) (frame : Frame) (instr : CodeInstr) : Type 0 where
   pub fn : CodeFn
   pub is_fn : function_at code frame ≡ Some fn
@@ -99,6 +103,7 @@ is_at code frame instr e = go (function_at code frame) refl
 
 -- ---- a function's region parameters are classes of its parameters, or its result's
 
+-- each of the distinct names is one of the classes, and a name
 pub distinct_member : (seen cs : List Class) (p : ℕ) (c : Class) → slice_get (distinct_names seen cs) p ≡ Some c → Contains cs c × ((m : ℕ) × (c ≡ Name m))
 distinct_member seen [] p c e = cc
 distinct_member seen (NoClass ∷ cs) p c e = let x = distinct_member seen cs p c e in (contains_there NoClass cs c x.0, x.1)
@@ -113,6 +118,7 @@ distinct_member seen (Name k ∷ cs) p c e = go (list_any (is_name k) seen) p e 
     go false zero e one two = (subst (λ x. Contains (Name k ∷ cs) x) (the_same (Name k) c e) (contains_here (Name k) cs), (k, sym (the_same (Name k) c e)))
     go false (suc p) e one two = let x = two p e in (contains_there (Name k) cs c x.0, x.1)
 
+-- a parameter's class is that of a variable below the number of parameters, and the other way round
 pub parameter_member : (n : ℕ) (slots : List Slot) (c : Class) → Contains (parameter_classes n slots) c → (i : ℕ) × (i < n) × (slot_class (slice_get slots i) ≡ c)
 parameter_member zero slots c e = absurd (contains_nil c e)
 parameter_member (suc n) [] c e = absurd (contains_nil c e)
@@ -138,6 +144,7 @@ contains_get (y ∷ ys) x c = go (contains_cases y ys x c) (λ d. contains_get y
     go (inl e) next = (zero, ap Some e)
     go (inr d) next = let z = next d in (suc z.0, z.1)
 
+-- the class is that of an argument, or of the target
 passed_is_named : (fn g : CodeFn) (to : Option ℕ) (arguments : List ℕ) (regions : List Class) (k : ℕ) → length arguments ≡ g.params → is_some to ≡ is_some g.result → Passes fn g to arguments regions → Contains regions (Name k) → ((v : ℕ) × Contains arguments v × (class_of fn v ≡ Name k)) ⊎ ((d : ℕ) × (to ≡ Some d) × (class_of fn d ≡ Name k))
 passed_is_named fn g to arguments regions k args res passes c =
     at (contains_get regions (Name k) c)
@@ -186,6 +193,7 @@ regions_contain (Name j ∷ regions) k c = go (contains_cases j (regions_named r
 regions_contain (Global ∷ regions) k c = contains_there Global regions (Name k) (regions_contain regions k c)
 regions_contain (NoClass ∷ regions) k c = contains_there NoClass regions (Name k) (regions_contain regions k c)
 
+-- what an instruction shares or protects, it names
 asked_named : (code : Code) (fn : CodeFn) (i : ℕ) (instr : CodeInstr) (op : CodeOp) → instr.op ≡ op → OpExists (erased code) (erased_fn fn) (erased_op op) → CallsPass code fn op → StartsPass code fn op → ProtectsUsed fn i op → (k : ℕ) → Contains (asked_names op) k → Names fn instr.op k
 asked_named code fn i instr (Call to n from passes protects removes) is exists calls starts rightly k c =
     go (passed_is_named fn there.callee to from passes k there.arguments_fit there.value_fits fits ((rightly k).0 c).0)
@@ -262,6 +270,7 @@ next_is_there fn i j code instr op removes is here there c = go op is c
         by (inr d) = within u (ap (λ (p : ℕ × List ℕ). p.0) (contains_one {X = ℕ × List ℕ} (u, y) (j, removes) d)) (target (Branch v t x u y) e).1
     go (Return value) e c = absurd (contains_nil {X = ℕ × List ℕ} (j, removes) c)
 
+-- checked code has the facts of the rules at each instruction
 pub ruled : (code : Code) → IsChecked code → Ascends code → IsRuled code
 ruled code checked written =
     record {
@@ -279,6 +288,7 @@ ruled code checked written =
       goes_on = λ n i j fn instr removes is here c. get_some fn.body j (next_is_there fn i j code instr instr.op removes refl here (checked rule.Exists (line.Instr n i) fn instr is here) c);
     }
 
+-- an instruction that is no call, no start and no return keeps what holds of the state
 pub moves_keep : MovesKeep
 moves_keep code page_words s t g h frame callers instr checked written fine e at cur simple r =
     let x = yields_is {P = OneDone code page_words s g} (region_step code page_words s (Instruct (One g))) t (one_done code page_words s g) r in
