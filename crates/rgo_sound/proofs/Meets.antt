@@ -1,5 +1,5 @@
 -- A meeting at a channel keeps what holds of the state: each side goes on as by an instruction of its own.
-use Rattle.std.proofs.Common.{◌≡◌, ℕ, false, List, [], ◌∷◌, length, Some, refl, sym, ap, ◌∙◌, subst, nat_eq, arith, slice_get, slice_set}
+use Rattle.std.proofs.Common.{◌≡◌, ℕ, false, List, [], ◌∷◌, length, Some, refl, sym, ap, ◌∙◌, subst, nat_eq, slice_get, slice_set}
 use Rattle.rgo_sound.proofs.Places.{get_set_other, get_set_same, length_set}
 use Rattle.rgo_sound.proofs.OneStep.{OnFrom, receive_goes, send_goes, gone_on, MeetDone, meet_done}
 use Rattle.rgo_sound.proofs.ErasureLemmas.{yields_is}
@@ -23,9 +23,6 @@ side_good code h frames next x rules none good =
 
 -- both sides have gone on, from holders that owe nothing
 module _ (code : Code) (s : RegionState) (r u : ℕ) (fine : Fine code s) (rules : IsRuled code) (a b a' b' : List Frame) (ne : nat_eq r u ≡ false) (qa : slice_get s.plain.goroutines r ≡ Some a) (qb : slice_get s.plain.goroutines u ≡ Some b) (x : OnFrom code a a') (y : OnFrom code b b') (h k : Holder) (e : slice_get s.holders r ≡ Some h) (e' : slice_get s.holders u ≡ Some k) (dh : h.duties ≡ []) (dk : k.duties ≡ []) where
-  flip : (x y : ℕ) → nat_eq x y ≡ false → nat_eq y x ≡ false
-  flip x y h = grind arith
-
   abbrev k' : Holder
   k' = record k { offer = taken_offer k.offer }
 

@@ -1,5 +1,5 @@
 -- A `go` of checked code keeps what holds of the state: the child has the stakes that were pending.
-use Rattle.std.proofs.Common.{◌≡◌, ℕ, zero, suc, ◌+◌, ◌≤◌, ◌<◌, Bool, true, false, not, ◌&&◌, ◌||◌, List, [], ◌∷◌, ◌++◌, map, length, Option, Some, None, is_some, refl, sym, ap, ◌∙◌, subst, nat_eq, if◌then◌else◌, arith, ◌⊎◌, inl, inr, ◌↔◌, true≢false, slice_get, slice_set, option_map, option_and_then, Contains, length-append}
+use Rattle.std.proofs.Common.{◌≡◌, ℕ, zero, suc, ◌+◌, ◌≤◌, ◌<◌, Bool, true, false, not, ◌&&◌, ◌||◌, List, [], ◌∷◌, ◌++◌, map, length, Option, Some, None, is_some, refl, sym, ap, ◌∙◌, subst, nat_eq, if◌then◌else◌, arith, ◌⊎◌, inl, inr, ◌↔◌, true≢false, slice_get, slice_set, option_map, Contains, length-append}
 use Rattle.std.specs.List.{list_any}
 use Rattle.std.proofs.lemmas.Option.{slice_get-map}
 use Rattle.rgo_sound.proofs.Places.{ascending_distinct, get_append_last, get_append_left, get_below, get_set_other, get_set_same, get_snoc, get_some, length_set}
@@ -26,13 +26,12 @@ use Rattle.rgo_code.specs.NameRules.{Ascends, protected_names}
 use Rattle.rgo_code.specs.Names.{Gives, IsOwn, edges, is_name, region_parameters, result_class, slot_class}
 use Rattle.rgo_code.specs.Exists.{OpExists, StartExists}
 use Rattle.rgo_code.specs.Types.{ArgumentsFit, OpFits}
-use Rattle.rgo_machine.specs.Machines.{State}
 use Rattle.rgo_machine.specs.declared.picks.Pick.TheVariants.{One}
 use Rattle.rgo_region_machine.specs.Instructions.{child_holder, has_none, holder_after, instructed_with, last_frames}
 use Rattle.rgo_region_machine.specs.Instructions.{unless_trapped}
 use Rattle.rgo_region_machine.specs.Machine.{Instruct, region_step}
 use Rattle.rgo_region_machine.specs.Owed.{current, current_in, duties_before, entry_removes, formals_of, function_at}
-use Rattle.rgo_region_machine.specs.Owed.{function_of, next_duties, passed, passed_regions, regions_named, result_of}
+use Rattle.rgo_region_machine.specs.Owed.{next_duties, passed, passed_regions, regions_named, result_of}
 use Rattle.rgo_region_machine.specs.Owed.{stands_in, twice}
 use Rattle.rgo_region_machine.specs.Regions.{Bindings, RegionInfo, bound, class_region, same_region}
 use Rattle.rgo_region_machine.specs.States.{Duty, Environment, Holder, NoOffer, RegionState, Remove, environment_of}
