@@ -1,5 +1,5 @@
 -- Offers: a standing one is that of the send at which its goroutine stands, and one that was taken is on a live channel.
-use Rattle.std.proofs.Common.{◌≡◌, ℕ, zero, suc, ◌+◌, ◌==◌, Bool, true, false, ◌&&◌, not, List, [], ◌∷◌, ◌++◌, map, length, Option, Some, None, refl, sym, ap, ◌∙◌, subst, nat_eq, nat_lt, if◌then◌else◌, arith, true≢false, slice_get, slice_set, option_map, option_and_then, ◌⊎◌, inl, inr, Contains}
+use Rattle.std.proofs.Common.{◌≡◌, ℕ, zero, suc, ◌+◌, ◌==◌, Bool, true, false, List, [], ◌∷◌, ◌++◌, map, length, Option, Some, None, refl, sym, ap, ◌∙◌, subst, nat_eq, nat_lt, if◌then◌else◌, arith, true≢false, slice_get, slice_set, option_map, option_and_then, ◌⊎◌, inl, inr, Contains}
 use Rattle.std.specs.Prelude.{ℤ, pos, negsuc, Result, Ok, Err}
 use Rattle.rgo_sound.proofs.Places.{get_append_left, get_append_place, get_below, get_set_other, get_set_same, length_set}
 use Rattle.rgo_sound.proofs.Bullets.{name_staked, duty_staked, has_stake}
@@ -25,7 +25,7 @@ use Rattle.rgo_memory.specs.Channels.{close, is_meeting_at, receive, received, s
 use Rattle.rgo_memory.specs.Effects.{Does, Traps, Outcome, Effect, answered, nothing, in_memory, to_object, at_object, in_memory_if_ready, to_object_if_ready, at_object_if_ready}
 use Rattle.rgo_memory.specs.Elements.{cell_put, element_at, length_of, put, put_in}
 use Rattle.rgo_memory.specs.Fields.{load, or_nil, store, stored}
-use Rattle.rgo_memory.specs.Making.{made, made_struct, new_struct, sized}
+use Rattle.rgo_memory.specs.Making.{made, made_struct, sized}
 use Rattle.rgo_memory.specs.Memory.{Channel, Memory, Object, SliceObject, StructObject, with_object}
 use Rattle.rgo_memory.specs.Operators.{binary_of, inverted, negated, nil_test}
 use Rattle.rgo_memory.specs.Perform.{on_none, on_one, on_three, on_two, perform}
@@ -35,30 +35,30 @@ use Rattle.rgo_memory.specs.declared.traps.Trap.TheVariants.{SendClosed, IndexRa
 use Rattle.rgo_memory.specs.declared.values.Value.{Value}
 use Rattle.rgo_region_machine.specs.Duties.{attend, attended, duty_done, may_go, protected, removal, shared}
 use Rattle.rgo_region_machine.specs.Duties.{unprotected, with_protection}
-use Rattle.rgo_region_machine.specs.Instructions.{child_holder, has_none, holder_after, instructed_with, is_ready}
-use Rattle.rgo_region_machine.specs.Instructions.{last_frames, plain_after, standing_at, taken_offer, unless_trapped}
+use Rattle.rgo_region_machine.specs.Instructions.{child_holder, holder_after, instructed_with, is_ready}
+use Rattle.rgo_region_machine.specs.Instructions.{last_frames, standing_at, taken_offer, unless_trapped}
 use Rattle.rgo_region_machine.specs.Machine.{Acknowledge, Attend, Event, Finish, Instruct, MakeOffer, TakePage}
 use Rattle.rgo_region_machine.specs.Machine.{finished, page_for, page_taken, region_run, region_start, region_step}
 use Rattle.rgo_region_machine.specs.Machine.{take_page, takes_page}
 use Rattle.rgo_region_machine.specs.Objects.{makes_object, making_region, target_class, touched, touched_by, with_fill}
-use Rattle.rgo_region_machine.specs.Offers.{acknowledge, make_offer, offer_at, offer_for, offered, offered_channel}
+use Rattle.rgo_region_machine.specs.Offers.{acknowledge, make_offer, offer_for, offered, offered_channel}
 use Rattle.rgo_region_machine.specs.Offers.{open_channel}
 use Rattle.rgo_region_machine.specs.Owed.{current, function_at}
 use Rattle.rgo_region_machine.specs.Regions.{Bindings, bound, class_region, removed_once, unbind, without}
-use Rattle.rgo_region_machine.specs.States.{Create, Duty, EndBase, Environment, Holder, NoOffer, Offer, Protect}
+use Rattle.rgo_region_machine.specs.States.{Create, Duty, EndBase, Holder, NoOffer, Offer, Protect}
 use Rattle.rgo_region_machine.specs.States.{RegionState, Remove, Share, Standing, Taken, Unprotect, frames_in}
 use Rattle.rgo_region_machine.specs.States.{frames_of, top_names, with_top}
 use Rattle.rgo_region_machine.specs.declared.limits.Limit.{Limit}
 use Rattle.rgo_region_machine.specs.declared.regions.Region.{Region}
 use Rattle.rgo_region_machine.specs.declared.regions.Region.TheVariants.{Global as GlobalRegion, Numbered}
-use Rattle.rgo_sound.proofs.Acting.{after, Acted, act, act_at, alone, call, effected, performed, returned, silent, start, trap_place}
+use Rattle.rgo_sound.proofs.Acting.{after, Acted, act, act_at, alone, call, effected, performed, silent, start, trap_place}
 use Rattle.rgo_sound.specs.Good.{AllGood, Good, StartIsGood, StepsKeepGood}
 use Rattle.rgo_sound.specs.Invariant.{Fine, GoodHolder}
 use Rattle.rgo_sound.specs.NextNames.{HasStake, InstructionNames, NamesOnlyLive, NextNames}
 use Rattle.rgo_sound.specs.Offers.{IsUnbuffered, OfferFits, OffersFit, StandsAtSend, capacity_of}
 use Rattle.rgo_sound.specs.Stakes.{is_in}
 use Rattle.rgo_sound.specs.Values.{FramesLead, LeadsHome, ValuesStay}
-use Rattle.rgo_tac.specs.Frames.{Frame, going, value_at, values_of}
+use Rattle.rgo_tac.specs.Frames.{Frame, value_at, values_of}
 use Rattle.rgo_tac.specs.Tac.{TacState}
 use Rattle.rgo_tac.specs.declared.regions.Class.{Class}
 use Rattle.rgo_tac.specs.declared.regions.Class.TheVariants.{Global, Name, NoClass}
@@ -120,7 +120,7 @@ shut_keeps (Channel capacity queue false) = refl
 -- ---- a channel without a buffer stays one
 
 module _ (m : Memory) (b : Bool) where
-  -- and the heap grows only where b says so
+  -- a channel without a buffer stays one, and the heap grows only where b says so
   abbrev Steady : Effect → Type 0
   Steady (Does m' v) = ((o : ℕ) → IsUnbuffered m o → IsUnbuffered m' o) × (b ≡ false → length m'.heap ≡ length m.heap)
   Steady (Traps trap) = Unit {0}
@@ -499,10 +499,11 @@ at_send code p g o st frame callers instr q cur =
     the_same : (x y : CodeInstr) → Some x ≡ Some y → x ≡ y
     the_same x y e = cc
 
--- at a channel without a buffer a send by itself only traps
+-- a goroutine that traps leaves its frames and the memory as they were
 abbrev trapped_there : Memory → List Frame → End → Acted
 trapped_there m frames e = record { memory = m; frames = frames; started = []; printed = []; trap = Some e }
 
+-- at a channel without a buffer a send by itself only traps
 sends_trap : (m : Memory) (frame : Frame) (callers : List Frame) (to : Option ℕ) (place : ℕ) (o : ℕ) (w : Value) (a : Acted) → IsUnbuffered m o → effected m frame callers to place (option_map silent (send m (value.Object o) w)) ≡ Some a → (kind : TrapKind) × (a ≡ trapped_there m (frame ∷ callers) (Trap kind place))
 sends_trap m frame callers to place o w a (object, e, c) q = go object c (sym (ap (λ x. effected m frame callers to place (option_map silent (to_object_if_ready m o (sent w) x))) e) ∙ q)
   where
