@@ -5,7 +5,7 @@ use Rattle.std.proofs.lemmas.Option.{get_or_from_slice_get, same_Some, slice_get
 use Rattle.rgo_typed.specs.declared.actions.Action.{Action}
 use Rattle.rgo_typed.specs.declared.actions.Action.TheVariants.{Recv, Send}
 use Rattle.rgo_typed.specs.declared.types.Type.{«Type»}
-use Rattle.rgo_wellformed.specs.TypeRules.{Returns, Takes, chan_of}
+use Rattle.rgo_wellformed.specs.TypeRules.{chan_of}
 use Rattle.rgo_memory.specs.declared.values.Value.{Value}
 use Rattle.rgo_memory.specs.declared.values.Value.TheVariants as value
 use Rattle.rgo_memory.specs.Channels.{is_meeting_at, meets_at}
@@ -18,7 +18,7 @@ use Rattle.rgo_machine.specs.declared.picks.Pick.TheVariants.{Meet, One}
 use Rattle.rgo_machine.specs.Actions.{is_true}
 use Rattle.rgo_machine.specs.Machines.{AtCall, AtClose, AtReceive, AtSend, AtStart, Elsewhere, Stand, met, met_by, picked, unless_ended, with_frames}
 use Rattle.rgo_machine.specs.Machines as machine
-use Rattle.rgo_tac.specs.Code.{Tac, TacFn}
+use Rattle.rgo_tac.specs.Code.{TacFn}
 use Rattle.rgo_tac.specs.Frames.{Frame, assigned, called, going, moved_to, value_at, values_of}
 use Rattle.rgo_tac.specs.Steps.{resumed_at, resumed_by, stand, type_in, type_of}
 use Rattle.rgo_tac.specs.Tac.{TacState, tac}
@@ -26,7 +26,6 @@ use Rattle.rgo_tac.specs.declared.regions.Class.{Class}
 use Rattle.rgo_code.specs.Checked.{IsChecked}
 use Rattle.rgo_code.specs.Code.{Branch, Call, Code, CodeFn, CodeInstr, CodeOp, Do, Go, Jump, Print, Return}
 use Rattle.rgo_code.specs.Erasure.{erased, erased_fn, erased_instr, erased_op}
-use Rattle.rgo_code.specs.Exists.{declared_by}
 use Rattle.rgo_code.specs.Types.{ArgumentsFit, DoFits, HasType, HaveTypes, OpFits, TargetFits}
 use Rattle.rgo_code.specs.declared.rules.Line.TheVariants as line
 use Rattle.rgo_code.specs.declared.rules.Rule.TheVariants as rule

@@ -1,7 +1,7 @@
 -- What each action does keeps the types of the memory, and gives a value of its type.
 use Rattle.std.proofs.Common.{◌≡◌, ℕ, zero, suc, ◌+◌, ◌<◌, ◌⊎◌, inl, inr, Bool, true, false, List, [], ◌∷◌, ◌++◌, map, length, replicate, Option, Some, None, Result, Ok, Err, refl, sym, ap, ◌∙◌, subst}
 use Rattle.std.proofs.Common.{ℤ, pos, negsuc, nat_eq, nat_lt, int_eq, if◌then◌else◌, arith, true≢false, slice_get, slice_set, option_map, length-append}
-use Rattle.std.proofs.lemmas.Option.{slice_get-map}
+use Rattle.std.proofs.lemmas.Option.{same_Some, slice_get-map}
 use Rattle.rgo_ast.specs.declared.ops.BinaryOp.{BinaryOp}
 use Rattle.rgo_ast.specs.declared.ops.BinaryOp.TheVariants as binary
 use Rattle.rgo_typed.specs.declared.actions.Action.{Action}
@@ -14,13 +14,13 @@ use Rattle.rgo_typed.specs.declared.types.Layer.{Layer}
 use Rattle.rgo_typed.specs.declared.types.Layer.TheVariants as layer
 use Rattle.rgo_typed.specs.declared.types.Type.{«Type»}
 use Rattle.rgo_typed.specs.Types.{is_pointer_like}
-use Rattle.rgo_wellformed.specs.TypeRules.{Compares, Computes, HasField, Returns, Takes, bool, chan_of, int, pointer_to, slice_of}
+use Rattle.rgo_wellformed.specs.TypeRules.{Compares, Computes, HasField, Takes, bool, chan_of, int, pointer_to, slice_of}
 use Rattle.rgo_memory.specs.declared.traps.Trap.{Trap}
 use Rattle.rgo_memory.specs.declared.traps.Trap.TheVariants.{DivideZero, IndexRange}
 use Rattle.rgo_memory.specs.declared.values.Value.{Value}
 use Rattle.rgo_memory.specs.declared.values.Value.TheVariants as value
 use Rattle.rgo_memory.specs.Channels.{close, receive, received, send, sent, shut}
-use Rattle.rgo_memory.specs.Effects.{Does, Effect, Outcome, Traps, answered, in_memory, in_memory_if_ready, to_object, to_object_if_ready}
+use Rattle.rgo_memory.specs.Effects.{Does, Effect, Traps, answered, in_memory, in_memory_if_ready, to_object, to_object_if_ready}
 use Rattle.rgo_memory.specs.Elements.{cell_put, element, element_at, element_in, length_in, length_of, or_out_of_range, put, put_in}
 use Rattle.rgo_memory.specs.Fields.{field_of, load, or_nil, store, stored}
 use Rattle.rgo_memory.specs.Making.{made, made_struct, new_struct, sized}
@@ -106,14 +106,11 @@ module _ (kinds more : List «Type») (ext : Extends kinds more) where
       (e, is, each_more (HasKind kinds e) (HasKind more e) queue (λ v. more_kind e v) h)
 
 module _ (kinds : List «Type») where
-  the_type : (x y : «Type») → Some x ≡ Some y → x ≡ y
-  the_type x y e = cc
-
   pub get_kinds : (tys : List «Type») (vs : List Value) (i : ℕ) (ty : «Type») → HaveKinds kinds tys vs
       → slice_get tys i ≡ Some ty → (v : Value) × (slice_get vs i ≡ Some v) × HasKind kinds ty v
   get_kinds [] vs i ty h e = cc
   get_kinds (t ∷ tys) [] i ty h e = absurd h
-  get_kinds (t ∷ tys) (v ∷ vs) zero ty h e = (v, refl, subst (λ x. HasKind kinds x v) (the_type t ty e) h.0)
+  get_kinds (t ∷ tys) (v ∷ vs) zero ty h e = (v, refl, subst (λ x. HasKind kinds x v) (same_Some t ty e) h.0)
   get_kinds (t ∷ tys) (v ∷ vs) (suc i) ty h e = get_kinds tys vs i ty h.1 e
 
   pub set_kinds : (tys : List «Type») (vs : List Value) (i : ℕ) (ty : «Type») (v : Value) → HaveKinds kinds tys vs
@@ -121,7 +118,7 @@ module _ (kinds : List «Type») where
   set_kinds [] vs i ty v h e k = cc
   set_kinds (t ∷ tys) [] i ty v h e k = absurd h
   set_kinds (t ∷ tys) (w ∷ ws) zero ty v h e k =
-      (subst (λ x. HasKind kinds x v) (sym (the_type t ty e)) k, h.1)
+      (subst (λ x. HasKind kinds x v) (sym (same_Some t ty e)) k, h.1)
   set_kinds (t ∷ tys) (w ∷ ws) (suc i) ty v h e k = (h.0, set_kinds tys ws i ty v h.1 e k)
 
   pub zero_kind : (ty : «Type») → HasKind kinds ty (zero_of ty)
@@ -230,15 +227,12 @@ set_object code kinds m o ty object fits k h =
     below : o < length m.heap
     below = let a = get_below kinds o ty k in let b = fits.no_more in omega (arith, a, b)
 
-    the_same : (x y : Object) → Some x ≡ Some y → x ≡ y
-    the_same x y e = cc
-
     same : (p : ℕ) (x : Object) → o ≡ p → slice_get (slice_set m.heap o object) p ≡ Some x
         → (old : Object) × (slice_get m.heap o ≡ Some old)
         → (ty : «Type») × (slice_get kinds p ≡ Some ty) × ObjectFits code.structs kinds ty x
     same p x u e (old, w) =
         let is : x ≡ object =
-            the_same x object (sym e ∙ ap (slice_get (slice_set m.heap o object)) (sym u) ∙ get_set_same m.heap o old object w)
+            same_Some x object (sym e ∙ ap (slice_get (slice_set m.heap o object)) (sym u) ∙ get_set_same m.heap o old object w)
         in
         ( ty,
           ap (slice_get kinds) (sym u) ∙ k,
@@ -291,14 +285,11 @@ module _ (code : Code) (kinds : List «Type») (m : Memory) (fits : MemoryFits c
       below : o < length m.heap
       below = let a = get_below kinds o ty k in let b = fits.no_more in omega (arith, a, b)
 
-      the_same : (x y : «Type») → Some x ≡ Some y → x ≡ y
-      the_same x y e = cc
-
       go : (object : Object) × (slice_get m.heap o ≡ Some object)
           → (object : Object) × (slice_get m.heap o ≡ Some object) × ObjectFits code.structs kinds ty object
       go (object, e) =
           let f = fits.objects o object e in
-          (object, e, subst (λ t. ObjectFits code.structs kinds t object) (the_same f.0 ty (sym f.1 ∙ k)) f.2)
+          (object, e, subst (λ t. ObjectFits code.structs kinds t object) (same_Some f.0 ty (sym f.1 ∙ k)) f.2)
 
   -- what is shown of the object of a pointer to a struct, of a slice, of a channel
   by_struct : (P : Option Object → Type 0) (n o : ℕ) → slice_get kinds o ≡ Some (pointer_to n)
@@ -411,12 +402,9 @@ module _ (code : Code) (kinds : List «Type») (m : Memory) (fits : MemoryFits c
   field_type : (n k : ℕ) (t : «Type») (s : Struct) → HasField (declared_by (erased code)) n k t
       → slice_get code.structs n ≡ Some s → slice_get s.fields k ≡ Some t
   field_type n k t s (fields, at, f) e =
-      ap (λ x. slice_get x k) (the_same s.fields fields
+      ap (λ x. slice_get x k) (same_Some s.fields fields
       (sym (ap (option_map (λ (s : Struct). s.fields)) e) ∙ sym (slice_get-map (λ (s : Struct). s.fields) code.structs n) ∙ at))
       ∙ f
-    where
-      the_same : (x y : List «Type») → Some x ≡ Some y → x ≡ y
-      the_same x y e = cc
 
   loads : (n k : ℕ) (t : «Type») (v : Value) → HasField (declared_by (erased code)) n k t
       → HasKind kinds (pointer_to n) v → Performed code kinds (Some t) (answered m (load m v k))

@@ -1,0 +1,5 @@
+use Rattle.rgo_sound.proofs.TypedSteps.{types_keep}
+use Rattle.rgo_sound.proofs.laws.types_keep.Goals as goal
+
+pub returns : goal.returns
+returns c = types_keep
