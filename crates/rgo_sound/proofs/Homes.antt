@@ -224,7 +224,7 @@ module _ (fn : CodeFn) (names : Bindings) where
   HomeAfter owners None v = Unit {0}
   HomeAfter owners (Some d) v = ((o : ℕ) → v ≡ value.Object o → class_of fn d ≢ NoClass) → LeadsHome owners names (class_of fn d) v
 
-  plain_home : (owners : List Region) (d : Option ℕ) (v : Value) → IsPlain v → HomeAfter owners d v
+  pub plain_home : (owners : List Region) (d : Option ℕ) (v : Value) → IsPlain v → HomeAfter owners d v
   plain_home owners None v p = tt
   plain_home owners (Some d) v p = λ n. home_of_plain owners names (class_of fn d) v p
 
