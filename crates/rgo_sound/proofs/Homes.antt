@@ -14,14 +14,14 @@ use Rattle.rgo_ast.specs.declared.ops.BinaryOp.TheVariants.{Mul, Div, Rem, Add, 
 use Rattle.rgo_code.specs.Code.{CodeFn}
 use Rattle.rgo_code.specs.Names.{class_of, member_class}
 use Rattle.rgo_memory.specs.Channels.{close, receive, received, send, sent, shut}
-use Rattle.rgo_memory.specs.Effects.{Does, Effect, Outcome, Traps, answered, at_object, at_object_if_ready, in_memory, in_memory_if_ready, nothing, to_object, to_object_if_ready}
+use Rattle.rgo_memory.specs.Effects.{Does, Effect, Outcome, Traps, answered, at_object, at_object_if_ready, in_memory, in_memory_if_ready, to_object, to_object_if_ready}
 use Rattle.rgo_memory.specs.Elements.{cell_put, element, element_at, element_in, length_in, length_of, or_out_of_range, put, put_in}
 use Rattle.rgo_memory.specs.Fields.{field_of, load, or_nil, store, stored}
-use Rattle.rgo_memory.specs.Making.{made, made_struct, new_channel, new_slice, new_struct, sized}
+use Rattle.rgo_memory.specs.Making.{made, made_struct, new_struct, sized}
 use Rattle.rgo_memory.specs.Memory.{Channel, Memory, Object, SliceObject, StructObject, with_object}
 use Rattle.rgo_memory.specs.Operators.{binary_of, divided, int, inverted, is_equal, negated, nil_test, on_ints, same_bool}
 use Rattle.rgo_memory.specs.Perform.{on_none, on_one, on_three, on_two, perform, set_variable}
-use Rattle.rgo_memory.specs.Values.{base_zero, element_zero, element_zero_in, zero_in, zero_of}
+use Rattle.rgo_memory.specs.Values.{element_zero, element_zero_in, zero_in, zero_of}
 use Rattle.rgo_memory.specs.declared.traps.Trap.{Trap}
 use Rattle.rgo_memory.specs.declared.traps.Trap.TheVariants.{DivideZero, IndexRange}
 use Rattle.rgo_memory.specs.declared.values.Value.{Value}
@@ -49,6 +49,7 @@ use Rattle.rgo_typed.specs.declared.types.Type.{«Type»}
 
 -- ---- values that are no pointers
 
+-- such a value leads into every region; operators, tests, lengths and zeros give no other
 abbrev pub IsPlain : Value → Type 0
 IsPlain (value.Int i) = Unit {0}
 IsPlain (value.Bool b) = Unit {0}
@@ -166,6 +167,7 @@ element_zero_plain (l ∷ ls) b = zero_in_plain ls b
 element_into : (owners : List Region) (r : Region) (ty : «Type») → LeadsInto owners r (element_zero ty)
 element_into owners r ty = into_plain owners r (element_zero ty) (element_zero_plain ty.layers ty.base)
 
+-- the cells of a new struct
 zeros_into : (owners : List Region) (r : Region) (tys : List «Type») → Each (LeadsInto owners r) (map zero_of tys)
 zeros_into owners r [] = tt
 zeros_into owners r (ty ∷ tys) = (into_plain owners r (zero_of ty) (zero_plain ty), zeros_into owners r tys)
@@ -178,7 +180,8 @@ nth_into owners r (v ∷ vs) (suc k) all = nth_into owners r vs k all.1
 
 -- ---- more objects
 
-pub more_into : (owners given : List Region) (r : Region) (v : Value) → LeadsInto owners r v → LeadsInto (owners ++ given) r v
+-- a step that makes an object adds an owner: pointers that are there lead where they led
+more_into : (owners given : List Region) (r : Region) (v : Value) → LeadsInto owners r v → LeadsInto (owners ++ given) r v
 more_into owners given r (value.Int i) h = tt
 more_into owners given r (value.Bool b) h = tt
 more_into owners given r value.Nil h = tt
@@ -190,9 +193,11 @@ more_home owners given names c (value.Bool b) h = tt
 more_home owners given names c value.Nil h = tt
 more_home owners given names c (value.Object o) (r, e, w) = (r, e, more_into owners given r (value.Object o) w)
 
+-- a pointer that leads home has a class
 pub has_class : (owners : List Region) (names : Bindings) (c : Class) (o : ℕ) → LeadsHome owners names c (value.Object o) → c ≢ NoClass
 has_class owners names c o (r, e, w) n = let x : None ≡ Some r = sym (ap (class_region names) n) ∙ e in cc
 
+-- to lead home is to lead into the region of the class, if that has one
 pub into_home : (owners : List Region) (names : Bindings) (c : Class) (r : Region) (v : Value) → class_region names c ≡ Some r → LeadsInto owners r v → LeadsHome owners names c v
 into_home owners names c r (value.Int i) e h = tt
 into_home owners names c r (value.Bool b) e h = tt
@@ -224,6 +229,7 @@ module _ (fn : CodeFn) (names : Bindings) where
   HomeAfter owners None v = Unit {0}
   HomeAfter owners (Some d) v = ((o : ℕ) → v ≡ value.Object o → class_of fn d ≢ NoClass) → LeadsHome owners names (class_of fn d) v
 
+  -- a value that is no pointer leads home
   pub plain_home : (owners : List Region) (d : Option ℕ) (v : Value) → IsPlain v → HomeAfter owners d v
   plain_home owners None v p = tt
   plain_home owners (Some d) v p = λ n. home_of_plain owners names (class_of fn d) v p
@@ -238,6 +244,7 @@ module _ (fn : CodeFn) (names : Bindings) (owners : List Region) (m : Memory) (h
   Moved (Does m' v) = (given : List Region) → Allots region (slice_get m'.heap (length m.heap)) given → MemoryHome (owners ++ given) m' × HomeAfter fn names (owners ++ given) to v
   Moved (Traps trap) = Unit {0}
 
+  -- the same of an action that may have to wait
   abbrev pub MovedIf : Option Effect → Type 0
   MovedIf None = Unit {0}
   MovedIf (Some e) = Moved e
@@ -270,6 +277,7 @@ module _ (fn : CodeFn) (names : Bindings) (owners : List Region) (m : Memory) (h
   abbrev First : ℕ → Type 0
   First a = (d : ℕ) → to ≡ Some d → class_of fn d ≢ NoClass → class_of fn a ≢ NoClass → class_of fn d ≡ class_of fn a
 
+  -- so says the rule on what is joined, of each action that reads
   first_of : (action : Action) (a : ℕ) (from : List ℕ) → ((d : ℕ) → action_joins action (Some d) from ≡ joined d a) → ClassesAgree fn (action_joins action to from) → First a
   first_of action a from is j d e = j (member.Variable d) (member.Variable a) (ap (λ t. action_joins action t from) e ∙ is d)
 
@@ -325,6 +333,7 @@ module _ (fn : CodeFn) (names : Bindings) (owners : List Region) (m : Memory) (h
   in_place_if o old None e h = tt
   in_place_if o old (Some outcome) e h = in_place o old outcome e h
 
+  -- an action on one object: it is enough to say what becomes of that object
   to_one : (o : ℕ) (f : Object → Outcome Object) → ((old : Object) → slice_get m.heap o ≡ Some old → Changed o old (f old)) → Moved (at_object m o f)
   to_one o f h = go (slice_get m.heap o) refl
     where
@@ -523,6 +532,7 @@ module _ (fn : CodeFn) (names : Bindings) (owners : List Region) (m : Memory) (h
       into value.Nil k = tt
       into (value.Object o) k = home_into owners names (class_of fn a) GlobalRegion (value.Object o) (global_region (class_of fn a) (g (has_class owners names (class_of fn a) o k))) k
 
+  -- so says the rule on what is joined, of the variable that gets a package variable, and of the one that sets one
   global_first : (n : ℕ) → ClassesAgree fn (action_joins (action.Get n) to []) → (d : ℕ) → to ≡ Some d → class_of fn d ≢ NoClass → class_of fn d ≡ Global
   global_first n j d e c = j (member.Variable d) member.Global (ap (λ t. action_joins (action.Get n) t []) e) c has
     where
@@ -537,7 +547,7 @@ module _ (fn : CodeFn) (names : Bindings) (owners : List Region) (m : Memory) (h
 
   -- ---- new objects
 
-  -- an object is made in the region
+  -- it is made in the region of the variable that is written, and has no pointers yet
   module _ (for_target : region ≡ class_region names (target_class (Some fn) to)) where
     makes : (object : Object) → ((r : Region) (w : List Region) → Each (LeadsInto w r) (cells_of object)) → Moved (made m object)
     makes object plain given allots = go region refl (subst (λ o. Allots region o given) (get_append_last m.heap object (length m.heap) refl) allots)
@@ -580,7 +590,7 @@ module _ (fn : CodeFn) (names : Bindings) (owners : List Region) (m : Memory) (h
     sizes value.Nil object h = gives value.Nil tt
     sizes (value.Object o) object h = gives value.Nil tt
 
--- ---- each action
+-- ---- each action, by the number of its operands
 
 module _ (fn : CodeFn) (names : Bindings) (frame : Frame) (owners : List Region) (m : Memory) (home : MemoryHome owners m) (to : Option ℕ) (structs : List Struct) (ty : «Type») where
   abbrev region_for : Action → Option Region
@@ -681,7 +691,6 @@ module _ (fn : CodeFn) (names : Bindings) (frame : Frame) (owners : List Region)
   with_three (action.Get n) a b c joins reads = gives fn names owners m home (region_for (action.Get n)) to value.Nil tt
   with_three (action.Set n) a b c joins reads = gives fn names owners m home (region_for (action.Set n)) to value.Nil tt
 
-  -- by the number of operands
   performs : (action : Action) (from : List ℕ) → ClassesAgree fn (action_joins action to from) → Reads from → Moved fn names owners m home (region_for action) to (perform structs action ty (values_of frame from) m)
   performs action [] joins reads = without action joins
   performs action (a ∷ []) joins reads = with_one action a joins reads
@@ -689,6 +698,7 @@ module _ (fn : CodeFn) (names : Bindings) (frame : Frame) (owners : List Region)
   performs action (a ∷ b ∷ c ∷ []) joins reads = with_three action a b c joins reads
   performs action (a ∷ b ∷ c ∷ d ∷ more) joins reads = gives fn names owners m home (region_for action) to value.Nil tt
 
+  -- where the variables that it reads lead home, each action leaves a memory at home and a value that leads home
   pub homes : (action : Action) (from : List ℕ) → ClassesAgree fn (action_joins action to from) → ((v : ℕ) → Contains from v → LeadsHome owners names (class_of fn v) (value_at frame v)) → MovedIf fn names owners m home (region_for action) to (performed structs action ty (values_of frame from) m)
   homes (action.Int k) from joins reads = performs (action.Int k) from joins reads
   homes (action.Bool b) from joins reads = performs (action.Bool b) from joins reads

@@ -2,7 +2,7 @@
 use Rattle.std.proofs.Common.{◌≡◌, ◌≢◌, ℕ, zero, suc, ◌+◌, ◌<◌, Bool, true, false, ◌&&◌, ◌||◌, List, [], ◌∷◌, ◌++◌, map, length, drop, get_or, Option, Some, None, refl, sym, ap, ◌∙◌, subst, nat_eq, if◌then◌else◌, arith, ◌⊎◌, inl, inr, true≢false, slice_get, slice_set, option_map, is_some, Contains, append-nil}
 use Rattle.std.specs.List.{list_any}
 use Rattle.std.proofs.lemmas.Option.{slice_get-map, get_or_from_slice_get}
-use Rattle.rgo_sound.proofs.Acting.{Acted, act, act_at, alone, call, effected, moves, returned, start, starts, trap_place, performed}
+use Rattle.rgo_sound.proofs.Acting.{Acted, act, act_at, alone, call, effected, moves, returned, start, trap_place, performed}
 use Rattle.rgo_sound.proofs.Places.{each_get, get_append_cases, get_below, get_set_other}
 use Rattle.rgo_sound.proofs.OneStep.{Allots, current_erased}
 use Rattle.rgo_sound.proofs.ErasureLemmas.{Always}
@@ -13,7 +13,7 @@ use Rattle.rgo_sound.proofs.CallRules.{get_contains}
 use Rattle.rgo_sound.proofs.Lists.{formals_once, formals_are, gives_are, any_at}
 use Rattle.rgo_sound.proofs.Types.{get_kinds}
 use Rattle.rgo_sound.proofs.TypedSteps.{ActedFits, here}
-use Rattle.rgo_sound.proofs.Homes.{ClassesAgree, HomeAfter, IsPlain, Moved, MovedIf, has_class, home_of_plain, homes, more_home, zero_plain}
+use Rattle.rgo_sound.proofs.Homes.{ClassesAgree, HomeAfter, IsPlain, MovedIf, has_class, home_of_plain, homes, more_home, zero_plain}
 use Rattle.rgo_code.specs.Checked.{IsChecked}
 use Rattle.rgo_code.specs.ClassRules.{Agree, CallPasses, CallsPass, GlobalsAgree, IsPassedFor, JoinsAgree, OpAgrees, Passes, ResultFits, ReturnsAgree, SlotFits, StartPasses, StartsPass, is_of_package}
 use Rattle.rgo_code.specs.Code.{Branch, Call, Code, CodeFn, CodeInstr, CodeOp, Do, Go, Jump, Print, Return, Slot}
@@ -21,7 +21,7 @@ use Rattle.rgo_code.specs.Erasure.{erased, erased_fn, erased_instr, erased_op}
 use Rattle.rgo_code.specs.Exists.{OpExists}
 use Rattle.rgo_code.specs.NameRules.{ProtectsUsed}
 use Rattle.rgo_code.specs.Names.{Gives, IsLiveName, callee_regions, callee_result, class_of, edges, is_name, member_class, region_parameters, result_class, slot_class}
-use Rattle.rgo_code.specs.Types.{HasType, OpFits}
+use Rattle.rgo_code.specs.Types.{OpFits}
 use Rattle.rgo_code.specs.declared.rules.Line.TheVariants as line
 use Rattle.rgo_code.specs.declared.rules.Rule.TheVariants as rule
 use Rattle.rgo_flow.specs.Live.{Live, read_by}
@@ -35,30 +35,29 @@ use Rattle.rgo_memory.specs.Values.{zero_of}
 use Rattle.rgo_memory.specs.declared.values.Value.{Value}
 use Rattle.rgo_memory.specs.declared.values.Value.TheVariants as value
 use Rattle.rgo_region_machine.specs.Objects.{makes_object, making_region, target_class}
-use Rattle.rgo_region_machine.specs.Owed.{current, current_in, formals_of, function_at, function_of, given_names, passed, passed_regions, result_of}
+use Rattle.rgo_region_machine.specs.Owed.{current, formals_of, function_at, function_of, given_names, passed, passed_regions, result_of}
 use Rattle.rgo_region_machine.specs.Regions.{Bindings, bound, class_region, without_all}
 use Rattle.rgo_region_machine.specs.States.{Environment, below, environment_of, top_names, with_top}
 use Rattle.rgo_region_machine.specs.declared.regions.Region.{Region}
 use Rattle.rgo_sound.specs.Invariant.{HasInstr, IsFree}
 use Rattle.rgo_sound.specs.Stakes.{times_in}
-use Rattle.rgo_sound.specs.Types.{CalledFrom, Each, FrameFits, FramesHaveKinds, HasKind, HaveKinds, IsCallOf, MemoryFits}
+use Rattle.rgo_sound.specs.Types.{CalledFrom, Each, FramesHaveKinds, HasKind, HaveKinds, IsCallOf, MemoryFits}
 use Rattle.rgo_sound.specs.Values.{CallerLeads, CallersLead, FramesLead, IsLinked, LeadsHome, MemoryHome, TopLeads, call_target}
-use Rattle.rgo_tac.specs.Code as tac
 use Rattle.rgo_tac.specs.Code.{TacFn}
 use Rattle.rgo_tac.specs.Flow.{reads, writes}
 use Rattle.rgo_tac.specs.Frames.{Frame, assigned, called, going, moved_to, value_at, values_of}
 use Rattle.rgo_tac.specs.Joins.{action_joins, if_pointer_like, is_pointer_like_in, is_pointer_like_type}
-use Rattle.rgo_tac.specs.Steps.{instr_of, resumed, resumed_at, resumed_by, target_of, type_of}
+use Rattle.rgo_tac.specs.Steps.{resumed, resumed_at, resumed_by, target_of, type_of}
 use Rattle.rgo_tac.specs.declared.regions.Class.{Class}
 use Rattle.rgo_tac.specs.declared.regions.Class.TheVariants.{Global, Name, NoClass}
 use Rattle.rgo_tac.specs.declared.regions.Member.{Member}
 use Rattle.rgo_tac.specs.declared.regions.Member.TheVariants as member
-use Rattle.rgo_typed.specs.Types.{is_pointer_like}
 use Rattle.rgo_typed.specs.declared.actions.Action.{Action}
 use Rattle.rgo_typed.specs.declared.types.Type.{«Type»}
 
 -- ---- other names, and more owners
 
+-- a class has the same region by other names, if its name has
 class_other : (names names' : Bindings) (c : Class) → ((k : ℕ) → c ≡ Name k → bound names' k ≡ bound names k) → class_region names' c ≡ class_region names c
 class_other names names' NoClass h = refl
 class_other names names' Global h = refl
@@ -106,6 +105,7 @@ names_lead code owners frame callers f fs fn is lends names protections same lea
     rest (caller ∷ callers) [] h = h
     rest (caller ∷ callers) (d ∷ ds) h = (h.0, (λ g call to is cur t n. lent ∙ h.1 g call to is cur t n), h.2)
 
+-- with more owners, as behind a step that makes an object, everything leads where it led
 more_callers : (code : Code) (owners given : List Region) (f : Environment) (callers : List Frame) (fs : List Environment) → CallersLead code owners f callers fs → CallersLead code (owners ++ given) f callers fs
 more_callers code owners given f [] [] h = tt
 more_callers code owners given f [] (d ∷ ds) h = h
@@ -119,7 +119,7 @@ more_frames_lead code owners given (frame ∷ callers) [] h = h
 more_frames_lead code owners given (frame ∷ callers) (f ∷ fs) h =
     ((λ fn is v l. more_home owners given f.names (class_of fn v) (value_at frame v) (h.0 fn is v l)), more_callers code owners given f callers fs h.1)
 
--- nothing was made
+-- a step that makes nothing leaves the memory as it was
 still_memory : (owners given : List Region) (m : Memory) (region : Option Region) → MemoryHome owners m → Allots region (slice_get m.heap (length m.heap)) given → MemoryHome (owners ++ given) m
 still_memory owners given m region home allots = subst (λ x. MemoryHome x m) (sym (ap (λ x. owners ++ x) none ∙ append-nil owners)) home
   where
@@ -132,11 +132,13 @@ still_memory owners given m region home allots = subst (λ x. MemoryHome x m) (s
 
 -- ---- values by number
 
+-- a variable is read as a cell of the list, or nil where there is none
 value_is : (vs : List Value) (i : ℕ) → get_or vs i value.Nil ≡ or_nil (slice_get vs i)
 value_is [] i = refl
 value_is (x ∷ xs) zero = refl
 value_is (x ∷ xs) (suc i) = value_is xs i
 
+-- after a write: the value, or nil where the list is too short
 value_set : (vs : List Value) (d : ℕ) (v : Value) → (get_or (slice_set vs d v) d value.Nil ≡ v) ⊎ (get_or (slice_set vs d v) d value.Nil ≡ value.Nil)
 value_set [] d v = inr refl
 value_set (x ∷ xs) zero v = inl refl
@@ -209,12 +211,14 @@ pointer_likes_agree fn x y p q h = go (is_pointer_like_in (erased_fn fn) x) (is_
     go true false p q h = absurd (true≢false (sym q))
     go false b p q h = absurd (true≢false (sym p))
 
+-- the rule on classes, of the variables of a function and of its result
 slots_fit : (code : Code) → IsChecked code → (n : ℕ) (fn : CodeFn) → slice_get code.functions n ≡ Some fn → (v : ℕ) (s : Slot) → slice_get fn.variables v ≡ Some s → SlotFits s
 slots_fit code checked n fn is_fn v s q = checked rule.Classes (line.Slot n v) fn s is_fn q
 
 result_fits : (code : Code) → IsChecked code → (n : ℕ) (fn : CodeFn) → slice_get code.functions n ≡ Some fn → ResultFits fn.result
 result_fits code checked n fn is_fn = checked rule.Classes (line.Function n) fn is_fn
 
+-- the two rules on joins, in the form that `homes` asks for
 pub joins_agree : (code : Code) → IsChecked code → (n i : ℕ) (fn : CodeFn) (instr : CodeInstr) → slice_get code.functions n ≡ Some fn → HasInstr fn i instr → (to : Option ℕ) (action : Action) (from removes : List ℕ) → instr.op ≡ Do to action from removes → ClassesAgree fn (action_joins action to from)
 joins_agree code checked n i fn instr is_fn at to action from removes is x y e cx cy =
     pointer_likes_agree fn x y (pointer_like x cx) (pointer_like y cy)
@@ -273,6 +277,7 @@ formal_region names formals regions NoClass actual r f fits place n e = absurd (
 formal_region names formals regions Global actual r f fits place n e = sym (ap (class_region names) fits) ∙ e
 formal_region names formals regions (Name m) actual r f fits place n e = let p = place m refl in passed_at names formals regions p.0 m actual f p.1 (fits p.0 p.1) ∙ e
 
+-- so what leads home in the caller leads home in the callee
 formal_home : (owners : List Region) (names : Bindings) (formals regions : List Class) (c actual : Class) (v : Value) → AreFormals formals → IsPassedFor formals regions c actual → ((m : ℕ) → c ≡ Name m → (p : ℕ) × (slice_get formals p ≡ Some (Name m))) → ((o : ℕ) → v ≡ value.Object o → c ≢ NoClass) → LeadsHome owners names actual v → LeadsHome owners (passed formals (passed_regions names regions)) c v
 formal_home owners names formals regions c actual (value.Int i) f fits place n h = tt
 formal_home owners names formals regions c actual (value.Bool b) f fits place n h = tt
@@ -302,6 +307,7 @@ continued frame to v i = record { function = frame.function; next = i; variables
 abbrev entering : CodeFn → ℕ → Frame → List ℕ → Frame
 entering callee n frame from = called (erased_fn callee) n (values_of frame from)
 
+-- what a goroutine did keeps the memory at home and its frames leading home, and so does the child that it started
 pub record ActedLeads (code : Code) (environments : List Environment) (op : CodeOp) (owners : List Region) (a : Acted) : Type 0 where
   pub memory : MemoryHome owners a.memory
   pub frames : FramesLead code owners a.frames (environments_after code environments op)
@@ -309,6 +315,7 @@ pub record ActedLeads (code : Code) (environments : List Environment) (op : Code
   pub calm : Always (λ e. environments_after code environments op ≡ environments) a.trap
   pub children : Each (λ (child : List Frame). FramesLead code owners child (child_environment code environments op ∷ [])) a.started
 
+-- what an instruction reads is live before it
 pub live_read : (fn : CodeFn) (i v : ℕ) (instr : CodeInstr) → HasInstr fn i instr → Contains (reads (erased_op instr.op)) v → Live (erased_fn fn) v i
 live_read fn i v instr here r = (0, subst (λ o. Contains (read_by o) v) (sym (slice_get-map erased_instr fn.body i ∙ ap (option_map erased_instr) here)) r)
 
@@ -477,6 +484,7 @@ module _ (code : Code) (checked : IsChecked code) (owners : List Region) (m : Me
         none zero e = e
         none (suc i) e = absurd (not_given ((gives_are code fn callee frame.next to n from passes protects removes f.names named rightly.len protects_rightly k).1 (omega (arith, e))))
 
+    -- so do the names that are live behind the call, and that of the result: they are protected
     behind_kept : (k : ℕ) → IsLiveName fn k (frame.next + 1) ⊎ (result_class fn ≡ Name k) → bound (without_all f.names (given_names (result_class callee) (region_parameters callee) passes protects)) k ≡ bound f.names k
     behind_kept k h = unless_given k (λ g. g.1 ((protects_rightly k).1 (g.0, by h)))
       where
@@ -487,6 +495,7 @@ module _ (code : Code) (checked : IsChecked code) (owners : List Region) (m : Me
     edge : Contains {X = ℕ × List ℕ} (edges instr.op frame.next) (frame.next + 1, removes)
     edge = subst (λ (op : CodeOp). Contains {X = ℕ × List ℕ} (edges op frame.next) (frame.next + 1, removes)) (sym is) (contains_here {X = ℕ × List ℕ} (frame.next + 1, removes) [])
 
+    -- what the caller needs behind the call leads home with the names that are left to it
     caller_leads : (given : List Region) → CallerLeads code (owners ++ given) frame (without_all f.names (given_names (result_class callee) (region_parameters callee) passes protects))
     caller_leads given g call' is' cur' v n l =
         subst (λ y. LeadsHome (owners ++ given) left (class_of y v) (value_at frame v)) (the_fn fn g (sym is_fn ∙ is'))
@@ -508,6 +517,7 @@ module _ (code : Code) (checked : IsChecked code) (owners : List Region) (m : Me
         unwritten : writes (erased_op instr.op) ≡ Some v → ⊥
         unwritten e = target (sym (ap (λ op. writes (erased_op op)) is) ∙ e)
 
+    -- the region of the callee's result is that of the variable that waits for it
     linked : IsLinked code (environment_of (result_class callee) (passed (region_parameters callee) (passed_regions f.names passes))) frame (record f { names = without_all f.names (given_names (result_class callee) (region_parameters callee) passes protects) })
     linked g call' d is' cur' t n = subst (λ y. class_region callee_names (result_class callee) ≡ class_region left (class_of y d)) (the_fn fn g (sym is_fn ∙ is')) (by (result_class callee) refl)
       where
@@ -592,6 +602,7 @@ module _ (code : Code) (checked : IsChecked code) (owners : List Region) (m : Me
       like : is_pointer_like_in (erased_fn fn) (member.Variable v) ≡ true
       like = class_pointer_like fn slots (result_fits code checked frame.function fn is_fn) (member.Variable v) n
 
+  -- the caller goes on: its target has what was lent, and the rest led home while it waited
   returned_leads : (kinds : List «Type») (back : Option ℕ) (given : List Region) → instr.op ≡ Return back → FramesHaveKinds code kinds (frame ∷ callers) → (a : Acted) → returned (erased code) m (option_map (value_at frame) back) callers ≡ Some a → Allots None (slice_get a.memory.heap (length m.heap)) given → ActedLeads code (f ∷ fs) (Return back) (owners ++ given) a
   returned_leads kinds back given is typed a q allots = go callers fs lead.1 typed.1 typed.2 q
     where
@@ -635,7 +646,7 @@ module _ (code : Code) (checked : IsChecked code) (owners : List Region) (m : Me
           other : (cfn : CodeFn) (v : ℕ) → function_at code caller ≡ Some cfn → Live (erased_fn cfn) v (caller.next + 1) → call_target caller_instr.op ≢ Some v → LeadsHome (owners ++ given) d.names (class_of cfn v) (value_at caller v)
           other cfn v is_c l n = more_home owners given d.names (class_of cfn v) (value_at caller v) (h.0 cfn caller_instr is_c cur' v n l)
 
-          -- the back comes from the region that was lent
+          -- the value comes from the region that was lent
           result : (cfn : CodeFn) (to v : ℕ) → function_at code caller ≡ Some cfn → call_target caller_instr.op ≡ Some to → back ≡ Some v → LeadsHome (owners ++ given) d.names (class_of cfn to) (value_at frame v)
           result cfn to v is_c t e = lent (value_at frame v) hv
             where
@@ -680,6 +691,7 @@ module _ (code : Code) (checked : IsChecked code) (owners : List Region) (m : Me
 
   -- ---- a `go`
 
+  -- the child starts with what was passed
   begins : (kinds : List «Type») (n : ℕ) (from : List ℕ) (passes : List Class) (removes : List ℕ) (callee : CodeFn) (given : List Region) → instr.op ≡ Go n from passes removes → function_of code n ≡ Some callee → length from ≡ callee.params → FramesHaveKinds code kinds (entering callee n frame from ∷ []) → FramesLead code (owners ++ given) (entering callee n frame from ∷ []) (child_environment code (f ∷ fs) (Go n from passes removes) ∷ [])
   begins kinds n from passes removes callee given is named args typed =
       subst (λ (o : Option CodeFn). FramesLead code (owners ++ given) (entering callee n frame from ∷ []) (environment_of (result_of o) (passed (formals_of o) (passed_regions f.names passes)) ∷ [])) (sym named)
@@ -720,6 +732,7 @@ module _ (code : Code) (checked : IsChecked code) (owners : List Region) (m : Me
       go None q e = cc
       go (Some c) q e = record { callee = c; found = q; args = l ∙ params c e }
 
+  -- whatever a goroutine does alone, it keeps pointers at home
   pub acts_lead : (kinds : List «Type») → MemoryFits code kinds m → FramesHaveKinds code kinds (frame ∷ callers) → (a : Acted) → alone (erased code) m (frame ∷ callers) ≡ Some a → ActedFits code kinds a → (given : List Region) → Allots (making_region (Some fn) f.names instr.op) (slice_get a.memory.heap (length m.heap)) given → ActedLeads code (f ∷ fs) instr.op (owners ++ given) a
   acts_lead kinds fits typed a q after given allots = by instr.op refl
     where

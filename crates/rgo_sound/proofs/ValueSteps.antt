@@ -1,6 +1,6 @@
 -- Each step of the region machine keeps pointers in their regions.
 use Rattle.std.proofs.Common.{◌≡◌, ◌≢◌, ℕ, zero, suc, ◌+◌, false, List, [], ◌∷◌, ◌++◌, map, length, get_or, Option, Some, None, refl, sym, ap, ◌∙◌, subst, nat_eq, if◌then◌else◌, arith, slice_get, slice_set, append-nil, ◌⊎◌, inl, inr, Contains}
-use Rattle.rgo_sound.proofs.Acting.{after, Acted, end_by}
+use Rattle.rgo_sound.proofs.Acting.{after, end_by}
 use Rattle.rgo_sound.proofs.Places.{get_append_left, get_append_place, get_append_right, get_below, get_set_other, get_set_same, length_set}
 use Rattle.rgo_sound.proofs.ErasureLemmas.{Always, Yields, yields, yields_none, yields_if, yields_then, Follows, step_follows, yields_at, yields_from}
 use Rattle.rgo_sound.proofs.CoreLemmas.{split, eq_of, bound_unbind_other}
@@ -9,7 +9,7 @@ use Rattle.rgo_sound.proofs.TypedSteps.{ActedFits, ReceiveFits, SendFits, alone_
 use Rattle.rgo_sound.proofs.Types.{zero_kind, zeros_kinds}
 use Rattle.rgo_sound.proofs.RunLemmas.{run_keeps}
 use Rattle.rgo_sound.proofs.Others.{Main, fine_step, fine_start, main_of}
-use Rattle.rgo_sound.proofs.Homes.{HomeAfter, IsPlain, has_class, home_into, home_of_plain, into_home, into_plain, joined_home, plain_home, zero_plain}
+use Rattle.rgo_sound.proofs.Homes.{HomeAfter, has_class, home_into, home_of_plain, into_home, into_plain, joined_home, plain_home, zero_plain}
 use Rattle.rgo_sound.proofs.Leads.{environments_after, child_environment, ActedLeads, acts_lead, names_lead, more_frames_lead, goes_on, joins_agree, no_object_set, plain_at, reads_home, ref_class, zeros_plain}
 use Rattle.rgo_sound.proofs.OneStep.{OneDone, one_done, MeetDone, meet_done, Allots, gone_on, receive_goes, send_goes}
 use Rattle.rgo_code.specs.Checked.{IsChecked}
@@ -55,11 +55,10 @@ use Rattle.rgo_tac.specs.declared.regions.Class.TheVariants.{NoClass}
 use Rattle.rgo_tac.specs.declared.regions.Member.TheVariants as member
 use Rattle.rgo_typed.specs.declared.actions.Action.TheVariants.{Recv, Send}
 use Rattle.rgo_typed.specs.declared.programs.Variable.{Variable}
-use Rattle.rgo_typed.specs.declared.types.Type.{«Type»}
 
 -- ---- the environments behind an instruction
 
--- they are those of the holder behind it, whether it trapped or not
+-- they are those of the holder behind it, whether it trapped or not: a trap leaves them as they were
 unless_environments : (g : ℕ) (frames : List Frame) (trap : Option End) (before after : Holder) → Always (λ e. after.environments ≡ before.environments) trap → (unless_trapped (end_by g frames trap) before after).environments ≡ after.environments
 unless_environments zero [] None before after h = refl
 unless_environments zero (f ∷ fs) None before after h = refl
@@ -78,6 +77,7 @@ after_environments code k frame callers (Return value) next = refl
 
 -- ---- what stands at the top
 
+-- the environment of the top frame, which fits it, and those of its callers
 pub record Top (code : Code) (h : Holder) (frame : Frame) (callers : List Frame) : Type 0 where
   pub f : Environment
   pub fs : List Environment
@@ -112,12 +112,13 @@ module _ (code : Code) (s : RegionState) (values : ValuesStay code s) where
           (λ t. subst (λ (y : Holder). FramesLead code s.owners (frames_of s.plain j) y.environments) (the_same k x (sym (get_set_same s.holders g h k e) ∙ ap (slice_get (slice_set s.holders g k)) (eq_of g j t) ∙ q)) (subst (λ i. FramesLead code s.owners (frames_of s.plain i) k.environments) (eq_of g j t) lead))
           (λ n. values.frames j x (sym (get_set_other s.holders g j k n) ∙ q))
 
+  -- or the same environments
   with_same : (t : RegionState) (g : ℕ) (h k : Holder) → slice_get s.holders g ≡ Some h → t.owners ≡ s.owners → t.plain ≡ s.plain → t.holders ≡ slice_set s.holders g k → k.environments ≡ h.environments → ValuesStay code t
   with_same t g h k e os ps hs ks = values_with t g h k e os ps hs (subst (FramesLead code s.owners (frames_of s.plain g)) (sym ks) (values.frames g h e))
 
   -- ---- duties
 
-  -- what a change of environments makes of the top one
+  -- a change of the top environment that touches no name which is live at the frame's instruction
   record Change (F : List Environment → List Environment) (h : Holder) (frame : Frame) (callers : List Frame) (top : Top code h frame callers) : Type 0 where
     names : Bindings
     protections : List Region
@@ -125,6 +126,7 @@ module _ (code : Code) (s : RegionState) (values : ValuesStay code s) where
     same : (k : ℕ) → IsFree top.stands.fn frame.next k ⊎ (bound names k ≡ bound top.f.names k)
 
   module _ (g : ℕ) (h : Holder) (d : Duty) (ds : List Duty) (good : GoodHolder code (frames_of s.plain g) h) (e : slice_get s.holders g ≡ Some h) (owed : h.duties ≡ d ∷ ds) where
+    -- such a change keeps where the variables lead
     changed : (F : List Environment → List Environment) → ((frame : Frame) (callers : List Frame) (top : Top code h frame callers) → Change F h frame callers top) → FramesLead code s.owners (frames_of s.plain g) (F h.environments)
     changed F change = go (frames_of s.plain g) refl
       where
@@ -138,7 +140,7 @@ module _ (code : Code) (s : RegionState) (values : ValuesStay code s) where
             (subst (FramesLead code s.owners (frame ∷ callers)) (sym c.is)
             (names_lead code s.owners frame callers top.f top.fs top.stands.fn top.stands.is_fn top.stands.lends c.names c.protections c.same old))
 
-    -- the duty can be done
+    -- the first duty can be done, and so its name is not live there
     first : (frame : Frame) (callers : List Frame) (top : Top code h frame callers) → IsReady (IsFree top.stands.fn frame.next) (Settled top.stands.fn frame.next top.stands.instr) (d ∷ ds) top.f.names top.f.protections
     first frame callers top = subst (λ x. IsReady (IsFree top.stands.fn frame.next) (Settled top.stands.fn frame.next top.stands.instr) x top.f.names top.f.protections) owed top.stands.ready
 
@@ -170,9 +172,6 @@ module _ (code : Code) (s : RegionState) (values : ValuesStay code s) where
 
     protections_change : (F : List Environment → List Environment) → ((f : Environment) (fs : List Environment) → (new : List Region) × (F (f ∷ fs) ≡ record f { protections = new } ∷ fs)) → FramesLead code s.owners (frames_of s.plain g) (F h.environments)
     protections_change F is = changed F (λ frame callers top. record { names = top.f.names; protections = (is top.f top.fs).0; is = (is top.f top.fs).1; same = λ k. inr refl })
-
-    left : Holder
-    left = record h { duties = ds }
 
     removes : (k : ℕ) → d ≡ Remove k → (q : Region) → Yields (ValuesStay code) (removal s g (record h { duties = ds; environments = with_top h.environments (unbind (top_names h.environments) k) }) q)
     removes k is GlobalRegion = yields _ (values_with _ g h _ e refl refl refl (unbinds k is))
@@ -225,6 +224,7 @@ module _ (code : Code) (s : RegionState) (values : ValuesStay code s) where
 
   -- ---- one goroutine's instruction
 
+  -- the frames of the goroutine and of its child lead home by `acts_lead`; those of the others led home before
   values_one : (page_words g : ℕ) (t : RegionState) → IsChecked code → Fine code s → Typed code s.plain → OneDone code page_words s g t → ValuesStay code t
   values_one page_words g t checked fine typed x = subst (ValuesStay code) (sym x.is) done
     where
@@ -317,6 +317,8 @@ module _ (code : Code) (s : RegionState) (values : ValuesStay code s) where
 
   -- ---- a meeting
 
+  -- The value comes from the region of the channel, by the sender's names and by the receiver's; so it leads home in the
+  -- receiver.
   values_meet : (r u : ℕ) (t : RegionState) → IsChecked code → Fine code s → Typed code s.plain → MeetDone code s r u t → ValuesStay code t
   values_meet r u t checked fine typed x =
       record {
@@ -544,6 +546,7 @@ values_start code checked =
 
 -- ---- every run
 
+-- the whole invariant but for offers: at the start, and behind each step
 pub good_step : (code : Code) (page_words : ℕ) (s : RegionState) (event : Event) → IsChecked code → Ascends code → Good code s → Yields (Good code) (region_step code page_words s event)
 good_step code page_words s event checked written good =
     all (region_step code page_words s event) (fine_step code page_words s good.fine event checked written) (typed_step code page_words s event checked good.typed) (values_step code s good.values page_words event checked good.fine good.typed)
