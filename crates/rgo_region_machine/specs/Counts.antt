@@ -1,5 +1,5 @@
 -- What a run has made and done.
-use Rattle.std.specs.Prelude.{ℕ, ◌+◌, Bool, List, length, sum_by, count_by, nat_eq, if◌then◌else◌}
+use Rattle.std.specs.Prelude.{ℕ, ◌+◌, Bool, length, sum_by, count_by, nat_eq, if◌then◌else◌}
 use Rattle.rgo_region_machine.specs.Regions.{RegionInfo}
 use Rattle.rgo_region_machine.specs.States.{RegionState}
 

@@ -1,5 +1,6 @@
 pub mod Counts
 pub mod Duties
+pub mod Examples
 pub mod Instructions
 pub mod Machine
 pub mod Objects

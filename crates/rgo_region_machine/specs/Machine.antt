@@ -61,7 +61,7 @@ next_object code s g = object_made s (plain_step code s.plain (One g))
 abbrev pub takes_page : Code → ℕ → RegionState → ℕ → Holder → Region → Option RegionState
 takes_page code page_words s g h r =
     if has_none h.duties && may_go h.offer && is_live s.regions r
-        && wants_page page_words (fill_of h.fills r) (next_object code s g)
+    && wants_page page_words (fill_of h.fills r) (next_object code s g)
     then Some (page_taken s g h r) else None
 
 abbrev pub page_for : Code → ℕ → RegionState → ℕ → Holder → Frame → CodeInstr → Option RegionState

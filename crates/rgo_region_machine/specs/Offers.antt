@@ -1,6 +1,6 @@
 -- Offers: a send on an open channel without a buffer stands there until a receiver takes it, which the sender then
 -- acknowledges. At most one stands at a channel.
-use Rattle.std.specs.Prelude.{ℕ, Bool, true, false, List, [], ◌∷◌, Option, Some, None}
+use Rattle.std.specs.Prelude.{ℕ, Bool, false, List, [], ◌∷◌, Option, Some, None}
 use Rattle.std.specs.Prelude.{slice_get, nat_eq, option_and_then, if◌then◌else◌}
 use Rattle.std.specs.List.{list_any}
 use Rattle.rgo_typed.specs.declared.actions.Action.TheVariants.{Send}

@@ -1,8 +1,10 @@
 //! The region machine: three-address code that runs with its regions.
 #![tactic(auto)]
 
+mod laws;
 mod limits;
 mod regions;
 
+pub use laws::examples;
 pub use limits::Limit;
 pub use regions::Region;

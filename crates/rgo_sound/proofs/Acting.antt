@@ -1,9 +1,8 @@
 -- What one goroutine does alone, as one record: its frames and the memory after it, the goroutine that it starts, what
 -- it prints, and its trap.
-use Rattle.std.proofs.Common.{◌≡◌, ℕ, zero, suc, ◌+◌, List, [], ◌∷◌, ◌++◌, Option, Some, None, refl, sym, ap, ◌∙◌, subst}
+use Rattle.std.proofs.Common.{◌≡◌, ℕ, zero, suc, ◌+◌, List, [], ◌∷◌, ◌++◌, Option, Some, None, refl, sym, ap, ◌∙◌}
 use Rattle.std.proofs.Common.{slice_get, slice_set, if◌then◌else◌}
 use Rattle.std.specs.Option.{option_map}
-use Rattle.std.specs.Prelude.{option_and_then}
 use Rattle.std.proofs.lemmas.List.{append-nil}
 use Rattle.rgo_typed.specs.declared.actions.Action.{Action}
 use Rattle.rgo_typed.specs.declared.actions.Action.TheVariants as action
@@ -12,7 +11,7 @@ use Rattle.rgo_typed.specs.declared.types.Type.{«Type»}
 use Rattle.rgo_memory.specs.declared.values.Value.{Value}
 use Rattle.rgo_memory.specs.declared.values.Value.TheVariants as value
 use Rattle.rgo_memory.specs.Channels.{receive, send, close}
-use Rattle.rgo_memory.specs.Effects.{Outcome, Does, Traps, Effect}
+use Rattle.rgo_memory.specs.Effects.{Does, Traps, Effect}
 use Rattle.rgo_memory.specs.Memory.{Memory}
 use Rattle.rgo_memory.specs.Perform.{perform}
 use Rattle.rgo_memory.specs.Values.{zero_of}
@@ -24,8 +23,7 @@ use Rattle.rgo_machine.specs.Machines as machine
 use Rattle.rgo_machine.specs.Machines.{Act, Stand, AtReceive, AtSend, AtClose, AtCall, AtStart, Elsewhere}
 use Rattle.rgo_tac.specs.Code.{Op, Do, Call, Go, Print, Jump, Branch, Return, Instr, TacFn, Tac}
 use Rattle.rgo_tac.specs.Frames.{Frame, value_at, values_of, moved_to, going, called}
-use Rattle.rgo_tac.specs.Steps.{instr_of, type_of, resumed, stand, stand_at, stand_before, at_function, done, done_at}
-use Rattle.rgo_tac.specs.Steps as steps
+use Rattle.rgo_tac.specs.Steps.{instr_of, type_of, resumed, stand_at, stand_before, at_function, done, done_at}
 use Rattle.rgo_tac.specs.Tac.{TacState, tac}
 
 pub record Acted : Type 0 where

@@ -1,5 +1,5 @@
 -- The heap does not shrink, whatever one goroutine does alone.
-use Rattle.std.proofs.Common.{◌≡◌, ℕ, ◌≤◌, Bool, false, List, [], ◌∷◌, length, Option, Some, None, subst, arith}
+use Rattle.std.proofs.Common.{◌≡◌, ℕ, ◌≤◌, false, List, [], ◌∷◌, length, Option, Some, None, subst, arith}
 use Rattle.std.proofs.Common.{length-append, slice_get, replicate}
 use Rattle.std.specs.Option.{option_map}
 use Rattle.std.specs.Prelude.{Result, Ok, Err, pos, negsuc}

@@ -27,7 +27,7 @@ use Rattle.rgo_code.specs.Names.{parameter_classes, result_class, slot_class}
 use Rattle.rgo_machine.specs.declared.picks.Pick.TheVariants.{Meet, One}
 use Rattle.rgo_region_machine.specs.Duties.{attend, attended, may_go}
 use Rattle.rgo_region_machine.specs.Machine.{Acknowledge, Attend, Event, Finish, Instruct, MakeOffer, TakePage}
-use Rattle.rgo_region_machine.specs.Machine.{finished, kept, main_holder, page_for, page_taken, region_start}
+use Rattle.rgo_region_machine.specs.Machine.{finished, main_holder, page_for, page_taken, region_start}
 use Rattle.rgo_region_machine.specs.Machine.{region_step, take_page, takes_page}
 use Rattle.rgo_region_machine.specs.Objects.{with_fill}
 use Rattle.rgo_region_machine.specs.Offers.{acknowledge, make_offer, offer_for, offered}

@@ -12,7 +12,7 @@ use Rattle.rgo_sound.proofs.TypedSteps.{here, one_object}
 use Rattle.rgo_sound.proofs.ValueSteps.{Top, top_of}
 use Rattle.rgo_sound.proofs.Offers.{all_good_step, runs_all_good, touched_home, class_has_stake, at_send, alone_steady, SteadyActed, makes_at, making_class}
 use Rattle.rgo_code.specs.Checked.{IsChecked}
-use Rattle.rgo_code.specs.Code.{Branch, Call, Code, CodeFn, CodeInstr, CodeOp, Do, Go, Jump, Print, Return, Slot}
+use Rattle.rgo_code.specs.Code.{Branch, Call, Code, CodeInstr, CodeOp, Do, Go, Jump, Print, Return, Slot}
 use Rattle.rgo_code.specs.Erasure.{erased, erased_fn, erased_instr, erased_op}
 use Rattle.rgo_code.specs.Exists.{Uses}
 use Rattle.rgo_code.specs.NameRules.{Ascends}

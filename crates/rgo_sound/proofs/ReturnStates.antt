@@ -33,8 +33,6 @@ use Rattle.rgo_tac.specs.Tac.{TacState}
 use Rattle.rgo_code.specs.declared.rules.Line.TheVariants as line
 use Rattle.rgo_code.specs.declared.rules.Rule.TheVariants as rule
 
-
-
 the_instr : (x y : CodeInstr) → Some x ≡ Some y → x ≡ y
 the_instr x y e = cc
 
@@ -88,8 +86,8 @@ module _ (code : Code) (checked : IsChecked code) (written : Ascends code) (fram
           let at_next : back.next ≡ c.next + 1 = ap (λ (y : Frame). y.next) is_back ∙ resumed_next c (erased_op w.instr.op) (option_map (value_at frame) value) in
           let is_fn' : function_at code back ≡ Some w.fn = ap (slice_get code.functions) (ap (λ (y : Frame). y.function) is_back ∙ resumed_function c (erased_op w.instr.op) (option_map (value_at frame) value)) ∙ w.is_fn in
           let edge : Contains {X = ℕ × List ℕ} (edges w.instr.op c.next) (back.next, removes) =
-              subst (λ (y : ℕ). Contains {X = ℕ × List ℕ} (edges w.instr.op c.next) (y, removes)) (sym at_next)
-              (subst (λ (y : CodeOp). Contains {X = ℕ × List ℕ} (edges y c.next) (c.next + 1, removes)) (sym q) (contains_here {X = ℕ × List ℕ} (c.next + 1, removes) [])) in
+          subst (λ (y : ℕ). Contains {X = ℕ × List ℕ} (edges w.instr.op c.next) (y, removes)) (sym at_next)
+          (subst (λ (y : CodeOp). Contains {X = ℕ × List ℕ} (edges y c.next) (c.next + 1, removes)) (sym q) (contains_here {X = ℕ × List ℕ} (c.next + 1, removes) [])) in
           let next = rules.goes_on c.function c.next back.next w.fn w.instr removes w.is_fn w.is_instr edge in
           let good = returns_on code st.fn w.fn frame c back cs instr w.instr next.0 value to n from passes protects removes h f d' ds is empty q (rules.kept c.function c.next w.fn w.instr w.is_fn w.is_instr) is_fn' (rules.kept c.function back.next w.fn next.0 w.is_fn next.1) at_next core' once st.lends settled w.lends w.left w.protections_fit ws none in
           let owed : caller_duties code h (c ∷ cs) ≡ map Unprotect protects ++ map Remove removes = ap duties_behind_call cur' ∙ ap (λ (o : CodeOp). duties_behind_call (Some (record { place = w.instr.place; creates = w.instr.creates; op = o }))) q in

@@ -53,7 +53,6 @@ use Rattle.rgo_tac.specs.declared.regions.Class.TheVariants.{Global, Name, NoCla
 use Rattle.rgo_code.specs.declared.rules.Line.TheVariants as line
 use Rattle.rgo_code.specs.declared.rules.Rule.TheVariants as rule
 
-
 -- ---- what is passed to a child, by number
 
 -- how often a region is passed

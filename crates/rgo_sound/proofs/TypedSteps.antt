@@ -198,8 +198,8 @@ module _ (code : Code) (checked : IsChecked code) where
             → Always (ActedFits code kinds) (call m frame callers n (values_of frame from) (option_map erased_fn o))
         go None q fit = goes_on
         go (Some callee) q fit =
-            moves_fit (called (erased_fn callee) n (values_of frame from) ∷ frame ∷ callers)
-            ( (callee, q, enters n callee from fit),
+            moves_fit (called (erased_fn callee) n (values_of frame from) ∷ frame ∷ callers) (
+              (callee, q, enters n callee from fit),
               (callee, q, instr, cur, subst (λ o. IsCallOf code o callee) (sym is) q),
               all,
             )
@@ -246,7 +246,7 @@ module _ (code : Code) (checked : IsChecked code) where
             target d n v named fit b =
                 let r = types frame all.0.0 instr all.0.1 cur (Return (Some v)) (is ∙ ap Return b) in
                 let fit' : TargetFits (erased_fn waits.0.0) (Some (erased_fn f)) (Some d) =
-                    subst (λ o. TargetFits (erased_fn waits.0.0) o (Some d)) (slice_get-map erased_fn code.functions n ∙ ap (option_map erased_fn) named) fit
+                subst (λ o. TargetFits (erased_fn waits.0.0) o (Some d)) (slice_get-map erased_fn code.functions n ∙ ap (option_map erased_fn) named) fit
                 in
                 set_kinds kinds (erased_fn waits.0.0).variables caller.variables d r.0 (value_at frame v) waits.0.2
                 (fit' r.0 (ap (λ (z : CodeFn). (erased_fn z).result_type) (sym same_fn) ∙ r.1))
@@ -364,8 +364,8 @@ module _ (code : Code) (checked : IsChecked code) where
       by (Some d) on tys have (ty, t, r) = absurd r
       by None on tys have (ty, r) =
           let ks =
-              vars_kinds kinds (erased_fn all'.0.0) x.frame all'.0.2 (x.channel ∷ x.sent ∷ []) (chan_of ty ∷ ty ∷ [])
-              (have ∙ ap (map Some) r)
+          vars_kinds kinds (erased_fn all'.0.0) x.frame all'.0.2 (x.channel ∷ x.sent ∷ []) (chan_of ty ∷ ty ∷ [])
+          (have ∙ ap (map Some) r)
           in
           record {
             inner = ty;

@@ -232,9 +232,9 @@ set_object code kinds m o ty object fits k h =
         → (ty : «Type») × (slice_get kinds p ≡ Some ty) × ObjectFits code.structs kinds ty x
     same p x u e (old, w) =
         let is : x ≡ object =
-            same_Some x object (sym e ∙ ap (slice_get (slice_set m.heap o object)) (sym u) ∙ get_set_same m.heap o old object w)
-        in
-        ( ty,
+        same_Some x object (sym e ∙ ap (slice_get (slice_set m.heap o object)) (sym u) ∙ get_set_same m.heap o old object w)
+        in (
+          ty,
           ap (slice_get kinds) (sym u) ∙ k,
           subst (λ y. ObjectFits code.structs kinds ty y) (sym is) h,
         )
@@ -262,8 +262,8 @@ make_object code kinds m ty object fits p h = (
     go : (o : ℕ) (x : Object) → (slice_get m.heap o ≡ Some x) ⊎ ((o ≡ length m.heap) × (x ≡ object))
         → (t : «Type») × (slice_get (kinds ++ ty ∷ []) o ≡ Some t) × ObjectFits code.structs (kinds ++ ty ∷ []) t x
     go o x (inl e) =
-        let f = fits.objects o x e in
-        ( f.0,
+        let f = fits.objects o x e in (
+          f.0,
           extends_snoc kinds ty o f.0 f.1,
           more_object kinds (kinds ++ ty ∷ []) (extends_snoc kinds ty) code.structs f.0 x f.2,
         )
@@ -271,7 +271,7 @@ make_object code kinds m ty object fits p h = (
       ty,
       get_append_last kinds ty o (e ∙ sym fits.no_more),
       subst (λ y. ObjectFits code.structs (kinds ++ ty ∷ []) ty y) (sym is)
-      (more_object kinds (kinds ++ ty ∷ []) (extends_snoc kinds ty) code.structs ty object h),
+          (more_object kinds (kinds ++ ty ∷ []) (extends_snoc kinds ty) code.structs ty object h),
     )
 
 -- ---- the actions
@@ -615,8 +615,12 @@ module _ (code : Code) (kinds : List «Type») (m : Memory) (fits : MemoryFits c
   returns action.Slice t tys vs (e, u, is) h =
       by_one kinds (Gives action.Slice t) tys vs int e h
       (λ v g. sizes t (λ n. SliceObject (replicate n (element_zero t))) v (ap is_pointer_like is)
-      (λ n. (u, is, each_replicate (HasKind kinds u) n (element_zero t)
-      (subst (HasKind kinds u) (sym (ap element_zero is)) (zero_kind kinds u)))) g)
+      (λ n. (
+        u,
+        is,
+        each_replicate (HasKind kinds u) n (element_zero t)
+            (subst (HasKind kinds u) (sym (ap element_zero is)) (zero_kind kinds u)),
+      )) g)
   returns action.Chan t tys vs (e, u, is) h =
       by_one kinds (Gives action.Chan t) tys vs int e h
       (λ v g. sizes t (λ n. Channel n [] false) v (ap is_pointer_like is) (λ n. (u, is, tt)) g)

@@ -1,5 +1,5 @@
 -- The erasure of a region run: the run of the three-address machine that is left where nothing is said of regions.
-use Rattle.std.specs.Prelude.{List, None, Option, Some, [], option_map, unwrap_or, ℕ, ◌++◌, ◌+◌, ◌∷◌, ◌≡◌}
+use Rattle.std.specs.Prelude.{List, None, Option, Some, [], option_map, unwrap_or, ℕ, ◌++◌, ◌∷◌, ◌≡◌}
 use Rattle.rgo_code.specs.Code.{Code}
 use Rattle.rgo_code.specs.Erasure.{erased}
 use Rattle.rgo_machine.specs.Runs.{Leads}

@@ -29,7 +29,6 @@ PointersStay s =
     (o p : ℕ) (object : Object) (r : Region) → slice_get s.plain.memory.heap o ≡ Some object → slice_get s.owners o ≡ Some r → is_live s.regions r ≡ true →
     Contains (cells_of object) (value.Object p) → slice_get s.owners p ≡ Some r
 
-
 -- ---- numbers
 
 abbrev pub name_count : CodeFn → ℕ

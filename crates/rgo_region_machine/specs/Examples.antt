@@ -1,0 +1,227 @@
+-- Small code with regions, and its runs.
+use Rattle.std.specs.Prelude.{◌≡◌, ℕ, List, [], ◌∷◌, ◌++◌, Option, Some, None, pos, option_and_then, codes}
+use Rattle.rgo_ast.specs.declared.ops.BinaryOp.TheVariants.{Add}
+use Rattle.rgo_typed.specs.declared.actions.Action.TheVariants as action
+use Rattle.rgo_typed.specs.declared.programs.Struct.{Struct}
+use Rattle.rgo_typed.specs.declared.statements.Piece.TheVariants as piece
+use Rattle.rgo_typed.specs.declared.types.Type.{«Type»}
+use Rattle.rgo_wellformed.specs.TypeRules.{int, pointer_to, slice_of, chan_of}
+use Rattle.rgo_memory.specs.declared.values.Value.TheVariants as value
+use Rattle.rgo_machine.specs.declared.picks.End.TheVariants.{Exit}
+use Rattle.rgo_machine.specs.declared.picks.Pick.TheVariants.{One, Meet}
+use Rattle.rgo_machine.specs.Lines.{line_of}
+use Rattle.rgo_tac.specs.declared.regions.Class.{Class}
+use Rattle.rgo_tac.specs.declared.regions.Class.TheVariants.{NoClass, Name}
+use Rattle.rgo_code.specs.declared.code.Undeclared.{Undeclared}
+use Rattle.rgo_code.specs.Code.{Slot, CodeOp, CodeInstr, CodeFn, Code, Do, Call, Go, Print, Return}
+use Rattle.rgo_region_machine.specs.Counts.{Counts, counts_of}
+use Rattle.rgo_region_machine.specs.Machine.{Event, Instruct, Attend, TakePage, MakeOffer, Acknowledge, region_run}
+use Rattle.rgo_region_machine.specs.States.{Mark, Ended, RegionState}
+
+-- ---- code
+
+abbrev pub int_slot : Slot
+int_slot = record { ty = int; class = NoClass }
+
+abbrev pub slot_of : «Type» → Class → Slot
+slot_of ty class = record { ty = ty; class = class }
+
+-- struct N { v int; next *N }
+abbrev pub node : Struct
+node = record { name = codes "N"; fields = int ∷ pointer_to 0 ∷ [] }
+
+abbrev pub node_slot : Class → Slot
+node_slot c = slot_of (pointer_to 0) c
+
+abbrev pub creating : List ℕ → CodeOp → CodeInstr
+creating creates op = record { creates = creates; op = op; place = 0 }
+
+abbrev pub plain : CodeOp → CodeInstr
+plain op = creating [] op
+
+abbrev pub printing : ℕ → CodeInstr
+printing v = plain (Print (piece.Value ∷ []) (v ∷ []) [])
+
+abbrev pub no_undeclared : Undeclared
+no_undeclared = record { structs = []; variables = []; functions = [] }
+
+abbrev pub code_of : List Struct → List CodeFn → Code
+code_of structs functions = record {
+  structs = structs;
+  variables = [];
+  functions = functions;
+  undeclared = no_undeclared;
+}
+
+abbrev pub main_of : List Slot → List CodeInstr → CodeFn
+main_of variables body = record {
+  name = codes "main";
+  params = 0;
+  result = None;
+  variables = variables;
+  entry = [];
+  body = body;
+}
+
+-- x := new(N); y := x; fmt.Println(y.v)
+abbrev pub one_object : Code
+one_object = code_of (node ∷ []) (main_of (node_slot (Name 0) ∷ node_slot (Name 0) ∷ int_slot ∷ []) (
+    creating (0 ∷ []) (Do (Some 0) (action.New 0) [] [])
+    ∷ plain (Do (Some 1) action.Copy (0 ∷ []) [])
+    ∷ plain (Do (Some 2) (action.Load 0) (1 ∷ []) (0 ∷ []))
+    ∷ printing 2
+    ∷ plain (Return None) ∷ []) ∷ [])
+
+-- func f(a, b *N) int { return a.v + b.v }, and a `main` that passes one object twice: x := &N{21, nil}; f(x, x)
+abbrev pub passed_twice : Code
+passed_twice = code_of (node ∷ []) (
+    record {
+      name = codes "f";
+      params = 2;
+      result = Some int_slot;
+      variables = node_slot (Name 0) ∷ node_slot (Name 1) ∷ int_slot ∷ int_slot ∷ int_slot ∷ [];
+      entry = [];
+      body =
+          plain (Do (Some 2) (action.Load 0) (0 ∷ []) (0 ∷ []))
+          ∷ plain (Do (Some 3) (action.Load 0) (1 ∷ []) (1 ∷ []))
+          ∷ plain (Do (Some 4) (action.Binary Add) (2 ∷ 3 ∷ []) [])
+          ∷ plain (Return (Some 4)) ∷ [];
+    }
+    ∷ main_of (int_slot ∷ node_slot (Name 0) ∷ int_slot ∷ []) (
+    plain (Do (Some 0) (action.Int (pos 21)) [] [])
+    ∷ creating (0 ∷ []) (Do (Some 1) (action.New 0) [] [])
+    ∷ plain (Do None (action.Store 0) (1 ∷ 0 ∷ []) [])
+    ∷ plain (Call (Some 2) 0 (1 ∷ 1 ∷ []) (Name 0 ∷ Name 0 ∷ []) (0 ∷ []) (0 ∷ []))
+    ∷ printing 2
+    ∷ plain (Return None) ∷ []) ∷ [])
+
+-- func s(c chan int) { c <- 5 }, and a `main` that starts it and receives
+abbrev pub sender_and_receiver : Code
+sender_and_receiver = code_of [] (
+    main_of (int_slot ∷ slot_of (chan_of int) (Name 0) ∷ int_slot ∷ []) (
+    plain (Do (Some 0) (action.Int (pos 0)) [] [])
+    ∷ creating (0 ∷ []) (Do (Some 1) action.Chan (0 ∷ []) [])
+    ∷ plain (Go 1 (1 ∷ []) (Name 0 ∷ []) [])
+    ∷ plain (Do (Some 2) action.Recv (1 ∷ []) (0 ∷ []))
+    ∷ printing 2
+    ∷ plain (Return None) ∷ [])
+    ∷ record {
+      name = codes "s";
+      params = 1;
+      result = None;
+      variables = slot_of (chan_of int) (Name 0) ∷ int_slot ∷ [];
+      entry = [];
+      body =
+          plain (Do (Some 1) (action.Int (pos 5)) [] [])
+          ∷ plain (Do None action.Send (0 ∷ 1 ∷ []) (0 ∷ []))
+          ∷ plain (Return None) ∷ [];
+    } ∷ [])
+
+-- func f(a, b *N) {} without a use, and a `main` that starts it with one region at both positions
+abbrev pub started_twice : Code
+started_twice = code_of (node ∷ []) (
+    main_of (node_slot (Name 0) ∷ []) (
+    creating (0 ∷ []) (Do (Some 0) (action.New 0) [] [])
+    ∷ plain (Go 1 (0 ∷ 0 ∷ []) (Name 0 ∷ Name 0 ∷ []) (0 ∷ []))
+    ∷ plain (Do (Some 0) action.Nil [] [])
+    ∷ plain (Return None) ∷ [])
+    ∷ record {
+      name = codes "f";
+      params = 2;
+      result = None;
+      variables = node_slot (Name 0) ∷ node_slot (Name 1) ∷ [];
+      entry = 0 ∷ 1 ∷ [];
+      body = plain (Return None) ∷ [];
+    } ∷ [])
+
+-- an index outside of a slice, which traps before the removal of its region
+abbrev pub trapping : Code
+trapping = code_of [] (main_of (slot_of (slice_of int) (Name 0) ∷ int_slot ∷ int_slot ∷ []) (
+    plain (Do (Some 1) (action.Int (pos 0)) [] [])
+    ∷ creating (0 ∷ []) (Do (Some 0) action.Slice (1 ∷ []) [])
+    ∷ plain (Do (Some 2) action.At (0 ∷ 1 ∷ []) (0 ∷ []))
+    ∷ plain (Return None) ∷ []) ∷ [])
+
+-- ---- runs
+
+abbrev pub step : Event
+step = Instruct (One 0)
+
+abbrev pub one_object_run : List Event
+one_object_run = Attend 0 ∷ TakePage 0 ∷ step ∷ step ∷ step ∷ Attend 0 ∷ step ∷ step ∷ []
+
+-- The call comes after its protection. The two removals in the callee do nothing; the caller's one removes the region.
+abbrev pub passed_twice_run : List Event
+passed_twice_run =
+    step ∷ Attend 0 ∷ TakePage 0 ∷ step ∷ step ∷ Attend 0 ∷ step
+    ∷ step ∷ Attend 0 ∷ step ∷ Attend 0 ∷ step ∷ step
+    ∷ Attend 0 ∷ Attend 0 ∷ step ∷ step ∷ []
+
+abbrev pub unprotected_run : List Event
+unprotected_run = step ∷ Attend 0 ∷ TakePage 0 ∷ step ∷ step ∷ step ∷ []
+
+abbrev pub before_the_meeting : List Event
+before_the_meeting = step ∷ Attend 0 ∷ TakePage 0 ∷ step ∷ Attend 0 ∷ step ∷ Instruct (One 1) ∷ []
+
+abbrev pub meeting_run : List Event
+meeting_run = before_the_meeting
+    ++ (MakeOffer 1 ∷ Instruct (Meet 0 1) ∷ Acknowledge 1 ∷ Attend 1 ∷ Instruct (One 1) ∷ Attend 0 ∷ step ∷ step ∷ [])
+
+-- the print comes before the sender's acknowledgement
+abbrev pub other_meeting_run : List Event
+other_meeting_run = before_the_meeting
+    ++ (MakeOffer 1 ∷ Instruct (Meet 0 1) ∷ Attend 0 ∷ step ∷ Acknowledge 1 ∷ Attend 1 ∷ step ∷ [])
+
+-- The child's two removals do nothing, since its region was given at two positions; it goes when the child has returned.
+abbrev pub started_twice_run : List Event
+started_twice_run =
+    Attend 0 ∷ TakePage 0 ∷ step ∷ Attend 0 ∷ Attend 0 ∷ step ∷ Attend 0
+    ∷ Attend 1 ∷ Attend 1 ∷ Instruct (One 1) ∷ []
+
+-- ---- what they print, how they end, and what they have made
+
+abbrev pub outcome : RegionState → List ℕ × Option Mark × Counts
+outcome s = (s.plain.printed, s.mark, counts_of s)
+
+-- the number, printed
+abbrev pub line : ℕ → List ℕ
+line n = line_of (piece.Value ∷ []) (value.Int (pos n) ∷ [])
+
+abbrev pub Gives : Code → List Event → List ℕ → Option Mark → Counts → Type 0
+Gives code events print mark counts =
+    option_and_then (λ s. Some (outcome s)) (region_run code 16 events) ≡ Some (print, mark, counts)
+
+abbrev pub counts : (made removed taken returned steps objects goroutines : ℕ) → Counts
+counts made removed taken returned steps objects goroutines = record {
+  made = made;
+  removed = removed;
+  taken = taken;
+  returned = returned;
+  steps = steps;
+  objects = objects;
+  goroutines = goroutines;
+}
+
+pub record RegionExamples : Type 0 where
+  pub one : Gives one_object one_object_run (line 0) (Some (Ended Exit)) (counts 1 1 1 1 5 1 1)
+  pub twice : Gives passed_twice passed_twice_run (line 42) (Some (Ended Exit)) (counts 1 1 1 1 10 1 1)
+  pub meets : Gives sender_and_receiver meeting_run (line 5) (Some (Ended Exit)) (counts 1 1 1 1 8 1 2)
+  pub meets_otherwise
+      : Gives sender_and_receiver other_meeting_run (line 5) (Some (Ended Exit)) (counts 1 1 1 1 7 1 2)
+  pub before_base : Gives started_twice started_twice_run [] None (counts 1 0 1 0 3 1 2)
+  pub after_base : Gives started_twice (started_twice_run ++ (Attend 1 ∷ [])) [] None (counts 1 1 1 1 3 1 2)
+  -- no object is made before its region and its page are there
+  pub no_region : region_run one_object 16 (step ∷ []) ≡ None
+  pub no_page : region_run one_object 16 (Attend 0 ∷ step ∷ []) ≡ None
+  -- no page is taken for an object that is larger than a page
+  pub too_large : region_run one_object 1 (Attend 0 ∷ TakePage 0 ∷ []) ≡ None
+  -- the protection is owed before the call
+  pub unprotected : region_run passed_twice 16 unprotected_run ≡ None
+  -- nobody meets a sender that has not offered
+  pub no_offer : region_run sender_and_receiver 16 (before_the_meeting ++ (Instruct (Meet 0 1) ∷ [])) ≡ None
+  -- the acknowledgement comes before what the sender owes
+  pub no_acknowledgement
+      : region_run sender_and_receiver 16
+      (before_the_meeting ++ (MakeOffer 1 ∷ Instruct (Meet 0 1) ∷ Attend 0 ∷ Attend 1 ∷ [])) ≡ None
+  -- after a trap nothing is owed
+  pub trap : region_run trapping 16 (step ∷ Attend 0 ∷ TakePage 0 ∷ step ∷ step ∷ Attend 0 ∷ []) ≡ None
