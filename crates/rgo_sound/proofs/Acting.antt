@@ -307,7 +307,8 @@ module _ (code : Tac) (s : TacState) (g : ℕ) where
             by_itself (Jump target) is ∙ ap Some (goes_on s.memory (moved_to frame target) callers)
         by_op (Branch test target other) is =
             by_itself (Branch test target other) is
-            ∙ ap Some (goes_on s.memory (moved_to frame (if is_true (value_at frame test) then target else other)) callers)
+            ∙ ap Some (goes_on s.memory (moved_to frame (if is_true (value_at frame test) then target else other))
+                callers)
         by_op (Return value) is =
             by_itself (Return value) is ∙ returns (option_map (value_at frame) value) callers
 

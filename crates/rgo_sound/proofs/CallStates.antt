@@ -1,5 +1,7 @@
 -- A call of checked code keeps what holds of the state.
-use Rattle.std.proofs.Common.{◌≡◌, ◌≢◌, ℕ, zero, suc, ◌≤◌, true, false, List, [], ◌∷◌, ◌++◌, map, length, Option, Some, None, is_some, refl, sym, ap, ◌∙◌, subst, nat_eq, arith, ◌↔◌, true≢false, slice_get, slice_set, option_map, append-nil}
+use Rattle.std.proofs.Common.{◌≡◌, ◌≢◌, ℕ, zero, suc, ◌≤◌, true, false, List, [], ◌∷◌, ◌++◌, map, length, Option, Some}
+use Rattle.std.proofs.Common.{None, is_some, refl, sym, ap, ◌∙◌, subst, nat_eq, arith, ◌↔◌, true≢false, slice_get}
+use Rattle.std.proofs.Common.{slice_set, option_map, append-nil}
 use Rattle.rgo_sound.proofs.Places.{ascending_distinct, get_set_other, get_set_same, length_set}
 use Rattle.rgo_sound.proofs.ErasureLemmas.{yields_is}
 use Rattle.rgo_sound.proofs.Static.{named_bound}
@@ -51,27 +53,43 @@ first_instr [] n = absurd (n refl)
 first_instr (i ∷ is) n = (i, refl)
 
 -- the holder behind the call, of a goroutine that owes nothing
-module _ (code : Code) (checked : IsChecked code) (written : Ascends code) (frame : Frame) (callers : List Frame) (call : CodeInstr) (to : Option ℕ) (n : ℕ) (from : List ℕ) (passes : List Class) (protects removes : List ℕ) (is : call.op ≡ Call to n from passes protects removes) (cur : current code frame ≡ Some call) where
+module _ (code : Code) (checked : IsChecked code) (written : Ascends code) (frame : Frame) (callers : List Frame)
+    (call : CodeInstr) (to : Option ℕ) (n : ℕ) (from : List ℕ) (passes : List Class) (protects removes : List ℕ)
+    (is : call.op ≡ Call to n from passes protects removes) (cur : current code frame ≡ Some call) where
   the_call : (x y : CodeInstr) → Some x ≡ Some y → x ≡ y
   the_call x y e = cc
 
   the_fn : (x y : CodeFn) → Some x ≡ Some y → x ≡ y
   the_fn x y e = cc
 
-  good_behind : (h : Holder) (environments : List Environment) (duties : List Duty) (entered : Frame) (callee : CodeFn) → entered.function ≡ n → entered.next ≡ 0 → function_of code n ≡ Some callee → duties ≡ [] → Core h.stakes h.base environments → EachOnce h.base → FramesFit code h.base (frame ∷ callers) environments duties → Shares (to_share code (frame ∷ callers)) duties (top_names environments) h.pending →
+  good_behind : (h : Holder) (environments : List Environment) (duties : List Duty) (entered : Frame) (callee : CodeFn)
+      → entered.function ≡ n → entered.next ≡ 0 → function_of code n ≡ Some callee → duties ≡ []
+      → Core h.stakes h.base environments → EachOnce h.base
+      → FramesFit code h.base (frame ∷ callers) environments duties
+      → Shares (to_share code (frame ∷ callers)) duties (top_names environments) h.pending →
       GoodHolder code (entered ∷ frame ∷ callers) (record h {
-        environments = environment_of (result_class callee) (passed (region_parameters callee) (passed_regions (top_names environments) passes)) ∷ with_top environments (without_all (top_names environments) (given_names (result_class callee) (region_parameters callee) passes protects));
+        environments = environment_of (result_class callee)
+            (passed (region_parameters callee) (passed_regions (top_names environments) passes)) ∷ with_top environments
+            (without_all (top_names environments) (given_names (result_class callee) (region_parameters callee) passes
+            protects));
         duties = map Remove callee.entry ++ next_duties code (entered ∷ frame ∷ callers);
       })
   good_behind h [] duties entered callee en e0 found d core once fit sh = absurd fit
   good_behind h (f ∷ fs) duties entered callee en e0 found d core once fit sh =
       subst (λ (x : Option CodeInstr). GoodHolder code (entered ∷ frame ∷ callers) (record h {
-        environments = environment_of (result_class callee) (passed (region_parameters callee) (passed_regions f.names passes)) ∷ record f { names = without_all f.names (given_names (result_class callee) (region_parameters callee) passes protects) } ∷ fs;
+        environments = environment_of (result_class callee)
+            (passed (region_parameters callee) (passed_regions f.names passes)) ∷ record f
+            { names = without_all f.names (given_names (result_class callee) (region_parameters callee) passes protects)
+            } ∷ fs;
         duties = map Remove callee.entry ++ duties_before x;
       })) (sym next_is)
-      (calls_on code st.fn callee frame entered callers call first.0 to n from passes protects removes h f fs is st.is_fn here
-      (ap (slice_get code.functions) en ∙ found) e0 (rules.kept n 0 callee first.0 found first.1) (checked rule.Removals (line.Entry n) callee found) (checked rule.Entry (line.Entry n) callee found) (ascending_distinct callee.entry (written n callee found).entry)
-      right fits core once st.lends settled fit.1 (settled_pending code frame callers call f.names duties h.pending cur (ap shared_names is) d sh))
+      (calls_on code st.fn callee frame entered callers call first.0 to n from passes protects removes h f fs is
+          st.is_fn here
+      (ap (slice_get code.functions) en ∙ found) e0 (rules.kept n 0 callee first.0 found first.1)
+          (checked rule.Removals (line.Entry n) callee found) (checked rule.Entry (line.Entry n) callee found)
+          (ascending_distinct callee.entry (written n callee found).entry)
+      right fits core once st.lends settled fit.1 (settled_pending code frame callers call f.names duties h.pending cur
+          (ap shared_names is) d sh))
     where
       rules : IsRuled code
       rules = ruled code checked written
@@ -89,34 +107,46 @@ module _ (code : Code) (checked : IsChecked code) (written : Ascends code) (fram
       first = first_instr callee.body (checked rule.Exists (line.End n) callee found)
 
       next_is : current code entered ≡ Some first.0
-      next_is = ap (λ o. current_in o entered.next) (ap (slice_get code.functions) en ∙ found) ∙ ap (slice_get callee.body) e0 ∙ first.1
+      next_is = ap (λ o. current_in o entered.next) (ap (slice_get code.functions) en ∙ found)
+          ∙ ap (slice_get callee.body) e0 ∙ first.1
 
       settled : Settled st.fn frame.next call f.names f.protections
-      settled = subst (λ x. Settled st.fn frame.next x f.names f.protections) same (subst (λ x. IsReady (IsFree st.fn frame.next) (Settled st.fn frame.next st.instr) x f.names f.protections) d st.ready)
+      settled = subst (λ x. Settled st.fn frame.next x f.names f.protections) same
+          (subst (λ x. IsReady (IsFree st.fn frame.next) (Settled st.fn frame.next st.instr) x f.names f.protections) d
+          st.ready)
 
       there : CallIsThere code to n from
-      there = call_is_there code to n from (subst (λ x. OpExists (erased code) (erased_fn st.fn) (erased_op x)) is (checked rule.Exists (line.Instr frame.function frame.next) st.fn call st.is_fn here).exists)
+      there = call_is_there code to n from (subst (λ x. OpExists (erased code) (erased_fn st.fn) (erased_op x)) is
+          (checked rule.Exists (line.Instr frame.function frame.next) st.fn call st.is_fn here).exists)
 
       is_callee : there.callee ≡ callee
       is_callee = the_fn there.callee callee (sym there.found ∙ found)
 
       fits_callee : Passes st.fn callee to from passes
-      fits_callee = subst (λ (o : Option CodeFn). CallPasses st.fn o to from passes) found (subst (λ x. CallsPass code st.fn x) is (checked rule.Calls (line.Instr frame.function frame.next) st.fn call st.is_fn here))
+      fits_callee = subst (λ (o : Option CodeFn). CallPasses st.fn o to from passes) found
+          (subst (λ x. CallsPass code st.fn x) is (checked rule.Calls (line.Instr frame.function frame.next) st.fn call
+          st.is_fn here))
 
       protects_rightly : ProtectsUsed st.fn frame.next (Call to n from passes protects removes)
-      protects_rightly = subst (λ x. ProtectsUsed st.fn frame.next x) is (checked rule.Protections (line.Instr frame.function frame.next) st.fn call st.is_fn here)
+      protects_rightly = subst (λ x. ProtectsUsed st.fn frame.next x) is
+          (checked rule.Protections (line.Instr frame.function frame.next) st.fn call st.is_fn here)
 
-      types : ArgumentsFit (erased_fn st.fn) (Some (erased_fn callee)) from × TargetFits (erased_fn st.fn) (Some (erased_fn callee)) to
+      types : ArgumentsFit (erased_fn st.fn) (Some (erased_fn callee)) from
+          × TargetFits (erased_fn st.fn) (Some (erased_fn callee)) to
       types =
-          subst (λ (o : Option TacFn). ArgumentsFit (erased_fn st.fn) o from × TargetFits (erased_fn st.fn) o to) (erased_found code n callee found)
-          (subst (λ x. OpFits (erased code) (erased_fn st.fn) (erased_op x)) is (checked rule.Types (line.Instr frame.function frame.next) st.fn call st.is_fn here))
+          subst (λ (o : Option TacFn). ArgumentsFit (erased_fn st.fn) o from × TargetFits (erased_fn st.fn) o to)
+              (erased_found code n callee found)
+          (subst (λ x. OpFits (erased code) (erased_fn st.fn) (erased_op x)) is
+              (checked rule.Types (line.Instr frame.function frame.next) st.fn call st.is_fn here))
 
       fits : CallFits f.lent (result_class callee) f.names (region_parameters callee) passes protects
       fits =
           record {
             formals_fit = formals_once callee;
             passable =
-                all_passable st.fn callee call to from passes f.names (call_reads call to n from passes protects removes is) (call_writes call to n from passes protects removes is)
+                all_passable st.fn callee call to from passes f.names
+                    (call_reads call to n from passes protects removes is)
+                    (call_writes call to n from passes protects removes is)
                 (subst (λ (x : CodeFn). length from ≡ x.params) is_callee there.arguments_fit)
                 (subst (λ (x : CodeFn). is_some to ≡ is_some x.result) is_callee there.value_fits)
                 fits_callee
@@ -125,9 +155,12 @@ module _ (code : Code) (checked : IsChecked code) (written : Ascends code) (fram
                 (checked rule.Classes (line.Function n) callee found)
                 types.0
                 types.1
-                (λ k n. named_bound st.fn frame.next k call f.names (checked rule.Creations (line.Instr frame.function frame.next) st.fn call st.is_fn here) settled.there settled.made settled.lent n);
+                (λ k n. named_bound st.fn frame.next k call f.names
+                    (checked rule.Creations (line.Instr frame.function frame.next) st.fn call st.is_fn here)
+                    settled.there settled.made settled.lent n);
             twice = protects_twice st.fn frame.next to n from passes protects removes protects_rightly;
-            own = λ k free x. ap (λ y. is_mine y k) st.lends ∙ protects_result st.fn frame.next to n from passes protects removes protects_rightly k free x;
+            own = λ k free x. ap (λ y. is_mine y k) st.lends ∙ protects_result st.fn frame.next to n from passes
+                protects removes protects_rightly k free x;
           }
 
       right : CallIsRight code callee call passes protects
@@ -135,8 +168,13 @@ module _ (code : Code) (checked : IsChecked code) (written : Ascends code) (fram
           record {
             formals = formals_are callee;
             as_long = fits_callee.len;
-            gives = λ k. subst (λ o. Gives code o k ↔ (1 ≤ times_in k (given_names (result_class callee) (region_parameters callee) passes protects))) (sym is) (gives_are code st.fn callee frame.next to n from passes protects removes f.names found fits_callee.len protects_rightly k);
-            kept = λ k c. zero_unless (times_in k (given_names (result_class callee) (region_parameters callee) passes protects)) (λ h'. true≢false (sym (any_contains protects k c) ∙ given_free f.names (result_class callee) protects (region_parameters callee) passes k h'));
+            gives = λ k. subst (λ o. Gives code o k ↔ (1 ≤ times_in k
+                (given_names (result_class callee) (region_parameters callee) passes protects))) (sym is)
+                (gives_are code st.fn callee frame.next to n from passes protects removes f.names found fits_callee.len
+                protects_rightly k);
+            kept = λ k c. zero_unless (times_in k (given_names (result_class callee) (region_parameters callee) passes
+                protects)) (λ h'. true≢false (sym (any_contains protects k c)
+                ∙ given_free f.names (result_class callee) protects (region_parameters callee) passes k h'));
           }
         where
           zero_unless : (n : ℕ) → (1 ≤ n → ⊥) → n ≡ 0
@@ -150,17 +188,24 @@ abbrev pub entered_frame : Frame → ℕ → List ℕ → CodeFn → Frame
 entered_frame frame n from callee = called (erased_fn callee) n (values_of frame from)
 
 abbrev pub has_called : Memory → Frame → List Frame → ℕ → List ℕ → CodeFn → Acted
-has_called m frame callers n from callee = record { memory = m; frames = entered_frame frame n from callee ∷ frame ∷ callers; started = []; printed = []; trap = None }
+has_called m frame callers n from callee = record { memory = m; frames =
+    entered_frame frame n from callee ∷ frame ∷ callers; started = []; printed = []; trap = None }
 
 -- a call of checked code enters a function
-pub call_enters : (code : Code) (m : Memory) (frame : Frame) (callers : List Frame) (call : CodeInstr) (to : Option ℕ) (n : ℕ) (from : List ℕ) (passes : List Class) (protects removes : List ℕ) → IsChecked code → current code frame ≡ Some call → call.op ≡ Call to n from passes protects removes → (callee : CodeFn) × (function_of code n ≡ Some callee) × (alone (erased code) m (frame ∷ callers) ≡ Some (has_called m frame callers n from callee))
-call_enters code m frame callers call to n from passes protects removes checked cur is = (there.callee, there.found, acts)
+pub call_enters : (code : Code) (m : Memory) (frame : Frame) (callers : List Frame) (call : CodeInstr) (to : Option ℕ)
+    (n : ℕ) (from : List ℕ) (passes : List Class) (protects removes : List ℕ) → IsChecked code → current code frame
+    ≡ Some call → call.op ≡ Call to n from passes protects removes → (callee : CodeFn)
+    × (function_of code n ≡ Some callee) × (alone (erased code) m (frame ∷ callers)
+    ≡ Some (has_called m frame callers n from callee))
+call_enters code m frame callers call to n from passes protects removes checked cur is =
+    (there.callee, there.found, acts)
   where
     at : IsAt code frame call
     at = is_at code frame call cur
 
     there : CallIsThere code to n from
-    there = call_is_there code to n from (subst (λ x. OpExists (erased code) (erased_fn at.fn) (erased_op x)) is (checked rule.Exists (line.Instr frame.function frame.next) at.fn call at.is_fn at.is_instr).exists)
+    there = call_is_there code to n from (subst (λ x. OpExists (erased code) (erased_fn at.fn) (erased_op x)) is
+        (checked rule.Exists (line.Instr frame.function frame.next) at.fn call at.is_fn at.is_instr).exists)
 
     acts : alone (erased code) m (frame ∷ callers) ≡ Some (has_called m frame callers n from there.callee)
     acts =
@@ -168,7 +213,11 @@ call_enters code m frame callers call to n from passes protects removes checked 
         ∙ ap (λ o. act (erased code) m (erased_op o) call.place frame callers) is
         ∙ ap (acting.call m frame callers n (values_of frame from)) (erased_found code n there.callee there.found)
 
-module _ (code : Code) (s : RegionState) (g : ℕ) (h : Holder) (frame : Frame) (callers : List Frame) (call : CodeInstr) (to : Option ℕ) (n : ℕ) (from : List ℕ) (passes : List Class) (protects removes : List ℕ) (checked : IsChecked code) (written : Ascends code) (fine : Fine code s) (e : slice_get s.holders g ≡ Some h) (at : frames_of s.plain g ≡ frame ∷ callers) (cur : current code frame ≡ Some call) (is : call.op ≡ Call to n from passes protects removes) where
+module _ (code : Code) (s : RegionState) (g : ℕ) (h : Holder) (frame : Frame) (callers : List Frame) (call : CodeInstr)
+    (to : Option ℕ) (n : ℕ) (from : List ℕ) (passes : List Class) (protects removes : List ℕ) (checked : IsChecked code)
+    (written : Ascends code) (fine : Fine code s) (e : slice_get s.holders g ≡ Some h)
+    (at : frames_of s.plain g ≡ frame ∷ callers) (cur : current code frame ≡ Some call)
+    (is : call.op ≡ Call to n from passes protects removes) where
   good : GoodHolder code (frame ∷ callers) h
   good = subst (λ x. GoodHolder code x h) at (fine.each g h e)
 
@@ -182,57 +231,94 @@ module _ (code : Code) (s : RegionState) (g : ℕ) (h : Holder) (frame : Frame) 
   no_end zero f fs = refl
   no_end (suc g) f fs = refl
 
-  goroutines : (callee : CodeFn) (frames : List Frame) → slice_get s.plain.goroutines g ≡ Some frames → frames_of (next callee) g ≡ entered callee ∷ frame ∷ callers
-  goroutines callee frames q = ap (λ x. frames_in (slice_get x g)) (append-nil (slice_set s.plain.goroutines g (entered callee ∷ frame ∷ callers))) ∙ ap frames_in (get_set_same s.plain.goroutines g frames (entered callee ∷ frame ∷ callers) q)
+  goroutines : (callee : CodeFn) (frames : List Frame) → slice_get s.plain.goroutines g ≡ Some frames
+      → frames_of (next callee) g ≡ entered callee ∷ frame ∷ callers
+  goroutines callee frames q = ap (λ x. frames_in (slice_get x g))
+      (append-nil (slice_set s.plain.goroutines g (entered callee ∷ frame ∷ callers)))
+      ∙ ap frames_in (get_set_same s.plain.goroutines g frames (entered callee ∷ frame ∷ callers) q)
 
   the_others : (callee : CodeFn) (j : ℕ) → nat_eq g j ≡ false → frames_of (next callee) j ≡ frames_of s.plain j
-  the_others callee j d = ap (λ x. frames_in (slice_get x j)) (append-nil (slice_set s.plain.goroutines g (entered callee ∷ frame ∷ callers))) ∙ ap frames_in (get_set_other s.plain.goroutines g j (entered callee ∷ frame ∷ callers) d)
+  the_others callee j d = ap (λ x. frames_in (slice_get x j))
+      (append-nil (slice_set s.plain.goroutines g (entered callee ∷ frame ∷ callers)))
+      ∙ ap frames_in (get_set_other s.plain.goroutines g j (entered callee ∷ frame ∷ callers) d)
 
   as_long : (callee : CodeFn) → length (next callee).goroutines ≡ length s.plain.goroutines
-  as_long callee = ap length (append-nil (slice_set s.plain.goroutines g (entered callee ∷ frame ∷ callers))) ∙ length_set s.plain.goroutines g (entered callee ∷ frame ∷ callers)
+  as_long callee = ap length (append-nil (slice_set s.plain.goroutines g (entered callee ∷ frame ∷ callers)))
+      ∙ length_set s.plain.goroutines g (entered callee ∷ frame ∷ callers)
 
   abbrev behind_holder : Holder → CodeFn → List Frame → Holder
   behind_holder k callee frames = record k {
-    environments = environment_of (result_class callee) (passed (region_parameters callee) (passed_regions (top_names k.environments) passes)) ∷ with_top k.environments (without_all (top_names k.environments) (given_names (result_class callee) (region_parameters callee) passes protects));
+    environments = environment_of (result_class callee) (passed (region_parameters callee)
+        (passed_regions (top_names k.environments) passes)) ∷ with_top k.environments
+        (without_all (top_names k.environments) (given_names (result_class callee) (region_parameters callee) passes
+        protects));
     duties = map Remove callee.entry ++ next_duties code frames;
   }
 
   -- the state behind the call
-  behind : (callee : CodeFn) (frames : List Frame) (given : Holder × List Region) → function_of code n ≡ Some callee → slice_get s.plain.goroutines g ≡ Some frames → has_none h.duties ≡ true → SameHolder h given.0 → Fine code (instructed_with code s g frame callers call (next callee) given)
+  behind : (callee : CodeFn) (frames : List Frame) (given : Holder × List Region) → function_of code n ≡ Some callee
+      → slice_get s.plain.goroutines g ≡ Some frames → has_none h.duties ≡ true → SameHolder h given.0
+      → Fine code (instructed_with code s g frame callers call (next callee) given)
   behind callee frames given found q d same =
-      fine_plain code s (instructed_with code s g frame callers call (next callee) given) g h (behind_holder (record h { fills = same.fills }) callee (entered callee ∷ frame ∷ callers)) fine e refl hs refl refl (as_long callee) (the_others callee)
-      (subst (λ x. GoodHolder code x (behind_holder (record h { fills = same.fills }) callee (entered callee ∷ frame ∷ callers))) (sym (goroutines callee frames q))
-      (good_behind code checked written frame callers call to n from passes protects removes is cur (record h { fills = same.fills }) h.environments h.duties (entered callee) callee refl refl found (none_owed h.duties d) good.core good.base_once good.fit good.shares))
+      fine_plain code s (instructed_with code s g frame callers call (next callee) given) g h
+          (behind_holder (record h { fills = same.fills }) callee (entered callee ∷ frame ∷ callers)) fine e refl hs
+          refl refl (as_long callee) (the_others callee)
+      (subst (λ x. GoodHolder code x (behind_holder (record h { fills = same.fills }) callee
+          (entered callee ∷ frame ∷ callers))) (sym (goroutines callee frames q))
+      (good_behind code checked written frame callers call to n from passes protects removes is cur
+          (record h { fills = same.fills }) h.environments h.duties (entered callee) callee refl refl found
+          (none_owed h.duties d) good.core good.base_once good.fit good.shares))
     where
-      after : (o : CodeOp) → o ≡ Call to n from passes protects removes → holder_after code given.0 frame callers o (frames_of (next callee) g) ≡ behind_holder given.0 callee (frames_of (next callee) g)
+      after : (o : CodeOp) → o ≡ Call to n from passes protects removes
+          → holder_after code given.0 frame callers o (frames_of (next callee) g)
+          ≡ behind_holder given.0 callee (frames_of (next callee) g)
       after o is' =
           ap (λ x. holder_after code given.0 frame callers x (frames_of (next callee) g)) is'
           ∙ ap (λ (x : Option CodeFn). record given.0 {
-            environments = environment_of (result_of x) (passed (formals_of x) (passed_regions (top_names given.0.environments) passes)) ∷ with_top given.0.environments (without_all (top_names given.0.environments) (given_names (result_of x) (formals_of x) passes protects));
+            environments = environment_of (result_of x) (passed (formals_of x)
+                (passed_regions (top_names given.0.environments) passes)) ∷ with_top given.0.environments
+                (without_all (top_names given.0.environments) (given_names (result_of x) (formals_of x) passes
+                protects));
             duties = map Remove (entry_removes x) ++ next_duties code (frames_of (next callee) g);
           }) found
 
-      hs : (instructed_with code s g frame callers call (next callee) given).holders ≡ slice_set s.holders g (behind_holder (record h { fills = same.fills }) callee (entered callee ∷ frame ∷ callers))
+      hs : (instructed_with code s g frame callers call (next callee) given).holders
+          ≡ slice_set s.holders g (behind_holder (record h { fills = same.fills }) callee
+          (entered callee ∷ frame ∷ callers))
       hs =
-          ap (λ x. slice_set s.holders g (unless_trapped (next callee).ended given.0 (holder_after code given.0 frame callers call.op (frames_of (next callee) g))) ++ x) (ap (λ x. child_holder code given.0 x (last_frames (next callee).goroutines)) is)
-          ∙ append-nil (slice_set s.holders g (unless_trapped (next callee).ended given.0 (holder_after code given.0 frame callers call.op (frames_of (next callee) g))))
-          ∙ ap (λ x. slice_set s.holders g (unless_trapped x given.0 (holder_after code given.0 frame callers call.op (frames_of (next callee) g)))) (no_end g (entered callee) (frame ∷ callers))
+          ap (λ x. slice_set s.holders g (unless_trapped (next callee).ended given.0
+              (holder_after code given.0 frame callers call.op (frames_of (next callee) g))) ++ x)
+              (ap (λ x. child_holder code given.0 x (last_frames (next callee).goroutines)) is)
+          ∙ append-nil (slice_set s.holders g (unless_trapped (next callee).ended given.0
+              (holder_after code given.0 frame callers call.op (frames_of (next callee) g))))
+          ∙ ap (λ x. slice_set s.holders g (unless_trapped x given.0
+              (holder_after code given.0 frame callers call.op (frames_of (next callee) g))))
+              (no_end g (entered callee) (frame ∷ callers))
           ∙ ap (slice_set s.holders g) (after call.op is)
           ∙ ap (λ (x : Holder). slice_set s.holders g (behind_holder x callee (frames_of (next callee) g))) same.same
-          ∙ ap (λ x. slice_set s.holders g (behind_holder (record h { fills = same.fills }) callee x)) (goroutines callee frames q)
+          ∙ ap (λ x. slice_set s.holders g (behind_holder (record h { fills = same.fills }) callee x))
+              (goroutines callee frames q)
 
 -- a call keeps what holds of the state: of an instruction that was done, and of a step
-pub fine_call : (code : Code) (page_words : ℕ) (s t : RegionState) (g : ℕ) (x : OneDone code page_words s g t) (to : Option ℕ) (n : ℕ) (from : List ℕ) (passes : List Class) (protects removes : List ℕ) → IsChecked code → Ascends code → Fine code s → x.instr.op ≡ Call to n from passes protects removes → Fine code t
+pub fine_call : (code : Code) (page_words : ℕ) (s t : RegionState) (g : ℕ) (x : OneDone code page_words s g t)
+    (to : Option ℕ) (n : ℕ) (from : List ℕ) (passes : List Class) (protects removes : List ℕ) → IsChecked code
+    → Ascends code → Fine code s → x.instr.op ≡ Call to n from passes protects removes → Fine code t
 fine_call code page_words s t g x to n from passes protects removes checked written fine is =
-    let c = call_enters code s.plain.memory x.frame x.callers x.instr to n from passes protects removes checked x.cur is in
+    let c = call_enters code s.plain.memory x.frame x.callers x.instr to n from passes protects removes checked x.cur is
+        in
     subst (Fine code) (sym x.is)
-    (subst (λ a. Fine code (instructed_with code s g x.frame x.callers x.instr (after s.plain g a) x.given)) (the_same (has_called s.plain.memory x.frame x.callers n from c.0) x.a (sym c.2 ∙ x.acts))
-    (behind code s g x.h x.frame x.callers x.instr to n from passes protects removes checked written fine x.there (ap frames_in x.at) x.cur is c.0 (x.frame ∷ x.callers) x.given c.1 x.at (ap has_none x.ready.none) x.same))
+    (subst (λ a. Fine code (instructed_with code s g x.frame x.callers x.instr (after s.plain g a) x.given))
+        (the_same (has_called s.plain.memory x.frame x.callers n from c.0) x.a (sym c.2 ∙ x.acts))
+    (behind code s g x.h x.frame x.callers x.instr to n from passes protects removes checked written fine x.there
+        (ap frames_in x.at) x.cur is c.0 (x.frame ∷ x.callers) x.given c.1 x.at (ap has_none x.ready.none) x.same))
   where
     the_same : (a b : Acted) → Some a ≡ Some b → a ≡ b
     the_same a b e = cc
 
 pub calls_keep : CallsKeep
-calls_keep code page_words s t g h frame callers call to n from passes protects removes checked written fine e at cur is r =
-    let x = yields_is {P = OneDone code page_words s g} (region_step code page_words s (Instruct (One g))) t (one_done code page_words s g) r in
-    fine_call code page_words s t g x to n from passes protects removes checked written fine (ap (λ (i : CodeInstr). i.op) (instr_is code page_words s t g x frame callers call at cur) ∙ is)
+calls_keep code page_words s t g h frame callers call to n from passes protects removes checked written fine e at cur is
+    r =
+    let x = yields_is {P = OneDone code page_words s g} (region_step code page_words s (Instruct (One g))) t
+        (one_done code page_words s g) r in
+    fine_call code page_words s t g x to n from passes protects removes checked written fine
+        (ap (λ (i : CodeInstr). i.op) (instr_is code page_words s t g x frame callers call at cur) ∙ is)

@@ -23,7 +23,8 @@ use Rattle.rgo_memory.specs.Values.{element_zero, zero_of}
 use Rattle.rgo_tac.specs.Code.{Branch, Call, Do, Go, Instr, Jump, Op, Print, Return, Tac, TacFn}
 use Rattle.rgo_tac.specs.Frames.{Frame, value_at, values_of}
 use Rattle.rgo_tac.specs.Steps.{instr_of, type_of}
-use Rattle.rgo_sound.proofs.Acting.{Acted, act, act_at, alone, call, effected, performed, returned, silent, start, trap_place}
+use Rattle.rgo_sound.proofs.Acting.{Acted, act, act_at, alone, call, effected, performed, returned, silent, start}
+use Rattle.rgo_sound.proofs.Acting.{trap_place}
 use Rattle.rgo_sound.proofs.ErasureLemmas.{Always}
 use Rattle.rgo_sound.proofs.Places.{length_set}
 
@@ -53,7 +54,8 @@ module _ (m : Memory) where
   if_ready_grows n None = tt
   if_ready_grows n (Some outcome) = in_memory_grows n outcome
 
-  to_object_if_ready_grows : (n : ℕ) (f : Object → Option (Outcome Object)) (o : Option Object) → Always Grows (to_object_if_ready m n f o)
+  to_object_if_ready_grows : (n : ℕ) (f : Object → Option (Outcome Object)) (o : Option Object)
+      → Always Grows (to_object_if_ready m n f o)
   to_object_if_ready_grows n f None = stays value.Nil
   to_object_if_ready_grows n f (Some object) = if_ready_grows n (f object)
 
@@ -257,17 +259,20 @@ module _ (m : Memory) where
   abbrev ActedGrows : Acted → Type 0
   ActedGrows a = length m.heap ≤ length a.memory.heap
 
-  effected_grows : (frame : Frame) (callers : List Frame) (to : Option ℕ) (place : ℕ) (o : Option Effect) → Always Grows o → Always ActedGrows (effected m frame callers to place o)
+  effected_grows : (frame : Frame) (callers : List Frame) (to : Option ℕ) (place : ℕ) (o : Option Effect)
+      → Always Grows o → Always ActedGrows (effected m frame callers to place o)
   effected_grows frame callers to place None h = tt
   effected_grows frame callers to place (Some (Does m' v)) h = h
   effected_grows frame callers to place (Some (Traps trap)) h = omega arith
 
   module _ (code : Tac) where
-    call_grows : (frame : Frame) (callers : List Frame) (n : ℕ) (vs : List Value) (o : Option TacFn) → Always ActedGrows (call m frame callers n vs o)
+    call_grows : (frame : Frame) (callers : List Frame) (n : ℕ) (vs : List Value) (o : Option TacFn)
+        → Always ActedGrows (call m frame callers n vs o)
     call_grows frame callers n vs None = omega arith
     call_grows frame callers n vs (Some fn) = omega arith
 
-    start_grows : (frame : Frame) (callers : List Frame) (n : ℕ) (vs : List Value) (o : Option TacFn) → Always ActedGrows (start m frame callers n vs o)
+    start_grows : (frame : Frame) (callers : List Frame) (n : ℕ) (vs : List Value) (o : Option TacFn)
+        → Always ActedGrows (start m frame callers n vs o)
     start_grows frame callers n vs None = omega arith
     start_grows frame callers n vs (Some fn) = omega arith
 
@@ -275,16 +280,22 @@ module _ (m : Memory) where
     returned_grows v [] = omega arith
     returned_grows v (caller ∷ callers) = omega arith
 
-    act_grows : (op : Op) (place : ℕ) (frame : Frame) (callers : List Frame) → Always ActedGrows (act code m op place frame callers)
-    act_grows (Do to a from) place frame callers = effected_grows frame callers to (trap_place a place) (performed code.structs a (type_of code frame to) (values_of frame from) m) (performed_grows code.structs a (type_of code frame to) (values_of frame from))
-    act_grows (Call to n from) place frame callers = call_grows frame callers n (values_of frame from) (slice_get code.functions n)
-    act_grows (Go n from) place frame callers = start_grows frame callers n (values_of frame from) (slice_get code.functions n)
+    act_grows : (op : Op) (place : ℕ) (frame : Frame) (callers : List Frame)
+        → Always ActedGrows (act code m op place frame callers)
+    act_grows (Do to a from) place frame callers = effected_grows frame callers to (trap_place a place)
+        (performed code.structs a (type_of code frame to) (values_of frame from) m)
+        (performed_grows code.structs a (type_of code frame to) (values_of frame from))
+    act_grows (Call to n from) place frame callers = call_grows frame callers n (values_of frame from)
+        (slice_get code.functions n)
+    act_grows (Go n from) place frame callers = start_grows frame callers n (values_of frame from)
+        (slice_get code.functions n)
     act_grows (Print pieces from) place frame callers = omega arith
     act_grows (Jump target) place frame callers = omega arith
     act_grows (Branch test target other) place frame callers = omega arith
     act_grows (Return v) place frame callers = returned_grows (option_map (value_at frame) v) callers
 
-    act_at_grows : (o : Option Instr) (frame : Frame) (callers : List Frame) → Always ActedGrows (act_at code m o frame callers)
+    act_at_grows : (o : Option Instr) (frame : Frame) (callers : List Frame)
+        → Always ActedGrows (act_at code m o frame callers)
     act_at_grows None frame callers = omega arith
     act_at_grows (Some i) frame callers = act_grows i.op i.place frame callers
 
@@ -292,5 +303,6 @@ module _ (m : Memory) where
     alone_grows [] = tt
     alone_grows (frame ∷ callers) = act_at_grows (instr_of code frame) frame callers
 
-pub heap_only_grows : (code : Tac) (m : Memory) (frames : List Frame) (a : Acted) → alone code m frames ≡ Some a → length m.heap ≤ length a.memory.heap
+pub heap_only_grows : (code : Tac) (m : Memory) (frames : List Frame) (a : Acted) → alone code m frames ≡ Some a
+    → length m.heap ≤ length a.memory.heap
 heap_only_grows code m frames a e = subst (Always (ActedGrows m)) e (alone_grows m code frames)

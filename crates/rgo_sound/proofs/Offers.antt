@@ -1,13 +1,19 @@
--- Offers: a standing one is that of the send at which its goroutine stands, and one that was taken is on a live channel.
-use Rattle.std.proofs.Common.{◌≡◌, ℕ, zero, suc, ◌+◌, ◌==◌, Bool, true, false, List, [], ◌∷◌, ◌++◌, map, length, Option, Some, None, refl, sym, ap, ◌∙◌, subst, nat_eq, nat_lt, if◌then◌else◌, arith, true≢false, slice_get, slice_set, option_map, option_and_then, ◌⊎◌, inl, inr, Contains}
+-- Offers: a standing one is that of the send at which its goroutine stands, and one that was taken is on a live
+-- channel.
+use Rattle.std.proofs.Common.{◌≡◌, ℕ, zero, suc, ◌+◌, ◌==◌, Bool, true, false, List, [], ◌∷◌, ◌++◌, map, length, Option}
+use Rattle.std.proofs.Common.{Some, None, refl, sym, ap, ◌∙◌, subst, nat_eq, nat_lt, if◌then◌else◌, arith, true≢false}
+use Rattle.std.proofs.Common.{slice_get, slice_set, option_map, option_and_then, ◌⊎◌, inl, inr, Contains}
 use Rattle.std.specs.Prelude.{ℤ, pos, negsuc, Result, Ok, Err}
-use Rattle.rgo_sound.proofs.Places.{get_append_left, get_append_place, get_below, get_set_other, get_set_same, length_set}
+use Rattle.rgo_sound.proofs.Places.{get_append_left, get_append_place, get_below, get_set_other, get_set_same}
+use Rattle.rgo_sound.proofs.Places.{length_set}
 use Rattle.rgo_sound.proofs.Bullets.{name_staked, duty_staked, has_stake}
-use Rattle.rgo_sound.proofs.ErasureLemmas.{Always, Yields, yields, yields_none, yields_if, yields_then, yields_is, yields_at, yields_from, yields_where}
+use Rattle.rgo_sound.proofs.ErasureLemmas.{Always, Yields, yields, yields_none, yields_if, yields_then, yields_is}
+use Rattle.rgo_sound.proofs.ErasureLemmas.{yields_at, yields_from, yields_where}
 use Rattle.rgo_sound.proofs.CoreLemmas.{split, eq_of}
 use Rattle.rgo_sound.proofs.Static.{contains_here}
 use Rattle.rgo_sound.proofs.Leads.{reads_home}
-use Rattle.rgo_sound.proofs.OneStep.{Ready, ready_is, OneDone, one_done, MeetDone, meet_done, current_erased, gone_on, receive_goes, send_goes}
+use Rattle.rgo_sound.proofs.OneStep.{Ready, ready_is, OneDone, one_done, MeetDone, meet_done, current_erased, gone_on}
+use Rattle.rgo_sound.proofs.OneStep.{receive_goes, send_goes}
 use Rattle.rgo_sound.proofs.ValueSteps.{Top, top_of, good_step, good_start}
 use Rattle.rgo_sound.proofs.RunLemmas.{run_keeps}
 use Rattle.rgo_code.specs.Checked.{IsChecked}
@@ -22,7 +28,8 @@ use Rattle.rgo_machine.specs.declared.picks.End.{End}
 use Rattle.rgo_machine.specs.declared.picks.End.TheVariants.{Exit, Trap}
 use Rattle.rgo_machine.specs.declared.picks.Pick.TheVariants.{Meet, One}
 use Rattle.rgo_memory.specs.Channels.{close, is_meeting_at, receive, received, send, sent, shut}
-use Rattle.rgo_memory.specs.Effects.{Does, Traps, Outcome, Effect, answered, nothing, in_memory, to_object, at_object, in_memory_if_ready, to_object_if_ready, at_object_if_ready}
+use Rattle.rgo_memory.specs.Effects.{Does, Traps, Outcome, Effect, answered, nothing, in_memory, to_object, at_object}
+use Rattle.rgo_memory.specs.Effects.{in_memory_if_ready, to_object_if_ready, at_object_if_ready}
 use Rattle.rgo_memory.specs.Elements.{cell_put, element_at, length_of, put, put_in}
 use Rattle.rgo_memory.specs.Fields.{load, or_nil, store, stored}
 use Rattle.rgo_memory.specs.Making.{made, made_struct, sized}
@@ -51,7 +58,8 @@ use Rattle.rgo_region_machine.specs.States.{frames_of, top_names, with_top}
 use Rattle.rgo_region_machine.specs.declared.limits.Limit.{Limit}
 use Rattle.rgo_region_machine.specs.declared.regions.Region.{Region}
 use Rattle.rgo_region_machine.specs.declared.regions.Region.TheVariants.{Global as GlobalRegion, Numbered}
-use Rattle.rgo_sound.proofs.Acting.{after, Acted, act, act_at, alone, call, effected, performed, silent, start, trap_place}
+use Rattle.rgo_sound.proofs.Acting.{after, Acted, act, act_at, alone, call, effected, performed, silent, start}
+use Rattle.rgo_sound.proofs.Acting.{trap_place}
 use Rattle.rgo_sound.specs.Good.{AllGood, Good, StartIsGood, StepsKeepGood}
 use Rattle.rgo_sound.specs.Invariant.{Fine, GoodHolder}
 use Rattle.rgo_sound.specs.NextNames.{HasStake, InstructionNames, NamesOnlyLive, NextNames}
@@ -85,7 +93,8 @@ cell_put_keeps : (cells : List Value) (i : ℤ) (v : Value) → KeepsCapacity (S
 cell_put_keeps cells (negsuc n) v = tt
 cell_put_keeps cells (pos i) v = by (nat_lt i (length cells))
   where
-    by : (b : Bool) → KeepsCapacity (SliceObject cells) (if b then Does (SliceObject (slice_set cells i v)) value.Nil else Traps IndexRange)
+    by : (b : Bool) → KeepsCapacity (SliceObject cells) (if b then Does (SliceObject (slice_set cells i v)) value.Nil
+        else Traps IndexRange)
     by true = refl
     by false = tt
 
@@ -107,7 +116,8 @@ sent_keeps v (SliceObject cells) = refl
 sent_keeps v (Channel capacity queue true) = tt
 sent_keeps v (Channel capacity queue false) = by (nat_lt (length queue) capacity)
   where
-    by : (b : Bool) → Always (KeepsCapacity (Channel capacity queue false)) (if b then Some (Does (Channel capacity (queue ++ v ∷ []) false) value.Nil) else None)
+    by : (b : Bool) → Always (KeepsCapacity (Channel capacity queue false))
+        (if b then Some (Does (Channel capacity (queue ++ v ∷ []) false) value.Nil) else None)
     by true = refl
     by false = tt
 
@@ -132,33 +142,42 @@ module _ (m : Memory) (b : Bool) where
   answers (Ok v) = stays v
   answers (Err trap) = tt
 
-  writes : (o : ℕ) (object old : Object) (v : Value) → slice_get m.heap o ≡ Some old → capacity_of object ≡ capacity_of old → Steady (Does (with_object m o object) v)
+  writes : (o : ℕ) (object old : Object) (v : Value) → slice_get m.heap o ≡ Some old → capacity_of object
+      ≡ capacity_of old → Steady (Does (with_object m o object) v)
   writes o object old v e same = (keeps, λ f. length_set m.heap o object)
     where
       the_same : (x y : Object) → Some x ≡ Some y → x ≡ y
       the_same x y e = cc
 
-      here : (p : ℕ) (x : Object) → slice_get m.heap p ≡ Some x → capacity_of x ≡ Some 0 → o ≡ p → IsUnbuffered (with_object m o object) p
-      here p x q c u = (object, ap (slice_get (slice_set m.heap o object)) (sym u) ∙ get_set_same m.heap o old object e, same ∙ ap capacity_of (the_same old x (sym e ∙ ap (slice_get m.heap) u ∙ q)) ∙ c)
+      here : (p : ℕ) (x : Object) → slice_get m.heap p ≡ Some x → capacity_of x ≡ Some 0 → o ≡ p
+          → IsUnbuffered (with_object m o object) p
+      here p x q c u = (object, ap (slice_get (slice_set m.heap o object)) (sym u)
+          ∙ get_set_same m.heap o old object e, same ∙ ap capacity_of
+          (the_same old x (sym e ∙ ap (slice_get m.heap) u ∙ q)) ∙ c)
 
       keeps : (p : ℕ) → IsUnbuffered m p → IsUnbuffered (with_object m o object) p
-      keeps p (x, q, c) = split (nat_eq o p) (λ t. here p x q c (eq_of o p t)) (λ n. (x, get_set_other m.heap o p object n ∙ q, c))
+      keeps p (x, q, c) = split (nat_eq o p) (λ t. here p x q c (eq_of o p t))
+          (λ n. (x, get_set_other m.heap o p object n ∙ q, c))
 
-  in_place : (o : ℕ) (old : Object) → slice_get m.heap o ≡ Some old → (x : Outcome Object) → KeepsCapacity old x → Steady (in_memory m o x)
+  in_place : (o : ℕ) (old : Object) → slice_get m.heap o ≡ Some old → (x : Outcome Object) → KeepsCapacity old x
+      → Steady (in_memory m o x)
   in_place o old e (Does new v) k = writes o new old v e k
   in_place o old e (Traps trap) k = tt
 
-  at_one : (o : ℕ) (f : Object → Outcome Object) → ((old : Object) → KeepsCapacity old (f old)) → Steady (at_object m o f)
+  at_one : (o : ℕ) (f : Object → Outcome Object) → ((old : Object) → KeepsCapacity old (f old))
+      → Steady (at_object m o f)
   at_one o f k = go (slice_get m.heap o) refl
     where
       go : (x : Option Object) → slice_get m.heap o ≡ x → Steady (to_object m o f x)
       go None e = stays value.Nil
       go (Some old) e = in_place o old e (f old) (k old)
 
-  at_one_if_ready : (o : ℕ) (f : Object → Option (Outcome Object)) → ((old : Object) → Always (KeepsCapacity old) (f old)) → Always Steady (at_object_if_ready m o f)
+  at_one_if_ready : (o : ℕ) (f : Object → Option (Outcome Object))
+      → ((old : Object) → Always (KeepsCapacity old) (f old)) → Always Steady (at_object_if_ready m o f)
   at_one_if_ready o f k = go (slice_get m.heap o) refl
     where
-      ready : (old : Object) → slice_get m.heap o ≡ Some old → (x : Option (Outcome Object)) → Always (KeepsCapacity old) x → Always Steady (in_memory_if_ready m o x)
+      ready : (old : Object) → slice_get m.heap o ≡ Some old → (x : Option (Outcome Object))
+          → Always (KeepsCapacity old) x → Always Steady (in_memory_if_ready m o x)
       ready old e None k = tt
       ready old e (Some x) k = in_place o old e x k
 
@@ -212,28 +231,36 @@ module _ (m : Memory) (b : Bool) where
 
   -- actions by how many operands they take; with another number of them they do nothing
   module _ (structs : List Struct) (a : Action) (ty : «Type») where
-    takes_none : Steady (on_none structs a m) → ((v : Value) → on_one a ty v m ≡ nothing m) → ((v w : Value) → on_two a v w m ≡ nothing m) → ((u v w : Value) → on_three a u v w m ≡ nothing m) → (vs : List Value) → Steady (perform structs a ty vs m)
+    takes_none : Steady (on_none structs a m) → ((v : Value) → on_one a ty v m ≡ nothing m)
+        → ((v w : Value) → on_two a v w m ≡ nothing m) → ((u v w : Value) → on_three a u v w m ≡ nothing m)
+        → (vs : List Value) → Steady (perform structs a ty vs m)
     takes_none h one two three [] = h
     takes_none h one two three (v ∷ []) = subst Steady (sym (one v)) (stays value.Nil)
     takes_none h one two three (v ∷ w ∷ []) = subst Steady (sym (two v w)) (stays value.Nil)
     takes_none h one two three (u ∷ v ∷ w ∷ []) = subst Steady (sym (three u v w)) (stays value.Nil)
     takes_none h one two three (u ∷ v ∷ w ∷ x ∷ vs) = stays value.Nil
 
-    takes_one : on_none structs a m ≡ nothing m → ((v : Value) → Steady (on_one a ty v m)) → ((v w : Value) → on_two a v w m ≡ nothing m) → ((u v w : Value) → on_three a u v w m ≡ nothing m) → (vs : List Value) → Steady (perform structs a ty vs m)
+    takes_one : on_none structs a m ≡ nothing m → ((v : Value) → Steady (on_one a ty v m))
+        → ((v w : Value) → on_two a v w m ≡ nothing m) → ((u v w : Value) → on_three a u v w m ≡ nothing m)
+        → (vs : List Value) → Steady (perform structs a ty vs m)
     takes_one none h two three [] = subst Steady (sym none) (stays value.Nil)
     takes_one none h two three (v ∷ []) = h v
     takes_one none h two three (v ∷ w ∷ []) = subst Steady (sym (two v w)) (stays value.Nil)
     takes_one none h two three (u ∷ v ∷ w ∷ []) = subst Steady (sym (three u v w)) (stays value.Nil)
     takes_one none h two three (u ∷ v ∷ w ∷ x ∷ vs) = stays value.Nil
 
-    takes_two : on_none structs a m ≡ nothing m → ((v : Value) → on_one a ty v m ≡ nothing m) → ((v w : Value) → Steady (on_two a v w m)) → ((u v w : Value) → on_three a u v w m ≡ nothing m) → (vs : List Value) → Steady (perform structs a ty vs m)
+    takes_two : on_none structs a m ≡ nothing m → ((v : Value) → on_one a ty v m ≡ nothing m)
+        → ((v w : Value) → Steady (on_two a v w m)) → ((u v w : Value) → on_three a u v w m ≡ nothing m)
+        → (vs : List Value) → Steady (perform structs a ty vs m)
     takes_two none one h three [] = subst Steady (sym none) (stays value.Nil)
     takes_two none one h three (v ∷ []) = subst Steady (sym (one v)) (stays value.Nil)
     takes_two none one h three (v ∷ w ∷ []) = h v w
     takes_two none one h three (u ∷ v ∷ w ∷ []) = subst Steady (sym (three u v w)) (stays value.Nil)
     takes_two none one h three (u ∷ v ∷ w ∷ x ∷ vs) = stays value.Nil
 
-    takes_three : on_none structs a m ≡ nothing m → ((v : Value) → on_one a ty v m ≡ nothing m) → ((v w : Value) → on_two a v w m ≡ nothing m) → ((u v w : Value) → Steady (on_three a u v w m)) → (vs : List Value) → Steady (perform structs a ty vs m)
+    takes_three : on_none structs a m ≡ nothing m → ((v : Value) → on_one a ty v m ≡ nothing m)
+        → ((v w : Value) → on_two a v w m ≡ nothing m) → ((u v w : Value) → Steady (on_three a u v w m))
+        → (vs : List Value) → Steady (perform structs a ty vs m)
     takes_three none one two h [] = subst Steady (sym none) (stays value.Nil)
     takes_three none one two h (v ∷ []) = subst Steady (sym (one v)) (stays value.Nil)
     takes_three none one two h (v ∷ w ∷ []) = subst Steady (sym (two v w)) (stays value.Nil)
@@ -244,7 +271,8 @@ module _ (m : Memory) where
   makes : (object : Object) → Steady m true (made m object)
   makes object = ((λ p u. keeps p u.0 u.1 u.2), λ f. absurd (true≢false f))
     where
-      keeps : (p : ℕ) (x : Object) → slice_get m.heap p ≡ Some x → capacity_of x ≡ Some 0 → IsUnbuffered (record m { heap = m.heap ++ object ∷ [] }) p
+      keeps : (p : ℕ) (x : Object) → slice_get m.heap p ≡ Some x → capacity_of x ≡ Some 0
+          → IsUnbuffered (record m { heap = m.heap ++ object ∷ [] }) p
       keeps p x q c = (x, get_append_left m.heap (object ∷ []) p (get_below m.heap p x q) ∙ q, c)
 
   news : (o : Option Struct) → Steady m true (made_struct o m)
@@ -260,21 +288,34 @@ module _ (m : Memory) where
 
 module _ (m : Memory) (structs : List Struct) (ty : «Type») where
   -- each action, with any operands
-  steady : (action : Action) (vs : List Value) → Always (Steady m (makes_object action)) (performed structs action ty vs m)
-  steady (Int k) vs = takes_none m false structs (Int k) ty (stays m false (value.Int k)) (λ v. refl) (λ v w. refl) (λ u v w. refl) vs
-  steady (BoolConstant b) vs = takes_none m false structs (BoolConstant b) ty (stays m false (value.Bool b)) (λ v. refl) (λ v w. refl) (λ u v w. refl) vs
-  steady Nil vs = takes_none m false structs Nil ty (stays m false value.Nil) (λ v. refl) (λ v w. refl) (λ u v w. refl) vs
+  steady : (action : Action) (vs : List Value) → Always (Steady m (makes_object action))
+      (performed structs action ty vs m)
+  steady (Int k) vs = takes_none m false structs (Int k) ty (stays m false (value.Int k)) (λ v. refl) (λ v w. refl)
+      (λ u v w. refl) vs
+  steady (BoolConstant b) vs = takes_none m false structs (BoolConstant b) ty (stays m false (value.Bool b)) (λ v. refl)
+      (λ v w. refl) (λ u v w. refl) vs
+  steady Nil vs = takes_none m false structs Nil ty (stays m false value.Nil) (λ v. refl) (λ v w. refl) (λ u v w. refl)
+      vs
   steady Copy vs = takes_one m false structs Copy ty refl (λ v. stays m false v) (λ v w. refl) (λ u v w. refl) vs
-  steady (Binary op) vs = takes_two m false structs (Binary op) ty refl (λ v. refl) (λ v w. answers m false (binary_of op v w)) (λ u v w. refl) vs
-  steady Neg vs = takes_one m false structs Neg ty refl (λ v. stays m false (negated v)) (λ v w. refl) (λ u v w. refl) vs
-  steady Not vs = takes_one m false structs Not ty refl (λ v. stays m false (inverted v)) (λ v w. refl) (λ u v w. refl) vs
-  steady IsNil vs = takes_one m false structs IsNil ty refl (λ v. stays m false (nil_test v)) (λ v w. refl) (λ u v w. refl) vs
-  steady Len vs = takes_one m false structs Len ty refl (λ v. stays m false (length_of m v)) (λ v w. refl) (λ u v w. refl) vs
-  steady (Load k) vs = takes_one m false structs (Load k) ty refl (λ v. answers m false (load m v k)) (λ v w. refl) (λ u v w. refl) vs
-  steady (Store k) vs = takes_two m false structs (Store k) ty refl (λ v. refl) (λ v w. stores m false k v w) (λ u v w. refl) vs
-  steady At vs = takes_two m false structs At ty refl (λ v. refl) (λ v w. answers m false (element_at m v w)) (λ u v w. refl) vs
+  steady (Binary op) vs = takes_two m false structs (Binary op) ty refl (λ v. refl)
+      (λ v w. answers m false (binary_of op v w)) (λ u v w. refl) vs
+  steady Neg vs = takes_one m false structs Neg ty refl (λ v. stays m false (negated v)) (λ v w. refl) (λ u v w. refl)
+      vs
+  steady Not vs = takes_one m false structs Not ty refl (λ v. stays m false (inverted v)) (λ v w. refl) (λ u v w. refl)
+      vs
+  steady IsNil vs = takes_one m false structs IsNil ty refl (λ v. stays m false (nil_test v)) (λ v w. refl)
+      (λ u v w. refl) vs
+  steady Len vs = takes_one m false structs Len ty refl (λ v. stays m false (length_of m v)) (λ v w. refl)
+      (λ u v w. refl) vs
+  steady (Load k) vs = takes_one m false structs (Load k) ty refl (λ v. answers m false (load m v k)) (λ v w. refl)
+      (λ u v w. refl) vs
+  steady (Store k) vs = takes_two m false structs (Store k) ty refl (λ v. refl) (λ v w. stores m false k v w)
+      (λ u v w. refl) vs
+  steady At vs = takes_two m false structs At ty refl (λ v. refl) (λ v w. answers m false (element_at m v w))
+      (λ u v w. refl) vs
   steady Put vs = takes_three m false structs Put ty refl (λ v. refl) (λ v w. refl) (λ u v w. puts m false u v w) vs
-  steady (New n) vs = takes_none m true structs (New n) ty (news m (slice_get structs n)) (λ v. refl) (λ v w. refl) (λ u v w. refl) vs
+  steady (New n) vs = takes_none m true structs (New n) ty (news m (slice_get structs n)) (λ v. refl) (λ v w. refl)
+      (λ u v w. refl) vs
   steady Slice vs = takes_one m true structs Slice ty refl (λ v. sizes m _ v) (λ v w. refl) (λ u v w. refl) vs
   steady Chan vs = takes_one m true structs Chan ty refl (λ v. sizes m _ v) (λ v w. refl) (λ u v w. refl) vs
   steady Recv [] = stays m false value.Nil
@@ -292,8 +333,10 @@ module _ (m : Memory) (structs : List Struct) (ty : «Type») where
   steady Close (c ∷ v ∷ []) = stays m false value.Nil
   steady Close (c ∷ v ∷ w ∷ []) = stays m false value.Nil
   steady Close (c ∷ v ∷ w ∷ x ∷ vs) = stays m false value.Nil
-  steady (Get n) vs = takes_none m false structs (Get n) ty (stays m false (or_nil (slice_get m.variables n))) (λ v. refl) (λ v w. refl) (λ u v w. refl) vs
-  steady (Set n) vs = takes_one m false structs (Set n) ty refl (λ v. ((λ o u. u), λ f. refl)) (λ v w. refl) (λ u v w. refl) vs
+  steady (Get n) vs = takes_none m false structs (Get n) ty (stays m false (or_nil (slice_get m.variables n)))
+      (λ v. refl) (λ v w. refl) (λ u v w. refl) vs
+  steady (Set n) vs = takes_one m false structs (Set n) ty refl (λ v. ((λ o u. u), λ f. refl)) (λ v w. refl)
+      (λ u v w. refl) vs
 
 abbrev pub makes_at : CodeOp → Bool
 makes_at (Do to action from removes) = makes_object action
@@ -301,16 +344,21 @@ makes_at op = false
 
 -- a channel without a buffer stays one, and the heap grows only where b says so
 abbrev pub SteadyActed : Memory → Bool → Acted → Type 0
-SteadyActed m b a = ((o : ℕ) → IsUnbuffered m o → IsUnbuffered a.memory o) × (b ≡ false → length a.memory.heap ≡ length m.heap)
+SteadyActed m b a = ((o : ℕ) → IsUnbuffered m o → IsUnbuffered a.memory o)
+    × (b ≡ false → length a.memory.heap ≡ length m.heap)
 
 module _ (code : Code) (m : Memory) where
-  effected_steady : (frame : Frame) (callers : List Frame) (to : Option ℕ) (place : ℕ) (b : Bool) (e : Option Effect) → Always (Steady m b) e → Always (SteadyActed m b) (effected m frame callers to place e)
+  effected_steady : (frame : Frame) (callers : List Frame) (to : Option ℕ) (place : ℕ) (b : Bool) (e : Option Effect)
+      → Always (Steady m b) e → Always (SteadyActed m b) (effected m frame callers to place e)
   effected_steady frame callers to place b None h = tt
   effected_steady frame callers to place b (Some (Does m' v)) h = h
   effected_steady frame callers to place b (Some (Traps trap)) h = ((λ o u. u), λ f. refl)
 
-  acts_steady : (op : CodeOp) (place : ℕ) (frame : Frame) (callers : List Frame) → Always (SteadyActed m (makes_at op)) (act (erased code) m (erased_op op) place frame callers)
-  acts_steady (Do to action from removes) place frame callers = effected_steady frame callers to (trap_place action place) (makes_object action) _ (steady m code.structs (type_of (erased code) frame to) action (values_of frame from))
+  acts_steady : (op : CodeOp) (place : ℕ) (frame : Frame) (callers : List Frame)
+      → Always (SteadyActed m (makes_at op)) (act (erased code) m (erased_op op) place frame callers)
+  acts_steady (Do to action from removes) place frame callers =
+      effected_steady frame callers to (trap_place action place) (makes_object action) _
+      (steady m code.structs (type_of (erased code) frame to) action (values_of frame from))
   acts_steady (Call to n from passes protects removes) place frame callers = go (slice_get (erased code).functions n)
     where
       go : (o : Option TacFn) → Always (SteadyActed m false) (call m frame callers n (values_of frame from) o)
@@ -327,15 +375,19 @@ module _ (code : Code) (m : Memory) where
   acts_steady (Return value) place frame [] = ((λ o u. u), λ f. refl)
   acts_steady (Return value) place frame (caller ∷ callers) = ((λ o u. u), λ f. refl)
 
-  pub alone_steady : (frame : Frame) (callers : List Frame) (instr : CodeInstr) → current code frame ≡ Some instr → Always (SteadyActed m (makes_at instr.op)) (alone (erased code) m (frame ∷ callers))
-  alone_steady frame callers instr cur = subst (λ o. Always (SteadyActed m (makes_at instr.op)) (act_at (erased code) m o frame callers)) (sym (current_erased code frame ∙ ap (option_map erased_instr) cur)) (acts_steady instr.op instr.place frame callers)
+  pub alone_steady : (frame : Frame) (callers : List Frame) (instr : CodeInstr) → current code frame ≡ Some instr
+      → Always (SteadyActed m (makes_at instr.op)) (alone (erased code) m (frame ∷ callers))
+  alone_steady frame callers instr cur = subst (λ o. Always (SteadyActed m (makes_at instr.op))
+      (act_at (erased code) m o frame callers)) (sym (current_erased code frame ∙ ap (option_map erased_instr) cur))
+      (acts_steady instr.op instr.place frame callers)
 
 -- ---- what an instruction touches, and where it makes an offer
 
 number : (p o : ℕ) → Some p ≡ Some o → p ≡ o
 number p o e = cc
 
-pub touched_first : (action : Action) (vs : List Value) (o : ℕ) → touched_by action vs ≡ Some o → (rest : List Value) × (vs ≡ value.Object o ∷ rest)
+pub touched_first : (action : Action) (vs : List Value) (o : ℕ) → touched_by action vs ≡ Some o → (rest : List Value)
+    × (vs ≡ value.Object o ∷ rest)
 touched_first (Int k) vs o e = cc
 touched_first (BoolConstant b) vs o e = cc
 touched_first Nil vs o e = cc
@@ -399,7 +451,8 @@ pub record OffersAt (s : RegionState) (frame : Frame) (op : CodeOp) (o : ℕ) : 
   pub channel_is : value_at frame channel ≡ value.Object o
   pub unbuffered : IsUnbuffered s.plain.memory o
 
-pub offers_at : (s : RegionState) (frame : Frame) (op : CodeOp) (o : ℕ) → offered_channel s frame op ≡ Some o → OffersAt s frame op o
+pub offers_at : (s : RegionState) (frame : Frame) (op : CodeOp) (o : ℕ) → offered_channel s frame op ≡ Some o
+    → OffersAt s frame op o
 offers_at s frame (Do to act' from removes) o q = action act' from q
   where
     one : (v : Value) → open_channel s (v ∷ []) ≡ Some o → ⊥
@@ -421,7 +474,8 @@ offers_at s frame (Do to act' from removes) o q = action act' from q
     nonzero : (n : ℕ) → (suc n == 0) ≡ false
     nonzero n = grind arith
 
-    place : (p : ℕ) (x : Option Object) → slice_get s.plain.memory.heap p ≡ x → (if is_meeting_at x then Some p else None) ≡ Some o → (p ≡ o) × IsUnbuffered s.plain.memory p
+    place : (p : ℕ) (x : Option Object) → slice_get s.plain.memory.heap p ≡ x
+        → (if is_meeting_at x then Some p else None) ≡ Some o → (p ≡ o) × IsUnbuffered s.plain.memory p
     place p None e q = cc
     place p (Some (StructObject cells)) e q = cc
     place p (Some (SliceObject cells)) e q = cc
@@ -430,15 +484,18 @@ offers_at s frame (Do to act' from removes) o q = action act' from q
     place p (Some (Channel (suc n) queue true)) e q = cc
     place p (Some (Channel (suc n) queue false)) e q = absurd (none p (suc n == 0) (nonzero n) q)
 
-    two : (a b : ℕ) (v : Value) → value_at frame a ≡ v → open_channel s (v ∷ value_at frame b ∷ []) ≡ Some o → OffersAt s frame (Do to Send (a ∷ b ∷ []) removes) o
+    two : (a b : ℕ) (v : Value) → value_at frame a ≡ v → open_channel s (v ∷ value_at frame b ∷ []) ≡ Some o
+        → OffersAt s frame (Do to Send (a ∷ b ∷ []) removes) o
     two a b (value.Int i) e q = cc
     two a b (value.Bool x) e q = cc
     two a b value.Nil e q = cc
     two a b (value.Object p) e q =
         let x = place p (slice_get s.plain.memory.heap p) refl q in
-        record { to = to; channel = a; sent = b; removes = removes; is = refl; channel_is = e ∙ ap value.Object x.0; unbuffered = subst (IsUnbuffered s.plain.memory) x.0 x.1 }
+        record { to = to; channel = a; sent = b; removes = removes; is = refl; channel_is =
+            e ∙ ap value.Object x.0; unbuffered = subst (IsUnbuffered s.plain.memory) x.0 x.1 }
 
-    action : (act' : Action) (from : List ℕ) → offered_channel s frame (Do to act' from removes) ≡ Some o → OffersAt s frame (Do to act' from removes) o
+    action : (act' : Action) (from : List ℕ) → offered_channel s frame (Do to act' from removes) ≡ Some o
+        → OffersAt s frame (Do to act' from removes) o
     action (Int k) from q = cc
     action (BoolConstant b) from q = cc
     action Nil from q = cc
@@ -459,7 +516,8 @@ offers_at s frame (Do to act' from removes) o q = action act' from q
     action Send [] q = cc
     action Send (a ∷ []) q = absurd (one (value_at frame a) q)
     action Send (a ∷ b ∷ []) q = two a b (value_at frame a) refl q
-    action Send (a ∷ b ∷ c ∷ more) q = absurd (three (value_at frame b) (value_at frame c) (map (value_at frame) more) (value_at frame a) q)
+    action Send (a ∷ b ∷ c ∷ more) q = absurd (three (value_at frame b) (value_at frame c) (map (value_at frame) more)
+        (value_at frame a) q)
     action Close from q = cc
     action (Get name) from q = cc
     action (Set name) from q = cc
@@ -472,7 +530,8 @@ offers_at s frame (Return value) o q = cc
 
 -- ---- each step
 
-pub after_offer : (code : Code) (k : Holder) (frame : Frame) (callers : List Frame) (op : CodeOp) (next : List Frame) → (holder_after code k frame callers op next).offer ≡ k.offer
+pub after_offer : (code : Code) (k : Holder) (frame : Frame) (callers : List Frame) (op : CodeOp) (next : List Frame)
+    → (holder_after code k frame callers op next).offer ≡ k.offer
 after_offer code k frame callers (Do to action from removes) next = refl
 after_offer code k frame callers (Call to n from passes protects removes) next = refl
 after_offer code k frame callers (Go n from passes removes) next = refl
@@ -481,7 +540,8 @@ after_offer code k frame callers (Jump j removes) next = refl
 after_offer code k frame callers (Branch v j removes k' others) next = refl
 after_offer code k frame callers (Return value) next = refl
 
-unless_offer : (end : Option End) (before after : Holder) → after.offer ≡ before.offer → (unless_trapped end before after).offer ≡ before.offer
+unless_offer : (end : Option End) (before after : Holder) → after.offer ≡ before.offer
+    → (unless_trapped end before after).offer ≡ before.offer
 unless_offer None before after h = h
 unless_offer (Some Exit) before after h = h
 unless_offer (Some (Trap kind place)) before after h = refl
@@ -490,7 +550,9 @@ the_frames : (f g : Frame) (fs gs : List Frame) → f ∷ fs ≡ g ∷ gs → f 
 the_frames f g fs gs e = cc
 
 -- a goroutine that stands at a send, from another view of its frames
-pub at_send : (code : Code) (p : TacState) (g o : ℕ) (st : StandsAtSend code p g o) (frame : Frame) (callers : List Frame) (instr : CodeInstr) → frames_of p g ≡ frame ∷ callers → current code frame ≡ Some instr → (instr.op ≡ Do st.to Send (st.channel ∷ st.sent ∷ []) st.removes) × (value_at frame st.channel ≡ value.Object o)
+pub at_send : (code : Code) (p : TacState) (g o : ℕ) (st : StandsAtSend code p g o) (frame : Frame)
+    (callers : List Frame) (instr : CodeInstr) → frames_of p g ≡ frame ∷ callers → current code frame ≡ Some instr
+    → (instr.op ≡ Do st.to Send (st.channel ∷ st.sent ∷ []) st.removes) × (value_at frame st.channel ≡ value.Object o)
 at_send code p g o st frame callers instr q cur =
     let same : st.frame ≡ frame = the_frames st.frame frame st.callers callers (sym st.at ∙ q) in
     let one : st.instr ≡ instr = the_same st.instr instr (sym st.cur ∙ ap (current code) same ∙ cur) in
@@ -504,36 +566,53 @@ abbrev trapped_there : Memory → List Frame → End → Acted
 trapped_there m frames e = record { memory = m; frames = frames; started = []; printed = []; trap = Some e }
 
 -- at a channel without a buffer a send by itself only traps
-sends_trap : (m : Memory) (frame : Frame) (callers : List Frame) (to : Option ℕ) (place : ℕ) (o : ℕ) (w : Value) (a : Acted) → IsUnbuffered m o → effected m frame callers to place (option_map silent (send m (value.Object o) w)) ≡ Some a → (kind : TrapKind) × (a ≡ trapped_there m (frame ∷ callers) (Trap kind place))
-sends_trap m frame callers to place o w a (object, e, c) q = go object c (sym (ap (λ x. effected m frame callers to place (option_map silent (to_object_if_ready m o (sent w) x))) e) ∙ q)
+sends_trap : (m : Memory) (frame : Frame) (callers : List Frame) (to : Option ℕ) (place : ℕ) (o : ℕ) (w : Value)
+    (a : Acted) → IsUnbuffered m o → effected m frame callers to place (option_map silent (send m (value.Object o) w))
+    ≡ Some a → (kind : TrapKind) × (a ≡ trapped_there m (frame ∷ callers) (Trap kind place))
+sends_trap m frame callers to place o w a (object, e, c) q =
+    go object c (sym (ap (λ x. effected m frame callers to place
+    (option_map silent (to_object_if_ready m o (sent w) x))) e) ∙ q)
   where
     the_same : (x y : Acted) → Some x ≡ Some y → x ≡ y
     the_same x y e = cc
 
-    waits : (b : Bool) (x : Outcome Object) → b ≡ false → effected m frame callers to place (option_map silent (in_memory_if_ready m o (if b then Some x else None))) ≡ Some a → ⊥
+    waits : (b : Bool) (x : Outcome Object) → b ≡ false → effected m frame callers to place
+        (option_map silent (in_memory_if_ready m o (if b then Some x else None))) ≡ Some a → ⊥
     waits true x n q = true≢false n
     waits false x n q = cc
 
     not_below : (n : ℕ) → nat_lt n 0 ≡ false
     not_below n = grind arith
 
-    go : (object : Object) → capacity_of object ≡ Some 0 → effected m frame callers to place (option_map silent (in_memory_if_ready m o (sent w object))) ≡ Some a → (kind : TrapKind) × (a ≡ trapped_there m (frame ∷ callers) (Trap kind place))
+    go : (object : Object) → capacity_of object ≡ Some 0 → effected m frame callers to place
+        (option_map silent (in_memory_if_ready m o (sent w object))) ≡ Some a → (kind : TrapKind)
+        × (a ≡ trapped_there m (frame ∷ callers) (Trap kind place))
     go (StructObject cells) c q = cc
     go (SliceObject cells) c q = cc
-    go (Channel capacity queue true) c q = (SendClosed, sym (the_same (trapped_there m (frame ∷ callers) (Trap SendClosed place)) a q))
+    go (Channel capacity queue true) c q = (SendClosed, sym
+        (the_same (trapped_there m (frame ∷ callers) (Trap SendClosed place)) a q))
     go (Channel capacity queue false) c q =
         let zero' : capacity ≡ 0 = cc in
-        absurd (waits (nat_lt (length queue) capacity) (Does (Channel capacity (queue ++ w ∷ []) false) value.Nil) (ap (nat_lt (length queue)) zero' ∙ not_below (length queue)) q)
+        absurd (waits (nat_lt (length queue) capacity) (Does (Channel capacity (queue ++ w ∷ []) false) value.Nil)
+            (ap (nat_lt (length queue)) zero' ∙ not_below (length queue)) q)
 
 module _ (code : Code) (s : RegionState) (old : OffersFit code s) where
-  carry : (t : RegionState) (j : ℕ) (x : Holder) → frames_of t.plain j ≡ frames_of s.plain j → ((o : ℕ) (r : Region) → slice_get s.owners o ≡ Some r → slice_get t.owners o ≡ Some r) → ((o : ℕ) → IsUnbuffered s.plain.memory o → IsUnbuffered t.plain.memory o) → (offer : Offer) → OfferFits code s j x offer → OfferFits code t j x offer
+  carry : (t : RegionState) (j : ℕ) (x : Holder) → frames_of t.plain j ≡ frames_of s.plain j
+      → ((o : ℕ) (r : Region) → slice_get s.owners o ≡ Some r → slice_get t.owners o ≡ Some r)
+      → ((o : ℕ) → IsUnbuffered s.plain.memory o → IsUnbuffered t.plain.memory o) → (offer : Offer)
+      → OfferFits code s j x offer → OfferFits code t j x offer
   carry t j x fr os ms NoOffer h = tt
-  carry t j x fr os ms (Standing o) (d, u, st) = (d, ms o u, record { frame = st.frame; callers = st.callers; at = fr ∙ st.at; instr = st.instr; cur = st.cur; to = st.to; channel = st.channel; sent = st.sent; removes = st.removes; is = st.is; channel_is = st.channel_is })
+  carry t j x fr os ms (Standing o) (d, u, st) = (d, ms o u, record
+      { frame = st.frame; callers = st.callers; at = fr ∙ st.at; instr = st.instr; cur = st.cur; to = st.to; channel =
+      st.channel; sent = st.sent; removes = st.removes; is = st.is; channel_is = st.channel_is })
   carry t j x fr os ms (Taken o) (r, w, i) = (r, os o r w, i)
 
-  offers_with : (t : RegionState) (g : ℕ) (h k : Holder) → slice_get s.holders g ≡ Some h → t.owners ≡ s.owners → t.plain ≡ s.plain → t.holders ≡ slice_set s.holders g k → OfferFits code s g k k.offer → OffersFit code t
+  offers_with : (t : RegionState) (g : ℕ) (h k : Holder) → slice_get s.holders g ≡ Some h → t.owners ≡ s.owners
+      → t.plain ≡ s.plain → t.holders ≡ slice_set s.holders g k → OfferFits code s g k k.offer → OffersFit code t
   offers_with t g h k e os ps hs new =
-      record { fits = λ j x q. carry t j x (ap (λ p. frames_of p j) ps) (λ o r w. ap (λ y. slice_get y o) os ∙ w) (λ o u. subst (λ (p : TacState). IsUnbuffered p.memory o) (sym ps) u) x.offer (each j x (sym (ap (λ y. slice_get y j) hs) ∙ q)) }
+      record { fits = λ j x q. carry t j x (ap (λ p. frames_of p j) ps) (λ o r w. ap (λ y. slice_get y o) os ∙ w)
+          (λ o u. subst (λ (p : TacState). IsUnbuffered p.memory o) (sym ps) u) x.offer
+          (each j x (sym (ap (λ y. slice_get y j) hs) ∙ q)) }
     where
       the_same : (x y : Holder) → Some x ≡ Some y → x ≡ y
       the_same x y e = cc
@@ -541,11 +620,15 @@ module _ (code : Code) (s : RegionState) (old : OffersFit code s) where
       each : (j : ℕ) (x : Holder) → slice_get (slice_set s.holders g k) j ≡ Some x → OfferFits code s j x x.offer
       each j x q =
           split (nat_eq g j)
-          (λ t. subst (λ (y : Holder). OfferFits code s j y y.offer) (the_same k x (sym (get_set_same s.holders g h k e) ∙ ap (slice_get (slice_set s.holders g k)) (eq_of g j t) ∙ q)) (subst (λ i. OfferFits code s i k k.offer) (eq_of g j t) new))
+          (λ t. subst (λ (y : Holder). OfferFits code s j y y.offer)
+              (the_same k x (sym (get_set_same s.holders g h k e)
+              ∙ ap (slice_get (slice_set s.holders g k)) (eq_of g j t) ∙ q))
+              (subst (λ i. OfferFits code s i k k.offer) (eq_of g j t) new))
           (λ n. old.fits j x (sym (get_set_other s.holders g j k n) ∙ q))
 
   -- a goroutine that owes something and may go on has no offer
-  no_offer : (g : ℕ) (h : Holder) (d : Duty) (ds : List Duty) → slice_get s.holders g ≡ Some h → may_go h.offer ≡ true → h.duties ≡ d ∷ ds → h.offer ≡ NoOffer
+  no_offer : (g : ℕ) (h : Holder) (d : Duty) (ds : List Duty) → slice_get s.holders g ≡ Some h → may_go h.offer ≡ true
+      → h.duties ≡ d ∷ ds → h.offer ≡ NoOffer
   no_offer g h d ds e m q = go h.offer m (old.fits g h e)
     where
       some_none : d ∷ ds ≡ [] → ⊥
@@ -557,83 +640,115 @@ module _ (code : Code) (s : RegionState) (old : OffersFit code s) where
       go (Taken o) m f = absurd (true≢false (sym m))
 
   module _ (g : ℕ) (h : Holder) (e : slice_get s.holders g ≡ Some h) (none : h.offer ≡ NoOffer) where
-    kept : (t : RegionState) (k : Holder) → t.owners ≡ s.owners → t.plain ≡ s.plain → t.holders ≡ slice_set s.holders g k → k.offer ≡ h.offer → Yields (OffersFit code) (Some t)
+    kept : (t : RegionState) (k : Holder) → t.owners ≡ s.owners → t.plain ≡ s.plain → t.holders
+        ≡ slice_set s.holders g k → k.offer ≡ h.offer → Yields (OffersFit code) (Some t)
     kept t k os ps hs ks = yields t (offers_with t g h k e os ps hs (subst (OfferFits code s g k) (sym (ks ∙ none)) tt))
 
     removes : (k : Holder) (q : Region) → k.offer ≡ h.offer → Yields (OffersFit code) (removal s g k q)
     removes k GlobalRegion ks = kept _ k refl refl refl ks
-    removes k (Numbered r) ks = yields_if _ _ _ (yields_if _ _ _ (kept _ k refl refl refl ks) (kept _ (record k { stakes = without r k.stakes }) refl refl refl ks)) yields_none
+    removes k (Numbered r) ks = yields_if _ _ _ (yields_if _ _ _ (kept _ k refl refl refl ks)
+        (kept _ (record k { stakes = without r k.stakes }) refl refl refl ks)) yields_none
 
     shares : (k : Holder) (q : Region) → k.offer ≡ h.offer → Yields (OffersFit code) (shared s g k q)
     shares k GlobalRegion ks = kept _ k refl refl refl ks
-    shares k (Numbered r) ks = yields_if _ _ _ (yields_if _ _ _ (kept _ k refl refl refl ks) (kept _ (record k { pending = r ∷ k.pending }) refl refl refl ks)) yields_none
+    shares k (Numbered r) ks = yields_if _ _ _ (yields_if _ _ _ (kept _ k refl refl refl ks)
+        (kept _ (record k { pending = r ∷ k.pending }) refl refl refl ks)) yields_none
 
     done : (k : Holder) (d : Duty) → k.offer ≡ h.offer → Yields (OffersFit code) (duty_done s g k d)
-    done k (Create n) ks = kept _ (record k { stakes = length s.regions ∷ k.stakes; environments = with_top k.environments ((n, Numbered (length s.regions)) ∷ unbind (top_names k.environments) n) }) refl refl refl ks
+    done k (Create n) ks = kept _ (record k { stakes = length s.regions ∷ k.stakes; environments =
+        with_top k.environments ((n, Numbered (length s.regions)) ∷ unbind (top_names k.environments) n) }) refl refl
+        refl ks
     done k (Share n) ks = yields_then (shared s g k) _ (λ q. shares k q ks)
-    done k (Protect n) ks = yields_then (protected s g k) _ (λ q. yields_if _ _ _ (kept _ (record k { environments = with_protection k.environments q }) refl refl refl ks) yields_none)
-    done k (Unprotect n) ks = yields_then (λ q. Some (attended s g (unprotected k q))) _ (λ q. kept _ (unprotected k q) refl refl refl ks)
-    done k (Remove n) ks = yields_then (removal s g (record k { environments = with_top k.environments (unbind (top_names k.environments) n) })) _ (λ q. removes (record k { environments = with_top k.environments (unbind (top_names k.environments) n) }) q ks)
+    done k (Protect n) ks = yields_then (protected s g k) _
+        (λ q. yields_if _ _ _ (kept _ (record k { environments = with_protection k.environments q }) refl refl refl ks)
+        yields_none)
+    done k (Unprotect n) ks = yields_then (λ q. Some (attended s g (unprotected k q))) _
+        (λ q. kept _ (unprotected k q) refl refl refl ks)
+    done k (Remove n) ks = yields_then (removal s g (record k
+        { environments = with_top k.environments (unbind (top_names k.environments) n) })) _
+        (λ q. removes (record k { environments = with_top k.environments (unbind (top_names k.environments) n) }) q ks)
     done k (EndBase r) ks = removes (record k { base = removed_once r k.base }) r ks
 
-  offers_attend : (g : ℕ) (h : Holder) → slice_get s.holders g ≡ Some h → Yields (OffersFit code) (attend s g h h.duties)
+  offers_attend : (g : ℕ) (h : Holder) → slice_get s.holders g ≡ Some h
+      → Yields (OffersFit code) (attend s g h h.duties)
   offers_attend g h e = go h.duties refl
     where
       go : (ds : List Duty) → h.duties ≡ ds → Yields (OffersFit code) (attend s g h ds)
       go [] q = yields_none
-      go (d ∷ ds) q = yields_where (may_go h.offer) _ (λ m. done g h e (no_offer g h d ds e m q) (record h { duties = ds }) d refl)
+      go (d ∷ ds) q = yields_where (may_go h.offer) _ (λ m.
+          done g h e (no_offer g h d ds e m q) (record h { duties = ds }) d refl)
 
   -- pages
-  offers_take : (g : ℕ) (h : Holder) (page_words : ℕ) (frames : List Frame) → slice_get s.holders g ≡ Some h → Yields (OffersFit code) (take_page code page_words s g h frames)
+  offers_take : (g : ℕ) (h : Holder) (page_words : ℕ) (frames : List Frame) → slice_get s.holders g ≡ Some h
+      → Yields (OffersFit code) (take_page code page_words s g h frames)
   offers_take g h page_words [] e = yields_none
-  offers_take g h page_words (frame ∷ callers) e = yields_then (page_for code page_words s g h frame) _ (λ i. yields_then (takes_page code page_words s g h) _ (λ r. yields_if _ _ _ (taken r) yields_none))
+  offers_take g h page_words (frame ∷ callers) e = yields_then (page_for code page_words s g h frame) _
+      (λ i. yields_then (takes_page code page_words s g h) _ (λ r. yields_if _ _ _ (taken r) yields_none))
     where
-      same : (fills : List (Region × ℕ)) (offer : Offer) → OfferFits code s g h offer → OfferFits code s g (record h { fills = fills }) offer
+      same : (fills : List (Region × ℕ)) (offer : Offer) → OfferFits code s g h offer
+          → OfferFits code s g (record h { fills = fills }) offer
       same fills NoOffer f = f
       same fills (Standing o) f = f
       same fills (Taken o) f = f
 
       taken : (r : Region) → Yields (OffersFit code) (Some (page_taken s g h r))
-      taken GlobalRegion = yields _ (offers_with _ g h (record h { fills = with_fill h.fills GlobalRegion 0 }) e refl refl refl (same (with_fill h.fills GlobalRegion 0) h.offer (old.fits g h e)))
-      taken (Numbered r) = yields _ (offers_with _ g h (record h { fills = with_fill h.fills (Numbered r) 0 }) e refl refl refl (same (with_fill h.fills (Numbered r) 0) h.offer (old.fits g h e)))
+      taken GlobalRegion = yields _ (offers_with _ g h (record h { fills = with_fill h.fills GlobalRegion 0 }) e refl
+          refl refl (same (with_fill h.fills GlobalRegion 0) h.offer (old.fits g h e)))
+      taken (Numbered r) = yields _ (offers_with _ g h (record h { fills = with_fill h.fills (Numbered r) 0 }) e refl
+          refl refl (same (with_fill h.fills (Numbered r) 0) h.offer (old.fits g h e)))
 
-  offers_make : (g : ℕ) (h : Holder) (frames : List Frame) → frames_of s.plain g ≡ frames → slice_get s.holders g ≡ Some h → Yields (OffersFit code) (make_offer code s g h frames)
+  offers_make : (g : ℕ) (h : Holder) (frames : List Frame) → frames_of s.plain g ≡ frames → slice_get s.holders g
+      ≡ Some h → Yields (OffersFit code) (make_offer code s g h frames)
   offers_make g h [] q e = yields_none
-  offers_make g h (frame ∷ callers) q e = yields_where (is_ready code s h (frame ∷ callers)) _ (λ r. at (current code frame) refl r)
+  offers_make g h (frame ∷ callers) q e = yields_where (is_ready code s h (frame ∷ callers)) _
+      (λ r. at (current code frame) refl r)
     where
-      at : (o : Option CodeInstr) → current code frame ≡ o → is_ready code s h (frame ∷ callers) ≡ true → Yields (OffersFit code) (option_and_then (offer_for s g h frame) o)
+      at : (o : Option CodeInstr) → current code frame ≡ o → is_ready code s h (frame ∷ callers) ≡ true
+          → Yields (OffersFit code) (option_and_then (offer_for s g h frame) o)
       at None c r = yields_none
       at (Some instr) c r = on (offered_channel s frame instr.op) refl
         where
           ready : Ready s h frame instr
           ready = ready_is code s h frame callers instr c r
 
-          by : (b : Bool) (o : ℕ) → offered_channel s frame instr.op ≡ Some o → Yields (OffersFit code) (if b then None else Some (attended s g (record h { offer = Standing o })))
+          by : (b : Bool) (o : ℕ) → offered_channel s frame instr.op ≡ Some o
+              → Yields (OffersFit code) (if b then None else Some (attended s g (record h { offer = Standing o })))
           by true o w = yields_none
           by false o w =
               let x = offers_at s frame instr.op o w in
               yields _ (offers_with _ g h (record h { offer = Standing o }) e refl refl refl
-              (ready.none, x.unbuffered, record { frame = frame; callers = callers; at = q; instr = instr; cur = c; to = x.to; channel = x.channel; sent = x.sent; removes = x.removes; is = x.is; channel_is = x.channel_is }))
+              (ready.none, x.unbuffered, record { frame = frame; callers = callers; at = q; instr = instr; cur = c; to =
+                  x.to; channel = x.channel; sent = x.sent; removes = x.removes; is = x.is; channel_is =
+                  x.channel_is }))
 
-          on : (o : Option ℕ) → offered_channel s frame instr.op ≡ o → Yields (OffersFit code) (option_and_then (offered s g h) o)
+          on : (o : Option ℕ) → offered_channel s frame instr.op ≡ o
+              → Yields (OffersFit code) (option_and_then (offered s g h) o)
           on None w = yields_none
           on (Some o) w = by _ o w
 
-  offers_acknowledge : (g : ℕ) (h : Holder) (o : Offer) → slice_get s.holders g ≡ Some h → Yields (OffersFit code) (acknowledge s g h o)
+  offers_acknowledge : (g : ℕ) (h : Holder) (o : Offer) → slice_get s.holders g ≡ Some h
+      → Yields (OffersFit code) (acknowledge s g h o)
   offers_acknowledge g h NoOffer e = yields_none
   offers_acknowledge g h (Standing o) e = yields_none
-  offers_acknowledge g h (Taken o) e = yields_if _ _ _ (yields _ (offers_with _ g h (record h { offer = NoOffer }) e refl refl refl tt)) yields_none
+  offers_acknowledge g h (Taken o) e = yields_if _ _ _ (yields _
+      (offers_with _ g h (record h { offer = NoOffer }) e refl refl refl tt)) yields_none
 
   offers_finish : (limit : Limit) → OffersFit code (finished s limit)
-  offers_finish limit = record { fits = λ j x q. carry (finished s limit) j x refl (λ o r w. w) (λ o u. u) x.offer (old.fits j x q) }
+  offers_finish limit = record { fits = λ j x q. carry (finished s limit) j x refl (λ o r w. w) (λ o u. u) x.offer
+      (old.fits j x q) }
 
   -- ---- one goroutine's instruction
 
   offers_one : (page_words g : ℕ) (t : RegionState) → Fine code s → OneDone code page_words s g t → OffersFit code t
-  offers_one page_words g t fine x = subst (OffersFit code) (sym x.is) (record { fits = λ j y q. place j y (get_append_place (slice_set s.holders g (unless_trapped (after s.plain g x.a).ended x.given.0 (holder_after code x.given.0 x.frame x.callers x.instr.op (frames_of (after s.plain g x.a) g)))) (child_holder code x.given.0 x.instr.op (last_frames (after s.plain g x.a).goroutines)) j y q) })
+  offers_one page_words g t fine x = subst (OffersFit code) (sym x.is)
+      (record { fits = λ j y q. place j y (get_append_place
+      (slice_set s.holders g (unless_trapped (after s.plain g x.a).ended x.given.0
+      (holder_after code x.given.0 x.frame x.callers x.instr.op (frames_of (after s.plain g x.a) g))))
+      (child_holder code x.given.0 x.instr.op (last_frames (after s.plain g x.a).goroutines)) j y q) })
     where
       steadily : (o : ℕ) → IsUnbuffered s.plain.memory o → IsUnbuffered x.a.memory o
-      steadily = (subst (Always (SteadyActed s.plain.memory (makes_at x.instr.op))) x.acts (alone_steady code s.plain.memory x.frame x.callers x.instr x.cur)).0
+      steadily = (subst (Always (SteadyActed s.plain.memory (makes_at x.instr.op))) x.acts
+          (alone_steady code s.plain.memory x.frame x.callers x.instr x.cur)).0
 
       more : (o : ℕ) (r : Region) → slice_get s.owners o ≡ Some r → slice_get (s.owners ++ x.given.1) o ≡ Some r
       more o r w = get_append_left s.owners x.given.1 o (get_below s.owners o r w) ∙ w
@@ -641,48 +756,70 @@ module _ (code : Code) (s : RegionState) (old : OffersFit code s) where
       given_offer : x.given.0.offer ≡ x.h.offer
       given_offer = ap (λ (y : Holder). y.offer) x.same.same
 
-      k_offer : (unless_trapped (after s.plain g x.a).ended x.given.0 (holder_after code x.given.0 x.frame x.callers x.instr.op (frames_of (after s.plain g x.a) g))).offer ≡ x.h.offer
-      k_offer = unless_offer (after s.plain g x.a).ended x.given.0 (holder_after code x.given.0 x.frame x.callers x.instr.op (frames_of (after s.plain g x.a) g)) (after_offer code x.given.0 x.frame x.callers x.instr.op (frames_of (after s.plain g x.a) g)) ∙ given_offer
+      k_offer : (unless_trapped (after s.plain g x.a).ended x.given.0
+          (holder_after code x.given.0 x.frame x.callers x.instr.op (frames_of (after s.plain g x.a) g))).offer
+          ≡ x.h.offer
+      k_offer = unless_offer (after s.plain g x.a).ended x.given.0
+          (holder_after code x.given.0 x.frame x.callers x.instr.op (frames_of (after s.plain g x.a) g))
+          (after_offer code x.given.0 x.frame x.callers x.instr.op (frames_of (after s.plain g x.a) g)) ∙ given_offer
 
       the_same : (x y : Holder) → Some x ≡ Some y → x ≡ y
       the_same x y e = cc
 
       -- its own offer
-      own : (offer : Offer) → x.h.offer ≡ offer → OfferFits code s g x.h offer → OfferFits code (instructed_with code s g x.frame x.callers x.instr (after s.plain g x.a) x.given) g (unless_trapped (after s.plain g x.a).ended x.given.0 (holder_after code x.given.0 x.frame x.callers x.instr.op (frames_of (after s.plain g x.a) g))) offer
+      own : (offer : Offer) → x.h.offer ≡ offer → OfferFits code s g x.h offer
+          → OfferFits code (instructed_with code s g x.frame x.callers x.instr (after s.plain g x.a) x.given) g
+          (unless_trapped (after s.plain g x.a).ended x.given.0
+          (holder_after code x.given.0 x.frame x.callers x.instr.op (frames_of (after s.plain g x.a) g))) offer
       own NoOffer e f = tt
       own (Taken o) e f = absurd (true≢false (sym x.ready.free ∙ ap may_go e))
       own (Standing o) e (d, u, st) = (
         ap (λ (y : Holder). y.duties) k_is ∙ ap (λ (y : Holder). y.duties) x.same.same ∙ d,
         steadily o u,
-        record { frame = x.frame; callers = x.callers; at = frames_same; instr = x.instr; cur = x.cur; to = st.to; channel = st.channel; sent = st.sent; removes = st.removes; is = w.0; channel_is = w.1 },
+        record { frame = x.frame; callers = x.callers; at = frames_same; instr = x.instr; cur = x.cur; to =
+            st.to; channel = st.channel; sent = st.sent; removes = st.removes; is = w.0; channel_is = w.1 },
       )
         where
-          w : (x.instr.op ≡ Do st.to Send (st.channel ∷ st.sent ∷ []) st.removes) × (value_at x.frame st.channel ≡ value.Object o)
+          w : (x.instr.op ≡ Do st.to Send (st.channel ∷ st.sent ∷ []) st.removes)
+              × (value_at x.frame st.channel ≡ value.Object o)
           w = at_send code s.plain g o st x.frame x.callers x.instr (ap frames_in x.at) x.cur
 
-          acts : effected s.plain.memory x.frame x.callers st.to x.instr.place (option_map silent (send s.plain.memory (value.Object o) (value_at x.frame st.sent))) ≡ Some x.a
+          acts : effected s.plain.memory x.frame x.callers st.to x.instr.place
+              (option_map silent (send s.plain.memory (value.Object o) (value_at x.frame st.sent))) ≡ Some x.a
           acts =
-              ap (λ v. effected s.plain.memory x.frame x.callers st.to x.instr.place (option_map silent (send s.plain.memory v (value_at x.frame st.sent)))) (sym w.1)
+              ap (λ v. effected s.plain.memory x.frame x.callers st.to x.instr.place
+                  (option_map silent (send s.plain.memory v (value_at x.frame st.sent)))) (sym w.1)
               ∙ sym (ap (λ op. act (erased code) s.plain.memory (erased_op op) x.instr.place x.frame x.callers) w.0)
-              ∙ sym (ap (λ i. act_at (erased code) s.plain.memory i x.frame x.callers) (current_erased code x.frame ∙ ap (option_map erased_instr) x.cur))
+              ∙ sym (ap (λ i. act_at (erased code) s.plain.memory i x.frame x.callers)
+                  (current_erased code x.frame ∙ ap (option_map erased_instr) x.cur))
               ∙ x.acts
 
-          trapped : (kind : TrapKind) × (x.a ≡ trapped_there s.plain.memory (x.frame ∷ x.callers) (Trap kind x.instr.place))
-          trapped = sends_trap s.plain.memory x.frame x.callers st.to x.instr.place o (value_at x.frame st.sent) x.a u acts
+          trapped : (kind : TrapKind) × (x.a ≡ trapped_there s.plain.memory (x.frame ∷ x.callers)
+              (Trap kind x.instr.place))
+          trapped = sends_trap s.plain.memory x.frame x.callers st.to x.instr.place o (value_at x.frame st.sent) x.a u
+              acts
 
-          k_is : unless_trapped (after s.plain g x.a).ended x.given.0 (holder_after code x.given.0 x.frame x.callers x.instr.op (frames_of (after s.plain g x.a) g)) ≡ x.given.0
-          k_is = ap (λ (y : Acted). unless_trapped (after s.plain g y).ended x.given.0 (holder_after code x.given.0 x.frame x.callers x.instr.op (frames_of (after s.plain g y) g))) trapped.1
+          k_is : unless_trapped (after s.plain g x.a).ended x.given.0
+              (holder_after code x.given.0 x.frame x.callers x.instr.op (frames_of (after s.plain g x.a) g)) ≡ x.given.0
+          k_is = ap (λ (y : Acted). unless_trapped (after s.plain g y).ended x.given.0
+              (holder_after code x.given.0 x.frame x.callers x.instr.op (frames_of (after s.plain g y) g))) trapped.1
 
-          frames_same : frames_in (slice_get (slice_set s.plain.goroutines g x.a.frames ++ x.a.started) g) ≡ x.frame ∷ x.callers
+          frames_same : frames_in (slice_get (slice_set s.plain.goroutines g x.a.frames ++ x.a.started) g)
+              ≡ x.frame ∷ x.callers
           frames_same =
-              ap frames_in (get_append_left (slice_set s.plain.goroutines g x.a.frames) x.a.started g (let b = get_below s.plain.goroutines g (x.frame ∷ x.callers) x.at in let l = length_set s.plain.goroutines g x.a.frames in omega (arith, b, l)))
+              ap frames_in (get_append_left (slice_set s.plain.goroutines g x.a.frames) x.a.started g
+                  (let b = get_below s.plain.goroutines g (x.frame ∷ x.callers) x.at in let l =
+                  length_set s.plain.goroutines g x.a.frames in omega (arith, b, l)))
               ∙ ap frames_in (get_set_same s.plain.goroutines g (x.frame ∷ x.callers) x.a.frames x.at)
               ∙ ap (λ (y : Acted). y.frames) trapped.1
 
-      long : length (slice_set s.holders g (unless_trapped (after s.plain g x.a).ended x.given.0 (holder_after code x.given.0 x.frame x.callers x.instr.op (frames_of (after s.plain g x.a) g)))) ≡ length (slice_set s.plain.goroutines g x.a.frames)
+      long : length (slice_set s.holders g (unless_trapped (after s.plain g x.a).ended x.given.0
+          (holder_after code x.given.0 x.frame x.callers x.instr.op (frames_of (after s.plain g x.a) g))))
+          ≡ length (slice_set s.plain.goroutines g x.a.frames)
       long = length_set s.holders g _ ∙ fine.as_many ∙ sym (length_set s.plain.goroutines g x.a.frames)
 
-      child : (op : CodeOp) (frames : List Frame) (i : ℕ) (y : Holder) → slice_get (child_holder code x.given.0 op frames) i ≡ Some y → y.offer ≡ NoOffer
+      child : (op : CodeOp) (frames : List Frame) (i : ℕ) (y : Holder)
+          → slice_get (child_holder code x.given.0 op frames) i ≡ Some y → y.offer ≡ NoOffer
       child (Go n from passes removes) frames zero y q = ap (λ (z : Holder). z.offer) (sym (the_same _ y q))
       child (Go n from passes removes) frames (suc i) y q = cc
       child (Do to action from removes) frames i y q = cc
@@ -692,20 +829,45 @@ module _ (code : Code) (s : RegionState) (old : OffersFit code s) where
       child (Branch v j removes k others) frames i y q = cc
       child (Return value) frames i y q = cc
 
-      place : (j : ℕ) (y : Holder) → (slice_get (slice_set s.holders g (unless_trapped (after s.plain g x.a).ended x.given.0 (holder_after code x.given.0 x.frame x.callers x.instr.op (frames_of (after s.plain g x.a) g)))) j ≡ Some y) ⊎ ((i : ℕ) × (j ≡ length (slice_set s.holders g (unless_trapped (after s.plain g x.a).ended x.given.0 (holder_after code x.given.0 x.frame x.callers x.instr.op (frames_of (after s.plain g x.a) g)))) + i) × (slice_get (child_holder code x.given.0 x.instr.op (last_frames (after s.plain g x.a).goroutines)) i ≡ Some y)) → OfferFits code (instructed_with code s g x.frame x.callers x.instr (after s.plain g x.a) x.given) j y y.offer
-      place j y (inr (i, at, q)) = subst (OfferFits code (instructed_with code s g x.frame x.callers x.instr (after s.plain g x.a) x.given) j y) (sym (child x.instr.op (last_frames (after s.plain g x.a).goroutines) i y q)) tt
+      place : (j : ℕ) (y : Holder) → (slice_get (slice_set s.holders g
+          (unless_trapped (after s.plain g x.a).ended x.given.0
+          (holder_after code x.given.0 x.frame x.callers x.instr.op (frames_of (after s.plain g x.a) g)))) j ≡ Some y)
+          ⊎ ((i : ℕ) × (j ≡ length (slice_set s.holders g (unless_trapped (after s.plain g x.a).ended x.given.0
+          (holder_after code x.given.0 x.frame x.callers x.instr.op (frames_of (after s.plain g x.a) g)))) + i)
+          × (slice_get (child_holder code x.given.0 x.instr.op (last_frames (after s.plain g x.a).goroutines)) i
+          ≡ Some y)) → OfferFits code (instructed_with code s g x.frame x.callers x.instr (after s.plain g x.a) x.given)
+          j y y.offer
+      place j y (inr (i, at, q)) = subst (OfferFits code (instructed_with code s g x.frame x.callers x.instr
+          (after s.plain g x.a) x.given) j y) (sym (child x.instr.op (last_frames (after s.plain g x.a).goroutines) i y
+          q)) tt
       place j y (inl q) =
           split (nat_eq g j)
-          (λ u. subst (λ (z : Holder). OfferFits code (instructed_with code s g x.frame x.callers x.instr (after s.plain g x.a) x.given) j z z.offer) (the_same _ y (sym (get_set_same s.holders g x.h _ x.there) ∙ ap (slice_get (slice_set s.holders g (unless_trapped (after s.plain g x.a).ended x.given.0 (holder_after code x.given.0 x.frame x.callers x.instr.op (frames_of (after s.plain g x.a) g))))) (eq_of g j u) ∙ q))
-          (subst (λ i. OfferFits code (instructed_with code s g x.frame x.callers x.instr (after s.plain g x.a) x.given) i (unless_trapped (after s.plain g x.a).ended x.given.0 (holder_after code x.given.0 x.frame x.callers x.instr.op (frames_of (after s.plain g x.a) g))) (unless_trapped (after s.plain g x.a).ended x.given.0 (holder_after code x.given.0 x.frame x.callers x.instr.op (frames_of (after s.plain g x.a) g))).offer) (eq_of g j u)
-          (subst (OfferFits code (instructed_with code s g x.frame x.callers x.instr (after s.plain g x.a) x.given) g (unless_trapped (after s.plain g x.a).ended x.given.0 (holder_after code x.given.0 x.frame x.callers x.instr.op (frames_of (after s.plain g x.a) g)))) (sym k_offer) (own x.h.offer refl (old.fits g x.h x.there)))))
+          (λ u. subst (λ (z : Holder). OfferFits code (instructed_with code s g x.frame x.callers x.instr
+              (after s.plain g x.a) x.given) j z z.offer) (the_same _ y
+              (sym (get_set_same s.holders g x.h _ x.there) ∙ ap
+              (slice_get (slice_set s.holders g (unless_trapped (after s.plain g x.a).ended x.given.0
+              (holder_after code x.given.0 x.frame x.callers x.instr.op (frames_of (after s.plain g x.a) g)))))
+              (eq_of g j u) ∙ q))
+          (subst (λ i. OfferFits code (instructed_with code s g x.frame x.callers x.instr (after s.plain g x.a) x.given)
+              i (unless_trapped (after s.plain g x.a).ended x.given.0
+              (holder_after code x.given.0 x.frame x.callers x.instr.op (frames_of (after s.plain g x.a) g)))
+              (unless_trapped (after s.plain g x.a).ended x.given.0
+              (holder_after code x.given.0 x.frame x.callers x.instr.op (frames_of (after s.plain g x.a) g))).offer)
+              (eq_of g j u)
+          (subst (OfferFits code (instructed_with code s g x.frame x.callers x.instr (after s.plain g x.a) x.given) g
+              (unless_trapped (after s.plain g x.a).ended x.given.0
+              (holder_after code x.given.0 x.frame x.callers x.instr.op (frames_of (after s.plain g x.a) g))))
+              (sym k_offer) (own x.h.offer refl (old.fits g x.h x.there)))))
           (λ n. carry (instructed_with code s g x.frame x.callers x.instr (after s.plain g x.a) x.given) j y
-          (ap frames_in (get_append_left (slice_set s.plain.goroutines g x.a.frames) x.a.started j (let b = get_below _ j y q in let l = long in omega (arith, b, l))) ∙ ap frames_in (get_set_other s.plain.goroutines g j x.a.frames n))
+          (ap frames_in (get_append_left (slice_set s.plain.goroutines g x.a.frames) x.a.started j
+              (let b = get_below _ j y q in let l = long in omega (arith, b, l)))
+              ∙ ap frames_in (get_set_other s.plain.goroutines g j x.a.frames n))
           more steadily y.offer (old.fits j y (sym (get_set_other s.holders g j _ n) ∙ q)))
 
   -- ---- a meeting
 
-  offers_meet : (r u : ℕ) (t : RegionState) → IsChecked code → Fine code s → ValuesStay code s → MeetDone code s r u t → OffersFit code t
+  offers_meet : (r u : ℕ) (t : RegionState) → IsChecked code → Fine code s → ValuesStay code s → MeetDone code s r u t
+      → OffersFit code t
   offers_meet r u t checked fine values x =
       record { fits = λ j y q. each j y (sym (ap (λ z. slice_get z j) x.holders) ∙ q) }
     where
@@ -735,63 +897,101 @@ module _ (code : Code) (s : RegionState) (old : OffersFit code s) where
           go NoOffer e f = e
           go (Taken o) e f = absurd (true≢false (sym x.ready_h.free ∙ ap may_go e))
           go (Standing o) e (d, w, st) =
-              let z = at_send code s.plain r o st x.receives.frame x.receives.callers x.receives.instr frames_r x.receives.cur in
-              absurd (clash st.to x.receives.to (st.channel ∷ st.sent ∷ []) (x.receives.channel ∷ []) st.removes x.receives.removes (sym z.0 ∙ x.receives.is))
+              let z = at_send code s.plain r o st x.receives.frame x.receives.callers x.receives.instr frames_r
+                  x.receives.cur in
+              absurd (clash st.to x.receives.to (st.channel ∷ st.sent ∷ []) (x.receives.channel ∷ []) st.removes
+                  x.receives.removes (sym z.0 ∙ x.receives.is))
 
       -- a sender's channel is in a region with its stake
-      sender : (offer : Offer) → x.k.offer ≡ offer → OfferFits code s u x.k offer → OfferFits code t u (record (gone_on (send_goes x.sends) x.k) { offer = taken_offer x.k.offer }) (taken_offer offer)
+      sender : (offer : Offer) → x.k.offer ≡ offer → OfferFits code s u x.k offer
+          → OfferFits code t u (record (gone_on (send_goes x.sends) x.k) { offer = taken_offer x.k.offer })
+          (taken_offer offer)
       sender NoOffer e f = tt
       sender (Taken o) e f = absurd (true≢false (sym x.standing ∙ ap standing_at e))
       sender (Standing o) e (d, w, st) =
-          (channel.0, ap (λ z. slice_get z o) x.owners ∙ channel.2, (λ q is. class_staked (class_of top.stands.fn st.channel) q (channel.1 ∙ ap Some is)))
+          (channel.0, ap (λ z. slice_get z o) x.owners ∙ channel.2,
+              (λ q is. class_staked (class_of top.stands.fn st.channel) q (channel.1 ∙ ap Some is)))
         where
-          z : (x.sends.instr.op ≡ Do st.to Send (st.channel ∷ st.sent ∷ []) st.removes) × (value_at x.sends.frame st.channel ≡ value.Object o)
+          z : (x.sends.instr.op ≡ Do st.to Send (st.channel ∷ st.sent ∷ []) st.removes)
+              × (value_at x.sends.frame st.channel ≡ value.Object o)
           z = at_send code s.plain u o st x.sends.frame x.sends.callers x.sends.instr frames_u x.sends.cur
 
           top : Top code x.k x.sends.frame x.sends.callers
-          top = top_of code x.k x.sends.frame x.sends.callers (subst (λ y. GoodHolder code y x.k) frames_u (fine.each u x.k x.there_k))
+          top = top_of code x.k x.sends.frame x.sends.callers
+              (subst (λ y. GoodHolder code y x.k) frames_u (fine.each u x.k x.there_k))
 
           lead : FramesLead code s.owners (x.sends.frame ∷ x.sends.callers) (top.f ∷ top.fs)
-          lead = subst (FramesLead code s.owners (x.sends.frame ∷ x.sends.callers)) top.environments (subst (λ y. FramesLead code s.owners y x.k.environments) frames_u (values.frames u x.k x.there_k))
+          lead = subst (FramesLead code s.owners (x.sends.frame ∷ x.sends.callers)) top.environments
+              (subst (λ y. FramesLead code s.owners y x.k.environments) frames_u (values.frames u x.k x.there_k))
 
           channel : LeadsHome s.owners top.f.names (class_of top.stands.fn st.channel) (value.Object o)
-          channel = subst (LeadsHome s.owners top.f.names (class_of top.stands.fn st.channel)) z.1 (reads_home code checked s.owners s.plain.memory values.memory x.sends.frame x.sends.callers x.sends.instr x.sends.cur top.f top.fs lead top.stands.fn top.stands.is_fn top.stands.lends st.channel (subst (λ op. Contains (reads (erased_op op)) st.channel) (sym z.0) (contains_here st.channel (st.sent ∷ []))))
+          channel = subst (LeadsHome s.owners top.f.names (class_of top.stands.fn st.channel)) z.1
+              (reads_home code checked s.owners s.plain.memory values.memory x.sends.frame x.sends.callers x.sends.instr
+              x.sends.cur top.f top.fs lead top.stands.fn top.stands.is_fn top.stands.lends st.channel
+              (subst (λ op. Contains (reads (erased_op op)) st.channel) (sym z.0)
+              (contains_here st.channel (st.sent ∷ []))))
 
-          class_staked : (c : Class) (q : ℕ) → class_region top.f.names c ≡ Some (Numbered q) → is_in q x.k.stakes ≡ true
+          class_staked : (c : Class) (q : ℕ) → class_region top.f.names c ≡ Some (Numbered q) → is_in q x.k.stakes
+              ≡ true
           class_staked NoClass q e = cc
           class_staked Global q e = cc
           class_staked (Name n) q e = top.staked n q e
 
-      each : (j : ℕ) (y : Holder) → slice_get (slice_set (slice_set s.holders r (gone_on (receive_goes x.receives x.v) x.h)) u (record (gone_on (send_goes x.sends) x.k) { offer = taken_offer x.k.offer })) j ≡ Some y → OfferFits code t j y y.offer
+      each : (j : ℕ) (y : Holder) → slice_get (slice_set (slice_set s.holders r
+          (gone_on (receive_goes x.receives x.v) x.h)) u (record (gone_on (send_goes x.sends) x.k)
+          { offer = taken_offer x.k.offer })) j ≡ Some y → OfferFits code t j y y.offer
       each j y q =
           split (nat_eq u j)
-          (λ w. subst (λ (z : Holder). OfferFits code t j z z.offer) (the_same k' y (sym (get_set_same (slice_set s.holders r h') u x.k k' (get_set_other s.holders r u h' x.apart ∙ x.there_k)) ∙ ap (slice_get (slice_set (slice_set s.holders r h') u k')) (eq_of u j w) ∙ q))
-          (subst (λ i. OfferFits code t i k' (taken_offer x.k.offer)) (eq_of u j w) (sender x.k.offer refl (old.fits u x.k x.there_k))))
+          (λ w. subst (λ (z : Holder). OfferFits code t j z z.offer)
+              (the_same k' y (sym (get_set_same (slice_set s.holders r h') u x.k k'
+              (get_set_other s.holders r u h' x.apart ∙ x.there_k))
+              ∙ ap (slice_get (slice_set (slice_set s.holders r h') u k')) (eq_of u j w) ∙ q))
+          (subst (λ i. OfferFits code t i k' (taken_offer x.k.offer)) (eq_of u j w)
+              (sender x.k.offer refl (old.fits u x.k x.there_k))))
           (λ n. other n (sym (get_set_other (slice_set s.holders r h') u j k' n) ∙ q))
         where
-          other : nat_eq u j ≡ false → slice_get (slice_set s.holders r (gone_on (receive_goes x.receives x.v) x.h)) j ≡ Some y → OfferFits code t j y y.offer
+          other : nat_eq u j ≡ false → slice_get (slice_set s.holders r (gone_on (receive_goes x.receives x.v) x.h)) j
+              ≡ Some y → OfferFits code t j y y.offer
           other n q =
               split (nat_eq r j)
-              (λ w. subst (λ (z : Holder). OfferFits code t j z z.offer) (the_same (gone_on (receive_goes x.receives x.v) x.h) y (sym (get_set_same s.holders r x.h (gone_on (receive_goes x.receives x.v) x.h) x.there_h) ∙ ap (slice_get (slice_set s.holders r (gone_on (receive_goes x.receives x.v) x.h))) (eq_of r j w) ∙ q))
+              (λ w. subst (λ (z : Holder). OfferFits code t j z z.offer)
+                  (the_same (gone_on (receive_goes x.receives x.v) x.h) y
+                  (sym (get_set_same s.holders r x.h (gone_on (receive_goes x.receives x.v) x.h) x.there_h)
+                  ∙ ap (slice_get (slice_set s.holders r (gone_on (receive_goes x.receives x.v) x.h))) (eq_of r j w)
+                  ∙ q))
               (subst (OfferFits code t j (gone_on (receive_goes x.receives x.v) x.h)) (sym receiver) tt))
               (λ n'. carry t j y
-              (ap (λ p. frames_of p j) x.plain ∙ ap frames_in (get_set_other (slice_set s.plain.goroutines r (x.go_on x.v)) u j x.next n ∙ get_set_other s.plain.goroutines r j (x.go_on x.v) n'))
-              (λ o q w. ap (λ z. slice_get z o) x.owners ∙ w) (λ o w. subst (λ (p : TacState). IsUnbuffered p.memory o) (sym x.plain) w) y.offer
+              (ap (λ p. frames_of p j) x.plain ∙ ap frames_in (get_set_other
+                  (slice_set s.plain.goroutines r (x.go_on x.v)) u j x.next n
+                  ∙ get_set_other s.plain.goroutines r j (x.go_on x.v) n'))
+              (λ o q w. ap (λ z. slice_get z o) x.owners ∙ w) (λ o w.
+                  subst (λ (p : TacState). IsUnbuffered p.memory o) (sym x.plain) w) y.offer
               (old.fits j y (sym (get_set_other s.holders r j (gone_on (receive_goes x.receives x.v) x.h) n') ∙ q)))
 
-  pub offers_step : (page_words : ℕ) (event : Event) → IsChecked code → Good code s → Yields (OffersFit code) (region_step code page_words s event)
-  offers_step page_words (Instruct (One g)) checked good = yields_from _ (one_done code page_words s g) (λ t x. offers_one page_words g t good.fine x)
-  offers_step page_words (Instruct (Meet r u)) checked good = yields_from _ (meet_done code page_words s r u) (λ t x. offers_meet r u t checked good.fine good.values x)
-  offers_step page_words (Attend g) checked good = yields_at (slice_get s.holders g) (λ (h : Holder). attend s g h h.duties) (λ h e. offers_attend g h e)
-  offers_step page_words (TakePage g) checked good = yields_at (slice_get s.holders g) (λ h. take_page code page_words s g h (frames_of s.plain g)) (λ h e. offers_take g h page_words (frames_of s.plain g) e)
-  offers_step page_words (MakeOffer g) checked good = yields_at (slice_get s.holders g) (λ h. make_offer code s g h (frames_of s.plain g)) (λ h e. offers_make g h (frames_of s.plain g) refl e)
-  offers_step page_words (Acknowledge g) checked good = yields_at (slice_get s.holders g) (λ (h : Holder). acknowledge s g h h.offer) (λ h e. offers_acknowledge g h h.offer e)
+  pub offers_step : (page_words : ℕ) (event : Event) → IsChecked code → Good code s
+      → Yields (OffersFit code) (region_step code page_words s event)
+  offers_step page_words (Instruct (One g)) checked good =
+      yields_from _ (one_done code page_words s g) (λ t x. offers_one page_words g t good.fine x)
+  offers_step page_words (Instruct (Meet r u)) checked good =
+      yields_from _ (meet_done code page_words s r u) (λ t x. offers_meet r u t checked good.fine good.values x)
+  offers_step page_words (Attend g) checked good = yields_at (slice_get s.holders g)
+      (λ (h : Holder). attend s g h h.duties) (λ h e. offers_attend g h e)
+  offers_step page_words (TakePage g) checked good = yields_at (slice_get s.holders g)
+      (λ h. take_page code page_words s g h (frames_of s.plain g))
+      (λ h e. offers_take g h page_words (frames_of s.plain g) e)
+  offers_step page_words (MakeOffer g) checked good = yields_at (slice_get s.holders g)
+      (λ h. make_offer code s g h (frames_of s.plain g)) (λ h e. offers_make g h (frames_of s.plain g) refl e)
+  offers_step page_words (Acknowledge g) checked good = yields_at (slice_get s.holders g)
+      (λ (h : Holder). acknowledge s g h h.offer) (λ h e. offers_acknowledge g h h.offer e)
   offers_step page_words (Finish limit) checked good = yields _ (offers_finish limit)
 
 -- ---- all of it, in every run
 
-pub all_good_step : (code : Code) (page_words : ℕ) (s : RegionState) (event : Event) → IsChecked code → Ascends code → AllGood code s → Yields (AllGood code) (region_step code page_words s event)
-all_good_step code page_words s event checked written all = go (region_step code page_words s event) (good_step code page_words s event checked written all.good) (offers_step code s all.offers page_words event checked all.good)
+pub all_good_step : (code : Code) (page_words : ℕ) (s : RegionState) (event : Event) → IsChecked code → Ascends code
+    → AllGood code s → Yields (AllGood code) (region_step code page_words s event)
+all_good_step code page_words s event checked written all =
+    go (region_step code page_words s event) (good_step code page_words s event checked written all.good)
+    (offers_step code s all.offers page_words event checked all.good)
   where
     go : (o : Option RegionState) → Yields (Good code) o → Yields (OffersFit code) o → Yields (AllGood code) o
     go None a b = yields_none
@@ -803,45 +1003,67 @@ all_good_start code checked written = record { good = good_start code checked wr
     the_same : (x y : Holder) → Some x ≡ Some y → x ≡ y
     the_same x y e = cc
 
-    fits : (g : ℕ) (h : Holder) → slice_get (region_start code).holders g ≡ Some h → OfferFits code (region_start code) g h h.offer
+    fits : (g : ℕ) (h : Holder) → slice_get (region_start code).holders g ≡ Some h
+        → OfferFits code (region_start code) g h h.offer
     fits zero h q = subst (OfferFits code (region_start code) 0 h) (ap (λ (x : Holder). x.offer) (the_same _ h q)) tt
     fits (suc g) h q = cc
 
 pub steps_keep_good : StepsKeepGood
-steps_keep_good code page_words s t event checked written all e = yields_is {P = AllGood code} (region_step code page_words s event) t (all_good_step code page_words s event checked written all) e
+steps_keep_good code page_words s t event checked written all e =
+    yields_is {P = AllGood code} (region_step code page_words s event) t
+    (all_good_step code page_words s event checked written all) e
 
-pub runs_all_good : (code : Code) (page_words : ℕ) (events : List Event) (s : RegionState) → IsChecked code → Ascends code → region_run code page_words events ≡ Some s → AllGood code s
-runs_all_good code page_words events s checked written r = run_keeps code page_words (AllGood code) (λ t e all. all_good_step code page_words t e checked written all) events (region_start code) s (all_good_start code checked written) r
+pub runs_all_good : (code : Code) (page_words : ℕ) (events : List Event) (s : RegionState) → IsChecked code
+    → Ascends code → region_run code page_words events ≡ Some s → AllGood code s
+runs_all_good code page_words events s checked written r =
+    run_keeps code page_words (AllGood code) (λ t e all. all_good_step code page_words t e checked written all) events
+    (region_start code) s (all_good_start code checked written) r
 
 -- ---- what the next step names is Global, or live with an own stake
 
-pub class_has_stake : (code : Code) (s : RegionState) (g : ℕ) (h : Holder) (frame : Frame) (callers : List Frame) (top : Top code h frame callers) (c : Class) (r : Region) → Fine code s → slice_get s.holders g ≡ Some h → class_region top.f.names c ≡ Some r → HasStake s h r
+pub class_has_stake : (code : Code) (s : RegionState) (g : ℕ) (h : Holder) (frame : Frame) (callers : List Frame)
+    (top : Top code h frame callers) (c : Class) (r : Region) → Fine code s → slice_get s.holders g ≡ Some h
+    → class_region top.f.names c ≡ Some r → HasStake s h r
 class_has_stake code s g h frame callers top NoClass r fine e q = cc
 class_has_stake code s g h frame callers top Global r fine e q = subst (HasStake s h) (the_region GlobalRegion r q) tt
   where
     the_region : (x y : Region) → Some x ≡ Some y → x ≡ y
     the_region x y e = cc
-class_has_stake code s g h frame callers top (Name k) r fine e q = name_staked code s g h k r fine e (ap (λ sh. bound (top_names sh) k) top.environments ∙ q)
+class_has_stake code s g h frame callers top (Name k) r fine e q =
+    name_staked code s g h k r fine e (ap (λ sh. bound (top_names sh) k) top.environments ∙ q)
 
 -- the object that an instruction touches
-pub touched_home : (code : Code) (s : RegionState) (g : ℕ) (h : Holder) (frame : Frame) (callers : List Frame) (instr : CodeInstr) (top : Top code h frame callers) (o : ℕ) → IsChecked code → Good code s → slice_get s.holders g ≡ Some h → frames_of s.plain g ≡ frame ∷ callers → current code frame ≡ Some instr → touched frame instr.op ≡ Some o → (r : Region) × (slice_get s.owners o ≡ Some r) × HasStake s h r
+pub touched_home : (code : Code) (s : RegionState) (g : ℕ) (h : Holder) (frame : Frame) (callers : List Frame)
+    (instr : CodeInstr) (top : Top code h frame callers) (o : ℕ) → IsChecked code → Good code s → slice_get s.holders g
+    ≡ Some h → frames_of s.plain g ≡ frame ∷ callers → current code frame ≡ Some instr → touched frame instr.op ≡ Some o
+    → (r : Region) × (slice_get s.owners o ≡ Some r) × HasStake s h r
 touched_home code s g h frame callers instr top o checked good e at cur t = by instr.op refl (t)
   where
     lead : FramesLead code s.owners (frame ∷ callers) (top.f ∷ top.fs)
-    lead = subst (FramesLead code s.owners (frame ∷ callers)) top.environments (subst (λ y. FramesLead code s.owners y h.environments) at (good.values.frames g h e))
+    lead = subst (FramesLead code s.owners (frame ∷ callers)) top.environments
+        (subst (λ y. FramesLead code s.owners y h.environments) at (good.values.frames g h e))
 
-    by : (op : CodeOp) → instr.op ≡ op → touched frame op ≡ Some o → (r : Region) × (slice_get s.owners o ≡ Some r) × HasStake s h r
+    by : (op : CodeOp) → instr.op ≡ op → touched frame op ≡ Some o → (r : Region) × (slice_get s.owners o ≡ Some r)
+        × HasStake s h r
     by (Do to action from removes) is q = first from refl (touched_first action (map (value_at frame) from) o q)
       where
         the_value : (v : Value) (vs rest : List Value) → v ∷ vs ≡ value.Object o ∷ rest → v ≡ value.Object o
         the_value v vs rest e = cc
 
-        first : (vs : List ℕ) → vs ≡ from → (rest : List Value) × (map (value_at frame) from ≡ value.Object o ∷ rest) → (r : Region) × (slice_get s.owners o ≡ Some r) × HasStake s h r
+        first : (vs : List ℕ) → vs ≡ from → (rest : List Value) × (map (value_at frame) from ≡ value.Object o ∷ rest)
+            → (r : Region) × (slice_get s.owners o ≡ Some r) × HasStake s h r
         first [] f (rest, z) = let x : [] ≡ value.Object o ∷ rest = ap (map (value_at frame)) f ∙ z in cc
         first (v ∷ vs) f (rest, z) =
-            let leads : value_at frame v ≡ value.Object o = the_value (value_at frame v) (map (value_at frame) vs) rest (ap (map (value_at frame)) f ∙ z) in
-            let home : LeadsHome s.owners top.f.names (class_of top.stands.fn v) (value.Object o) = subst (LeadsHome s.owners top.f.names (class_of top.stands.fn v)) leads (reads_home code checked s.owners s.plain.memory good.values.memory frame callers instr cur top.f top.fs lead top.stands.fn top.stands.is_fn top.stands.lends v (subst (λ op. Contains (reads (erased_op op)) v) (sym is) (subst (λ x. Contains x v) f (contains_here v vs)))) in
-            (home.0, home.2, class_has_stake code s g h frame callers top (class_of top.stands.fn v) home.0 good.fine e home.1)
+            let leads : value_at frame v ≡ value.Object o = the_value (value_at frame v) (map (value_at frame) vs) rest
+                (ap (map (value_at frame)) f ∙ z) in
+            let home : LeadsHome s.owners top.f.names (class_of top.stands.fn v) (value.Object o) =
+                subst (LeadsHome s.owners top.f.names (class_of top.stands.fn v)) leads
+                (reads_home code checked s.owners s.plain.memory good.values.memory frame callers instr cur top.f top.fs
+                lead top.stands.fn top.stands.is_fn top.stands.lends v
+                (subst (λ op. Contains (reads (erased_op op)) v) (sym is)
+                (subst (λ x. Contains x v) f (contains_here v vs)))) in
+            (home.0, home.2, class_has_stake code s g h frame callers top (class_of top.stands.fn v) home.0 good.fine e
+                home.1)
     by (Call to n from passes protects removes) is q = cc
     by (Go n from passes removes) is q = cc
     by (Print pieces from removes) is q = cc
@@ -850,10 +1072,12 @@ touched_home code s g h frame callers instr top o checked good e at cur t = by i
     by (Return value) is q = cc
 
 -- the region in which an instruction makes an object
-pub making_class : (fn : CodeFn) (names : Bindings) (op : CodeOp) (r : Region) → making_region (Some fn) names op ≡ Some r → (c : Class) × (class_region names c ≡ Some r)
+pub making_class : (fn : CodeFn) (names : Bindings) (op : CodeOp) (r : Region) → making_region (Some fn) names op
+    ≡ Some r → (c : Class) × (class_region names c ≡ Some r)
 making_class fn names (Do to action from removes) r q = go (makes_object action) q
   where
-    go : (b : Bool) → (if b then class_region names (target_class (Some fn) to) else None) ≡ Some r → (c : Class) × (class_region names c ≡ Some r)
+    go : (b : Bool) → (if b then class_region names (target_class (Some fn) to) else None) ≡ Some r → (c : Class)
+        × (class_region names c ≡ Some r)
     go true q = (target_class (Some fn) to, q)
     go false q = cc
 making_class fn names (Call to n from passes protects removes) r q = cc
@@ -872,22 +1096,27 @@ names_only_live code page_words events s g h r checked written run e n = go h.du
     the_region : (x y : Region) → Some x ≡ Some y → x ≡ y
     the_region x y e = cc
 
-    instruction : (frames : List Frame) → frames_of s.plain g ≡ frames → InstructionNames code s h frames r → HasStake s h r
+    instruction : (frames : List Frame) → frames_of s.plain g ≡ frames → InstructionNames code s h frames r
+        → HasStake s h r
     instruction [] at n = absurd n
     instruction (frame ∷ callers) at (instr, cur, n) = by n
       where
         top : Top code h frame callers
         top = top_of code h frame callers (subst (λ y. GoodHolder code y h) at (all.good.fine.each g h e))
 
-        by : (making_region (function_at code frame) (top_names h.environments) instr.op ≡ Some r) ⊎ ((o : ℕ) × (touched frame instr.op ≡ Some o) × (slice_get s.owners o ≡ Some r)) → HasStake s h r
+        by : (making_region (function_at code frame) (top_names h.environments) instr.op ≡ Some r)
+            ⊎ ((o : ℕ) × (touched frame instr.op ≡ Some o) × (slice_get s.owners o ≡ Some r)) → HasStake s h r
         by (inl m) =
-            let c = making_class top.stands.fn top.f.names instr.op r (ap (λ sh. making_region (Some top.stands.fn) (top_names sh) instr.op) (sym top.environments) ∙ ap (λ o. making_region o (top_names h.environments) instr.op) (sym top.stands.is_fn) ∙ m) in
+            let c = making_class top.stands.fn top.f.names instr.op r
+                (ap (λ sh. making_region (Some top.stands.fn) (top_names sh) instr.op) (sym top.environments)
+                ∙ ap (λ o. making_region o (top_names h.environments) instr.op) (sym top.stands.is_fn) ∙ m) in
             class_has_stake code s g h frame callers top c.0 r all.good.fine e c.1
         by (inr (o, t, w)) =
             let x = touched_home code s g h frame callers instr top o checked all.good e at cur t in
             subst (HasStake s h) (the_region x.0 r (sym x.1 ∙ w)) x.2
 
-    go : (ds : List Duty) → h.duties ≡ ds → (offer : Offer) → h.offer ≡ offer → NextNames code s g h ds offer r → HasStake s h r
+    go : (ds : List Duty) → h.duties ≡ ds → (offer : Offer) → h.offer ≡ offer → NextNames code s g h ds offer r
+        → HasStake s h r
     go (d ∷ ds) q offer w n = duty_staked code s g h d ds r all.good.fine e q n
     go [] q (Taken o) w n =
         let f : OfferFits code s g h (Taken o) = subst (OfferFits code s g h) w (all.offers.fits g h e) in

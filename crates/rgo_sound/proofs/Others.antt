@@ -1,5 +1,7 @@
 -- Pages, offers, acknowledgements, ends and the start; and all runs.
-use Rattle.std.proofs.Common.{◌≡◌, ℕ, zero, suc, ◌+◌, ◌<◌, Bool, true, false, List, [], ◌∷◌, ◌++◌, map, length, Option, Some, None, refl, sym, ap, ◌∙◌, subst, nat_eq, if◌then◌else◌, arith, true≢false, slice_get, slice_set, option_map, option_and_then, Contains}
+use Rattle.std.proofs.Common.{◌≡◌, ℕ, zero, suc, ◌+◌, ◌<◌, Bool, true, false, List, [], ◌∷◌, ◌++◌, map, length, Option}
+use Rattle.std.proofs.Common.{Some, None, refl, sym, ap, ◌∙◌, subst, nat_eq, if◌then◌else◌, arith, true≢false}
+use Rattle.std.proofs.Common.{slice_get, slice_set, option_map, option_and_then, Contains}
 use Rattle.std.specs.Prelude.{bytes_eq, codes}
 use Rattle.std.proofs.lemmas.Option.{slice_get-map}
 use Rattle.std.proofs.lemmas.Slice.Eq.{bytes_eq-Decides}
@@ -49,16 +51,26 @@ use Rattle.rgo_code.specs.declared.rules.Rule.TheVariants as rule
 
 module _ (code : Code) (page_words : ℕ) (s : RegionState) (fine : Fine code s) where
   -- another offer, or another fill
-  same_stakes : (g : ℕ) (h k : Holder) (t : RegionState) → slice_get s.holders g ≡ Some h → t.regions ≡ s.regions → t.holders ≡ slice_set s.holders g k → t.plain ≡ s.plain → k.stakes ≡ h.stakes → k.pending ≡ h.pending → GoodHolder code (frames_of s.plain g) k → Fine code t
-  same_stakes g h k t e rs hs ps ks kp good = fine_plain code s t g h k fine e rs hs ks kp (ap (λ p. length p.goroutines) ps) (λ j n. ap (λ p. frames_of p j) ps) (subst (λ p. GoodHolder code (frames_of p g) k) (sym ps) good)
+  same_stakes : (g : ℕ) (h k : Holder) (t : RegionState) → slice_get s.holders g ≡ Some h → t.regions ≡ s.regions
+      → t.holders ≡ slice_set s.holders g k → t.plain ≡ s.plain → k.stakes ≡ h.stakes → k.pending ≡ h.pending
+      → GoodHolder code (frames_of s.plain g) k → Fine code t
+  same_stakes g h k t e rs hs ps ks kp good = fine_plain code s t g h k fine e rs hs ks kp
+      (ap (λ p. length p.goroutines) ps) (λ j n. ap (λ p. frames_of p j) ps)
+      (subst (λ p. GoodHolder code (frames_of p g) k) (sym ps) good)
 
-  same_good : (g : ℕ) (h : Holder) (fills : List (Region × ℕ)) (offer : Offer) → slice_get s.holders g ≡ Some h → GoodHolder code (frames_of s.plain g) (record h { fills = fills; offer = offer })
-  same_good g h fills offer e = let x = fine.each g h e in record { core = x.core; fit = x.fit; base_once = x.base_once; shares = x.shares }
+  same_good : (g : ℕ) (h : Holder) (fills : List (Region × ℕ)) (offer : Offer) → slice_get s.holders g ≡ Some h
+      → GoodHolder code (frames_of s.plain g) (record h { fills = fills; offer = offer })
+  same_good g h fills offer e = let x = fine.each g h e in
+      record { core = x.core; fit = x.fit; base_once = x.base_once; shares = x.shares }
 
   fine_page : (g : ℕ) (h : Holder) (r : Region) → slice_get s.holders g ≡ Some h → Fine code (page_taken s g h r)
-  fine_page g h GlobalRegion e = same_stakes g h _ (page_taken s g h GlobalRegion) e refl refl refl refl refl (same_good g h _ h.offer e)
+  fine_page g h GlobalRegion e = same_stakes g h _ (page_taken s g h GlobalRegion) e refl refl refl refl refl
+      (same_good g h _ h.offer e)
   fine_page g h (Numbered r) e =
-      fine_with code s g h (record h { fills = with_fill h.fills (Numbered r) 0 }) (with_info s.regions r one_page_more) fine e (omega (arith, long)) (same_good g h _ h.offer e) (λ q i. let x = fine.made g h q e i in omega (arith, x, long)) (λ q i. let x = fine.pended g h q e i in omega (arith, x, long)) counts
+      fine_with code s g h (record h { fills = with_fill h.fills (Numbered r) 0 }) (with_info s.regions r one_page_more)
+          fine e (omega (arith, long)) (same_good g h _ h.offer e)
+          (λ q i. let x = fine.made g h q e i in omega (arith, x, long))
+          (λ q i. let x = fine.pended g h q e i in omega (arith, x, long)) counts
     where
       long : length (with_info s.regions r one_page_more) ≡ length s.regions
       long = length_with_info s.regions r one_page_more
@@ -66,46 +78,72 @@ module _ (code : Code) (page_words : ℕ) (s : RegionState) (fine : Fine code s)
       the_same : (x y : RegionInfo) → Some x ≡ Some y → x ≡ y
       the_same x y e = cc
 
-      old : (q : ℕ) (info : RegionInfo) → slice_get (with_info s.regions r one_page_more) q ≡ Some info → info.stakes ≡ holders_of s q + pending_of s q
-      old q info i = split (nat_eq r q) (λ t. here t (get_some s.regions q (let x = get_below (with_info s.regions r one_page_more) q info i in omega (arith, x, long)))) (λ n. fine.counted q info (sym (with_info_other s.regions r q one_page_more n) ∙ i))
+      old : (q : ℕ) (info : RegionInfo) → slice_get (with_info s.regions r one_page_more) q ≡ Some info → info.stakes
+          ≡ holders_of s q + pending_of s q
+      old q info i = split (nat_eq r q) (λ t. here t (get_some s.regions q
+          (let x = get_below (with_info s.regions r one_page_more) q info i in omega (arith, x, long))))
+          (λ n. fine.counted q info (sym (with_info_other s.regions r q one_page_more n) ∙ i))
         where
-          here : nat_eq r q ≡ true → (o : RegionInfo) × (slice_get s.regions q ≡ Some o) → info.stakes ≡ holders_of s q + pending_of s q
+          here : nat_eq r q ≡ true → (o : RegionInfo) × (slice_get s.regions q ≡ Some o) → info.stakes
+              ≡ holders_of s q + pending_of s q
           here t (o, p) =
-              let v : Some info ≡ Some (one_page_more o) = sym i ∙ subst (λ x. slice_get (with_info s.regions r one_page_more) x ≡ option_map one_page_more (slice_get s.regions x)) (eq_of r q t) (with_info_same s.regions r one_page_more) ∙ ap (option_map one_page_more) p in
+              let v : Some info ≡ Some (one_page_more o) = sym i
+                  ∙ subst (λ x. slice_get (with_info s.regions r one_page_more) x
+                  ≡ option_map one_page_more (slice_get s.regions x)) (eq_of r q t)
+                  (with_info_same s.regions r one_page_more) ∙ ap (option_map one_page_more) p in
               ap (λ (x : RegionInfo). x.stakes) (the_same info (one_page_more o) v) ∙ fine.counted q o p
 
-      counts : (q : ℕ) (info : RegionInfo) → slice_get (with_info s.regions r one_page_more) q ≡ Some info → info.stakes ≡ total (λ (x : Holder). one_if (is_in q x.stakes)) (slice_set s.holders g (record h { fills = with_fill h.fills (Numbered r) 0 })) + total (λ (x : Holder). times_in q x.pending) (slice_set s.holders g (record h { fills = with_fill h.fills (Numbered r) 0 }))
+      counts : (q : ℕ) (info : RegionInfo) → slice_get (with_info s.regions r one_page_more) q ≡ Some info → info.stakes
+          ≡ total (λ (x : Holder). one_if (is_in q x.stakes))
+          (slice_set s.holders g (record h { fills = with_fill h.fills (Numbered r) 0 })) + total
+          (λ (x : Holder). times_in q x.pending) (slice_set s.holders g
+          (record h { fills = with_fill h.fills (Numbered r) 0 }))
       counts q info i =
-          let a = total_set (λ (x : Holder). one_if (is_in q x.stakes)) s.holders g h (record h { fills = with_fill h.fills (Numbered r) 0 }) e in
-          let b = total_set (λ (x : Holder). times_in q x.pending) s.holders g h (record h { fills = with_fill h.fills (Numbered r) 0 }) e in
+          let a = total_set (λ (x : Holder). one_if (is_in q x.stakes)) s.holders g h
+              (record h { fills = with_fill h.fills (Numbered r) 0 }) e in
+          let b = total_set (λ (x : Holder). times_in q x.pending) s.holders g h
+              (record h { fills = with_fill h.fills (Numbered r) 0 }) e in
           let c = old q info i in
           omega (arith, a, b, c)
 
-  fine_take : (g : ℕ) (h : Holder) (frames : List Frame) → slice_get s.holders g ≡ Some h → Yields (Fine code) (take_page code page_words s g h frames)
+  fine_take : (g : ℕ) (h : Holder) (frames : List Frame) → slice_get s.holders g ≡ Some h
+      → Yields (Fine code) (take_page code page_words s g h frames)
   fine_take g h [] e = yields_none
-  fine_take g h (frame ∷ callers) e = yields_then (page_for code page_words s g h frame) _ (λ i. yields_then (takes_page code page_words s g h) _ (λ r. yields_if _ _ _ (yields (page_taken s g h r) (fine_page g h r e)) yields_none))
+  fine_take g h (frame ∷ callers) e = yields_then (page_for code page_words s g h frame) _
+      (λ i. yields_then (takes_page code page_words s g h) _
+      (λ r. yields_if _ _ _ (yields (page_taken s g h r) (fine_page g h r e)) yields_none))
 
-  fine_offer : (g : ℕ) (h : Holder) (offer : Offer) → slice_get s.holders g ≡ Some h → Yields (Fine code) (Some (attended s g (record h { offer = offer })))
-  fine_offer g h offer e = yields _ (same_stakes g h (record h { offer = offer }) (attended s g (record h { offer = offer })) e refl refl refl refl refl (same_good g h h.fills offer e))
+  fine_offer : (g : ℕ) (h : Holder) (offer : Offer) → slice_get s.holders g ≡ Some h
+      → Yields (Fine code) (Some (attended s g (record h { offer = offer })))
+  fine_offer g h offer e = yields _ (same_stakes g h (record h { offer = offer })
+      (attended s g (record h { offer = offer })) e refl refl refl refl refl (same_good g h h.fills offer e))
 
-  fine_make : (g : ℕ) (h : Holder) (frames : List Frame) → slice_get s.holders g ≡ Some h → Yields (Fine code) (make_offer code s g h frames)
+  fine_make : (g : ℕ) (h : Holder) (frames : List Frame) → slice_get s.holders g ≡ Some h
+      → Yields (Fine code) (make_offer code s g h frames)
   fine_make g h [] e = yields_none
-  fine_make g h (frame ∷ callers) e = yields_if _ _ _ (yields_then (offer_for s g h frame) _ (λ i. yields_then (offered s g h) _ (λ o. yields_if _ _ _ yields_none (fine_offer g h (Standing o) e)))) yields_none
+  fine_make g h (frame ∷ callers) e = yields_if _ _ _ (yields_then (offer_for s g h frame) _
+      (λ i. yields_then (offered s g h) _ (λ o. yields_if _ _ _ yields_none (fine_offer g h (Standing o) e))))
+      yields_none
 
-  fine_acknowledge : (g : ℕ) (h : Holder) (o : Offer) → slice_get s.holders g ≡ Some h → Yields (Fine code) (acknowledge s g h o)
+  fine_acknowledge : (g : ℕ) (h : Holder) (o : Offer) → slice_get s.holders g ≡ Some h
+      → Yields (Fine code) (acknowledge s g h o)
   fine_acknowledge g h NoOffer e = yields_none
   fine_acknowledge g h (Standing o) e = yields_none
   fine_acknowledge g h (Taken o) e = yields_if _ _ _ (fine_offer g h NoOffer e) yields_none
 
   fine_finish : (limit : Limit) → Fine code (finished s limit)
-  fine_finish limit = record { as_many = fine.as_many; each = fine.each; counted = fine.counted; made = fine.made; pended = fine.pended }
+  fine_finish limit = record { as_many = fine.as_many; each = fine.each; counted = fine.counted; made =
+      fine.made; pended = fine.pended }
 
   fine_attend : (g : ℕ) → Yields (Fine code) (region_step code page_words s (Attend g))
-  fine_attend g = yields_at (slice_get s.holders g) (λ (h : Holder). attend s g h h.duties) (λ h e. by h e h.duties refl)
+  fine_attend g = yields_at (slice_get s.holders g) (λ (h : Holder). attend s g h h.duties)
+      (λ h e. by h e h.duties refl)
     where
-      by : (h : Holder) → slice_get s.holders g ≡ Some h → (ds : List Duty) → h.duties ≡ ds → Yields (Fine code) (attend s g h h.duties)
+      by : (h : Holder) → slice_get s.holders g ≡ Some h → (ds : List Duty) → h.duties ≡ ds
+          → Yields (Fine code) (attend s g h h.duties)
       by h e [] q = subst (λ x. Yields (Fine code) (attend s g h x)) (sym q) yields_none
-      by h e (d ∷ ds) q = split (may_go h.offer) (λ t. does t) (λ n. subst (λ x. Yields (Fine code) (attend s g h x)) (sym q) (none n))
+      by h e (d ∷ ds) q = split (may_go h.offer) (λ t. does t)
+          (λ n. subst (λ x. Yields (Fine code) (attend s g h x)) (sym q) (none n))
         where
           none : may_go h.offer ≡ false → Yields (Fine code) (attend s g h (d ∷ ds))
           none n = stuck (may_go h.offer) _ n
@@ -117,7 +155,8 @@ module _ (code : Code) (page_words : ℕ) (s : RegionState) (fine : Fine code s)
           does : may_go h.offer ≡ true → Yields (Fine code) (attend s g h h.duties)
           does t =
               let x = duties_go code page_words s g h fine e (λ z. some_none (sym q ∙ z)) t in
-              let y : attend s g h h.duties ≡ Some x.0 = sym (ap (option_and_then (λ (k : Holder). attend s g k k.duties)) e) ∙ x.1 in
+              let y : attend s g h h.duties ≡ Some x.0 = sym (ap
+                  (option_and_then (λ (k : Holder). attend s g k k.duties)) e) ∙ x.1 in
               subst (λ o. Yields (Fine code) o) (sym y) (yields x.0 x.2)
             where
               some_none : d ∷ ds ≡ [] → ⊥
@@ -134,26 +173,37 @@ module _ (code : Code) (page_words : ℕ) (s : RegionState) (fine : Fine code s)
       by (Print pieces from removes) is = simple (Print pieces from removes) is tt
       by (Jump j removes) is = simple (Jump j removes) is tt
       by (Branch v j removes k others) is = simple (Branch v j removes k others) is tt
-      by (Call to n from passes protects removes) is = fine_call code page_words s t g x to n from passes protects removes checked written fine is
+      by (Call to n from passes protects removes) is = fine_call code page_words s t g x to n from passes protects
+          removes checked written fine is
       by (Return value) is = fine_return code page_words s t g x value checked written fine is
-      by (Go n from passes removes) is = fine_start_of code page_words s t g x n from passes removes checked written fine is
+      by (Go n from passes removes) is = fine_start_of code page_words s t g x n from passes removes checked written
+          fine is
 
-  pub fine_step : (event : Event) → IsChecked code → Ascends code → Yields (Fine code) (region_step code page_words s event)
-  fine_step (Instruct (One g)) checked written = yields_from _ (one_done code page_words s g) (λ t x. fine_one t g x checked written)
-  fine_step (Instruct (Meet r u)) checked written = yields_from _ (meet_done code page_words s r u) (λ t x. fine_meet code s t r u fine (ruled code checked written) x)
+  pub fine_step : (event : Event) → IsChecked code → Ascends code
+      → Yields (Fine code) (region_step code page_words s event)
+  fine_step (Instruct (One g)) checked written = yields_from _ (one_done code page_words s g)
+      (λ t x. fine_one t g x checked written)
+  fine_step (Instruct (Meet r u)) checked written = yields_from _ (meet_done code page_words s r u)
+      (λ t x. fine_meet code s t r u fine (ruled code checked written) x)
   fine_step (Attend g) checked written = fine_attend g
-  fine_step (TakePage g) checked written = yields_at (slice_get s.holders g) (λ h. take_page code page_words s g h (frames_of s.plain g)) (λ h e. fine_take g h (frames_of s.plain g) e)
-  fine_step (MakeOffer g) checked written = yields_at (slice_get s.holders g) (λ h. make_offer code s g h (frames_of s.plain g)) (λ h e. fine_make g h (frames_of s.plain g) e)
-  fine_step (Acknowledge g) checked written = yields_at (slice_get s.holders g) (λ (h : Holder). acknowledge s g h h.offer) (λ h e. fine_acknowledge g h h.offer e)
+  fine_step (TakePage g) checked written = yields_at (slice_get s.holders g)
+      (λ h. take_page code page_words s g h (frames_of s.plain g)) (λ h e. fine_take g h (frames_of s.plain g) e)
+  fine_step (MakeOffer g) checked written = yields_at (slice_get s.holders g)
+      (λ h. make_offer code s g h (frames_of s.plain g)) (λ h e. fine_make g h (frames_of s.plain g) e)
+  fine_step (Acknowledge g) checked written = yields_at (slice_get s.holders g)
+      (λ (h : Holder). acknowledge s g h h.offer) (λ h e. fine_acknowledge g h h.offer e)
   fine_step (Finish limit) checked written = yields _ (fine_finish limit)
 
 -- ---- the start
 
 -- the first function named `main` begins
-first_main : (fs : List TacFn) (m n : ℕ) (f : TacFn) → slice_get fs m ≡ Some f → bytes_eq f.name (codes "main") ≡ true → ((k : ℕ) (g : TacFn) → k < m → slice_get fs k ≡ Some g → bytes_eq g.name (codes "main") ≡ false) → main_frames fs n ≡ called f (n + m) [] ∷ []
+first_main : (fs : List TacFn) (m n : ℕ) (f : TacFn) → slice_get fs m ≡ Some f → bytes_eq f.name (codes "main") ≡ true
+    → ((k : ℕ) (g : TacFn) → k < m → slice_get fs k ≡ Some g → bytes_eq g.name (codes "main") ≡ false)
+    → main_frames fs n ≡ called f (n + m) [] ∷ []
 first_main [] m n f e t b = cc
 first_main (g ∷ fs) zero n f e t b =
-    ap (λ x. if x then called g n [] ∷ [] else main_frames fs (suc n)) (ap (λ (x : TacFn). bytes_eq x.name (codes "main")) (the_same g f e) ∙ t)
+    ap (λ x. if x then called g n [] ∷ [] else main_frames fs (suc n))
+        (ap (λ (x : TacFn). bytes_eq x.name (codes "main")) (the_same g f e) ∙ t)
     ∙ ap (λ (x : TacFn). called x n [] ∷ []) (the_same g f e)
     ∙ ap (λ k. called f k [] ∷ []) (add_zero n)
   where
@@ -190,7 +240,10 @@ main_of code checked =
       named = named;
       no_params = sym (ap (λ (f : TacFn). f.params) there.2) ∙ has.no_params;
       no_result = without_type there.0.result (sym (ap (λ (f : TacFn). f.result_type) there.2) ∙ has.no_result);
-      begins = first_main (erased code).functions has.number 0 has.main has.declared ((bytes_eq-Decides has.main.name (codes "main")).1 has.named) before ∙ ap (λ f. called f (0 + has.number) [] ∷ []) there.2 ∙ ap (λ n. called (erased_fn there.0) n [] ∷ []) (zero_add has.number);
+      begins = first_main (erased code).functions has.number 0 has.main has.declared
+          ((bytes_eq-Decides has.main.name (codes "main")).1 has.named) before
+          ∙ ap (λ f. called f (0 + has.number) [] ∷ []) there.2
+          ∙ ap (λ n. called (erased_fn there.0) n [] ∷ []) (zero_add has.number);
     }
   where
     has : HasMain (erased code)
@@ -200,13 +253,17 @@ main_of code checked =
     zero_add n = omega arith
 
     there : (f : CodeFn) × (slice_get code.functions has.number ≡ Some f) × (has.main ≡ erased_fn f)
-    there = unmapped (slice_get code.functions has.number) refl (sym (slice_get-map erased_fn code.functions has.number) ∙ has.declared)
+    there = unmapped (slice_get code.functions has.number) refl
+        (sym (slice_get-map erased_fn code.functions has.number) ∙ has.declared)
       where
         the_same : (x y : TacFn) → Some x ≡ Some y → x ≡ y
         the_same x y e = cc
 
-        unmapped : (o : Option CodeFn) → slice_get code.functions has.number ≡ o → option_map erased_fn (slice_get code.functions has.number) ≡ Some has.main → (f : CodeFn) × (slice_get code.functions has.number ≡ Some f) × (has.main ≡ erased_fn f)
-        unmapped None q e = let x : option_map erased_fn None ≡ Some has.main = ap (option_map erased_fn) (sym q) ∙ e in cc
+        unmapped : (o : Option CodeFn) → slice_get code.functions has.number ≡ o
+            → option_map erased_fn (slice_get code.functions has.number) ≡ Some has.main → (f : CodeFn)
+            × (slice_get code.functions has.number ≡ Some f) × (has.main ≡ erased_fn f)
+        unmapped None q e = let x : option_map erased_fn None ≡ Some has.main = ap (option_map erased_fn) (sym q) ∙ e in
+            cc
         unmapped (Some f) q e = (f, q, the_same has.main (erased_fn f) (sym e ∙ ap (option_map erased_fn) q))
 
     named : there.0.name ≡ codes "main"
@@ -216,13 +273,18 @@ main_of code checked =
     without_type None e = refl
     without_type (Some s) e = cc
 
-    names_at : (k : ℕ) (f : TacFn) → slice_get (erased code).functions k ≡ Some f → slice_get (map (λ (f : TacFn). f.name) (erased code).functions) k ≡ Some f.name
-    names_at k f q = slice_get-map (λ (f : TacFn). f.name) (erased code).functions k ∙ ap (option_map (λ (f : TacFn). f.name)) q
+    names_at : (k : ℕ) (f : TacFn) → slice_get (erased code).functions k ≡ Some f
+        → slice_get (map (λ (f : TacFn). f.name) (erased code).functions) k ≡ Some f.name
+    names_at k f q = slice_get-map (λ (f : TacFn). f.name) (erased code).functions k
+        ∙ ap (option_map (λ (f : TacFn). f.name)) q
 
-    before : (k : ℕ) (f : TacFn) → k < has.number → slice_get (erased code).functions k ≡ Some f → bytes_eq f.name (codes "main") ≡ false
+    before : (k : ℕ) (f : TacFn) → k < has.number → slice_get (erased code).functions k ≡ Some f
+        → bytes_eq f.name (codes "main") ≡ false
     before k f l q =
         split (bytes_eq f.name (codes "main"))
-        (λ t. absurd ((checked rule.Exists (line.Function has.number) there.0 there.1).is_new k (codes "main") l (names_at has.number has.main has.declared ∙ ap Some has.named) (names_at k f q ∙ ap Some ((bytes_eq-Decides f.name (codes "main")).0 t))))
+        (λ t. absurd ((checked rule.Exists (line.Function has.number) there.0 there.1).is_new k (codes "main") l
+            (names_at has.number has.main has.declared ∙ ap Some has.named)
+            (names_at k f q ∙ ap Some ((bytes_eq-Decides f.name (codes "main")).0 t))))
         (λ n. n)
 
 no_elements : (ks : List ℕ) → ((k : ℕ) → Contains ks k → ⊥) → ks ≡ []
@@ -255,22 +317,32 @@ fine_start code checked written =
     enters_rightly = checked rule.Removals (line.Entry start.number) start.main start.declared
 
     no_entry : start.main.entry ≡ []
-    no_entry = no_elements start.main.entry (λ k c. contains_nil (Name k) (subst (λ n. Contains (parameter_classes n start.main.variables) (Name k)) start.no_params ((enters_rightly k).0 c).1))
+    no_entry = no_elements start.main.entry (λ k c. contains_nil (Name k)
+        (subst (λ n. Contains (parameter_classes n start.main.variables) (Name k)) start.no_params
+        ((enters_rightly k).0 c).1))
 
     ready : IsReady (IsFree start.main 0) (Settled start.main 0 first.0) (duties_before (Some first.0)) [] []
     ready =
-        subst (λ x. IsReady (IsFree start.main 0) (Settled start.main 0 first.0) (map Remove x ++ duties_before (Some first.0)) [] []) no_entry
-        (enters code start.main first.0 [] ((ruled code checked written).kept start.number 0 start.main first.0 start.declared first.1) enters_rightly (checked rule.Entry (line.Entry start.number) start.main start.declared) (ascending_distinct start.main.entry (written start.number start.main start.declared).entry)
+        subst (λ x. IsReady (IsFree start.main 0) (Settled start.main 0 first.0)
+            (map Remove x ++ duties_before (Some first.0)) [] []) no_entry
+        (enters code start.main first.0 [] ((ruled code checked written).kept start.number 0 start.main first.0
+            start.declared first.1) enters_rightly (checked rule.Entry (line.Entry start.number) start.main
+            start.declared) (ascending_distinct start.main.entry (written start.number start.main start.declared).entry)
         (λ k p. absurd (no_parameter k p)) (λ k r. absurd (clash k r)) (λ k o n. refl))
       where
         clash : (k : ℕ) → result_class start.main ≡ Name k → ⊥
         clash k r = let x : NoClass ≡ Name k = no_result ∙ r in cc
 
-    good : GoodHolder code (called (erased_fn start.main) start.number [] ∷ []) (main_holder code (called (erased_fn start.main) start.number [] ∷ []))
+    good : GoodHolder code (called (erased_fn start.main) start.number [] ∷ [])
+        (main_holder code (called (erased_fn start.main) start.number [] ∷ []))
     good =
         record {
-          core = record { unique = (tt, tt); staked = ((λ k r b. cc), (λ r i. absurd (true≢false (sym i))), tt); based = λ r i. absurd (true≢false (sym i)); once = λ r i. absurd (true≢false (sym i)); lent = ((λ k r l b u. cc), tt) };
-          fit = (record { fn = start.main; is_fn = start.declared; instr = first.0; is_instr = first.1; lends = no_result; ready = subst (λ x. IsReady (IsFree start.main 0) (Settled start.main 0 first.0) (duties_before x) [] []) (sym cur) ready }, tt);
+          core = record { unique = (tt, tt); staked = ((λ k r b. cc), (λ r i. absurd (true≢false (sym i))), tt); based =
+              λ r i. absurd (true≢false (sym i)); once = λ r i. absurd (true≢false (sym i)); lent =
+              ((λ k r l b u. cc), tt) };
+          fit = (record { fn = start.main; is_fn = start.declared; instr = first.0; is_instr = first.1; lends =
+              no_result; ready = subst (λ x. IsReady (IsFree start.main 0) (Settled start.main 0 first.0)
+              (duties_before x) [] []) (sym cur) ready }, tt);
           base_once = tt;
           shares = shares_next code (called (erased_fn start.main) start.number [] ∷ []) [] tt [];
         }
@@ -278,23 +350,30 @@ fine_start code checked written =
         cur : current code (called (erased_fn start.main) start.number []) ≡ Some first.0
         cur = ap (λ o. current_in o 0) start.declared ∙ first.1
 
-    start_good : GoodHolder code (frames_of (tac_start (erased code)) 0) (main_holder code (frames_of (tac_start (erased code)) 0))
+    start_good : GoodHolder code (frames_of (tac_start (erased code)) 0)
+        (main_holder code (frames_of (tac_start (erased code)) 0))
     start_good = subst (λ x. GoodHolder code x (main_holder code x)) (sym start.begins) good
 
     the_same : (x y : Holder) → Some x ≡ Some y → x ≡ y
     the_same x y e = cc
 
-    each : (g : ℕ) (h : Holder) → slice_get (region_start code).holders g ≡ Some h → GoodHolder code (frames_of (tac_start (erased code)) g) h
+    each : (g : ℕ) (h : Holder) → slice_get (region_start code).holders g ≡ Some h
+        → GoodHolder code (frames_of (tac_start (erased code)) g) h
     each zero h q = subst (λ x. GoodHolder code (frames_of (tac_start (erased code)) 0) x) (the_same _ h q) start_good
     each (suc g) h q = cc
 
-    unstaked : (g : ℕ) (h : Holder) (r : ℕ) → slice_get (region_start code).holders g ≡ Some h → is_in r h.stakes ≡ true → r < 0
+    unstaked : (g : ℕ) (h : Holder) (r : ℕ) → slice_get (region_start code).holders g ≡ Some h → is_in r h.stakes ≡ true
+        → r < 0
     unstaked zero h r q i = absurd (true≢false (sym (ap (λ (x : Holder). is_in r x.stakes) (the_same _ h q) ∙ i)))
     unstaked (suc g) h r q i = cc
 
-    unpended : (g : ℕ) (h : Holder) (r : ℕ) → slice_get (region_start code).holders g ≡ Some h → 0 < times_in r h.pending → r < 0
-    unpended zero h r q i = let x : 0 ≡ times_in r h.pending = ap (λ (x : Holder). times_in r x.pending) (the_same _ h q) in absurd (omega (arith, x, i))
+    unpended : (g : ℕ) (h : Holder) (r : ℕ) → slice_get (region_start code).holders g ≡ Some h
+        → 0 < times_in r h.pending → r < 0
+    unpended zero h r q i = let x : 0 ≡ times_in r h.pending =
+        ap (λ (x : Holder). times_in r x.pending) (the_same _ h q) in absurd (omega (arith, x, i))
     unpended (suc g) h r q i = cc
 
 pub runs_are_fine : RunsAreFine
-runs_are_fine code page_words events s checked written r = run_keeps code page_words (Fine code) (λ t e fine. fine_step code page_words t fine e checked written) events (region_start code) s (fine_start code checked written) r
+runs_are_fine code page_words events s checked written r =
+    run_keeps code page_words (Fine code) (λ t e fine. fine_step code page_words t fine e checked written) events
+    (region_start code) s (fine_start code checked written) r

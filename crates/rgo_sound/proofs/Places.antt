@@ -1,6 +1,7 @@
 -- Lists by number: what stands at a place after a write, in a longer list, and of each.
 use Rattle.std.proofs.Common.{◌≡◌, ℕ, zero, suc, ◌+◌, ◌≤◌, ◌<◌, false, List, [], ◌∷◌, ◌++◌, length, Some, None}
-use Rattle.std.proofs.Common.{refl, ap, subst, nat_eq, arith, ◌⊎◌, inl, inr, slice_get, slice_set, slice_index, replicate}
+use Rattle.std.proofs.Common.{refl, ap, subst, nat_eq, arith, ◌⊎◌, inl, inr, slice_get, slice_set, slice_index}
+use Rattle.std.proofs.Common.{replicate}
 use Rattle.std.specs.List.{Contains}
 use Rattle.std.specs.List.Sorted.{IsStrictlyIncreasing}
 use Rattle.std.proofs.lemmas.List.Kept.{AllPairs-from_increasing}
@@ -8,12 +9,14 @@ use Rattle.rgo_sound.specs.Types.{Each}
 
 -- ---- after a write
 
-pub get_set_same : {X : Type 0} (xs : List X) (i : ℕ) (u v : X) → slice_get xs i ≡ Some u → slice_get (slice_set xs i v) i ≡ Some v
+pub get_set_same : {X : Type 0} (xs : List X) (i : ℕ) (u v : X) → slice_get xs i ≡ Some u
+    → slice_get (slice_set xs i v) i ≡ Some v
 get_set_same [] i u v h = cc
 get_set_same (x ∷ xs) zero u v h = refl
 get_set_same (x ∷ xs) (suc i) u v h = get_set_same xs i u v h
 
-pub get_set_other : {X : Type 0} (xs : List X) (i j : ℕ) (v : X) → nat_eq i j ≡ false → slice_get (slice_set xs i v) j ≡ slice_get xs j
+pub get_set_other : {X : Type 0} (xs : List X) (i j : ℕ) (v : X) → nat_eq i j ≡ false → slice_get (slice_set xs i v) j
+    ≡ slice_get xs j
 get_set_other [] i j v h = refl
 get_set_other (x ∷ xs) zero zero v h = absurd (omega (arith, zero_not h))
   where
@@ -41,13 +44,15 @@ get_some [] i h = absurd (omega (arith, h))
 get_some (y ∷ ys) zero h = (y, refl)
 get_some (y ∷ ys) (suc i) h = get_some ys i (omega (arith, h))
 
-pub get_snoc : {X : Type 0} (xs : List X) (x : X) (i : ℕ) (y : X) → slice_get (xs ++ x ∷ []) i ≡ Some y → (slice_get xs i ≡ Some y) ⊎ ((i ≡ length xs) × (y ≡ x))
+pub get_snoc : {X : Type 0} (xs : List X) (x : X) (i : ℕ) (y : X) → slice_get (xs ++ x ∷ []) i ≡ Some y
+    → (slice_get xs i ≡ Some y) ⊎ ((i ≡ length xs) × (y ≡ x))
 get_snoc [] x zero y h = inr (refl, cc)
 get_snoc [] x (suc i) y h = cc
 get_snoc (z ∷ zs) x zero y h = inl h
 get_snoc (z ∷ zs) x (suc i) y h = go (get_snoc zs x i y h)
   where
-    go : (slice_get zs i ≡ Some y) ⊎ ((i ≡ length zs) × (y ≡ x)) → (slice_get zs i ≡ Some y) ⊎ ((suc i ≡ length (z ∷ zs)) × (y ≡ x))
+    go : (slice_get zs i ≡ Some y) ⊎ ((i ≡ length zs) × (y ≡ x)) → (slice_get zs i ≡ Some y)
+        ⊎ ((suc i ≡ length (z ∷ zs)) × (y ≡ x))
     go (inl e) = inl e
     go (inr (e, f)) = inr (omega (arith, e), f)
 
@@ -64,21 +69,25 @@ get_append_last [] y (suc i) e = absurd (omega (arith, e))
 get_append_last (x ∷ xs) y zero e = absurd (omega (arith, e))
 get_append_last (x ∷ xs) y (suc i) e = get_append_last xs y i (omega (arith, e))
 
-pub get_append_cases : {X : Type 0} (xs ys : List X) (i : ℕ) (x : X) → slice_get (xs ++ ys) i ≡ Some x → (slice_get xs i ≡ Some x) ⊎ ((j : ℕ) × (slice_get ys j ≡ Some x))
+pub get_append_cases : {X : Type 0} (xs ys : List X) (i : ℕ) (x : X) → slice_get (xs ++ ys) i ≡ Some x
+    → (slice_get xs i ≡ Some x) ⊎ ((j : ℕ) × (slice_get ys j ≡ Some x))
 get_append_cases [] ys i x e = inr (i, e)
 get_append_cases (y ∷ xs) ys zero x e = inl e
 get_append_cases (y ∷ xs) ys (suc i) x e = get_append_cases xs ys i x e
 
-pub get_append_place : {X : Type 0} (xs ys : List X) (i : ℕ) (x : X) → slice_get (xs ++ ys) i ≡ Some x → (slice_get xs i ≡ Some x) ⊎ ((j : ℕ) × (i ≡ length xs + j) × (slice_get ys j ≡ Some x))
+pub get_append_place : {X : Type 0} (xs ys : List X) (i : ℕ) (x : X) → slice_get (xs ++ ys) i ≡ Some x
+    → (slice_get xs i ≡ Some x) ⊎ ((j : ℕ) × (i ≡ length xs + j) × (slice_get ys j ≡ Some x))
 get_append_place [] ys i x e = inr (i, omega arith, e)
 get_append_place (y ∷ xs) ys zero x e = inl e
 get_append_place (y ∷ xs) ys (suc i) x e = go (get_append_place xs ys i x e)
   where
-    go : (slice_get xs i ≡ Some x) ⊎ ((j : ℕ) × (i ≡ length xs + j) × (slice_get ys j ≡ Some x)) → (slice_get xs i ≡ Some x) ⊎ ((j : ℕ) × (suc i ≡ length (y ∷ xs) + j) × (slice_get ys j ≡ Some x))
+    go : (slice_get xs i ≡ Some x) ⊎ ((j : ℕ) × (i ≡ length xs + j) × (slice_get ys j ≡ Some x))
+        → (slice_get xs i ≡ Some x) ⊎ ((j : ℕ) × (suc i ≡ length (y ∷ xs) + j) × (slice_get ys j ≡ Some x))
     go (inl e) = inl e
     go (inr (j, l, e)) = inr (j, omega (arith, l), e)
 
-pub get_append_right : {X : Type 0} (xs ys : List X) (i j : ℕ) → i ≡ length xs + j → slice_get (xs ++ ys) i ≡ slice_get ys j
+pub get_append_right : {X : Type 0} (xs ys : List X) (i j : ℕ) → i ≡ length xs + j → slice_get (xs ++ ys) i
+    ≡ slice_get ys j
 get_append_right [] ys i j e = ap (slice_get ys) (omega (arith, e))
 get_append_right (x ∷ xs) ys zero j e = absurd (omega (arith, e))
 get_append_right (x ∷ xs) ys (suc i) j e = get_append_right xs ys i j (omega (arith, e))

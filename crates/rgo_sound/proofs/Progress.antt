@@ -1,5 +1,9 @@
--- No step is missing: where the three-address machine has an instruction's step, the region machine has one after some region steps.
-use Rattle.std.proofs.Common.{◌≡◌, ◌≢◌, ℕ, zero, suc, ◌+◌, ◌<◌, Bool, true, false, not, ◌&&◌, ◌||◌, List, [], ◌∷◌, map, length, Option, Some, None, IsSome, refl, sym, ap, ◌∙◌, subst, nat_eq, nat_le, if◌then◌else◌, arith, true≢false, slice_get, slice_set, option_map, option_and_then, inr, rules}
+-- No step is missing: where the three-address machine has an instruction's step, the region machine has one after some
+-- region steps.
+use Rattle.std.proofs.Common.{◌≡◌, ◌≢◌, ℕ, zero, suc, ◌+◌, ◌<◌, Bool, true, false, not, ◌&&◌, ◌||◌, List, [], ◌∷◌, map}
+use Rattle.std.proofs.Common.{length, Option, Some, None, IsSome, refl, sym, ap, ◌∙◌, subst, nat_eq, nat_le}
+use Rattle.std.proofs.Common.{if◌then◌else◌, arith, true≢false, slice_get, slice_set, option_map, option_and_then, inr}
+use Rattle.std.proofs.Common.{rules}
 use Rattle.std.specs.List.{list_any}
 use Rattle.std.proofs.lemmas.Bool.Decides.{nat_tests}
 use Rattle.rgo_sound.proofs.Places.{get_below, get_beyond, get_set_other, get_set_same, get_some}
@@ -10,7 +14,8 @@ use Rattle.rgo_sound.proofs.Static.{named_bound}
 use Rattle.rgo_sound.proofs.Attends.{total_set, staked_live, duties_go, same_reflexive}
 use Rattle.rgo_sound.proofs.TypedSteps.{here, one_object}
 use Rattle.rgo_sound.proofs.ValueSteps.{Top, top_of}
-use Rattle.rgo_sound.proofs.Offers.{all_good_step, runs_all_good, touched_home, class_has_stake, at_send, alone_steady, SteadyActed, makes_at, making_class}
+use Rattle.rgo_sound.proofs.Offers.{all_good_step, runs_all_good, touched_home, class_has_stake, at_send, alone_steady}
+use Rattle.rgo_sound.proofs.Offers.{SteadyActed, makes_at, making_class}
 use Rattle.rgo_code.specs.Checked.{IsChecked}
 use Rattle.rgo_code.specs.Code.{Branch, Call, Code, CodeInstr, CodeOp, Do, Go, Jump, Print, Return, Slot}
 use Rattle.rgo_code.specs.Erasure.{erased, erased_fn, erased_instr, erased_op}
@@ -18,7 +23,8 @@ use Rattle.rgo_code.specs.Exists.{Uses}
 use Rattle.rgo_code.specs.NameRules.{Ascends}
 use Rattle.rgo_code.specs.Names.{Names, class_of, slot_class}
 use Rattle.rgo_code.specs.Types.{DoFits, HasType, OpFits}
-use Rattle.rgo_machine.specs.Machines.{AtCall, AtClose, AtReceive, AtSend, AtStart, Elsewhere, Stand, alone as machine_alone, meet, met, met_by, picked}
+use Rattle.rgo_machine.specs.Machines.{AtCall, AtClose, AtReceive, AtSend, AtStart, Elsewhere, Stand}
+use Rattle.rgo_machine.specs.Machines.{alone as machine_alone, meet, met, met_by, picked}
 use Rattle.rgo_machine.specs.Machines.{unless_ended}
 use Rattle.rgo_machine.specs.Runs.{run}
 use Rattle.rgo_machine.specs.declared.picks.End.{End}
@@ -29,11 +35,14 @@ use Rattle.rgo_memory.specs.Memory.{Object}
 use Rattle.rgo_memory.specs.declared.values.Value.{Value}
 use Rattle.rgo_region_machine.specs.Duties.{attend, attended, duty_done, may_go, protected, removal, shared}
 use Rattle.rgo_region_machine.specs.Duties.{unprotected, with_protection}
-use Rattle.rgo_region_machine.specs.Instructions.{both_instructed, has_none, instruct, instructed, instructed_at, instructed_with}
+use Rattle.rgo_region_machine.specs.Instructions.{both_instructed, has_none, instruct, instructed, instructed_at}
+use Rattle.rgo_region_machine.specs.Instructions.{instructed_with}
 use Rattle.rgo_region_machine.specs.Instructions.{is_ready, one_instructed, some_instructed, standing_at, touches}
 use Rattle.rgo_region_machine.specs.Machine.{Acknowledge, Attend, Event, Instruct, MakeOffer, TakePage, next_object}
-use Rattle.rgo_region_machine.specs.Machine.{object_made, page_for, page_taken, plain_step, region_step, take_page, takes_page}
-use Rattle.rgo_region_machine.specs.Objects.{allotted, fill_of, fits, makes_object, making_region, may_touch, new_object}
+use Rattle.rgo_region_machine.specs.Machine.{object_made, page_for, page_taken, plain_step, region_step, take_page}
+use Rattle.rgo_region_machine.specs.Machine.{takes_page}
+use Rattle.rgo_region_machine.specs.Objects.{allotted, fill_of, fits, makes_object, making_region, may_touch}
+use Rattle.rgo_region_machine.specs.Objects.{new_object}
 use Rattle.rgo_region_machine.specs.Objects.{owner_live, placed, target_class, touched, wants_page, with_fill, words}
 use Rattle.rgo_region_machine.specs.Offers.{acknowledge, make_offer, offer_at, offer_for, offered, offered_channel}
 use Rattle.rgo_region_machine.specs.Offers.{offers_on, open_channel}
@@ -70,14 +79,17 @@ use Rattle.rgo_memory.specs.declared.values.Value.TheVariants as value
 
 -- ---- the steps of the three-address machine
 
-running_of : (code : Code) (p : TacState) (pick : Pick) (next : TacState) → plain_step code p pick ≡ Some next → p.ended ≡ None
+running_of : (code : Code) (p : TacState) (pick : Pick) (next : TacState) → plain_step code p pick ≡ Some next → p.ended
+    ≡ None
 running_of code p pick next e = go p.ended refl e
   where
-    go : (ended : Option End) → p.ended ≡ ended → unless_ended ended (picked (tac (erased code)) p pick) ≡ Some next → p.ended ≡ None
+    go : (ended : Option End) → p.ended ≡ ended → unless_ended ended (picked (tac (erased code)) p pick) ≡ Some next
+        → p.ended ≡ None
     go None q e = q
     go (Some end) q e = cc
 
-one_step : (code : Code) (p : TacState) (g : ℕ) (frames : List Frame) → p.ended ≡ None → slice_get p.goroutines g ≡ Some frames → plain_step code p (One g) ≡ option_map (after p g) (alone (erased code) p.memory frames)
+one_step : (code : Code) (p : TacState) (g : ℕ) (frames : List Frame) → p.ended ≡ None → slice_get p.goroutines g
+    ≡ Some frames → plain_step code p (One g) ≡ option_map (after p g) (alone (erased code) p.memory frames)
 one_step code p g frames running at =
     ap (λ e. unless_ended e (picked (tac (erased code)) p (One g))) running
     ∙ ap (option_and_then (machine_alone (tac (erased code)) p g)) at
@@ -99,24 +111,38 @@ record Attended (s : RegionState) (g : ℕ) (k : Holder) (t : RegionState) : Typ
   duties : after.duties ≡ k.duties
   offer : after.offer ≡ k.offer
 
-same_attended : (s : RegionState) (g : ℕ) (k after : Holder) (t : RegionState) → t.plain ≡ s.plain → t.holders ≡ slice_set s.holders g after → after.duties ≡ k.duties → after.offer ≡ k.offer → Yields (Attended s g k) (Some t)
+same_attended : (s : RegionState) (g : ℕ) (k after : Holder) (t : RegionState) → t.plain ≡ s.plain → t.holders
+    ≡ slice_set s.holders g after → after.duties ≡ k.duties → after.offer ≡ k.offer → Yields (Attended s g k) (Some t)
 same_attended s g k after t p h d o = yields t (record { after = after; plain = p; holders = h; duties = d; offer = o })
 
 module _ (s : RegionState) (g : ℕ) (k : Holder) where
-  removal_attends : (after : Holder) (q : Region) → after.duties ≡ k.duties → after.offer ≡ k.offer → Yields (Attended s g k) (removal s g after q)
+  removal_attends : (after : Holder) (q : Region) → after.duties ≡ k.duties → after.offer ≡ k.offer
+      → Yields (Attended s g k) (removal s g after q)
   removal_attends after GlobalRegion d o = same_attended s g k after _ refl refl d o
-  removal_attends after (Numbered r) d o = yields_if _ _ _ (yields_if _ _ _ (same_attended s g k after _ refl refl d o) (same_attended s g k (record after { stakes = without r after.stakes }) _ refl refl d o)) yields_none
+  removal_attends after (Numbered r) d o = yields_if _ _ _
+      (yields_if _ _ _ (same_attended s g k after _ refl refl d o)
+      (same_attended s g k (record after { stakes = without r after.stakes }) _ refl refl d o)) yields_none
 
   share_attends : (q : Region) → Yields (Attended s g k) (shared s g k q)
   share_attends GlobalRegion = same_attended s g k k _ refl refl refl refl
-  share_attends (Numbered r) = yields_if _ _ _ (yields_if _ _ _ (same_attended s g k k _ refl refl refl refl) (same_attended s g k (record k { pending = r ∷ k.pending }) _ refl refl refl refl)) yields_none
+  share_attends (Numbered r) = yields_if _ _ _ (yields_if _ _ _ (same_attended s g k k _ refl refl refl refl)
+      (same_attended s g k (record k { pending = r ∷ k.pending }) _ refl refl refl refl)) yields_none
 
   done_attends : (d : Duty) → Yields (Attended s g k) (duty_done s g k d)
-  done_attends (Create n) = same_attended s g k (record k { stakes = length s.regions ∷ k.stakes; environments = with_top k.environments ((n, Numbered (length s.regions)) ∷ unbind (top_names k.environments) n) }) _ refl refl refl refl
+  done_attends (Create n) = same_attended s g k (record k
+      { stakes = length s.regions ∷ k.stakes; environments =
+      with_top k.environments ((n, Numbered (length s.regions)) ∷ unbind (top_names k.environments) n) }) _ refl refl
+      refl refl
   done_attends (Share n) = yields_then (shared s g k) _ share_attends
-  done_attends (Protect n) = yields_then (protected s g k) _ (λ q. yields_if _ _ _ (same_attended s g k (record k { environments = with_protection k.environments q }) _ refl refl refl refl) yields_none)
-  done_attends (Unprotect n) = yields_then (λ q. Some (attended s g (unprotected k q))) _ (λ q. same_attended s g k (unprotected k q) _ refl refl refl refl)
-  done_attends (Remove n) = yields_then (removal s g (record k { environments = with_top k.environments (unbind (top_names k.environments) n) })) _ (λ q. removal_attends (record k { environments = with_top k.environments (unbind (top_names k.environments) n) }) q refl refl)
+  done_attends (Protect n) = yields_then (protected s g k) _
+      (λ q. yields_if _ _ _ (same_attended s g k (record k { environments = with_protection k.environments q }) _ refl
+      refl refl refl) yields_none)
+  done_attends (Unprotect n) = yields_then (λ q. Some (attended s g (unprotected k q))) _
+      (λ q. same_attended s g k (unprotected k q) _ refl refl refl refl)
+  done_attends (Remove n) = yields_then (removal s g (record k
+      { environments = with_top k.environments (unbind (top_names k.environments) n) })) _
+      (λ q. removal_attends (record k { environments = with_top k.environments (unbind (top_names k.environments) n) })
+      q refl refl)
   done_attends (EndBase r) = removal_attends (record k { base = removed_once r k.base }) r refl refl
 
 live_of : (s : RegionState) (h : Holder) (r : Region) → HasStake s h r → is_live s.regions r ≡ true
@@ -125,7 +151,8 @@ live_of s h (Numbered q) x = x.0
 
 module _ (code : Code) (page_words : ℕ) (checked : IsChecked code) (written : Ascends code) (like : Pick) where
   -- a region step first
-  first_step : (s t : RegionState) (event : Event) → IsRegionStep event → region_step code page_words s event ≡ Some t → CanInstruct code page_words t like → CanInstruct code page_words s like
+  first_step : (s t : RegionState) (event : Event) → IsRegionStep event → region_step code page_words s event ≡ Some t
+      → CanInstruct code page_words t like → CanInstruct code page_words s like
   first_step s t event is e can =
       record {
         pick = can.pick;
@@ -137,17 +164,23 @@ module _ (code : Code) (page_words : ℕ) (checked : IsChecked code) (written : 
         steps = can.steps;
       }
 
-  now : (s : RegionState) (pick : Pick) → IsLike like pick → IsSome (region_step code page_words s (Instruct pick)) → CanInstruct code page_words s like
-  now s pick is i = record { pick = pick; is_like = is; before = []; only_regions = tt; ready = s; leads = refl; steps = i }
+  now : (s : RegionState) (pick : Pick) → IsLike like pick → IsSome (region_step code page_words s (Instruct pick))
+      → CanInstruct code page_words s like
+  now s pick is i = record { pick = pick; is_like = is; before = []; only_regions = tt; ready = s; leads = refl; steps =
+      i }
 
-  good_at : (s t : RegionState) (event : Event) → AllGood code s → region_step code page_words s event ≡ Some t → AllGood code t
-  good_at s t event all e = yields_is {P = AllGood code} (region_step code page_words s event) t (all_good_step code page_words s event checked written all) e
+  good_at : (s t : RegionState) (event : Event) → AllGood code s → region_step code page_words s event ≡ Some t
+      → AllGood code t
+  good_at s t event all e = yields_is {P = AllGood code} (region_step code page_words s event) t
+      (all_good_step code page_words s event checked written all) e
 
   abbrev GoesOn : RegionState → ℕ → Type 0
-  GoesOn s g = (t : RegionState) (k : Holder) → Cleared code s g t k → k.duties ≡ [] → may_go k.offer ≡ true → CanInstruct code page_words t like
+  GoesOn s g = (t : RegionState) (k : Holder) → Cleared code s g t k → k.duties ≡ [] → may_go k.offer ≡ true
+      → CanInstruct code page_words t like
 
   -- the duties of a goroutine that may go on, one after the other
-  clear_duties : (ds : List Duty) (s : RegionState) (g : ℕ) (h : Holder) → AllGood code s → slice_get s.holders g ≡ Some h → h.duties ≡ ds → may_go h.offer ≡ true → GoesOn s g → CanInstruct code page_words s like
+  clear_duties : (ds : List Duty) (s : RegionState) (g : ℕ) (h : Holder) → AllGood code s → slice_get s.holders g
+      ≡ Some h → h.duties ≡ ds → may_go h.offer ≡ true → GoesOn s g → CanInstruct code page_words s like
   clear_duties [] s g h all e d m on = on s h (record { good = all; plain = refl; there = e; others = λ j n. refl }) d m
   clear_duties (d ∷ ds) s g h all e q m on =
       first_step s t (Attend g) tt x.1
@@ -176,13 +209,16 @@ module _ (code : Code) (page_words : ℕ) (checked : IsChecked code) (written : 
           ∙ x.1
 
       a : Attended s g (record h { duties = ds }) x.0
-      a = yields_is {P = Attended s g (record h { duties = ds })} (duty_done s g (record h { duties = ds }) d) x.0 (done_attends s g (record h { duties = ds }) d) done
+      a = yields_is {P = Attended s g (record h { duties = ds })} (duty_done s g (record h { duties = ds }) d) x.0
+          (done_attends s g (record h { duties = ds }) d) done
 
       here : slice_get x.0.holders g ≡ Some a.after
       here = ap (λ y. slice_get y g) a.holders ∙ get_set_same s.holders g h a.after e
 
   -- an acknowledgement can be done
-  acknowledges : (s : RegionState) (g : ℕ) (h : Holder) (o : ℕ) → AllGood code s → slice_get s.holders g ≡ Some h → h.offer ≡ Taken o → region_step code page_words s (Acknowledge g) ≡ Some (attended s g (record h { offer = NoOffer }))
+  acknowledges : (s : RegionState) (g : ℕ) (h : Holder) (o : ℕ) → AllGood code s → slice_get s.holders g ≡ Some h
+      → h.offer ≡ Taken o → region_step code page_words s (Acknowledge g)
+      ≡ Some (attended s g (record h { offer = NoOffer }))
   acknowledges s g h o all e q =
       ap (option_and_then (λ (k : Holder). acknowledge s g k k.offer)) e
       ∙ ap (acknowledge s g h) q
@@ -198,7 +234,8 @@ module _ (code : Code) (page_words : ℕ) (checked : IsChecked code) (written : 
       live : may_touch s (Some o) ≡ true
       live = ap (owner_live s) f.1 ∙ is_live' f.0 f.2
 
-  clear : (s : RegionState) (g : ℕ) (h : Holder) → AllGood code s → slice_get s.holders g ≡ Some h → GoesOn s g → CanInstruct code page_words s like
+  clear : (s : RegionState) (g : ℕ) (h : Holder) → AllGood code s → slice_get s.holders g ≡ Some h → GoesOn s g
+      → CanInstruct code page_words s like
   clear s g h all e on = go h.offer refl
     where
       go : (offer : Offer) → h.offer ≡ offer → CanInstruct code page_words s like
@@ -207,12 +244,17 @@ module _ (code : Code) (page_words : ℕ) (checked : IsChecked code) (written : 
       go (Taken o) q =
           let step = acknowledges s g h o all e q in
           first_step s (attended s g (record h { offer = NoOffer })) (Acknowledge g) tt step
-          (clear_duties h.duties (attended s g (record h { offer = NoOffer })) g (record h { offer = NoOffer }) (good_at s (attended s g (record h { offer = NoOffer })) (Acknowledge g) all step) (get_set_same s.holders g h (record h { offer = NoOffer }) e) refl refl
-          (λ u k c dk mk. on u k (record { good = c.good; plain = c.plain; there = c.there; others = λ j n. c.others j n ∙ get_set_other s.holders g j (record h { offer = NoOffer }) n }) dk mk))
+          (clear_duties h.duties (attended s g (record h { offer = NoOffer })) g (record h { offer = NoOffer })
+              (good_at s (attended s g (record h { offer = NoOffer })) (Acknowledge g) all step)
+              (get_set_same s.holders g h (record h { offer = NoOffer }) e) refl refl
+          (λ u k c dk mk. on u k (record { good = c.good; plain = c.plain; there = c.there; others =
+              λ j n. c.others j n ∙ get_set_other s.holders g j (record h { offer = NoOffer }) n }) dk mk))
 
   -- ---- a goroutine that is cleared is ready
 
-  ready_now : (s : RegionState) (g : ℕ) (h : Holder) (frame : Frame) (callers : List Frame) (instr : CodeInstr) → AllGood code s → slice_get s.holders g ≡ Some h → frames_of s.plain g ≡ frame ∷ callers → current code frame ≡ Some instr → h.duties ≡ [] → may_go h.offer ≡ true → is_ready code s h (frame ∷ callers) ≡ true
+  ready_now : (s : RegionState) (g : ℕ) (h : Holder) (frame : Frame) (callers : List Frame) (instr : CodeInstr)
+      → AllGood code s → slice_get s.holders g ≡ Some h → frames_of s.plain g ≡ frame ∷ callers → current code frame
+      ≡ Some instr → h.duties ≡ [] → may_go h.offer ≡ true → is_ready code s h (frame ∷ callers) ≡ true
   ready_now s g h frame callers instr all e at cur d m =
       ap (λ x. has_none x && may_go h.offer && touches s frame (current code frame)) d
       ∙ ap (λ b. b && touches s frame (current code frame)) m
@@ -224,7 +266,8 @@ module _ (code : Code) (page_words : ℕ) (checked : IsChecked code) (written : 
 
       live : (o : Option ℕ) → touched frame instr.op ≡ o → may_touch s o ≡ true
       live None q = refl
-      live (Some o) q = let x = touched_home code s g h frame callers instr top o checked all.good e at cur q in ap (owner_live s) x.1 ∙ live_of s h x.0 x.2
+      live (Some o) q = let x = touched_home code s g h frame callers instr top o checked all.good e at cur q in
+          ap (owner_live s) x.1 ∙ live_of s h x.0 x.2
 
 -- ---- where an object is made there is a region for it
 
@@ -236,7 +279,8 @@ record HasTarget (f : TacFn) (to : Option ℕ) : Type 0 where
   typed : HasType f variable ty
   like : is_pointer_like ty ≡ true
 
-made_pointer : (code : Tac) (f : TacFn) (to : Option ℕ) (action : Action) (operands : List «Type») → DoFits code f to action operands → makes_object action ≡ true → HasTarget f to
+made_pointer : (code : Tac) (f : TacFn) (to : Option ℕ) (action : Action) (operands : List «Type»)
+    → DoFits code f to action operands → makes_object action ≡ true → HasTarget f to
 made_pointer code f to (Int k) operands t m = absurd (true≢false (sym m))
 made_pointer code f to (BoolConstant b) operands t m = absurd (true≢false (sym m))
 made_pointer code f to Nil operands t m = absurd (true≢false (sym m))
@@ -251,11 +295,14 @@ made_pointer code f to (Store k) operands t m = absurd (true≢false (sym m))
 made_pointer code f to At operands t m = absurd (true≢false (sym m))
 made_pointer code f to Put operands t m = absurd (true≢false (sym m))
 made_pointer code f None (New n) operands t m = absurd t
-made_pointer code f (Some d) (New n) operands (ty, typed, t) m = record { variable = d; is = refl; ty = ty; typed = typed; like = ap is_pointer_like t.1 }
+made_pointer code f (Some d) (New n) operands (ty, typed, t) m =
+    record { variable = d; is = refl; ty = ty; typed = typed; like = ap is_pointer_like t.1 }
 made_pointer code f None Slice operands t m = absurd t
-made_pointer code f (Some d) Slice operands (ty, typed, t) m = record { variable = d; is = refl; ty = ty; typed = typed; like = ap is_pointer_like t.2 }
+made_pointer code f (Some d) Slice operands (ty, typed, t) m =
+    record { variable = d; is = refl; ty = ty; typed = typed; like = ap is_pointer_like t.2 }
 made_pointer code f None Chan operands t m = absurd t
-made_pointer code f (Some d) Chan operands (ty, typed, t) m = record { variable = d; is = refl; ty = ty; typed = typed; like = ap is_pointer_like t.2 }
+made_pointer code f (Some d) Chan operands (ty, typed, t) m =
+    record { variable = d; is = refl; ty = ty; typed = typed; like = ap is_pointer_like t.2 }
 made_pointer code f to Recv operands t m = absurd (true≢false (sym m))
 made_pointer code f to Send operands t m = absurd (true≢false (sym m))
 made_pointer code f to Close operands t m = absurd (true≢false (sym m))
@@ -263,13 +310,17 @@ made_pointer code f to (Get n) operands t m = absurd (true≢false (sym m))
 made_pointer code f to (Set n) operands t m = absurd (true≢false (sym m))
 
 -- the slot of a typed variable
-slot_of : (slots : List Slot) (d : ℕ) (ty : «Type») → slice_get (map (λ (s : Slot). s.ty) slots) d ≡ Some ty → (s : Slot) × (slice_get slots d ≡ Some s) × (s.ty ≡ ty)
+slot_of : (slots : List Slot) (d : ℕ) (ty : «Type») → slice_get (map (λ (s : Slot). s.ty) slots) d ≡ Some ty
+    → (s : Slot) × (slice_get slots d ≡ Some s) × (s.ty ≡ ty)
 slot_of [] zero ty e = cc
 slot_of [] (suc d) ty e = cc
 slot_of (s ∷ slots) zero ty e = (s, refl, cc)
 slot_of (s ∷ slots) (suc d) ty e = slot_of slots d ty e
 
-module _ (code : Code) (checked : IsChecked code) (s : RegionState) (g : ℕ) (h : Holder) (frame : Frame) (callers : List Frame) (instr : CodeInstr) (all : AllGood code s) (e : slice_get s.holders g ≡ Some h) (at : slice_get s.plain.goroutines g ≡ Some (frame ∷ callers)) (cur : current code frame ≡ Some instr) (d : h.duties ≡ []) where
+module _ (code : Code) (checked : IsChecked code) (s : RegionState) (g : ℕ) (h : Holder) (frame : Frame)
+    (callers : List Frame) (instr : CodeInstr) (all : AllGood code s) (e : slice_get s.holders g ≡ Some h)
+    (at : slice_get s.plain.goroutines g ≡ Some (frame ∷ callers)) (cur : current code frame ≡ Some instr)
+    (d : h.duties ≡ []) where
   top : Top code h frame callers
   top = top_of code h frame callers (subst (λ y. GoodHolder code y h) (ap frames_in at) (all.good.fine.each g h e))
 
@@ -283,10 +334,14 @@ module _ (code : Code) (checked : IsChecked code) (s : RegionState) (g : ℕ) (h
   same = the_instr top.stands.instr instr (sym top.stands.is_instr ∙ there)
 
   settled : Settled top.stands.fn frame.next instr top.f.names top.f.protections
-  settled = subst (λ x. Settled top.stands.fn frame.next x top.f.names top.f.protections) same (subst (λ x. IsReady (IsFree top.stands.fn frame.next) (Settled top.stands.fn frame.next top.stands.instr) x top.f.names top.f.protections) d top.stands.ready)
+  settled = subst (λ x. Settled top.stands.fn frame.next x top.f.names top.f.protections) same
+      (subst (λ x. IsReady (IsFree top.stands.fn frame.next) (Settled top.stands.fn frame.next top.stands.instr) x
+      top.f.names top.f.protections) d top.stands.ready)
 
   -- the target of an instruction has a region, where it is pointer-like
-  target_region : (to : Option ℕ) (action : Action) (from removes : List ℕ) → instr.op ≡ Do to action from removes → (d : ℕ) → to ≡ Some d → class_of top.stands.fn d ≢ NoClass → (r : Region) × (class_region top.f.names (class_of top.stands.fn d) ≡ Some r)
+  target_region : (to : Option ℕ) (action : Action) (from removes : List ℕ) → instr.op ≡ Do to action from removes
+      → (d : ℕ) → to ≡ Some d → class_of top.stands.fn d ≢ NoClass → (r : Region)
+      × (class_region top.f.names (class_of top.stands.fn d) ≡ Some r)
   target_region to action from removes is d t n = go (class_of top.stands.fn d) refl
     where
       go : (c : Class) → class_of top.stands.fn d ≡ c → (r : Region) × (class_region top.f.names c ≡ Some r)
@@ -301,17 +356,22 @@ module _ (code : Code) (checked : IsChecked code) (s : RegionState) (g : ℕ) (h
           names = record { variable = d; used = used; named = q }
 
           some : (o : Option Region) → bound top.f.names k ≡ o → (r : Region) × (bound top.f.names k ≡ Some r)
-          some None z = absurd (named_bound top.stands.fn frame.next k instr top.f.names (checked rule.Creations (line.Instr frame.function frame.next) top.stands.fn instr top.stands.is_fn there) settled.there settled.made settled.lent names z)
+          some None z = absurd (named_bound top.stands.fn frame.next k instr top.f.names
+              (checked rule.Creations (line.Instr frame.function frame.next) top.stands.fn instr top.stands.is_fn there)
+              settled.there settled.made settled.lent names z)
           some (Some r) z = (r, z)
 
-  region_there : makes_at instr.op ≡ true → (r : Region) × (making_region (function_at code frame) (top_names h.environments) instr.op ≡ Some r)
+  region_there : makes_at instr.op ≡ true → (r : Region)
+      × (making_region (function_at code frame) (top_names h.environments) instr.op ≡ Some r)
   region_there m = by instr.op refl m
     where
-      by : (op : CodeOp) → instr.op ≡ op → makes_at op ≡ true → (r : Region) × (making_region (function_at code frame) (top_names h.environments) instr.op ≡ Some r)
+      by : (op : CodeOp) → instr.op ≡ op → makes_at op ≡ true → (r : Region)
+          × (making_region (function_at code frame) (top_names h.environments) instr.op ≡ Some r)
       by (Do to action from removes) is m = (target.0, making)
         where
           t : OpFits (erased code) (erased_fn top.stands.fn) (erased_op (Do to action from removes))
-          t = subst (λ op. OpFits (erased code) (erased_fn top.stands.fn) (erased_op op)) is (checked rule.Types (line.Instr frame.function frame.next) top.stands.fn instr top.stands.is_fn there)
+          t = subst (λ op. OpFits (erased code) (erased_fn top.stands.fn) (erased_op op)) is
+              (checked rule.Types (line.Instr frame.function frame.next) top.stands.fn instr top.stands.is_fn there)
 
           w : HasTarget (erased_fn top.stands.fn) to
           w = made_pointer (erased code) (erased_fn top.stands.fn) to action t.0 t.2 m
@@ -320,7 +380,8 @@ module _ (code : Code) (checked : IsChecked code) (s : RegionState) (g : ℕ) (h
           slot = slot_of top.stands.fn.variables w.variable w.ty w.typed
 
           classed : class_of top.stands.fn w.variable ≢ NoClass
-          classed = λ n. (checked rule.Classes (line.Slot frame.function w.variable) top.stands.fn slot.0 top.stands.is_fn slot.1).1 (ap is_pointer_like slot.2 ∙ w.like) (sym (ap slot_class slot.1) ∙ n)
+          classed = λ n. (checked rule.Classes (line.Slot frame.function w.variable) top.stands.fn slot.0
+              top.stands.is_fn slot.1).1 (ap is_pointer_like slot.2 ∙ w.like) (sym (ap slot_class slot.1) ∙ n)
 
           target : (r : Region) × (class_region top.f.names (class_of top.stands.fn w.variable) ≡ Some r)
           target = target_region to action from removes is w.variable w.is classed
@@ -329,7 +390,8 @@ module _ (code : Code) (checked : IsChecked code) (s : RegionState) (g : ℕ) (h
           making =
               ap (making_region (function_at code frame) (top_names h.environments)) is
               ∙ ap (λ o. making_region o (top_names h.environments) (Do to action from removes)) top.stands.is_fn
-              ∙ ap (λ sh. making_region (Some top.stands.fn) (top_names sh) (Do to action from removes)) top.environments
+              ∙ ap (λ sh. making_region (Some top.stands.fn) (top_names sh) (Do to action from removes))
+                  top.environments
               ∙ ap (λ b. if b then class_region top.f.names (target_class (Some top.stands.fn) to) else None) m
               ∙ ap (λ o. class_region top.f.names (target_class (Some top.stands.fn) o)) w.is
               ∙ target.1
@@ -341,14 +403,18 @@ module _ (code : Code) (checked : IsChecked code) (s : RegionState) (g : ℕ) (h
       by (Return value) is m = absurd (true≢false (sym m))
 
   -- an instruction that makes an object has a region for it
-  object_region : (a : Acted) → alone (erased code) s.plain.memory (frame ∷ callers) ≡ Some a → (object : Object) → slice_get a.memory.heap (length s.plain.memory.heap) ≡ Some object → (r : Region) × (making_region (function_at code frame) (top_names h.environments) instr.op ≡ Some r)
+  object_region : (a : Acted) → alone (erased code) s.plain.memory (frame ∷ callers) ≡ Some a → (object : Object)
+      → slice_get a.memory.heap (length s.plain.memory.heap) ≡ Some object → (r : Region)
+      × (making_region (function_at code frame) (top_names h.environments) instr.op ≡ Some r)
   object_region a q object o = split (makes_at instr.op) region_there (λ n. absurd (none n))
     where
       grown : SteadyActed s.plain.memory (makes_at instr.op) a
-      grown = subst (Always (SteadyActed s.plain.memory (makes_at instr.op))) q (alone_steady code s.plain.memory frame callers instr cur)
+      grown = subst (Always (SteadyActed s.plain.memory (makes_at instr.op))) q
+          (alone_steady code s.plain.memory frame callers instr cur)
 
       none : makes_at instr.op ≡ false → ⊥
-      none n = let x : None ≡ Some object = sym (get_beyond a.memory.heap (length s.plain.memory.heap) (let l = grown.1 n in omega (arith, l))) ∙ o in cc
+      none n = let x : None ≡ Some object = sym (get_beyond a.memory.heap (length s.plain.memory.heap)
+          (let l = grown.1 n in omega (arith, l))) ∙ o in cc
 
 -- ---- one goroutine's instruction
 
@@ -362,7 +428,8 @@ pub fill_with : (fills : List (Region × ℕ)) (r : Region) (n : ℕ) → fill_o
 fill_with [] r n = ap (λ b. if b then Some n else None) (same_reflexive r)
 fill_with (f ∷ fs) r n = go (same_region f.0 r) refl (fill_with fs r n)
   where
-    go : (b : Bool) → same_region f.0 r ≡ b → fill_of (with_fill fs r n) r ≡ Some n → fill_of (if b then (r, n) ∷ fs else f ∷ with_fill fs r n) r ≡ Some n
+    go : (b : Bool) → same_region f.0 r ≡ b → fill_of (with_fill fs r n) r ≡ Some n
+        → fill_of (if b then (r, n) ∷ fs else f ∷ with_fill fs r n) r ≡ Some n
     go true e h = ap (λ b. if b then Some n else fill_of fs r) (same_reflexive r)
     go false e h = ap (λ b. if b then Some f.1 else fill_of (with_fill fs r n) r) e ∙ h
 
@@ -370,17 +437,26 @@ not_le : (a b : ℕ) → nat_le a b ≡ false → b < a
 not_le a b e = grind (arith, nat_tests)
 
 module _ (code : Code) (page_words : ℕ) (checked : IsChecked code) (written : Ascends code) (g : ℕ) where
-  steps_now : (s : RegionState) (h : Holder) (frame : Frame) (callers : List Frame) (instr : CodeInstr) (a : Acted) (given : Holder × List Region) → AllGood code s → slice_get s.holders g ≡ Some h → slice_get s.plain.goroutines g ≡ Some (frame ∷ callers) → current code frame ≡ Some instr → s.plain.ended ≡ None → alone (erased code) s.plain.memory (frame ∷ callers) ≡ Some a → h.duties ≡ [] → may_go h.offer ≡ true → allotted page_words h (making_region (function_at code frame) (top_names h.environments) instr.op) (new_object s.plain (after s.plain g a)) ≡ Some given → IsSome (region_step code page_words s (Instruct (One g)))
+  steps_now : (s : RegionState) (h : Holder) (frame : Frame) (callers : List Frame) (instr : CodeInstr) (a : Acted)
+      (given : Holder × List Region) → AllGood code s → slice_get s.holders g ≡ Some h → slice_get s.plain.goroutines g
+      ≡ Some (frame ∷ callers) → current code frame ≡ Some instr → s.plain.ended ≡ None
+      → alone (erased code) s.plain.memory (frame ∷ callers) ≡ Some a → h.duties ≡ [] → may_go h.offer ≡ true
+      → allotted page_words h (making_region (function_at code frame) (top_names h.environments) instr.op)
+      (new_object s.plain (after s.plain g a)) ≡ Some given → IsSome (region_step code page_words s (Instruct (One g)))
   steps_now s h frame callers instr a given all e at cur running acts d m fits =
       some_is _ (instructed_with code s g frame callers instr (after s.plain g a) given)
-      (ap (option_and_then (instruct code page_words s (One g))) (one_step code s.plain g (frame ∷ callers) running at ∙ ap (option_map (after s.plain g)) acts)
+      (ap (option_and_then (instruct code page_words s (One g)))
+          (one_step code s.plain g (frame ∷ callers) running at ∙ ap (option_map (after s.plain g)) acts)
       ∙ ap (λ o. one_instructed code page_words s g o (frames_of s.plain g) (after s.plain g a)) e
       ∙ ap (λ fr. one_instructed code page_words s g (Some h) fr (after s.plain g a)) (ap frames_in at)
-      ∙ ap (λ b. if b then instructed_at code page_words s g h frame callers (after s.plain g a) else None) (ready_now code page_words checked written (One g) s g h frame callers instr all e (ap frames_in at) cur d m)
+      ∙ ap (λ b. if b then instructed_at code page_words s g h frame callers (after s.plain g a) else None)
+          (ready_now code page_words checked written (One g) s g h frame callers instr all e (ap frames_in at) cur d m)
       ∙ ap (option_and_then (instructed code page_words s g h frame callers (after s.plain g a))) cur
       ∙ ap (option_and_then (some_instructed code s g frame callers instr (after s.plain g a))) fits)
 
-  can_one : (s : RegionState) (h : Holder) (next : TacState) → AllGood code s → slice_get s.holders g ≡ Some h → h.duties ≡ [] → may_go h.offer ≡ true → plain_step code s.plain (One g) ≡ Some next → ¬ (MakesTooLarge page_words s.plain next) → CanInstruct code page_words s (One g)
+  can_one : (s : RegionState) (h : Holder) (next : TacState) → AllGood code s → slice_get s.holders g ≡ Some h
+      → h.duties ≡ [] → may_go h.offer ≡ true → plain_step code s.plain (One g) ≡ Some next
+      → ¬ (MakesTooLarge page_words s.plain next) → CanInstruct code page_words s (One g)
   can_one s h next all e d m step small = frames (slice_get s.plain.goroutines g) refl
     where
       running : s.plain.ended ≡ None
@@ -389,37 +465,53 @@ module _ (code : Code) (page_words : ℕ) (checked : IsChecked code) (written : 
       the_same : (x y : TacState) → Some x ≡ Some y → x ≡ y
       the_same x y e = cc
 
-      at_instr : (frame : Frame) (callers : List Frame) → slice_get s.plain.goroutines g ≡ Some (frame ∷ callers) → (a : Acted) → alone (erased code) s.plain.memory (frame ∷ callers) ≡ Some a → after s.plain g a ≡ next → (instr : CodeInstr) → current code frame ≡ Some instr → CanInstruct code page_words s (One g)
+      at_instr : (frame : Frame) (callers : List Frame) → slice_get s.plain.goroutines g ≡ Some (frame ∷ callers)
+          → (a : Acted) → alone (erased code) s.plain.memory (frame ∷ callers) ≡ Some a → after s.plain g a ≡ next
+          → (instr : CodeInstr) → current code frame ≡ Some instr → CanInstruct code page_words s (One g)
       at_instr frame callers at a acts is instr cur = object (new_object s.plain (after s.plain g a)) refl
         where
-          at_once : (given : Holder × List Region) → allotted page_words h (making_region (function_at code frame) (top_names h.environments) instr.op) (new_object s.plain (after s.plain g a)) ≡ Some given → CanInstruct code page_words s (One g)
-          at_once given fits = now code page_words checked written (One g) s (One g) refl (steps_now s h frame callers instr a given all e at cur running acts d m fits)
+          at_once : (given : Holder × List Region) → allotted page_words h
+              (making_region (function_at code frame) (top_names h.environments) instr.op)
+              (new_object s.plain (after s.plain g a)) ≡ Some given → CanInstruct code page_words s (One g)
+          at_once given fits = now code page_words checked written (One g) s (One g) refl
+              (steps_now s h frame callers instr a given all e at cur running acts d m fits)
 
-          object : (o : Option Object) → new_object s.plain (after s.plain g a) ≡ o → CanInstruct code page_words s (One g)
-          object None q = at_once (h, []) (ap (allotted page_words h (making_region (function_at code frame) (top_names h.environments) instr.op)) q)
+          object : (o : Option Object) → new_object s.plain (after s.plain g a) ≡ o
+              → CanInstruct code page_words s (One g)
+          object None q = at_once (h, []) (ap (allotted page_words h
+              (making_region (function_at code frame) (top_names h.environments) instr.op)) q)
           object (Some x) q = place (fill_of h.fills r.0) refl
             where
               r : (r : Region) × (making_region (function_at code frame) (top_names h.environments) instr.op ≡ Some r)
               r = object_region code checked s g h frame callers instr all e at cur d a acts x q
 
               small_enough : nat_le (words x) page_words ≡ true
-              small_enough = split (nat_le (words x) page_words) (λ t. t) (λ n. absurd (small (x, ap (new_object s.plain) (sym is) ∙ q, not_le (words x) page_words n)))
+              small_enough = split (nat_le (words x) page_words) (λ t. t)
+                  (λ n. absurd (small (x, ap (new_object s.plain) (sym is) ∙ q, not_le (words x) page_words n)))
 
-              is_placed : (k : Holder) → allotted page_words k (making_region (function_at code frame) (top_names h.environments) instr.op) (new_object s.plain (after s.plain g a)) ≡ placed page_words k r.0 x (fill_of k.fills r.0)
-              is_placed k = ap (λ o. allotted page_words k o (new_object s.plain (after s.plain g a))) r.1 ∙ ap (allotted page_words k (Some r.0)) q
+              is_placed : (k : Holder) → allotted page_words k
+                  (making_region (function_at code frame) (top_names h.environments) instr.op)
+                  (new_object s.plain (after s.plain g a)) ≡ placed page_words k r.0 x (fill_of k.fills r.0)
+              is_placed k = ap (λ o. allotted page_words k o (new_object s.plain (after s.plain g a))) r.1
+                  ∙ ap (allotted page_words k (Some r.0)) q
 
               -- a page first
               page : fits page_words (fill_of h.fills r.0) (words x) ≡ false → CanInstruct code page_words s (One g)
-              page n = first_step code page_words checked written (One g) s (page_taken s g h r.0) (TakePage g) tt takes behind
+              page n = first_step code page_words checked written (One g) s (page_taken s g h r.0) (TakePage g) tt takes
+                  behind
                 where
                   top : Top code h frame callers
-                  top = top_of code h frame callers (subst (λ y. GoodHolder code y h) (ap frames_in at) (all.good.fine.each g h e))
+                  top = top_of code h frame callers (subst (λ y. GoodHolder code y h) (ap frames_in at)
+                      (all.good.fine.each g h e))
 
                   making : (c : Class) × (class_region top.f.names c ≡ Some r.0)
-                  making = making_class top.stands.fn top.f.names instr.op r.0 (ap (λ sh. making_region (Some top.stands.fn) (top_names sh) instr.op) (sym top.environments) ∙ ap (λ o. making_region o (top_names h.environments) instr.op) (sym top.stands.is_fn) ∙ r.1)
+                  making = making_class top.stands.fn top.f.names instr.op r.0
+                      (ap (λ sh. making_region (Some top.stands.fn) (top_names sh) instr.op) (sym top.environments)
+                      ∙ ap (λ o. making_region o (top_names h.environments) instr.op) (sym top.stands.is_fn) ∙ r.1)
 
                   live : is_live s.regions r.0 ≡ true
-                  live = live_of s h r.0 (class_has_stake code s g h frame callers top making.0 r.0 all.good.fine e making.1)
+                  live = live_of s h r.0 (class_has_stake code s g h frame callers top making.0 r.0 all.good.fine e
+                      making.1)
 
                   wants : wants_page page_words (fill_of h.fills r.0) (next_object code s g) ≡ true
                   wants =
@@ -434,29 +526,41 @@ module _ (code : Code) (page_words : ℕ) (checked : IsChecked code) (written : 
                       ∙ ap (take_page code page_words s g h) (ap frames_in at)
                       ∙ ap (option_and_then (page_for code page_words s g h frame)) cur
                       ∙ ap (option_and_then (takes_page code page_words s g h)) r.1
-                      ∙ ap (λ ds. if has_none ds && may_go h.offer && is_live s.regions r.0 && wants_page page_words (fill_of h.fills r.0) (next_object code s g) then Some (page_taken s g h r.0) else None) d
-                      ∙ ap (λ b. if b && is_live s.regions r.0 && wants_page page_words (fill_of h.fills r.0) (next_object code s g) then Some (page_taken s g h r.0) else None) m
-                      ∙ ap (λ b. if b && wants_page page_words (fill_of h.fills r.0) (next_object code s g) then Some (page_taken s g h r.0) else None) live
+                      ∙ ap (λ ds. if has_none ds && may_go h.offer && is_live s.regions r.0 && wants_page page_words
+                          (fill_of h.fills r.0) (next_object code s g) then Some (page_taken s g h r.0) else None) d
+                      ∙ ap (λ b. if b && is_live s.regions r.0 && wants_page page_words (fill_of h.fills r.0)
+                          (next_object code s g) then Some (page_taken s g h r.0) else None) m
+                      ∙ ap (λ b. if b && wants_page page_words (fill_of h.fills r.0) (next_object code s g) then Some
+                          (page_taken s g h r.0) else None) live
                       ∙ ap (λ b. if b then Some (page_taken s g h r.0) else None) wants
 
                   good' : AllGood code (page_taken s g h r.0)
-                  good' = good_at code page_words checked written (One g) s (page_taken s g h r.0) (TakePage g) all takes
+                  good' = good_at code page_words checked written (One g) s (page_taken s g h r.0) (TakePage g) all
+                      takes
 
                   same_plain : (q : Region) → (page_taken s g h q).plain ≡ s.plain
                   same_plain GlobalRegion = refl
                   same_plain (Numbered n) = refl
 
-                  same_holders : (q : Region) → (page_taken s g h q).holders ≡ slice_set s.holders g (record h { fills = with_fill h.fills q 0 })
+                  same_holders : (q : Region) → (page_taken s g h q).holders
+                      ≡ slice_set s.holders g (record h { fills = with_fill h.fills q 0 })
                   same_holders GlobalRegion = refl
                   same_holders (Numbered n) = refl
 
-                  k_there : slice_get (page_taken s g h r.0).holders g ≡ Some (record h { fills = with_fill h.fills r.0 0 })
-                  k_there = ap (λ y. slice_get y g) (same_holders r.0) ∙ get_set_same s.holders g h (record h { fills = with_fill h.fills r.0 0 }) e
+                  k_there : slice_get (page_taken s g h r.0).holders g
+                      ≡ Some (record h { fills = with_fill h.fills r.0 0 })
+                  k_there = ap (λ y. slice_get y g) (same_holders r.0)
+                      ∙ get_set_same s.holders g h (record h { fills = with_fill h.fills r.0 0 }) e
 
-                  fits_now : placed page_words (record h { fills = with_fill h.fills r.0 0 }) r.0 x (fill_of (with_fill h.fills r.0 0) r.0) ≡ Some (record h { fills = with_fill (with_fill h.fills r.0 0) r.0 (0 + words x) }, r.0 ∷ [])
+                  fits_now : placed page_words (record h { fills = with_fill h.fills r.0 0 }) r.0 x
+                      (fill_of (with_fill h.fills r.0 0) r.0) ≡ Some
+                      (record h { fills = with_fill (with_fill h.fills r.0 0) r.0 (0 + words x) }, r.0 ∷ [])
                   fits_now =
-                      ap (placed page_words (record h { fills = with_fill h.fills r.0 0 }) r.0 x) (fill_with h.fills r.0 0)
-                      ∙ ap (λ b. if b then Some (record h { fills = with_fill (with_fill h.fills r.0 0) r.0 (0 + words x) }, r.0 ∷ []) else None) (ap (λ w. nat_le w page_words) (zero_add (words x)) ∙ small_enough)
+                      ap (placed page_words (record h { fills = with_fill h.fills r.0 0 }) r.0 x)
+                          (fill_with h.fills r.0 0)
+                      ∙ ap (λ b. if b then Some (record h { fills =
+                          with_fill (with_fill h.fills r.0 0) r.0 (0 + words x) }, r.0 ∷ []) else None)
+                          (ap (λ w. nat_le w page_words) (zero_add (words x)) ∙ small_enough)
                     where
                       zero_add : (n : ℕ) → 0 + n ≡ n
                       zero_add n = omega arith
@@ -464,48 +568,70 @@ module _ (code : Code) (page_words : ℕ) (checked : IsChecked code) (written : 
                   behind : CanInstruct code page_words (page_taken s g h r.0) (One g)
                   behind =
                       now code page_words checked written (One g) (page_taken s g h r.0) (One g) refl
-                      (steps_now (page_taken s g h r.0) (record h { fills = with_fill h.fills r.0 0 }) frame callers instr a (record h { fills = with_fill (with_fill h.fills r.0 0) r.0 (0 + words x) }, r.0 ∷ []) good' k_there (ap (λ p. slice_get p.goroutines g) (same_plain r.0) ∙ at) cur (ap (λ (p : TacState). p.ended) (same_plain r.0) ∙ running) (ap (λ p. alone (erased code) p.memory (frame ∷ callers)) (same_plain r.0) ∙ acts) d m
-                      (ap (λ p. allotted page_words (record h { fills = with_fill h.fills r.0 0 }) (making_region (function_at code frame) (top_names h.environments) instr.op) (new_object p (after p g a))) (same_plain r.0) ∙ is_placed (record h { fills = with_fill h.fills r.0 0 }) ∙ fits_now))
+                      (steps_now (page_taken s g h r.0) (record h { fills = with_fill h.fills r.0 0 }) frame callers
+                          instr a (record h { fills = with_fill (with_fill h.fills r.0 0) r.0 (0 + words x) }, r.0 ∷ [])
+                          good' k_there (ap (λ p. slice_get p.goroutines g) (same_plain r.0) ∙ at) cur
+                          (ap (λ (p : TacState). p.ended) (same_plain r.0) ∙ running)
+                          (ap (λ p. alone (erased code) p.memory (frame ∷ callers)) (same_plain r.0) ∙ acts) d m
+                      (ap (λ p. allotted page_words (record h { fills = with_fill h.fills r.0 0 })
+                          (making_region (function_at code frame) (top_names h.environments) instr.op)
+                          (new_object p (after p g a))) (same_plain r.0)
+                          ∙ is_placed (record h { fills = with_fill h.fills r.0 0 }) ∙ fits_now))
 
               place : (o : Option ℕ) → fill_of h.fills r.0 ≡ o → CanInstruct code page_words s (One g)
               place None w = page (ap (λ o. fits page_words o (words x)) w)
               place (Some used) w =
                   split (nat_le (used + words x) page_words)
-                  (λ t. at_once (record h { fills = with_fill h.fills r.0 (used + words x) }, r.0 ∷ []) (is_placed h ∙ ap (placed page_words h r.0 x) w ∙ ap (λ b. if b then Some (record h { fills = with_fill h.fills r.0 (used + words x) }, r.0 ∷ []) else None) t))
+                  (λ t. at_once (record h { fills = with_fill h.fills r.0 (used + words x) }, r.0 ∷ [])
+                      (is_placed h ∙ ap (placed page_words h r.0 x) w
+                      ∙ ap (λ b. if b then Some (record h { fills = with_fill h.fills r.0 (used + words x) }, r.0 ∷ [])
+                      else None) t))
                   (λ n. page (ap (λ o. fits page_words o (words x)) w ∙ n))
 
-      acted : (fr : List Frame) → slice_get s.plain.goroutines g ≡ Some fr → (o : Option Acted) → alone (erased code) s.plain.memory fr ≡ o → option_map (after s.plain g) o ≡ Some next → CanInstruct code page_words s (One g)
+      acted : (fr : List Frame) → slice_get s.plain.goroutines g ≡ Some fr → (o : Option Acted)
+          → alone (erased code) s.plain.memory fr ≡ o → option_map (after s.plain g) o ≡ Some next
+          → CanInstruct code page_words s (One g)
       acted fr q None w z = cc
       acted [] q (Some a) w z = cc
-      acted (frame ∷ callers) q (Some a) w z = at_instr frame callers q a w (the_same (after s.plain g a) next z) top.stands.instr (ap (λ o. current_in o frame.next) top.stands.is_fn ∙ top.stands.is_instr)
+      acted (frame ∷ callers) q (Some a) w z = at_instr frame callers q a w (the_same (after s.plain g a) next z)
+          top.stands.instr (ap (λ o. current_in o frame.next) top.stands.is_fn ∙ top.stands.is_instr)
         where
           top : Top code h frame callers
-          top = top_of code h frame callers (subst (λ y. GoodHolder code y h) (ap frames_in q) (all.good.fine.each g h e))
+          top = top_of code h frame callers (subst (λ y. GoodHolder code y h) (ap frames_in q)
+              (all.good.fine.each g h e))
 
       none_step : slice_get s.plain.goroutines g ≡ None → plain_step code s.plain (One g) ≡ None
-      none_step q = ap (λ e. unless_ended e (picked (tac (erased code)) s.plain (One g))) running ∙ ap (option_and_then (machine_alone (tac (erased code)) s.plain g)) q
+      none_step q = ap (λ e. unless_ended e (picked (tac (erased code)) s.plain (One g))) running
+          ∙ ap (option_and_then (machine_alone (tac (erased code)) s.plain g)) q
 
       frames : (o : Option (List Frame)) → slice_get s.plain.goroutines g ≡ o → CanInstruct code page_words s (One g)
       frames None q = let x : None ≡ Some next = sym (none_step q) ∙ step in cc
-      frames (Some fr) q = acted fr q (alone (erased code) s.plain.memory fr) refl (sym (one_step code s.plain g fr running q) ∙ step)
+      frames (Some fr) q = acted fr q (alone (erased code) s.plain.memory fr) refl
+          (sym (one_step code s.plain g fr running q) ∙ step)
 
 -- ---- a meeting
 
-frames_some : (o : Option (List Frame)) (frame : Frame) (callers : List Frame) → frames_in o ≡ frame ∷ callers → o ≡ Some (frame ∷ callers)
+frames_some : (o : Option (List Frame)) (frame : Frame) (callers : List Frame) → frames_in o ≡ frame ∷ callers → o
+    ≡ Some (frame ∷ callers)
 frames_some None frame callers e = cc
 frames_some (Some fs) frame callers e = ap Some e
 
 -- where a goroutine stands that is to send
-stand_of : (code : Code) (p : TacState) (g o : ℕ) (st : StandsAtSend code p g o) → stand (erased code) st.frame ≡ AtSend (value_at st.frame st.channel) (value_at st.frame st.sent) st.instr.place (going st.frame st.to value.Nil)
+stand_of : (code : Code) (p : TacState) (g o : ℕ) (st : StandsAtSend code p g o) → stand (erased code) st.frame
+    ≡ AtSend (value_at st.frame st.channel) (value_at st.frame st.sent) st.instr.place (going st.frame st.to value.Nil)
 stand_of code p g o st =
     ap (stand_at (erased code) st.frame) (current_erased code st.frame ∙ ap (option_map erased_instr) st.cur)
     ∙ ap (λ op. stand_before (erased code) st.frame (erased_op op) st.instr.place) st.is
 
-find_offer : (hs : List Holder) (o : ℕ) → list_any (λ (k : Holder). offers_on o k.offer) hs ≡ true → (w : ℕ) × (k : Holder) × (slice_get hs w ≡ Some k) × (offers_on o k.offer ≡ true)
+find_offer : (hs : List Holder) (o : ℕ) → list_any (λ (k : Holder). offers_on o k.offer) hs ≡ true → (w : ℕ)
+    × (k : Holder) × (slice_get hs w ≡ Some k) × (offers_on o k.offer ≡ true)
 find_offer [] o e = absurd (true≢false (sym e))
 find_offer (h ∷ hs) o e = go (offers_on o h.offer) refl e (find_offer hs o)
   where
-    go : (b : Bool) → offers_on o h.offer ≡ b → (b || list_any (λ (k : Holder). offers_on o k.offer) hs) ≡ true → (list_any (λ (k : Holder). offers_on o k.offer) hs ≡ true → (w : ℕ) × (k : Holder) × (slice_get hs w ≡ Some k) × (offers_on o k.offer ≡ true)) → (w : ℕ) × (k : Holder) × (slice_get (h ∷ hs) w ≡ Some k) × (offers_on o k.offer ≡ true)
+    go : (b : Bool) → offers_on o h.offer ≡ b → (b || list_any (λ (k : Holder). offers_on o k.offer) hs) ≡ true
+        → (list_any (λ (k : Holder). offers_on o k.offer) hs ≡ true → (w : ℕ) × (k : Holder) × (slice_get hs w ≡ Some k)
+        × (offers_on o k.offer ≡ true)) → (w : ℕ) × (k : Holder) × (slice_get (h ∷ hs) w ≡ Some k)
+        × (offers_on o k.offer ≡ true)
     go true q e next = (0, h, refl, q)
     go false q e next = let x = next e in (suc x.0, x.1, x.2, x.3)
 
@@ -532,8 +658,11 @@ module _ (code : Code) (page_words : ℕ) (checked : IsChecked code) (written : 
     none : h.duties ≡ []
     free : may_go h.offer ≡ true
 
-  meet_now : (s : RegionState) (h : Holder) (w : ℕ) (k : Holder) → AtChannel s h → nat_eq r w ≡ false → slice_get s.holders w ≡ Some k → k.duties ≡ [] → may_go k.offer ≡ true → standing_at k.offer ≡ true → StandsAtSend code s.plain w o → IsSome (region_step code page_words s (Instruct (Meet r w)))
-  meet_now s h w k x ne e d m standing st = some_when (is_ready code s h (frames_of s.plain r) && is_ready code s k (frames_of s.plain w) && standing_at k.offer) _ _ all_true (stepped ∙ done)
+  meet_now : (s : RegionState) (h : Holder) (w : ℕ) (k : Holder) → AtChannel s h → nat_eq r w ≡ false
+      → slice_get s.holders w ≡ Some k → k.duties ≡ [] → may_go k.offer ≡ true → standing_at k.offer ≡ true
+      → StandsAtSend code s.plain w o → IsSome (region_step code page_words s (Instruct (Meet r w)))
+  meet_now s h w k x ne e d m standing st = some_when (is_ready code s h (frames_of s.plain r) && is_ready code s k
+      (frames_of s.plain w) && standing_at k.offer) _ _ all_true (stepped ∙ done)
     where
       at_w : slice_get s.plain.goroutines w ≡ Some (st.frame ∷ st.callers)
       at_w = frames_some (slice_get s.plain.goroutines w) st.frame st.callers st.at
@@ -548,27 +677,45 @@ module _ (code : Code) (page_words : ℕ) (checked : IsChecked code) (written : 
           ∙ ap (λ b. if b then is_meeting_at (slice_get s.plain.memory.heap o) else false) (self o)
           ∙ x.meeting
 
-      stepped : region_step code page_words s (Instruct (Meet r w)) ≡ both_instructed code s r w (slice_get s.holders r) (slice_get s.holders w) (met_with s.plain r w (x.go_on (value_at st.frame st.sent) ∷ x.callers) (going st.frame st.to value.Nil ∷ st.callers))
+      stepped : region_step code page_words s (Instruct (Meet r w))
+          ≡ both_instructed code s r w (slice_get s.holders r) (slice_get s.holders w)
+          (met_with s.plain r w (x.go_on (value_at st.frame st.sent) ∷ x.callers)
+          (going st.frame st.to value.Nil ∷ st.callers))
       stepped = ap (option_and_then (instruct code page_words s (Meet r w)))
           (ap (λ e. unless_ended e (picked (tac (erased code)) s.plain (Meet r w))) x.running
           ∙ ap (λ b. if b then None else meet (tac (erased code)) s.plain r w) ne
-          ∙ ap (option_and_then (λ f. option_and_then (met_by (tac (erased code)) s.plain r w f) (slice_get s.plain.goroutines w))) x.at
+          ∙ ap (option_and_then (λ f. option_and_then (met_by (tac (erased code)) s.plain r w f)
+              (slice_get s.plain.goroutines w))) x.at
           ∙ ap (option_and_then (met_by (tac (erased code)) s.plain r w (x.frame ∷ x.callers))) at_w
           ∙ ap (λ q. met s.plain r w x.callers st.callers q (stand (erased code) st.frame)) x.stands
           ∙ ap (met s.plain r w x.callers st.callers (AtReceive x.c x.blank x.go_on)) (stand_of code s.plain w o st)
-          ∙ ap (λ b. if b then Some (met_with s.plain r w (x.go_on (value_at st.frame st.sent) ∷ x.callers) (going st.frame st.to value.Nil ∷ st.callers)) else None) meets)
+          ∙ ap (λ b. if b then Some (met_with s.plain r w (x.go_on (value_at st.frame st.sent) ∷ x.callers)
+              (going st.frame st.to value.Nil ∷ st.callers)) else None) meets)
 
       ready_r : is_ready code s h (frames_of s.plain r) ≡ true
-      ready_r = ap (is_ready code s h) (ap frames_in x.at ∙ x.receives.at) ∙ ready_now code page_words checked written (Meet r u) s r h x.receives.frame x.receives.callers x.receives.instr x.good x.there (ap frames_in x.at ∙ x.receives.at) x.receives.cur x.none x.free
+      ready_r = ap (is_ready code s h) (ap frames_in x.at ∙ x.receives.at)
+          ∙ ready_now code page_words checked written (Meet r u) s r h x.receives.frame x.receives.callers
+          x.receives.instr x.good x.there (ap frames_in x.at ∙ x.receives.at) x.receives.cur x.none x.free
 
       ready_w : is_ready code s k (frames_of s.plain w) ≡ true
-      ready_w = ap (is_ready code s k) st.at ∙ ready_now code page_words checked written (Meet r u) s w k st.frame st.callers st.instr x.good e st.at st.cur d m
+      ready_w = ap (is_ready code s k) st.at ∙ ready_now code page_words checked written (Meet r u) s w k st.frame
+          st.callers st.instr x.good e st.at st.cur d m
 
-      all_true : (is_ready code s h (frames_of s.plain r) && is_ready code s k (frames_of s.plain w) && standing_at k.offer) ≡ true
-      all_true = ap (λ b. b && is_ready code s k (frames_of s.plain w) && standing_at k.offer) ready_r ∙ ap (λ b. b && standing_at k.offer) ready_w ∙ standing
+      all_true : (is_ready code s h (frames_of s.plain r) && is_ready code s k (frames_of s.plain w) && standing_at
+          k.offer) ≡ true
+      all_true = ap (λ b. b && is_ready code s k (frames_of s.plain w) && standing_at k.offer) ready_r
+          ∙ ap (λ b. b && standing_at k.offer) ready_w ∙ standing
 
-      done : both_instructed code s r w (slice_get s.holders r) (slice_get s.holders w) (met_with s.plain r w (x.go_on (value_at st.frame st.sent) ∷ x.callers) (going st.frame st.to value.Nil ∷ st.callers)) ≡ both_instructed code s r w (Some h) (Some k) (met_with s.plain r w (x.go_on (value_at st.frame st.sent) ∷ x.callers) (going st.frame st.to value.Nil ∷ st.callers))
-      done = ap (λ q. both_instructed code s r w q (slice_get s.holders w) (met_with s.plain r w (x.go_on (value_at st.frame st.sent) ∷ x.callers) (going st.frame st.to value.Nil ∷ st.callers))) x.there ∙ ap (λ q. both_instructed code s r w (Some h) q (met_with s.plain r w (x.go_on (value_at st.frame st.sent) ∷ x.callers) (going st.frame st.to value.Nil ∷ st.callers))) e
+      done : both_instructed code s r w (slice_get s.holders r) (slice_get s.holders w)
+          (met_with s.plain r w (x.go_on (value_at st.frame st.sent) ∷ x.callers)
+          (going st.frame st.to value.Nil ∷ st.callers)) ≡ both_instructed code s r w (Some h) (Some k)
+          (met_with s.plain r w (x.go_on (value_at st.frame st.sent) ∷ x.callers)
+          (going st.frame st.to value.Nil ∷ st.callers))
+      done = ap (λ q. both_instructed code s r w q (slice_get s.holders w)
+          (met_with s.plain r w (x.go_on (value_at st.frame st.sent) ∷ x.callers)
+          (going st.frame st.to value.Nil ∷ st.callers))) x.there
+          ∙ ap (λ q. both_instructed code s r w (Some h) q (met_with s.plain r w
+          (x.go_on (value_at st.frame st.sent) ∷ x.callers) (going st.frame st.to value.Nil ∷ st.callers))) e
 
   -- the sender, which is ready
   record Sends (s : RegionState) (k : Holder) : Type 0 where
@@ -578,23 +725,34 @@ module _ (code : Code) (page_words : ℕ) (checked : IsChecked code) (written : 
     free : may_go k.offer ≡ true
 
   -- another state, in which another goroutine has acknowledged
-  moved_channel : (s t : RegionState) (h : Holder) → AtChannel s h → AllGood code t → t.plain ≡ s.plain → slice_get t.holders r ≡ Some h → AtChannel t h
+  moved_channel : (s t : RegionState) (h : Holder) → AtChannel s h → AllGood code t → t.plain ≡ s.plain
+      → slice_get t.holders r ≡ Some h → AtChannel t h
   moved_channel s t h x good plain there =
-      record { good = good; running = ap (λ (p : TacState). p.ended) plain ∙ x.running; frame = x.frame; callers = x.callers; at = ap (λ p. slice_get p.goroutines r) plain ∙ x.at; c = x.c; blank = x.blank; go_on = x.go_on; stands = x.stands; receives = x.receives; leads = x.leads; meeting = ap (λ p. is_meeting_at (slice_get p.memory.heap o)) plain ∙ x.meeting; there = there; none = x.none; free = x.free }
+      record { good = good; running = ap (λ (p : TacState). p.ended) plain ∙ x.running; frame = x.frame; callers =
+          x.callers; at = ap (λ p. slice_get p.goroutines r) plain ∙ x.at; c = x.c; blank = x.blank; go_on =
+          x.go_on; stands = x.stands; receives = x.receives; leads = x.leads; meeting =
+          ap (λ p. is_meeting_at (slice_get p.memory.heap o)) plain ∙ x.meeting; there = there; none = x.none; free =
+          x.free }
 
-  moved_sends : (s t : RegionState) (k : Holder) → Sends s k → t.plain ≡ s.plain → slice_get t.holders u ≡ Some k → Sends t k
-  moved_sends s t k x plain there = record { sends = subst (λ p. StandsAtSend code p u o) (sym plain) x.sends; there = there; none = x.none; free = x.free }
+  moved_sends : (s t : RegionState) (k : Holder) → Sends s k → t.plain ≡ s.plain → slice_get t.holders u ≡ Some k
+      → Sends t k
+  moved_sends s t k x plain there = record { sends = subst (λ p. StandsAtSend code p u o) (sym plain) x.sends; there =
+      there; none = x.none; free = x.free }
 
   the_holder : (x y : Holder) → Some x ≡ Some y → x ≡ y
   the_holder x y e = cc
 
   module _ (apart : nat_eq r u ≡ false) where
     -- nobody offers there: the sender does
-    offers_then : (s : RegionState) (h k : Holder) → AtChannel s h → Sends s k → list_any (λ (q : Holder). offers_on o q.offer) s.holders ≡ false → CanInstruct code page_words s (Meet r u)
+    offers_then : (s : RegionState) (h k : Holder) → AtChannel s h → Sends s k
+        → list_any (λ (q : Holder). offers_on o q.offer) s.holders ≡ false → CanInstruct code page_words s (Meet r u)
     offers_then s h k x y none =
         first_step code page_words checked written (Meet r u) s t (MakeOffer u) tt makes
         (now code page_words checked written (Meet r u) t (Meet r u) (u, refl)
-        (meet_now t h u (record k { offer = Standing o }) (moved_channel s t h x (good_at code page_words checked written (Meet r u) s t (MakeOffer u) x.good makes) refl (get_set_other s.holders u r (record k { offer = Standing o }) (flip r u apart) ∙ x.there)) apart (get_set_same s.holders u k (record k { offer = Standing o }) y.there) y.none refl refl y.sends))
+        (meet_now t h u (record k { offer = Standing o }) (moved_channel s t h x
+            (good_at code page_words checked written (Meet r u) s t (MakeOffer u) x.good makes) refl
+            (get_set_other s.holders u r (record k { offer = Standing o }) (flip r u apart) ∙ x.there)) apart
+            (get_set_same s.holders u k (record k { offer = Standing o }) y.there) y.none refl refl y.sends))
       where
         t : RegionState
         t = attended s u (record k { offer = Standing o })
@@ -606,37 +764,53 @@ module _ (code : Code) (page_words : ℕ) (checked : IsChecked code) (written : 
         makes =
             ap (option_and_then (λ q. make_offer code s u q (frames_of s.plain u))) y.there
             ∙ ap (make_offer code s u k) y.sends.at
-            ∙ ap (λ b. if b then offer_at code s u k y.sends.frame else None) (ready_now code page_words checked written (Meet r u) s u k y.sends.frame y.sends.callers y.sends.instr x.good y.there y.sends.at y.sends.cur y.none y.free)
+            ∙ ap (λ b. if b then offer_at code s u k y.sends.frame else None)
+                (ready_now code page_words checked written (Meet r u) s u k y.sends.frame y.sends.callers y.sends.instr
+                x.good y.there y.sends.at y.sends.cur y.none y.free)
             ∙ ap (option_and_then (offer_for s u k y.sends.frame)) y.sends.cur
             ∙ ap (λ op. option_and_then (offered s u k) (offered_channel s y.sends.frame op)) y.sends.is
-            ∙ ap (λ v. option_and_then (offered s u k) (open_channel s (v ∷ value_at y.sends.frame y.sends.sent ∷ []))) y.sends.channel_is
+            ∙ ap (λ v. option_and_then (offered s u k) (open_channel s (v ∷ value_at y.sends.frame y.sends.sent ∷ [])))
+                y.sends.channel_is
             ∙ ap (λ b. option_and_then (offered s u k) (if b then Some o else None)) x.meeting
             ∙ ap (λ b. if b then None else Some (attended s u (record k { offer = Standing o }))) none
 
     -- neither the receiver nor the sender has to acknowledge
-    apart_from : (s : RegionState) (w : ℕ) (q : Holder) (p : ℕ) → slice_get s.holders w ≡ Some q → q.offer ≡ Taken p → (j : ℕ) (y : Holder) → slice_get s.holders j ≡ Some y → may_go y.offer ≡ true → slice_get (slice_set s.holders w (record q { offer = NoOffer })) j ≡ Some y
-    apart_from s w q p e z j y ey my = split (nat_eq w j) (λ u'. absurd (same (eq_of w j u'))) (λ n'. get_set_other s.holders w j (record q { offer = NoOffer }) n' ∙ ey)
+    apart_from : (s : RegionState) (w : ℕ) (q : Holder) (p : ℕ) → slice_get s.holders w ≡ Some q → q.offer ≡ Taken p
+        → (j : ℕ) (y : Holder) → slice_get s.holders j ≡ Some y → may_go y.offer ≡ true
+        → slice_get (slice_set s.holders w (record q { offer = NoOffer })) j ≡ Some y
+    apart_from s w q p e z j y ey my = split (nat_eq w j) (λ u'. absurd (same (eq_of w j u')))
+        (λ n'. get_set_other s.holders w j (record q { offer = NoOffer }) n' ∙ ey)
       where
         same : w ≡ j → ⊥
-        same u' = true≢false (sym my ∙ ap (λ (v : Holder). may_go v.offer) (the_holder y q (sym ey ∙ ap (slice_get s.holders) (sym u') ∙ e)) ∙ ap may_go z)
+        same u' = true≢false (sym my ∙ ap (λ (v : Holder). may_go v.offer)
+            (the_holder y q (sym ey ∙ ap (slice_get s.holders) (sym u') ∙ e)) ∙ ap may_go z)
 
     -- somebody offers there, or somebody's offer there has to be acknowledged first
-    by_find : (s : RegionState) (h k : Holder) → AtChannel s h → Sends s k → ((w : ℕ) (q : Holder) (p : ℕ) → slice_get s.holders w ≡ Some q → q.offer ≡ Taken p → AtChannel (attended s w (record q { offer = NoOffer })) h → Sends (attended s w (record q { offer = NoOffer })) k → CanInstruct code page_words (attended s w (record q { offer = NoOffer })) (Meet r u)) → CanInstruct code page_words s (Meet r u)
-    by_find s h k x y again = split (list_any (λ (q : Holder). offers_on o q.offer) s.holders) (λ t. some (find_offer s.holders o t)) (λ f. offers_then s h k x y f)
+    by_find : (s : RegionState) (h k : Holder) → AtChannel s h → Sends s k
+        → ((w : ℕ) (q : Holder) (p : ℕ) → slice_get s.holders w ≡ Some q → q.offer ≡ Taken p
+        → AtChannel (attended s w (record q { offer = NoOffer })) h
+        → Sends (attended s w (record q { offer = NoOffer })) k
+        → CanInstruct code page_words (attended s w (record q { offer = NoOffer })) (Meet r u))
+        → CanInstruct code page_words s (Meet r u)
+    by_find s h k x y again = split (list_any (λ (q : Holder). offers_on o q.offer) s.holders)
+        (λ t. some (find_offer s.holders o t)) (λ f. offers_then s h k x y f)
       where
-        some : (w : ℕ) × (q : Holder) × (slice_get s.holders w ≡ Some q) × (offers_on o q.offer ≡ true) → CanInstruct code page_words s (Meet r u)
+        some : (w : ℕ) × (q : Holder) × (slice_get s.holders w ≡ Some q) × (offers_on o q.offer ≡ true)
+            → CanInstruct code page_words s (Meet r u)
         some (w, q, e, f) = by q.offer refl f
           where
             by : (offer : Offer) → q.offer ≡ offer → offers_on o offer ≡ true → CanInstruct code page_words s (Meet r u)
             by NoOffer z f = absurd (true≢false (sym f))
             by (Standing p) z f =
-                now code page_words checked written (Meet r u) s (Meet r w) (w, refl) (meet_now s h w q x other e fits.0 (ap may_go z) (ap standing_at z) fits.2)
+                now code page_words checked written (Meet r u) s (Meet r w) (w, refl)
+                    (meet_now s h w q x other e fits.0 (ap may_go z) (ap standing_at z) fits.2)
               where
                 op : o ≡ p
                 op = eq_of o p f
 
                 fits : OfferFits code s w q (Standing o)
-                fits = subst (λ y. OfferFits code s w q (Standing y)) (sym op) (subst (OfferFits code s w q) z (x.good.offers.fits w q e))
+                fits = subst (λ y. OfferFits code s w q (Standing y)) (sym op)
+                    (subst (OfferFits code s w q) z (x.good.offers.fits w q e))
 
                 clash : (a b : Option ℕ) (vs ws rs qs : List ℕ) → Do a Send vs rs ≡ Do b Recv ws qs → ⊥
                 clash a b vs ws rs qs e = cc
@@ -644,46 +818,64 @@ module _ (code : Code) (page_words : ℕ) (checked : IsChecked code) (written : 
                 -- a receiver does not offer
                 not_receiver : r ≡ w → ⊥
                 not_receiver same =
-                    let st : StandsAtSend code s.plain r o = subst (λ i. StandsAtSend code s.plain i o) (sym same) fits.2 in
-                    let y = at_send code s.plain r o st x.receives.frame x.receives.callers x.receives.instr (ap frames_in x.at ∙ x.receives.at) x.receives.cur in
-                    clash st.to x.receives.to (st.channel ∷ st.sent ∷ []) (x.receives.channel ∷ []) st.removes x.receives.removes (sym y.0 ∙ x.receives.is)
+                    let st : StandsAtSend code s.plain r o = subst (λ i. StandsAtSend code s.plain i o) (sym same)
+                        fits.2 in
+                    let y = at_send code s.plain r o st x.receives.frame x.receives.callers x.receives.instr
+                        (ap frames_in x.at ∙ x.receives.at) x.receives.cur in
+                    clash st.to x.receives.to (st.channel ∷ st.sent ∷ []) (x.receives.channel ∷ []) st.removes
+                        x.receives.removes (sym y.0 ∙ x.receives.is)
 
                 other : nat_eq r w ≡ false
                 other = split (nat_eq r w) (λ t. absurd (not_receiver (eq_of r w t))) (λ n. n)
             by (Taken p) z f =
-                first_step code page_words checked written (Meet r u) s (attended s w (record q { offer = NoOffer })) (Acknowledge w) tt step
+                first_step code page_words checked written (Meet r u) s (attended s w (record q { offer = NoOffer }))
+                    (Acknowledge w) tt step
                 (again w q p e z
-                (moved_channel s (attended s w (record q { offer = NoOffer })) h x (good_at code page_words checked written (Meet r u) s (attended s w (record q { offer = NoOffer })) (Acknowledge w) x.good step) refl (apart_from s w q p e z r h x.there x.free))
-                (moved_sends s (attended s w (record q { offer = NoOffer })) k y refl (apart_from s w q p e z u k y.there y.free)))
+                (moved_channel s (attended s w (record q { offer = NoOffer })) h x
+                    (good_at code page_words checked written (Meet r u) s (attended s w (record q { offer = NoOffer }))
+                    (Acknowledge w) x.good step) refl (apart_from s w q p e z r h x.there x.free))
+                (moved_sends s (attended s w (record q { offer = NoOffer })) k y refl
+                    (apart_from s w q p e z u k y.there y.free)))
               where
-                step : region_step code page_words s (Acknowledge w) ≡ Some (attended s w (record q { offer = NoOffer }))
+                step : region_step code page_words s (Acknowledge w)
+                    ≡ Some (attended s w (record q { offer = NoOffer }))
                 step = acknowledges code page_words checked written (Meet r u) s w q p x.good e z
 
     -- one that has to acknowledge fewer
-    fewer : (s : RegionState) (w : ℕ) (q : Holder) (p : ℕ) → slice_get s.holders w ≡ Some q → q.offer ≡ Taken p → total is_taken (slice_set s.holders w (record q { offer = NoOffer })) + 1 ≡ total is_taken s.holders
+    fewer : (s : RegionState) (w : ℕ) (q : Holder) (p : ℕ) → slice_get s.holders w ≡ Some q → q.offer ≡ Taken p
+        → total is_taken (slice_set s.holders w (record q { offer = NoOffer })) + 1 ≡ total is_taken s.holders
     fewer s w q p e z =
         let a = total_set is_taken s.holders w q (record q { offer = NoOffer }) e in
         let b : is_taken q ≡ 1 = ap (λ x. one_if (not (may_go x))) z in
         omega (arith, a, b)
 
-    loop : (n : ℕ) (s : RegionState) (h k : Holder) → total is_taken s.holders ≡ n → AtChannel s h → Sends s k → CanInstruct code page_words s (Meet r u)
-    loop zero s h k count x y = by_find s h k x y (λ w q p e z x' y'. absurd (let a = fewer s w q p e z in omega (arith, a, count)))
-    loop (suc n) s h k count x y = by_find s h k x y (λ w q p e z x' y'. loop n (attended s w (record q { offer = NoOffer })) h k (let a = fewer s w q p e z in omega (arith, a, count)) x' y')
+    loop : (n : ℕ) (s : RegionState) (h k : Holder) → total is_taken s.holders ≡ n → AtChannel s h → Sends s k
+        → CanInstruct code page_words s (Meet r u)
+    loop zero s h k count x y = by_find s h k x y (λ w q p e z x' y'.
+        absurd (let a = fewer s w q p e z in omega (arith, a, count)))
+    loop (suc n) s h k count x y = by_find s h k x y (λ w q p e z x' y'.
+        loop n (attended s w (record q { offer = NoOffer })) h k (let a = fewer s w q p e z in omega (arith, a, count))
+        x' y')
 
 -- ---- every pick
 
-get_holder : (s : RegionState) (code : Code) (g : ℕ) → AllGood code s → (fr : List Frame) → slice_get s.plain.goroutines g ≡ Some fr → (h : Holder) × (slice_get s.holders g ≡ Some h)
-get_holder s code g all fr e = get_some s.holders g (let a = get_below s.plain.goroutines g fr e in let b = all.good.fine.as_many in omega (arith, a, b))
+get_holder : (s : RegionState) (code : Code) (g : ℕ) → AllGood code s → (fr : List Frame)
+    → slice_get s.plain.goroutines g ≡ Some fr → (h : Holder) × (slice_get s.holders g ≡ Some h)
+get_holder s code g all fr e = get_some s.holders g (let a = get_below s.plain.goroutines g fr e in let b =
+    all.good.fine.as_many in omega (arith, a, b))
 
-module _ (code : Code) (page_words : ℕ) (checked : IsChecked code) (written : Ascends code) (s : RegionState) (all : AllGood code s) where
-  by_one : (g : ℕ) (next : TacState) → plain_step code s.plain (One g) ≡ Some next → ¬ (MakesTooLarge page_words s.plain next) → CanInstruct code page_words s (One g)
+module _ (code : Code) (page_words : ℕ) (checked : IsChecked code) (written : Ascends code) (s : RegionState)
+    (all : AllGood code s) where
+  by_one : (g : ℕ) (next : TacState) → plain_step code s.plain (One g) ≡ Some next
+      → ¬ (MakesTooLarge page_words s.plain next) → CanInstruct code page_words s (One g)
   by_one g next step small = go (slice_get s.plain.goroutines g) refl
     where
       running : s.plain.ended ≡ None
       running = running_of code s.plain (One g) next step
 
       none_step : slice_get s.plain.goroutines g ≡ None → plain_step code s.plain (One g) ≡ None
-      none_step q = ap (λ e. unless_ended e (picked (tac (erased code)) s.plain (One g))) running ∙ ap (option_and_then (machine_alone (tac (erased code)) s.plain g)) q
+      none_step q = ap (λ e. unless_ended e (picked (tac (erased code)) s.plain (One g))) running
+          ∙ ap (option_and_then (machine_alone (tac (erased code)) s.plain g)) q
 
       go : (o : Option (List Frame)) → slice_get s.plain.goroutines g ≡ o → CanInstruct code page_words s (One g)
       go None q = let x : None ≡ Some next = sym (none_step q) ∙ step in cc
@@ -694,8 +886,10 @@ module _ (code : Code) (page_words : ℕ) (checked : IsChecked code) (written : 
           (ap (λ p. plain_step code p (One g)) c.plain ∙ step)
           (subst (λ p. ¬ (MakesTooLarge page_words p next)) (sym c.plain) small))
 
-  by_meet : (r u : ℕ) (next : TacState) → plain_step code s.plain (Meet r u) ≡ Some next → CanInstruct code page_words s (Meet r u)
-  by_meet r u next step = go (nat_eq r u) refl (slice_get s.plain.goroutines r) refl (slice_get s.plain.goroutines u) refl (sym (ap (λ e. unless_ended e (picked (tac (erased code)) s.plain (Meet r u))) running) ∙ step)
+  by_meet : (r u : ℕ) (next : TacState) → plain_step code s.plain (Meet r u) ≡ Some next
+      → CanInstruct code page_words s (Meet r u)
+  by_meet r u next step = go (nat_eq r u) refl (slice_get s.plain.goroutines r) refl (slice_get s.plain.goroutines u)
+      refl (sym (ap (λ e. unless_ended e (picked (tac (erased code)) s.plain (Meet r u))) running) ∙ step)
     where
       running : s.plain.ended ≡ None
       running = running_of code s.plain (Meet r u) next step
@@ -706,15 +900,21 @@ module _ (code : Code) (page_words : ℕ) (checked : IsChecked code) (written : 
       self : (n : ℕ) → nat_eq n n ≡ true
       self n = grind arith
 
-      go : (b : Bool) → nat_eq r u ≡ b → (p : Option (List Frame)) → slice_get s.plain.goroutines r ≡ p → (q : Option (List Frame)) → slice_get s.plain.goroutines u ≡ q → (if b then None else option_and_then (λ f. option_and_then (met_by (tac (erased code)) s.plain r u f) q) p) ≡ Some next → CanInstruct code page_words s (Meet r u)
+      go : (b : Bool) → nat_eq r u ≡ b → (p : Option (List Frame)) → slice_get s.plain.goroutines r ≡ p
+          → (q : Option (List Frame)) → slice_get s.plain.goroutines u ≡ q
+          → (if b then None else option_and_then (λ f. option_and_then (met_by (tac (erased code)) s.plain r u f) q) p)
+          ≡ Some next → CanInstruct code page_words s (Meet r u)
       go true ne p ep q eq z = cc
       go false ne None ep q eq z = cc
       go false ne (Some a) ep None eq z = cc
       go false ne (Some []) ep (Some b) eq z = cc
       go false ne (Some (f ∷ fs)) ep (Some []) eq z = cc
-      go false ne (Some (f ∷ fs)) ep (Some (k ∷ ks)) eq z = stands (stand (erased code) f) refl (stand (erased code) k) (stands_at_channel code f fs) (stands_at_channel code k ks) z
+      go false ne (Some (f ∷ fs)) ep (Some (k ∷ ks)) eq z =
+          stands (stand (erased code) f) refl (stand (erased code) k) (stands_at_channel code f fs)
+          (stands_at_channel code k ks) z
         where
-          stands : (x : Stand Frame) → stand (erased code) f ≡ x → (y : Stand Frame) → StandsAt code f fs x → StandsAt code k ks y → met s.plain r u fs ks x y ≡ Some next → CanInstruct code page_words s (Meet r u)
+          stands : (x : Stand Frame) → stand (erased code) f ≡ x → (y : Stand Frame) → StandsAt code f fs x
+              → StandsAt code k ks y → met s.plain r u fs ks x y ≡ Some next → CanInstruct code page_words s (Meet r u)
           stands (AtReceive c blank go_on) ex (AtReceive d blank' go_on') ha hb z = cc
           stands (AtReceive c blank go_on) ex (AtClose d place go_on') ha hb z = cc
           stands (AtReceive c blank go_on) ex (AtCall go_on' callee) ha hb z = cc
@@ -725,16 +925,23 @@ module _ (code : Code) (page_words : ℕ) (checked : IsChecked code) (written : 
           stands (AtCall go_on callee) ex y ha hb z = cc
           stands (AtStart go_on child) ex y ha hb z = cc
           stands Elsewhere ex y ha hb z = cc
-          stands (AtReceive c blank go_on) ex (AtSend d v place sender) ha hb z = on (meets_at s.plain.memory c d) refl z
+          stands (AtReceive c blank go_on) ex (AtSend d v place sender) ha hb z =
+              on (meets_at s.plain.memory c d) refl z
             where
-              on : (x : Bool) → meets_at s.plain.memory c d ≡ x → (if x then Some (met_with s.plain r u (go_on v ∷ fs) (sender ∷ ks)) else None) ≡ Some next → CanInstruct code page_words s (Meet r u)
+              on : (x : Bool) → meets_at s.plain.memory c d ≡ x
+                  → (if x then Some (met_with s.plain r u (go_on v ∷ fs) (sender ∷ ks)) else None) ≡ Some next
+                  → CanInstruct code page_words s (Meet r u)
               on false m z = cc
-              on true m z = both (get_holder s code r all (f ∷ fs) ep) (get_holder s code u all (k ∷ ks) eq) (one_object code checked s.plain.memory c d m)
+              on true m z = both (get_holder s code r all (f ∷ fs) ep) (get_holder s code u all (k ∷ ks) eq)
+                  (one_object code checked s.plain.memory c d m)
                 where
-                  both : (h : Holder) × (slice_get s.holders r ≡ Some h) → (k' : Holder) × (slice_get s.holders u ≡ Some k') → (o : ℕ) × (c ≡ value.Object o) × (d ≡ value.Object o) → CanInstruct code page_words s (Meet r u)
+                  both : (h : Holder) × (slice_get s.holders r ≡ Some h) → (k' : Holder)
+                      × (slice_get s.holders u ≡ Some k') → (o : ℕ) × (c ≡ value.Object o) × (d ≡ value.Object o)
+                      → CanInstruct code page_words s (Meet r u)
                   both (h, eh) (k', ek) (o, eco, edo) =
                       clear code page_words checked written (Meet r u) s r h all eh (λ t h' ct dh mh.
-                      clear code page_words checked written (Meet r u) t u k' ct.good (ct.others u ne ∙ ek) (λ v' k'' cv dk mk.
+                      clear code page_words checked written (Meet r u) t u k' ct.good (ct.others u ne ∙ ek)
+                          (λ v' k'' cv dk mk.
                       loop code page_words checked written r u o ne (total is_taken v'.holders) v' h' k'' refl
                       (record {
                         good = cv.good;
@@ -754,14 +961,19 @@ module _ (code : Code) (page_words : ℕ) (checked : IsChecked code) (written : 
                         free = mh;
                       })
                       (record {
-                        sends = subst (λ p. StandsAtSend code p u o) (sym (cv.plain ∙ ct.plain)) (record { frame = hb.frame; callers = hb.callers; at = ap frames_in eq ∙ hb.at; instr = hb.instr; cur = hb.cur; to = hb.to; channel = hb.channel; sent = hb.sent; removes = hb.removes; is = hb.is; channel_is = sym hb.channel_is ∙ edo });
+                        sends = subst (λ p. StandsAtSend code p u o) (sym (cv.plain ∙ ct.plain))
+                            (record { frame = hb.frame; callers = hb.callers; at = ap frames_in eq ∙ hb.at; instr =
+                            hb.instr; cur = hb.cur; to = hb.to; channel = hb.channel; sent = hb.sent; removes =
+                            hb.removes; is = hb.is; channel_is = sym hb.channel_is ∙ edo });
                         there = cv.there;
                         none = dk;
                         free = mk;
                       })))
                     where
                       meeting : is_meeting_at (slice_get s.plain.memory.heap o) ≡ true
-                      meeting = sym (ap (λ b. if b then is_meeting_at (slice_get s.plain.memory.heap o) else false) (self o)) ∙ sym (ap (λ y. meets_at s.plain.memory y (value.Object o)) eco) ∙ sym (ap (meets_at s.plain.memory c) edo) ∙ m
+                      meeting = sym (ap (λ b. if b then is_meeting_at (slice_get s.plain.memory.heap o) else false)
+                          (self o)) ∙ sym (ap (λ y. meets_at s.plain.memory y (value.Object o)) eco)
+                          ∙ sym (ap (meets_at s.plain.memory c) edo) ∙ m
 
 pub no_step_missing : NoStepMissing
 no_step_missing code page_words events s pick next checked written run step small = by pick step

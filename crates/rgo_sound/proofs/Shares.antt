@@ -1,5 +1,6 @@
 -- Stakes for a coming child: what is pending behind the duties of an instruction.
-use Rattle.std.proofs.Common.{◌≡◌, ℕ, zero, suc, ◌+◌, ◌≤◌, Bool, true, false, ◌||◌, List, [], ◌∷◌, ◌++◌, map, Option, Some, None, refl, sym, ap, ◌∙◌, subst, nat_eq, if◌then◌else◌, arith, true≢false}
+use Rattle.std.proofs.Common.{◌≡◌, ℕ, zero, suc, ◌+◌, ◌≤◌, Bool, true, false, ◌||◌, List, [], ◌∷◌, ◌++◌, map, Option}
+use Rattle.std.proofs.Common.{Some, None, refl, sym, ap, ◌∙◌, subst, nat_eq, if◌then◌else◌, arith, true≢false}
 use Rattle.std.specs.List.{list_any}
 use Rattle.rgo_sound.proofs.CoreLemmas.{split, eq_of}
 use Rattle.rgo_code.specs.Code.{Branch, Call, Code, CodeInstr, CodeOp, Do, Go, Jump, Print, Return}
@@ -37,9 +38,11 @@ creates_share_none [] = tt
 creates_share_none (k ∷ ks) = creates_share_none ks
 
 -- duties without a share may stand before any others
-pub shares_front : (ks : List ℕ) (front ds : List Duty) (pending : List ℕ) → HasNoShare front → ((names : Bindings) → Shares ks ds names pending) → (names : Bindings) → Shares ks (front ++ ds) names pending
+pub shares_front : (ks : List ℕ) (front ds : List Duty) (pending : List ℕ) → HasNoShare front
+    → ((names : Bindings) → Shares ks ds names pending) → (names : Bindings) → Shares ks (front ++ ds) names pending
 shares_front ks [] ds pending n next names = next names
-shares_front ks (Create k ∷ front) ds pending n next names = λ r. shares_front ks front ds pending n next ((k, Numbered r) ∷ unbind names k)
+shares_front ks (Create k ∷ front) ds pending n next names =
+    λ r. shares_front ks front ds pending n next ((k, Numbered r) ∷ unbind names k)
 shares_front ks (Share k ∷ front) ds pending n next names = absurd n
 shares_front ks (Protect k ∷ front) ds pending n next names = shares_front ks front ds pending n next names
 shares_front ks (Unprotect k ∷ front) ds pending n next names = shares_front ks front ds pending n next names
@@ -54,7 +57,8 @@ times_any : (r : ℕ) (xs : List ℕ) → list_any (nat_eq r) xs ≡ true → 1 
 times_any r [] e = absurd (true≢false (sym e))
 times_any r (x ∷ xs) e = go (nat_eq r x) e (times_any r xs)
   where
-    go : (b : Bool) → (b || list_any (nat_eq r) xs) ≡ true → (list_any (nat_eq r) xs ≡ true → 1 ≤ times_in r xs) → 1 ≤ one_if b + times_in r xs
+    go : (b : Bool) → (b || list_any (nat_eq r) xs) ≡ true → (list_any (nat_eq r) xs ≡ true → 1 ≤ times_in r xs)
+        → 1 ≤ one_if b + times_in r xs
     go true e next = omega arith
     go false e next = let x = next e in omega (arith, x)
 
@@ -62,7 +66,8 @@ times_none : (r : ℕ) (xs : List ℕ) → list_any (nat_eq r) xs ≡ false → 
 times_none r [] e = refl
 times_none r (x ∷ xs) e = go (nat_eq r x) e (times_none r xs)
   where
-    go : (b : Bool) → (b || list_any (nat_eq r) xs) ≡ false → (list_any (nat_eq r) xs ≡ false → times_in r xs ≡ 0) → one_if b + times_in r xs ≡ 0
+    go : (b : Bool) → (b || list_any (nat_eq r) xs) ≡ false → (list_any (nat_eq r) xs ≡ false → times_in r xs ≡ 0)
+        → one_if b + times_in r xs ≡ 0
     go true e next = absurd (true≢false e)
     go false e next = sym (zero_add (times_in r xs)) ∙ next e
 
@@ -76,9 +81,12 @@ at_most_one_some zero h = h
 at_most_one_some (suc n) h = omega arith
 
 -- one share more
-more_pending : (q : Region) (pending : List ℕ) (c : ℕ → ℕ) → ((r : ℕ) → times_in r pending ≡ at_most_one (c r)) → (r : ℕ) → times_in r (with_pending q pending) ≡ at_most_one (one_if (same_region (Numbered r) q) + c r)
+more_pending : (q : Region) (pending : List ℕ) (c : ℕ → ℕ) → ((r : ℕ) → times_in r pending ≡ at_most_one (c r))
+    → (r : ℕ) → times_in r (with_pending q pending) ≡ at_most_one (one_if (same_region (Numbered r) q) + c r)
 more_pending GlobalRegion pending c h r = h r ∙ ap at_most_one (zero_add (c r))
-more_pending (Numbered q) pending c h r = split (list_any (nat_eq q) pending) (λ t. ap (λ b. times_in r (if b then pending else q ∷ pending)) t ∙ there t) (λ n. ap (λ b. times_in r (if b then pending else q ∷ pending)) n ∙ new n)
+more_pending (Numbered q) pending c h r = split (list_any (nat_eq q) pending)
+    (λ t. ap (λ b. times_in r (if b then pending else q ∷ pending)) t ∙ there t)
+    (λ n. ap (λ b. times_in r (if b then pending else q ∷ pending)) n ∙ new n)
   where
     there : list_any (nat_eq q) pending ≡ true → times_in r pending ≡ at_most_one (one_if (nat_eq r q) + c r)
     there t = go (nat_eq r q) refl
@@ -101,11 +109,15 @@ more_pending (Numbered q) pending c h r = split (list_any (nat_eq q) pending) (�
         go false e = sym (zero_add (times_in r pending)) ∙ h r ∙ ap at_most_one (zero_add (c r))
 
 -- all the shares of an instruction
-shares_all : (ks todo : List ℕ) (names : Bindings) (pending : List ℕ) (c : ℕ → ℕ) → ((r : ℕ) → times_in r pending ≡ at_most_one (c r)) → ((r : ℕ) → bound_times (Numbered r) names ks ≡ c r + bound_times (Numbered r) names todo) → Shares ks (map Share todo) names pending
+shares_all : (ks todo : List ℕ) (names : Bindings) (pending : List ℕ) (c : ℕ → ℕ)
+    → ((r : ℕ) → times_in r pending ≡ at_most_one (c r)) → ((r : ℕ) → bound_times (Numbered r) names ks
+    ≡ c r + bound_times (Numbered r) names todo) → Shares ks (map Share todo) names pending
 shares_all ks [] names pending c h t = λ r. let a = t r in h r ∙ ap at_most_one (omega (arith, a))
 shares_all ks (k ∷ todo) names pending c h t =
-    λ q b. shares_all ks todo names (with_pending q pending) (λ r. one_if (same_region (Numbered r) q) + c r) (more_pending q pending c h)
-    (λ r. let a = t r in let e : one_if (same_bound (Numbered r) (bound names k)) ≡ one_if (same_region (Numbered r) q) = ap (λ x. one_if (same_bound (Numbered r) x)) b in omega (arith, a, e))
+    λ q b. shares_all ks todo names (with_pending q pending) (λ r. one_if (same_region (Numbered r) q) + c r)
+        (more_pending q pending c h)
+    (λ r. let a = t r in let e : one_if (same_bound (Numbered r) (bound names k))
+        ≡ one_if (same_region (Numbered r) q) = ap (λ x. one_if (same_bound (Numbered r) x)) b in omega (arith, a, e))
 
 -- protections share nothing, and what is asked for before an instruction shares what it is to share
 shares_protects : (ps : List ℕ) (names : Bindings) → Shares [] (map Protect ps) names []
@@ -114,7 +126,8 @@ shares_protects (p ∷ ps) names = shares_protects ps names
 
 shares_op : (op : CodeOp) (names : Bindings) → Shares (shared_names op) (duties_of_op op) names []
 shares_op (Call to n from passes protects rs) names = shares_protects protects names
-shares_op (Go n from passes rs) names = shares_all (regions_named passes) (regions_named passes) names [] (λ r. 0) (λ r. refl) (λ r. zero_add (bound_times (Numbered r) names (regions_named passes)))
+shares_op (Go n from passes rs) names = shares_all (regions_named passes) (regions_named passes) names [] (λ r. 0)
+    (λ r. refl) (λ r. zero_add (bound_times (Numbered r) names (regions_named passes)))
 shares_op (Do to action from rs) names = λ r. refl
 shares_op (Print pieces from rs) names = λ r. refl
 shares_op (Jump t rs) names = λ r. refl
@@ -123,11 +136,14 @@ shares_op (Return value) names = λ r. refl
 
 shares_before : (o : Option CodeInstr) (names : Bindings) → Shares (shared_before o) (duties_before o) names []
 shares_before None names = λ r. refl
-shares_before (Some i) names = shares_front (shared_names i.op) (map Create i.creates) (duties_of_op i.op) [] (creates_share_none i.creates) (shares_op i.op) names
+shares_before (Some i) names = shares_front (shared_names i.op) (map Create i.creates) (duties_of_op i.op) []
+    (creates_share_none i.creates) (shares_op i.op) names
 
 -- where nothing is pending, what a goroutine comes to owe before its next instruction shares what it is to share
-pub shares_next : (code : Code) (frames : List Frame) (front : List Duty) → HasNoShare front → (names : Bindings) → Shares (to_share code frames) (front ++ next_duties code frames) names []
-shares_next code frames front n names = shares_front (to_share code frames) front (next_duties code frames) [] n (next frames) names
+pub shares_next : (code : Code) (frames : List Frame) (front : List Duty) → HasNoShare front → (names : Bindings)
+    → Shares (to_share code frames) (front ++ next_duties code frames) names []
+shares_next code frames front n names = shares_front (to_share code frames) front (next_duties code frames) [] n
+    (next frames) names
   where
     next : (frames : List Frame) (names : Bindings) → Shares (to_share code frames) (next_duties code frames) names []
     next [] names = λ r. refl

@@ -1,5 +1,6 @@
 -- Each step of the three-address machine keeps the types of values.
-use Rattle.std.proofs.Common.{◌≡◌, ℕ, zero, suc, ◌+◌, ◌⊎◌, inl, inr, Bool, true, false, List, [], ◌∷◌, ◌++◌, map, take, drop, length, Option, Some, None, refl, sym, ap, ◌∙◌, subst}
+use Rattle.std.proofs.Common.{◌≡◌, ℕ, zero, suc, ◌+◌, ◌⊎◌, inl, inr, Bool, true, false, List, [], ◌∷◌, ◌++◌, map, take}
+use Rattle.std.proofs.Common.{drop, length, Option, Some, None, refl, sym, ap, ◌∙◌, subst}
 use Rattle.std.proofs.Common.{nat_eq, if◌then◌else◌, true≢false, slice_get, slice_set, option_map, option_and_then}
 use Rattle.std.proofs.lemmas.Option.{get_or_from_slice_get, same_Some, slice_get-map}
 use Rattle.rgo_typed.specs.declared.actions.Action.{Action}
@@ -16,7 +17,8 @@ use Rattle.rgo_machine.specs.declared.picks.End.{End}
 use Rattle.rgo_machine.specs.declared.picks.Pick.{Pick}
 use Rattle.rgo_machine.specs.declared.picks.Pick.TheVariants.{Meet, One}
 use Rattle.rgo_machine.specs.Actions.{is_true}
-use Rattle.rgo_machine.specs.Machines.{AtCall, AtClose, AtReceive, AtSend, AtStart, Elsewhere, Stand, met, met_by, picked, unless_ended, with_frames}
+use Rattle.rgo_machine.specs.Machines.{AtCall, AtClose, AtReceive, AtSend, AtStart, Elsewhere, Stand, met, met_by}
+use Rattle.rgo_machine.specs.Machines.{picked, unless_ended, with_frames}
 use Rattle.rgo_machine.specs.Machines as machine
 use Rattle.rgo_tac.specs.Code.{TacFn}
 use Rattle.rgo_tac.specs.Frames.{Frame, assigned, called, going, moved_to, value_at, values_of}
@@ -32,13 +34,16 @@ use Rattle.rgo_code.specs.declared.rules.Rule.TheVariants as rule
 use Rattle.rgo_region_machine.specs.Machine.{plain_step}
 use Rattle.rgo_region_machine.specs.Owed.{current, current_in, function_at}
 use Rattle.rgo_sound.specs.Invariant.{HasInstr}
-use Rattle.rgo_sound.specs.Types.{CalledFrom, Each, FramesHaveKinds, HasKind, HaveKinds, IsCallOf, MemoryFits, Typed, TypesKeep}
-use Rattle.rgo_sound.proofs.Acting.{Acted, act, act_at, after, alone, alone_is, call, effected, performed, returned, start, trap_place}
+use Rattle.rgo_sound.specs.Types.{CalledFrom, Each, FramesHaveKinds, HasKind, HaveKinds, IsCallOf, MemoryFits, Typed}
+use Rattle.rgo_sound.specs.Types.{TypesKeep}
+use Rattle.rgo_sound.proofs.Acting.{Acted, act, act_at, after, alone, alone_is, call, effected, performed, returned}
+use Rattle.rgo_sound.proofs.Acting.{start, trap_place}
 use Rattle.rgo_sound.proofs.CoreLemmas.{eq_of, split}
 use Rattle.rgo_sound.proofs.ErasureLemmas.{Always}
 use Rattle.rgo_sound.proofs.OneStep.{ReceivesAt, SendsAt, StandsAt, current_erased, stands_at_channel}
 use Rattle.rgo_sound.proofs.Places.{each_get, get_append_cases, get_set_other, get_set_same}
-use Rattle.rgo_sound.proofs.Types.{Extends, GivesKind, Performed, get_kinds, more_kinds, returns, same_chan, set_kinds, takes, zeros_kinds}
+use Rattle.rgo_sound.proofs.Types.{Extends, GivesKind, Performed, get_kinds, more_kinds, returns, same_chan, set_kinds}
+use Rattle.rgo_sound.proofs.Types.{takes, zeros_kinds}
 
 -- ---- variables
 
@@ -54,7 +59,8 @@ module _ (kinds : List «Type») (fn : TacFn) (frame : Frame) (h : HaveKinds kin
       let x = get_kinds kinds fn.variables frame.variables v ty h t in
       subst (HasKind kinds ty) (sym (get_or_from_slice_get frame.variables v x.0 value.Nil x.1)) x.2
 
-  pub vars_kinds : (from : List ℕ) (tys : List «Type») → HaveTypes fn from tys → HaveKinds kinds tys (values_of frame from)
+  pub vars_kinds : (from : List ℕ) (tys : List «Type») → HaveTypes fn from tys
+      → HaveKinds kinds tys (values_of frame from)
   vars_kinds [] [] t = tt
   vars_kinds [] (ty ∷ tys) t = cc
   vars_kinds (v ∷ vs) [] t = cc
@@ -128,14 +134,18 @@ module _ (code : Code) (checked : IsChecked code) where
       subst (λ (o : CodeOp). OpFits (erased code) (erased_fn fn) (erased_op o)) e
       (checked rule.Types (line.Instr frame.function frame.next) fn instr is (here frame fn instr is cur))
 
-  module _ (kinds : List «Type») (m : Memory) (fits : MemoryFits code kinds m) (frame : Frame) (callers : List Frame) (instr : CodeInstr) (cur : current code frame ≡ Some instr) (all : FramesHaveKinds code kinds (frame ∷ callers)) where
+  module _ (kinds : List «Type») (m : Memory) (fits : MemoryFits code kinds m) (frame : Frame) (callers : List Frame)
+      (instr : CodeInstr) (cur : current code frame ≡ Some instr) (all : FramesHaveKinds code kinds (frame ∷ callers))
+      where
     -- the frames are these, and the memory is as it was
     moves_fit : (frames : List Frame) → FramesHaveKinds code kinds frames
         → ActedFits code kinds (record { memory = m; frames = frames; started = []; printed = []; trap = None })
     moves_fit frames h = record { more = kinds; ext = λ o ty e. e; memory = fits; frames = h; started = tt }
 
-    goes_on : ActedFits code kinds (record { memory = m; frames = moved_to frame (frame.next + 1) ∷ callers; started = []; printed = []; trap = None })
-    goes_on = moves_fit (moved_to frame (frame.next + 1) ∷ callers) (stays code kinds frame callers all (frame.next + 1))
+    goes_on : ActedFits code kinds (record { memory = m; frames = moved_to frame (frame.next + 1) ∷ callers; started =
+        []; printed = []; trap = None })
+    goes_on = moves_fit (moved_to frame (frame.next + 1) ∷ callers)
+        (stays code kinds frame callers all (frame.next + 1))
 
     -- ---- an action
 
@@ -149,7 +159,8 @@ module _ (code : Code) (checked : IsChecked code) where
       ext = ext;
       memory = fits';
       frames =
-          goes code kinds more frame callers all ext (assigned frame.variables to v) (frame.next + 1) (target more v ext g);
+          goes code kinds more frame callers all ext (assigned frame.variables to v) (frame.next + 1)
+              (target more v ext g);
       started = tt;
     }
     acted to given place (Some (Traps trap)) target p =
@@ -158,19 +169,23 @@ module _ (code : Code) (checked : IsChecked code) where
     -- the type for which a value is made is that of the variable
     type_is : (d : ℕ) (ty : «Type») → HasType (erased_fn all.0.0) d ty → type_of (erased code) frame (Some d) ≡ ty
     type_is d ty t =
-        ap (λ o. type_in o d) (slice_get-map erased_fn code.functions frame.function ∙ ap (option_map erased_fn) all.0.1)
+        ap (λ o. type_in o d) (slice_get-map erased_fn code.functions frame.function
+            ∙ ap (option_map erased_fn) all.0.1)
         ∙ get_or_from_slice_get (erased_fn all.0.0).variables d ty _ t
 
     does : (to : Option ℕ) (action : Action) (from : List ℕ) (tys : List «Type») (place : ℕ)
         → HaveTypes (erased_fn all.0.0) from tys → DoFits (erased code) (erased_fn all.0.0) to action tys
-        → Always (ActedFits code kinds) (effected m frame callers to place (performed code.structs action (type_of (erased code) frame to) (values_of frame from) m))
+        → Always (ActedFits code kinds) (effected m frame callers to place
+            (performed code.structs action (type_of (erased code) frame to) (values_of frame from) m))
     does None action from tys place have t =
-        acted None None place (performed code.structs action (type_of (erased code) frame None) (values_of frame from) m)
+        acted None None place (performed code.structs action (type_of (erased code) frame None) (values_of frame from)
+            m)
         (λ more v ext g. more_kinds kinds more ext (erased_fn all.0.0).variables frame.variables all.0.2)
         (takes code kinds m fits action (type_of (erased code) frame None) tys (values_of frame from) t
         (vars_kinds kinds (erased_fn all.0.0) frame all.0.2 from tys have))
     does (Some d) action from tys place have (ty, t, r) =
-        subst (λ x. Always (ActedFits code kinds) (effected m frame callers (Some d) place (performed code.structs action x (values_of frame from) m))) (sym (type_is d ty t))
+        subst (λ x. Always (ActedFits code kinds) (effected m frame callers (Some d) place
+            (performed code.structs action x (values_of frame from) m))) (sym (type_is d ty t))
         (acted (Some d) (Some ty) place (performed code.structs action ty (values_of frame from) m)
         (λ more v ext g. set_kinds more (erased_fn all.0.0).variables frame.variables d ty v
         (more_kinds kinds more ext (erased_fn all.0.0).variables frame.variables all.0.2) t g)
@@ -189,12 +204,16 @@ module _ (code : Code) (checked : IsChecked code) where
     calls : (to : Option ℕ) (n : ℕ) (from : List ℕ) (passes : List Class) (protects removes : List ℕ)
         → instr.op ≡ Call to n from passes protects removes
         → ArgumentsFit (erased_fn all.0.0) (slice_get (erased code).functions n) from
-        → Always (ActedFits code kinds) (call m frame callers n (values_of frame from) (slice_get (erased code).functions n))
+        → Always (ActedFits code kinds) (call m frame callers n (values_of frame from)
+            (slice_get (erased code).functions n))
     calls to n from passes protects removes is fit =
-        subst (λ o. ArgumentsFit (erased_fn all.0.0) o from → Always (ActedFits code kinds) (call m frame callers n (values_of frame from) o)) (sym (slice_get-map erased_fn code.functions n))
+        subst (λ o. ArgumentsFit (erased_fn all.0.0) o from
+            → Always (ActedFits code kinds) (call m frame callers n (values_of frame from) o))
+            (sym (slice_get-map erased_fn code.functions n))
         (go (slice_get code.functions n) refl) fit
       where
-        go : (o : Option CodeFn) → slice_get code.functions n ≡ o → ArgumentsFit (erased_fn all.0.0) (option_map erased_fn o) from
+        go : (o : Option CodeFn) → slice_get code.functions n ≡ o
+            → ArgumentsFit (erased_fn all.0.0) (option_map erased_fn o) from
             → Always (ActedFits code kinds) (call m frame callers n (values_of frame from) (option_map erased_fn o))
         go None q fit = goes_on
         go (Some callee) q fit =
@@ -205,12 +224,16 @@ module _ (code : Code) (checked : IsChecked code) where
             )
 
     begins : (n : ℕ) (from : List ℕ) → ArgumentsFit (erased_fn all.0.0) (slice_get (erased code).functions n) from
-        → Always (ActedFits code kinds) (start m frame callers n (values_of frame from) (slice_get (erased code).functions n))
+        → Always (ActedFits code kinds) (start m frame callers n (values_of frame from)
+            (slice_get (erased code).functions n))
     begins n from fit =
-        subst (λ o. ArgumentsFit (erased_fn all.0.0) o from → Always (ActedFits code kinds) (start m frame callers n (values_of frame from) o)) (sym (slice_get-map erased_fn code.functions n))
+        subst (λ o. ArgumentsFit (erased_fn all.0.0) o from
+            → Always (ActedFits code kinds) (start m frame callers n (values_of frame from) o))
+            (sym (slice_get-map erased_fn code.functions n))
         (go (slice_get code.functions n) refl) fit
       where
-        go : (o : Option CodeFn) → slice_get code.functions n ≡ o → ArgumentsFit (erased_fn all.0.0) (option_map erased_fn o) from
+        go : (o : Option CodeFn) → slice_get code.functions n ≡ o
+            → ArgumentsFit (erased_fn all.0.0) (option_map erased_fn o) from
             → Always (ActedFits code kinds) (start m frame callers n (values_of frame from) (option_map erased_fn o))
         go None q fit = goes_on
         go (Some callee) q fit = record {
@@ -246,7 +269,8 @@ module _ (code : Code) (checked : IsChecked code) where
             target d n v named fit b =
                 let r = types frame all.0.0 instr all.0.1 cur (Return (Some v)) (is ∙ ap Return b) in
                 let fit' : TargetFits (erased_fn waits.0.0) (Some (erased_fn f)) (Some d) =
-                subst (λ o. TargetFits (erased_fn waits.0.0) o (Some d)) (slice_get-map erased_fn code.functions n ∙ ap (option_map erased_fn) named) fit
+                subst (λ o. TargetFits (erased_fn waits.0.0) o (Some d))
+                    (slice_get-map erased_fn code.functions n ∙ ap (option_map erased_fn) named) fit
                 in
                 set_kinds kinds (erased_fn waits.0.0).variables caller.variables d r.0 (value_at frame v) waits.0.2
                 (fit' r.0 (ap (λ (z : CodeFn). (erased_fn z).result_type) (sym same_fn) ∙ r.1))
@@ -258,11 +282,13 @@ module _ (code : Code) (checked : IsChecked code) where
               where
                 result : (to : Option ℕ) → TargetFits (erased_fn waits.0.0) (slice_get (erased code).functions n) to
                     → (w : Option ℕ) → value ≡ w
-                    → FramesHaveKinds code kinds (resumed_by caller (erased_op (Call to n from passes protects removes)) (option_map (value_at frame) w) ∷ cs)
+                    → FramesHaveKinds code kinds (resumed_by caller (erased_op (Call to n from passes protects removes))
+                        (option_map (value_at frame) w) ∷ cs)
                 result to fit None b = stays code kinds caller cs waits (caller.next + 1)
                 result None fit (Some v) b = stays code kinds caller cs waits (caller.next + 1)
                 result (Some d) fit (Some v) b =
-                    goes code kinds kinds caller cs waits (λ o ty e. e) (slice_set caller.variables d (value_at frame v))
+                    goes code kinds kinds caller cs waits (λ o ty e. e)
+                        (slice_set caller.variables d (value_at frame v))
                     (caller.next + 1) (target d n v named fit b)
             by (Do to action from removes) named t = absurd named
             by (Go n from passes removes) named t = absurd named
@@ -300,7 +326,8 @@ module _ (code : Code) (checked : IsChecked code) where
       → FramesHaveKinds code kinds frames → Always (ActedFits code kinds) (alone (erased code) m frames)
   alone_fits kinds m [] fits all = tt
   alone_fits kinds m (frame ∷ callers) fits all =
-      subst (λ o. Always (ActedFits code kinds) (act_at (erased code) m o frame callers)) (sym (current_erased code frame))
+      subst (λ o. Always (ActedFits code kinds) (act_at (erased code) m o frame callers))
+          (sym (current_erased code frame))
       (go (current code frame) refl)
     where
       go : (o : Option CodeInstr) → current code frame ≡ o
@@ -344,7 +371,8 @@ module _ (code : Code) (checked : IsChecked code) where
             (have ∙ ap (map Some) r)).0;
         next = λ v k.
             subst (FramesHaveKinds code kinds) (sym (on v))
-            (goes code kinds kinds x.frame x.callers all' (λ o ty e. e) (slice_set x.frame.variables d v) (x.frame.next + 1)
+            (goes code kinds kinds x.frame x.callers all' (λ o ty e. e) (slice_set x.frame.variables d v)
+                (x.frame.next + 1)
             (set_kinds kinds (erased_fn all'.0.0).variables x.frame.variables d ty v all'.0.2 t k));
       }
 
@@ -403,11 +431,13 @@ module _ (code : Code) (checked : IsChecked code) where
   other_frames : (kinds : List «Type») (goroutines : List (List Frame)) (g : ℕ) (old frames : List Frame)
       → ((j : ℕ) (fs : List Frame) → slice_get goroutines j ≡ Some fs → FramesHaveKinds code kinds fs)
       → slice_get goroutines g ≡ Some old → FramesHaveKinds code kinds frames
-      → (j : ℕ) (fs : List Frame) → slice_get (slice_set goroutines g frames) j ≡ Some fs → FramesHaveKinds code kinds fs
+      → (j : ℕ) (fs : List Frame) → slice_get (slice_set goroutines g frames) j ≡ Some fs
+          → FramesHaveKinds code kinds fs
   other_frames kinds goroutines g old frames each q h j fs e =
       split (nat_eq g j)
       (λ u. subst (FramesHaveKinds code kinds)
-      (same_Some frames fs (sym (get_set_same goroutines g old frames q) ∙ ap (slice_get (slice_set goroutines g frames)) (eq_of g j u) ∙ e))
+      (same_Some frames fs (sym (get_set_same goroutines g old frames q)
+          ∙ ap (slice_get (slice_set goroutines g frames)) (eq_of g j u) ∙ e))
       h)
       (λ n. each j fs (sym (get_set_other goroutines g j frames n) ∙ e))
 
@@ -443,7 +473,8 @@ module _ (code : Code) (checked : IsChecked code) where
       go None q = tt
       go (Some frames) q =
           subst (Always (Typed code)) (sym (alone_is (erased code) p g running frames q))
-          (by frames q (alone (erased code) p.memory frames) (alone_fits t.kinds p.memory frames t.memory (t.frames g frames q)))
+          (by frames q (alone (erased code) p.memory frames)
+              (alone_fits t.kinds p.memory frames t.memory (t.frames g frames q)))
 
   -- two meet
   meet_step : (p : TacState) (r u : ℕ) → Typed code p → Always (Typed code) (picked (tac (erased code)) p (Meet r u))
@@ -461,7 +492,8 @@ module _ (code : Code) (checked : IsChecked code) where
           snd = send_fits t.kinds (h ∷ hs) d v (next ∷ hs) (t.frames u (h ∷ hs) q') ys
 
           by : (b : Bool) → meets_at p.memory c d ≡ b
-              → Always (Typed code) (if b then Some (with_frames (with_frames p r (go_on v ∷ fs)) u (next ∷ hs)) else None)
+              → Always (Typed code) (if b then Some (with_frames (with_frames p r (go_on v ∷ fs)) u (next ∷ hs)) else
+                  None)
           by true e =
               let o = one_object p.memory c d e in
               let same = one_inner t.kinds rec.inner snd.inner c d o.0 rec.channel snd.channel o.1 o.2 in
@@ -496,7 +528,8 @@ module _ (code : Code) (checked : IsChecked code) where
 
       go : (b : Bool) → nat_eq r u ≡ b → (o : Option (List Frame)) → slice_get p.goroutines r ≡ o
           → (o' : Option (List Frame)) → slice_get p.goroutines u ≡ o'
-          → Always (Typed code) (if b then None else option_and_then (λ fs. option_and_then (met_by (tac (erased code)) p r u fs) o') o)
+          → Always (Typed code) (if b then None else option_and_then
+              (λ fs. option_and_then (met_by (tac (erased code)) p r u fs) o') o)
       go true ne o q o' q' = tt
       go false ne None q o' q' = tt
       go false ne (Some fs) q None q' = tt

@@ -1,6 +1,8 @@
 -- What each action does keeps the types of the memory, and gives a value of its type.
-use Rattle.std.proofs.Common.{◌≡◌, ℕ, zero, suc, ◌+◌, ◌<◌, ◌⊎◌, inl, inr, Bool, true, false, List, [], ◌∷◌, ◌++◌, map, length, replicate, Option, Some, None, Result, Ok, Err, refl, sym, ap, ◌∙◌, subst}
-use Rattle.std.proofs.Common.{ℤ, pos, negsuc, nat_eq, nat_lt, int_eq, if◌then◌else◌, arith, true≢false, slice_get, slice_set, option_map, length-append}
+use Rattle.std.proofs.Common.{◌≡◌, ℕ, zero, suc, ◌+◌, ◌<◌, ◌⊎◌, inl, inr, Bool, true, false, List, [], ◌∷◌, ◌++◌, map}
+use Rattle.std.proofs.Common.{length, replicate, Option, Some, None, Result, Ok, Err, refl, sym, ap, ◌∙◌, subst}
+use Rattle.std.proofs.Common.{ℤ, pos, negsuc, nat_eq, nat_lt, int_eq, if◌then◌else◌, arith, true≢false, slice_get}
+use Rattle.std.proofs.Common.{slice_set, option_map, length-append}
 use Rattle.std.proofs.lemmas.Option.{same_Some, slice_get-map}
 use Rattle.rgo_ast.specs.declared.ops.BinaryOp.{BinaryOp}
 use Rattle.rgo_ast.specs.declared.ops.BinaryOp.TheVariants as binary
@@ -14,14 +16,17 @@ use Rattle.rgo_typed.specs.declared.types.Layer.{Layer}
 use Rattle.rgo_typed.specs.declared.types.Layer.TheVariants as layer
 use Rattle.rgo_typed.specs.declared.types.Type.{«Type»}
 use Rattle.rgo_typed.specs.Types.{is_pointer_like}
-use Rattle.rgo_wellformed.specs.TypeRules.{Compares, Computes, HasField, Takes, bool, chan_of, int, pointer_to, slice_of}
+use Rattle.rgo_wellformed.specs.TypeRules.{Compares, Computes, HasField, Takes, bool, chan_of, int, pointer_to}
+use Rattle.rgo_wellformed.specs.TypeRules.{slice_of}
 use Rattle.rgo_memory.specs.declared.traps.Trap.{Trap}
 use Rattle.rgo_memory.specs.declared.traps.Trap.TheVariants.{DivideZero, IndexRange}
 use Rattle.rgo_memory.specs.declared.values.Value.{Value}
 use Rattle.rgo_memory.specs.declared.values.Value.TheVariants as value
 use Rattle.rgo_memory.specs.Channels.{close, receive, received, send, sent, shut}
-use Rattle.rgo_memory.specs.Effects.{Does, Effect, Traps, answered, in_memory, in_memory_if_ready, to_object, to_object_if_ready}
-use Rattle.rgo_memory.specs.Elements.{cell_put, element, element_at, element_in, length_in, length_of, or_out_of_range, put, put_in}
+use Rattle.rgo_memory.specs.Effects.{Does, Effect, Traps, answered, in_memory, in_memory_if_ready, to_object}
+use Rattle.rgo_memory.specs.Effects.{to_object_if_ready}
+use Rattle.rgo_memory.specs.Elements.{cell_put, element, element_at, element_in, length_in, length_of, or_out_of_range}
+use Rattle.rgo_memory.specs.Elements.{put, put_in}
 use Rattle.rgo_memory.specs.Fields.{field_of, load, or_nil, store, stored}
 use Rattle.rgo_memory.specs.Making.{made, made_struct, new_struct, sized}
 use Rattle.rgo_memory.specs.Memory.{Channel, Memory, Object, SliceObject, StructObject, with_object}
@@ -36,7 +41,9 @@ use Rattle.rgo_sound.specs.Types.{Each, HasKind, HaveKinds, MemoryFits, ObjectFi
 use Rattle.rgo_sound.proofs.Acting.{performed, silent}
 use Rattle.rgo_sound.proofs.CoreLemmas.{eq_of, split}
 use Rattle.rgo_sound.proofs.ErasureLemmas.{Always}
-use Rattle.rgo_sound.proofs.Places.{each_get, each_more, each_replicate, each_set, each_snoc, get_append_last, get_append_left, get_below, get_set_other, get_set_same, get_snoc, get_some, length_set}
+use Rattle.rgo_sound.proofs.Places.{each_get, each_more, each_replicate, each_set, each_snoc, get_append_last}
+use Rattle.rgo_sound.proofs.Places.{get_append_left, get_below, get_set_other, get_set_same, get_snoc, get_some}
+use Rattle.rgo_sound.proofs.Places.{length_set}
 
 -- ---- types
 
@@ -54,7 +61,8 @@ pub same_pointer : (m n : ℕ) → pointer_to m ≡ pointer_to n → m ≡ n
 same_pointer m n e = let x : base.Pointer m ≡ base.Pointer n = ap (λ (t : «Type»). t.base) e in cc
 
 inner_of : (l k : Layer) (t u : «Type»)
-    → ◌≡◌ {A = «Type»} (record { layers = l ∷ t.layers; base = t.base }) (record { layers = k ∷ u.layers; base = u.base })
+    → ◌≡◌ {A = «Type»} (record { layers = l ∷ t.layers; base = t.base })
+        (record { layers = k ∷ u.layers; base = u.base })
     → t ≡ u
 inner_of l k t u e =
     let x : l ∷ t.layers ≡ k ∷ u.layers = ap (λ (t : «Type»). t.layers) e in
@@ -232,7 +240,8 @@ set_object code kinds m o ty object fits k h =
         → (ty : «Type») × (slice_get kinds p ≡ Some ty) × ObjectFits code.structs kinds ty x
     same p x u e (old, w) =
         let is : x ≡ object =
-        same_Some x object (sym e ∙ ap (slice_get (slice_set m.heap o object)) (sym u) ∙ get_set_same m.heap o old object w)
+        same_Some x object (sym e ∙ ap (slice_get (slice_set m.heap o object)) (sym u)
+            ∙ get_set_same m.heap o old object w)
         in (
           ty,
           ap (slice_get kinds) (sym u) ∙ k,
@@ -403,7 +412,8 @@ module _ (code : Code) (kinds : List «Type») (m : Memory) (fits : MemoryFits c
       → slice_get code.structs n ≡ Some s → slice_get s.fields k ≡ Some t
   field_type n k t s (fields, at, f) e =
       ap (λ x. slice_get x k) (same_Some s.fields fields
-      (sym (ap (option_map (λ (s : Struct). s.fields)) e) ∙ sym (slice_get-map (λ (s : Struct). s.fields) code.structs n) ∙ at))
+      (sym (ap (option_map (λ (s : Struct). s.fields)) e) ∙ sym
+          (slice_get-map (λ (s : Struct). s.fields) code.structs n) ∙ at))
       ∙ f
 
   loads : (n k : ℕ) (t : «Type») (v : Value) → HasField (declared_by (erased code)) n k t
@@ -443,16 +453,19 @@ module _ (code : Code) (kinds : List «Type») (m : Memory) (fits : MemoryFits c
   puts t u v w h g k =
       by_int kinds (λ v. Performed code kinds None (put m u v w))
       (λ i. by_pointer kinds (λ u. Performed code kinds None (put m u (value.Int i) w)) (slice_of t) refl tt
-      (λ o q. by_slice (λ x. Performed code kinds None (to_object m o (put_in i w) x)) t o q (λ cells hs. into o q cells i hs))
+      (λ o q. by_slice (λ x. Performed code kinds None (to_object m o (put_in i w) x)) t o q
+          (λ cells hs. into o q cells i hs))
       u h) v g
     where
-      into : (o : ℕ) → slice_get kinds o ≡ Some (slice_of t) → (cells : List Value) (i : ℤ) → Each (HasKind kinds t) cells
+      into : (o : ℕ) → slice_get kinds o ≡ Some (slice_of t) → (cells : List Value) (i : ℤ)
+          → Each (HasKind kinds t) cells
           → Performed code kinds None (in_memory m o (cell_put cells i w))
       into o q cells (negsuc n) hs = tt
       into o q cells (pos i) hs = by (nat_lt i (length cells))
         where
           by : (b : Bool)
-              → Performed code kinds None (in_memory m o (if b then Does (SliceObject (slice_set cells i w)) value.Nil else Traps IndexRange))
+              → Performed code kinds None (in_memory m o (if b then Does (SliceObject (slice_set cells i w)) value.Nil
+                  else Traps IndexRange))
           by true =
               writes None o (slice_of t) (SliceObject (slice_set cells i w)) value.Nil q
               (t, refl, each_set (HasKind kinds t) cells i w hs k) tt
@@ -484,12 +497,14 @@ module _ (code : Code) (kinds : List «Type») (m : Memory) (fits : MemoryFits c
       → Always (Performed code kinds (Some t)) (receive m v (zero_of t))
   receives t v h =
       by_pointer kinds (λ v. Always (Performed code kinds (Some t)) (receive m v (zero_of t))) (chan_of t) refl tt
-      (λ o q. by_channel (λ x. Always (Performed code kinds (Some t)) (to_object_if_ready m o (received (zero_of t)) x)) t o q
+      (λ o q. by_channel (λ x. Always (Performed code kinds (Some t)) (to_object_if_ready m o (received (zero_of t)) x))
+          t o q
       (λ capacity queue closed hs. into o q capacity queue closed hs)) v h
     where
       into : (o : ℕ) → slice_get kinds o ≡ Some (chan_of t) → (capacity : ℕ) (queue : List Value) (closed : Bool)
           → Each (HasKind kinds t) queue
-          → Always (Performed code kinds (Some t)) (in_memory_if_ready m o (received (zero_of t) (Channel capacity queue closed)))
+          → Always (Performed code kinds (Some t)) (in_memory_if_ready m o
+              (received (zero_of t) (Channel capacity queue closed)))
       into o q capacity (v ∷ queue) closed hs =
           writes (Some t) o (chan_of t) (Channel capacity queue closed) v q (t, refl, hs.1) hs.0
       into o q capacity [] true hs =
@@ -500,17 +515,21 @@ module _ (code : Code) (kinds : List «Type») (m : Memory) (fits : MemoryFits c
       → Always (Performed code kinds None) (option_map silent (send m v w))
   sends t v w h g =
       by_pointer kinds (λ v. Always (Performed code kinds None) (option_map silent (send m v w))) (chan_of t) refl tt
-      (λ o q. by_channel (λ x. Always (Performed code kinds None) (option_map silent (to_object_if_ready m o (sent w) x))) t o q
+      (λ o q. by_channel (λ x. Always (Performed code kinds None)
+          (option_map silent (to_object_if_ready m o (sent w) x))) t o q
       (λ capacity queue closed hs. into o q capacity queue closed hs)) v h
     where
       into : (o : ℕ) → slice_get kinds o ≡ Some (chan_of t) → (capacity : ℕ) (queue : List Value) (closed : Bool)
           → Each (HasKind kinds t) queue
-          → Always (Performed code kinds None) (option_map silent (in_memory_if_ready m o (sent w (Channel capacity queue closed))))
+          → Always (Performed code kinds None) (option_map silent
+              (in_memory_if_ready m o (sent w (Channel capacity queue closed))))
       into o q capacity queue true hs = tt
       into o q capacity queue false hs = by (nat_lt (length queue) capacity)
         where
           by : (b : Bool)
-              → Always (Performed code kinds None) (option_map silent (in_memory_if_ready m o (if b then Some (Does (Channel capacity (queue ++ w ∷ []) false) value.Nil) else None)))
+              → Always (Performed code kinds None) (option_map silent
+                  (in_memory_if_ready m o (if b then Some (Does (Channel capacity (queue ++ w ∷ []) false) value.Nil)
+                  else None)))
           by true =
               writes None o (chan_of t) (Channel capacity (queue ++ w ∷ []) false) value.Nil q
               (t, refl, each_snoc (HasKind kinds t) queue w hs g) tt
@@ -627,7 +646,8 @@ module _ (code : Code) (kinds : List «Type») (m : Memory) (fits : MemoryFits c
   returns action.Recv t tys vs r h =
       by_one kinds (Gives action.Recv t) tys vs (chan_of t) r h (λ v g. receives t v g)
   returns (action.Get n) t tys vs r h =
-      by_none kinds (Gives (action.Get n) t) tys vs r.0 h (gives (Some t) (or_nil (slice_get m.variables n)) (gets n t r.1))
+      by_none kinds (Gives (action.Get n) t) tys vs r.0 h (gives (Some t) (or_nil (slice_get m.variables n))
+          (gets n t r.1))
   returns (action.Store k) t tys vs r h = absurd r
   returns action.Put t tys vs r h = absurd r
   returns action.Send t tys vs r h = absurd r

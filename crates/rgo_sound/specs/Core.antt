@@ -33,11 +33,13 @@ AreStaked stakes (f ∷ fs) = NamesStaked stakes f.names × RegionsStaked stakes
 -- up to the lowest frame that protects r, or else up to the top, there is one holding name for it
 abbrev pub IsHeldOnce : ℕ → List Region → List Environment → Type 0
 IsHeldOnce r base [] = list_any (same_region (Numbered r)) base ≡ true
-IsHeldOnce r base (f ∷ fs) = (guards base fs (Numbered r) ≡ false → held r (f ∷ fs) ≡ 1) × (guards base fs (Numbered r) ≡ true → IsHeldOnce r base fs)
+IsHeldOnce r base (f ∷ fs) = (guards base fs (Numbered r) ≡ false → held r (f ∷ fs) ≡ 1)
+    × (guards base fs (Numbered r) ≡ true → IsHeldOnce r base fs)
 
 -- what is lent for a result is held below, or protected there
 abbrev pub IsLentBelow : List Region → Environment → List Environment → Type 0
-IsLentBelow base f fs = (k r : ℕ) → f.lent ≡ Name k → bound f.names k ≡ Some (Numbered r) → guards base fs (Numbered r) ≡ false → 1 ≤ held r fs
+IsLentBelow base f fs = (k r : ℕ) → f.lent ≡ Name k → bound f.names k ≡ Some (Numbered r) → guards base fs (Numbered r)
+    ≡ false → 1 ≤ held r fs
 
 abbrev pub AreLentBelow : List Region → List Environment → Type 0
 AreLentBelow base [] = Unit {0}

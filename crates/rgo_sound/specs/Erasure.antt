@@ -24,7 +24,8 @@ event_picks (Some end) event = []
 abbrev pub erased_picks : Code → ℕ → RegionState → List Event → List Pick
 erased_picks code page_words s [] = []
 erased_picks code page_words s (event ∷ events) =
-    event_picks s.mark event ++ unwrap_or (option_map (λ t. erased_picks code page_words t events) (region_step code page_words s event)) []
+    event_picks s.mark event ++ unwrap_or (option_map (λ t. erased_picks code page_words t events)
+        (region_step code page_words s event)) []
 
 -- the end of a plain run and the end mark: an exit or a trap is both; another end mark is none of the plain run
 abbrev pub SameEnd : Option End → Option Mark → Type 0
@@ -33,14 +34,17 @@ SameEnd None (Some (Ended end)) = ⊥
 SameEnd None (Some (Stopped limit)) = Unit {0}
 SameEnd (Some end) mark = mark ≡ Some (Ended end)
 
--- the erasure is a run of the three-address code with the same print and the same end; before an end mark it leads to the
+-- the erasure is a run of the three-address code with the same print and the same end; before an end mark it leads to
+-- the
 -- plain part of the state
 pub record ErasesTo (code : Code) (page_words : ℕ) (events : List Event) (s : RegionState) : Type 0 where
   pub state : TacState
-  pub leads : Leads (tac_step (erased code)) (tac_start (erased code)) (erased_picks code page_words (region_start code) events) state
+  pub leads : Leads (tac_step (erased code)) (tac_start (erased code))
+      (erased_picks code page_words (region_start code) events) state
   pub print : state.printed ≡ s.plain.printed
   pub end : SameEnd state.ended s.mark
   pub same : s.mark ≡ None → state ≡ s.plain
 
 abbrev pub Erasure : Type 0
-Erasure = (code : Code) (page_words : ℕ) (events : List Event) (s : RegionState) → region_run code page_words events ≡ Some s → ErasesTo code page_words events s
+Erasure = (code : Code) (page_words : ℕ) (events : List Event) (s : RegionState) → region_run code page_words events
+    ≡ Some s → ErasesTo code page_words events s

@@ -25,4 +25,5 @@ abbrev pub StartIsGood : Type 0
 StartIsGood = (code : Code) → IsChecked code → Ascends code → AllGood code (region_start code)
 
 abbrev pub StepsKeepGood : Type 0
-StepsKeepGood = (code : Code) (page_words : ℕ) (s t : RegionState) (event : Event) → IsChecked code → Ascends code → AllGood code s → region_step code page_words s event ≡ Some t → AllGood code t
+StepsKeepGood = (code : Code) (page_words : ℕ) (s t : RegionState) (event : Event) → IsChecked code → Ascends code
+    → AllGood code s → region_step code page_words s event ≡ Some t → AllGood code t

@@ -45,7 +45,8 @@ AreProtections protections names ks = (r : Region) → times r protections ≡ b
 
 -- ---- a frame before its next instruction, when nothing is owed
 
-pub record Settled (fn : CodeFn) (i : ℕ) (instr : CodeInstr) (names : Bindings) (protections : List Region) : Type 0 where
+pub record Settled (fn : CodeFn) (i : ℕ) (instr : CodeInstr) (names : Bindings) (protections : List Region) : Type 0
+    where
   pub there : (k : ℕ) → Holds fn k i → bound names k ≢ None
   pub made : (k : ℕ) → Contains instr.creates k → bound names k ≢ None
   pub gone : (k : ℕ) → IsOwn fn k → ¬ (Holds fn k i) → ¬ (Contains instr.creates k) → bound names k ≡ None
@@ -69,11 +70,18 @@ IsFree fn i k = IsOwn fn k × (¬ (Holds fn k i))
 -- each duty can be done in its turn, and behind the last of them Then holds
 abbrev pub IsReady : (ℕ → Type 0) → (Bindings → List Region → Type 0) → List Duty → Bindings → List Region → Type 0
 IsReady Free Then [] names protections = Then names protections
-IsReady Free Then (Create k ∷ duties) names protections = (bound names k ≡ None) × Free k × ((r : ℕ) → IsReady Free Then duties ((k, Numbered r) ∷ unbind names k) protections)
-IsReady Free Then (Remove k ∷ duties) names protections = (protections ≡ []) × (bound names k ≢ None) × Free k × IsReady Free Then duties (unbind names k) protections
-IsReady Free Then (Share k ∷ duties) names protections = (bound names k ≢ None) × IsReady Free Then duties names protections
-IsReady Free Then (Protect k ∷ duties) names protections = (bound names k ≢ None) × ((r : Region) → bound names k ≡ Some r → IsReady Free Then duties names (r ∷ protections))
-IsReady Free Then (Unprotect k ∷ duties) names protections = (bound names k ≢ None) × ((r : Region) → bound names k ≡ Some r → IsReady Free Then duties names (removed_once r protections))
+IsReady Free Then (Create k ∷ duties) names protections =
+    (bound names k ≡ None) × Free k × ((r : ℕ) → IsReady Free Then duties ((k, Numbered r) ∷ unbind names k)
+    protections)
+IsReady Free Then (Remove k ∷ duties) names protections =
+    (protections ≡ []) × (bound names k ≢ None) × Free k × IsReady Free Then duties (unbind names k) protections
+IsReady Free Then (Share k ∷ duties) names protections =
+    (bound names k ≢ None) × IsReady Free Then duties names protections
+IsReady Free Then (Protect k ∷ duties) names protections =
+    (bound names k ≢ None) × ((r : Region) → bound names k ≡ Some r → IsReady Free Then duties names (r ∷ protections))
+IsReady Free Then (Unprotect k ∷ duties) names protections =
+    (bound names k ≢ None) × ((r : Region) → bound names k ≡ Some r
+    → IsReady Free Then duties names (removed_once r protections))
 IsReady Free Then (EndBase r ∷ duties) names protections = ⊥
 
 -- ---- stakes for a coming child
@@ -96,7 +104,8 @@ abbrev pub Shares : List ℕ → List Duty → Bindings → List ℕ → Type 0
 Shares ks [] names pending = ArePending pending names ks
 Shares ks (Create k ∷ duties) names pending = (r : ℕ) → Shares ks duties ((k, Numbered r) ∷ unbind names k) pending
 Shares ks (Remove k ∷ duties) names pending = Shares ks duties (unbind names k) pending
-Shares ks (Share k ∷ duties) names pending = (r : Region) → bound names k ≡ Some r → Shares ks duties names (with_pending r pending)
+Shares ks (Share k ∷ duties) names pending = (r : Region) → bound names k ≡ Some r
+    → Shares ks duties names (with_pending r pending)
 Shares ks (Protect k ∷ duties) names pending = Shares ks duties names pending
 Shares ks (Unprotect k ∷ duties) names pending = Shares ks duties names pending
 Shares ks (EndBase r ∷ duties) names pending = Shares ks duties names pending
@@ -167,14 +176,18 @@ pub record Fine (code : Code) (s : RegionState) : Type 0 where
   pub as_many : length s.holders ≡ length s.plain.goroutines
   pub each : (g : ℕ) (h : Holder) → slice_get s.holders g ≡ Some h → GoodHolder code (frames_of s.plain g) h
   -- stakes are the goroutines that have one, and pending ones
-  pub counted : (r : ℕ) (info : RegionInfo) → slice_get s.regions r ≡ Some info → info.stakes ≡ holders_of s r + pending_of s r
-  pub made : (g : ℕ) (h : Holder) (r : ℕ) → slice_get s.holders g ≡ Some h → is_in r h.stakes ≡ true → r < length s.regions
-  pub pended : (g : ℕ) (h : Holder) (r : ℕ) → slice_get s.holders g ≡ Some h → 0 < times_in r h.pending → r < length s.regions
+  pub counted : (r : ℕ) (info : RegionInfo) → slice_get s.regions r ≡ Some info → info.stakes
+      ≡ holders_of s r + pending_of s r
+  pub made : (g : ℕ) (h : Holder) (r : ℕ) → slice_get s.holders g ≡ Some h → is_in r h.stakes ≡ true
+      → r < length s.regions
+  pub pended : (g : ℕ) (h : Holder) (r : ℕ) → slice_get s.holders g ≡ Some h → 0 < times_in r h.pending
+      → r < length s.regions
 
 -- what a goroutine owes can be done, and what holds of the state holds behind it
 abbrev pub DutiesGo : Type 0
 DutiesGo =
-    (code : Code) (page_words : ℕ) (s : RegionState) (g : ℕ) (h : Holder) → Fine code s → slice_get s.holders g ≡ Some h → h.duties ≢ [] → may_go h.offer ≡ true →
+    (code : Code) (page_words : ℕ) (s : RegionState) (g : ℕ) (h : Holder) → Fine code s → slice_get s.holders g ≡ Some h
+        → h.duties ≢ [] → may_go h.offer ≡ true →
     (t : RegionState) × (region_step code page_words s (Attend g) ≡ Some t) × Fine code t
 
 -- no call, no start and no return
@@ -190,38 +203,50 @@ IsSimple (Return value) = ⊥
 -- such an instruction of checked code keeps what holds of the state
 abbrev pub MovesKeep : Type 0
 MovesKeep =
-    (code : Code) (page_words : ℕ) (s t : RegionState) (g : ℕ) (h : Holder) (frame : Frame) (callers : List Frame) (instr : CodeInstr) → IsChecked code → Ascends code → Fine code s →
-    slice_get s.holders g ≡ Some h → frames_of s.plain g ≡ frame ∷ callers → current code frame ≡ Some instr → IsSimple instr.op →
+    (code : Code) (page_words : ℕ) (s t : RegionState) (g : ℕ) (h : Holder) (frame : Frame) (callers : List Frame)
+        (instr : CodeInstr) → IsChecked code → Ascends code → Fine code s →
+    slice_get s.holders g ≡ Some h → frames_of s.plain g ≡ frame ∷ callers → current code frame ≡ Some instr
+        → IsSimple instr.op →
     region_step code page_words s (Instruct (One g)) ≡ Some t → Fine code t
 
 abbrev pub CallsKeep : Type 0
 CallsKeep =
-    (code : Code) (page_words : ℕ) (s t : RegionState) (g : ℕ) (h : Holder) (frame : Frame) (callers : List Frame) (call : CodeInstr)
-    (to : Option ℕ) (n : ℕ) (from : List ℕ) (passes : List Class) (protects removes : List ℕ) → IsChecked code → Ascends code → Fine code s →
-    slice_get s.holders g ≡ Some h → frames_of s.plain g ≡ frame ∷ callers → current code frame ≡ Some call → call.op ≡ Call to n from passes protects removes →
+    (code : Code) (page_words : ℕ) (s t : RegionState) (g : ℕ) (h : Holder) (frame : Frame) (callers : List Frame)
+        (call : CodeInstr)
+    (to : Option ℕ) (n : ℕ) (from : List ℕ) (passes : List Class) (protects removes : List ℕ) → IsChecked code
+        → Ascends code → Fine code s →
+    slice_get s.holders g ≡ Some h → frames_of s.plain g ≡ frame ∷ callers → current code frame ≡ Some call → call.op
+        ≡ Call to n from passes protects removes →
     region_step code page_words s (Instruct (One g)) ≡ Some t → Fine code t
 
 abbrev pub ReturnsKeep : Type 0
 ReturnsKeep =
-    (code : Code) (page_words : ℕ) (s t : RegionState) (g : ℕ) (h : Holder) (frame : Frame) (callers : List Frame) (instr : CodeInstr) (value : Option ℕ) → IsChecked code → Ascends code → Fine code s →
-    slice_get s.holders g ≡ Some h → frames_of s.plain g ≡ frame ∷ callers → current code frame ≡ Some instr → instr.op ≡ Return value →
+    (code : Code) (page_words : ℕ) (s t : RegionState) (g : ℕ) (h : Holder) (frame : Frame) (callers : List Frame)
+        (instr : CodeInstr) (value : Option ℕ) → IsChecked code → Ascends code → Fine code s →
+    slice_get s.holders g ≡ Some h → frames_of s.plain g ≡ frame ∷ callers → current code frame ≡ Some instr → instr.op
+        ≡ Return value →
     region_step code page_words s (Instruct (One g)) ≡ Some t → Fine code t
 
 -- a meeting keeps what holds of the state
 abbrev pub MeetsKeep : Type 0
 MeetsKeep =
-    (code : Code) (page_words : ℕ) (s t : RegionState) (receiver sender : ℕ) → IsChecked code → Ascends code → Fine code s →
+    (code : Code) (page_words : ℕ) (s t : RegionState) (receiver sender : ℕ) → IsChecked code → Ascends code
+        → Fine code s →
     region_step code page_words s (Instruct (Meet receiver sender)) ≡ Some t → Fine code t
 
 -- a `go` keeps what holds of the state
 abbrev pub StartsKeep : Type 0
 StartsKeep =
-    (code : Code) (page_words : ℕ) (s t : RegionState) (g : ℕ) (h : Holder) (frame : Frame) (callers : List Frame) (instr : CodeInstr) (n : ℕ) (from : List ℕ) (passes : List Class) (removes : List ℕ) → IsChecked code → Ascends code → Fine code s →
-    slice_get s.holders g ≡ Some h → frames_of s.plain g ≡ frame ∷ callers → current code frame ≡ Some instr → instr.op ≡ Go n from passes removes →
+    (code : Code) (page_words : ℕ) (s t : RegionState) (g : ℕ) (h : Holder) (frame : Frame) (callers : List Frame)
+        (instr : CodeInstr) (n : ℕ) (from : List ℕ) (passes : List Class) (removes : List ℕ) → IsChecked code
+        → Ascends code → Fine code s →
+    slice_get s.holders g ≡ Some h → frames_of s.plain g ≡ frame ∷ callers → current code frame ≡ Some instr → instr.op
+        ≡ Go n from passes removes →
     region_step code page_words s (Instruct (One g)) ≡ Some t → Fine code t
 
 -- ---- runs
 
 -- every state of every run of checked code
 abbrev pub RunsAreFine : Type 0
-RunsAreFine = (code : Code) (page_words : ℕ) (events : List Event) (s : RegionState) → IsChecked code → Ascends code → region_run code page_words events ≡ Some s → Fine code s
+RunsAreFine = (code : Code) (page_words : ℕ) (events : List Event) (s : RegionState) → IsChecked code → Ascends code
+    → region_run code page_words events ≡ Some s → Fine code s

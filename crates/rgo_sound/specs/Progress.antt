@@ -1,4 +1,5 @@
--- No step is missing: where the three-address machine has a step, the region machine has it after some steps with regions.
+-- No step is missing: where the three-address machine has a step, the region machine has it after some steps with
+-- regions.
 use Rattle.std.specs.Prelude.{IsSome, List, Some, [], ℕ, ◌<◌, ◌∷◌, ◌≡◌}
 use Rattle.rgo_code.specs.Checked.{IsChecked}
 use Rattle.rgo_code.specs.Code.{Code}
@@ -25,7 +26,8 @@ AreRegionSteps (event ∷ events) = IsRegionStep event × AreRegionSteps events
 abbrev pub MakesTooLarge : ℕ → TacState → TacState → Type 0
 MakesTooLarge page_words old next = (object : _) × (new_object old next ≡ Some object) × (page_words < words object)
 
--- after some region steps, there is an instruction's step of the kind of the pick: of the same goroutine, or a meeting of
+-- after some region steps, there is an instruction's step of the kind of the pick: of the same goroutine, or a meeting
+-- of
 -- the same receiver, perhaps with another sender, whose offer stands there
 abbrev pub IsLike : Pick → Pick → Type 0
 IsLike (One g) pick = pick ≡ One g

@@ -26,7 +26,8 @@ cells_of (Channel capacity queue closed) = queue
 -- a pointer in a cell of a live region leads into the same region
 abbrev pub PointersStay : RegionState → Type 0
 PointersStay s =
-    (o p : ℕ) (object : Object) (r : Region) → slice_get s.plain.memory.heap o ≡ Some object → slice_get s.owners o ≡ Some r → is_live s.regions r ≡ true →
+    (o p : ℕ) (object : Object) (r : Region) → slice_get s.plain.memory.heap o ≡ Some object → slice_get s.owners o
+        ≡ Some r → is_live s.regions r ≡ true →
     Contains (cells_of object) (value.Object p) → slice_get s.owners p ≡ Some r
 
 -- ---- numbers
@@ -55,10 +56,13 @@ pub record IsSafe (code : Code) (s : RegionState) : Type 0 where
   pub counts : CountsFit code s
 
 abbrev pub Safety : Type 0
-Safety = (code : Code) (page_words : ℕ) (events : List Event) (s : RegionState) → IsChecked code → Ascends code → region_run code page_words events ≡ Some s → IsSafe code s
+Safety = (code : Code) (page_words : ℕ) (events : List Event) (s : RegionState) → IsChecked code → Ascends code
+    → region_run code page_words events ≡ Some s → IsSafe code s
 
--- a region whose last stake has ended stays as it was, whatever the code: so none is removed twice, nor gets a page again
+-- a region whose last stake has ended stays as it was, whatever the code: so none is removed twice, nor gets a page
+-- again
 abbrev pub RemovedStays : Type 0
 RemovedStays =
-    (code : Code) (page_words : ℕ) (s t : RegionState) (event : Event) (r : ℕ) (info : RegionInfo) → region_step code page_words s event ≡ Some t →
+    (code : Code) (page_words : ℕ) (s t : RegionState) (event : Event) (r : ℕ) (info : RegionInfo)
+        → region_step code page_words s event ≡ Some t →
     slice_get s.regions r ≡ Some info → info.stakes ≡ 0 → slice_get t.regions r ≡ Some info

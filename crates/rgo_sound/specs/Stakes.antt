@@ -31,5 +31,6 @@ abbrev pub HasEnded : RegionState → ℕ → Holder → Type 0
 HasEnded s g h = (frames_of s.plain g ≡ []) × (h.duties ≡ [])
 
 pub record StakesAreCounted (s : RegionState) : Type 0 where
-  pub counted : (r : ℕ) (info : RegionInfo) → slice_get s.regions r ≡ Some info → info.stakes ≡ holders_of s r + pending_of s r
+  pub counted : (r : ℕ) (info : RegionInfo) → slice_get s.regions r ≡ Some info → info.stakes
+      ≡ holders_of s r + pending_of s r
   pub ended : (g : ℕ) (h : Holder) → slice_get s.holders g ≡ Some h → HasEnded s g h → h.stakes ≡ []

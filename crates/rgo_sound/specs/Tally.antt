@@ -31,11 +31,13 @@ no_share = record { made = 0; removed = 0; taken = 0; returned = 0; steps = 0; o
 -- the end of a stake: the region is removed with its pages if it was the last
 abbrev pub share_of_last : Option RegionInfo → Counts
 share_of_last None = no_share
-share_of_last (Some info) = if nat_eq info.stakes 1 then record no_share { removed = 1; returned = info.pages } else no_share
+share_of_last (Some info) = if nat_eq info.stakes 1 then record no_share { removed = 1; returned = info.pages } else
+    no_share
 
 abbrev pub share_of_removal : RegionState → Holder → Region → Counts
 share_of_removal s h GlobalRegion = no_share
-share_of_removal s h (Numbered r) = if guards h.base h.environments (Numbered r) then no_share else share_of_last (slice_get s.regions r)
+share_of_removal s h (Numbered r) = if guards h.base h.environments (Numbered r) then no_share else share_of_last
+    (slice_get s.regions r)
 
 abbrev pub share_of_named : RegionState → Holder → Option Region → Counts
 share_of_named s h None = no_share
@@ -47,7 +49,9 @@ share_of_duty s h (Create k) = record no_share { made = 1 }
 share_of_duty s h (Share k) = no_share
 share_of_duty s h (Protect k) = no_share
 share_of_duty s h (Unprotect k) = no_share
-share_of_duty s h (Remove k) = share_of_named s (record h { environments = with_top h.environments (unbind (top_names h.environments) k) }) (bound (top_names h.environments) k)
+share_of_duty s h (Remove k) = share_of_named s (record h
+    { environments = with_top h.environments (unbind (top_names h.environments) k) })
+    (bound (top_names h.environments) k)
 share_of_duty s h (EndBase r) = share_of_removal s (record h { base = removed_once r h.base }) r
 
 abbrev pub share_of_first : RegionState → Holder → List Duty → Counts
@@ -61,7 +65,9 @@ share_of_holder s (Some h) = share_of_first s h h.duties
 -- an instruction: what the plain machine made
 abbrev pub share_of_plain : RegionState → Option TacState → Counts
 share_of_plain s None = no_share
-share_of_plain s (Some next) = record no_share { steps = 1; objects = length next.memory.heap - length s.plain.memory.heap; goroutines = length next.goroutines - length s.plain.goroutines }
+share_of_plain s (Some next) = record no_share { steps = 1; objects =
+    length next.memory.heap - length s.plain.memory.heap; goroutines =
+    length next.goroutines - length s.plain.goroutines }
 
 abbrev pub share_of : Code → RegionState → Event → Counts
 share_of code s (Instruct pick) = share_of_plain s (plain_step code s.plain pick)
@@ -73,4 +79,5 @@ share_of code s (Finish end) = no_share
 
 -- the counts of a run are those of its start and the shares of its steps, whatever the code
 abbrev pub TallyAdds : Type 0
-TallyAdds = (code : Code) (page_words : ℕ) (s t : RegionState) (event : Event) → region_step code page_words s event ≡ Some t → counts_of t ≡ counts_plus (counts_of s) (share_of code s event)
+TallyAdds = (code : Code) (page_words : ℕ) (s t : RegionState) (event : Event) → region_step code page_words s event
+    ≡ Some t → counts_of t ≡ counts_plus (counts_of s) (share_of code s event)

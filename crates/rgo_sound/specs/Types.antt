@@ -51,7 +51,8 @@ pub record MemoryFits (code : Code) (kinds : List «Type») (m : Memory) : Type 
   pub variables : HaveKinds kinds (map (λ (v : Variable). v.ty) code.variables) m.variables
 
 abbrev pub FrameFits : Code → List «Type» → Frame → Type 0
-FrameFits code kinds frame = (fn : CodeFn) × (function_at code frame ≡ Some fn) × HaveKinds kinds (erased_fn fn).variables frame.variables
+FrameFits code kinds frame = (fn : CodeFn) × (function_at code frame ≡ Some fn)
+    × HaveKinds kinds (erased_fn fn).variables frame.variables
 
 -- a caller waits at its call of the function above it
 abbrev pub IsCallOf : Code → CodeOp → CodeFn → Type 0
@@ -60,21 +61,26 @@ IsCallOf code op fn = ⊥
 
 abbrev pub CalledFrom : Code → Frame → List Frame → Type 0
 CalledFrom code frame [] = Unit {0}
-CalledFrom code frame (caller ∷ callers) = (fn : CodeFn) × (function_at code frame ≡ Some fn) × (call : CodeInstr) × (current code caller ≡ Some call) × IsCallOf code call.op fn
+CalledFrom code frame (caller ∷ callers) = (fn : CodeFn) × (function_at code frame ≡ Some fn) × (call : CodeInstr)
+    × (current code caller ≡ Some call) × IsCallOf code call.op fn
 
 abbrev pub FramesHaveKinds : Code → List «Type» → List Frame → Type 0
 FramesHaveKinds code kinds [] = Unit {0}
-FramesHaveKinds code kinds (frame ∷ callers) = FrameFits code kinds frame × CalledFrom code frame callers × FramesHaveKinds code kinds callers
+FramesHaveKinds code kinds (frame ∷ callers) = FrameFits code kinds frame × CalledFrom code frame callers
+    × FramesHaveKinds code kinds callers
 
 pub record Typed (code : Code) (p : TacState) : Type 0 where
   pub kinds : List «Type»
   pub memory : MemoryFits code kinds p.memory
-  pub frames : (g : ℕ) (frames : List Frame) → slice_get p.goroutines g ≡ Some frames → FramesHaveKinds code kinds frames
+  pub frames : (g : ℕ) (frames : List Frame) → slice_get p.goroutines g ≡ Some frames
+      → FramesHaveKinds code kinds frames
 
 -- each step of the three-address machine keeps it
 abbrev pub TypesKeep : Type 0
-TypesKeep = (code : Code) (p q : TacState) (pick : Pick) → IsChecked code → Typed code p → plain_step code p pick ≡ Some q → Typed code q
+TypesKeep = (code : Code) (p q : TacState) (pick : Pick) → IsChecked code → Typed code p → plain_step code p pick
+    ≡ Some q → Typed code q
 
 -- and each region run
 abbrev pub TypesAlways : Type 0
-TypesAlways = (code : Code) (page_words : ℕ) (events : List Event) (s : RegionState) → IsChecked code → region_run code page_words events ≡ Some s → Typed code s.plain
+TypesAlways = (code : Code) (page_words : ℕ) (events : List Event) (s : RegionState) → IsChecked code
+    → region_run code page_words events ≡ Some s → Typed code s.plain

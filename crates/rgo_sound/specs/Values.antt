@@ -30,44 +30,53 @@ abbrev pub LeadsHome : List Region → Bindings → Class → Value → Type 0
 LeadsHome owners names class (value.Int i) = Unit {0}
 LeadsHome owners names class (value.Bool b) = Unit {0}
 LeadsHome owners names class value.Nil = Unit {0}
-LeadsHome owners names class (value.Object o) = (r : Region) × (class_region names class ≡ Some r) × (slice_get owners o ≡ Some r)
+LeadsHome owners names class (value.Object o) = (r : Region) × (class_region names class ≡ Some r)
+    × (slice_get owners o ≡ Some r)
 
 -- what the objects of a region hold stays there, whether it is live or not; what package variables hold is Global
 pub record MemoryHome (owners : List Region) (m : Memory) : Type 0 where
   pub owned : length owners ≡ length m.heap
-  pub cells : (o : ℕ) (object : Object) (r : Region) → slice_get m.heap o ≡ Some object → slice_get owners o ≡ Some r → Each (LeadsInto owners r) (cells_of object)
+  pub cells : (o : ℕ) (object : Object) (r : Region) → slice_get m.heap o ≡ Some object → slice_get owners o ≡ Some r
+      → Each (LeadsInto owners r) (cells_of object)
   pub variables : Each (LeadsInto owners GlobalRegion) m.variables
 
--- of the top frame: what is live into its instruction. Of a caller: what is live behind its call, but for the call's own
+-- of the top frame: what is live into its instruction. Of a caller: what is live behind its call, but for the call's
+-- own
 abbrev pub call_target : CodeOp → Option ℕ
 call_target (Call to n from passes protects removes) = to
 call_target op = None
 
 abbrev pub TopLeads : Code → List Region → Frame → Bindings → Type 0
-TopLeads code owners frame names = (fn : CodeFn) → function_at code frame ≡ Some fn → (v : ℕ) → Live (erased_fn fn) v frame.next → LeadsHome owners names (class_of fn v) (value_at frame v)
+TopLeads code owners frame names = (fn : CodeFn) → function_at code frame ≡ Some fn → (v : ℕ)
+    → Live (erased_fn fn) v frame.next → LeadsHome owners names (class_of fn v) (value_at frame v)
 
 abbrev pub CallerLeads : Code → List Region → Frame → Bindings → Type 0
 CallerLeads code owners frame names =
-    (fn : CodeFn) (call : CodeInstr) → function_at code frame ≡ Some fn → current code frame ≡ Some call → (v : ℕ) → call_target call.op ≢ Some v → Live (erased_fn fn) v (frame.next + 1) →
+    (fn : CodeFn) (call : CodeInstr) → function_at code frame ≡ Some fn → current code frame ≡ Some call → (v : ℕ)
+        → call_target call.op ≢ Some v → Live (erased_fn fn) v (frame.next + 1) →
     LeadsHome owners names (class_of fn v) (value_at frame v)
 
 -- what is lent for a result is the region of the variable that waits for it
 abbrev pub IsLinked : Code → Environment → Frame → Environment → Type 0
 IsLinked code f caller d =
-    (fn : CodeFn) (call : CodeInstr) (to : ℕ) → function_at code caller ≡ Some fn → current code caller ≡ Some call → call_target call.op ≡ Some to →
+    (fn : CodeFn) (call : CodeInstr) (to : ℕ) → function_at code caller ≡ Some fn → current code caller ≡ Some call
+        → call_target call.op ≡ Some to →
     f.lent ≢ NoClass → class_region f.names f.lent ≡ class_region d.names (class_of fn to)
 
 abbrev pub CallersLead : Code → List Region → Environment → List Frame → List Environment → Type 0
 CallersLead code owners f [] [] = Unit {0}
 CallersLead code owners f [] (d ∷ ds) = ⊥
 CallersLead code owners f (caller ∷ callers) [] = ⊥
-CallersLead code owners f (caller ∷ callers) (d ∷ ds) = CallerLeads code owners caller d.names × IsLinked code f caller d × CallersLead code owners d callers ds
+CallersLead code owners f (caller ∷ callers) (d ∷ ds) =
+    CallerLeads code owners caller d.names × IsLinked code f caller d × CallersLead code owners d callers ds
 
 abbrev pub FramesLead : Code → List Region → List Frame → List Environment → Type 0
 FramesLead code owners [] environments = Unit {0}
 FramesLead code owners (frame ∷ callers) [] = ⊥
-FramesLead code owners (frame ∷ callers) (f ∷ fs) = TopLeads code owners frame f.names × CallersLead code owners f callers fs
+FramesLead code owners (frame ∷ callers) (f ∷ fs) = TopLeads code owners frame f.names
+    × CallersLead code owners f callers fs
 
 pub record ValuesStay (code : Code) (s : RegionState) : Type 0 where
   pub memory : MemoryHome s.owners s.plain.memory
-  pub frames : (g : ℕ) (h : Holder) → slice_get s.holders g ≡ Some h → FramesLead code s.owners (frames_of s.plain g) h.environments
+  pub frames : (g : ℕ) (h : Holder) → slice_get s.holders g ≡ Some h
+      → FramesLead code s.owners (frames_of s.plain g) h.environments
