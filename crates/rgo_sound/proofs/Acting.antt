@@ -20,7 +20,7 @@ use Rattle.rgo_machine.specs.declared.picks.End.TheVariants.{Exit, Trap}
 use Rattle.rgo_machine.specs.Actions.{is_true, at_channel, effected as machine_effected}
 use Rattle.rgo_machine.specs.Lines.{line_of}
 use Rattle.rgo_machine.specs.Machines as machine
-use Rattle.rgo_machine.specs.Machines.{Act, Stand, AtReceive, AtSend, AtClose, AtCall, AtStart, Elsewhere}
+use Rattle.rgo_machine.specs.Machines.{AtCall, AtStart, Elsewhere}
 use Rattle.rgo_tac.specs.Code.{Op, Do, Call, Go, Print, Jump, Branch, Return, Instr, TacFn, Tac}
 use Rattle.rgo_tac.specs.Frames.{Frame, value_at, values_of, moved_to, going, called}
 use Rattle.rgo_tac.specs.Steps.{instr_of, type_of, resumed, stand_at, stand_before, at_function, done, done_at}
@@ -308,7 +308,7 @@ module _ (code : Tac) (s : TacState) (g : ℕ) where
         by_op (Branch test target other) is =
             by_itself (Branch test target other) is
             ∙ ap Some (goes_on s.memory (moved_to frame (if is_true (value_at frame test) then target else other))
-                callers)
+            callers)
         by_op (Return value) is =
             by_itself (Return value) is ∙ returns (option_map (value_at frame) value) callers
 

@@ -234,7 +234,7 @@ fewer [] cs d h = omega arith
 fewer (k ∷ ks) cs d h =
     let a = removed_length k cs (h k (contains_here k ks)) in
     let b = fewer ks (removed_name k cs) d.1 (λ j c. removed_other k j cs (λ e. d.0 (subst (Contains ks) e c))
-        (h j (contains_there k ks j c))) in
+    (h j (contains_there k ks j c))) in
     omega (arith, a, b)
 
 most_of : (fs : List CodeFn) (n : ℕ) (f : CodeFn) → slice_get fs n ≡ Some f → name_count f ≤ most_names fs
@@ -294,7 +294,7 @@ module _ (code : Code) (checked : IsChecked code) (written : Ascends code) where
       let b = few_sum gs in
       let c = mul_more (length gs) (most_names code.functions) in
       let d : length (frames ∷ gs) * most_names code.functions ≡ (length gs + 1) * most_names code.functions =
-          ap (λ n. n * most_names code.functions) (more (length gs)) in
+      ap (λ n. n * most_names code.functions) (more (length gs)) in
       omega (arith, a, b, c, d)
     where
       more : (n : ℕ) → suc n ≡ n + 1
@@ -325,8 +325,15 @@ module _ (code : Code) (checked : IsChecked code) (written : Ascends code) where
           some_class z = cc
 
           held : (c : ℕ) → Contains (reads (erased_op instr.op)) c → class_of fn c ≡ Name k → ⊥
-          held c r named = x.2 (x.0, record { variable = c; named = named; live =
-              live_read fn frame.next c instr there r })
+          held c r named = x.2 (
+            x.0,
+            record {
+              variable = c;
+              named = named;
+              live =
+                  live_read fn frame.next c instr there r;
+            },
+          )
 
           never : Contains (reads (erased_op instr.op)) names.variable
               ⊎ (writes (erased_op instr.op) ≡ Some names.variable) → ⊥
@@ -483,8 +490,11 @@ module _ (code : Code) (page_words : ℕ) (s : RegionState) (old : Bounded code 
 
     done : (k : Holder) (d : Duty) → creates_in h.duties ≡ creates_in (d ∷ k.duties)
         → Yields (Bounded code) (duty_done s g k d)
-    done k (Create n) z = kept _ (record k { stakes = length s.regions ∷ k.stakes; environments =
-        with_top k.environments ((n, Numbered (length s.regions)) ∷ unbind (top_names k.environments) n) }) refl refl
+    done k (Create n) z = kept _ (record k {
+      stakes = length s.regions ∷ k.stakes;
+      environments =
+          with_top k.environments ((n, Numbered (length s.regions)) ∷ unbind (top_names k.environments) n);
+    }) refl refl
         refl (let a = length-append s.regions (record { stakes = 1; pages = 0 } ∷ []) in omega (arith, a, z))
     done k (Share n) z = yields_then (shared s g k) _ (λ q. shares k q (omega (arith, z)))
     done k (Protect n) z = yields_then (protected s g k) _
@@ -623,24 +633,24 @@ module _ (code : Code) (page_words : ℕ) (s : RegionState) (old : Bounded code 
                   (last_frames (slice_set s.plain.goroutines g x.a.frames ++ x.a.started))) ≤ sum_of code x.a.started
               go (callee, q) =
                   let st : x.a.started ≡ (called callee n (values_of x.frame from) ∷ []) ∷ [] =
-                      ap (λ (y : Acted). y.started) (the_same x.a _
-                      (sym (sym (ap (start s.plain.memory x.frame x.callers n (values_of x.frame from)) q)
-                      ∙ acts (Go n from passes removes) is))) in
+                  ap (λ (y : Acted). y.started) (the_same x.a _
+                  (sym (sym (ap (start s.plain.memory x.frame x.callers n (values_of x.frame from)) q)
+                  ∙ acts (Go n from passes removes) is))) in
                   let l : last_frames (slice_set s.plain.goroutines g x.a.frames ++ x.a.started)
-                      ≡ called callee n (values_of x.frame from) ∷ [] =
-                      ap (λ y. last_frames (slice_set s.plain.goroutines g x.a.frames ++ y)) st
-                      ∙ last_frames_snoc (slice_set s.plain.goroutines g x.a.frames)
-                      (called callee n (values_of x.frame from) ∷ []) in
+                  ≡ called callee n (values_of x.frame from) ∷ [] =
+                  ap (λ y. last_frames (slice_set s.plain.goroutines g x.a.frames ++ y)) st
+                  ∙ last_frames_snoc (slice_set s.plain.goroutines g x.a.frames)
+                  (called callee n (values_of x.frame from) ∷ []) in
                   let a : total owed_of (child_holder code x.given.0 x.instr.op
-                      (last_frames (slice_set s.plain.goroutines g x.a.frames ++ x.a.started)))
-                      ≡ total owed_of (child_holder code x.given.0 (Go n from passes removes)
-                      (called callee n (values_of x.frame from) ∷ [])) =
-                      ap (λ o. total owed_of (child_holder code x.given.0 o
-                      (last_frames (slice_set s.plain.goroutines g x.a.frames ++ x.a.started)))) is
-                      ∙ ap (λ y. total owed_of (child_holder code x.given.0 (Go n from passes removes) y)) l in
+                  (last_frames (slice_set s.plain.goroutines g x.a.frames ++ x.a.started)))
+                  ≡ total owed_of (child_holder code x.given.0 (Go n from passes removes)
+                  (called callee n (values_of x.frame from) ∷ [])) =
+                  ap (λ o. total owed_of (child_holder code x.given.0 o
+                  (last_frames (slice_set s.plain.goroutines g x.a.frames ++ x.a.started)))) is
+                  ∙ ap (λ y. total owed_of (child_holder code x.given.0 (Go n from passes removes) y)) l in
                   let b = front_creates code (map Remove (entry_removes (function_of code n)))
-                      (called callee n (values_of x.frame from) ∷ [])
-                      (none_removes (entry_removes (function_of code n))) in
+                  (called callee n (values_of x.frame from) ∷ [])
+                  (none_removes (entry_removes (function_of code n))) in
                   let c = ap (sum_of code) st in
                   omega (arith, a, b, c)
           by (Do to action from removes) is = let a = ap (λ o.
@@ -668,13 +678,13 @@ module _ (code : Code) (page_words : ℕ) (s : RegionState) (old : Bounded code 
             counted =
                 let a = old.counted in
                 let b = total_set owed_of s.holders g x.h (unless_trapped (after s.plain g x.a).ended x.given.0
-                    (holder_after code x.given.0 x.frame x.callers x.instr.op (frames_of (after s.plain g x.a) g)))
-                    x.there in
+                (holder_after code x.given.0 x.frame x.callers x.instr.op (frames_of (after s.plain g x.a) g)))
+                x.there in
                 let b' = total_append owed_of (slice_set s.holders g
-                    (unless_trapped (after s.plain g x.a).ended x.given.0
-                    (holder_after code x.given.0 x.frame x.callers x.instr.op (frames_of (after s.plain g x.a) g))))
-                    (child_holder code x.given.0 x.instr.op (last_frames
-                    (slice_set s.plain.goroutines g x.a.frames ++ x.a.started))) in
+                (unless_trapped (after s.plain g x.a).ended x.given.0
+                (holder_after code x.given.0 x.frame x.callers x.instr.op (frames_of (after s.plain g x.a) g))))
+                (child_holder code x.given.0 x.instr.op (last_frames
+                (slice_set s.plain.goroutines g x.a.frames ++ x.a.started))) in
                 let c = sum_set code s.plain.goroutines g (x.frame ∷ x.callers) x.a.frames x.at in
                 let c' = sum_append code (slice_set s.plain.goroutines g x.a.frames) x.a.started in
                 let d = few_of code checked written (x.frame ∷ x.callers) in
@@ -693,10 +703,10 @@ module _ (code : Code) (page_words : ℕ) (s : RegionState) (old : Bounded code 
             let a = old.counted in
             let b = total_set owed_of s.holders r x.h h' x.there_h in
             let b' = total_set owed_of (slice_set s.holders r h') u x.k k'
-                (get_set_other s.holders r u h' x.apart ∙ x.there_k) in
+            (get_set_other s.holders r u h' x.apart ∙ x.there_k) in
             let c = sum_set code s.plain.goroutines r x.receiver (x.go_on x.v) x.at_r in
             let c' = sum_set code (slice_set s.plain.goroutines r (x.go_on x.v)) u x.sender x.next
-                (get_set_other s.plain.goroutines r u (x.go_on x.v) x.apart ∙ x.at_u) in
+            (get_set_other s.plain.goroutines r u (x.go_on x.v) x.apart ∙ x.at_u) in
             let d = none_r in
             let d' = none_u in
             let e = owes_h in
@@ -782,5 +792,8 @@ regions_always code page_words events s checked written run =
         both (Some u) a b = yields u (record { fine = a.fact; bounded = b.fact })
 
     start : FineBounded code (region_start code)
-    start = record { fine = fine_start code checked written; bounded =
-        record { counted = let a = next_creates code (frames_of (tac_start (erased code)) 0) in omega (arith, a) } }
+    start = record {
+      fine = fine_start code checked written;
+      bounded =
+          record { counted = let a = next_creates code (frames_of (tac_start (erased code)) 0) in omega (arith, a) };
+    }

@@ -6,15 +6,11 @@ use Rattle.std.proofs.Common.{Contains, count_by, cond}
 use Rattle.std.specs.List.{list_any}
 use Rattle.std.proofs.lemmas.List.Sums.{sum_by-cons}
 use Rattle.rgo_sound.proofs.Shares.{none_pending}
-use Rattle.rgo_sound.proofs.Others.{runs_are_fine}
 use Rattle.rgo_sound.proofs.CoreLemmas.{split, eq_of, or_right}
 use Rattle.rgo_sound.proofs.Static.{contains_nil, contains_cases, contains_here, contains_there}
 use Rattle.rgo_sound.proofs.Attends.{staked_live, same_reflexive, total_none}
-use Rattle.rgo_code.specs.Checked.{IsChecked}
 use Rattle.rgo_code.specs.Code.{Code}
-use Rattle.rgo_code.specs.NameRules.{Ascends}
 use Rattle.rgo_region_machine.specs.Counts.{counts_of, is_removed}
-use Rattle.rgo_region_machine.specs.Machine.{Event, region_run}
 use Rattle.rgo_region_machine.specs.Duties.{guards}
 use Rattle.rgo_region_machine.specs.Regions.{RegionInfo, bound, same_region}
 use Rattle.rgo_region_machine.specs.States.{Create, Duty, EndBase, Environment, Holder, Protect, RegionState, Remove}
@@ -73,8 +69,11 @@ one_holding_name code s fine g h r e c n = held_once r h.base h.environments
 pub has_stake : (code : Code) (s : RegionState) (g : ℕ) (h : Holder) (r : Region) → Fine code s → slice_get s.holders g
     ≡ Some h → ((q : ℕ) → r ≡ Numbered q → is_in q h.stakes ≡ true) → HasStake s h r
 has_stake code s g h GlobalRegion fine e i = tt
-has_stake code s g h (Numbered q) fine e i = (staked_live code s g h q fine e (i q refl), in_contains h.stakes q
-    (i q refl))
+has_stake code s g h (Numbered q) fine e i = (
+  staked_live code s g h q fine e (i q refl),
+  in_contains h.stakes q
+      (i q refl),
+)
 
 -- what a name of the top frame stands for
 pub name_staked : (code : Code) (s : RegionState) (g : ℕ) (h : Holder) (k : ℕ) (r : Region) → Fine code s
@@ -97,7 +96,7 @@ duty_staked code s g h (Unprotect k) ds r fine e q n = name_staked code s g h k 
 duty_staked code s g h (Remove k) ds r fine e q n = name_staked code s g h k r fine e n
 duty_staked code s g h (EndBase p) ds r fine e q n =
     has_stake code s g h r fine e (λ x i. (fine.each g h e).core.based x
-        (go h.environments (frames_of s.plain g) h.duties q (fine.each g h e).fit x (n ∙ i)))
+    (go h.environments (frames_of s.plain g) h.duties q (fine.each g h e).fit x (n ∙ i)))
   where
     first : (base : List Region) (x : ℕ) → EndBase p ∷ ds ≡ map EndBase base → p ≡ Numbered x
         → list_any (same_region (Numbered x)) base ≡ true
@@ -105,7 +104,7 @@ duty_staked code s g h (EndBase p) ds r fine e q n =
     first (b ∷ bs) x m i =
         let w : p ≡ b = cc in
         ap (λ y. same_region (Numbered x) y || list_any (same_region (Numbered x)) bs) (sym w ∙ i)
-            ∙ ap (λ y. y || list_any (same_region (Numbered x)) bs) (same_reflexive (Numbered x))
+        ∙ ap (λ y. y || list_any (same_region (Numbered x)) bs) (same_reflexive (Numbered x))
 
     go : (environments : List Environment) (frames : List Frame) (duties : List Duty) → duties ≡ EndBase p ∷ ds
         → FramesFit code h.base frames environments duties → (x : ℕ) → p ≡ Numbered x
@@ -142,9 +141,9 @@ ended_unpending : (code : Code) (s : RegionState) (g : ℕ) (h : Holder) → Fin
     → HasEnded s g h → h.pending ≡ []
 ended_unpending code s g h fine e n =
     none_pending (top_names h.environments) h.pending (subst
-        (λ (x : List Duty). Shares [] x (top_names h.environments) h.pending) n.1
-        (subst (λ (x : List Frame). Shares (to_share code x) h.duties (top_names h.environments) h.pending) n.0
-        (fine.each g h e).shares))
+    (λ (x : List Duty). Shares [] x (top_names h.environments) h.pending) n.1
+    (subst (λ (x : List Frame). Shares (to_share code x) h.duties (top_names h.environments) h.pending) n.0
+    (fine.each g h e).shares))
 
 -- where all have ended, no region has a stake
 pub all_unstaked : (code : Code) (s : RegionState) → Fine code s → AllEnded s → (r : ℕ) (info : RegionInfo)
@@ -152,9 +151,9 @@ pub all_unstaked : (code : Code) (s : RegionState) → Fine code s → AllEnded 
 all_unstaked code s fine ended r info e =
     let a = fine.counted r info e in
     let b : holders_of s r ≡ 0 = total_none (λ (h : Holder). one_if (is_in r h.stakes)) s.holders
-        (λ g h i. ap one_if (ended_unstaked code s g h fine i (ended g h i) r)) in
+    (λ g h i. ap one_if (ended_unstaked code s g h fine i (ended g h i) r)) in
     let c : pending_of s r ≡ 0 = total_none (λ (h : Holder). times_in r h.pending) s.holders
-        (λ g h i. ap (times_in r) (ended_unpending code s g h fine i (ended g h i))) in
+    (λ g h i. ap (times_in r) (ended_unpending code s g h fine i (ended g h i))) in
     omega (arith, a, b, c)
 
 -- and so each is removed
@@ -178,31 +177,17 @@ no_stakes (x ∷ xs) h = absurd (true≢false (sym (ap (λ b. if b then true els
     self : (x : ℕ) → nat_eq x x ≡ true
     self x = grind arith
 
--- ---- of every run
+-- ---- of a state
 
--- a region's stakes are the goroutines that have one, none of them ended, and the pending ones; each stake that is
--- under no own protection has one holding name; what a goroutine's next duty names is Global, or live with an own
--- stake; and where all have ended, each region that was made is removed
-pub record StakesKept (s : RegionState) : Type 0 where
-  pub stakes : StakesAreCounted s
-  pub names : OneHoldingName s
-  pub duties : (g : ℕ) (h : Holder) (d : Duty) (ds : List Duty) (r : Region) → slice_get s.holders g ≡ Some h → h.duties
-      ≡ d ∷ ds → DutyNames h d r → HasStake s h r
-  pub all_removed : AllEnded s → (counts_of s).made ≡ (counts_of s).removed
+-- a region's stakes are the goroutines that have one, none of them ended, and the pending ones
+pub stakes_counted : (code : Code) (s : RegionState) → Fine code s → StakesAreCounted s
+stakes_counted code s fine = record {
+  counted = fine.counted;
+  ended = λ g h i n.
+      no_stakes h.stakes (ended_unstaked code s g h fine i n);
+}
 
-abbrev pub StakesAlways : Type 0
-StakesAlways = (code : Code) (page_words : ℕ) (events : List Event) (s : RegionState) → IsChecked code → Ascends code
-    → region_run code page_words events ≡ Some s → StakesKept s
-
-pub stakes_always : StakesAlways
-stakes_always code page_words events s checked written r =
-    record {
-      stakes = record { counted = fine.counted; ended = λ g h i n.
-          no_stakes h.stakes (ended_unstaked code s g h fine i n) };
-      names = one_holding_name code s fine;
-      duties = λ g h d ds q i ed n. duty_staked code s g h d ds q fine i ed n;
-      all_removed = λ ended. sym (count_all s.regions (all_unstaked code s fine ended));
-    }
-  where
-    fine : Fine code s
-    fine = runs_are_fine code page_words events s checked written r
+-- where all have ended, each region that was made is removed
+pub all_removed : (code : Code) (s : RegionState) → Fine code s → AllEnded s
+    → (counts_of s).made ≡ (counts_of s).removed
+all_removed code s fine ended = sym (count_all s.regions (all_unstaked code s fine ended))

@@ -65,8 +65,14 @@ named_twice k (c ∷ cs) h = go (is_name k c) refl h (named_twice k cs) (named_a
     go true e h next at = let x = at (omega (arith, h)) in
         record { one = 0; other = suc x.0; differ = zero_suc x.0; first = ap Some (is_named k c e); second = x.1 }
     go false e h next at = let x = next (omega (arith, h)) in
-        record { one = suc x.one; other = suc x.other; differ = up x.one x.other x.differ; first = x.first; second =
-        x.second }
+        record {
+          one = suc x.one;
+          other = suc x.other;
+          differ = up x.one x.other x.differ;
+          first = x.first;
+          second =
+              x.second;
+        }
 
 module _ (fn : CodeFn) (i : ℕ) (to : Option ℕ) (n : ℕ) (from : List ℕ) (passes : List Class) (protects removes : List ℕ)
     (rule : ProtectsUsed fn i (Call to n from passes protects removes)) where
@@ -78,7 +84,7 @@ module _ (fn : CodeFn) (i : ℕ) (to : Option ℕ) (n : ℕ) (from : List ℕ) (
       twice h =
           let t = named_twice k passes h in
           true≢false (sym (any_contains protects k ((rule k).1
-              (get_contains passes t.one (Name k) t.first, inr (inr t)))) ∙ n)
+          (get_contains passes t.one (Name k) t.first, inr (inr t)))) ∙ n)
 
       go : (m : ℕ) → times_named k passes ≡ m → times_named k passes ≤ 1
       go zero e = omega (arith, e)
@@ -94,4 +100,4 @@ module _ (fn : CodeFn) (i : ℕ) (to : Option ℕ) (n : ℕ) (from : List ℕ) (
       lent t =
           let p = named_at k passes h in
           true≢false (sym (any_contains protects k ((rule k).1
-              (get_contains passes p.0 (Name k) p.1, inr (inl (is_named k (result_class fn) t))))) ∙ n)
+          (get_contains passes p.0 (Name k) p.1, inr (inl (is_named k (result_class fn) t))))) ∙ n)

@@ -3,7 +3,6 @@ use Rattle.std.proofs.Common.{◌≡◌, ◌≢◌, ℕ, zero, suc, ◌≤◌, t
 use Rattle.std.proofs.Common.{None, is_some, refl, sym, ap, ◌∙◌, subst, nat_eq, arith, ◌↔◌, true≢false, slice_get}
 use Rattle.std.proofs.Common.{slice_set, option_map, append-nil}
 use Rattle.rgo_sound.proofs.Places.{ascending_distinct, get_set_other, get_set_same, length_set}
-use Rattle.rgo_sound.proofs.ErasureLemmas.{yields_is}
 use Rattle.rgo_sound.proofs.Static.{named_bound}
 use Rattle.rgo_sound.proofs.Calls.{CallFits, given_free}
 use Rattle.rgo_sound.proofs.CallRules.{protects_twice, protects_result, any_contains}
@@ -11,7 +10,7 @@ use Rattle.rgo_sound.proofs.Lists.{formals_once, formals_are, gives_are}
 use Rattle.rgo_sound.proofs.Passable.{all_passable, call_reads, call_writes}
 use Rattle.rgo_sound.proofs.Enters.{CallIsRight, calls_on}
 use Rattle.rgo_sound.proofs.Instructs.{IsRuled, fine_plain}
-use Rattle.rgo_sound.proofs.OneStep.{SameHolder, none_owed, current_erased, OneDone, one_done, instr_is}
+use Rattle.rgo_sound.proofs.OneStep.{SameHolder, none_owed, current_erased, OneDone}
 use Rattle.rgo_sound.proofs.Ruled.{CallIsThere, IsAt, call_is_there, erased_found, is_at, ruled}
 use Rattle.rgo_sound.proofs.Moves.{settled_pending}
 use Rattle.rgo_code.specs.Checked.{IsChecked}
@@ -23,10 +22,8 @@ use Rattle.rgo_code.specs.Names.{Gives, region_parameters, result_class}
 use Rattle.rgo_code.specs.Exists.{OpExists}
 use Rattle.rgo_code.specs.Types.{ArgumentsFit, OpFits, TargetFits}
 use Rattle.rgo_memory.specs.Memory.{Memory}
-use Rattle.rgo_machine.specs.declared.picks.Pick.TheVariants.{One}
 use Rattle.rgo_region_machine.specs.Instructions.{child_holder, has_none, holder_after, instructed_with, last_frames}
 use Rattle.rgo_region_machine.specs.Instructions.{unless_trapped}
-use Rattle.rgo_region_machine.specs.Machine.{Instruct, region_step}
 use Rattle.rgo_region_machine.specs.Owed.{current, current_in, duties_before, entry_removes, formals_of, function_of}
 use Rattle.rgo_region_machine.specs.Owed.{given_names, next_duties, passed, passed_regions, result_of}
 use Rattle.rgo_region_machine.specs.Regions.{without_all}
@@ -37,7 +34,7 @@ use Rattle.rgo_sound.proofs.Acting.{after, Acted, act, act_at, alone, end_by}
 use Rattle.rgo_sound.proofs.Acting as acting
 use Rattle.rgo_sound.specs.Core.{Core}
 use Rattle.rgo_sound.specs.Holding.{is_mine}
-use Rattle.rgo_sound.specs.Invariant.{CallsKeep, EachOnce, Fine, FramesFit, GoodHolder, HasInstr, IsFree, IsReady}
+use Rattle.rgo_sound.specs.Invariant.{EachOnce, Fine, FramesFit, GoodHolder, HasInstr, IsFree, IsReady}
 use Rattle.rgo_sound.specs.Invariant.{Settled, Shares, Stands, shared_names, to_share}
 use Rattle.rgo_sound.specs.Stakes.{times_in}
 use Rattle.rgo_tac.specs.Code.{TacFn}
@@ -78,18 +75,19 @@ module _ (code : Code) (checked : IsChecked code) (written : Ascends code) (fram
   good_behind h (f ∷ fs) duties entered callee en e0 found d core once fit sh =
       subst (λ (x : Option CodeInstr). GoodHolder code (entered ∷ frame ∷ callers) (record h {
         environments = environment_of (result_class callee)
-            (passed (region_parameters callee) (passed_regions f.names passes)) ∷ record f
-            { names = without_all f.names (given_names (result_class callee) (region_parameters callee) passes protects)
+            (passed (region_parameters callee) (passed_regions f.names passes)) ∷ record f {
+              names = without_all f.names (given_names (result_class callee) (region_parameters callee) passes
+                  protects);
             } ∷ fs;
         duties = map Remove callee.entry ++ duties_before x;
       })) (sym next_is)
       (calls_on code st.fn callee frame entered callers call first.0 to n from passes protects removes h f fs is
-          st.is_fn here
+      st.is_fn here
       (ap (slice_get code.functions) en ∙ found) e0 (rules.kept n 0 callee first.0 found first.1)
-          (checked rule.Removals (line.Entry n) callee found) (checked rule.Entry (line.Entry n) callee found)
-          (ascending_distinct callee.entry (written n callee found).entry)
+      (checked rule.Removals (line.Entry n) callee found) (checked rule.Entry (line.Entry n) callee found)
+      (ascending_distinct callee.entry (written n callee found).entry)
       right fits core once st.lends settled fit.1 (settled_pending code frame callers call f.names duties h.pending cur
-          (ap shared_names is) d sh))
+      (ap shared_names is) d sh))
     where
       rules : IsRuled code
       rules = ruled code checked written
@@ -135,9 +133,9 @@ module _ (code : Code) (checked : IsChecked code) (written : Ascends code) (fram
           × TargetFits (erased_fn st.fn) (Some (erased_fn callee)) to
       types =
           subst (λ (o : Option TacFn). ArgumentsFit (erased_fn st.fn) o from × TargetFits (erased_fn st.fn) o to)
-              (erased_found code n callee found)
+          (erased_found code n callee found)
           (subst (λ x. OpFits (erased code) (erased_fn st.fn) (erased_op x)) is
-              (checked rule.Types (line.Instr frame.function frame.next) st.fn call st.is_fn here))
+          (checked rule.Types (line.Instr frame.function frame.next) st.fn call st.is_fn here))
 
       fits : CallFits f.lent (result_class callee) f.names (region_parameters callee) passes protects
       fits =
@@ -145,8 +143,8 @@ module _ (code : Code) (checked : IsChecked code) (written : Ascends code) (fram
             formals_fit = formals_once callee;
             passable =
                 all_passable st.fn callee call to from passes f.names
-                    (call_reads call to n from passes protects removes is)
-                    (call_writes call to n from passes protects removes is)
+                (call_reads call to n from passes protects removes is)
+                (call_writes call to n from passes protects removes is)
                 (subst (λ (x : CodeFn). length from ≡ x.params) is_callee there.arguments_fit)
                 (subst (λ (x : CodeFn). is_some to ≡ is_some x.result) is_callee there.value_fits)
                 fits_callee
@@ -156,8 +154,8 @@ module _ (code : Code) (checked : IsChecked code) (written : Ascends code) (fram
                 types.0
                 types.1
                 (λ k n. named_bound st.fn frame.next k call f.names
-                    (checked rule.Creations (line.Instr frame.function frame.next) st.fn call st.is_fn here)
-                    settled.there settled.made settled.lent n);
+                (checked rule.Creations (line.Instr frame.function frame.next) st.fn call st.is_fn here)
+                settled.there settled.made settled.lent n);
             twice = protects_twice st.fn frame.next to n from passes protects removes protects_rightly;
             own = λ k free x. ap (λ y. is_mine y k) st.lends ∙ protects_result st.fn frame.next to n from passes
                 protects removes protects_rightly k free x;
@@ -188,8 +186,14 @@ abbrev pub entered_frame : Frame → ℕ → List ℕ → CodeFn → Frame
 entered_frame frame n from callee = called (erased_fn callee) n (values_of frame from)
 
 abbrev pub has_called : Memory → Frame → List Frame → ℕ → List ℕ → CodeFn → Acted
-has_called m frame callers n from callee = record { memory = m; frames =
-    entered_frame frame n from callee ∷ frame ∷ callers; started = []; printed = []; trap = None }
+has_called m frame callers n from callee = record {
+  memory = m;
+  frames =
+      entered_frame frame n from callee ∷ frame ∷ callers;
+  started = [];
+  printed = [];
+  trap = None;
+}
 
 -- a call of checked code enters a function
 pub call_enters : (code : Code) (m : Memory) (frame : Frame) (callers : List Frame) (call : CodeInstr) (to : Option ℕ)
@@ -261,13 +265,13 @@ module _ (code : Code) (s : RegionState) (g : ℕ) (h : Holder) (frame : Frame) 
       → Fine code (instructed_with code s g frame callers call (next callee) given)
   behind callee frames given found q d same =
       fine_plain code s (instructed_with code s g frame callers call (next callee) given) g h
-          (behind_holder (record h { fills = same.fills }) callee (entered callee ∷ frame ∷ callers)) fine e refl hs
-          refl refl (as_long callee) (the_others callee)
+      (behind_holder (record h { fills = same.fills }) callee (entered callee ∷ frame ∷ callers)) fine e refl hs
+      refl refl (as_long callee) (the_others callee)
       (subst (λ x. GoodHolder code x (behind_holder (record h { fills = same.fills }) callee
-          (entered callee ∷ frame ∷ callers))) (sym (goroutines callee frames q))
+      (entered callee ∷ frame ∷ callers))) (sym (goroutines callee frames q))
       (good_behind code checked written frame callers call to n from passes protects removes is cur
-          (record h { fills = same.fills }) h.environments h.duties (entered callee) callee refl refl found
-          (none_owed h.duties d) good.core good.base_once good.fit good.shares))
+      (record h { fills = same.fills }) h.environments h.duties (entered callee) callee refl refl found
+      (none_owed h.duties d) good.core good.base_once good.fit good.shares))
     where
       after : (o : CodeOp) → o ≡ Call to n from passes protects removes
           → holder_after code given.0 frame callers o (frames_of (next callee) g)
@@ -287,17 +291,17 @@ module _ (code : Code) (s : RegionState) (g : ℕ) (h : Holder) (frame : Frame) 
           (entered callee ∷ frame ∷ callers))
       hs =
           ap (λ x. slice_set s.holders g (unless_trapped (next callee).ended given.0
-              (holder_after code given.0 frame callers call.op (frames_of (next callee) g))) ++ x)
-              (ap (λ x. child_holder code given.0 x (last_frames (next callee).goroutines)) is)
+          (holder_after code given.0 frame callers call.op (frames_of (next callee) g))) ++ x)
+          (ap (λ x. child_holder code given.0 x (last_frames (next callee).goroutines)) is)
           ∙ append-nil (slice_set s.holders g (unless_trapped (next callee).ended given.0
-              (holder_after code given.0 frame callers call.op (frames_of (next callee) g))))
+          (holder_after code given.0 frame callers call.op (frames_of (next callee) g))))
           ∙ ap (λ x. slice_set s.holders g (unless_trapped x given.0
-              (holder_after code given.0 frame callers call.op (frames_of (next callee) g))))
-              (no_end g (entered callee) (frame ∷ callers))
+          (holder_after code given.0 frame callers call.op (frames_of (next callee) g))))
+          (no_end g (entered callee) (frame ∷ callers))
           ∙ ap (slice_set s.holders g) (after call.op is)
           ∙ ap (λ (x : Holder). slice_set s.holders g (behind_holder x callee (frames_of (next callee) g))) same.same
           ∙ ap (λ x. slice_set s.holders g (behind_holder (record h { fills = same.fills }) callee x))
-              (goroutines callee frames q)
+          (goroutines callee frames q)
 
 -- a call keeps what holds of the state: of an instruction that was done, and of a step
 pub fine_call : (code : Code) (page_words : ℕ) (s t : RegionState) (g : ℕ) (x : OneDone code page_words s g t)
@@ -305,20 +309,12 @@ pub fine_call : (code : Code) (page_words : ℕ) (s t : RegionState) (g : ℕ) (
     → Ascends code → Fine code s → x.instr.op ≡ Call to n from passes protects removes → Fine code t
 fine_call code page_words s t g x to n from passes protects removes checked written fine is =
     let c = call_enters code s.plain.memory x.frame x.callers x.instr to n from passes protects removes checked x.cur is
-        in
+    in
     subst (Fine code) (sym x.is)
     (subst (λ a. Fine code (instructed_with code s g x.frame x.callers x.instr (after s.plain g a) x.given))
-        (the_same (has_called s.plain.memory x.frame x.callers n from c.0) x.a (sym c.2 ∙ x.acts))
+    (the_same (has_called s.plain.memory x.frame x.callers n from c.0) x.a (sym c.2 ∙ x.acts))
     (behind code s g x.h x.frame x.callers x.instr to n from passes protects removes checked written fine x.there
-        (ap frames_in x.at) x.cur is c.0 (x.frame ∷ x.callers) x.given c.1 x.at (ap has_none x.ready.none) x.same))
+    (ap frames_in x.at) x.cur is c.0 (x.frame ∷ x.callers) x.given c.1 x.at (ap has_none x.ready.none) x.same))
   where
     the_same : (a b : Acted) → Some a ≡ Some b → a ≡ b
     the_same a b e = cc
-
-pub calls_keep : CallsKeep
-calls_keep code page_words s t g h frame callers call to n from passes protects removes checked written fine e at cur is
-    r =
-    let x = yields_is {P = OneDone code page_words s g} (region_step code page_words s (Instruct (One g))) t
-        (one_done code page_words s g) r in
-    fine_call code page_words s t g x to n from passes protects removes checked written fine
-        (ap (λ (i : CodeInstr). i.op) (instr_is code page_words s t g x frame callers call at cur) ∙ is)

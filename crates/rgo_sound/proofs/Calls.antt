@@ -43,12 +43,12 @@ times_named k (c ∷ cs) = one_if (is_name k c) + times_named k cs
 
 -- what is asked of the lists of a call, by the rules on calls and on protections
 pub record CallFits (mine lent : Class) (names : Bindings) (formals regions : List Class) (protects : List ℕ) : Type 0
-    where
-  pub formals_fit : AreFormals formals
-  pub passable : ArePassable names regions
-  -- what stands twice is protected, and so is the caller's own result
-  pub twice : (k : ℕ) → list_any (nat_eq k) protects ≡ false → times_named k regions ≤ 1
-  pub own : (k : ℕ) → list_any (nat_eq k) protects ≡ false → 1 ≤ times_named k regions → is_mine mine k ≡ true
+  where
+    pub formals_fit : AreFormals formals
+    pub passable : ArePassable names regions
+    -- what stands twice is protected, and so is the caller's own result
+    pub twice : (k : ℕ) → list_any (nat_eq k) protects ≡ false → times_named k regions ≤ 1
+    pub own : (k : ℕ) → list_any (nat_eq k) protects ≡ false → 1 ≤ times_named k regions → is_mine mine k ≡ true
 
 module _ (names : Bindings) (lent : Class) (protects : List ℕ) where
   abbrev pub given : List Class → List Class → List ℕ
@@ -151,13 +151,13 @@ module _ (names : Bindings) (lent : Class) (protects : List ℕ) where
       go (Some q) b false true el em h =
           let n : same_region (Numbered r) q ≡ false = sym (ap (same_bound (Numbered r)) b) ∙ u k em in
           let a : one_if (is_mine lent i && same_region (Numbered r) q) ≡ 0 =
-              ap (λ x. one_if (is_mine lent i && x)) n ∙ none_if (is_mine lent i) in
+          ap (λ x. one_if (is_mine lent i && x)) n ∙ none_if (is_mine lent i) in
           omega (arith, a, h)
       go (Some q) b false false el em h =
           let a : one_if (is_mine lent i && same_region (Numbered r) q) ≡ one_if (same_region (Numbered r) q) =
-              ap (λ x. one_if (not x && same_region (Numbered r) q)) el in
+          ap (λ x. one_if (not x && same_region (Numbered r) q)) el in
           let c : one_if (same_bound (Numbered r) (bound names k)) ≡ one_if (same_region (Numbered r) q) =
-              ap (λ x. one_if (same_bound (Numbered r) x)) b in
+          ap (λ x. one_if (same_bound (Numbered r) x)) b in
           omega (arith, a, c, h)
   received r (Name i ∷ formals) (Global ∷ regions) f p u =
       let a : one_if (is_mine lent i && false) ≡ 0 = none_if (is_mine lent i) in
@@ -251,20 +251,24 @@ module _ (names : Bindings) (lent : Class) (protects : List ℕ) where
           × (suc (times_in k (given formals regions)) ≤ times_named k regions)) → (k : ℕ)
           × (bound names k ≡ Some (Numbered r)) × (suc (times_in k (given (Name i ∷ formals) (Name j ∷ regions))) ≤
           one_if (nat_eq k j) + times_named k regions)
-      go None h b t e' next = let x = next e' in (x.0, x.1, more (list_any (nat_eq j) protects || is_name i lent) x.0
-          x.2)
+      go None h b t e' next = let x = next e' in (
+        x.0,
+        x.1,
+        more (list_any (nat_eq j) protects || is_name i lent) x.0
+            x.2,
+      )
       go (Some q) h false n e' next =
           let e'' : bound (to_callee formals regions) m ≡ Some (Numbered r) =
-              ap (λ x. if x then Some q else bound (to_callee formals regions) m) (sym n) ∙ e' in
+          ap (λ x. if x then Some q else bound (to_callee formals regions) m) (sym n) ∙ e' in
           let x = next e'' in (x.0, x.1, more (list_any (nat_eq j) protects || is_name i lent) x.0 x.2)
       go (Some q) h true t e' next =
           let v : Some q ≡ Some (Numbered r) = ap (λ x. if x then Some q else bound (to_callee formals regions) m)
-              (sym t) ∙ e' in
+          (sym t) ∙ e' in
           let l' : is_name i lent ≡ true = ap (is_name i) l ∙ t in
           let c : (list_any (nat_eq j) protects || is_name i lent) ≡ true =
-              ap (λ x. list_any (nat_eq j) protects || x) l' ∙ or_true (list_any (nat_eq j) protects) in
+          ap (λ x. list_any (nat_eq j) protects || x) l' ∙ or_true (list_any (nat_eq j) protects) in
           let w : times_in j (given (Name i ∷ formals) (Name j ∷ regions)) ≡ times_in j (given formals regions) =
-              ap (λ x. times_in j (if x then given formals regions else j ∷ given formals regions)) c in
+          ap (λ x. times_in j (if x then given formals regions else j ∷ given formals regions)) c in
           let g = given_times formals regions j in
           let s : one_if (nat_eq j j) ≡ 1 = ap one_if (self j) in
           (j, h ∙ v, omega (arith, w, g, s))
@@ -360,8 +364,8 @@ left_count mine r (k ∷ ks) names u d m = go (bound names k) refl
         other true t z next = absurd (omega (arith, z))
         other false n z next =
             let a : one_if (same_bound (Numbered r) (bound (unbind names k) j))
-                ≡ one_if (same_bound (Numbered r) (bound names j)) =
-                ap (λ x. one_if (same_bound (Numbered r) x)) (bound_unbind_other names k j n) in
+            ≡ one_if (same_bound (Numbered r) (bound names j)) =
+            ap (λ x. one_if (same_bound (Numbered r) x)) (bound_unbind_other names k j n) in
             let b = next (omega (arith, z)) in
             omega (arith, a, b)
 
@@ -376,9 +380,9 @@ left_count mine r (k ∷ ks) names u d m = go (bound names k) refl
         omega (arith, a, h, s, i)
     go (Some q) e h =
         let a : one_if (same_bound (Numbered r) (bound names k)) ≡ one_if (same_region (Numbered r) q) =
-            ap (λ x. one_if (same_bound (Numbered r) x)) e in
+        ap (λ x. one_if (same_bound (Numbered r) x)) e in
         let b : one_if (is_mine mine k && same_region (Numbered r) q) ≡ one_if (same_region (Numbered r) q) =
-            ap (λ x. one_if (x && same_region (Numbered r) q)) mine_here in
+        ap (λ x. one_if (x && same_region (Numbered r) q)) mine_here in
         let s = same ks no_more in
         let i = held_unbind mine r names k q u e in
         omega (arith, a, b, h, s, i)
@@ -464,8 +468,12 @@ module _ (stakes : List ℕ) (base : List Region) (f : Environment) (fs : List E
   gives = given_names callee formals regions protects
 
   abbrev callee_environment : Environment
-  callee_environment = record { lent = callee; names = passed formals (passed_regions f.names regions); protections =
-      [] }
+  callee_environment = record {
+    lent = callee;
+    names = passed formals (passed_regions f.names regions);
+    protections =
+        [];
+  }
 
   abbrev left_names : Bindings
   left_names = without_all f.names (given_names callee formals regions protects)
@@ -541,14 +549,14 @@ module _ (stakes : List ℕ) (base : List Region) (f : Environment) (fs : List E
           unbound =
               let a = held_unbind f.lent r f.names k (Numbered r) core.unique.0 bk in
               let b : one_if (is_mine f.lent k && same_region (Numbered r) (Numbered r)) ≡ 1 =
-                  ap (λ x. one_if (x && same_region (Numbered r) (Numbered r))) (given_mine k gk)
-                  ∙ ap one_if (self r) in
+              ap (λ x. one_if (x && same_region (Numbered r) (Numbered r))) (given_mine k gk)
+              ∙ ap one_if (self r) in
               omega (arith, a, b)
 
           two : is_mine f.lent j ≡ true → ⊥
           two m =
               let a = bound_held f.lent r (unbind f.names k) j (unique_unbind f.names k core.unique.0)
-                  (bound_unbind_other f.names k j differs ∙ bj) m in
+              (bound_unbind_other f.names k j differs ∙ bj) m in
               omega (arith, a, unbound, one)
 
           lends : 1 ≤ held r fs → ⊥
@@ -576,13 +584,13 @@ module _ (stakes : List ℕ) (base : List Region) (f : Environment) (fs : List E
           → 1 ≤ held_in f.lent r left_names + held r fs
       go (k, b, h) =
           let unprotected : list_any (nat_eq k) protects ≡ false =
-              split (list_any (nat_eq k) protects) (λ t. absurd
-              (true≢false (sym (ap (same_bound (Numbered r)) b ∙ self r) ∙ free r u k t))) (λ n. n) in
+          split (list_any (nat_eq k) protects) (λ t. absurd
+          (true≢false (sym (ap (same_bound (Numbered r)) b ∙ self r) ∙ free r u k t))) (λ n. n) in
           let t = fits.twice k unprotected in
           let z : times_in k gives ≡ 0 = omega (arith, h, t) in
           let mine = fits.own k unprotected (omega (arith, h)) in
           let x = bound_held f.lent r left_names k (left_unique gives f.names core.unique.0)
-              (left_other gives f.names k z ∙ b) mine in
+          (left_other gives f.names k z ∙ b) mine in
           omega (arith, x)
 
   -- the counts behind a call

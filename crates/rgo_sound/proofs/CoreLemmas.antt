@@ -73,7 +73,7 @@ held_unbind lent r (b ∷ bs) k q u e = split (nat_eq b.0 k) (λ t. here t) (λ 
         let value : b.1 ≡ q = grind arith in
         let none : bound bs k ≡ None = subst (λ x. bound bs x ≡ None) same u.0 in
         let rest : unbind (b ∷ bs) k ≡ bs = ap (λ x. if x then unbind bs k else b ∷ unbind bs k) t
-            ∙ unbind_none bs k none in
+        ∙ unbind_none bs k none in
         ap (λ x. one_if (is_mine lent x && same_region (Numbered r) b.1) + held_in lent r bs) same
         ∙ ap (λ x. one_if (is_mine lent k && same_region (Numbered r) x) + held_in lent r bs) value
         ∙ ap (λ x. one_if (is_mine lent k && same_region (Numbered r) q) + held_in lent r x) (sym rest)
@@ -85,10 +85,10 @@ held_unbind lent r (b ∷ bs) k q u e = split (nat_eq b.0 k) (λ t. here t) (λ 
     there f next =
         let e' : bound bs k ≡ Some q = ap (λ x. if x then Some b.1 else bound bs k) (sym f) ∙ e in
         let h : held_in lent r bs ≡ one_if (is_mine lent k && same_region (Numbered r) q) + held_in lent r
-            (unbind bs k) = next e' in
+        (unbind bs k) = next e' in
         let rest : unbind (b ∷ bs) k ≡ b ∷ unbind bs k = ap (λ x. if x then unbind bs k else b ∷ unbind bs k) f in
         let rest' : held_in lent r (unbind (b ∷ bs) k) ≡ one_if (is_mine lent b.0 && same_region (Numbered r) b.1) +
-            held_in lent r (unbind bs k) = ap (held_in lent r) rest in
+        held_in lent r (unbind bs k) = ap (held_in lent r) rest in
         omega (arith, h, rest')
 
 same_self : (r : ℕ) → same_region (Numbered r) (Numbered r) ≡ true
@@ -100,7 +100,7 @@ pub bound_held : (lent : Class) (r : ℕ) (names : Bindings) (k : ℕ) → AreUn
 bound_held lent r names k u e m =
     let h = held_unbind lent r names k (Numbered r) u e in
     let one : one_if (is_mine lent k && same_region (Numbered r) (Numbered r)) ≡ 1 =
-        ap (λ x. one_if (x && same_region (Numbered r) (Numbered r))) m ∙ ap one_if (same_self r) in
+    ap (λ x. one_if (x && same_region (Numbered r) (Numbered r))) m ∙ ap one_if (same_self r) in
     omega (arith, h, one)
 
 -- a count that is not none has a name
@@ -117,11 +117,18 @@ found lent r (b ∷ bs) u = go (is_mine lent b.0) (same_region (Numbered r) b.1)
         ⊎ ((k : ℕ) × (bound bs k ≡ Some (Numbered r)) × (is_mine lent k ≡ true))
         → (one_if (is_mine lent b.0 && same_region (Numbered r) b.1) + held_in lent r bs ≡ 0)
         ⊎ ((k : ℕ) × (bound (b ∷ bs) k ≡ Some (Numbered r)) × (is_mine lent k ≡ true))
-    go true true m t rest = inr (b.0, ap (λ x. if x then Some b.1 else bound bs b.0) (nat_eq_refl b.0)
-        ∙ ap Some (is_same b.1 t), m)
+    go true true m t rest = inr (
+      b.0,
+      ap (λ x. if x then Some b.1 else bound bs b.0) (nat_eq_refl b.0)
+          ∙ ap Some (is_same b.1 t),
+      m,
+    )
     go m t em et (inr (k, e, mk)) =
-        inr (k, split (nat_eq b.0 k) (λ s. absurd (clash s)) (λ f. ap (λ x. if x then Some b.1 else bound bs k) f ∙ e),
-            mk)
+        inr (
+          k,
+          split (nat_eq b.0 k) (λ s. absurd (clash s)) (λ f. ap (λ x. if x then Some b.1 else bound bs k) f ∙ e),
+          mk,
+        )
       where
         clash : nat_eq b.0 k ≡ true → ⊥
         clash s = let n : bound bs k ≡ None = subst (λ x. bound bs x ≡ None) (eq_of b.0 k s) u.0 in cc
@@ -146,7 +153,7 @@ pub binds_held : (base : List Region) (f : Environment) (fs : List Environment) 
     → 1 ≤ held r (f ∷ fs)
 binds_held base f fs k r u l g e =
     split (is_mine f.lent k) (λ m. mine (bound_held f.lent r f.names k u e m))
-        (λ n. below (l k r (lent_name f.lent k n) e g))
+    (λ n. below (l k r (lent_name f.lent k n) e g))
   where
     mine : 1 ≤ held_in f.lent r f.names → 1 ≤ held r (f ∷ fs)
     mine h = omega arith
@@ -188,8 +195,12 @@ pub names_below : (base : List Region) (r : ℕ) (stakes : List ℕ) (fs : List 
     → AreLentBelow base fs → guards base fs (Numbered r) ≡ false → held r fs ≡ 0 → AreStaked stakes fs
     → AreStaked (without r stakes) fs
 names_below base r stakes [] u l g z s = tt
-names_below base r stakes (f ∷ fs) u l g z s = (here, protections, names_below base r stakes fs u.1 l.1 gs (omega arith)
-    s.2)
+names_below base r stakes (f ∷ fs) u l g z s = (
+  here,
+  protections,
+  names_below base r stakes fs u.1 l.1 gs (omega arith)
+      s.2,
+)
   where
     gs : guards base fs (Numbered r) ≡ false
     gs = or_right (list_any (same_region (Numbered r)) f.protections) (guards base fs (Numbered r)) g
@@ -210,7 +221,7 @@ names_below base r stakes (f ∷ fs) u l g z s = (here, protections, names_below
         clash t =
             let no : list_any (same_region (Numbered r)) f.protections ≡ false = or_left _ _ g in
             let yes' : list_any (same_region (Numbered r)) f.protections ≡ true =
-                subst (λ x. list_any (same_region (Numbered x)) f.protections ≡ true) (sym (eq_of r q t)) e in
+            subst (λ x. list_any (same_region (Numbered x)) f.protections ≡ true) (sym (eq_of r q t)) e in
             true≢false (sym yes' ∙ no)
 
 -- ---- steps of the goroutine: its top frame has other names
@@ -257,7 +268,7 @@ core_kept stakes base f fs k q e g c = core_unbound stakes base f fs k
     keeps r u false s =
         let h = held_unbind f.lent r f.names k q c.unique.0 e in
         let z : one_if (is_mine f.lent k && same_region (Numbered r) q) ≡ 0 =
-            ap (λ x. one_if (is_mine f.lent k && x)) s ∙ none (is_mine f.lent k) in
+        ap (λ x. one_if (is_mine f.lent k && x)) s ∙ none (is_mine f.lent k) in
         omega (arith, h, z)
 
 -- the last removal: the goroutine's stake ends with its only holding name
@@ -286,7 +297,7 @@ core_removed stakes base f fs k r e m g c =
     top =
         let h = held_unbind f.lent r f.names k (Numbered r) c.unique.0 e in
         let one : one_if (is_mine f.lent k && same_region (Numbered r) (Numbered r)) ≡ 1 =
-            ap (λ x. one_if (x && same_region (Numbered r) (Numbered r))) m ∙ ap one_if (same_self r) in
+        ap (λ x. one_if (x && same_region (Numbered r) (Numbered r))) m ∙ ap one_if (same_self r) in
         omega (arith, h, one)
 
     none_below : held r fs ≡ 0
@@ -305,7 +316,7 @@ core_removed stakes base f fs k r e m g c =
     no_other : (j : ℕ) → bound (unbind f.names k) j ≡ Some (Numbered r) → ⊥
     no_other j e' =
         split (is_mine f.lent j) (λ t. mine (bound_held f.lent r (unbind f.names k) j
-            (unique_unbind f.names k c.unique.0) e' t))
+        (unique_unbind f.names k c.unique.0) e' t))
         (λ n. lends (c.lent.0 j r (lent_name f.lent j n) (was j (Numbered r) e') gs))
       where
         mine : 1 ≤ held_in f.lent r (unbind f.names k) → ⊥
@@ -324,9 +335,9 @@ core_removed stakes base f fs k r e m g c =
         clash : nat_eq r q ≡ true → ⊥
         clash t =
             let there : list_any (same_region (Numbered r)) f.protections ≡ true =
-                subst (λ x. list_any (same_region (Numbered x)) f.protections ≡ true) (sym (eq_of r q t)) e' in
+            subst (λ x. list_any (same_region (Numbered x)) f.protections ≡ true) (sym (eq_of r q t)) e' in
             true≢false (sym there ∙ or_left (list_any (same_region (Numbered r)) f.protections)
-                (guards base fs (Numbered r)) g)
+            (guards base fs (Numbered r)) g)
 
     based : RegionsStaked (without r stakes) base
     based q e' = split (nat_eq r q) (λ t. absurd (clash t)) (λ n. in_without r q stakes n ∙ c.based q e')
@@ -334,7 +345,7 @@ core_removed stakes base f fs k r e m g c =
         clash : nat_eq r q ≡ true → ⊥
         clash t =
             let there : list_any (same_region (Numbered r)) base ≡ true =
-                subst (λ x. list_any (same_region (Numbered x)) base ≡ true) (sym (eq_of r q t)) e' in
+            subst (λ x. list_any (same_region (Numbered x)) base ≡ true) (sym (eq_of r q t)) e' in
             true≢false (sym (base_guards base fs (Numbered r) there) ∙ gs)
 
     once : (q : ℕ) → is_in q (without r stakes) ≡ true → IsHeldOnce q base (record f { names = unbind f.names k } ∷ fs)
@@ -360,7 +371,7 @@ core_removed stakes base f fs k r e m g c =
             keeps n =
                 let h = held_unbind f.lent q f.names k (Numbered r) c.unique.0 e in
                 let z : one_if (is_mine f.lent k && same_region (Numbered q) (Numbered r)) ≡ 0 =
-                    ap (λ x. one_if (is_mine f.lent k && x)) (flip r q n) ∙ none (is_mine f.lent k) in
+                ap (λ x. one_if (is_mine f.lent k && x)) (flip r q n) ∙ none (is_mine f.lent k) in
                 omega (arith, h, z)
 
 -- protections of the top frame begin and end
@@ -374,9 +385,15 @@ core_protected stakes base f fs protections h c = record
 pub core_popped : (stakes : List ℕ) (base : List Region) (f : Environment) (fs : List Environment)
     → ((k : ℕ) → is_mine f.lent k ≡ true → bound f.names k ≡ None) → Core stakes base (f ∷ fs) → Core stakes base fs
 core_popped stakes base f fs empty c =
-    record { unique = c.unique.1; staked = c.staked.2; based = c.based; once =
-        λ r e. split (guards base fs (Numbered r)) (λ g. (c.once r e).1 g)
-        (λ g. below fs r g (counted r g (c.once r e))); lent = c.lent.1 }
+    record {
+      unique = c.unique.1;
+      staked = c.staked.2;
+      based = c.based;
+      once =
+          λ r e. split (guards base fs (Numbered r)) (λ g. (c.once r e).1 g)
+          (λ g. below fs r g (counted r g (c.once r e)));
+      lent = c.lent.1;
+    }
   where
     nothing : (r : ℕ) → held_in f.lent r f.names ≡ 0
     nothing r = go (found f.lent r f.names c.unique.0)
@@ -391,8 +408,11 @@ core_popped stakes base f fs empty c =
 
     below : (fs : List Environment) (r : ℕ) → guards base fs (Numbered r) ≡ false → held r fs ≡ 1 → IsHeldOnce r base fs
     below [] r g h = absurd (omega (arith, h))
-    below (d ∷ ds) r g h = ((λ u. h), (λ u. absurd (true≢false
-        (sym (or_there (list_any (same_region (Numbered r)) d.protections) (guards base ds (Numbered r)) u) ∙ g))))
+    below (d ∷ ds) r g h = (
+      (λ u. h),
+      (λ u. absurd (true≢false
+          (sym (or_there (list_any (same_region (Numbered r)) d.protections) (guards base ds (Numbered r)) u) ∙ g))),
+    )
 
 -- what is protected, the goroutine has a stake in; and what it holds
 guards_staked : (stakes : List ℕ) (base : List Region) (fs : List Environment) (r : ℕ) → AreStaked stakes fs
@@ -426,8 +446,11 @@ in_more r q stakes e = go (nat_eq q r)
 
 staked_more : (r : ℕ) (stakes : List ℕ) (fs : List Environment) → AreStaked stakes fs → AreStaked (r ∷ stakes) fs
 staked_more r stakes [] s = tt
-staked_more r stakes (f ∷ fs) s = ((λ k q e. in_more r q stakes (s.0 k q e)), (λ q e. in_more r q stakes (s.1 q e)),
-    staked_more r stakes fs s.2)
+staked_more r stakes (f ∷ fs) s = (
+  (λ k q e. in_more r q stakes (s.0 k q e)),
+  (λ q e. in_more r q stakes (s.1 q e)),
+  staked_more r stakes fs s.2,
+)
 
 -- a region is made under an own name that stands for none
 pub core_created : (stakes : List ℕ) (base : List Region) (f : Environment) (fs : List Environment) (k r : ℕ)
@@ -483,9 +506,9 @@ core_created stakes base f fs k r e m fresh c =
             one u =
                 let a = counts q in
                 let b : one_if (is_mine f.lent k && nat_eq q r) ≡ 1 =
-                    ap (λ x. one_if (x && nat_eq q r)) m ∙ ap one_if t in
+                ap (λ x. one_if (x && nat_eq q r)) m ∙ ap one_if t in
                 let z : held_in f.lent q f.names + held q fs ≡ 0 =
-                    subst (λ x. held_in f.lent x f.names + held x fs ≡ 0) (sym (eq_of q r t)) none in
+                subst (λ x. held_in f.lent x f.names + held x fs ≡ 0) (sym (eq_of q r t)) none in
                 omega (arith, a, b, z)
         go false n e'' =
             let o = c.once q e'' in
@@ -499,7 +522,7 @@ core_created stakes base f fs k r e m fresh c =
             other h =
                 let a = counts q in
                 let b : one_if (is_mine f.lent k && nat_eq q r) ≡ 0 =
-                    ap (λ x. one_if (is_mine f.lent k && x)) n ∙ off (is_mine f.lent k) in
+                ap (λ x. one_if (is_mine f.lent k && x)) n ∙ off (is_mine f.lent k) in
                 omega (arith, a, b, h)
 
     lent : IsLentBelow base (record f { names = (k, Numbered r) ∷ unbind f.names k }) fs
@@ -538,8 +561,13 @@ core_called stakes base f fs ks g left p c =
       staked = (names, protections, ((λ j q e. c.staked.0 j q (p.left_was j (Numbered q) e)), c.staked.1, c.staked.2));
       based = c.based;
       once = once;
-      lent = ((λ m r l e u. p.lends m r l e u), ((λ j q l e u. c.lent.0 j q l (p.left_was j (Numbered q) e) u),
-          c.lent.1));
+      lent = (
+        (λ m r l e u. p.lends m r l e u),
+        (
+          (λ j q l e u. c.lent.0 j q l (p.left_was j (Numbered q) e) u),
+          c.lent.1,
+        ),
+      );
     }
   where
     names : NamesStaked stakes g.names
@@ -557,7 +585,7 @@ core_called stakes base f fs ks g left p c =
             (held_in f.lent r left + held r fs) ≡ 1
         free u =
             let h = (c.once r e).0 (or_right (list_any (same_region (Numbered r)) f.protections)
-                (guards base fs (Numbered r)) u) in
+            (guards base fs (Numbered r)) u) in
             let k = p.conserved r u in
             omega (arith, h, k)
 
@@ -591,8 +619,11 @@ pub core_child : (stakes : List ℕ) (base : List Region) (f : Environment) → 
 core_child stakes base f u s m n b h =
     record {
       unique = (u, tt);
-      staked = (n, (λ r e. absurd (true≢false (sym (subst (λ x. list_any (same_region (Numbered r)) x ≡ true) s e)))),
-          tt);
+      staked = (
+        n,
+        (λ r e. absurd (true≢false (sym (subst (λ x. list_any (same_region (Numbered r)) x ≡ true) s e)))),
+        tt,
+      );
       based = b;
       once = λ r e. ((λ g. let x = h r e g in omega (arith, x)), (λ g. g));
       lent = ((λ k r l e g. absurd (true≢false (sym (m k) ∙ named f.lent k l))), tt);

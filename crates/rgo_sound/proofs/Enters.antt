@@ -52,13 +52,13 @@ pub enters : (code : Code) (fn : CodeFn) (next : CodeInstr) (names : Bindings) �
     → IsReady (IsFree fn 0) (Settled fn 0 next) (map Remove fn.entry ++ duties_before (Some next)) names []
 enters code fn next names b e known d there lent gone =
     ready_removes (IsFree fn 0) (Settled fn 0 next) fn.entry (duties_before (Some next)) names d
-        (λ k c. let x = (e k).0 c in (there k (is_parameter fn k x.1), (x.0, x.2)))
+    (λ k c. let x = (e k).0 c in (there k (is_parameter fn k x.1), (x.0, x.2)))
     (λ left removed kept. ready_creates (IsFree fn 0) (Settled fn 0 next) next.creates (duties_of_op next.op) left []
-        (ascending_distinct next.creates b.written.creates)
+    (ascending_distinct next.creates b.written.creates)
     (λ k c. let x = (b.creates k).0 c in (unbound left removed kept k x.0 x.2 (stands_or_not fn.entry k), (x.0, x.2)))
     (λ new made kept'. ready_ops (IsFree fn 0) (Settled fn 0 next) next.op new
     (λ k c. named_bound fn 0 k next new b.creates (held left kept new made kept') made (result left kept new kept')
-        (b.asked k c))
+    (b.asked k c))
     (λ protections fit. record {
       there = held left kept new made kept';
       made = made;
@@ -154,18 +154,24 @@ pub calls_on : (code : Code) (fn callee : CodeFn) (frame entered : Frame) (calle
     (f : Environment) (fs : List Environment) →
     call.op ≡ Call to n from passes protects removes → function_at code frame ≡ Some fn → HasInstr fn frame.next call →
     function_at code entered ≡ Some callee → entered.next ≡ 0 → Kept code callee 0 next → EntryRemovesDead callee
-        → EntryIsKnown callee → AreDistinct callee.entry →
+    → EntryIsKnown callee → AreDistinct callee.entry →
     CallIsRight code callee call passes protects → CallFits f.lent (result_class callee) f.names
-        (region_parameters callee) passes protects →
+    (region_parameters callee) passes protects →
     Core h.stakes h.base (f ∷ fs) → EachOnce h.base → f.lent ≡ result_class fn
-        → Settled fn frame.next call f.names f.protections → AllWait code callers fs → h.pending ≡ [] →
+    → Settled fn frame.next call f.names f.protections → AllWait code callers fs → h.pending ≡ [] →
     GoodHolder code (entered ∷ frame ∷ callers)
     (record h {
       environments =
-          record { lent = result_class callee; names = passed (region_parameters callee)
-              (passed_regions f.names passes); protections = [] }
-          ∷ record f { names = without_all f.names (given_names (result_class callee) (region_parameters callee) passes
-              protects) } ∷ fs;
+          record {
+            lent = result_class callee;
+            names = passed (region_parameters callee)
+                (passed_regions f.names passes);
+            protections = [];
+          }
+          ∷ record f {
+            names = without_all f.names (given_names (result_class callee) (region_parameters callee) passes
+                protects);
+          } ∷ fs;
       duties = map Remove callee.entry ++ duties_before (Some next);
     })
 calls_on code fn callee frame entered callers call next to n from passes protects removes h f fs is_call is here is' at
@@ -174,15 +180,34 @@ calls_on code fn callee frame entered callers call next to n from passes protect
       core = called_core h.stakes h.base f fs (result_class callee) (region_parameters callee) passes protects fits
           protections core;
       fit = (
-        record { fn = callee; is_fn = is'; instr = next; is_instr =
-            subst (λ i. HasInstr callee i next) (sym at) b.here; lends = refl; ready =
-            subst (λ i. IsReady (IsFree callee i) (Settled callee i next)
-            (map Remove callee.entry ++ duties_before (Some next)) names []) (sym at) ready },
-        (record { fn = fn; is_fn = is; instr = call; is_instr = here; lends = lends; calls =
-            subst (λ o. IsCall o) (sym is_call) tt; left = left; protections_fit =
-            λ r. s.protections_fit r ∙ ap (bound_times r f.names) (ap protected_names is_call)
-            ∙ same r protects (λ k c. right.kept k c) ∙ ap (bound_times r left_names) (ap protected_names (sym is_call))
-            }, w),
+        record {
+          fn = callee;
+          is_fn = is';
+          instr = next;
+          is_instr =
+              subst (λ i. HasInstr callee i next) (sym at) b.here;
+          lends = refl;
+          ready =
+              subst (λ i. IsReady (IsFree callee i) (Settled callee i next)
+              (map Remove callee.entry ++ duties_before (Some next)) names []) (sym at) ready;
+        },
+        (
+          record {
+            fn = fn;
+            is_fn = is;
+            instr = call;
+            is_instr = here;
+            lends = lends;
+            calls =
+                subst (λ o. IsCall o) (sym is_call) tt;
+            left = left;
+            protections_fit =
+                λ r. s.protections_fit r ∙ ap (bound_times r f.names) (ap protected_names is_call)
+                ∙ same r protects (λ k c. right.kept k c) ∙ ap (bound_times r left_names)
+                    (ap protected_names (sym is_call));
+          },
+          w,
+        ),
       );
       base_once = once;
       shares = owed code entered (frame ∷ callers) next (map Remove callee.entry) (removes_share_none callee.entry)
@@ -204,12 +229,12 @@ calls_on code fn callee frame entered callers call next to n from passes protect
     ready =
         enters code callee next (passed (region_parameters callee) (passed_regions f.names passes)) b e known d
         (λ k p. passed_bound f.names (region_parameters callee) passes k fits.formals_fit fits.passable right.as_long
-            ((right.formals k).1 (inl p)))
+        ((right.formals k).1 (inl p)))
         (λ k r. passed_bound f.names (region_parameters callee) passes k fits.formals_fit fits.passable right.as_long
-            ((right.formals k).1 (inr r)))
+        ((right.formals k).1 (inr r)))
         (λ k o n. not_passed f.names (result_class callee) protects (region_parameters callee) passes k
-            (split (list_any (is_name k) (region_parameters callee))
-            (λ t. absurd (neither k o n ((right.formals k).0 t))) (λ x. x)))
+        (split (list_any (is_name k) (region_parameters callee))
+        (λ t. absurd (neither k o n ((right.formals k).0 t))) (λ x. x)))
       where
         neither : (k : ℕ) → IsOwn callee k → ¬ (IsParameter callee k) → IsParameter callee k
             ⊎ (result_class callee ≡ Name k) → ⊥
@@ -258,9 +283,9 @@ calls_on code fn callee frame entered callers call next to n from passes protect
     same r [] z = refl
     same r (k ∷ ks) z =
         let a : one_if (same_bound r (bound f.names k)) ≡ one_if
-            (same_bound r (bound (without_all f.names (given_names (result_class callee) (region_parameters callee)
-            passes protects)) k)) = ap (λ x. one_if (same_bound r x))
-            (sym (left_other (given_names (result_class callee) (region_parameters callee) passes protects) f.names k
-            (z k (contains_here k ks)))) in
+        (same_bound r (bound (without_all f.names (given_names (result_class callee) (region_parameters callee)
+        passes protects)) k)) = ap (λ x. one_if (same_bound r x))
+        (sym (left_other (given_names (result_class callee) (region_parameters callee) passes protects) f.names k
+        (z k (contains_here k ks)))) in
         let b' = same r ks (λ j c. z j (contains_there k ks j c)) in
         omega (arith, a, b')

@@ -247,8 +247,11 @@ module _ (code : Code) (page_words : ℕ) where
   over_stays : (events : List Event) (s t : RegionState) (end : Mark) → s.mark ≡ Some end
       → run (region_step code page_words) s events ≡ Some t → Over s t end
   over_stays [] s t end m r = let e = some_same s t r in
-      record { printed = ap (λ (q : RegionState). q.plain.printed) (sym e); mark =
-      ap (λ (q : RegionState). q.mark) (sym e) ∙ m }
+      record {
+        printed = ap (λ (q : RegionState). q.plain.printed) (sym e);
+        mark =
+            ap (λ (q : RegionState). q.mark) (sym e) ∙ m;
+      }
   over_stays (event ∷ events) s t end m r = go (region_step code page_words s event)
       (step_follows code page_words s event) r (λ s' m' r'. over_stays events s' t end m' r')
     where
@@ -267,9 +270,9 @@ module _ (code : Code) (page_words : ℕ) where
   over_no_picks [] s end m = refl
   over_no_picks (event ∷ events) s end m =
       ap (λ n. event_picks n event ++ unwrap_or (option_map (λ t. erased_picks code page_words t events)
-          (region_step code page_words s event)) []) m
+      (region_step code page_words s event)) []) m
       ∙ go (region_step code page_words s event) (step_follows code page_words s event)
-          (λ s' m'. over_no_picks events s' end m')
+      (λ s' m'. over_no_picks events s' end m')
     where
       go : (o : Option RegionState) → Yields (Follows code page_words s event) o
           → ((s' : RegionState) → s'.mark ≡ Some end → erased_picks code page_words s' events ≡ [])
@@ -306,8 +309,13 @@ module _ (code : Code) (page_words : ℕ) where
 
       after_pick : (o : Option End) → f.0.ended ≡ o → Erases s.plain (pick ∷ rest) t
       after_pick None q =
-          let plain : plain_after s f.0 ≡ f.0 = λ i. record { memory = f.0.memory; goroutines =
-              f.0.goroutines; printed = printed_if (m i) s.plain.printed f.0.printed; ended = sym q i } in
+          let plain : plain_after s f.0 ≡ f.0 = λ i. record {
+            memory = f.0.memory;
+            goroutines =
+                f.0.goroutines;
+            printed = printed_if (m i) s.plain.printed f.0.printed;
+            ended = sym q i;
+          } in
           let on = next (marks ∙ ap (marked None) q) (ap (λ p. p.ended) f.2.plain) in
           let x = subst (λ p. Erases p rest t) (f.2.plain ∙ plain) on in
           record { state = x.state; leads = begins ∙ x.leads; print = x.print; end = x.end; same = x.same }
@@ -347,14 +355,20 @@ module _ (code : Code) (page_words : ℕ) where
       → run (region_step code page_words) s events ≡ Some t → Erases s.plain (erased_picks code page_words s events) t
   erases [] s t m e r =
       let q = some_same s t r in
-      record { state = s.plain; leads = refl; print = ap (λ (q : RegionState). q.plain.printed) q; end =
-          subst (λ n. SameEnd n t.mark) (sym e) (subst (SameEnd None)
-          (sym (ap (λ (q : RegionState). q.mark) (sym q) ∙ m)) tt); same = λ n. ap (λ (q : RegionState). q.plain) q }
+      record {
+        state = s.plain;
+        leads = refl;
+        print = ap (λ (q : RegionState). q.plain.printed) q;
+        end =
+            subst (λ n. SameEnd n t.mark) (sym e) (subst (SameEnd None)
+            (sym (ap (λ (q : RegionState). q.mark) (sym q) ∙ m)) tt);
+        same = λ n. ap (λ (q : RegionState). q.plain) q;
+      }
   erases (event ∷ events) s t m e r =
       subst (λ n. Erases s.plain (event_picks n event ++ unwrap_or
-          (option_map (λ q. erased_picks code page_words q events) (region_step code page_words s event)) []) t) (sym m)
+      (option_map (λ q. erased_picks code page_words q events) (region_step code page_words s event)) []) t) (sym m)
       (go (region_step code page_words s event) (step_follows code page_words s event) r
-          (λ s' r' m' e'. erases events s' t m' e' r'))
+      (λ s' r' m' e'. erases events s' t m' e' r'))
     where
       go : (o : Option RegionState) → Yields (Follows code page_words s event) o
           → option_and_then (λ q. run (region_step code page_words) q events) o ≡ Some t

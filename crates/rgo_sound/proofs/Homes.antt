@@ -275,7 +275,7 @@ module _ (fn : CodeFn) (names : Bindings) (owners : List Region) (m : Memory) (h
       → HomeAfter fn names owners to v → Moved (Does m' v)
   still m' v home' l h given allots =
       let none : given ≡ [] = subst (λ o. Allots region o given) (get_beyond m'.heap (length m.heap) (omega (arith, l)))
-          allots in
+      allots in
       let same : owners ++ given ≡ owners = ap (λ x. owners ++ x) none ∙ append-nil owners in
       (subst (λ x. MemoryHome x m') (sym same) home', subst (λ x. HomeAfter fn names x to v) (sym same) h)
 
@@ -340,10 +340,10 @@ module _ (fn : CodeFn) (names : Bindings) (owners : List Region) (m : Memory) (h
           → slice_get owners p ≡ Some r → Each (LeadsInto owners r) (cells_of x)
       same p x r u e w =
           let same_object : x ≡ object = the_same x object (sym e ∙ ap (slice_get (slice_set m.heap o object)) (sym u)
-              ∙ get_set_same m.heap o old object is) in
+          ∙ get_set_same m.heap o old object is) in
           let w' : slice_get owners o ≡ Some r = ap (slice_get owners) u ∙ w in
           subst (λ (y : Object). Each (LeadsInto owners r) (cells_of y)) (sym same_object)
-              (f r w' (home.cells o old r is w'))
+          (f r w' (home.cells o old r is w'))
 
   -- ---- what is done to one object
 
@@ -453,8 +453,11 @@ module _ (fn : CodeFn) (names : Bindings) (owners : List Region) (m : Memory) (h
       from : (old : Object) → slice_get m.heap o ≡ Some old → ChangedIf o old (received blank old)
       from (StructObject cells) e = stays o (StructObject cells)
       from (SliceObject cells) e = stays o (SliceObject cells)
-      from (Channel capacity (v ∷ queue) closed) e = ((λ r w all. all.1), first_home a v j
-          (cell_home a o (Channel capacity (v ∷ queue) closed) v e h (λ r all. all.0)))
+      from (Channel capacity (v ∷ queue) closed) e = (
+        (λ r w all. all.1),
+        first_home a v j
+            (cell_home a o (Channel capacity (v ∷ queue) closed) v e h (λ r all. all.0)),
+      )
       from (Channel capacity [] true) e = ((λ r w all. all), plain_home fn names owners to blank p)
       from (Channel capacity [] false) e = tt
 
@@ -491,8 +494,11 @@ module _ (fn : CodeFn) (names : Bindings) (owners : List Region) (m : Memory) (h
   stores {c} {d} k (value.Object o) v j h g = to_one o (stored k v) into
     where
       into : (old : Object) → slice_get m.heap o ≡ Some old → Changed o old (stored k v old)
-      into (StructObject cells) e = ((λ r w all. each_set (LeadsInto owners r) cells k v all
-          (written c d o v j h g r w)), plain_home fn names owners to value.Nil tt)
+      into (StructObject cells) e = (
+        (λ r w all. each_set (LeadsInto owners r) cells k v all
+            (written c d o v j h g r w)),
+        plain_home fn names owners to value.Nil tt,
+      )
       into (SliceObject cells) e = stays o (SliceObject cells)
       into (Channel capacity queue closed) e = stays o (Channel capacity queue closed)
 
@@ -522,8 +528,10 @@ module _ (fn : CodeFn) (names : Bindings) (owners : List Region) (m : Memory) (h
             where
               go : (b : Bool) → Changed o (SliceObject cells) (if b then Does (SliceObject (slice_set cells i x))
                   value.Nil else Traps IndexRange)
-              go true = ((λ r w all. each_set (LeadsInto owners r) cells i x all (written c d o x j h g r w)),
-                  plain_home fn names owners to value.Nil tt)
+              go true = (
+                (λ r w all. each_set (LeadsInto owners r) cells i x all (written c d o x j h g r w)),
+                plain_home fn names owners to value.Nil tt,
+              )
               go false = tt
       into (Channel capacity queue closed) e = stays o (Channel capacity queue closed)
   puts (value.Object o) (value.Bool i) x j h g = gives value.Nil tt
@@ -545,8 +553,11 @@ module _ (fn : CodeFn) (names : Bindings) (owners : List Region) (m : Memory) (h
         where
           go : (b : Bool) → ChangedIf o (Channel capacity queue false)
               (if b then Some (Does (Channel capacity (queue ++ w ∷ []) false) value.Nil) else None)
-          go true = ((λ r q all. each_snoc (LeadsInto owners r) queue w all (written c d o w j h g r q)), plain_home fn
-              names owners to value.Nil tt)
+          go true = (
+            (λ r q all. each_snoc (LeadsInto owners r) queue w all (written c d o w j h g r q)),
+            plain_home fn
+                names owners to value.Nil tt,
+          )
           go false = tt
 
   closes : (v : Value) → Moved (close m v)
@@ -588,9 +599,13 @@ module _ (fn : CodeFn) (names : Bindings) (owners : List Region) (m : Memory) (h
       → LeadsHome owners names (class_of fn a) v → Moved (set_variable n v m)
   sets a n v g h =
       still (record m { variables = slice_set m.variables n v }) value.Nil
-      (record { owned = home.owned; cells = home.cells; variables =
-          each_set (LeadsInto owners GlobalRegion) m.variables n v home.variables (into v h) }) refl
-          (plain_home fn names owners to value.Nil tt)
+      (record {
+        owned = home.owned;
+        cells = home.cells;
+        variables =
+            each_set (LeadsInto owners GlobalRegion) m.variables n v home.variables (into v h);
+      }) refl
+      (plain_home fn names owners to value.Nil tt)
     where
       into : (w : Value) → LeadsHome owners names (class_of fn a) w → LeadsInto owners GlobalRegion w
       into (value.Int i) k = tt
@@ -626,8 +641,12 @@ module _ (fn : CodeFn) (names : Bindings) (owners : List Region) (m : Memory) (h
         region_of : (r : Region) → region ≡ Some r → (t : Option ℕ) → t ≡ to
             → HomeAfter fn names (owners ++ r ∷ []) t (value.Object (length m.heap))
         region_of r e None q = tt
-        region_of r e (Some d) q = λ n. (r, ap (λ t. class_region names (target_class (Some fn) t)) q ∙ sym for_target
-            ∙ e, get_append_last owners r (length m.heap) (sym home.owned))
+        region_of r e (Some d) q = λ n. (
+          r,
+          ap (λ t. class_region names (target_class (Some fn) t)) q ∙ sym for_target
+              ∙ e,
+          get_append_last owners r (length m.heap) (sym home.owned),
+        )
 
         memory : (r : Region) → MemoryHome (owners ++ r ∷ []) (record m { heap = m.heap ++ object ∷ [] })
         memory r =
@@ -644,9 +663,9 @@ module _ (fn : CodeFn) (names : Bindings) (owners : List Region) (m : Memory) (h
                 → Each (LeadsInto (owners ++ r ∷ []) q) (cells_of x)
             place o x q (inl e) w =
                 let b : o < length owners = let a = get_below m.heap o x e in let l = home.owned in
-                    omega (arith, a, l) in
+                omega (arith, a, l) in
                 each_more (LeadsInto owners q) (LeadsInto (owners ++ r ∷ []) q) (cells_of x)
-                    (more_into owners (r ∷ []) q) (home.cells o x q e (sym (get_append_left owners (r ∷ []) o b) ∙ w))
+                (more_into owners (r ∷ []) q) (home.cells o x q e (sym (get_append_left owners (r ∷ []) o b) ∙ w))
             place o x q (inr (e, is)) w = subst (λ (y : Object). Each (LeadsInto (owners ++ r ∷ []) q) (cells_of y))
                 (sym is) (plain q (owners ++ r ∷ []))
 
@@ -655,10 +674,11 @@ module _ (fn : CodeFn) (names : Bindings) (owners : List Region) (m : Memory) (h
             × HomeAfter fn names (owners ++ given) to (value.Object (length m.heap))
         go None e a = absurd (subst (λ x. Allots x (Some object) given) e a)
         go (Some r) e a =
-            let is : given ≡ r ∷ [] = subst (λ x. Allots x (Some object) given) e a in
-            (subst (λ x. MemoryHome (owners ++ x) (record m { heap = m.heap ++ object ∷ [] })) (sym is) (memory r),
-                subst (λ x. HomeAfter fn names (owners ++ x) to (value.Object (length m.heap))) (sym is)
-                (region_of r e to refl))
+            let is : given ≡ r ∷ [] = subst (λ x. Allots x (Some object) given) e a in (
+              subst (λ x. MemoryHome (owners ++ x) (record m { heap = m.heap ++ object ∷ [] })) (sym is) (memory r),
+              subst (λ x. HomeAfter fn names (owners ++ x) to (value.Object (length m.heap))) (sym is)
+                  (region_of r e to refl),
+            )
 
     news : (structs : List Struct) (n : ℕ) → Moved (new_struct structs n m)
     news structs n = go (slice_get structs n)

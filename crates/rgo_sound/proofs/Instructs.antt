@@ -26,7 +26,8 @@ use Rattle.rgo_region_machine.specs.States.{top_names}
 use Rattle.rgo_region_machine.specs.declared.regions.Region.{Region}
 use Rattle.rgo_sound.proofs.Acting.{after, Acted, act, act_at, alone, effected, end_by, performed, trap_place}
 use Rattle.rgo_sound.specs.Core.{Core}
-use Rattle.rgo_sound.specs.Invariant.{EachOnce, Fine, FramesFit, GoodHolder, HasInstr, IsFree, IsReady, IsSimple}
+use Rattle.rgo_sound.specs.Invariant.{EachOnce, Fine, FramesFit, GoodHolder, HasInstr, IsFree, IsReady}
+use Rattle.rgo_sound.proofs.OneStep.{IsSimple}
 use Rattle.rgo_sound.specs.Invariant.{Settled, Shares, shared_names, to_share}
 use Rattle.rgo_sound.specs.Stakes.{holders_of, is_in, one_if, pending_of, times_in, total}
 use Rattle.rgo_tac.specs.Code.{Tac}
@@ -70,21 +71,55 @@ acts_so code m (Do to action from removes) place frame callers simple =
     go : (e : Option Effect) → ActsSo frame callers (Do to action from removes)
         (effected m frame callers to (trap_place action place) e)
     go None = tt
-    go (Some (Does m' v)) = inl (record { frame' = going frame to v; frames = refl; function = refl; edge =
-        contains_here {X = ℕ × List ℕ} (frame.next + 1, removes) []; started = refl; trap = refl })
-    go (Some (Traps kind)) = inr (record { frames = refl; started = refl; kind = kind; place =
-        trap_place action place; trap = refl })
+    go (Some (Does m' v)) = inl (record {
+      frame' = going frame to v;
+      frames = refl;
+      function = refl;
+      edge =
+          contains_here {X = ℕ × List ℕ} (frame.next + 1, removes) [];
+      started = refl;
+      trap = refl;
+    })
+    go (Some (Traps kind)) = inr (record {
+      frames = refl;
+      started = refl;
+      kind = kind;
+      place =
+          trap_place action place;
+      trap = refl;
+    })
 acts_so code m (Call to n from passes protects removes) place frame callers simple = absurd simple
 acts_so code m (Go n from passes removes) place frame callers simple = absurd simple
 acts_so code m (Print pieces from removes) place frame callers simple =
-    inl (record { frame' = moved_to frame (frame.next + 1); frames = refl; function = refl; edge =
-        contains_here {X = ℕ × List ℕ} (frame.next + 1, removes) []; started = refl; trap = refl })
+    inl (record {
+      frame' = moved_to frame (frame.next + 1);
+      frames = refl;
+      function = refl;
+      edge =
+          contains_here {X = ℕ × List ℕ} (frame.next + 1, removes) [];
+      started = refl;
+      trap = refl;
+    })
 acts_so code m (Jump j removes) place frame callers simple =
-    inl (record { frame' = moved_to frame j; frames = refl; function = refl; edge =
-        contains_here {X = ℕ × List ℕ} (j, removes) []; started = refl; trap = refl })
+    inl (record {
+      frame' = moved_to frame j;
+      frames = refl;
+      function = refl;
+      edge =
+          contains_here {X = ℕ × List ℕ} (j, removes) [];
+      started = refl;
+      trap = refl;
+    })
 acts_so code m (Branch v j removes k others) place frame callers simple =
-    inl (record { frame' = moved_to frame (if is_true (value_at frame v) then j else k); frames = refl; function =
-        refl; edge = way (is_true (value_at frame v)); started = refl; trap = refl })
+    inl (record {
+      frame' = moved_to frame (if is_true (value_at frame v) then j else k);
+      frames = refl;
+      function =
+          refl;
+      edge = way (is_true (value_at frame v));
+      started = refl;
+      trap = refl;
+    })
   where
     way : (b : Bool) → Contains {X = ℕ × List ℕ} ((j, removes) ∷ (k, others) ∷ [])
         (if b then j else k, if b then removes else others)
@@ -109,16 +144,16 @@ fine_plain code s t g h k fine e rs hs ks kp gs frames good =
       counted = λ r info q. counts r info (fine.counted r info (sym (ap (λ y. slice_get y r) rs) ∙ q));
       made = λ j x r q i. split (nat_eq g j)
           (λ u. let b = fine.made g h r e (subst (λ y. is_in r y ≡ true) ks
-              (subst (λ y. is_in r y.stakes ≡ true) (is_k j x (eq_of g j u) (sym (ap (λ y. slice_get y j) hs) ∙ q)) i))
-              in let l : length t.regions ≡ length s.regions = ap length rs in omega (arith, b, l))
+          (subst (λ y. is_in r y.stakes ≡ true) (is_k j x (eq_of g j u) (sym (ap (λ y. slice_get y j) hs) ∙ q)) i))
+          in let l : length t.regions ≡ length s.regions = ap length rs in omega (arith, b, l))
           (λ n. let b = fine.made j x r (was j x n q) i in let l : length t.regions ≡ length s.regions = ap length rs in
-              omega (arith, b, l));
+          omega (arith, b, l));
       pended = λ j x r q i. split (nat_eq g j)
           (λ u. let b = fine.pended g h r e (subst (λ y. 0 < times_in r y) kp
-              (subst (λ y. 0 < times_in r y.pending) (is_k j x (eq_of g j u) (sym (ap (λ y. slice_get y j) hs) ∙ q)) i))
-              in let l : length t.regions ≡ length s.regions = ap length rs in omega (arith, b, l))
+          (subst (λ y. 0 < times_in r y.pending) (is_k j x (eq_of g j u) (sym (ap (λ y. slice_get y j) hs) ∙ q)) i))
+          in let l : length t.regions ≡ length s.regions = ap length rs in omega (arith, b, l))
           (λ n. let b = fine.pended j x r (was j x n q) i in let l : length t.regions ≡ length s.regions =
-              ap length rs in omega (arith, b, l));
+          ap length rs in omega (arith, b, l));
     }
   where
     the_same : (x y : Holder) → Some x ≡ Some y → x ≡ y
@@ -144,9 +179,9 @@ fine_plain code s t g h k fine e rs hs ks kp gs frames good =
         let a' : one_if (is_in r k.stakes) ≡ one_if (is_in r h.stakes) = ap (λ y. one_if (is_in r y)) ks in
         let b' : times_in r k.pending ≡ times_in r h.pending = ap (times_in r) kp in
         let x : holders_of t r ≡ total (λ (x : Holder). one_if (is_in r x.stakes)) (slice_set s.holders g k) =
-            ap (total (λ (x : Holder). one_if (is_in r x.stakes))) hs in
+        ap (total (λ (x : Holder). one_if (is_in r x.stakes))) hs in
         let y : pending_of t r ≡ total (λ (x : Holder). times_in r x.pending) (slice_set s.holders g k) =
-            ap (total (λ (x : Holder). times_in r x.pending)) hs in
+        ap (total (λ (x : Holder). times_in r x.pending)) hs in
         omega (arith, c, a, b, a', b', x, y)
 
 -- ---- all together
@@ -196,8 +231,11 @@ pub frame_goes : (code : Code) (frame frame' : Frame) (callers : List Frame) (in
     → Shares (to_share code (frame ∷ callers)) duties (top_names environments) k.pending → frame'.function
     ≡ frame.function → Contains {X = ℕ × List ℕ} (edges instr.op frame.next)
     (frame'.next, removes_behind frame instr.op) → GoodHolder code (frame' ∷ callers)
-    (record k { environments = environments; duties = map Remove (removes_behind frame instr.op)
-    ++ next_duties code (frame' ∷ callers) })
+    (record k {
+      environments = environments;
+      duties = map Remove (removes_behind frame instr.op)
+          ++ next_duties code (frame' ∷ callers);
+    })
 frame_goes code frame frame' callers instr k [] duties ruled cur simple d core once fit sh same edge = absurd fit
 frame_goes code frame frame' callers instr k (f ∷ fs) duties ruled cur simple d core once fit sh same edge =
     let st = fit.0 in
@@ -205,21 +243,21 @@ frame_goes code frame frame' callers instr k (f ∷ fs) duties ruled cur simple 
     let is : st.instr ≡ instr = the_same st.instr instr (sym cur' ∙ cur) in
     let here : HasInstr st.fn frame.next instr = st.is_instr ∙ ap Some is in
     let to = ruled.goes_on frame.function frame.next frame'.next st.fn instr (removes_behind frame instr.op) st.is_fn
-        here edge in
+    here edge in
     let is_fn' : function_at code frame' ≡ Some st.fn = ap (slice_get code.functions) same ∙ st.is_fn in
     let next_is : current code frame' ≡ Some to.0 = ap (λ o. current_in o frame'.next) is_fn' ∙ to.1 in
     let settled : Settled st.fn frame.next instr f.names f.protections =
-        subst (λ x. Settled st.fn frame.next x f.names f.protections) is
-        (subst (λ x. IsReady (IsFree st.fn frame.next) (Settled st.fn frame.next st.instr) x f.names f.protections) d
-        st.ready) in
+    subst (λ x. Settled st.fn frame.next x f.names f.protections) is
+    (subst (λ x. IsReady (IsFree st.fn frame.next) (Settled st.fn frame.next st.instr) x f.names f.protections) d
+    st.ready) in
     let good = moves_on code st.fn frame frame' callers instr to.0 (removes_behind frame instr.op) k f fs st.is_fn
-        (ruled.kept frame.function frame.next st.fn instr st.is_fn here) is_fn'
-        (ruled.kept frame.function frame'.next st.fn to.0 st.is_fn to.1) edge (simple_gives code instr.op simple)
-        (simple_protects instr.op simple) core once st.lends settled fit.1
-        (settled_pending code frame callers instr f.names duties k.pending cur (simple_shares instr.op simple) d sh) in
+    (ruled.kept frame.function frame.next st.fn instr st.is_fn here) is_fn'
+    (ruled.kept frame.function frame'.next st.fn to.0 st.is_fn to.1) edge (simple_gives code instr.op simple)
+    (simple_protects instr.op simple) core once st.lends settled fit.1
+    (settled_pending code frame callers instr f.names duties k.pending cur (simple_shares instr.op simple) d sh) in
     subst (λ (x : Option CodeInstr). GoodHolder code (frame' ∷ callers)
-        (record k { environments = f ∷ fs; duties = map Remove (removes_behind frame instr.op) ++ duties_before x }))
-        (sym next_is) good
+    (record k { environments = f ∷ fs; duties = map Remove (removes_behind frame instr.op) ++ duties_before x }))
+    (sym next_is) good
   where
     the_same : (x y : CodeInstr) → Some x ≡ Some y → x ≡ y
     the_same x y e = cc
@@ -227,98 +265,111 @@ frame_goes code frame frame' callers instr k (f ∷ fs) duties ruled cur simple 
 module _ (code : Code) (page_words : ℕ) (s : RegionState) (g : ℕ) (h : Holder) (frame : Frame) (callers : List Frame)
     (instr : CodeInstr) (fine : Fine code s) (ruled : IsRuled code) (e : slice_get s.holders g ≡ Some h)
     (at : frames_of s.plain g ≡ frame ∷ callers) (cur : current code frame ≡ Some instr) (simple : IsSimple instr.op)
-    where
-  good : GoodHolder code (frame ∷ callers) h
-  good = subst (λ x. GoodHolder code x h) at (fine.each g h e)
+  where
+    good : GoodHolder code (frame ∷ callers) h
+    good = subst (λ x. GoodHolder code x h) at (fine.each g h e)
 
-  others : (a : Acted) (frames : List Frame) → slice_get s.plain.goroutines g ≡ Some frames → a.started ≡ [] → (j : ℕ)
-      → nat_eq g j ≡ false → frames_of (after s.plain g a) j ≡ frames_of s.plain j
-  others a frames q st j n = ap (λ x. frames_in (slice_get (slice_set s.plain.goroutines g a.frames ++ x) j)) st
-      ∙ ap (λ x. frames_in (slice_get x j)) (append-nil (slice_set s.plain.goroutines g a.frames))
-      ∙ ap frames_in (get_set_other s.plain.goroutines g j a.frames n)
+    others : (a : Acted) (frames : List Frame) → slice_get s.plain.goroutines g ≡ Some frames → a.started ≡ [] → (j : ℕ)
+        → nat_eq g j ≡ false → frames_of (after s.plain g a) j ≡ frames_of s.plain j
+    others a frames q st j n = ap (λ x. frames_in (slice_get (slice_set s.plain.goroutines g a.frames ++ x) j)) st
+        ∙ ap (λ x. frames_in (slice_get x j)) (append-nil (slice_set s.plain.goroutines g a.frames))
+        ∙ ap frames_in (get_set_other s.plain.goroutines g j a.frames n)
 
-  own : (a : Acted) (frames : List Frame) → slice_get s.plain.goroutines g ≡ Some frames → a.started ≡ []
-      → frames_of (after s.plain g a) g ≡ a.frames
-  own a frames q st = ap (λ x. frames_in (slice_get (slice_set s.plain.goroutines g a.frames ++ x) g)) st
-      ∙ ap (λ x. frames_in (slice_get x g)) (append-nil (slice_set s.plain.goroutines g a.frames))
-      ∙ ap frames_in (get_set_same s.plain.goroutines g frames a.frames q)
+    own : (a : Acted) (frames : List Frame) → slice_get s.plain.goroutines g ≡ Some frames → a.started ≡ []
+        → frames_of (after s.plain g a) g ≡ a.frames
+    own a frames q st = ap (λ x. frames_in (slice_get (slice_set s.plain.goroutines g a.frames ++ x) g)) st
+        ∙ ap (λ x. frames_in (slice_get x g)) (append-nil (slice_set s.plain.goroutines g a.frames))
+        ∙ ap frames_in (get_set_same s.plain.goroutines g frames a.frames q)
 
-  as_long : (a : Acted) → a.started ≡ [] → length (after s.plain g a).goroutines ≡ length s.plain.goroutines
-  as_long a st = ap (λ x. length (slice_set s.plain.goroutines g a.frames ++ x)) st
-      ∙ ap length (append-nil (slice_set s.plain.goroutines g a.frames)) ∙ length_set s.plain.goroutines g a.frames
+    as_long : (a : Acted) → a.started ≡ [] → length (after s.plain g a).goroutines ≡ length s.plain.goroutines
+    as_long a st = ap (λ x. length (slice_set s.plain.goroutines g a.frames ++ x)) st
+        ∙ ap length (append-nil (slice_set s.plain.goroutines g a.frames)) ∙ length_set s.plain.goroutines g a.frames
 
-  ends_none : (n : ℕ) (f : Frame) (fs : List Frame) → end_by n (f ∷ fs) None ≡ None
-  ends_none zero f fs = refl
-  ends_none (suc n) f fs = refl
+    ends_none : (n : ℕ) (f : Frame) (fs : List Frame) → end_by n (f ∷ fs) None ≡ None
+    ends_none zero f fs = refl
+    ends_none (suc n) f fs = refl
 
-  behind : (a : Acted) (frames : List Frame) (given : Holder × List Region) → slice_get s.plain.goroutines g
-      ≡ Some frames → has_none h.duties ≡ true → SameHolder h given.0 → Goes frame callers instr.op a
-      ⊎ Stays frame callers a → Fine code (instructed_with code s g frame callers instr (after s.plain g a) given)
-  behind a frames given q d same (inl go) =
-      fine_plain code s (instructed_with code s g frame callers instr (after s.plain g a) given) g h k fine e refl hs
-          refl refl (as_long a go.started) (others a frames q go.started)
-      (subst (λ x. GoodHolder code x k) (sym (own a frames q go.started ∙ go.frames)) fits_on)
-    where
-      k : Holder
-      k = record h { fills = same.fills; duties = map Remove (removes_behind frame instr.op)
-          ++ next_duties code (go.frame' ∷ callers) }
+    behind : (a : Acted) (frames : List Frame) (given : Holder × List Region) → slice_get s.plain.goroutines g
+        ≡ Some frames → has_none h.duties ≡ true → SameHolder h given.0 → Goes frame callers instr.op a
+        ⊎ Stays frame callers a → Fine code (instructed_with code s g frame callers instr (after s.plain g a) given)
+    behind a frames given q d same (inl go) =
+        fine_plain code s (instructed_with code s g frame callers instr (after s.plain g a) given) g h k fine e refl hs
+        refl refl (as_long a go.started) (others a frames q go.started)
+        (subst (λ x. GoodHolder code x k) (sym (own a frames q go.started ∙ go.frames)) fits_on)
+      where
+        k : Holder
+        k = record h {
+          fills = same.fills;
+          duties = map Remove (removes_behind frame instr.op)
+              ++ next_duties code (go.frame' ∷ callers);
+        }
 
-      fits_on : GoodHolder code (go.frame' ∷ callers) (record h
-          { fills = same.fills; duties = map Remove (removes_behind frame instr.op)
-          ++ next_duties code (go.frame' ∷ callers) })
-      fits_on = frame_goes code frame go.frame' callers instr (record h { fills = same.fills }) h.environments h.duties
-          ruled cur simple (none_owed h.duties d) good.core good.base_once good.fit good.shares go.function go.edge
+        fits_on : GoodHolder code (go.frame' ∷ callers) (record h {
+          fills = same.fills;
+          duties = map Remove (removes_behind frame instr.op)
+              ++ next_duties code (go.frame' ∷ callers);
+        })
+        fits_on = frame_goes code frame go.frame' callers instr (record h { fills = same.fills }) h.environments
+            h.duties
+            ruled cur simple (none_owed h.duties d) good.core good.base_once good.fit good.shares go.function go.edge
 
-      ended : (after s.plain g a).ended ≡ None
-      ended = ap (λ x. end_by g x a.trap) go.frames ∙ ap (end_by g (go.frame' ∷ callers)) go.trap
-          ∙ ends_none g go.frame' callers
+        ended : (after s.plain g a).ended ≡ None
+        ended = ap (λ x. end_by g x a.trap) go.frames ∙ ap (end_by g (go.frame' ∷ callers)) go.trap
+            ∙ ends_none g go.frame' callers
 
-      hs : (instructed_with code s g frame callers instr (after s.plain g a) given).holders
-          ≡ slice_set s.holders g (record h { fills = same.fills; duties =
-          map Remove (removes_behind frame instr.op) ++ next_duties code (go.frame' ∷ callers) })
-      hs =
-          ap (λ x. slice_set s.holders g (unless_trapped (after s.plain g a).ended given.0
-              (holder_after code given.0 frame callers instr.op (frames_of (after s.plain g a) g))) ++ x)
-              (no_child code given.0 instr.op (last_frames (after s.plain g a).goroutines) simple)
-          ∙ append-nil (slice_set s.holders g (unless_trapped (after s.plain g a).ended given.0
-              (holder_after code given.0 frame callers instr.op (frames_of (after s.plain g a) g))))
-          ∙ ap (λ x. slice_set s.holders g (unless_trapped x given.0
-              (holder_after code given.0 frame callers instr.op (frames_of (after s.plain g a) g)))) ended
-          ∙ ap (slice_set s.holders g) (after_simple code given.0 frame callers instr.op
-              (frames_of (after s.plain g a) g) simple)
-          ∙ ap (λ (x : Holder). slice_set s.holders g (record x
-              { duties = map Remove (removes_behind frame instr.op)
-              ++ next_duties code (frames_of (after s.plain g a) g) })) same.same
-          ∙ ap (λ x. slice_set s.holders g (record h { fills = same.fills; duties =
-              map Remove (removes_behind frame instr.op) ++ next_duties code x }))
-              (own a frames q go.started ∙ go.frames)
-  behind a frames given q d same (inr st) =
-      fine_plain code s (instructed_with code s g frame callers instr (after s.plain g a) given) g h
-          (record h { fills = same.fills }) fine e refl hs refl refl (as_long a st.started)
-          (others a frames q st.started)
-      (subst (λ x. GoodHolder code x (record h { fills = same.fills })) (sym (own a frames q st.started ∙ st.frames))
-          (record { core = good.core; fit = good.fit; base_once = good.base_once; shares = good.shares }))
-    where
-      ended : (after s.plain g a).ended ≡ Some (the_end.Trap st.kind st.place)
-      ended = ap (end_by g a.frames) st.trap
+        hs : (instructed_with code s g frame callers instr (after s.plain g a) given).holders
+            ≡ slice_set s.holders g (record h {
+              fills = same.fills;
+              duties =
+                  map Remove (removes_behind frame instr.op) ++ next_duties code (go.frame' ∷ callers);
+            })
+        hs =
+            ap (λ x. slice_set s.holders g (unless_trapped (after s.plain g a).ended given.0
+            (holder_after code given.0 frame callers instr.op (frames_of (after s.plain g a) g))) ++ x)
+            (no_child code given.0 instr.op (last_frames (after s.plain g a).goroutines) simple)
+            ∙ append-nil (slice_set s.holders g (unless_trapped (after s.plain g a).ended given.0
+            (holder_after code given.0 frame callers instr.op (frames_of (after s.plain g a) g))))
+            ∙ ap (λ x. slice_set s.holders g (unless_trapped x given.0
+            (holder_after code given.0 frame callers instr.op (frames_of (after s.plain g a) g)))) ended
+            ∙ ap (slice_set s.holders g) (after_simple code given.0 frame callers instr.op
+            (frames_of (after s.plain g a) g) simple)
+            ∙ ap (λ (x : Holder). slice_set s.holders g (record x {
+              duties = map Remove (removes_behind frame instr.op)
+                  ++ next_duties code (frames_of (after s.plain g a) g);
+            })) same.same
+            ∙ ap (λ x. slice_set s.holders g (record h {
+              fills = same.fills;
+              duties =
+                  map Remove (removes_behind frame instr.op) ++ next_duties code x;
+            }))
+            (own a frames q go.started ∙ go.frames)
+    behind a frames given q d same (inr st) =
+        fine_plain code s (instructed_with code s g frame callers instr (after s.plain g a) given) g h
+        (record h { fills = same.fills }) fine e refl hs refl refl (as_long a st.started)
+        (others a frames q st.started)
+        (subst (λ x. GoodHolder code x (record h { fills = same.fills })) (sym (own a frames q st.started ∙ st.frames))
+        (record { core = good.core; fit = good.fit; base_once = good.base_once; shares = good.shares }))
+      where
+        ended : (after s.plain g a).ended ≡ Some (the_end.Trap st.kind st.place)
+        ended = ap (end_by g a.frames) st.trap
 
-      hs : (instructed_with code s g frame callers instr (after s.plain g a) given).holders
-          ≡ slice_set s.holders g (record h { fills = same.fills })
-      hs =
-          ap (λ x. slice_set s.holders g (unless_trapped (after s.plain g a).ended given.0
-              (holder_after code given.0 frame callers instr.op (frames_of (after s.plain g a) g))) ++ x)
-              (no_child code given.0 instr.op (last_frames (after s.plain g a).goroutines) simple)
-          ∙ append-nil (slice_set s.holders g (unless_trapped (after s.plain g a).ended given.0
-              (holder_after code given.0 frame callers instr.op (frames_of (after s.plain g a) g))))
-          ∙ ap (λ x. slice_set s.holders g (unless_trapped x given.0
-              (holder_after code given.0 frame callers instr.op (frames_of (after s.plain g a) g)))) ended
-          ∙ ap (slice_set s.holders g) same.same
+        hs : (instructed_with code s g frame callers instr (after s.plain g a) given).holders
+            ≡ slice_set s.holders g (record h { fills = same.fills })
+        hs =
+            ap (λ x. slice_set s.holders g (unless_trapped (after s.plain g a).ended given.0
+            (holder_after code given.0 frame callers instr.op (frames_of (after s.plain g a) g))) ++ x)
+            (no_child code given.0 instr.op (last_frames (after s.plain g a).goroutines) simple)
+            ∙ append-nil (slice_set s.holders g (unless_trapped (after s.plain g a).ended given.0
+            (holder_after code given.0 frame callers instr.op (frames_of (after s.plain g a) g))))
+            ∙ ap (λ x. slice_set s.holders g (unless_trapped x given.0
+            (holder_after code given.0 frame callers instr.op (frames_of (after s.plain g a) g)))) ended
+            ∙ ap (slice_set s.holders g) same.same
 
-  acts : ActsSo frame callers instr.op (alone (erased code) s.plain.memory (frame ∷ callers))
-  acts =
-      subst (λ o. ActsSo frame callers instr.op (act_at (erased code) s.plain.memory o frame callers))
-          (sym (current_erased code frame ∙ ap (option_map erased_instr) cur))
-      (acts_so (erased code) s.plain.memory instr.op instr.place frame callers simple)
+    acts : ActsSo frame callers instr.op (alone (erased code) s.plain.memory (frame ∷ callers))
+    acts =
+        subst (λ o. ActsSo frame callers instr.op (act_at (erased code) s.plain.memory o frame callers))
+        (sym (current_erased code frame ∙ ap (option_map erased_instr) cur))
+        (acts_so (erased code) s.plain.memory instr.op instr.place frame callers simple)
 
 -- such an instruction of one goroutine
 pub fine_move : (code : Code) (page_words : ℕ) (s t : RegionState) (g : ℕ) (x : OneDone code page_words s g t)
@@ -326,6 +377,6 @@ pub fine_move : (code : Code) (page_words : ℕ) (s t : RegionState) (g : ℕ) (
 fine_move code page_words s t g x fine ruled simple =
     subst (Fine code) (sym x.is)
     (behind code page_words s g x.h x.frame x.callers x.instr fine ruled x.there (ap frames_in x.at) x.cur simple x.a
-        (x.frame ∷ x.callers) x.given x.at (ap has_none x.ready.none) x.same
+    (x.frame ∷ x.callers) x.given x.at (ap has_none x.ready.none) x.same
     (subst (ActsSo x.frame x.callers x.instr.op) x.acts (acts code page_words s g x.h x.frame x.callers x.instr fine
-        ruled x.there (ap frames_in x.at) x.cur simple)))
+    ruled x.there (ap frames_in x.at) x.cur simple)))

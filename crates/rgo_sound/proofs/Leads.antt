@@ -108,8 +108,8 @@ names_lead code owners frame callers f fs fn is lends names protections same lea
         let q : g ≡ fn = the_fn g fn (sym is' ∙ is) in
         let l' : Live (erased_fn fn) v frame.next = subst (λ x. Live (erased_fn x) v frame.next) q l in
         renamed_home owners f.names names (class_of g v) (value_at frame v)
-            (class_other f.names names (class_of g v) (λ k c. live v l' k (subst (λ x. class_of x v ≡ Name k) q c)))
-            (lead.0 g is' v l)
+        (class_other f.names names (class_of g v) (λ k c. live v l' k (subst (λ x. class_of x v ≡ Name k) q c)))
+        (lead.0 g is' v l)
 
     lent : class_region names f.lent ≡ class_region f.names f.lent
     lent = class_other f.names names f.lent (λ k c. go k c (same k))
@@ -132,18 +132,23 @@ more_callers : (code : Code) (owners given : List Region) (f : Environment) (cal
 more_callers code owners given f [] [] h = tt
 more_callers code owners given f [] (d ∷ ds) h = h
 more_callers code owners given f (caller ∷ callers) [] h = h
-more_callers code owners given f (caller ∷ callers) (d ∷ ds) h =
-    ((λ fn call is cur v n l. more_home owners given d.names (class_of fn v) (value_at caller v)
-        (h.0 fn call is cur v n l)), h.1, more_callers code owners given d callers ds h.2)
+more_callers code owners given f (caller ∷ callers) (d ∷ ds) h = (
+  (λ fn call is cur v n l. more_home owners given d.names (class_of fn v) (value_at caller v)
+      (h.0 fn call is cur v n l)),
+  h.1,
+  more_callers code owners given d callers ds h.2,
+)
 
 pub more_frames_lead : (code : Code) (owners given : List Region) (frames : List Frame)
     (environments : List Environment) → FramesLead code owners frames environments
     → FramesLead code (owners ++ given) frames environments
 more_frames_lead code owners given [] environments h = tt
 more_frames_lead code owners given (frame ∷ callers) [] h = h
-more_frames_lead code owners given (frame ∷ callers) (f ∷ fs) h =
-    ((λ fn is v l. more_home owners given f.names (class_of fn v) (value_at frame v) (h.0 fn is v l)), more_callers code
-        owners given f callers fs h.1)
+more_frames_lead code owners given (frame ∷ callers) (f ∷ fs) h = (
+  (λ fn is v l. more_home owners given f.names (class_of fn v) (value_at frame v) (h.0 fn is v l)),
+  more_callers code
+      owners given f callers fs h.1,
+)
 
 -- a step that makes nothing leaves the memory as it was
 still_memory : (owners given : List Region) (m : Memory) (region : Option Region) → MemoryHome owners m
@@ -207,9 +212,9 @@ ref_class kinds fn frame slots h v o e = go (slice_get fn.variables v) refl
     go : (q : Option Slot) → slice_get fn.variables v ≡ q → class_of fn v ≢ NoClass
     go (Some s) q =
         let x = get_kinds kinds (erased_fn fn).variables frame.variables v s.ty h
-            (slice_get-map (λ (s : Slot). s.ty) fn.variables v ∙ ap (option_map (λ (s : Slot). s.ty)) q) in
+        (slice_get-map (λ (s : Slot). s.ty) fn.variables v ∙ ap (option_map (λ (s : Slot). s.ty)) q) in
         let k : HasKind kinds s.ty (value.Object o) = subst (HasKind kinds s.ty)
-            (sym (get_or_from_slice_get frame.variables v x.0 value.Nil x.1) ∙ e) x.2 in
+        (sym (get_or_from_slice_get frame.variables v x.0 value.Nil x.1) ∙ e) x.2 in
         λ n. (slots v s q).1 k.1 (sym (ap slot_class q) ∙ n)
     go None q = absurd (clash (sym (short (erased_fn fn).variables frame.variables v h
         (slice_get-map (λ (s : Slot). s.ty) fn.variables v ∙ ap (option_map (λ (s : Slot). s.ty)) q)) ∙ e))
@@ -274,7 +279,7 @@ pub joins_agree : (code : Code) → IsChecked code → (n i : ℕ) (fn : CodeFn)
 joins_agree code checked n i fn instr is_fn at to action from removes is x y e cx cy =
     pointer_likes_agree fn x y (pointer_like x cx) (pointer_like y cy)
     (subst (λ pair. Agree fn (if_pointer_like (erased_fn fn) pair)) e
-        (split (is_of_package action) of_package of_object))
+    (split (is_of_package action) of_package of_object))
   where
     pointer_like : (x : Member) → member_class fn x ≢ NoClass → is_pointer_like_in (erased_fn fn) x ≡ true
     pointer_like = class_pointer_like fn (slots_fit code checked n fn is_fn) (result_fits code checked n fn is_fn)
@@ -359,9 +364,9 @@ formal_home owners names formals regions c actual (value.Object o) f fits place 
 abbrev pub environments_after : Code → List Environment → CodeOp → List Environment
 environments_after code environments (Call to n from passes protects removes) =
     environment_of (result_of (function_of code n)) (passed (formals_of (function_of code n))
-        (passed_regions (top_names environments) passes))
+    (passed_regions (top_names environments) passes))
     ∷ with_top environments (without_all (top_names environments)
-        (given_names (result_of (function_of code n)) (formals_of (function_of code n)) passes protects))
+    (given_names (result_of (function_of code n)) (formals_of (function_of code n)) passes protects))
 environments_after code environments (Return value) = below environments
 environments_after code environments op = environments
 
@@ -393,8 +398,11 @@ pub record ActedLeads (code : Code) (environments : List Environment) (op : Code
 -- what an instruction reads is live before it
 pub live_read : (fn : CodeFn) (i v : ℕ) (instr : CodeInstr) → HasInstr fn i instr
     → Contains (reads (erased_op instr.op)) v → Live (erased_fn fn) v i
-live_read fn i v instr here r = (0, subst (λ o. Contains (read_by o) v)
-    (sym (slice_get-map erased_instr fn.body i ∙ ap (option_map erased_instr) here)) r)
+live_read fn i v instr here r = (
+  0,
+  subst (λ o. Contains (read_by o) v)
+      (sym (slice_get-map erased_instr fn.body i ∙ ap (option_map erased_instr) here)) r,
+)
 
 home_of_nil : (owners : List Region) (names : Bindings) (c : Class) (v : Value) → v ≡ value.Nil
     → LeadsHome owners names c v
@@ -464,12 +472,12 @@ module _ (code : Code) (checked : IsChecked code) (owners : List Region) (m : Me
               ∙ ap (λ y. get_or (slice_set frame.variables d v) y value.Nil) (sym dx) ∙ e)
           written d t dx (inl e) =
               let value : value_at (continued frame to v i) x ≡ v =
-                  at (Some d) t ∙ ap (λ y. get_or (slice_set frame.variables d v) y value.Nil) (sym dx) ∙ e in
+              at (Some d) t ∙ ap (λ y. get_or (slice_set frame.variables d v) y value.Nil) (sym dx) ∙ e in
               let after : HomeAfter fn f.names (owners ++ given) (Some d) v =
-                  subst (λ y. HomeAfter fn f.names (owners ++ given) y v) t h in
+              subst (λ y. HomeAfter fn f.names (owners ++ given) y v) t h in
               subst (λ y. LeadsHome (owners ++ given) f.names (class_of fn x) y) (sym value)
               (subst (λ y. LeadsHome (owners ++ given) f.names (class_of fn y) v) dx
-                  (after (λ o q. classed d o t (ap (value_at (continued frame to v i)) dx ∙ value ∙ q))))
+              (after (λ o q. classed d o t (ap (value_at (continued frame to v i)) dx ∙ value ∙ q))))
 
           by : (t : Option ℕ) → to ≡ t → LeadsHome (owners ++ given) f.names (class_of fn x)
               (value_at (continued frame to v i) x)
@@ -477,7 +485,7 @@ module _ (code : Code) (checked : IsChecked code) (owners : List Region) (m : Me
           by (Some d) t = split (nat_eq d x)
               (λ u. written d t (eq_of d x u) (value_set frame.variables d v))
               (λ n. kept (λ e. differs n (number (sym (w ∙ t) ∙ e)))
-                  (value_other frame.variables d x v n ∙ sym (at (Some d) t)))
+              (value_other frame.variables d x v n ∙ sym (at (Some d) t)))
             where
               number : Some d ≡ Some x → d ≡ x
               number e = cc
@@ -502,17 +510,28 @@ module _ (code : Code) (checked : IsChecked code) (owners : List Region) (m : Me
   acted kinds to action from removes place (Some (Does m' v)) is moved a q fits given allots =
       subst (λ x. ActedLeads code (f ∷ fs) instr.op (owners ++ given) x) a_is
       (subst (λ op. ActedLeads code (f ∷ fs) op (owners ++ given) next) (sym is)
-      (record { memory = x.0; frames = goes_on given to v (frame.next + 1) removes
-          (subst (λ (op : CodeOp). Contains {X = ℕ × List ℕ} (edges op frame.next) (frame.next + 1, removes)) (sym is)
-          (contains_here {X = ℕ × List ℕ} (frame.next + 1, removes) [])) (ap (λ op. writes (erased_op op)) is) classed
-          x.1; calm = tt; children = tt }))
+      (record {
+        memory = x.0;
+        frames = goes_on given to v (frame.next + 1) removes
+            (subst (λ (op : CodeOp). Contains {X = ℕ × List ℕ} (edges op frame.next) (frame.next + 1, removes)) (sym is)
+            (contains_here {X = ℕ × List ℕ} (frame.next + 1, removes) [])) (ap (λ op. writes (erased_op op)) is) classed
+            x.1;
+        calm = tt;
+        children = tt;
+      }))
     where
       next : Acted
       next = record { memory = m'; frames = going frame to v ∷ callers; started = []; printed = []; trap = None }
 
       a_is : record { memory = m'; frames = going frame to v ∷ callers; started = []; printed = []; trap = None } ≡ a
-      a_is = the_acted (record { memory = m'; frames = going frame to v ∷ callers; started = []; printed = []; trap =
-          None }) a q
+      a_is = the_acted (record {
+        memory = m';
+        frames = going frame to v ∷ callers;
+        started = [];
+        printed = [];
+        trap =
+            None;
+      }) a q
 
       x : MemoryHome (owners ++ given) m' × HomeAfter fn f.names (owners ++ given) to v
       x = moved given (subst (λ (y : Acted). Allots (if makes_object action then class_region f.names
@@ -521,25 +540,36 @@ module _ (code : Code) (checked : IsChecked code) (owners : List Region) (m : Me
       classed : (d o : ℕ) → to ≡ Some d → value_at (going frame to v) d ≡ value.Object o → class_of fn d ≢ NoClass
       classed d o t e =
           let fr : FramesHaveKinds code fits.more (going frame to v ∷ callers) =
-              subst (λ (y : Acted). FramesHaveKinds code fits.more y.frames) (sym a_is) fits.frames in
+          subst (λ (y : Acted). FramesHaveKinds code fits.more y.frames) (sym a_is) fits.frames in
           let same : fr.0.0 ≡ fn = the_fn fr.0.0 fn (sym fr.0.1 ∙ is_fn) in
           ref_class fits.more fn (going frame to v) slots (subst
-              (λ (g : CodeFn). HaveKinds fits.more (erased_fn g).variables (going frame to v).variables) same fr.0.2) d
-              o e
+          (λ (g : CodeFn). HaveKinds fits.more (erased_fn g).variables (going frame to v).variables) same fr.0.2) d
+          o e
   acted kinds to action from removes place (Some (Traps trap)) is moved a q fits given allots =
       subst (λ x. ActedLeads code (f ∷ fs) instr.op (owners ++ given) x) a_is
       (subst (λ op. ActedLeads code (f ∷ fs) op (owners ++ given)
-          (record { memory = m; frames = frame ∷ callers; started = []; printed = []; trap = Some (Trap trap place) }))
-          (sym is)
-      (record { memory = still_memory owners given m _ home
-          (subst (λ (y : Acted). Allots (if makes_object action then class_region f.names (target_class (Some fn) to)
-          else None) (slice_get y.memory.heap (length m.heap)) given) (sym a_is) allots); frames =
-          more_frames_lead code owners given (frame ∷ callers) (f ∷ fs) lead; calm = refl; children = tt }))
+      (record { memory = m; frames = frame ∷ callers; started = []; printed = []; trap = Some (Trap trap place) }))
+      (sym is)
+      (record {
+        memory = still_memory owners given m _ home
+            (subst (λ (y : Acted). Allots (if makes_object action then class_region f.names (target_class (Some fn) to)
+            else None) (slice_get y.memory.heap (length m.heap)) given) (sym a_is) allots);
+        frames =
+            more_frames_lead code owners given (frame ∷ callers) (f ∷ fs) lead;
+        calm = refl;
+        children = tt;
+      }))
     where
       a_is : record { memory = m; frames = frame ∷ callers; started = []; printed = []; trap = Some (Trap trap place) }
           ≡ a
-      a_is = the_acted (record { memory = m; frames = frame ∷ callers; started = []; printed = []; trap =
-          Some (Trap trap place) }) a q
+      a_is = the_acted (record {
+        memory = m;
+        frames = frame ∷ callers;
+        started = [];
+        printed = [];
+        trap =
+            Some (Trap trap place);
+      }) a q
 
   -- a Go or a call enters a function
   entered_home : (kinds : List «Type») (to : Option ℕ) (n : ℕ) (callee : CodeFn) (from : List ℕ) (passes : List Class)
@@ -578,14 +608,14 @@ module _ (code : Code) (checked : IsChecked code) (owners : List Region) (m : Me
           ∙ ap (option_map (value_at frame)) a) ∙ e in cc
       argument x (Some b) a e q =
           let xb : value_at frame b ≡ x = the_value (value_at frame b) x
-              (sym (slice_get-map (value_at frame) from v ∙ ap (option_map (value_at frame)) a) ∙ e) in
+          (sym (slice_get-map (value_at frame) from v ∙ ap (option_map (value_at frame)) a) ∙ e) in
           let below : v < callee.params = let z = get_below from v b a in omega (arith, z, args) in
           let h = more_home owners given f.names (class_of fn b) (value_at frame b)
-              (reads_home b (read b (get_contains from v b a))) in
+          (reads_home b (read b (get_contains from v b a))) in
           formal_home (owners ++ given) f.names (region_parameters callee) passes (class_of callee v) (class_of fn b)
-              (value_at (entering callee n frame from) v) (formals_once callee) (rightly.arguments v b below a)
+          (value_at (entering callee n frame from) v) (formals_once callee) (rightly.arguments v b below a)
           (λ m c. any_at m (region_parameters callee) ((formals_are callee m).1 (inl (v, below, c)))) classed
-              (subst (λ w. LeadsHome (owners ++ given) f.names (class_of fn b) w) (xb ∙ sym q) h)
+          (subst (λ w. LeadsHome (owners ++ given) f.names (class_of fn b) w) (xb ∙ sym q) h)
         where
           the_value : (x y : Value) → Some x ≡ Some y → x ≡ y
           the_value x y e = cc
@@ -607,13 +637,13 @@ module _ (code : Code) (checked : IsChecked code) (owners : List Region) (m : Me
               ∙ ap or_nil e)
           go (inr (j, q)) =
               subst (λ w. LeadsHome (owners ++ given) (passed (region_parameters callee)
-                  (passed_regions f.names passes)) (class_of callee v) w)
-                  (sym (value_is (entering callee n frame from).variables v ∙ ap or_nil e))
+              (passed_regions f.names passes)) (class_of callee v) w)
+              (sym (value_is (entering callee n frame from).variables v ∙ ap or_nil e))
               (home_of_plain (owners ++ given) (passed (region_parameters callee) (passed_regions f.names passes))
-                  (class_of callee v) x (each_get IsPlain (drop (length (values_of frame from))
-                  (map zero_of (erased_fn callee).variables)) j x
-                  (each_drop IsPlain (length (values_of frame from)) (map zero_of (erased_fn callee).variables) opened)
-                  q))
+              (class_of callee v) x (each_get IsPlain (drop (length (values_of frame from))
+              (map zero_of (erased_fn callee).variables)) j x
+              (each_drop IsPlain (length (values_of frame from)) (map zero_of (erased_fn callee).variables) opened)
+              q))
 
   -- ---- a call
 
@@ -668,11 +698,11 @@ module _ (code : Code) (checked : IsChecked code) (owners : List Region) (m : Me
     caller_leads given g call' is' cur' v n l =
         subst (λ y. LeadsHome (owners ++ given) left (class_of y v) (value_at frame v)) (the_fn fn g (sym is_fn ∙ is'))
         (renamed_home (owners ++ given) f.names left (class_of fn v) (value_at frame v)
-            (class_other f.names left (class_of fn v) (λ k c.
-            behind_kept k (inl (record { variable = v; named = c; live = l' }))))
+        (class_other f.names left (class_of fn v) (λ k c.
+        behind_kept k (inl (record { variable = v; named = c; live = l' }))))
         (more_home owners given f.names (class_of fn v) (value_at frame v)
-            (lead.0 fn is_fn v (live_back fn frame.next (frame.next + 1) v instr removes instr_here edge unwritten
-            l'))))
+        (lead.0 fn is_fn v (live_back fn frame.next (frame.next + 1) v instr removes instr_here edge unwritten
+        l'))))
       where
         l' : Live (erased_fn fn) v (frame.next + 1)
         l' = subst (λ y. Live (erased_fn y) v (frame.next + 1)) (the_fn g fn (sym is' ∙ is_fn)) l
@@ -693,8 +723,10 @@ module _ (code : Code) (checked : IsChecked code) (owners : List Region) (m : Me
     -- the region of the callee's result is that of the variable that waits for it
     linked : IsLinked code (environment_of (result_class callee)
         (passed (region_parameters callee) (passed_regions f.names passes))) frame
-        (record f { names = without_all f.names (given_names (result_class callee) (region_parameters callee) passes
-        protects) })
+        (record f {
+          names = without_all f.names (given_names (result_class callee) (region_parameters callee) passes
+              protects);
+        })
     linked g call' d is' cur' t n = subst (λ y. class_region callee_names (result_class callee)
         ≡ class_region left (class_of y d)) (the_fn fn g (sym is_fn ∙ is')) (by (result_class callee) refl)
       where
@@ -718,20 +750,24 @@ module _ (code : Code) (checked : IsChecked code) (owners : List Region) (m : Me
         by NoClass e = absurd (n e)
         by Global e =
             let g : class_of fn d ≡ Global = subst (λ c. IsPassedFor (region_parameters callee) passes c
-                (class_of fn d)) e fits in
+            (class_of fn d)) e fits in
             ap (class_region (passed (region_parameters callee) (passed_regions f.names passes))) e
-                ∙ sym (ap (class_region left) g)
+            ∙ sym (ap (class_region left) g)
         by (Name m) e =
             let p = any_at m (region_parameters callee) ((formals_are callee m).1 (inr e)) in
             let at : slice_get passes p.0 ≡ Some (class_of fn d) =
-                (let x : IsPassedFor (region_parameters callee) passes (Name m) (class_of fn d) =
-                subst (λ c. IsPassedFor (region_parameters callee) passes c (class_of fn d)) e fits in x p.0 p.1) in
+            (let x : IsPassedFor (region_parameters callee) passes (Name m) (class_of fn d) =
+            subst (λ c. IsPassedFor (region_parameters callee) passes c (class_of fn d)) e fits in x p.0 p.1) in
             ap (class_region (passed (region_parameters callee) (passed_regions f.names passes))) e
             ∙ passed_at f.names (region_parameters callee) passes p.0 m (class_of fn d) (formals_once callee) p.1 at
             ∙ sym (class_other f.names left (class_of fn d) (λ k c.
-                unless_given k (λ g. g.2 (record { at = p.0; parameter =
-                subst (λ (o : Option CodeFn). slice_get (callee_regions o) p.0 ≡ Some (callee_result o)) (sym named)
-                (p.1 ∙ ap Some (sym e)); passed = at ∙ ap Some c }))))
+            unless_given k (λ g. g.2 (record {
+              at = p.0;
+              parameter =
+                  subst (λ (o : Option CodeFn). slice_get (callee_regions o) p.0 ≡ Some (callee_result o)) (sym named)
+                  (p.1 ∙ ap Some (sym e));
+              passed = at ∙ ap Some c;
+            }))))
 
     -- the callee enters, and the caller waits
     calls : (kinds : List «Type») (given : List Region) → length from ≡ callee.params
@@ -741,16 +777,18 @@ module _ (code : Code) (checked : IsChecked code) (owners : List Region) (m : Me
     calls kinds given args typed =
         subst (λ (o : Option CodeFn). FramesLead code (owners ++ given) (entering callee n frame from ∷ frame ∷ callers)
         (environment_of (result_of o) (passed (formals_of o) (passed_regions f.names passes)) ∷ record f
-            { names = without_all f.names (given_names (result_of o) (formals_of o) passes protects) } ∷ fs))
-            (sym named) (
+        { names = without_all f.names (given_names (result_of o) (formals_of o) passes protects) } ∷ fs))
+        (sym named) (
           entered_home kinds to n callee from passes given named args rightly
               (λ v c. subst (λ op. Contains (reads (erased_op op)) v) (sym is) c) (typed.0, tt, tt),
           (caller_leads given, linked, waits callers fs lead.1),
         )
       where
         waits : (cs : List Frame) (ds : List Environment) → CallersLead code owners f cs ds
-            → CallersLead code (owners ++ given) (record f { names =
-            without_all f.names (given_names (result_class callee) (region_parameters callee) passes protects) }) cs ds
+            → CallersLead code (owners ++ given) (record f {
+              names =
+                  without_all f.names (given_names (result_class callee) (region_parameters callee) passes protects);
+            }) cs ds
         waits [] [] h = tt
         waits [] (d ∷ ds) h = h
         waits (c ∷ cs) [] h = h
@@ -827,22 +865,38 @@ module _ (code : Code) (checked : IsChecked code) (owners : List Region) (m : Me
           → ActedLeads code (f ∷ ds) (Return back) (owners ++ given) a
       go [] ds h c t q =
           let is_a = the_acted (record { memory = m; frames = []; started = []; printed = []; trap = None }) a q in
-          record { memory = memory (sym (ap (λ (x : Acted). x.memory) is_a)); frames =
-              subst (λ (x : Acted). FramesLead code (owners ++ given) x.frames ds) is_a tt; calm =
-              subst (λ (x : Acted). Always (λ e. ds ≡ f ∷ ds) x.trap) is_a tt; children =
-              subst (λ (x : Acted). Each (λ (child : List Frame).
-              FramesLead code (owners ++ given) child (environment_of NoClass [] ∷ [])) x.started) is_a tt }
+          record {
+            memory = memory (sym (ap (λ (x : Acted). x.memory) is_a));
+            frames =
+                subst (λ (x : Acted). FramesLead code (owners ++ given) x.frames ds) is_a tt;
+            calm =
+                subst (λ (x : Acted). Always (λ e. ds ≡ f ∷ ds) x.trap) is_a tt;
+            children =
+                subst (λ (x : Acted). Each (λ (child : List Frame).
+                FramesLead code (owners ++ given) child (environment_of NoClass [] ∷ [])) x.started) is_a tt;
+          }
       go (caller ∷ cs) [] h c t q = absurd h
       go (caller ∷ cs) (d ∷ ds) h (g, is_g, caller_instr, cur', calls') t q =
-          let is_a = the_acted (record { memory = m; frames =
-              resumed (erased code) caller (option_map (value_at frame) back) ∷ cs; started = []; printed = []; trap =
-              None }) a q in
-          record { memory = memory (sym (ap (λ (x : Acted). x.memory) is_a)); frames =
-              subst (λ (x : Acted). FramesLead code (owners ++ given) x.frames (d ∷ ds)) is_a
-              (top, more_callers code owners given d cs ds h.2); calm =
-              subst (λ (x : Acted). Always (λ e. d ∷ ds ≡ f ∷ d ∷ ds) x.trap) is_a tt; children =
-              subst (λ (x : Acted). Each (λ (child : List Frame).
-              FramesLead code (owners ++ given) child (environment_of NoClass [] ∷ [])) x.started) is_a tt }
+          let is_a = the_acted (record {
+            memory = m;
+            frames =
+                resumed (erased code) caller (option_map (value_at frame) back) ∷ cs;
+            started = [];
+            printed = [];
+            trap =
+                None;
+          }) a q in
+          record {
+            memory = memory (sym (ap (λ (x : Acted). x.memory) is_a));
+            frames =
+                subst (λ (x : Acted). FramesLead code (owners ++ given) x.frames (d ∷ ds)) is_a
+                (top, more_callers code owners given d cs ds h.2);
+            calm =
+                subst (λ (x : Acted). Always (λ e. d ∷ ds ≡ f ∷ d ∷ ds) x.trap) is_a tt;
+            children =
+                subst (λ (x : Acted). Each (λ (child : List Frame).
+                FramesLead code (owners ++ given) child (environment_of NoClass [] ∷ [])) x.started) is_a tt;
+          }
         where
           target : (op : CodeOp) → target_of (erased_op op) ≡ call_target op
           target (Call to n from passes protects removes) = refl
@@ -896,9 +950,12 @@ module _ (code : Code) (checked : IsChecked code) (owners : List Region) (m : Me
               lent value.Nil k = tt
               lent (value.Object o) (r, q, w) =
                   let n = has_class (owners ++ given) f.names (class_of fn v) o (r, q, w) in
-                  let e : class_of fn v ≡ f.lent = result_agrees v is' n ∙ sym lends in
-                  (r, sym (h.1 cfn caller_instr to is_c cur' t (λ z. n (e ∙ z))) ∙ ap (class_region f.names) (sym e)
-                      ∙ q, w)
+                  let e : class_of fn v ≡ f.lent = result_agrees v is' n ∙ sym lends in (
+                    r,
+                    sym (h.1 cfn caller_instr to is_c cur' t (λ z. n (e ∙ z))) ∙ ap (class_region f.names) (sym e)
+                        ∙ q,
+                    w,
+                  )
 
           set : (cfn : CodeFn) (v : ℕ) → function_at code caller ≡ Some cfn → Live (erased_fn cfn) v (caller.next + 1)
               → (u : ℕ) → back ≡ Some u → (o : Option ℕ) → call_target caller_instr.op ≡ o
@@ -952,9 +1009,11 @@ module _ (code : Code) (checked : IsChecked code) (owners : List Region) (m : Me
       (child_environment code (f ∷ fs) (Go n from passes removes) ∷ [])
   begins kinds n from passes removes callee given is named args typed =
       subst (λ (o : Option CodeFn). FramesLead code (owners ++ given) (entering callee n frame from ∷ [])
-          (environment_of (result_of o) (passed (formals_of o) (passed_regions f.names passes)) ∷ [])) (sym named)
-      (entered_home kinds None n callee from passes given named args rightly.1
-          (λ v c. subst (λ op. Contains (reads (erased_op op)) v) (sym is) c) typed, tt)
+      (environment_of (result_of o) (passed (formals_of o) (passed_regions f.names passes)) ∷ [])) (sym named) (
+        entered_home kinds None n callee from passes given named args rightly.1
+            (λ v c. subst (λ op. Contains (reads (erased_op op)) v) (sym is) c) typed,
+        tt,
+      )
     where
       rightly : (callee.result ≡ None) × Passes fn callee None from passes
       rightly = (let x : StartsPass code fn (Go n from passes removes) =
@@ -1037,7 +1096,7 @@ module _ (code : Code) (checked : IsChecked code) (owners : List Region) (m : Me
       by : (op : CodeOp) → instr.op ≡ op → ActedLeads code (f ∷ fs) instr.op (owners ++ given) a
       by (Do to action from removes) is =
           acted kinds to action from removes (trap_place action instr.place)
-              (performed code.structs action (type_of (erased code) frame to) (values_of frame from) m) is
+          (performed code.structs action (type_of (erased code) frame to) (values_of frame from) m) is
           (homes fn f.names frame owners m home to code.structs (type_of (erased code) frame to) action from
           (joins_agree code checked frame.function frame.next fn instr is_fn instr_here to action from removes is)
           (λ v c. reads_home v (subst (λ op. Contains (reads (erased_op op)) v) (sym is) c)))
@@ -1050,10 +1109,22 @@ module _ (code : Code) (checked : IsChecked code) (owners : List Region) (m : Me
           c : Callee n from
           c = callee_of n from there.callee there.declared there.arguments
 
-          is_a : record { memory = m; frames = entering c.callee n frame from ∷ frame ∷ callers; started = []; printed =
-              []; trap = None } ≡ a
-          is_a = the_acted (record { memory = m; frames = entering c.callee n frame from ∷ frame ∷ callers; started =
-              []; printed = []; trap = None }) a (ap (call m frame callers n (values_of frame from))
+          is_a : record {
+            memory = m;
+            frames = entering c.callee n frame from ∷ frame ∷ callers;
+            started = [];
+            printed =
+                [];
+            trap = None;
+          } ≡ a
+          is_a = the_acted (record {
+            memory = m;
+            frames = entering c.callee n frame from ∷ frame ∷ callers;
+            started =
+                [];
+            printed = [];
+            trap = None;
+          }) a (ap (call m frame callers n (values_of frame from))
               (sym (found n c.callee c.found)) ∙ acts (Call to n from passes protects removes) is)
 
           done : ActedLeads code (f ∷ fs) (Call to n from passes protects removes) (owners ++ given) a
@@ -1076,10 +1147,22 @@ module _ (code : Code) (checked : IsChecked code) (owners : List Region) (m : Me
           c : Callee n from
           c = callee_of n from there.callee there.declared there.arguments
 
-          is_a : record { memory = m; frames = moved_to frame (frame.next + 1) ∷ callers; started =
-              (entering c.callee n frame from ∷ []) ∷ []; printed = []; trap = None } ≡ a
-          is_a = the_acted (record { memory = m; frames = moved_to frame (frame.next + 1) ∷ callers; started =
-              (entering c.callee n frame from ∷ []) ∷ []; printed = []; trap = None }) a
+          is_a : record {
+            memory = m;
+            frames = moved_to frame (frame.next + 1) ∷ callers;
+            started =
+                (entering c.callee n frame from ∷ []) ∷ [];
+            printed = [];
+            trap = None;
+          } ≡ a
+          is_a = the_acted (record {
+            memory = m;
+            frames = moved_to frame (frame.next + 1) ∷ callers;
+            started =
+                (entering c.callee n frame from ∷ []) ∷ [];
+            printed = [];
+            trap = None;
+          }) a
               (ap (start m frame callers n (values_of frame from)) (sym (found n c.callee c.found))
               ∙ acts (Go n from passes removes) is)
 

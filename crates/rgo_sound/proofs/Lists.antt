@@ -154,12 +154,12 @@ module _ (lent : Class) (protects : List ℕ) where
       let fc : c ≡ Name m = cc in
       let rj : j ≡ k = cc in
       let off : (list_any (nat_eq j) protects || same_class c lent) ≡ false =
-          ap (λ x. list_any (nat_eq x) protects || same_class c lent) rj ∙ ap (λ x. x || same_class c lent) n
-          ∙ ap (λ x. same_class x lent) fc ∙ l in
+      ap (λ x. list_any (nat_eq x) protects || same_class c lent) rj ∙ ap (λ x. x || same_class c lent) n
+      ∙ ap (λ x. same_class x lent) fc ∙ l in
       let is : times_in k (given_names lent (c ∷ formals) (Name j ∷ regions) protects)
-          ≡ one_if (nat_eq k j) + times_in k (given_names lent formals regions protects) =
-          ap (λ x. times_in k (if x then given_names lent formals regions protects else j ∷ given_names lent formals
-          regions protects)) off in
+      ≡ one_if (nat_eq k j) + times_in k (given_names lent formals regions protects) =
+      ap (λ x. times_in k (if x then given_names lent formals regions protects else j ∷ given_names lent formals
+      regions protects)) off in
       let one : one_if (nat_eq k j) ≡ 1 = ap (λ x. one_if (nat_eq k x)) rj ∙ ap one_if (self_named k) in
       omega (arith, is, one)
   given_at (c ∷ formals) (Global ∷ regions) zero m k f r n l = cc
@@ -243,9 +243,12 @@ gives_are code fn g i to n from passes protects removes names found long rule k 
                 let m = (distinct_member [] (parameter_classes g.params g.variables ++ result_class g ∷ []) p f q).1 in
                 given_at (result_class g) protects (region_parameters g) passes p m.0 k (q ∙ ap Some m.1) e free
                 (split (is_name m.0 (result_class g)) (λ t. absurd
-                    (x.2 record { at = p; parameter = subst (λ (o : Option CodeFn). slice_get (callee_regions o) p
-                    ≡ Some (callee_result o)) (sym found) (q ∙ ap Some (m.1 ∙ sym (is_named m.0 (result_class g) t)));
-                    passed = e })) (λ n. n))
+                (x.2 record {
+                  at = p;
+                  parameter = subst (λ (o : Option CodeFn). slice_get (callee_regions o) p
+                      ≡ Some (callee_result o)) (sym found) (q ∙ ap Some (m.1 ∙ sym (is_named m.0 (result_class g) t)));
+                  passed = e;
+                })) (λ n. n))
 
     from_given : 1 ≤ times_in k (given_names (result_class g) (region_parameters g) passes protects)
         → Gives code (Call to n from passes protects removes) k
@@ -265,8 +268,11 @@ gives_are code fn g i to n from passes protects removes names found long rule k 
         m = (distinct_member [] (parameter_classes g.params g.variables ++ result_class g ∷ []) a.0 a.1 a.2).1
 
         not_result : ¬ (IsPassedForResult (function_of code n) passes k)
-        not_result x = not_protected ((rule k).1 (get_contains passes a.0 (Name k) a.3, inr
-            (inr (record { one = a.0; other = x.at; differ = differs; first = a.3; second = x.passed }))))
+        not_result x = not_protected ((rule k).1 (
+          get_contains passes a.0 (Name k) a.3,
+          inr
+              (inr (record { one = a.0; other = x.at; differ = differs; first = a.3; second = x.passed })),
+        ))
           where
             f' : slice_get (region_parameters g) x.at ≡ Some (result_class g)
             f' = subst (λ (o : Option CodeFn). slice_get (callee_regions o) x.at ≡ Some (callee_result o)) found
@@ -278,7 +284,7 @@ gives_are code fn g i to n from passes protects removes names found long rule k 
             differs : a.0 ≢ x.at
             differs q =
                 let c : a.1 ≡ result_class g = the_same a.1 (result_class g)
-                    (sym a.2 ∙ ap (slice_get (region_parameters g)) q ∙ f') in
+                (sym a.2 ∙ ap (slice_get (region_parameters g)) q ∙ f') in
                 let t : same_class a.1 (result_class g) ≡ true =
-                    ap (same_class a.1) (sym c) ∙ ap (λ x. same_class x x) m.1 ∙ self_named m.0 in
+                ap (same_class a.1) (sym c) ∙ ap (λ x. same_class x x) m.1 ∙ self_named m.0 in
                 true≢false (sym t ∙ a.4)

@@ -63,9 +63,11 @@ ready_unprotects : (Own : ℕ → Type 0) (Then : Bindings → List Region → T
     → IsReady Own Then (map Unprotect ks ++ duties) names protections
 ready_unprotects Own Then [] duties names protections h fit next =
     subst (λ x. IsReady Own Then duties names x) (sym (none_left protections fit)) next
-ready_unprotects Own Then (k ∷ ks) duties names protections h fit next =
-    (h k (contains_here k ks), λ q e. ready_unprotects Own Then ks duties names (removed_once q protections)
-        (λ j c. h j (contains_there k ks j c)) (λ r. fewer q e r) next)
+ready_unprotects Own Then (k ∷ ks) duties names protections h fit next = (
+  h k (contains_here k ks),
+  λ q e. ready_unprotects Own Then ks duties names (removed_once q protections)
+      (λ j c. h j (contains_there k ks j c)) (λ r. fewer q e r) next,
+)
   where
     fewer : (q : Region) → bound names k ≡ Some q → (r : Region) → times r (removed_once q protections)
         ≡ bound_times r names ks
@@ -73,9 +75,9 @@ ready_unprotects Own Then (k ∷ ks) duties names protections h fit next =
         let a = fit r in
         let a' = fit q in
         let b : one_if (same_bound r (bound names k)) ≡ one_if (same_region r q) =
-            ap (λ x. one_if (same_bound r x)) e in
+        ap (λ x. one_if (same_bound r x)) e in
         let b' : one_if (same_bound q (bound names k)) ≡ 1 =
-            ap (λ x. one_if (same_bound q x)) e ∙ ap one_if (same_reflexive q) in
+        ap (λ x. one_if (same_bound q x)) e ∙ ap one_if (same_reflexive q) in
         let t = times_removed r q protections (omega (arith, a', b')) in
         omega (arith, a, b, t)
 
@@ -88,7 +90,7 @@ owed code frame callers next front n names pending fn is here none =
     let cur : current code frame ≡ Some next = ap (λ o. current_in o frame.next) is ∙ here in
     subst (λ x. Shares (to_share code (frame ∷ callers)) (front ++ duties_before (Some next)) names x) (sym none)
     (subst (λ o. Shares (to_share code (frame ∷ callers)) (front ++ duties_before o) names []) cur
-        (shares_next code (frame ∷ callers) front n names))
+    (shares_next code (frame ∷ callers) front n names))
 
 -- an instruction that shares nothing stands with nothing pending
 pub settled_pending : (code : Code) (frame : Frame) (callers : List Frame) (instr : CodeInstr) (names : Bindings)
@@ -96,28 +98,36 @@ pub settled_pending : (code : Code) (frame : Frame) (callers : List Frame) (inst
     → Shares (to_share code (frame ∷ callers)) duties names pending → pending ≡ []
 settled_pending code frame callers instr names duties pending cur none d sh =
     none_pending names pending (subst (λ x. Shares x [] names pending) (ap shared_before cur ∙ none)
-        (subst (λ x. Shares (to_share code (frame ∷ callers)) x names pending) d sh))
+    (subst (λ x. Shares (to_share code (frame ∷ callers)) x names pending) d sh))
 
 -- ---- along an edge, behind an instruction that is no call
 
 -- what gives nothing away leaves what was there
 settled_left : (code : Code) (fn : CodeFn) (i : ℕ) (instr : CodeInstr) (names : Bindings) (protections : List Region)
     → ((k : ℕ) → ¬ (Gives code instr.op k)) → Settled fn i instr names protections → Left code fn i instr names
-settled_left code fn i instr names protections n s = record
-    { there = λ k h g. s.there k h; made = λ k c g. s.made k c; gone = s.gone; given = λ k g. absurd (n k g); lent =
-    s.lent }
+settled_left code fn i instr names protections n s = record {
+  there = λ k h g. s.there k h;
+  made = λ k c g. s.made k c;
+  gone = s.gone;
+  given = λ k g. absurd (n k g);
+  lent =
+      s.lent;
+}
 
 -- an instruction along an edge: what is owed on it is removed, and then what the next instruction asks for is done
 pub moves_on : (code : Code) (fn : CodeFn) (frame frame' : Frame) (callers : List Frame) (instr next : CodeInstr)
     (removes : List ℕ) (h : Holder) (f : Environment) (fs : List Environment) →
     function_at code frame ≡ Some fn → Kept code fn frame.next instr → function_at code frame' ≡ Some fn
-        → Kept code fn frame'.next next →
+    → Kept code fn frame'.next next →
     Contains (edges instr.op frame.next) (frame'.next, removes) → ((k : ℕ) → ¬ (Gives code instr.op k))
-        → protected_names instr.op ≡ [] →
+    → protected_names instr.op ≡ [] →
     Core h.stakes h.base (f ∷ fs) → EachOnce h.base → f.lent ≡ result_class fn
-        → Settled fn frame.next instr f.names f.protections → AllWait code callers fs → h.pending ≡ [] →
-    GoodHolder code (frame' ∷ callers) (record h { environments = f ∷ fs; duties =
-        map Remove removes ++ duties_before (Some next) })
+    → Settled fn frame.next instr f.names f.protections → AllWait code callers fs → h.pending ≡ [] →
+    GoodHolder code (frame' ∷ callers) (record h {
+      environments = f ∷ fs;
+      duties =
+          map Remove removes ++ duties_before (Some next);
+    })
 moves_on code fn frame frame' callers instr next removes h f fs is a is' b c g p core once lends s w none_left' =
     record {
       core = core;
@@ -156,13 +166,16 @@ pub returns_on : (code : Code) (fn caller_fn : CodeFn) (frame caller caller' : F
     (protects removes : List ℕ) (h : Holder) (f d : Environment) (fs : List Environment) →
     instr.op ≡ Return value → ReturnsHoldNothing fn frame.next instr (Return value) →
     call.op ≡ Call to n from passes protects removes → Kept code caller_fn caller.next call → function_at code caller'
-        ≡ Some caller_fn → Kept code caller_fn caller'.next next → caller'.next ≡ caller.next + 1 →
+    ≡ Some caller_fn → Kept code caller_fn caller'.next next → caller'.next ≡ caller.next + 1 →
     Core h.stakes h.base (f ∷ d ∷ fs) → EachOnce h.base → f.lent ≡ result_class fn
-        → Settled fn frame.next instr f.names f.protections →
+    → Settled fn frame.next instr f.names f.protections →
     d.lent ≡ result_class caller_fn → Left code caller_fn caller.next call d.names
-        → AreProtections d.protections d.names (protected_names call.op) → AllWait code callers fs → h.pending ≡ [] →
-    GoodHolder code (caller' ∷ callers) (record h { environments = d ∷ fs; duties =
-        (map Unprotect protects ++ map Remove removes) ++ duties_before (Some next) })
+    → AreProtections d.protections d.names (protected_names call.op) → AllWait code callers fs → h.pending ≡ [] →
+    GoodHolder code (caller' ∷ callers) (record h {
+      environments = d ∷ fs;
+      duties =
+          (map Unprotect protects ++ map Remove removes) ++ duties_before (Some next);
+    })
 returns_on code fn caller_fn frame caller caller' callers instr call next value to n from passes protects removes h f d
     fs is empty is_call a is' b step core once lends s dl l fit w none_left' =
     record {
@@ -182,7 +195,7 @@ returns_on code fn caller_fn frame caller caller' callers instr call next value 
     edge =
         subst (λ (x : ℕ). Contains {X = ℕ × List ℕ} (edges call.op caller.next) (x, removes)) (sym step)
         (subst (λ (x : CodeOp). Contains {X = ℕ × List ℕ} (edges x caller.next) (caller.next + 1, removes))
-            (sym is_call) (contains_here {X = ℕ × List ℕ} (caller.next + 1, removes) []))
+        (sym is_call) (contains_here {X = ℕ × List ℕ} (caller.next + 1, removes) []))
 
     not_given : (k : ℕ) → Contains protects k → ¬ (Gives code call.op k)
     not_given k c g = let x : Gives code (Call to n from passes protects removes) k =
@@ -196,18 +209,18 @@ returns_on code fn caller_fn frame caller caller' callers instr call next value 
         ((map Unprotect protects ++ map Remove removes) ++ duties_before (Some next)) d.names d.protections
     ready =
         subst (λ x. IsReady (IsFree caller_fn caller'.next) (Settled caller_fn caller'.next next) x d.names
-            d.protections) (sym (append_assoc (map Unprotect protects) (map Remove removes)
-            (duties_before (Some next))))
+        d.protections) (sym (append_assoc (map Unprotect protects) (map Remove removes)
+        (duties_before (Some next))))
         (ready_unprotects (IsFree caller_fn caller'.next) (Settled caller_fn caller'.next next) protects
-            (map Remove removes ++ duties_before (Some next)) d.names d.protections there
-            (λ r. fit r ∙ ap (λ o. bound_times r d.names (protected_names o)) is_call)
+        (map Remove removes ++ duties_before (Some next)) d.names d.protections there
+        (λ r. fit r ∙ ap (λ o. bound_times r d.names (protected_names o)) is_call)
         (arrives code caller_fn caller.next caller'.next call next removes d.names a edge b l))
 
 -- the return of a goroutine's last frame: its base is left to end
 pub returns_last : (code : Code) (fn : CodeFn) (frame : Frame) (instr : CodeInstr) (value : Option ℕ) (h : Holder)
     (f : Environment) →
     ReturnsHoldNothing fn frame.next instr (Return value) → Core h.stakes h.base (f ∷ []) → EachOnce h.base → f.lent
-        ≡ result_class fn → Settled fn frame.next instr f.names f.protections → h.pending ≡ [] →
+    ≡ result_class fn → Settled fn frame.next instr f.names f.protections → h.pending ≡ [] →
     GoodHolder code [] (record h { environments = []; duties = map EndBase h.base })
 returns_last code fn frame instr value h f empty core once lends s none_left' =
     record {

@@ -151,9 +151,13 @@ module _ (m : Memory) (b : Bool) where
 
       here : (p : ℕ) (x : Object) → slice_get m.heap p ≡ Some x → capacity_of x ≡ Some 0 → o ≡ p
           → IsUnbuffered (with_object m o object) p
-      here p x q c u = (object, ap (slice_get (slice_set m.heap o object)) (sym u)
-          ∙ get_set_same m.heap o old object e, same ∙ ap capacity_of
-          (the_same old x (sym e ∙ ap (slice_get m.heap) u ∙ q)) ∙ c)
+      here p x q c u = (
+        object,
+        ap (slice_get (slice_set m.heap o object)) (sym u)
+            ∙ get_set_same m.heap o old object e,
+        same ∙ ap capacity_of
+            (the_same old x (sym e ∙ ap (slice_get m.heap) u ∙ q)) ∙ c,
+      )
 
       keeps : (p : ℕ) → IsUnbuffered m p → IsUnbuffered (with_object m o object) p
       keeps p (x, q, c) = split (nat_eq o p) (λ t. here p x q c (eq_of o p t))
@@ -491,8 +495,16 @@ offers_at s frame (Do to act' from removes) o q = action act' from q
     two a b value.Nil e q = cc
     two a b (value.Object p) e q =
         let x = place p (slice_get s.plain.memory.heap p) refl q in
-        record { to = to; channel = a; sent = b; removes = removes; is = refl; channel_is =
-            e ∙ ap value.Object x.0; unbuffered = subst (IsUnbuffered s.plain.memory) x.0 x.1 }
+        record {
+          to = to;
+          channel = a;
+          sent = b;
+          removes = removes;
+          is = refl;
+          channel_is =
+              e ∙ ap value.Object x.0;
+          unbuffered = subst (IsUnbuffered s.plain.memory) x.0 x.1;
+        }
 
     action : (act' : Action) (from : List ℕ) → offered_channel s frame (Do to act' from removes) ≡ Some o
         → OffersAt s frame (Do to act' from removes) o
@@ -589,12 +601,15 @@ sends_trap m frame callers to place o w a (object, e, c) q =
         × (a ≡ trapped_there m (frame ∷ callers) (Trap kind place))
     go (StructObject cells) c q = cc
     go (SliceObject cells) c q = cc
-    go (Channel capacity queue true) c q = (SendClosed, sym
-        (the_same (trapped_there m (frame ∷ callers) (Trap SendClosed place)) a q))
+    go (Channel capacity queue true) c q = (
+      SendClosed,
+      sym
+          (the_same (trapped_there m (frame ∷ callers) (Trap SendClosed place)) a q),
+    )
     go (Channel capacity queue false) c q =
         let zero' : capacity ≡ 0 = cc in
         absurd (waits (nat_lt (length queue) capacity) (Does (Channel capacity (queue ++ w ∷ []) false) value.Nil)
-            (ap (nat_lt (length queue)) zero' ∙ not_below (length queue)) q)
+        (ap (nat_lt (length queue)) zero' ∙ not_below (length queue)) q)
 
 module _ (code : Code) (s : RegionState) (old : OffersFit code s) where
   carry : (t : RegionState) (j : ℕ) (x : Holder) → frames_of t.plain j ≡ frames_of s.plain j
@@ -602,17 +617,34 @@ module _ (code : Code) (s : RegionState) (old : OffersFit code s) where
       → ((o : ℕ) → IsUnbuffered s.plain.memory o → IsUnbuffered t.plain.memory o) → (offer : Offer)
       → OfferFits code s j x offer → OfferFits code t j x offer
   carry t j x fr os ms NoOffer h = tt
-  carry t j x fr os ms (Standing o) (d, u, st) = (d, ms o u, record
-      { frame = st.frame; callers = st.callers; at = fr ∙ st.at; instr = st.instr; cur = st.cur; to = st.to; channel =
-      st.channel; sent = st.sent; removes = st.removes; is = st.is; channel_is = st.channel_is })
+  carry t j x fr os ms (Standing o) (d, u, st) = (
+    d,
+    ms o u,
+    record {
+      frame = st.frame;
+      callers = st.callers;
+      at = fr ∙ st.at;
+      instr = st.instr;
+      cur = st.cur;
+      to = st.to;
+      channel =
+          st.channel;
+      sent = st.sent;
+      removes = st.removes;
+      is = st.is;
+      channel_is = st.channel_is;
+    },
+  )
   carry t j x fr os ms (Taken o) (r, w, i) = (r, os o r w, i)
 
   offers_with : (t : RegionState) (g : ℕ) (h k : Holder) → slice_get s.holders g ≡ Some h → t.owners ≡ s.owners
       → t.plain ≡ s.plain → t.holders ≡ slice_set s.holders g k → OfferFits code s g k k.offer → OffersFit code t
   offers_with t g h k e os ps hs new =
-      record { fits = λ j x q. carry t j x (ap (λ p. frames_of p j) ps) (λ o r w. ap (λ y. slice_get y o) os ∙ w)
-          (λ o u. subst (λ (p : TacState). IsUnbuffered p.memory o) (sym ps) u) x.offer
-          (each j x (sym (ap (λ y. slice_get y j) hs) ∙ q)) }
+      record {
+        fits = λ j x q. carry t j x (ap (λ p. frames_of p j) ps) (λ o r w. ap (λ y. slice_get y o) os ∙ w)
+            (λ o u. subst (λ (p : TacState). IsUnbuffered p.memory o) (sym ps) u) x.offer
+            (each j x (sym (ap (λ y. slice_get y j) hs) ∙ q));
+      }
     where
       the_same : (x y : Holder) → Some x ≡ Some y → x ≡ y
       the_same x y e = cc
@@ -621,9 +653,9 @@ module _ (code : Code) (s : RegionState) (old : OffersFit code s) where
       each j x q =
           split (nat_eq g j)
           (λ t. subst (λ (y : Holder). OfferFits code s j y y.offer)
-              (the_same k x (sym (get_set_same s.holders g h k e)
-              ∙ ap (slice_get (slice_set s.holders g k)) (eq_of g j t) ∙ q))
-              (subst (λ i. OfferFits code s i k k.offer) (eq_of g j t) new))
+          (the_same k x (sym (get_set_same s.holders g h k e)
+          ∙ ap (slice_get (slice_set s.holders g k)) (eq_of g j t) ∙ q))
+          (subst (λ i. OfferFits code s i k k.offer) (eq_of g j t) new))
           (λ n. old.fits j x (sym (get_set_other s.holders g j k n) ∙ q))
 
   -- a goroutine that owes something and may go on has no offer
@@ -655,8 +687,11 @@ module _ (code : Code) (s : RegionState) (old : OffersFit code s) where
         (kept _ (record k { pending = r ∷ k.pending }) refl refl refl ks)) yields_none
 
     done : (k : Holder) (d : Duty) → k.offer ≡ h.offer → Yields (OffersFit code) (duty_done s g k d)
-    done k (Create n) ks = kept _ (record k { stakes = length s.regions ∷ k.stakes; environments =
-        with_top k.environments ((n, Numbered (length s.regions)) ∷ unbind (top_names k.environments) n) }) refl refl
+    done k (Create n) ks = kept _ (record k {
+      stakes = length s.regions ∷ k.stakes;
+      environments =
+          with_top k.environments ((n, Numbered (length s.regions)) ∷ unbind (top_names k.environments) n);
+    }) refl refl
         refl ks
     done k (Share n) ks = yields_then (shared s g k) _ (λ q. shares k q ks)
     done k (Protect n) ks = yields_then (protected s g k) _
@@ -716,10 +751,25 @@ module _ (code : Code) (s : RegionState) (old : OffersFit code s) where
           by true o w = yields_none
           by false o w =
               let x = offers_at s frame instr.op o w in
-              yields _ (offers_with _ g h (record h { offer = Standing o }) e refl refl refl
-              (ready.none, x.unbuffered, record { frame = frame; callers = callers; at = q; instr = instr; cur = c; to =
-                  x.to; channel = x.channel; sent = x.sent; removes = x.removes; is = x.is; channel_is =
-                  x.channel_is }))
+              yields _ (offers_with _ g h (record h { offer = Standing o }) e refl refl refl (
+                ready.none,
+                x.unbuffered,
+                record {
+                  frame = frame;
+                  callers = callers;
+                  at = q;
+                  instr = instr;
+                  cur = c;
+                  to =
+                      x.to;
+                  channel = x.channel;
+                  sent = x.sent;
+                  removes = x.removes;
+                  is = x.is;
+                  channel_is =
+                      x.channel_is;
+                },
+              ))
 
           on : (o : Option ℕ) → offered_channel s frame instr.op ≡ o
               → Yields (OffersFit code) (option_and_then (offered s g h) o)
@@ -734,17 +784,21 @@ module _ (code : Code) (s : RegionState) (old : OffersFit code s) where
       (offers_with _ g h (record h { offer = NoOffer }) e refl refl refl tt)) yields_none
 
   offers_finish : (limit : Limit) → OffersFit code (finished s limit)
-  offers_finish limit = record { fits = λ j x q. carry (finished s limit) j x refl (λ o r w. w) (λ o u. u) x.offer
-      (old.fits j x q) }
+  offers_finish limit = record {
+    fits = λ j x q. carry (finished s limit) j x refl (λ o r w. w) (λ o u. u) x.offer
+        (old.fits j x q);
+  }
 
   -- ---- one goroutine's instruction
 
   offers_one : (page_words g : ℕ) (t : RegionState) → Fine code s → OneDone code page_words s g t → OffersFit code t
   offers_one page_words g t fine x = subst (OffersFit code) (sym x.is)
-      (record { fits = λ j y q. place j y (get_append_place
-      (slice_set s.holders g (unless_trapped (after s.plain g x.a).ended x.given.0
-      (holder_after code x.given.0 x.frame x.callers x.instr.op (frames_of (after s.plain g x.a) g))))
-      (child_holder code x.given.0 x.instr.op (last_frames (after s.plain g x.a).goroutines)) j y q) })
+      (record {
+        fits = λ j y q. place j y (get_append_place
+            (slice_set s.holders g (unless_trapped (after s.plain g x.a).ended x.given.0
+            (holder_after code x.given.0 x.frame x.callers x.instr.op (frames_of (after s.plain g x.a) g))))
+            (child_holder code x.given.0 x.instr.op (last_frames (after s.plain g x.a).goroutines)) j y q);
+      })
     where
       steadily : (o : ℕ) → IsUnbuffered s.plain.memory o → IsUnbuffered x.a.memory o
       steadily = (subst (Always (SteadyActed s.plain.memory (makes_at x.instr.op))) x.acts
@@ -776,8 +830,20 @@ module _ (code : Code) (s : RegionState) (old : OffersFit code s) where
       own (Standing o) e (d, u, st) = (
         ap (λ (y : Holder). y.duties) k_is ∙ ap (λ (y : Holder). y.duties) x.same.same ∙ d,
         steadily o u,
-        record { frame = x.frame; callers = x.callers; at = frames_same; instr = x.instr; cur = x.cur; to =
-            st.to; channel = st.channel; sent = st.sent; removes = st.removes; is = w.0; channel_is = w.1 },
+        record {
+          frame = x.frame;
+          callers = x.callers;
+          at = frames_same;
+          instr = x.instr;
+          cur = x.cur;
+          to =
+              st.to;
+          channel = st.channel;
+          sent = st.sent;
+          removes = st.removes;
+          is = w.0;
+          channel_is = w.1;
+        },
       )
         where
           w : (x.instr.op ≡ Do st.to Send (st.channel ∷ st.sent ∷ []) st.removes)
@@ -788,10 +854,10 @@ module _ (code : Code) (s : RegionState) (old : OffersFit code s) where
               (option_map silent (send s.plain.memory (value.Object o) (value_at x.frame st.sent))) ≡ Some x.a
           acts =
               ap (λ v. effected s.plain.memory x.frame x.callers st.to x.instr.place
-                  (option_map silent (send s.plain.memory v (value_at x.frame st.sent)))) (sym w.1)
+              (option_map silent (send s.plain.memory v (value_at x.frame st.sent)))) (sym w.1)
               ∙ sym (ap (λ op. act (erased code) s.plain.memory (erased_op op) x.instr.place x.frame x.callers) w.0)
               ∙ sym (ap (λ i. act_at (erased code) s.plain.memory i x.frame x.callers)
-                  (current_erased code x.frame ∙ ap (option_map erased_instr) x.cur))
+              (current_erased code x.frame ∙ ap (option_map erased_instr) x.cur))
               ∙ x.acts
 
           trapped : (kind : TrapKind) × (x.a ≡ trapped_there s.plain.memory (x.frame ∷ x.callers)
@@ -808,8 +874,8 @@ module _ (code : Code) (s : RegionState) (old : OffersFit code s) where
               ≡ x.frame ∷ x.callers
           frames_same =
               ap frames_in (get_append_left (slice_set s.plain.goroutines g x.a.frames) x.a.started g
-                  (let b = get_below s.plain.goroutines g (x.frame ∷ x.callers) x.at in let l =
-                  length_set s.plain.goroutines g x.a.frames in omega (arith, b, l)))
+              (let b = get_below s.plain.goroutines g (x.frame ∷ x.callers) x.at in let l =
+              length_set s.plain.goroutines g x.a.frames in omega (arith, b, l)))
               ∙ ap frames_in (get_set_same s.plain.goroutines g (x.frame ∷ x.callers) x.a.frames x.at)
               ∙ ap (λ (y : Acted). y.frames) trapped.1
 
@@ -843,25 +909,25 @@ module _ (code : Code) (s : RegionState) (old : OffersFit code s) where
       place j y (inl q) =
           split (nat_eq g j)
           (λ u. subst (λ (z : Holder). OfferFits code (instructed_with code s g x.frame x.callers x.instr
-              (after s.plain g x.a) x.given) j z z.offer) (the_same _ y
-              (sym (get_set_same s.holders g x.h _ x.there) ∙ ap
-              (slice_get (slice_set s.holders g (unless_trapped (after s.plain g x.a).ended x.given.0
-              (holder_after code x.given.0 x.frame x.callers x.instr.op (frames_of (after s.plain g x.a) g)))))
-              (eq_of g j u) ∙ q))
+          (after s.plain g x.a) x.given) j z z.offer) (the_same _ y
+          (sym (get_set_same s.holders g x.h _ x.there) ∙ ap
+          (slice_get (slice_set s.holders g (unless_trapped (after s.plain g x.a).ended x.given.0
+          (holder_after code x.given.0 x.frame x.callers x.instr.op (frames_of (after s.plain g x.a) g)))))
+          (eq_of g j u) ∙ q))
           (subst (λ i. OfferFits code (instructed_with code s g x.frame x.callers x.instr (after s.plain g x.a) x.given)
-              i (unless_trapped (after s.plain g x.a).ended x.given.0
-              (holder_after code x.given.0 x.frame x.callers x.instr.op (frames_of (after s.plain g x.a) g)))
-              (unless_trapped (after s.plain g x.a).ended x.given.0
-              (holder_after code x.given.0 x.frame x.callers x.instr.op (frames_of (after s.plain g x.a) g))).offer)
-              (eq_of g j u)
+          i (unless_trapped (after s.plain g x.a).ended x.given.0
+          (holder_after code x.given.0 x.frame x.callers x.instr.op (frames_of (after s.plain g x.a) g)))
+          (unless_trapped (after s.plain g x.a).ended x.given.0
+          (holder_after code x.given.0 x.frame x.callers x.instr.op (frames_of (after s.plain g x.a) g))).offer)
+          (eq_of g j u)
           (subst (OfferFits code (instructed_with code s g x.frame x.callers x.instr (after s.plain g x.a) x.given) g
-              (unless_trapped (after s.plain g x.a).ended x.given.0
-              (holder_after code x.given.0 x.frame x.callers x.instr.op (frames_of (after s.plain g x.a) g))))
-              (sym k_offer) (own x.h.offer refl (old.fits g x.h x.there)))))
+          (unless_trapped (after s.plain g x.a).ended x.given.0
+          (holder_after code x.given.0 x.frame x.callers x.instr.op (frames_of (after s.plain g x.a) g))))
+          (sym k_offer) (own x.h.offer refl (old.fits g x.h x.there)))))
           (λ n. carry (instructed_with code s g x.frame x.callers x.instr (after s.plain g x.a) x.given) j y
           (ap frames_in (get_append_left (slice_set s.plain.goroutines g x.a.frames) x.a.started j
-              (let b = get_below _ j y q in let l = long in omega (arith, b, l)))
-              ∙ ap frames_in (get_set_other s.plain.goroutines g j x.a.frames n))
+          (let b = get_below _ j y q in let l = long in omega (arith, b, l)))
+          ∙ ap frames_in (get_set_other s.plain.goroutines g j x.a.frames n))
           more steadily y.offer (old.fits j y (sym (get_set_other s.holders g j _ n) ∙ q)))
 
   -- ---- a meeting
@@ -898,9 +964,9 @@ module _ (code : Code) (s : RegionState) (old : OffersFit code s) where
           go (Taken o) e f = absurd (true≢false (sym x.ready_h.free ∙ ap may_go e))
           go (Standing o) e (d, w, st) =
               let z = at_send code s.plain r o st x.receives.frame x.receives.callers x.receives.instr frames_r
-                  x.receives.cur in
+              x.receives.cur in
               absurd (clash st.to x.receives.to (st.channel ∷ st.sent ∷ []) (x.receives.channel ∷ []) st.removes
-                  x.receives.removes (sym z.0 ∙ x.receives.is))
+              x.receives.removes (sym z.0 ∙ x.receives.is))
 
       -- a sender's channel is in a region with its stake
       sender : (offer : Offer) → x.k.offer ≡ offer → OfferFits code s u x.k offer
@@ -908,9 +974,11 @@ module _ (code : Code) (s : RegionState) (old : OffersFit code s) where
           (taken_offer offer)
       sender NoOffer e f = tt
       sender (Taken o) e f = absurd (true≢false (sym x.standing ∙ ap standing_at e))
-      sender (Standing o) e (d, w, st) =
-          (channel.0, ap (λ z. slice_get z o) x.owners ∙ channel.2,
-              (λ q is. class_staked (class_of top.stands.fn st.channel) q (channel.1 ∙ ap Some is)))
+      sender (Standing o) e (d, w, st) = (
+        channel.0,
+        ap (λ z. slice_get z o) x.owners ∙ channel.2,
+        (λ q is. class_staked (class_of top.stands.fn st.channel) q (channel.1 ∙ ap Some is)),
+      )
         where
           z : (x.sends.instr.op ≡ Do st.to Send (st.channel ∷ st.sent ∷ []) st.removes)
               × (value_at x.sends.frame st.channel ≡ value.Object o)
@@ -943,11 +1011,11 @@ module _ (code : Code) (s : RegionState) (old : OffersFit code s) where
       each j y q =
           split (nat_eq u j)
           (λ w. subst (λ (z : Holder). OfferFits code t j z z.offer)
-              (the_same k' y (sym (get_set_same (slice_set s.holders r h') u x.k k'
-              (get_set_other s.holders r u h' x.apart ∙ x.there_k))
-              ∙ ap (slice_get (slice_set (slice_set s.holders r h') u k')) (eq_of u j w) ∙ q))
+          (the_same k' y (sym (get_set_same (slice_set s.holders r h') u x.k k'
+          (get_set_other s.holders r u h' x.apart ∙ x.there_k))
+          ∙ ap (slice_get (slice_set (slice_set s.holders r h') u k')) (eq_of u j w) ∙ q))
           (subst (λ i. OfferFits code t i k' (taken_offer x.k.offer)) (eq_of u j w)
-              (sender x.k.offer refl (old.fits u x.k x.there_k))))
+          (sender x.k.offer refl (old.fits u x.k x.there_k))))
           (λ n. other n (sym (get_set_other (slice_set s.holders r h') u j k' n) ∙ q))
         where
           other : nat_eq u j ≡ false → slice_get (slice_set s.holders r (gone_on (receive_goes x.receives x.v) x.h)) j
@@ -955,17 +1023,17 @@ module _ (code : Code) (s : RegionState) (old : OffersFit code s) where
           other n q =
               split (nat_eq r j)
               (λ w. subst (λ (z : Holder). OfferFits code t j z z.offer)
-                  (the_same (gone_on (receive_goes x.receives x.v) x.h) y
-                  (sym (get_set_same s.holders r x.h (gone_on (receive_goes x.receives x.v) x.h) x.there_h)
-                  ∙ ap (slice_get (slice_set s.holders r (gone_on (receive_goes x.receives x.v) x.h))) (eq_of r j w)
-                  ∙ q))
+              (the_same (gone_on (receive_goes x.receives x.v) x.h) y
+              (sym (get_set_same s.holders r x.h (gone_on (receive_goes x.receives x.v) x.h) x.there_h)
+              ∙ ap (slice_get (slice_set s.holders r (gone_on (receive_goes x.receives x.v) x.h))) (eq_of r j w)
+              ∙ q))
               (subst (OfferFits code t j (gone_on (receive_goes x.receives x.v) x.h)) (sym receiver) tt))
               (λ n'. carry t j y
               (ap (λ p. frames_of p j) x.plain ∙ ap frames_in (get_set_other
-                  (slice_set s.plain.goroutines r (x.go_on x.v)) u j x.next n
-                  ∙ get_set_other s.plain.goroutines r j (x.go_on x.v) n'))
+              (slice_set s.plain.goroutines r (x.go_on x.v)) u j x.next n
+              ∙ get_set_other s.plain.goroutines r j (x.go_on x.v) n'))
               (λ o q w. ap (λ z. slice_get z o) x.owners ∙ w) (λ o w.
-                  subst (λ (p : TacState). IsUnbuffered p.memory o) (sym x.plain) w) y.offer
+              subst (λ (p : TacState). IsUnbuffered p.memory o) (sym x.plain) w) y.offer
               (old.fits j y (sym (get_set_other s.holders r j (gone_on (receive_goes x.receives x.v) x.h) n') ∙ q)))
 
   pub offers_step : (page_words : ℕ) (event : Event) → IsChecked code → Good code s
@@ -1013,9 +1081,10 @@ steps_keep_good code page_words s t event checked written all e =
     yields_is {P = AllGood code} (region_step code page_words s event) t
     (all_good_step code page_words s event checked written all) e
 
-pub runs_all_good : (code : Code) (page_words : ℕ) (events : List Event) (s : RegionState) → IsChecked code
+-- every state of every run of checked code is good
+pub runs_are_good : (code : Code) (page_words : ℕ) (events : List Event) (s : RegionState) → IsChecked code
     → Ascends code → region_run code page_words events ≡ Some s → AllGood code s
-runs_all_good code page_words events s checked written r =
+runs_are_good code page_words events s checked written r =
     run_keeps code page_words (AllGood code) (λ t e all. all_good_step code page_words t e checked written all) events
     (region_start code) s (all_good_start code checked written) r
 
@@ -1055,15 +1124,18 @@ touched_home code s g h frame callers instr top o checked good e at cur t = by i
         first [] f (rest, z) = let x : [] ≡ value.Object o ∷ rest = ap (map (value_at frame)) f ∙ z in cc
         first (v ∷ vs) f (rest, z) =
             let leads : value_at frame v ≡ value.Object o = the_value (value_at frame v) (map (value_at frame) vs) rest
-                (ap (map (value_at frame)) f ∙ z) in
+            (ap (map (value_at frame)) f ∙ z) in
             let home : LeadsHome s.owners top.f.names (class_of top.stands.fn v) (value.Object o) =
-                subst (LeadsHome s.owners top.f.names (class_of top.stands.fn v)) leads
-                (reads_home code checked s.owners s.plain.memory good.values.memory frame callers instr cur top.f top.fs
-                lead top.stands.fn top.stands.is_fn top.stands.lends v
-                (subst (λ op. Contains (reads (erased_op op)) v) (sym is)
-                (subst (λ x. Contains x v) f (contains_here v vs)))) in
-            (home.0, home.2, class_has_stake code s g h frame callers top (class_of top.stands.fn v) home.0 good.fine e
-                home.1)
+            subst (LeadsHome s.owners top.f.names (class_of top.stands.fn v)) leads
+            (reads_home code checked s.owners s.plain.memory good.values.memory frame callers instr cur top.f top.fs
+            lead top.stands.fn top.stands.is_fn top.stands.lends v
+            (subst (λ op. Contains (reads (erased_op op)) v) (sym is)
+            (subst (λ x. Contains x v) f (contains_here v vs)))) in (
+              home.0,
+              home.2,
+              class_has_stake code s g h frame callers top (class_of top.stands.fn v) home.0 good.fine e
+                  home.1,
+            )
     by (Call to n from passes protects removes) is q = cc
     by (Go n from passes removes) is q = cc
     by (Print pieces from removes) is q = cc
@@ -1091,7 +1163,7 @@ pub names_only_live : NamesOnlyLive
 names_only_live code page_words events s g h r checked written run e n = go h.duties refl h.offer refl n
   where
     all : AllGood code s
-    all = runs_all_good code page_words events s checked written run
+    all = runs_are_good code page_words events s checked written run
 
     the_region : (x y : Region) → Some x ≡ Some y → x ≡ y
     the_region x y e = cc
@@ -1108,8 +1180,8 @@ names_only_live code page_words events s g h r checked written run e n = go h.du
             ⊎ ((o : ℕ) × (touched frame instr.op ≡ Some o) × (slice_get s.owners o ≡ Some r)) → HasStake s h r
         by (inl m) =
             let c = making_class top.stands.fn top.f.names instr.op r
-                (ap (λ sh. making_region (Some top.stands.fn) (top_names sh) instr.op) (sym top.environments)
-                ∙ ap (λ o. making_region o (top_names h.environments) instr.op) (sym top.stands.is_fn) ∙ m) in
+            (ap (λ sh. making_region (Some top.stands.fn) (top_names sh) instr.op) (sym top.environments)
+            ∙ ap (λ o. making_region o (top_names h.environments) instr.op) (sym top.stands.is_fn) ∙ m) in
             class_has_stake code s g h frame callers top c.0 r all.good.fine e c.1
         by (inr (o, t, w)) =
             let x = touched_home code s g h frame callers instr top o checked all.good e at cur t in

@@ -27,7 +27,6 @@ use Rattle.rgo_region_machine.specs.Owed.{current, current_in, function_at, next
 use Rattle.rgo_region_machine.specs.States.{Duty, Holder, RegionState, Remove, frames_in, frames_of, top_names}
 use Rattle.rgo_region_machine.specs.declared.regions.Region.{Region}
 use Rattle.rgo_sound.proofs.Acting.{after, Acted, alone, alone_is}
-use Rattle.rgo_sound.specs.Invariant.{IsSimple}
 use Rattle.rgo_tac.specs.Frames.{Frame, going, moved_to, value_at, values_of}
 use Rattle.rgo_tac.specs.Code.{TacFn}
 use Rattle.rgo_tac.specs.Steps.{at_function, instr_of, stand, stand_at, stand_before}
@@ -52,6 +51,16 @@ abbrev pub Allots : Option Region → Option Object → List Region → Type 0
 Allots region None given = given ≡ []
 Allots None (Some object) given = ⊥
 Allots (Some r) (Some object) given = given ≡ r ∷ []
+
+-- no call, no start and no return
+abbrev pub IsSimple : CodeOp → Type 0
+IsSimple (Do to action from removes) = Unit {0}
+IsSimple (Call to n from passes protects removes) = ⊥
+IsSimple (Go n from passes removes) = ⊥
+IsSimple (Print pieces from removes) = Unit {0}
+IsSimple (Jump j removes) = Unit {0}
+IsSimple (Branch v j removes k others) = Unit {0}
+IsSimple (Return value) = ⊥
 
 -- a frame's instruction in the erased code
 pub current_erased : (code : Code) (frame : Frame) → instr_of (erased code) frame
@@ -136,14 +145,40 @@ stands_at_channel code frame callers = subst (λ o. StandsAt code frame callers 
             channel Slice from is = tt
             channel Chan from is = tt
             channel Recv [] is = tt
-            channel Recv (c ∷ []) is = record { frame = frame; callers = callers; at = refl; instr = instr; cur =
-                q; to = to; channel = c; removes = removes; is = is; channel_is = refl; goes = λ v. refl }
+            channel Recv (c ∷ []) is = record {
+              frame = frame;
+              callers = callers;
+              at = refl;
+              instr = instr;
+              cur =
+                  q;
+              to = to;
+              channel = c;
+              removes = removes;
+              is = is;
+              channel_is = refl;
+              goes = λ v. refl;
+            }
             channel Recv (c ∷ d ∷ more) is = tt
             channel Send [] is = tt
             channel Send (c ∷ []) is = tt
-            channel Send (c ∷ v ∷ []) is = record { frame = frame; callers = callers; at = refl; instr = instr; cur =
-                q; to = to; channel = c; sent = v; removes = removes; is = is; channel_is = refl; sent_is = refl; goes =
-                refl }
+            channel Send (c ∷ v ∷ []) is = record {
+              frame = frame;
+              callers = callers;
+              at = refl;
+              instr = instr;
+              cur =
+                  q;
+              to = to;
+              channel = c;
+              sent = v;
+              removes = removes;
+              is = is;
+              channel_is = refl;
+              sent_is = refl;
+              goes =
+                  refl;
+            }
             channel Send (c ∷ v ∷ w ∷ more) is = tt
             channel Close [] is = tt
             channel Close (c ∷ []) is = tt
@@ -190,16 +225,38 @@ action_edge op frame to action from removes is = subst (λ (o : CodeOp).
 pub receive_goes : {code : Code} → {frames : List Frame} → {c : Value} → {go_on : Value → List Frame}
     → ReceivesAt code frames c go_on → (v : Value) → OnFrom code frames (go_on v)
 receive_goes x v =
-    record { frame = x.frame; callers = x.callers; at = x.at; instr = x.instr; cur = x.cur; simple =
-        subst IsSimple (sym x.is) tt; frame' = going x.frame x.to v; next_is = x.goes v; function = refl; edge =
-        action_edge x.instr.op x.frame x.to Recv (x.channel ∷ []) x.removes x.is }
+    record {
+      frame = x.frame;
+      callers = x.callers;
+      at = x.at;
+      instr = x.instr;
+      cur = x.cur;
+      simple =
+          subst IsSimple (sym x.is) tt;
+      frame' = going x.frame x.to v;
+      next_is = x.goes v;
+      function = refl;
+      edge =
+          action_edge x.instr.op x.frame x.to Recv (x.channel ∷ []) x.removes x.is;
+    }
 
 pub send_goes : {code : Code} → {frames : List Frame} → {c v : Value} → {next : List Frame}
     → SendsAt code frames c v next → OnFrom code frames next
 send_goes x =
-    record { frame = x.frame; callers = x.callers; at = x.at; instr = x.instr; cur = x.cur; simple =
-        subst IsSimple (sym x.is) tt; frame' = going x.frame x.to value.Nil; next_is = x.goes; function = refl; edge =
-        action_edge x.instr.op x.frame x.to Send (x.channel ∷ x.sent ∷ []) x.removes x.is }
+    record {
+      frame = x.frame;
+      callers = x.callers;
+      at = x.at;
+      instr = x.instr;
+      cur = x.cur;
+      simple =
+          subst IsSimple (sym x.is) tt;
+      frame' = going x.frame x.to value.Nil;
+      next_is = x.goes;
+      function = refl;
+      edge =
+          action_edge x.instr.op x.frame x.to Send (x.channel ∷ x.sent ∷ []) x.removes x.is;
+    }
 
 pub after_simple : (code : Code) (h : Holder) (frame : Frame) (callers : List Frame) (op : CodeOp) (next : List Frame)
     → IsSimple op → holder_after code h frame callers op next
@@ -214,8 +271,10 @@ after_simple code h frame callers (Return value) next simple = absurd simple
 
 -- the holder of one side
 abbrev pub gone_on : {code : Code} → {frames next : List Frame} → OnFrom code frames next → Holder → Holder
-gone_on {code} x h = record h { duties = map Remove (removes_behind x.frame x.instr.op)
-    ++ next_duties code (x.frame' ∷ x.callers) }
+gone_on {code} x h = record h {
+  duties = map Remove (removes_behind x.frame x.instr.op)
+      ++ next_duties code (x.frame' ∷ x.callers);
+}
 
 pub side_is : (code : Code) (h : Holder) (frames next : List Frame) (x : OnFrom code frames next)
     → side_after code h frames next ≡ gone_on x h
@@ -296,14 +355,32 @@ one_done code page_words s g = runs s.plain.ended refl
         at None c r = yields_none
         at (Some instr) c r =
             yields_with (λ (given : Holder × List Region). SameHolder h given.0
-                × Allots (making_region (function_at code frame) (top_names h.environments) instr.op)
-                (new_object s.plain (after s.plain g a)) given.1)
-                (some_instructed code s g frame callers instr (after s.plain g a)) _
-                (allotted_is page_words h (making_region (function_at code frame) (top_names h.environments) instr.op)
-                (new_object s.plain (after s.plain g a)))
-            (λ given x. record { fact = record { running = e0; h = h; there = w; frame = frame; callers = callers; at =
-                q; instr = instr; cur = c; ready = ready_is code s h frame callers instr c r; a = a; acts = e; given =
-                given; same = x.0; allots = x.1; is = refl } })
+            × Allots (making_region (function_at code frame) (top_names h.environments) instr.op)
+            (new_object s.plain (after s.plain g a)) given.1)
+            (some_instructed code s g frame callers instr (after s.plain g a)) _
+            (allotted_is page_words h (making_region (function_at code frame) (top_names h.environments) instr.op)
+            (new_object s.plain (after s.plain g a)))
+            (λ given x. record {
+              fact = record {
+                running = e0;
+                h = h;
+                there = w;
+                frame = frame;
+                callers = callers;
+                at =
+                    q;
+                instr = instr;
+                cur = c;
+                ready = ready_is code s h frame callers instr c r;
+                a = a;
+                acts = e;
+                given =
+                    given;
+                same = x.0;
+                allots = x.1;
+                is = refl;
+              };
+            })
 
     acted : s.plain.ended ≡ None → (frames : List Frame) → slice_get s.plain.goroutines g ≡ Some frames
         → (o : Option Acted) → alone (erased code) s.plain.memory frames ≡ o
@@ -320,7 +397,7 @@ one_done code page_words s g = runs s.plain.ended refl
     go e0 None q = yields_none
     go e0 (Some frames) q =
         subst (λ x. Yields (OneDone code page_words s g) (option_and_then (instruct code page_words s (One g)) x))
-            (sym (alone_is (erased code) s.plain g e0 frames q))
+        (sym (alone_is (erased code) s.plain g e0 frames q))
         (acted e0 frames q (alone (erased code) s.plain.memory frames) refl)
 
     runs : (ended : Option End) → s.plain.ended ≡ ended → Yields (OneDone code page_words s g)
@@ -328,20 +405,6 @@ one_done code page_words s g = runs s.plain.ended refl
         (unless_ended ended (picked (tac (erased code)) s.plain (One g))))
     runs None e0 = go e0 (slice_get s.plain.goroutines g) refl
     runs (Some x) e0 = yields_none
-
--- the instruction is the one that stands there
-pub instr_is : (code : Code) (page_words : ℕ) (s t : RegionState) (g : ℕ) (x : OneDone code page_words s g t)
-    (frame : Frame) (callers : List Frame) (instr : CodeInstr) → frames_of s.plain g ≡ frame ∷ callers
-    → current code frame ≡ Some instr → x.instr ≡ instr
-instr_is code page_words s t g x frame callers instr at cur =
-    the_same x.instr instr (sym x.cur ∙ ap (current code)
-    (head x.frame frame x.callers callers (sym (ap frames_in x.at) ∙ at)) ∙ cur)
-  where
-    the_same : (x y : CodeInstr) → Some x ≡ Some y → x ≡ y
-    the_same x y e = cc
-
-    head : (f g : Frame) (fs gs : List Frame) → f ∷ fs ≡ g ∷ gs → f ≡ g
-    head f g fs gs e = cc
 
 -- ---- a meeting
 
@@ -399,9 +462,9 @@ meet_done code page_words s r u = runs s.plain.ended refl
     both e0 ne a b qa qb c d v go_on next x y m (Some h) None e e' = yields_none
     both e0 ne a b qa qb c d v go_on next x y m (Some h) (Some k) e e' =
         yields_where (is_ready code s h (frames_of s.plain r) && is_ready code s k (frames_of s.plain u) && standing_at
-            k.offer) _ (λ w.
+        k.offer) _ (λ w.
         let w1 = and_split (is_ready code s h (frames_of s.plain r) && is_ready code s k (frames_of s.plain u))
-            (standing_at k.offer) w in
+        (standing_at k.offer) w in
         let w2 = and_split (is_ready code s h (frames_of s.plain r)) (is_ready code s k (frames_of s.plain u)) w1.0 in
         record {
           fact = record {
@@ -437,7 +500,7 @@ meet_done code page_words s r u = runs s.plain.ended refl
                 (record (side_after code k (frames_of s.plain u) (frames_of (met_with s.plain r u (go_on v) next) u))
                 { offer = taken_offer k.offer })) receiver_side
                 ∙ ap (λ (z : Holder). slice_set (slice_set s.holders r (gone_on (receive_goes x v) h)) u
-                    (record z { offer = taken_offer k.offer })) sender_side;
+                (record z { offer = taken_offer k.offer })) sender_side;
           };
         })
       where
@@ -449,7 +512,7 @@ meet_done code page_words s r u = runs s.plain.ended refl
         receiver_side =
             ap (λ f. side_after code h f (frames_of (met_with s.plain r u (go_on v) next) r)) (ap frames_in qa)
             ∙ ap (side_after code h a) (ap frames_in (get_set_other (slice_set s.plain.goroutines r (go_on v)) u r next
-                (flip r u ne) ∙ get_set_same s.plain.goroutines r a (go_on v) qa))
+            (flip r u ne) ∙ get_set_same s.plain.goroutines r a (go_on v) qa))
             ∙ side_is code h a (go_on v) (receive_goes x v)
 
         sender_side : side_after code k (frames_of s.plain u) (frames_of (met_with s.plain r u (go_on v) next) u)
@@ -457,7 +520,7 @@ meet_done code page_words s r u = runs s.plain.ended refl
         sender_side =
             ap (λ f. side_after code k f (frames_of (met_with s.plain r u (go_on v) next) u)) (ap frames_in qb)
             ∙ ap (side_after code k b) (ap frames_in (get_set_same (slice_set s.plain.goroutines r (go_on v)) u b next
-                sender_there))
+            sender_there))
             ∙ side_is code k b next (send_goes y)
 
     met_from : s.plain.ended ≡ None → nat_eq r u ≡ false → (a b : List Frame) → slice_get s.plain.goroutines r ≡ Some a

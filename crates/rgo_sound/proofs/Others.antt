@@ -19,7 +19,6 @@ use Rattle.rgo_sound.proofs.ReturnStates.{fine_return}
 use Rattle.rgo_sound.proofs.Meets.{fine_meet}
 use Rattle.rgo_sound.proofs.Starts.{fine_start_of}
 use Rattle.rgo_sound.proofs.Ruled.{ruled}
-use Rattle.rgo_sound.proofs.RunLemmas.{run_keeps}
 use Rattle.rgo_code.specs.Checked.{IsChecked}
 use Rattle.rgo_code.specs.Code.{Branch, Call, Code, CodeFn, CodeInstr, CodeOp, Do, Go, Jump, Print, Return, Slot}
 use Rattle.rgo_code.specs.Erasure.{erased, erased_fn}
@@ -40,7 +39,8 @@ use Rattle.rgo_region_machine.specs.States.{frames_of}
 use Rattle.rgo_region_machine.specs.declared.limits.Limit.{Limit}
 use Rattle.rgo_region_machine.specs.declared.regions.Region.{Region}
 use Rattle.rgo_region_machine.specs.declared.regions.Region.TheVariants.{Global as GlobalRegion, Numbered}
-use Rattle.rgo_sound.specs.Invariant.{Fine, GoodHolder, IsFree, IsReady, IsSimple, RunsAreFine, Settled}
+use Rattle.rgo_sound.specs.Invariant.{Fine, GoodHolder, IsFree, IsReady, Settled}
+use Rattle.rgo_sound.proofs.OneStep.{IsSimple}
 use Rattle.rgo_sound.specs.Stakes.{holders_of, is_in, one_if, pending_of, times_in, total}
 use Rattle.rgo_tac.specs.Code.{TacFn}
 use Rattle.rgo_tac.specs.Frames.{Frame, called}
@@ -68,9 +68,9 @@ module _ (code : Code) (page_words : ℕ) (s : RegionState) (fine : Fine code s)
       (same_good g h _ h.offer e)
   fine_page g h (Numbered r) e =
       fine_with code s g h (record h { fills = with_fill h.fills (Numbered r) 0 }) (with_info s.regions r one_page_more)
-          fine e (omega (arith, long)) (same_good g h _ h.offer e)
-          (λ q i. let x = fine.made g h q e i in omega (arith, x, long))
-          (λ q i. let x = fine.pended g h q e i in omega (arith, x, long)) counts
+      fine e (omega (arith, long)) (same_good g h _ h.offer e)
+      (λ q i. let x = fine.made g h q e i in omega (arith, x, long))
+      (λ q i. let x = fine.pended g h q e i in omega (arith, x, long)) counts
     where
       long : length (with_info s.regions r one_page_more) ≡ length s.regions
       long = length_with_info s.regions r one_page_more
@@ -88,9 +88,9 @@ module _ (code : Code) (page_words : ℕ) (s : RegionState) (fine : Fine code s)
               ≡ holders_of s q + pending_of s q
           here t (o, p) =
               let v : Some info ≡ Some (one_page_more o) = sym i
-                  ∙ subst (λ x. slice_get (with_info s.regions r one_page_more) x
-                  ≡ option_map one_page_more (slice_get s.regions x)) (eq_of r q t)
-                  (with_info_same s.regions r one_page_more) ∙ ap (option_map one_page_more) p in
+              ∙ subst (λ x. slice_get (with_info s.regions r one_page_more) x
+              ≡ option_map one_page_more (slice_get s.regions x)) (eq_of r q t)
+              (with_info_same s.regions r one_page_more) ∙ ap (option_map one_page_more) p in
               ap (λ (x : RegionInfo). x.stakes) (the_same info (one_page_more o) v) ∙ fine.counted q o p
 
       counts : (q : ℕ) (info : RegionInfo) → slice_get (with_info s.regions r one_page_more) q ≡ Some info → info.stakes
@@ -100,9 +100,9 @@ module _ (code : Code) (page_words : ℕ) (s : RegionState) (fine : Fine code s)
           (record h { fills = with_fill h.fills (Numbered r) 0 }))
       counts q info i =
           let a = total_set (λ (x : Holder). one_if (is_in q x.stakes)) s.holders g h
-              (record h { fills = with_fill h.fills (Numbered r) 0 }) e in
+          (record h { fills = with_fill h.fills (Numbered r) 0 }) e in
           let b = total_set (λ (x : Holder). times_in q x.pending) s.holders g h
-              (record h { fills = with_fill h.fills (Numbered r) 0 }) e in
+          (record h { fills = with_fill h.fills (Numbered r) 0 }) e in
           let c = old q info i in
           omega (arith, a, b, c)
 
@@ -132,8 +132,14 @@ module _ (code : Code) (page_words : ℕ) (s : RegionState) (fine : Fine code s)
   fine_acknowledge g h (Taken o) e = yields_if _ _ _ (fine_offer g h NoOffer e) yields_none
 
   fine_finish : (limit : Limit) → Fine code (finished s limit)
-  fine_finish limit = record { as_many = fine.as_many; each = fine.each; counted = fine.counted; made =
-      fine.made; pended = fine.pended }
+  fine_finish limit = record {
+    as_many = fine.as_many;
+    each = fine.each;
+    counted = fine.counted;
+    made =
+        fine.made;
+    pended = fine.pended;
+  }
 
   fine_attend : (g : ℕ) → Yields (Fine code) (region_step code page_words s (Attend g))
   fine_attend g = yields_at (slice_get s.holders g) (λ (h : Holder). attend s g h h.duties)
@@ -156,7 +162,7 @@ module _ (code : Code) (page_words : ℕ) (s : RegionState) (fine : Fine code s)
           does t =
               let x = duties_go code page_words s g h fine e (λ z. some_none (sym q ∙ z)) t in
               let y : attend s g h h.duties ≡ Some x.0 = sym (ap
-                  (option_and_then (λ (k : Holder). attend s g k k.duties)) e) ∙ x.1 in
+              (option_and_then (λ (k : Holder). attend s g k k.duties)) e) ∙ x.1 in
               subst (λ o. Yields (Fine code) o) (sym y) (yields x.0 x.2)
             where
               some_none : d ∷ ds ≡ [] → ⊥
@@ -203,7 +209,7 @@ first_main : (fs : List TacFn) (m n : ℕ) (f : TacFn) → slice_get fs m ≡ So
 first_main [] m n f e t b = cc
 first_main (g ∷ fs) zero n f e t b =
     ap (λ x. if x then called g n [] ∷ [] else main_frames fs (suc n))
-        (ap (λ (x : TacFn). bytes_eq x.name (codes "main")) (the_same g f e) ∙ t)
+    (ap (λ (x : TacFn). bytes_eq x.name (codes "main")) (the_same g f e) ∙ t)
     ∙ ap (λ (x : TacFn). called x n [] ∷ []) (the_same g f e)
     ∙ ap (λ k. called f k [] ∷ []) (add_zero n)
   where
@@ -283,8 +289,8 @@ main_of code checked =
     before k f l q =
         split (bytes_eq f.name (codes "main"))
         (λ t. absurd ((checked rule.Exists (line.Function has.number) there.0 there.1).is_new k (codes "main") l
-            (names_at has.number has.main has.declared ∙ ap Some has.named)
-            (names_at k f q ∙ ap Some ((bytes_eq-Decides f.name (codes "main")).0 t))))
+        (names_at has.number has.main has.declared ∙ ap Some has.named)
+        (names_at k f q ∙ ap Some ((bytes_eq-Decides f.name (codes "main")).0 t))))
         (λ n. n)
 
 no_elements : (ks : List ℕ) → ((k : ℕ) → Contains ks k → ⊥) → ks ≡ []
@@ -324,10 +330,10 @@ fine_start code checked written =
     ready : IsReady (IsFree start.main 0) (Settled start.main 0 first.0) (duties_before (Some first.0)) [] []
     ready =
         subst (λ x. IsReady (IsFree start.main 0) (Settled start.main 0 first.0)
-            (map Remove x ++ duties_before (Some first.0)) [] []) no_entry
+        (map Remove x ++ duties_before (Some first.0)) [] []) no_entry
         (enters code start.main first.0 [] ((ruled code checked written).kept start.number 0 start.main first.0
-            start.declared first.1) enters_rightly (checked rule.Entry (line.Entry start.number) start.main
-            start.declared) (ascending_distinct start.main.entry (written start.number start.main start.declared).entry)
+        start.declared first.1) enters_rightly (checked rule.Entry (line.Entry start.number) start.main
+        start.declared) (ascending_distinct start.main.entry (written start.number start.main start.declared).entry)
         (λ k p. absurd (no_parameter k p)) (λ k r. absurd (clash k r)) (λ k o n. refl))
       where
         clash : (k : ℕ) → result_class start.main ≡ Name k → ⊥
@@ -337,12 +343,28 @@ fine_start code checked written =
         (main_holder code (called (erased_fn start.main) start.number [] ∷ []))
     good =
         record {
-          core = record { unique = (tt, tt); staked = ((λ k r b. cc), (λ r i. absurd (true≢false (sym i))), tt); based =
-              λ r i. absurd (true≢false (sym i)); once = λ r i. absurd (true≢false (sym i)); lent =
-              ((λ k r l b u. cc), tt) };
-          fit = (record { fn = start.main; is_fn = start.declared; instr = first.0; is_instr = first.1; lends =
-              no_result; ready = subst (λ x. IsReady (IsFree start.main 0) (Settled start.main 0 first.0)
-              (duties_before x) [] []) (sym cur) ready }, tt);
+          core = record {
+            unique = (tt, tt);
+            staked = ((λ k r b. cc), (λ r i. absurd (true≢false (sym i))), tt);
+            based =
+                λ r i. absurd (true≢false (sym i));
+            once = λ r i. absurd (true≢false (sym i));
+            lent =
+                ((λ k r l b u. cc), tt);
+          };
+          fit = (
+            record {
+              fn = start.main;
+              is_fn = start.declared;
+              instr = first.0;
+              is_instr = first.1;
+              lends =
+                  no_result;
+              ready = subst (λ x. IsReady (IsFree start.main 0) (Settled start.main 0 first.0)
+                  (duties_before x) [] []) (sym cur) ready;
+            },
+            tt,
+          );
           base_once = tt;
           shares = shares_next code (called (erased_fn start.main) start.number [] ∷ []) [] tt [];
         }
@@ -372,8 +394,3 @@ fine_start code checked written =
     unpended zero h r q i = let x : 0 ≡ times_in r h.pending =
         ap (λ (x : Holder). times_in r x.pending) (the_same _ h q) in absurd (omega (arith, x, i))
     unpended (suc g) h r q i = cc
-
-pub runs_are_fine : RunsAreFine
-runs_are_fine code page_words events s checked written r =
-    run_keeps code page_words (Fine code) (λ t e fine. fine_step code page_words t fine e checked written) events
-    (region_start code) s (fine_start code checked written) r

@@ -99,14 +99,22 @@ makes_action structs (Load k) ty vs m = absurd (true≢false (sym m))
 makes_action structs (Store k) ty vs m = absurd (true≢false (sym m))
 makes_action structs At ty vs m = absurd (true≢false (sym m))
 makes_action structs Put ty vs m = absurd (true≢false (sym m))
-makes_action structs (New n) ty [] m = record { effect = λ m. new_struct structs n m; performs = λ m. refl; view =
-    by (slice_get structs n) }
+makes_action structs (New n) ty [] m = record {
+  effect = λ m. new_struct structs n m;
+  performs = λ m. refl;
+  view =
+      by (slice_get structs n);
+}
   where
     by : (o : Option Struct) → MakesView (λ m. made_struct o m)
     by None = idles (λ m. refl)
     by (Some s) = makes (StructObject (map zero_of s.fields)) (λ m. refl)
-makes_action structs (New n) ty (v ∷ []) m = record { effect = λ m. nothing m; performs = λ m. refl; view =
-    idles (λ m. refl) }
+makes_action structs (New n) ty (v ∷ []) m = record {
+  effect = λ m. nothing m;
+  performs = λ m. refl;
+  view =
+      idles (λ m. refl);
+}
 makes_action structs (New n) ty (v ∷ w ∷ []) m = record
     { effect = λ m. nothing m; performs = λ m. refl; view = idles (λ m. refl) }
 makes_action structs (New n) ty (v ∷ w ∷ x ∷ []) m = record
@@ -114,19 +122,35 @@ makes_action structs (New n) ty (v ∷ w ∷ x ∷ []) m = record
 makes_action structs (New n) ty (v ∷ w ∷ x ∷ y ∷ vs) m =
     record { effect = λ m. nothing m; performs = λ m. refl; view = idles (λ m. refl) }
 makes_action structs Slice ty [] m = record { effect = λ m. nothing m; performs = λ m. refl; view = idles (λ m. refl) }
-makes_action structs Slice ty (v ∷ []) m = record { effect = λ m. new_slice ty v m; performs = λ m. refl; view =
-    sized_view (λ n. SliceObject (replicate n (element_zero ty))) v }
-makes_action structs Slice ty (v ∷ w ∷ []) m = record { effect = λ m. nothing m; performs = λ m. refl; view =
-    idles (λ m. refl) }
+makes_action structs Slice ty (v ∷ []) m = record {
+  effect = λ m. new_slice ty v m;
+  performs = λ m. refl;
+  view =
+      sized_view (λ n. SliceObject (replicate n (element_zero ty))) v;
+}
+makes_action structs Slice ty (v ∷ w ∷ []) m = record {
+  effect = λ m. nothing m;
+  performs = λ m. refl;
+  view =
+      idles (λ m. refl);
+}
 makes_action structs Slice ty (v ∷ w ∷ x ∷ []) m = record
     { effect = λ m. nothing m; performs = λ m. refl; view = idles (λ m. refl) }
 makes_action structs Slice ty (v ∷ w ∷ x ∷ y ∷ vs) m = record
     { effect = λ m. nothing m; performs = λ m. refl; view = idles (λ m. refl) }
 makes_action structs Chan ty [] m = record { effect = λ m. nothing m; performs = λ m. refl; view = idles (λ m. refl) }
-makes_action structs Chan ty (v ∷ []) m = record { effect = λ m. new_channel v m; performs = λ m. refl; view =
-    sized_view (λ n. Channel n [] false) v }
-makes_action structs Chan ty (v ∷ w ∷ []) m = record { effect = λ m. nothing m; performs = λ m. refl; view =
-    idles (λ m. refl) }
+makes_action structs Chan ty (v ∷ []) m = record {
+  effect = λ m. new_channel v m;
+  performs = λ m. refl;
+  view =
+      sized_view (λ n. Channel n [] false) v;
+}
+makes_action structs Chan ty (v ∷ w ∷ []) m = record {
+  effect = λ m. nothing m;
+  performs = λ m. refl;
+  view =
+      idles (λ m. refl);
+}
 makes_action structs Chan ty (v ∷ w ∷ x ∷ []) m = record
     { effect = λ m. nothing m; performs = λ m. refl; view = idles (λ m. refl) }
 makes_action structs Chan ty (v ∷ w ∷ x ∷ y ∷ vs) m = record
@@ -398,10 +422,22 @@ module _ (code : Code) (page_words : ℕ) (s : RegionState) (paged : Paged code 
   moved_full : (p q : TacState) (g : ℕ) (h k : Holder) → frames_of q g ≡ frames_of p g → k.duties ≡ h.duties
       → k.environments ≡ h.environments → k.fills ≡ h.fills → Full code page_words p g h → Full code page_words q g k
   moved_full p q g h k fr d sh fl x =
-      record { frame = x.frame; callers = x.callers; at = fr ∙ x.at; instr = x.instr; cur = x.cur; none =
-          d ∙ x.none; region = x.region; making = ap (λ y. making_region (function_at code x.frame) (top_names y)
-          x.instr.op) sh ∙ x.making; n = x.n; fitting = ap (λ y. fits page_words (fill_of y x.region) x.n) fl
-          ∙ x.fitting; next = x.next }
+      record {
+        frame = x.frame;
+        callers = x.callers;
+        at = fr ∙ x.at;
+        instr = x.instr;
+        cur = x.cur;
+        none =
+            d ∙ x.none;
+        region = x.region;
+        making = ap (λ y. making_region (function_at code x.frame) (top_names y)
+            x.instr.op) sh ∙ x.making;
+        n = x.n;
+        fitting = ap (λ y. fits page_words (fill_of y x.region) x.n) fl
+            ∙ x.fitting;
+        next = x.next;
+      }
 
   -- one goroutine has another holder, and no page is taken
   paged_with : (t : RegionState) (g : ℕ) (h k : Holder) → slice_get s.holders g ≡ Some h → t.plain ≡ s.plain → t.holders
@@ -430,10 +466,10 @@ module _ (code : Code) (page_words : ℕ) (s : RegionState) (paged : Paged code 
       each j x q w =
           split (nat_eq g j)
           (λ t. subst (λ (y : Holder). Full code page_words s.plain j y)
-              (the_same k x (sym (get_set_same s.holders g h k e)
-              ∙ ap (slice_get (slice_set s.holders g k)) (eq_of g j t) ∙ q))
-              (subst (λ i. Full code page_words s.plain i k) (eq_of g j t)
-              (still (paged.full g h e (ap paged.c (eq_of g j t) ∙ w)))))
+          (the_same k x (sym (get_set_same s.holders g h k e)
+          ∙ ap (slice_get (slice_set s.holders g k)) (eq_of g j t) ∙ q))
+          (subst (λ i. Full code page_words s.plain i k) (eq_of g j t)
+          (still (paged.full g h e (ap paged.c (eq_of g j t) ∙ w)))))
           (λ n. paged.full j x (sym (get_set_other s.holders g j k n) ∙ q) w)
 
   -- duties
@@ -464,8 +500,11 @@ module _ (code : Code) (page_words : ℕ) (s : RegionState) (paged : Paged code 
         (kept _ (record k { pending = r ∷ k.pending }) refl refl (infos r one_more (λ i. refl)))) yields_none
 
     done : (k : Holder) (d : Duty) → Yields (Paged code page_words) (duty_done s g k d)
-    done k (Create n) = kept _ (record k { stakes = length s.regions ∷ k.stakes; environments =
-        with_top k.environments ((n, Numbered (length s.regions)) ∷ unbind (top_names k.environments) n) }) refl refl
+    done k (Create n) = kept _ (record k {
+      stakes = length s.regions ∷ k.stakes;
+      environments =
+          with_top k.environments ((n, Numbered (length s.regions)) ∷ unbind (top_names k.environments) n);
+    }) refl refl
         (let a = sum_by_push (λ (i : RegionInfo). i.pages) s.regions (record { stakes = 1; pages = 0 }) in
         omega (arith, a))
     done k (Share n) = yields_then (shared s g k) _ (shares k)
@@ -506,8 +545,14 @@ module _ (code : Code) (page_words : ℕ) (s : RegionState) (paged : Paged code 
       (paged_with _ g h (record h { offer = NoOffer }) e refl refl refl (same_full g h NoOffer))) yields_none
 
   paged_finish : (limit : Limit) → Paged code page_words (finished s limit)
-  paged_finish limit = record { c = paged.c; small = paged.small; beyond = paged.beyond; counted = paged.counted; full =
-      λ g h e w. paged.full g h e w }
+  paged_finish limit = record {
+    c = paged.c;
+    small = paged.small;
+    beyond = paged.beyond;
+    counted = paged.counted;
+    full =
+        λ g h e w. paged.full g h e w;
+  }
 
   -- ---- a page is taken
 
@@ -589,16 +634,16 @@ module _ (code : Code) (page_words : ℕ) (s : RegionState) (paged : Paged code 
                   let tl : f.callers ≡ callers = the_tails f.frame frame f.callers callers (sym f.at ∙ at) in
                   let i : f.instr ≡ instr = the_instr f.instr instr (sym f.cur ∙ ap (current code) fr ∙ cur) in
                   let rr : f.region ≡ r = the_region f.region r (sym f.making
-                      ∙ ap (λ (y : CodeInstr). making_region (function_at code f.frame) (top_names h.environments) y.op)
-                      i ∙ ap (λ y. making_region (function_at code y) (top_names h.environments) instr.op) fr ∙ making)
-                      in
+                  ∙ ap (λ (y : CodeInstr). making_region (function_at code f.frame) (top_names h.environments) y.op)
+                  i ∙ ap (λ y. making_region (function_at code y) (top_names h.environments) instr.op) fr ∙ making)
+                  in
                   let o = MakesNext.same f.next s.plain.memory act'.0
-                      (ap (λ y. alone (erased code) s.plain.memory (y ∷ f.callers)) fr
-                      ∙ ap (λ y. alone (erased code) s.plain.memory (frame ∷ y)) tl ∙ act'.1) in
+                  (ap (λ y. alone (erased code) s.plain.memory (y ∷ f.callers)) fr
+                  ∙ ap (λ y. alone (erased code) s.plain.memory (frame ∷ y)) tl ∙ act'.1) in
                   let n : words x ≡ f.n = ap words (the_object x o.0 (sym act'.2 ∙ o.1)) ∙ o.2 in
                   true≢false (sym f.fitting ∙ ap (λ y. fits page_words (fill_of h.fills y) f.n) rr
-                      ∙ ap (fits page_words (fill_of h.fills r)) (sym n)
-                      ∙ no_true (fits page_words (fill_of h.fills r) (words x)) small.1)
+                  ∙ ap (fits page_words (fill_of h.fills r)) (sym n)
+                  ∙ no_true (fits page_words (fill_of h.fills r) (words x)) small.1)
 
               go : (n : ℕ) → paged.c g ≡ n → n ≤ 1 → paged.c g ≡ 0
               go zero e l = e
@@ -662,11 +707,11 @@ module _ (code : Code) (page_words : ℕ) (s : RegionState) (paged : Paged code 
               each j y q w =
                   split (nat_eq g j)
                   (λ u. subst (λ (z : Holder). Full code page_words s.plain j z)
-                      (the_same k y (sym (get_set_same s.holders g h k there)
-                      ∙ ap (slice_get (slice_set s.holders g k)) (eq_of g j u) ∙ q))
-                      (subst (λ i. Full code page_words s.plain i k) (eq_of g j u) full_now))
+                  (the_same k y (sym (get_set_same s.holders g h k there)
+                  ∙ ap (slice_get (slice_set s.holders g k)) (eq_of g j u) ∙ q))
+                  (subst (λ i. Full code page_words s.plain i k) (eq_of g j u) full_now))
                   (λ n. paged.full j y (sym (get_set_other s.holders g j k n) ∙ q)
-                      (sym (at_other paged.c g 1 j (flip g j n)) ∙ w))
+                  (sym (at_other paged.c g 1 j (flip g j n)) ∙ w))
 
           by : (q : Region) → r ≡ q → Paged code page_words (page_taken s g h r)
           by GlobalRegion e' = subst (λ z. Paged code page_words (page_taken s g h z)) (sym e')
@@ -694,9 +739,9 @@ module _ (code : Code) (page_words : ℕ) (s : RegionState) (paged : Paged code 
       region_of i cur None m = yields_none
       region_of i cur (Some r) m =
           yields_where (has_none h.duties && may_go h.offer && is_live s.regions r && wants_page page_words
-              (fill_of h.fills r) (next_object code s g)) _ (λ w.
+          (fill_of h.fills r) (next_object code s g)) _ (λ w.
           let x = all_four (has_none h.duties) (may_go h.offer) (is_live s.regions r)
-              (wants_page page_words (fill_of h.fills r) (next_object code s g)) w in
+          (wants_page page_words (fill_of h.fills r) (next_object code s g)) w in
           yields _ (paged_take g h e frame callers at i cur r m x.0 x.1))
 
       instr : (o : Option CodeInstr) → current code frame ≡ o
@@ -772,14 +817,14 @@ module _ (code : Code) (page_words : ℕ) (s : RegionState) (paged : Paged code 
                   let cj : paged.c j ≡ 1 = sym (at_other paged.c g 0 j n) ∙ w in
                   let l : j < length s.holders = within (nat_lt j (length s.holders)) refl cj in
                   let old : slice_get s.holders j ≡ Some y = sym (get_set_other s.holders g j (after_of x) (flip j g n))
-                      ∙ sym (get_append_left (slice_set s.holders g (after_of x))
-                      (child_holder code x.given.0 x.instr.op (last_frames (after s.plain g x.a).goroutines)) j
-                      (let b = length_set s.holders g (after_of x) in omega (arith, b, l))) ∙ q in
+                  ∙ sym (get_append_left (slice_set s.holders g (after_of x))
+                  (child_holder code x.given.0 x.instr.op (last_frames (after s.plain g x.a).goroutines)) j
+                  (let b = length_set s.holders g (after_of x) in omega (arith, b, l))) ∙ q in
                   moved_full s.plain (instructed_with code s g x.frame x.callers x.instr (after s.plain g x.a)
-                      x.given).plain j y y
+                  x.given).plain j y y
                   (ap frames_in (get_append_left (slice_set s.plain.goroutines g x.a.frames) x.a.started j
-                      (let b = length_set s.plain.goroutines g x.a.frames in let c = fine.as_many in
-                      omega (arith, b, c, l)) ∙ get_set_other s.plain.goroutines g j x.a.frames (flip j g n)))
+                  (let b = length_set s.plain.goroutines g x.a.frames in let c = fine.as_many in
+                  omega (arith, b, c, l)) ∙ get_set_other s.plain.goroutines g j x.a.frames (flip j g n)))
                   refl refl refl (paged.full j y old cj)
                 where
                   lt_of : (a b : ℕ) → nat_lt a b ≡ true → a < b
@@ -850,11 +895,11 @@ module _ (code : Code) (page_words : ℕ) (s : RegionState) (paged : Paged code 
           (λ n. split (nat_eq r j)
           (λ e. absurd (not_r (ap paged.c (eq_of r j e) ∙ w)))
           (λ m. moved_full s.plain t.plain j y y (ap (λ p. frames_of p j) x.plain
-              ∙ ap frames_in (get_set_other (slice_set s.plain.goroutines r (x.go_on x.v)) u j x.next n
-              ∙ get_set_other s.plain.goroutines r j (x.go_on x.v) m)) refl refl refl
+          ∙ ap frames_in (get_set_other (slice_set s.plain.goroutines r (x.go_on x.v)) u j x.next n
+          ∙ get_set_other s.plain.goroutines r j (x.go_on x.v) m)) refl refl refl
           (paged.full j y (sym (get_set_other s.holders r j (gone_on (receive_goes x.receives x.v) x.h) m)
-              ∙ sym (get_set_other (slice_set s.holders r (gone_on (receive_goes x.receives x.v) x.h)) u j _ n) ∙ q)
-              w)))
+          ∙ sym (get_set_other (slice_set s.holders r (gone_on (receive_goes x.receives x.v) x.h)) u j _ n) ∙ q)
+          w)))
 
   paged_step : (event : Event) → Fine code s → Yields (Paged code page_words) (region_step code page_words s event)
   paged_step (Instruct (One g)) fine = yields_from _ (one_done code page_words s g) (λ t x. paged_one g t fine x)
@@ -899,6 +944,15 @@ pages_always code page_words events s checked written run =
     zero_one e = omega (arith, e)
 
     start : FinePaged code page_words (region_start code)
-    start = record { fine = fine_start code checked written; paged =
-        record { c = λ g. 0; small = λ g. omega arith; beyond = λ g l. refl; counted = omega arith; full =
-        λ g h e w. absurd (zero_one w) } }
+    start = record {
+      fine = fine_start code checked written;
+      paged =
+          record {
+            c = λ g. 0;
+            small = λ g. omega arith;
+            beyond = λ g l. refl;
+            counted = omega arith;
+            full =
+                λ g h e w. absurd (zero_one w);
+          };
+    }

@@ -44,7 +44,7 @@ pub argument_fits : (fn g : CodeFn) (from : List ℕ) (i v : ℕ) (formal : Slot
 argument_fits fn g from i v formal fit below at is =
     one from (take g.params (erased_fn g).variables) i fit at
     (taken g.params (erased_fn g).variables i below ∙ slice_get-map (λ (s : Slot). s.ty) g.variables i
-        ∙ ap (option_map (λ (s : Slot). s.ty)) is)
+    ∙ ap (option_map (λ (s : Slot). s.ty)) is)
   where
     taken : (n : ℕ) (tys : List «Type») (i : ℕ) → i < n → slice_get (take n tys) i ≡ slice_get tys i
     taken zero tys i h = absurd (omega (arith, h))
@@ -77,8 +77,11 @@ passable_from names (NoClass ∷ regions) h = absurd (go (h 0 NoClass refl))
     go (inl e) = cc
     go (inr (k, e, b)) = cc
 passable_from names (Global ∷ regions) h = passable_from names regions (λ p c e. h (suc p) c e)
-passable_from names (Name k ∷ regions) h = (go (h 0 (Name k) refl), passable_from names regions
-    (λ p c e. h (suc p) c e))
+passable_from names (Name k ∷ regions) h = (
+  go (h 0 (Name k) refl),
+  passable_from names regions
+      (λ p c e. h (suc p) c e),
+)
   where
     number : (j : ℕ) → Name k ≡ Name j → j ≡ k
     number j e = cc
@@ -119,7 +122,7 @@ module _ (fn g : CodeFn) (instr : CodeInstr) (to : Option ℕ) (from : List ℕ)
   of_variable v m formal c f h u =
       let t = slot_at fn v formal.ty h in
       classified names (class_of fn v) (λ n. same_kind formal t.0 m f (slots v t.0 t.1) c t.2
-          (sym (the_class v t.0 t.1) ∙ n)) (λ k e. named k (record { variable = v; used = u; named = e }))
+      (sym (the_class v t.0 t.1) ∙ n)) (λ k e. named k (record { variable = v; used = u; named = e }))
 
   slot_of : (o : Option Slot) (m : ℕ) → slot_class o ≡ Name m → (s : Slot) × (o ≡ Some s) × (s.class ≡ Name m)
   slot_of None m e = cc
@@ -141,7 +144,7 @@ module _ (fn g : CodeFn) (instr : CodeInstr) (to : Option ℕ) (from : List ℕ)
           is_passed : (actual d : Class) → d ≡ f → IsPassedFor (region_parameters g) passes d actual → actual ≡ c
           is_passed actual d h x =
               let x' : IsPassedFor (region_parameters g) passes (Name m.1.0) actual =
-                  subst (λ y. IsPassedFor (region_parameters g) passes y actual) (h ∙ m.1.1) x in
+              subst (λ y. IsPassedFor (region_parameters g) passes y actual) (h ∙ m.1.1) x in
               the_same actual c (sym (x' p (q ∙ ap Some m.1.1)) ∙ e)
 
           target : (o : Option ℕ) → to ≡ o → (s : Slot) → g.result ≡ Some s → (d : ℕ) × (to ≡ Some d)
@@ -152,7 +155,7 @@ module _ (fn g : CodeFn) (instr : CodeInstr) (to : Option ℕ) (from : List ℕ)
           target_type : (d : ℕ) (s : Slot) → to ≡ Some d → g.result ≡ Some s → HasType (erased_fn fn) d s.ty
           target_type d s t gr =
               let x : TargetFits (erased_fn fn) (Some (erased_fn g)) (Some d) =
-                  subst (λ o. TargetFits (erased_fn fn) (Some (erased_fn g)) o) t target_fits in
+              subst (λ o. TargetFits (erased_fn fn) (Some (erased_fn g)) o) t target_fits in
               x s.ty (ap (option_map (λ (s : Slot). s.ty)) gr)
 
           by : Contains (parameter_classes g.params g.variables) f ⊎ Contains (result_class g ∷ []) f → IsThere names c
@@ -161,17 +164,17 @@ module _ (fn g : CodeFn) (instr : CodeInstr) (to : Option ℕ) (from : List ℕ)
               let v = get_some from i.0 (let x = i.1 in omega (arith, x, args)) in
               let s = slot_of (slice_get g.variables i.0) m.1.0 (i.2 ∙ m.1.1) in
               subst (λ x. IsThere names x) (is_passed (class_of fn v.0) (class_of g i.0) i.2
-                  (fits.arguments i.0 v.0 i.1 v.1))
+              (fits.arguments i.0 v.0 i.1 v.1))
               (of_variable v.0 m.1.0 s.0 s.2 (formal_slots i.0 s.0 s.1)
-                  (argument_fits fn g from i.0 v.0 s.0 arguments_fit i.1 v.1 s.1)
-                  (read v.0 (get_contains from i.0 v.0 v.1)))
+              (argument_fits fn g from i.0 v.0 s.0 arguments_fit i.1 v.1 s.1)
+              (read v.0 (get_contains from i.0 v.0 v.1)))
           by (inr d) =
               let h : result_class g ≡ f = contains_one (result_class g) f d in
               let s = slot_of g.result m.1.0 (h ∙ m.1.1) in
               let t = target to refl s.0 s.1 in
               subst (λ x. IsThere names x) (is_passed (class_of fn t.0) (result_class g) h (fits.result t.0 t.1))
               (of_variable t.0 m.1.0 s.0 s.2 (subst (λ x. ResultFits x) s.1 result_fits) (target_type t.0 s.0 t.1 s.1)
-                  (written t.0 t.1))
+              (written t.0 t.1))
 
   pub all_passable : ArePassable names passes
   all_passable = passable_from names passes each

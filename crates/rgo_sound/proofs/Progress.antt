@@ -14,7 +14,7 @@ use Rattle.rgo_sound.proofs.Static.{named_bound}
 use Rattle.rgo_sound.proofs.Attends.{total_set, staked_live, duties_go, same_reflexive}
 use Rattle.rgo_sound.proofs.TypedSteps.{here, one_object}
 use Rattle.rgo_sound.proofs.ValueSteps.{Top, top_of}
-use Rattle.rgo_sound.proofs.Offers.{all_good_step, runs_all_good, touched_home, class_has_stake, at_send, alone_steady}
+use Rattle.rgo_sound.proofs.Offers.{all_good_step, runs_are_good, touched_home, class_has_stake, at_send, alone_steady}
 use Rattle.rgo_sound.proofs.Offers.{SteadyActed, makes_at, making_class}
 use Rattle.rgo_code.specs.Checked.{IsChecked}
 use Rattle.rgo_code.specs.Code.{Branch, Call, Code, CodeInstr, CodeOp, Do, Go, Jump, Print, Return, Slot}
@@ -129,9 +129,11 @@ module _ (s : RegionState) (g : ℕ) (k : Holder) where
       (same_attended s g k (record k { pending = r ∷ k.pending }) _ refl refl refl refl)) yields_none
 
   done_attends : (d : Duty) → Yields (Attended s g k) (duty_done s g k d)
-  done_attends (Create n) = same_attended s g k (record k
-      { stakes = length s.regions ∷ k.stakes; environments =
-      with_top k.environments ((n, Numbered (length s.regions)) ∷ unbind (top_names k.environments) n) }) _ refl refl
+  done_attends (Create n) = same_attended s g k (record k {
+    stakes = length s.regions ∷ k.stakes;
+    environments =
+        with_top k.environments ((n, Numbered (length s.regions)) ∷ unbind (top_names k.environments) n);
+  }) _ refl refl
       refl refl
   done_attends (Share n) = yields_then (shared s g k) _ share_attends
   done_attends (Protect n) = yields_then (protected s g k) _
@@ -166,8 +168,16 @@ module _ (code : Code) (page_words : ℕ) (checked : IsChecked code) (written : 
 
   now : (s : RegionState) (pick : Pick) → IsLike like pick → IsSome (region_step code page_words s (Instruct pick))
       → CanInstruct code page_words s like
-  now s pick is i = record { pick = pick; is_like = is; before = []; only_regions = tt; ready = s; leads = refl; steps =
-      i }
+  now s pick is i = record {
+    pick = pick;
+    is_like = is;
+    before = [];
+    only_regions = tt;
+    ready = s;
+    leads = refl;
+    steps =
+        i;
+  }
 
   good_at : (s t : RegionState) (event : Event) → AllGood code s → region_step code page_words s event ≡ Some t
       → AllGood code t
@@ -245,10 +255,15 @@ module _ (code : Code) (page_words : ℕ) (checked : IsChecked code) (written : 
           let step = acknowledges s g h o all e q in
           first_step s (attended s g (record h { offer = NoOffer })) (Acknowledge g) tt step
           (clear_duties h.duties (attended s g (record h { offer = NoOffer })) g (record h { offer = NoOffer })
-              (good_at s (attended s g (record h { offer = NoOffer })) (Acknowledge g) all step)
-              (get_set_same s.holders g h (record h { offer = NoOffer }) e) refl refl
-          (λ u k c dk mk. on u k (record { good = c.good; plain = c.plain; there = c.there; others =
-              λ j n. c.others j n ∙ get_set_other s.holders g j (record h { offer = NoOffer }) n }) dk mk))
+          (good_at s (attended s g (record h { offer = NoOffer })) (Acknowledge g) all step)
+          (get_set_same s.holders g h (record h { offer = NoOffer }) e) refl refl
+          (λ u k c dk mk. on u k (record {
+            good = c.good;
+            plain = c.plain;
+            there = c.there;
+            others =
+                λ j n. c.others j n ∙ get_set_other s.holders g j (record h { offer = NoOffer }) n;
+          }) dk mk))
 
   -- ---- a goroutine that is cleared is ready
 
@@ -391,7 +406,7 @@ module _ (code : Code) (checked : IsChecked code) (s : RegionState) (g : ℕ) (h
               ap (making_region (function_at code frame) (top_names h.environments)) is
               ∙ ap (λ o. making_region o (top_names h.environments) (Do to action from removes)) top.stands.is_fn
               ∙ ap (λ sh. making_region (Some top.stands.fn) (top_names sh) (Do to action from removes))
-                  top.environments
+              top.environments
               ∙ ap (λ b. if b then class_region top.f.names (target_class (Some top.stands.fn) to) else None) m
               ∙ ap (λ o. class_region top.f.names (target_class (Some top.stands.fn) o)) w.is
               ∙ target.1
@@ -446,11 +461,11 @@ module _ (code : Code) (page_words : ℕ) (checked : IsChecked code) (written : 
   steps_now s h frame callers instr a given all e at cur running acts d m fits =
       some_is _ (instructed_with code s g frame callers instr (after s.plain g a) given)
       (ap (option_and_then (instruct code page_words s (One g)))
-          (one_step code s.plain g (frame ∷ callers) running at ∙ ap (option_map (after s.plain g)) acts)
+      (one_step code s.plain g (frame ∷ callers) running at ∙ ap (option_map (after s.plain g)) acts)
       ∙ ap (λ o. one_instructed code page_words s g o (frames_of s.plain g) (after s.plain g a)) e
       ∙ ap (λ fr. one_instructed code page_words s g (Some h) fr (after s.plain g a)) (ap frames_in at)
       ∙ ap (λ b. if b then instructed_at code page_words s g h frame callers (after s.plain g a) else None)
-          (ready_now code page_words checked written (One g) s g h frame callers instr all e (ap frames_in at) cur d m)
+      (ready_now code page_words checked written (One g) s g h frame callers instr all e (ap frames_in at) cur d m)
       ∙ ap (option_and_then (instructed code page_words s g h frame callers (after s.plain g a))) cur
       ∙ ap (option_and_then (some_instructed code s g frame callers instr (after s.plain g a))) fits)
 
@@ -527,11 +542,11 @@ module _ (code : Code) (page_words : ℕ) (checked : IsChecked code) (written : 
                       ∙ ap (option_and_then (page_for code page_words s g h frame)) cur
                       ∙ ap (option_and_then (takes_page code page_words s g h)) r.1
                       ∙ ap (λ ds. if has_none ds && may_go h.offer && is_live s.regions r.0 && wants_page page_words
-                          (fill_of h.fills r.0) (next_object code s g) then Some (page_taken s g h r.0) else None) d
+                      (fill_of h.fills r.0) (next_object code s g) then Some (page_taken s g h r.0) else None) d
                       ∙ ap (λ b. if b && is_live s.regions r.0 && wants_page page_words (fill_of h.fills r.0)
-                          (next_object code s g) then Some (page_taken s g h r.0) else None) m
+                      (next_object code s g) then Some (page_taken s g h r.0) else None) m
                       ∙ ap (λ b. if b && wants_page page_words (fill_of h.fills r.0) (next_object code s g) then Some
-                          (page_taken s g h r.0) else None) live
+                      (page_taken s g h r.0) else None) live
                       ∙ ap (λ b. if b then Some (page_taken s g h r.0) else None) wants
 
                   good' : AllGood code (page_taken s g h r.0)
@@ -557,10 +572,15 @@ module _ (code : Code) (page_words : ℕ) (checked : IsChecked code) (written : 
                       (record h { fills = with_fill (with_fill h.fills r.0 0) r.0 (0 + words x) }, r.0 ∷ [])
                   fits_now =
                       ap (placed page_words (record h { fills = with_fill h.fills r.0 0 }) r.0 x)
-                          (fill_with h.fills r.0 0)
-                      ∙ ap (λ b. if b then Some (record h { fills =
-                          with_fill (with_fill h.fills r.0 0) r.0 (0 + words x) }, r.0 ∷ []) else None)
-                          (ap (λ w. nat_le w page_words) (zero_add (words x)) ∙ small_enough)
+                      (fill_with h.fills r.0 0)
+                      ∙ ap (λ b. if b then Some (
+                        record h {
+                          fills =
+                              with_fill (with_fill h.fills r.0 0) r.0 (0 + words x);
+                        },
+                        r.0 ∷ [],
+                      ) else None)
+                      (ap (λ w. nat_le w page_words) (zero_add (words x)) ∙ small_enough)
                     where
                       zero_add : (n : ℕ) → 0 + n ≡ n
                       zero_add n = omega arith
@@ -569,23 +589,23 @@ module _ (code : Code) (page_words : ℕ) (checked : IsChecked code) (written : 
                   behind =
                       now code page_words checked written (One g) (page_taken s g h r.0) (One g) refl
                       (steps_now (page_taken s g h r.0) (record h { fills = with_fill h.fills r.0 0 }) frame callers
-                          instr a (record h { fills = with_fill (with_fill h.fills r.0 0) r.0 (0 + words x) }, r.0 ∷ [])
-                          good' k_there (ap (λ p. slice_get p.goroutines g) (same_plain r.0) ∙ at) cur
-                          (ap (λ (p : TacState). p.ended) (same_plain r.0) ∙ running)
-                          (ap (λ p. alone (erased code) p.memory (frame ∷ callers)) (same_plain r.0) ∙ acts) d m
+                      instr a (record h { fills = with_fill (with_fill h.fills r.0 0) r.0 (0 + words x) }, r.0 ∷ [])
+                      good' k_there (ap (λ p. slice_get p.goroutines g) (same_plain r.0) ∙ at) cur
+                      (ap (λ (p : TacState). p.ended) (same_plain r.0) ∙ running)
+                      (ap (λ p. alone (erased code) p.memory (frame ∷ callers)) (same_plain r.0) ∙ acts) d m
                       (ap (λ p. allotted page_words (record h { fills = with_fill h.fills r.0 0 })
-                          (making_region (function_at code frame) (top_names h.environments) instr.op)
-                          (new_object p (after p g a))) (same_plain r.0)
-                          ∙ is_placed (record h { fills = with_fill h.fills r.0 0 }) ∙ fits_now))
+                      (making_region (function_at code frame) (top_names h.environments) instr.op)
+                      (new_object p (after p g a))) (same_plain r.0)
+                      ∙ is_placed (record h { fills = with_fill h.fills r.0 0 }) ∙ fits_now))
 
               place : (o : Option ℕ) → fill_of h.fills r.0 ≡ o → CanInstruct code page_words s (One g)
               place None w = page (ap (λ o. fits page_words o (words x)) w)
               place (Some used) w =
                   split (nat_le (used + words x) page_words)
                   (λ t. at_once (record h { fills = with_fill h.fills r.0 (used + words x) }, r.0 ∷ [])
-                      (is_placed h ∙ ap (placed page_words h r.0 x) w
-                      ∙ ap (λ b. if b then Some (record h { fills = with_fill h.fills r.0 (used + words x) }, r.0 ∷ [])
-                      else None) t))
+                  (is_placed h ∙ ap (placed page_words h r.0 x) w
+                  ∙ ap (λ b. if b then Some (record h { fills = with_fill h.fills r.0 (used + words x) }, r.0 ∷ [])
+                  else None) t))
                   (λ n. page (ap (λ o. fits page_words o (words x)) w ∙ n))
 
       acted : (fr : List Frame) → slice_get s.plain.goroutines g ≡ Some fr → (o : Option Acted)
@@ -685,12 +705,12 @@ module _ (code : Code) (page_words : ℕ) (checked : IsChecked code) (written : 
           (ap (λ e. unless_ended e (picked (tac (erased code)) s.plain (Meet r w))) x.running
           ∙ ap (λ b. if b then None else meet (tac (erased code)) s.plain r w) ne
           ∙ ap (option_and_then (λ f. option_and_then (met_by (tac (erased code)) s.plain r w f)
-              (slice_get s.plain.goroutines w))) x.at
+          (slice_get s.plain.goroutines w))) x.at
           ∙ ap (option_and_then (met_by (tac (erased code)) s.plain r w (x.frame ∷ x.callers))) at_w
           ∙ ap (λ q. met s.plain r w x.callers st.callers q (stand (erased code) st.frame)) x.stands
           ∙ ap (met s.plain r w x.callers st.callers (AtReceive x.c x.blank x.go_on)) (stand_of code s.plain w o st)
           ∙ ap (λ b. if b then Some (met_with s.plain r w (x.go_on (value_at st.frame st.sent) ∷ x.callers)
-              (going st.frame st.to value.Nil ∷ st.callers)) else None) meets)
+          (going st.frame st.to value.Nil ∷ st.callers)) else None) meets)
 
       ready_r : is_ready code s h (frames_of s.plain r) ≡ true
       ready_r = ap (is_ready code s h) (ap frames_in x.at ∙ x.receives.at)
@@ -728,16 +748,37 @@ module _ (code : Code) (page_words : ℕ) (checked : IsChecked code) (written : 
   moved_channel : (s t : RegionState) (h : Holder) → AtChannel s h → AllGood code t → t.plain ≡ s.plain
       → slice_get t.holders r ≡ Some h → AtChannel t h
   moved_channel s t h x good plain there =
-      record { good = good; running = ap (λ (p : TacState). p.ended) plain ∙ x.running; frame = x.frame; callers =
-          x.callers; at = ap (λ p. slice_get p.goroutines r) plain ∙ x.at; c = x.c; blank = x.blank; go_on =
-          x.go_on; stands = x.stands; receives = x.receives; leads = x.leads; meeting =
-          ap (λ p. is_meeting_at (slice_get p.memory.heap o)) plain ∙ x.meeting; there = there; none = x.none; free =
-          x.free }
+      record {
+        good = good;
+        running = ap (λ (p : TacState). p.ended) plain ∙ x.running;
+        frame = x.frame;
+        callers =
+            x.callers;
+        at = ap (λ p. slice_get p.goroutines r) plain ∙ x.at;
+        c = x.c;
+        blank = x.blank;
+        go_on =
+            x.go_on;
+        stands = x.stands;
+        receives = x.receives;
+        leads = x.leads;
+        meeting =
+            ap (λ p. is_meeting_at (slice_get p.memory.heap o)) plain ∙ x.meeting;
+        there = there;
+        none = x.none;
+        free =
+            x.free;
+      }
 
   moved_sends : (s t : RegionState) (k : Holder) → Sends s k → t.plain ≡ s.plain → slice_get t.holders u ≡ Some k
       → Sends t k
-  moved_sends s t k x plain there = record { sends = subst (λ p. StandsAtSend code p u o) (sym plain) x.sends; there =
-      there; none = x.none; free = x.free }
+  moved_sends s t k x plain there = record {
+    sends = subst (λ p. StandsAtSend code p u o) (sym plain) x.sends;
+    there =
+        there;
+    none = x.none;
+    free = x.free;
+  }
 
   the_holder : (x y : Holder) → Some x ≡ Some y → x ≡ y
   the_holder x y e = cc
@@ -750,9 +791,9 @@ module _ (code : Code) (page_words : ℕ) (checked : IsChecked code) (written : 
         first_step code page_words checked written (Meet r u) s t (MakeOffer u) tt makes
         (now code page_words checked written (Meet r u) t (Meet r u) (u, refl)
         (meet_now t h u (record k { offer = Standing o }) (moved_channel s t h x
-            (good_at code page_words checked written (Meet r u) s t (MakeOffer u) x.good makes) refl
-            (get_set_other s.holders u r (record k { offer = Standing o }) (flip r u apart) ∙ x.there)) apart
-            (get_set_same s.holders u k (record k { offer = Standing o }) y.there) y.none refl refl y.sends))
+        (good_at code page_words checked written (Meet r u) s t (MakeOffer u) x.good makes) refl
+        (get_set_other s.holders u r (record k { offer = Standing o }) (flip r u apart) ∙ x.there)) apart
+        (get_set_same s.holders u k (record k { offer = Standing o }) y.there) y.none refl refl y.sends))
       where
         t : RegionState
         t = attended s u (record k { offer = Standing o })
@@ -765,12 +806,12 @@ module _ (code : Code) (page_words : ℕ) (checked : IsChecked code) (written : 
             ap (option_and_then (λ q. make_offer code s u q (frames_of s.plain u))) y.there
             ∙ ap (make_offer code s u k) y.sends.at
             ∙ ap (λ b. if b then offer_at code s u k y.sends.frame else None)
-                (ready_now code page_words checked written (Meet r u) s u k y.sends.frame y.sends.callers y.sends.instr
-                x.good y.there y.sends.at y.sends.cur y.none y.free)
+            (ready_now code page_words checked written (Meet r u) s u k y.sends.frame y.sends.callers y.sends.instr
+            x.good y.there y.sends.at y.sends.cur y.none y.free)
             ∙ ap (option_and_then (offer_for s u k y.sends.frame)) y.sends.cur
             ∙ ap (λ op. option_and_then (offered s u k) (offered_channel s y.sends.frame op)) y.sends.is
             ∙ ap (λ v. option_and_then (offered s u k) (open_channel s (v ∷ value_at y.sends.frame y.sends.sent ∷ [])))
-                y.sends.channel_is
+            y.sends.channel_is
             ∙ ap (λ b. option_and_then (offered s u k) (if b then Some o else None)) x.meeting
             ∙ ap (λ b. if b then None else Some (attended s u (record k { offer = Standing o }))) none
 
@@ -803,7 +844,7 @@ module _ (code : Code) (page_words : ℕ) (checked : IsChecked code) (written : 
             by NoOffer z f = absurd (true≢false (sym f))
             by (Standing p) z f =
                 now code page_words checked written (Meet r u) s (Meet r w) (w, refl)
-                    (meet_now s h w q x other e fits.0 (ap may_go z) (ap standing_at z) fits.2)
+                (meet_now s h w q x other e fits.0 (ap may_go z) (ap standing_at z) fits.2)
               where
                 op : o ≡ p
                 op = eq_of o p f
@@ -819,23 +860,23 @@ module _ (code : Code) (page_words : ℕ) (checked : IsChecked code) (written : 
                 not_receiver : r ≡ w → ⊥
                 not_receiver same =
                     let st : StandsAtSend code s.plain r o = subst (λ i. StandsAtSend code s.plain i o) (sym same)
-                        fits.2 in
+                    fits.2 in
                     let y = at_send code s.plain r o st x.receives.frame x.receives.callers x.receives.instr
-                        (ap frames_in x.at ∙ x.receives.at) x.receives.cur in
+                    (ap frames_in x.at ∙ x.receives.at) x.receives.cur in
                     clash st.to x.receives.to (st.channel ∷ st.sent ∷ []) (x.receives.channel ∷ []) st.removes
-                        x.receives.removes (sym y.0 ∙ x.receives.is)
+                    x.receives.removes (sym y.0 ∙ x.receives.is)
 
                 other : nat_eq r w ≡ false
                 other = split (nat_eq r w) (λ t. absurd (not_receiver (eq_of r w t))) (λ n. n)
             by (Taken p) z f =
                 first_step code page_words checked written (Meet r u) s (attended s w (record q { offer = NoOffer }))
-                    (Acknowledge w) tt step
+                (Acknowledge w) tt step
                 (again w q p e z
                 (moved_channel s (attended s w (record q { offer = NoOffer })) h x
-                    (good_at code page_words checked written (Meet r u) s (attended s w (record q { offer = NoOffer }))
-                    (Acknowledge w) x.good step) refl (apart_from s w q p e z r h x.there x.free))
+                (good_at code page_words checked written (Meet r u) s (attended s w (record q { offer = NoOffer }))
+                (Acknowledge w) x.good step) refl (apart_from s w q p e z r h x.there x.free))
                 (moved_sends s (attended s w (record q { offer = NoOffer })) k y refl
-                    (apart_from s w q p e z u k y.there y.free)))
+                (apart_from s w q p e z u k y.there y.free)))
               where
                 step : region_step code page_words s (Acknowledge w)
                     ≡ Some (attended s w (record q { offer = NoOffer }))
@@ -941,7 +982,7 @@ module _ (code : Code) (page_words : ℕ) (checked : IsChecked code) (written : 
                   both (h, eh) (k', ek) (o, eco, edo) =
                       clear code page_words checked written (Meet r u) s r h all eh (λ t h' ct dh mh.
                       clear code page_words checked written (Meet r u) t u k' ct.good (ct.others u ne ∙ ek)
-                          (λ v' k'' cv dk mk.
+                      (λ v' k'' cv dk mk.
                       loop code page_words checked written r u o ne (total is_taken v'.holders) v' h' k'' refl
                       (record {
                         good = cv.good;
@@ -962,9 +1003,21 @@ module _ (code : Code) (page_words : ℕ) (checked : IsChecked code) (written : 
                       })
                       (record {
                         sends = subst (λ p. StandsAtSend code p u o) (sym (cv.plain ∙ ct.plain))
-                            (record { frame = hb.frame; callers = hb.callers; at = ap frames_in eq ∙ hb.at; instr =
-                            hb.instr; cur = hb.cur; to = hb.to; channel = hb.channel; sent = hb.sent; removes =
-                            hb.removes; is = hb.is; channel_is = sym hb.channel_is ∙ edo });
+                            (record {
+                              frame = hb.frame;
+                              callers = hb.callers;
+                              at = ap frames_in eq ∙ hb.at;
+                              instr =
+                                  hb.instr;
+                              cur = hb.cur;
+                              to = hb.to;
+                              channel = hb.channel;
+                              sent = hb.sent;
+                              removes =
+                                  hb.removes;
+                              is = hb.is;
+                              channel_is = sym hb.channel_is ∙ edo;
+                            });
                         there = cv.there;
                         none = dk;
                         free = mk;
@@ -979,7 +1032,7 @@ pub no_step_missing : NoStepMissing
 no_step_missing code page_words events s pick next checked written run step small = by pick step
   where
     all : AllGood code s
-    all = runs_all_good code page_words events s checked written run
+    all = runs_are_good code page_words events s checked written run
 
     by : (pick : Pick) → plain_step code s.plain pick ≡ Some next → CanInstruct code page_words s pick
     by (One g) z = by_one code page_words checked written s all g next z small

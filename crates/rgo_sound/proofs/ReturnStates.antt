@@ -3,10 +3,9 @@ use Rattle.std.proofs.Common.{◌≡◌, ℕ, zero, suc, ◌+◌, true, false, L
 use Rattle.std.proofs.Common.{refl, sym, ap, ◌∙◌, subst, nat_eq, slice_get, slice_set, option_map, Contains, append-nil}
 use Rattle.rgo_sound.proofs.Places.{get_set_other, get_set_same, length_set}
 use Rattle.rgo_sound.proofs.Moves.{returns_on, returns_last, settled_pending}
-use Rattle.rgo_sound.proofs.ErasureLemmas.{yields_is}
 use Rattle.rgo_sound.proofs.Static.{contains_here}
 use Rattle.rgo_sound.proofs.Instructs.{IsRuled, fine_plain}
-use Rattle.rgo_sound.proofs.OneStep.{SameHolder, none_owed, current_erased, OneDone, one_done, instr_is}
+use Rattle.rgo_sound.proofs.OneStep.{SameHolder, none_owed, current_erased, OneDone}
 use Rattle.rgo_sound.proofs.Ruled.{ruled}
 use Rattle.rgo_code.specs.Checked.{IsChecked}
 use Rattle.rgo_code.specs.Code.{Branch, Call, Code, CodeInstr, CodeOp, Do, Go, Jump, Print, Return}
@@ -14,10 +13,8 @@ use Rattle.rgo_code.specs.Erasure.{erased, erased_instr, erased_op}
 use Rattle.rgo_code.specs.NameRules.{Ascends, ReturnsHoldNothing}
 use Rattle.rgo_code.specs.Names.{edges}
 use Rattle.rgo_memory.specs.declared.values.Value.{Value}
-use Rattle.rgo_machine.specs.declared.picks.Pick.TheVariants.{One}
 use Rattle.rgo_region_machine.specs.Instructions.{child_holder, has_none, holder_after, instructed_with, last_frames}
 use Rattle.rgo_region_machine.specs.Instructions.{unless_trapped}
-use Rattle.rgo_region_machine.specs.Machine.{Instruct, region_step}
 use Rattle.rgo_region_machine.specs.Owed.{caller_duties, current, current_in, duties_before, duties_behind_call}
 use Rattle.rgo_region_machine.specs.Owed.{function_at, next_duties}
 use Rattle.rgo_region_machine.specs.States.{Duty, EndBase, Environment, Holder, RegionState, Remove, Unprotect, below}
@@ -26,7 +23,7 @@ use Rattle.rgo_region_machine.specs.declared.regions.Region.{Region}
 use Rattle.rgo_sound.proofs.Acting.{after, Acted, act, act_at, alone, end_by, returned}
 use Rattle.rgo_sound.specs.Core.{Core}
 use Rattle.rgo_sound.specs.Invariant.{AllWait, EachOnce, Fine, FramesFit, GoodHolder, HasInstr, IsCall, IsFree, IsReady}
-use Rattle.rgo_sound.specs.Invariant.{ReturnsKeep, Settled, Shares, Stands, Waits, shared_names, to_share}
+use Rattle.rgo_sound.specs.Invariant.{Settled, Shares, Stands, Waits, shared_names, to_share}
 use Rattle.rgo_tac.specs.Frames.{Frame, value_at}
 use Rattle.rgo_tac.specs.Code.{Op}
 use Rattle.rgo_tac.specs.Steps.{resumed, resumed_at, resumed_by}
@@ -62,8 +59,11 @@ module _ (code : Code) (checked : IsChecked code) (written : Ascends code) (fram
       → FramesFit code h.base (frame ∷ callers) environments duties
       → Shares (to_share code (frame ∷ callers)) duties (top_names environments) h.pending →
       GoodHolder code (behind_frames code frame value callers)
-          (record h { environments = below environments; duties =
-          caller_duties code h callers ++ next_duties code (behind_frames code frame value callers) })
+      (record h {
+        environments = below environments;
+        duties =
+            caller_duties code h callers ++ next_duties code (behind_frames code frame value callers);
+      })
   returned_good h callers [] duties d core once fit sh = absurd fit
   returned_good h callers (f ∷ fs) duties d core once fit sh = go callers fs fit.1 core
     where
@@ -91,37 +91,43 @@ module _ (code : Code) (checked : IsChecked code) (written : Ascends code) (fram
       to_caller : (c : Frame) (cs : List Frame) (d' : Environment) (ds : List Environment) (w : Waits code c d')
           → AllWait code cs ds → Core h.stakes h.base (f ∷ d' ∷ ds) → (op : CodeOp) → w.instr.op ≡ op → IsCall op →
           GoodHolder code (behind_frames code frame value (c ∷ cs))
-              (record h { environments = d' ∷ ds; duties = caller_duties code h (c ∷ cs)
-              ++ next_duties code (behind_frames code frame value (c ∷ cs)) })
+          (record h {
+            environments = d' ∷ ds;
+            duties = caller_duties code h (c ∷ cs)
+                ++ next_duties code (behind_frames code frame value (c ∷ cs));
+          })
       to_caller c cs d' ds w ws core' (Call to n from passes protects removes) q x =
           let back : Frame = resumed (erased code) c (option_map (value_at frame) value) in
           let cur' : current code c ≡ Some w.instr = ap (λ o. current_in o c.next) w.is_fn ∙ w.is_instr in
           let is_back : back ≡ resumed_by c (erased_op w.instr.op) (option_map (value_at frame) value) =
-              ap (λ o. resumed_at c o (option_map (value_at frame) value))
-              (current_erased code c ∙ ap (option_map erased_instr) cur') in
+          ap (λ o. resumed_at c o (option_map (value_at frame) value))
+          (current_erased code c ∙ ap (option_map erased_instr) cur') in
           let at_next : back.next ≡ c.next + 1 = ap (λ (y : Frame). y.next) is_back
-              ∙ resumed_next c (erased_op w.instr.op) (option_map (value_at frame) value) in
+          ∙ resumed_next c (erased_op w.instr.op) (option_map (value_at frame) value) in
           let is_fn' : function_at code back ≡ Some w.fn = ap (slice_get code.functions)
-              (ap (λ (y : Frame). y.function) is_back ∙ resumed_function c (erased_op w.instr.op)
-              (option_map (value_at frame) value)) ∙ w.is_fn in
+          (ap (λ (y : Frame). y.function) is_back ∙ resumed_function c (erased_op w.instr.op)
+          (option_map (value_at frame) value)) ∙ w.is_fn in
           let edge : Contains {X = ℕ × List ℕ} (edges w.instr.op c.next) (back.next, removes) =
           subst (λ (y : ℕ). Contains {X = ℕ × List ℕ} (edges w.instr.op c.next) (y, removes)) (sym at_next)
           (subst (λ (y : CodeOp). Contains {X = ℕ × List ℕ} (edges y c.next) (c.next + 1, removes)) (sym q)
-              (contains_here {X = ℕ × List ℕ} (c.next + 1, removes) [])) in
+          (contains_here {X = ℕ × List ℕ} (c.next + 1, removes) [])) in
           let next = rules.goes_on c.function c.next back.next w.fn w.instr removes w.is_fn w.is_instr edge in
           let good = returns_on code st.fn w.fn frame c back cs instr w.instr next.0 value to n from passes protects
-              removes h f d' ds is empty q (rules.kept c.function c.next w.fn w.instr w.is_fn w.is_instr) is_fn'
-              (rules.kept c.function back.next w.fn next.0 w.is_fn next.1) at_next core' once st.lends settled w.lends
-              w.left w.protections_fit ws none in
+          removes h f d' ds is empty q (rules.kept c.function c.next w.fn w.instr w.is_fn w.is_instr) is_fn'
+          (rules.kept c.function back.next w.fn next.0 w.is_fn next.1) at_next core' once st.lends settled w.lends
+          w.left w.protections_fit ws none in
           let owed : caller_duties code h (c ∷ cs) ≡ map Unprotect protects ++ map Remove removes =
-              ap duties_behind_call cur' ∙ ap (λ (o : CodeOp).
-              duties_behind_call (Some (record { place = w.instr.place; creates = w.instr.creates; op = o }))) q in
+          ap duties_behind_call cur' ∙ ap (λ (o : CodeOp).
+          duties_behind_call (Some (record { place = w.instr.place; creates = w.instr.creates; op = o }))) q in
           let next_is : current code back ≡ Some next.0 = ap (λ o. current_in o back.next) is_fn' ∙ next.1 in
           subst (λ (y : List Duty). GoodHolder code (back ∷ cs)
-              (record h { environments = d' ∷ ds; duties = y ++ next_duties code (back ∷ cs) })) (sym owed)
+          (record h { environments = d' ∷ ds; duties = y ++ next_duties code (back ∷ cs) })) (sym owed)
           (subst (λ (y : Option CodeInstr). GoodHolder code (back ∷ cs)
-              (record h { environments = d' ∷ ds; duties = (map Unprotect protects ++ map Remove removes)
-              ++ duties_before y })) (sym next_is) good)
+          (record h {
+            environments = d' ∷ ds;
+            duties = (map Unprotect protects ++ map Remove removes)
+                ++ duties_before y;
+          })) (sym next_is) good)
       to_caller c cs d' ds w ws core' (Do to action from removes) q x = absurd x
       to_caller c cs d' ds w ws core' (Go n from passes removes) q x = absurd x
       to_caller c cs d' ds w ws core' (Print pieces from removes) q x = absurd x
@@ -131,11 +137,14 @@ module _ (code : Code) (checked : IsChecked code) (written : Ascends code) (fram
 
       go : (cs : List Frame) (ds : List Environment) → AllWait code cs ds → Core h.stakes h.base (f ∷ ds)
           → GoodHolder code (behind_frames code frame value cs)
-          (record h { environments = ds; duties = caller_duties code h cs
-          ++ next_duties code (behind_frames code frame value cs) })
+          (record h {
+            environments = ds;
+            duties = caller_duties code h cs
+                ++ next_duties code (behind_frames code frame value cs);
+          })
       go [] [] ws core' =
           subst (λ y. GoodHolder code [] (record h { environments = []; duties = y }))
-              (sym (append-nil (map EndBase h.base)))
+          (sym (append-nil (map EndBase h.base)))
           (returns_last code st.fn frame instr value h f empty core' once st.lends settled none)
       go [] (d' ∷ ds) ws core' = absurd ws
       go (c ∷ cs) [] ws core' = absurd ws
@@ -152,8 +161,14 @@ module _ (code : Code) (page_words : ℕ) (s : RegionState) (g : ℕ) (h : Holde
   frames' = behind_frames code frame value callers
 
   abbrev acted : Acted
-  acted = record { memory = s.plain.memory; frames = behind_frames code frame value callers; started = []; printed =
-      []; trap = None }
+  acted = record {
+    memory = s.plain.memory;
+    frames = behind_frames code frame value callers;
+    started = [];
+    printed =
+        [];
+    trap = None;
+  }
 
   abbrev next : TacState
   next = after s.plain g acted
@@ -176,30 +191,33 @@ module _ (code : Code) (page_words : ℕ) (s : RegionState) (g : ℕ) (h : Holde
   untrapped (suc n) fs a b = refl
 
   abbrev behind_holder : Holder → List Frame → Holder
-  behind_holder k frames = record k { environments = below k.environments; duties =
-      caller_duties code k callers ++ next_duties code frames }
+  behind_holder k frames = record k {
+    environments = below k.environments;
+    duties =
+        caller_duties code k callers ++ next_duties code frames;
+  }
 
   behind : (frames : List Frame) (given : Holder × List Region) → slice_get s.plain.goroutines g ≡ Some frames
       → has_none h.duties ≡ true → SameHolder h given.0 → Fine code
       (instructed_with code s g frame callers call next given)
   behind frames given q d same =
       fine_plain code s (instructed_with code s g frame callers call next given) g h
-          (behind_holder (record h { fills = same.fills }) frames') fine e refl hs refl refl as_long the_others
+      (behind_holder (record h { fills = same.fills }) frames') fine e refl hs refl refl as_long the_others
       (subst (λ x. GoodHolder code x (behind_holder (record h { fills = same.fills }) frames'))
-          (sym (goroutines frames q))
+      (sym (goroutines frames q))
       (returned_good code checked written frame call value is cur (record h { fills = same.fills }) callers
-          h.environments h.duties (none_owed h.duties d) good.core good.base_once good.fit good.shares))
+      h.environments h.duties (none_owed h.duties d) good.core good.base_once good.fit good.shares))
     where
       hs : (instructed_with code s g frame callers call next given).holders
           ≡ slice_set s.holders g (behind_holder (record h { fills = same.fills }) frames')
       hs =
           ap (λ x. slice_set s.holders g (unless_trapped next.ended given.0
-              (holder_after code given.0 frame callers call.op (frames_of next g))) ++ x)
-              (ap (λ x. child_holder code given.0 x (last_frames next.goroutines)) is)
+          (holder_after code given.0 frame callers call.op (frames_of next g))) ++ x)
+          (ap (λ x. child_holder code given.0 x (last_frames next.goroutines)) is)
           ∙ append-nil (slice_set s.holders g (unless_trapped next.ended given.0
-              (holder_after code given.0 frame callers call.op (frames_of next g))))
+          (holder_after code given.0 frame callers call.op (frames_of next g))))
           ∙ ap (slice_set s.holders g) (untrapped g frames' given.0
-              (holder_after code given.0 frame callers call.op (frames_of next g)))
+          (holder_after code given.0 frame callers call.op (frames_of next g)))
           ∙ ap (λ x. slice_set s.holders g (holder_after code given.0 frame callers x (frames_of next g))) is
           ∙ ap (λ (x : Holder). slice_set s.holders g (behind_holder x (frames_of next g))) same.same
           ∙ ap (λ x. slice_set s.holders g (behind_holder (record h { fills = same.fills }) x)) (goroutines frames q)
@@ -207,13 +225,19 @@ module _ (code : Code) (page_words : ℕ) (s : RegionState) (g : ℕ) (h : Holde
   is_returned : alone (erased code) s.plain.memory (frame ∷ callers) ≡ Some acted
   is_returned =
       ap (λ o. act_at (erased code) s.plain.memory o frame callers)
-          (current_erased code frame ∙ ap (option_map erased_instr) cur)
+      (current_erased code frame ∙ ap (option_map erased_instr) cur)
       ∙ ap (λ o. act (erased code) s.plain.memory (erased_op o) call.place frame callers) is
       ∙ go callers
     where
       go : (cs : List Frame) → returned (erased code) s.plain.memory (option_map (value_at frame) value) cs
-          ≡ Some (record { memory = s.plain.memory; frames = behind_frames code frame value cs; started = []; printed =
-          []; trap = None })
+          ≡ Some (record {
+            memory = s.plain.memory;
+            frames = behind_frames code frame value cs;
+            started = [];
+            printed =
+                [];
+            trap = None;
+          })
       go [] = refl
       go (c ∷ cs) = refl
 
@@ -222,17 +246,10 @@ pub fine_return : (code : Code) (page_words : ℕ) (s t : RegionState) (g : ℕ)
 fine_return code page_words s t g x value checked written fine is =
     subst (Fine code) (sym x.is)
     (subst (λ a. Fine code (instructed_with code s g x.frame x.callers x.instr (after s.plain g a) x.given))
-        (sym (the_same x.a _ (sym x.acts ∙ is_returned code page_words s g x.h x.frame x.callers x.instr value checked
-        written fine x.there (ap frames_in x.at) x.cur is)))
+    (sym (the_same x.a _ (sym x.acts ∙ is_returned code page_words s g x.h x.frame x.callers x.instr value checked
+    written fine x.there (ap frames_in x.at) x.cur is)))
     (behind code page_words s g x.h x.frame x.callers x.instr value checked written fine x.there (ap frames_in x.at)
-        x.cur is (x.frame ∷ x.callers) x.given x.at (ap has_none x.ready.none) x.same))
+    x.cur is (x.frame ∷ x.callers) x.given x.at (ap has_none x.ready.none) x.same))
   where
     the_same : (x y : Acted) → Some x ≡ Some y → x ≡ y
     the_same x y e = cc
-
-pub returns_keep : ReturnsKeep
-returns_keep code page_words s t g h frame callers call value checked written fine e at cur is r =
-    let x = yields_is {P = OneDone code page_words s g} (region_step code page_words s (Instruct (One g))) t
-        (one_done code page_words s g) r in
-    fine_return code page_words s t g x value checked written fine
-        (ap (λ (i : CodeInstr). i.op) (instr_is code page_words s t g x frame callers call at cur) ∙ is)

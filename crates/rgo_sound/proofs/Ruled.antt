@@ -11,9 +11,7 @@ use Rattle.rgo_sound.proofs.CoreLemmas.{split, eq_of}
 use Rattle.rgo_sound.proofs.Static.{asked_names, contains_here, contains_there, contains_cases, contains_nil}
 use Rattle.rgo_sound.proofs.Static.{contains_one}
 use Rattle.rgo_sound.proofs.CallRules.{get_contains}
-use Rattle.rgo_sound.proofs.Instructs.{IsRuled, fine_move}
-use Rattle.rgo_sound.proofs.OneStep.{OneDone, one_done, instr_is}
-use Rattle.rgo_sound.proofs.ErasureLemmas.{yields_is}
+use Rattle.rgo_sound.proofs.Instructs.{IsRuled}
 use Rattle.rgo_code.specs.Checked.{IsChecked}
 use Rattle.rgo_code.specs.ClassRules.{CallPasses, CallsPass, IsPassedFor, Passes, StartPasses, StartsPass}
 use Rattle.rgo_code.specs.Code.{Branch, Call, Code, CodeFn, CodeInstr, CodeOp, Do, Go, Jump, Print, Return, Slot}
@@ -22,10 +20,8 @@ use Rattle.rgo_code.specs.Exists.{CallExists, InstrExists, OpExists, StartExists
 use Rattle.rgo_code.specs.NameRules.{Ascends, ProtectsUsed}
 use Rattle.rgo_code.specs.Names.{Names, class_of, distinct_names, edges, is_name, parameter_classes, region_parameters}
 use Rattle.rgo_code.specs.Names.{result_class, slot_class}
-use Rattle.rgo_machine.specs.declared.picks.Pick.TheVariants.{One}
-use Rattle.rgo_region_machine.specs.Machine.{Instruct, region_step}
 use Rattle.rgo_region_machine.specs.Owed.{current, current_in, function_at, function_of, regions_named}
-use Rattle.rgo_sound.specs.Invariant.{HasInstr, IsSimple, MovesKeep}
+use Rattle.rgo_sound.specs.Invariant.{HasInstr}
 use Rattle.rgo_tac.specs.Code.{TacFn}
 use Rattle.rgo_tac.specs.Frames.{Frame}
 use Rattle.rgo_tac.specs.declared.regions.Class.{Class}
@@ -90,8 +86,12 @@ pub start_is_there : (code : Code) (n : ℕ) (from : List ℕ) → StartExists (
 start_is_there code n from x = go (erased_function code n x.callee x.declared)
   where
     go : (g : CodeFn) × (function_of code n ≡ Some g) × (x.callee ≡ erased_fn g) → StartIsThere code n from
-    go (g, found, is) = record { callee = g; found = found; arguments_fit =
-        x.arguments ∙ ap (λ (f : TacFn). f.params) is }
+    go (g, found, is) = record {
+      callee = g;
+      found = found;
+      arguments_fit =
+          x.arguments ∙ ap (λ (f : TacFn). f.params) is;
+    }
 
 -- ---- the instruction of a frame
 
@@ -129,8 +129,11 @@ distinct_member seen (Name k ∷ cs) p c e = go (list_any (is_name k) seen) p e 
         × ((m : ℕ) × (c ≡ Name m))) → ((p' : ℕ) → slice_get (distinct_names (Name k ∷ seen) cs) p' ≡ Some c
         → Contains cs c × ((m : ℕ) × (c ≡ Name m))) → Contains (Name k ∷ cs) c × ((m : ℕ) × (c ≡ Name m))
     go true p e one two = let x = one p e in (contains_there (Name k) cs c x.0, x.1)
-    go false zero e one two = (subst (λ x. Contains (Name k ∷ cs) x) (the_same (Name k) c e)
-        (contains_here (Name k) cs), (k, sym (the_same (Name k) c e)))
+    go false zero e one two = (
+      subst (λ x. Contains (Name k ∷ cs) x) (the_same (Name k) c e)
+          (contains_here (Name k) cs),
+      (k, sym (the_same (Name k) c e)),
+    )
     go false (suc p) e one two = let x = two p e in (contains_there (Name k) cs c x.0, x.1)
 
 -- a parameter's class is that of a variable below the number of parameters, and the other way round
@@ -193,7 +196,7 @@ passed_is_named fn g to arguments regions k args res passes c =
             fits : (actual c : Class) → c ≡ f → IsPassedFor (region_parameters g) regions c actual → actual ≡ Name k
             fits actual c is h =
                 let h' : IsPassedFor (region_parameters g) regions (Name m.1.0) actual =
-                    subst (λ x. IsPassedFor (region_parameters g) regions x actual) (is ∙ m.1.1) h in
+                subst (λ x. IsPassedFor (region_parameters g) regions x actual) (is ∙ m.1.1) h in
                 the_same actual (Name k) (sym (h' p (q ∙ ap Some m.1.1)) ∙ e)
 
             result : (r : Option Slot) → g.result ≡ r → slot_class r ≡ f → (o : Option ℕ) → to ≡ o → (d : ℕ)
@@ -209,8 +212,12 @@ passed_is_named fn g to arguments regions k args res passes c =
             of (inl d) =
                 let i = parameter_member g.params g.variables f d in
                 let v = get_some arguments i.0 (let x = i.1 in omega (arith, x, args)) in
-                inl (v.0, get_contains arguments i.0 v.0 v.1, fits (class_of fn v.0) (class_of g i.0) i.2
-                    (passes.arguments i.0 v.0 i.1 v.1))
+                inl (
+                  v.0,
+                  get_contains arguments i.0 v.0 v.1,
+                  fits (class_of fn v.0) (class_of g i.0) i.2
+                      (passes.arguments i.0 v.0 i.1 v.1),
+                )
             of (inr d) =
                 let is : result_class g ≡ f = contains_one (result_class g) f d in
                 let t = result g.result refl is to refl in
@@ -249,7 +256,7 @@ asked_named code fn i instr (Call to n from passes protects removes) is exists c
     go (inr (d, a, q)) = record { variable = d; used = subst (λ x. Uses (erased_op x) d) (sym is) (inr a); named = q }
 asked_named code fn i instr (Go n from passes removes) is exists calls starts rightly k c =
     go (passed_is_named fn there.callee None from passes k there.arguments_fit (ap is_some (sym fits.0)) fits.1
-        (regions_contain passes k c))
+    (regions_contain passes k c))
   where
     there : StartIsThere code n from
     there = start_is_there code n from exists
@@ -337,12 +344,3 @@ ruled code checked written =
           (next_is_there fn i j code instr instr.op removes refl here
           (checked rule.Exists (line.Instr n i) fn instr is here) c);
     }
-
--- an instruction that is no call, no start and no return keeps what holds of the state
-pub moves_keep : MovesKeep
-moves_keep code page_words s t g h frame callers instr checked written fine e at cur simple r =
-    let x = yields_is {P = OneDone code page_words s g} (region_step code page_words s (Instruct (One g))) t
-        (one_done code page_words s g) r in
-    fine_move code page_words s t g x fine (ruled code checked written)
-        (subst (λ (i : CodeInstr). IsSimple i.op) (sym (instr_is code page_words s t g x frame callers instr at cur))
-        simple)

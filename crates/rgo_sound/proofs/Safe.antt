@@ -1,20 +1,24 @@
 -- The law of safety, from its parts.
-use Rattle.rgo_sound.proofs.Bullets.{stakes_always}
-use Rattle.rgo_sound.proofs.ValueSteps.{pointers_always}
-use Rattle.rgo_sound.proofs.Paged.{pages_always}
+use Rattle.rgo_sound.proofs.Bullets.{all_removed, one_holding_name, stakes_counted}
 use Rattle.rgo_sound.proofs.Bounded.{regions_always}
+use Rattle.rgo_sound.proofs.Offers.{runs_are_good}
+use Rattle.rgo_sound.proofs.Paged.{pages_always}
+use Rattle.rgo_sound.proofs.ValueSteps.{pointers_stay}
+use Rattle.rgo_sound.specs.Good.{AllGood}
 use Rattle.rgo_sound.specs.Safety.{Safety}
 
 pub safety : Safety
 safety code page_words events s checked written run =
-    let stakes = stakes_always code page_words events s checked written run in
     record {
-      stakes = stakes.stakes;
-      names = stakes.names;
-      pointers = pointers_always code page_words events s checked written run;
+      stakes = stakes_counted code s all.good.fine;
+      names = one_holding_name code s all.good.fine;
+      pointers = pointers_stay code s all.good;
       counts = record {
         pages = pages_always code page_words events s checked written run;
         regions = regions_always code page_words events s checked written run;
-        all_removed = stakes.all_removed;
+        all_removed = all_removed code s all.good.fine;
       };
     }
+  where
+    all : AllGood code s
+    all = runs_are_good code page_words events s checked written run

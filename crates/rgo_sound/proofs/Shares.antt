@@ -115,9 +115,9 @@ shares_all : (ks todo : List ℕ) (names : Bindings) (pending : List ℕ) (c : �
 shares_all ks [] names pending c h t = λ r. let a = t r in h r ∙ ap at_most_one (omega (arith, a))
 shares_all ks (k ∷ todo) names pending c h t =
     λ q b. shares_all ks todo names (with_pending q pending) (λ r. one_if (same_region (Numbered r) q) + c r)
-        (more_pending q pending c h)
+    (more_pending q pending c h)
     (λ r. let a = t r in let e : one_if (same_bound (Numbered r) (bound names k))
-        ≡ one_if (same_region (Numbered r) q) = ap (λ x. one_if (same_bound (Numbered r) x)) b in omega (arith, a, e))
+    ≡ one_if (same_region (Numbered r) q) = ap (λ x. one_if (same_bound (Numbered r) x)) b in omega (arith, a, e))
 
 -- protections share nothing, and what is asked for before an instruction shares what it is to share
 shares_protects : (ps : List ℕ) (names : Bindings) → Shares [] (map Protect ps) names []

@@ -7,7 +7,6 @@ use Rattle.std.specs.List.{list_any}
 use Rattle.std.proofs.lemmas.Option.{slice_get-map}
 use Rattle.rgo_sound.proofs.Places.{ascending_distinct, get_append_last, get_append_left, get_below, get_set_other}
 use Rattle.rgo_sound.proofs.Places.{get_set_same, get_snoc, get_some, length_set}
-use Rattle.rgo_sound.proofs.ErasureLemmas.{yields_is}
 use Rattle.rgo_sound.proofs.CoreLemmas.{split, eq_of, core_child, bound_held}
 use Rattle.rgo_sound.proofs.Static.{named_bound, contains_here}
 use Rattle.rgo_sound.proofs.Shares.{at_most_one_is, at_most_one_some, removes_share_none, shares_next}
@@ -18,7 +17,7 @@ use Rattle.rgo_sound.proofs.Lists.{formals_once, formals_are}
 use Rattle.rgo_sound.proofs.Passable.{all_passable, go_reads}
 use Rattle.rgo_sound.proofs.Enters.{IsParameter, enters, passed_bound}
 use Rattle.rgo_sound.proofs.Instructs.{IsRuled}
-use Rattle.rgo_sound.proofs.OneStep.{SameHolder, none_owed, OneDone, one_done, instr_is}
+use Rattle.rgo_sound.proofs.OneStep.{SameHolder, none_owed, OneDone}
 use Rattle.rgo_sound.proofs.CallStates.{first_instr}
 use Rattle.rgo_sound.proofs.OneStep.{current_erased}
 use Rattle.rgo_sound.proofs.Ruled.{ruled}
@@ -30,10 +29,8 @@ use Rattle.rgo_code.specs.NameRules.{Ascends, protected_names}
 use Rattle.rgo_code.specs.Names.{Gives, IsOwn, edges, is_name, region_parameters, result_class, slot_class}
 use Rattle.rgo_code.specs.Exists.{OpExists, StartExists}
 use Rattle.rgo_code.specs.Types.{ArgumentsFit, OpFits}
-use Rattle.rgo_machine.specs.declared.picks.Pick.TheVariants.{One}
 use Rattle.rgo_region_machine.specs.Instructions.{child_holder, has_none, holder_after, instructed_with, last_frames}
 use Rattle.rgo_region_machine.specs.Instructions.{unless_trapped}
-use Rattle.rgo_region_machine.specs.Machine.{Instruct, region_step}
 use Rattle.rgo_region_machine.specs.Owed.{current, current_in, duties_before, entry_removes, formals_of, function_at}
 use Rattle.rgo_region_machine.specs.Owed.{next_duties, passed, passed_regions, regions_named, result_of}
 use Rattle.rgo_region_machine.specs.Owed.{stands_in, twice}
@@ -46,7 +43,7 @@ use Rattle.rgo_sound.proofs.Acting.{after, Acted, act, act_at, alone, end_by, st
 use Rattle.rgo_sound.specs.Core.{AreUnique, Core}
 use Rattle.rgo_sound.specs.Holding.{held_in}
 use Rattle.rgo_sound.specs.Invariant.{ArePending, EachOnce, Fine, FramesFit, GoodHolder, HasInstr, IsFree, IsReady}
-use Rattle.rgo_sound.specs.Invariant.{Settled, Shares, Stands, StartsKeep, at_most_one, bound_times, same_bound}
+use Rattle.rgo_sound.specs.Invariant.{Settled, Shares, Stands, at_most_one, bound_times, same_bound}
 use Rattle.rgo_sound.specs.Invariant.{shared_before, shared_names, to_share}
 use Rattle.rgo_sound.specs.Stakes.{holders_of, is_in, one_if, pending_of, times_in, total}
 use Rattle.rgo_tac.specs.Code.{TacFn}
@@ -190,12 +187,12 @@ child_core : (pending : List ℕ) (names : Bindings) (formals passes : List Clas
     (passed formals (passed_regions names passes)) ∷ [])
 child_core pending names formals passes f l p =
     core_child pending (twice (passed_regions names passes))
-        (environment_of NoClass (passed formals (passed_regions names passes))) unique refl (λ k. refl)
+    (environment_of NoClass (passed formals (passed_regions names passes))) unique refl (λ k. refl)
     (λ k r e. staked r (let x = bound_held NoClass r (passed formals (passed_regions names passes)) k unique e refl in
-        let y = count r in omega (arith, x, y)))
+    let y = count r in omega (arith, x, y)))
     (λ r e. staked r (let x = twice_yes r (passed_regions names passes) e in omega (arith, x)))
     (λ r i n. let a = twice_no r (passed_regions names passes) n in let b = passed_once r i in let c = count r in
-        omega (arith, a, b, c))
+    omega (arith, a, b, c))
   where
     unique : AreUnique (passed formals (passed_regions names passes))
     unique = passed_unique names NoClass [] formals passes f
@@ -242,25 +239,33 @@ module _ (code : Code) (checked : IsChecked code) (written : Ascends code) (fram
       }
 
   abbrev parent_of : Holder → List Environment → List Frame → Holder
-  parent_of h environments frames = record h { pending = []; environments = environments; duties =
-      map Remove removes ++ next_duties code frames }
+  parent_of h environments frames = record h {
+    pending = [];
+    environments = environments;
+    duties =
+        map Remove removes ++ next_duties code frames;
+  }
 
   pub record Started (h : Holder) (environments : List Environment) (frame' entered : Frame) (callee : CodeFn) : Type 0
-      where
-    pub parent : GoodHolder code (frame' ∷ callers) (parent_of h environments (frame' ∷ callers))
-    pub child : GoodHolder code (entered ∷ []) (child_of h environments callee (entered ∷ []))
-    pub once : (r : ℕ) → times_in r h.pending ≤ 1
+    where
+      pub parent : GoodHolder code (frame' ∷ callers) (parent_of h environments (frame' ∷ callers))
+      pub child : GoodHolder code (entered ∷ []) (child_of h environments callee (entered ∷ []))
+      pub once : (r : ℕ) → times_in r h.pending ≤ 1
 
   started : (h : Holder) (environments : List Environment) (duties : List Duty) (frame' entered : Frame)
       (callee : CodeFn) → frame'.function ≡ frame.function → frame'.next ≡ frame.next + 1 → entered.function ≡ n
       → entered.next ≡ 0 → slice_get code.functions n ≡ Some callee → duties ≡ [] →
       Core h.stakes h.base environments → EachOnce h.base → FramesFit code h.base (frame ∷ callers) environments duties
-          → Shares (to_share code (frame ∷ callers)) duties (top_names environments) h.pending
-          → Started h environments frame' entered callee
+      → Shares (to_share code (frame ∷ callers)) duties (top_names environments) h.pending
+      → Started h environments frame' entered callee
   started h [] duties frame' entered callee fe fn en e0 found d core once fit sh = absurd fit
   started h (f ∷ fs) duties frame' entered callee fe fn en e0 found d core once fit sh =
-      record { parent = parent; child = child; once = λ r. let a = pends r in let b =
-          most (bound_times (Numbered r) f.names (regions_named passes)) in omega (arith, a, b) }
+      record {
+        parent = parent;
+        child = child;
+        once = λ r. let a = pends r in let b =
+            most (bound_times (Numbered r) f.names (regions_named passes)) in omega (arith, a, b);
+      }
     where
       rules : IsRuled code
       rules = ruled code checked written
@@ -310,11 +315,11 @@ module _ (code : Code) (checked : IsChecked code) (written : Ascends code) (fram
       parent : GoodHolder code (frame' ∷ callers) (parent_of h (f ∷ fs) (frame' ∷ callers))
       parent =
           subst (λ (x : Option CodeInstr). GoodHolder code (frame' ∷ callers)
-              (record h { pending = []; environments = f ∷ fs; duties = map Remove removes ++ duties_before x }))
-              (sym next_is)
+          (record h { pending = []; environments = f ∷ fs; duties = map Remove removes ++ duties_before x }))
+          (sym next_is)
           (moves_on code st.fn frame frame' callers instr to.0 removes (record h { pending = [] }) f fs st.is_fn
-              (rules.kept frame.function frame.next st.fn instr st.is_fn here) is_fn'
-              (rules.kept frame.function frame'.next st.fn to.0 st.is_fn to.1)
+          (rules.kept frame.function frame.next st.fn instr st.is_fn here) is_fn'
+          (rules.kept frame.function frame'.next st.fn to.0 st.is_fn to.1)
           edge' gives_none (ap protected_names is) core once st.lends settled fit.1 refl)
 
       -- the child begins
@@ -335,9 +340,9 @@ module _ (code : Code) (checked : IsChecked code) (written : Ascends code) (fram
       types : ArgumentsFit (erased_fn st.fn) (Some (erased_fn callee)) from
       types =
           subst (λ o. ArgumentsFit (erased_fn st.fn) o from)
-              (slice_get-map erased_fn code.functions n ∙ ap (option_map erased_fn) found)
+          (slice_get-map erased_fn code.functions n ∙ ap (option_map erased_fn) found)
           (subst (λ (x : CodeOp). OpFits (erased code) (erased_fn st.fn) (erased_op x)) is
-              (checked rule.Types (line.Instr frame.function frame.next) st.fn instr st.is_fn here))
+          (checked rule.Types (line.Instr frame.function frame.next) st.fn instr st.is_fn here))
 
       no_result : result_class callee ≡ NoClass
       no_result = ap slot_class starts_rightly.0
@@ -354,8 +359,8 @@ module _ (code : Code) (checked : IsChecked code) (written : Ascends code) (fram
           types
           tt
           (λ k n. named_bound st.fn frame.next k instr f.names
-              (checked rule.Creations (line.Instr frame.function frame.next) st.fn instr st.is_fn here) settled.there
-              settled.made settled.lent n)
+          (checked rule.Creations (line.Instr frame.function frame.next) st.fn instr st.is_fn here) settled.there
+          settled.made settled.lent n)
 
       formals : AreFormals (region_parameters callee)
       formals = formals_once callee
@@ -372,16 +377,16 @@ module _ (code : Code) (checked : IsChecked code) (written : Ascends code) (fram
           (passed (region_parameters callee) (passed_regions f.names passes)) []
       ready =
           enters code callee first.0 (passed (region_parameters callee) (passed_regions f.names passes))
-              (rules.kept n 0 callee first.0 found first.1) (checked rule.Removals (line.Entry n) callee found)
-              (checked rule.Entry (line.Entry n) callee found)
-              (ascending_distinct callee.entry (written n callee found).entry)
+          (rules.kept n 0 callee first.0 found first.1) (checked rule.Removals (line.Entry n) callee found)
+          (checked rule.Entry (line.Entry n) callee found)
+          (ascending_distinct callee.entry (written n callee found).entry)
           (λ k p. passed_bound f.names (region_parameters callee) passes k formals passable starts_rightly.1.len
-              ((listed k).1 (inl p)))
+          ((listed k).1 (inl p)))
           (λ k r. passed_bound f.names (region_parameters callee) passes k formals passable starts_rightly.1.len
-              ((listed k).1 (inr r)))
+          ((listed k).1 (inr r)))
           (λ k o n. not_passed f.names NoClass [] (region_parameters callee) passes k
-              (split (list_any (is_name k) (region_parameters callee)) (λ t. absurd (neither k o n ((listed k).0 t)))
-              (λ x. x)))
+          (split (list_any (is_name k) (region_parameters callee)) (λ t. absurd (neither k o n ((listed k).0 t)))
+          (λ x. x)))
         where
           neither : (k : ℕ) → IsOwn callee k → ¬ (IsParameter callee k) → IsParameter callee k
               ⊎ (result_class callee ≡ Name k) → ⊥
@@ -480,8 +485,11 @@ fine_started code s t g h k c frames child fine e rs hs gs ks kp cs cp once good
             → ((nat_eq g j ≡ false) × (slice_get s.holders j ≡ Some x))
             ⊎ (((g ≡ j) × (x ≡ k)) ⊎ ((j ≡ length (slice_set s.holders g k)) × (x ≡ c)))
         go (inr z) = inr (inr z)
-        go (inl z) = split (nat_eq g j) (λ u. inr (inl (eq_of g j u, the_same x k
-            (sym z ∙ ap (slice_get (slice_set s.holders g k)) (sym (eq_of g j u)) ∙ get_set_same s.holders g h k e))))
+        go (inl z) = split (nat_eq g j) (λ u. inr (inl (
+          eq_of g j u,
+          the_same x k
+              (sym z ∙ ap (slice_get (slice_set s.holders g k)) (sym (eq_of g j u)) ∙ get_set_same s.holders g h k e),
+        )))
             (λ n. inl (n, sym (get_set_other s.holders g j k n) ∙ z))
 
     below : (j : ℕ) (x : Holder) → slice_get s.holders j ≡ Some x → j < length (slice_set s.plain.goroutines g frames)
@@ -493,14 +501,14 @@ fine_started code s t g h k c frames child fine e rs hs gs ks kp cs cp once good
         → GoodHolder code (frames_of t.plain j) x
     each j x (inl (n, q)) =
         subst (λ f. GoodHolder code f x) (sym (ap (λ y. frames_in (slice_get y j)) gs
-            ∙ ap frames_in (get_append_left (slice_set s.plain.goroutines g frames) (child ∷ []) j (below j x q))
-            ∙ ap frames_in (get_set_other s.plain.goroutines g j frames n))) (fine.each j x q)
+        ∙ ap frames_in (get_append_left (slice_set s.plain.goroutines g frames) (child ∷ []) j (below j x q))
+        ∙ ap frames_in (get_set_other s.plain.goroutines g j frames n))) (fine.each j x q)
     each j x (inr (inl (u, is))) =
         subst (λ y. GoodHolder code (frames_of t.plain j) y) (sym is)
         (subst (λ f. GoodHolder code f k) (sym (ap (λ y. frames_in (slice_get y j)) gs
-            ∙ ap (λ i. frames_in (slice_get (slice_set s.plain.goroutines g frames ++ child ∷ []) i)) (sym u)
-            ∙ ap frames_in (get_append_left (slice_set s.plain.goroutines g frames) (child ∷ []) g (below g h e))
-            ∙ ap frames_in (get_set_same s.plain.goroutines g old.0 frames old.1))) good_k)
+        ∙ ap (λ i. frames_in (slice_get (slice_set s.plain.goroutines g frames ++ child ∷ []) i)) (sym u)
+        ∙ ap frames_in (get_append_left (slice_set s.plain.goroutines g frames) (child ∷ []) g (below g h e))
+        ∙ ap frames_in (get_set_same s.plain.goroutines g old.0 frames old.1))) good_k)
       where
         old : (fs : List Frame) × (slice_get s.plain.goroutines g ≡ Some fs)
         old = get_some s.plain.goroutines g (let a = get_below s.holders g h e in let b = fine.as_many in
@@ -508,7 +516,7 @@ fine_started code s t g h k c frames child fine e rs hs gs ks kp cs cp once good
     each j x (inr (inr (at, is))) =
         subst (λ y. GoodHolder code (frames_of t.plain j) y) (sym is)
         (subst (λ f. GoodHolder code f c) (sym (ap (λ y. frames_in (slice_get y j)) gs
-            ∙ ap frames_in (get_append_last (slice_set s.plain.goroutines g frames) child j (at ∙ long)))) good_c)
+        ∙ ap frames_in (get_append_last (slice_set s.plain.goroutines g frames) child j (at ∙ long)))) good_c)
 
     made : (j : ℕ) (x : Holder) (r : ℕ) → is_in r x.stakes ≡ true
         → ((nat_eq g j ≡ false) × (slice_get s.holders j ≡ Some x))
@@ -537,12 +545,12 @@ fine_started code s t g h k c frames child fine e rs hs gs ks kp cs cp once good
         let a' : one_if (is_in r k.stakes) ≡ one_if (is_in r h.stakes) = ap (λ y. one_if (is_in r y)) ks in
         let b' : times_in r k.pending ≡ 0 = ap (times_in r) kp in
         let d : one_if (is_in r c.stakes) ≡ times_in r h.pending =
-            ap (λ y. one_if (is_in r y)) cs ∙ in_times r h.pending (once r) in
+        ap (λ y. one_if (is_in r y)) cs ∙ in_times r h.pending (once r) in
         let d' : times_in r c.pending ≡ 0 = ap (times_in r) cp in
         let x = ap (total (λ (x : Holder). one_if (is_in r x.stakes))) hs
-            ∙ total_snoc (λ (x : Holder). one_if (is_in r x.stakes)) (slice_set s.holders g k) c in
+        ∙ total_snoc (λ (x : Holder). one_if (is_in r x.stakes)) (slice_set s.holders g k) c in
         let y = ap (total (λ (x : Holder). times_in r x.pending)) hs
-            ∙ total_snoc (λ (x : Holder). times_in r x.pending) (slice_set s.holders g k) c in
+        ∙ total_snoc (λ (x : Holder). times_in r x.pending) (slice_set s.holders g k) c in
         omega (arith, n, a, b, a', b', d, d', x, y)
 
 pub last_frames_snoc : (xs : List (List Frame)) (y : List Frame) → last_frames (xs ++ y ∷ []) ≡ y
@@ -565,8 +573,14 @@ module _ (code : Code) (page_words : ℕ) (s : RegionState) (g : ℕ) (h : Holde
   frame' = moved_to frame (frame.next + 1)
 
   abbrev acted : CodeFn → Acted
-  acted callee = record { memory = s.plain.memory; frames = frame' ∷ callers; started =
-      (entered callee ∷ []) ∷ []; printed = []; trap = None }
+  acted callee = record {
+    memory = s.plain.memory;
+    frames = frame' ∷ callers;
+    started =
+        (entered callee ∷ []) ∷ [];
+    printed = [];
+    trap = None;
+  }
 
   abbrev next : CodeFn → TacState
   next callee = after s.plain g (acted callee)
@@ -579,8 +593,8 @@ module _ (code : Code) (page_words : ℕ) (s : RegionState) (g : ℕ) (h : Holde
       → frames_of (next callee) g ≡ frame' ∷ callers
   own callee frames q =
       ap frames_in (get_append_left (slice_set s.plain.goroutines g (frame' ∷ callers)) ((entered callee ∷ []) ∷ []) g
-          (let a = get_below s.plain.goroutines g frames q in let b =
-          length_set s.plain.goroutines g (frame' ∷ callers) in omega (arith, a, b)))
+      (let a = get_below s.plain.goroutines g frames q in let b =
+      length_set s.plain.goroutines g (frame' ∷ callers) in omega (arith, a, b)))
       ∙ ap frames_in (get_set_same s.plain.goroutines g frames (frame' ∷ callers) q)
 
   behind : (callee : CodeFn) (frames : List Frame) (given : Holder × List Region) → slice_get code.functions n
@@ -588,10 +602,10 @@ module _ (code : Code) (page_words : ℕ) (s : RegionState) (g : ℕ) (h : Holde
       → Fine code (instructed_with code s g frame callers instr (next callee) given)
   behind callee frames given found q d same =
       fine_started code s (instructed_with code s g frame callers instr (next callee) given) g h
-          (parent_of code checked written frame callers instr n from passes removes is cur
-          (record h { fills = same.fills }) h.environments (frame' ∷ callers))
-          (child_of code checked written frame callers instr n from passes removes is cur
-          (record h { fills = same.fills }) h.environments callee (entered callee ∷ []))
+      (parent_of code checked written frame callers instr n from passes removes is cur
+      (record h { fills = same.fills }) h.environments (frame' ∷ callers))
+      (child_of code checked written frame callers instr n from passes removes is cur
+      (record h { fills = same.fills }) h.environments callee (entered callee ∷ []))
       (frame' ∷ callers) (entered callee ∷ []) fine e refl hs refl refl refl refl refl all.once all.parent all.child
     where
       all : Started code checked written frame callers instr n from passes removes is cur
@@ -607,21 +621,21 @@ module _ (code : Code) (page_words : ℕ) (s : RegionState) (g : ℕ) (h : Holde
           (record h { fills = same.fills }) h.environments callee (entered callee ∷ []) ∷ []
       hs =
           ap (λ x. slice_set s.holders g (unless_trapped x given.0
-              (holder_after code given.0 frame callers instr.op (frames_of (next callee) g)))
-              ++ child_holder code given.0 instr.op (last_frames (next callee).goroutines)) (no_end g frame' callers)
+          (holder_after code given.0 frame callers instr.op (frames_of (next callee) g)))
+          ++ child_holder code given.0 instr.op (last_frames (next callee).goroutines)) (no_end g frame' callers)
           ∙ ap (λ x. slice_set s.holders g (holder_after code given.0 frame callers x (frames_of (next callee) g))
-              ++ child_holder code given.0 x (last_frames (next callee).goroutines)) is
+          ++ child_holder code given.0 x (last_frames (next callee).goroutines)) is
           ∙ ap (λ x. slice_set s.holders g (holder_after code given.0 frame callers (Go n from passes removes) x)
-              ++ child_holder code given.0 (Go n from passes removes) (last_frames (next callee).goroutines))
-              (own callee frames q)
+          ++ child_holder code given.0 (Go n from passes removes) (last_frames (next callee).goroutines))
+          (own callee frames q)
           ∙ ap (λ x. slice_set s.holders g (holder_after code given.0 frame callers (Go n from passes removes)
-              (frame' ∷ callers)) ++ child_holder code given.0 (Go n from passes removes) x)
-              (last_frames_snoc (slice_set s.plain.goroutines g (frame' ∷ callers)) (entered callee ∷ []))
+          (frame' ∷ callers)) ++ child_holder code given.0 (Go n from passes removes) x)
+          (last_frames_snoc (slice_set s.plain.goroutines g (frame' ∷ callers)) (entered callee ∷ []))
           ∙ ap (λ (x : Holder). slice_set s.holders g (holder_after code x frame callers (Go n from passes removes)
-              (frame' ∷ callers)) ++ child_holder code x (Go n from passes removes) (entered callee ∷ [])) same.same
+          (frame' ∷ callers)) ++ child_holder code x (Go n from passes removes) (entered callee ∷ [])) same.same
           ∙ ap (λ (o : Option CodeFn). slice_set s.holders g
-              (holder_after code (record h { fills = same.fills }) frame callers (Go n from passes removes)
-              (frame' ∷ callers)) ++ record {
+          (holder_after code (record h { fills = same.fills }) frame callers (Go n from passes removes)
+          (frame' ∷ callers)) ++ record {
             stakes = h.pending;
             pending = [];
             environments = environment_of (result_of o) (passed (formals_of o)
@@ -655,7 +669,7 @@ module _ (code : Code) (page_words : ℕ) (s : RegionState) (g : ℕ) (h : Holde
                 (current_erased code frame ∙ ap (option_map erased_instr) cur)
                 ∙ ap (λ o. act (erased code) s.plain.memory (erased_op o) instr.place frame callers) is
                 ∙ ap (start s.plain.memory frame callers n (values_of frame from))
-                    (slice_get-map erased_fn code.functions n ∙ ap (option_map erased_fn) q);
+                (slice_get-map erased_fn code.functions n ∙ ap (option_map erased_fn) q);
           }
 
       go : (o : Option CodeFn) → slice_get code.functions frame.function ≡ o → current_in o frame.next ≡ Some instr
@@ -666,30 +680,23 @@ module _ (code : Code) (page_words : ℕ) (s : RegionState) (g : ℕ) (h : Holde
           none_some e = cc
       go (Some fn) q c =
           let there : StartExists (erased code) n from = subst
-              (λ (x : CodeOp). OpExists (erased code) (erased_fn fn) (erased_op x)) is
-              (checked rule.Exists (line.Instr frame.function frame.next) fn instr q c).exists in
+          (λ (x : CodeOp). OpExists (erased code) (erased_fn fn) (erased_op x)) is
+          (checked rule.Exists (line.Instr frame.function frame.next) fn instr q c).exists in
           found (slice_get code.functions n) refl there.callee
-              (sym (slice_get-map erased_fn code.functions n) ∙ there.declared)
+          (sym (slice_get-map erased_fn code.functions n) ∙ there.declared)
 
 pub fine_start_of : (code : Code) (page_words : ℕ) (s t : RegionState) (g : ℕ) (x : OneDone code page_words s g t)
     (n : ℕ) (from : List ℕ) (passes : List Class) (removes : List ℕ) → IsChecked code → Ascends code → Fine code s
     → x.instr.op ≡ Go n from passes removes → Fine code t
 fine_start_of code page_words s t g x n from passes removes checked written fine is =
     let c = is_started code page_words s g x.h x.frame x.callers x.instr n from passes removes checked written fine
-        x.there (ap frames_in x.at) x.cur is in
+    x.there (ap frames_in x.at) x.cur is in
     subst (Fine code) (sym x.is)
     (subst (λ a. Fine code (instructed_with code s g x.frame x.callers x.instr (after s.plain g a) x.given))
-        (the_same _ x.a (sym c.acts ∙ x.acts))
+    (the_same _ x.a (sym c.acts ∙ x.acts))
     (behind code page_words s g x.h x.frame x.callers x.instr n from passes removes checked written fine x.there
-        (ap frames_in x.at) x.cur is c.callee (x.frame ∷ x.callers) x.given c.declared x.at (ap has_none x.ready.none)
-        x.same))
+    (ap frames_in x.at) x.cur is c.callee (x.frame ∷ x.callers) x.given c.declared x.at (ap has_none x.ready.none)
+    x.same))
   where
     the_same : (x y : Acted) → Some x ≡ Some y → x ≡ y
     the_same x y e = cc
-
-pub starts_keep : StartsKeep
-starts_keep code page_words s t g h frame callers instr n from passes removes checked written fine e at cur is r =
-    let x = yields_is {P = OneDone code page_words s g} (region_step code page_words s (Instruct (One g))) t
-        (one_done code page_words s g) r in
-    fine_start_of code page_words s t g x n from passes removes checked written fine
-        (ap (λ (i : CodeInstr). i.op) (instr_is code page_words s t g x frame callers instr at cur) ∙ is)

@@ -78,12 +78,14 @@ module _ (Own : ℕ → Type 0) (Then : Bindings → List Region → Type 0) whe
     (h r (contains_here r rs)).0,
     (h r (contains_here r rs)).1,
     ready_removes rs duties (unbind names r) d.1
-        (λ k c. ((λ e. (h k (contains_there r rs k c)).0 (sym (bound_unbind_other names r k (other k c)) ∙ e)),
-            (h k (contains_there r rs k c)).1))
+        (λ k c. (
+          (λ e. (h k (contains_there r rs k c)).0 (sym (bound_unbind_other names r k (other k c)) ∙ e)),
+          (h k (contains_there r rs k c)).1,
+        ))
         (λ left gone kept. next left
         (λ k c. first left gone kept k (contains_cases r rs k c))
         (λ k n. kept k (λ c. n (contains_there r rs k c)) ∙ bound_unbind_other names r k
-            (ne_of r k (λ e. n (subst (λ x. Contains (r ∷ rs) x) e (contains_here r rs)))))),
+        (ne_of r k (λ e. n (subst (λ x. Contains (r ∷ rs) x) e (contains_here r rs)))))),
   )
     where
       other : (k : ℕ) → Contains rs k → nat_eq r k ≡ false
@@ -111,7 +113,7 @@ module _ (Own : ℕ → Type 0) (Then : Bindings → List Region → Type 0) whe
         (λ new made kept. next new
         (λ k i. first r new made kept k (contains_cases c cs k i))
         (λ k n. kept k (λ i. n (contains_there c cs k i)) ∙ more r k
-            (ne_of c k (λ e. n (subst (λ x. Contains (c ∷ cs) x) e (contains_here c cs)))))),
+        (ne_of c k (λ e. n (subst (λ x. Contains (c ∷ cs) x) e (contains_here c cs)))))),
   )
     where
       other : (k : ℕ) → Contains cs k → nat_eq c k ≡ false
@@ -139,8 +141,11 @@ module _ (Own : ℕ → Type 0) (Then : Bindings → List Region → Type 0) whe
       → ((k : ℕ) → Contains ks k → bound names k ≢ None) → Then names protections
       → IsReady Own Then (map Share ks) names protections
   ready_shares [] names protections h t = t
-  ready_shares (k ∷ ks) names protections h t = (h k (contains_here k ks), ready_shares ks names protections
-      (λ j c. h j (contains_there k ks j c)) t)
+  ready_shares (k ∷ ks) names protections h t = (
+    h k (contains_here k ks),
+    ready_shares ks names protections
+        (λ j c. h j (contains_there k ks j c)) t,
+  )
 
   -- bound names can be protected, and each is counted once more among the protections
   pub ready_protects : (ks : List ℕ) (names : Bindings) (protections : List Region)
@@ -153,7 +158,7 @@ module _ (Own : ℕ → Type 0) (Then : Bindings → List Region → Type 0) whe
     λ q e.
         ready_protects ks names (q ∷ protections) (λ j c. h j (contains_there k ks j c))
         (λ more eq. next more (λ r. let a = eq r in let b : one_if (same_bound r (bound names k))
-            ≡ one_if (same_region r q) = ap (λ x. one_if (same_bound r x)) e in omega (arith, a, b))),
+        ≡ one_if (same_region r q) = ap (λ x. one_if (same_bound r x)) e in omega (arith, a, b))),
   )
 
 -- ---- along an edge
@@ -187,18 +192,32 @@ pub live_back : (fn : CodeFn) (i j v : ℕ) (instr : CodeInstr) (removes : List 
     → Live (erased_fn fn) v i
 live_back fn i j v instr removes here c w (n, l) =
     let e : slice_get (erased_fn fn).body i ≡ Some (erased_instr instr) =
-        slice_get-map erased_instr fn.body i ∙ ap (option_map erased_instr) here in
-    (suc n, ((λ x. w (ap written_by (sym e) ∙ x)), j, subst (λ o. Contains (led_to_by i o) j) (sym e)
-        (edge_leads instr.op i j removes c), l))
+    slice_get-map erased_instr fn.body i ∙ ap (option_map erased_instr) here in (
+      suc n,
+      (
+        (λ x. w (ap written_by (sym e) ∙ x)),
+        j,
+        subst (λ o. Contains (led_to_by i o) j) (sym e)
+            (edge_leads instr.op i j removes c),
+        l,
+      ),
+    )
 
 -- what is held behind was held before, or created
 hold_back : (fn : CodeFn) (i j k : ℕ) (instr : CodeInstr) (removes : List ℕ) → HasInstr fn i instr
     → Contains (edges instr.op i) (j, removes) → CreatesUsed fn i instr → ¬ (Contains instr.creates k) → Holds fn k j
     → ¬ (¬ (Holds fn k i))
 hold_back fn i j k instr removes here c creates n (own, at) never =
-    never (own, record { variable = at.variable; named = at.named; live =
-        live_back fn i j at.variable instr removes here c (λ w.
-        n ((creates k).1 (own, record { variable = at.variable; used = inr w; named = at.named }, never))) at.live })
+    never (
+      own,
+      record {
+        variable = at.variable;
+        named = at.named;
+        live =
+            live_back fn i j at.variable instr removes here c (λ w.
+            n ((creates k).1 (own, record { variable = at.variable; used = inr w; named = at.named }, never))) at.live;
+      },
+    )
 
 -- what is held behind a call was not given to it
 hold_not_given : (code : Code) (fn : CodeFn) (i j k : ℕ) (op : CodeOp) (removes : List ℕ)
@@ -279,13 +298,13 @@ pub arrives : (code : Code) (fn : CodeFn) (i j : ℕ) (instr next : CodeInstr) (
     → IsReady (IsFree fn j) (Settled fn j next) (map Remove removes ++ duties_before (Some next)) names []
 arrives code fn i j instr next removes names a c b l =
     ready_removes (IsFree fn j) (Settled fn j next) removes (duties_before (Some next)) names
-        (ascending_distinct removes (a.written.removes j removes c)) (λ k d. goes k ((a.removes j removes c k).0 d))
+    (ascending_distinct removes (a.written.removes j removes c)) (λ k d. goes k ((a.removes j removes c k).0 d))
     (λ left gone kept. ready_creates (IsFree fn j) (Settled fn j next) next.creates (duties_of_op next.op) left []
-        (ascending_distinct next.creates b.written.creates)
+    (ascending_distinct next.creates b.written.creates)
     (λ k d. let x = (b.creates k).0 d in (unbound left gone kept k x.0 x.2 (stands_or_not removes k), (x.0, x.2)))
     (λ new made kept'. ready_ops (IsFree fn j) (Settled fn j next) next.op new
     (λ k d. named_bound fn j k next new b.creates (there left kept new made kept') made (lent left kept new kept')
-        (b.asked k d))
+    (b.asked k d))
     (λ protections fit. record {
       there = there left kept new made kept';
       made = made;
@@ -309,7 +328,7 @@ arrives code fn i j instr next removes names a c b l =
         still (inr s) =
             let not_given : ¬ (Gives code instr.op k) = λ g. s (l.given k g) in
             l.gone k o (λ x. n ((a.removes j removes c k).1 ((inl x, not_given), h)))
-                (λ x. n ((a.removes j removes c k).1 ((inr x, not_given), h)))
+            (λ x. n ((a.removes j removes c k).1 ((inr x, not_given), h)))
 
     here : (k : ℕ) → Holds fn k j → bound names k ≢ None
     here k h e = go (stands_or_not instr.creates k)
@@ -336,4 +355,4 @@ arrives code fn i j instr next removes names a c b l =
         → bound new k ≢ None
     lent left kept new kept' k r e =
         l.lent k r (sym (kept k (λ d. (goes k ((a.removes j removes c k).0 d)).1.0 r))
-            ∙ sym (kept' k (λ d. ((b.creates k).0 d).0 r)) ∙ e)
+        ∙ sym (kept' k (λ d. ((b.creates k).0 d).0 r)) ∙ e)

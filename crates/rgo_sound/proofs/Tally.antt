@@ -46,8 +46,16 @@ record Adds (s : RegionState) (d : Counts) (t : RegionState) : Type 0 where
   goroutines : length t.plain.goroutines ≡ length s.plain.goroutines + d.goroutines
 
 adds_counts : (s t : RegionState) (d : Counts) → Adds s d t → counts_of t ≡ counts_plus (counts_of s) d
-adds_counts s t d a = λ i. record { made = Adds.made a i; removed = Adds.removed a i; taken = Adds.taken a i; returned =
-    Adds.returned a i; steps = Adds.steps a i; objects = Adds.objects a i; goroutines = Adds.goroutines a i }
+adds_counts s t d a = λ i. record {
+  made = Adds.made a i;
+  removed = Adds.removed a i;
+  taken = Adds.taken a i;
+  returned =
+      Adds.returned a i;
+  steps = Adds.steps a i;
+  objects = Adds.objects a i;
+  goroutines = Adds.goroutines a i;
+}
 
 sum_with_info : (f : RegionInfo → ℕ) (infos : List RegionInfo) (r : ℕ) (change : RegionInfo → RegionInfo)
     (info : RegionInfo) → slice_get infos r ≡ Some info → sum_by f (with_info infos r change) + f info
@@ -92,8 +100,8 @@ module _ (s : RegionState) where
       → slice_get s.regions r ≡ Some info → t.regions ≡ with_info s.regions r change → t.global_pages ≡ s.global_pages
       → t.steps ≡ s.steps → t.plain ≡ s.plain →
       d.made ≡ 0 → cond (is_removed (change info)) 1 0 ≡ cond (is_removed info) 1 0 + d.removed → (change info).pages
-          ≡ info.pages + d.taken → pages_if_removed (change info) ≡ pages_if_removed info + d.returned → d.steps ≡ 0
-          → d.objects ≡ 0 → d.goroutines ≡ 0 → Adds s d t
+      ≡ info.pages + d.taken → pages_if_removed (change info) ≡ pages_if_removed info + d.returned → d.steps ≡ 0
+      → d.objects ≡ 0 → d.goroutines ≡ 0 → Adds s d t
   changed_counts t r change info d e rs gs ss ps d1 d2 d3 d4 d5 d6 d7 =
       record {
         made = let a = ap length rs in let b = length_with_info s.regions r change in omega (arith, a, b, d1);
@@ -148,12 +156,12 @@ module _ (s : RegionState) where
       by : (n : ℕ) → x.0.stakes ≡ suc n → Adds s (share_of_last (Some x.0)) t
       by zero e =
           subst (λ b. Adds s (if b then record no_share { removed = 1; returned = x.0.pages } else no_share) t)
-              (sym (ap (λ y. nat_eq y 1) e ∙ one))
+          (sym (ap (λ y. nat_eq y 1) e ∙ one))
           (changed_counts t r one_fewer x.0 (record no_share { removed = 1; returned = x.0.pages }) x.1 rs gs ss ps refl
           (ap (λ b. cond b 1 0) gone ∙ sym (ap (λ b. cond b 1 0 + 1) (not_removed x.0 0 e)))
           (add_none x.0.pages)
           (pages_zero (one_fewer x.0) true gone ∙ zero_add x.0.pages
-              ∙ sym (ap (λ y. y + x.0.pages) (pages_zero x.0 false (not_removed x.0 0 e))))
+          ∙ sym (ap (λ y. y + x.0.pages) (pages_zero x.0 false (not_removed x.0 0 e))))
           refl refl refl)
         where
           one : nat_eq 1 1 ≡ true
@@ -169,12 +177,12 @@ module _ (s : RegionState) where
           gone = less x.0.stakes e
       by (suc n) e =
           subst (λ b. Adds s (if b then record no_share { removed = 1; returned = x.0.pages } else no_share) t)
-              (sym (ap (λ y. nat_eq y 1) e ∙ more n))
+          (sym (ap (λ y. nat_eq y 1) e ∙ more n))
           (changed_counts t r one_fewer x.0 no_share x.1 rs gs ss ps refl
           (ap (λ b. cond b 1 0) still ∙ sym (ap (λ b. cond b 1 0 + 0) (not_removed x.0 (suc n) e)))
           (add_none x.0.pages)
           (pages_zero (one_fewer x.0) false still ∙ sym (ap (λ y. y + 0)
-              (pages_zero x.0 false (not_removed x.0 (suc n) e))))
+          (pages_zero x.0 false (not_removed x.0 (suc n) e))))
           refl refl refl)
         where
           more : (n : ℕ) → nat_eq (suc (suc n)) 1 ≡ false
@@ -197,7 +205,7 @@ module _ (s : RegionState) where
       (ap (λ b. cond b 1 0) still ∙ sym (ap (λ b. cond b 1 0 + 0) (not_removed x.0 x.2.0 x.2.1)))
       (add_none x.0.pages)
       (ap (λ c. if c then x.0.pages else 0) still ∙ sym (ap (λ c. (if c then x.0.pages else 0) + 0)
-          (not_removed x.0 x.2.0 x.2.1)))
+      (not_removed x.0 x.2.0 x.2.1)))
       refl refl refl
     where
       more : (k : ℕ) → nat_eq (k + 1) 0 ≡ false
@@ -213,7 +221,7 @@ module _ (s : RegionState) where
       (add_none _)
       refl
       (ap (λ c. if c then x.0.pages + 1 else 0) still ∙ sym
-          (ap (λ c. (if c then x.0.pages else 0) + 0) (not_removed x.0 x.2.0 x.2.1)))
+      (ap (λ c. (if c then x.0.pages else 0) + 0) (not_removed x.0 x.2.0 x.2.1)))
       refl refl refl
 
   made_counts : (t : RegionState) → t.regions ≡ s.regions ++ record { stakes = 1; pages = 0 } ∷ [] → t.global_pages
@@ -265,8 +273,10 @@ module _ (s : RegionState) where
       (λ q. yields_if _ _ _ (yields _ (same_counts _ refl refl refl refl)) yields_none)
   adds_done g h (Unprotect k) = yields_then (λ q. Some (attended s g (unprotected h q))) _
       (λ q. yields _ (same_counts _ refl refl refl refl))
-  adds_done g h (Remove k) = adds_named g (record h { environments =
-      with_top h.environments (unbind (top_names h.environments) k) }) (bound (top_names h.environments) k)
+  adds_done g h (Remove k) = adds_named g (record h {
+    environments =
+        with_top h.environments (unbind (top_names h.environments) k);
+  }) (bound (top_names h.environments) k)
   adds_done g h (EndBase r) = adds_removal g (record h { base = removed_once r h.base }) r
 
   adds_attend : (g : ℕ) (h : Holder) (ds : List Duty) → Yields (Adds s (share_of_first s h ds)) (attend s g h ds)
@@ -293,9 +303,16 @@ module _ (s : RegionState) where
       live false b c d q = absurd (true≢false (sym q))
 
       taken : (q : Region) → Yields (Adds s (record no_share { taken = 1 })) (takes_page code page_words s g h q)
-      taken GlobalRegion = yields_if _ _ _ (yields _ (record
-          { made = add_none _; removed = add_none _; taken = omega arith; returned = add_none _; steps =
-          add_none _; objects = add_none _; goroutines = add_none _ })) yields_none
+      taken GlobalRegion = yields_if _ _ _ (yields _ (record {
+        made = add_none _;
+        removed = add_none _;
+        taken = omega arith;
+        returned = add_none _;
+        steps =
+            add_none _;
+        objects = add_none _;
+        goroutines = add_none _;
+      })) yields_none
       taken (Numbered r) = yields_where (has_none h.duties && may_go h.offer && is_live s.regions (Numbered r) &&
           wants_page page_words (fill_of h.fills (Numbered r)) (next_object code s g)) _
           (λ l. yields _ (page_added _ r (live (has_none h.duties) (may_go h.offer) (is_live s.regions (Numbered r)) _
@@ -342,20 +359,20 @@ module _ (s : RegionState) where
       both _ (step_follows code page_words s (Instruct (One g))) (one_done code page_words s g) (λ t f x.
       subst (λ o. Adds s (share_of_plain s o) t) (sym f.1)
       (plain_counts t f.0 (ap (λ (y : RegionState). y.regions) x.is) (ap (λ (y : RegionState). y.global_pages) x.is)
-          (ap (λ (y : RegionState). y.steps) x.is) f.2.plain
+      (ap (λ (y : RegionState). y.steps) x.is) f.2.plain
       (let a = heap_only_grows (erased code) s.plain.memory (x.frame ∷ x.callers) x.a x.acts in let b =
-          ap (λ (y : RegionState). length y.plain.memory.heap) x.is in omega (arith, a, b))
+      ap (λ (y : RegionState). length y.plain.memory.heap) x.is in omega (arith, a, b))
       (let a = length-append (slice_set s.plain.goroutines g x.a.frames) x.a.started in let b =
-          length_set s.plain.goroutines g x.a.frames in let c =
-          ap (λ (y : RegionState). length y.plain.goroutines) x.is in omega (arith, a, b, c))))
+      length_set s.plain.goroutines g x.a.frames in let c =
+      ap (λ (y : RegionState). length y.plain.goroutines) x.is in omega (arith, a, b, c))))
   adds_instruct code page_words (Meet r u) =
       both _ (step_follows code page_words s (Instruct (Meet r u))) (meet_done code page_words s r u) (λ t f x.
       subst (λ o. Adds s (share_of_plain s o) t) (sym f.1)
       (plain_counts t f.0 x.regions x.global_pages x.steps f.2.plain
       (let b = ap (λ (p : TacState). length p.memory.heap) x.plain in omega (arith, b))
       (let a = length_set (slice_set s.plain.goroutines r (x.go_on x.v)) u x.next in let b =
-          length_set s.plain.goroutines r (x.go_on x.v) in let c = ap (λ (p : TacState). length p.goroutines) x.plain in
-          omega (arith, a, b, c))))
+      length_set s.plain.goroutines r (x.go_on x.v) in let c = ap (λ (p : TacState). length p.goroutines) x.plain in
+      omega (arith, a, b, c))))
 
   adds_step : (code : Code) (page_words : ℕ) (event : Event)
       → Yields (Adds s (share_of code s event)) (region_step code page_words s event)

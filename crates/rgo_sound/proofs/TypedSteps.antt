@@ -136,198 +136,208 @@ module _ (code : Code) (checked : IsChecked code) where
 
   module _ (kinds : List «Type») (m : Memory) (fits : MemoryFits code kinds m) (frame : Frame) (callers : List Frame)
       (instr : CodeInstr) (cur : current code frame ≡ Some instr) (all : FramesHaveKinds code kinds (frame ∷ callers))
-      where
-    -- the frames are these, and the memory is as it was
-    moves_fit : (frames : List Frame) → FramesHaveKinds code kinds frames
-        → ActedFits code kinds (record { memory = m; frames = frames; started = []; printed = []; trap = None })
-    moves_fit frames h = record { more = kinds; ext = λ o ty e. e; memory = fits; frames = h; started = tt }
+    where
+      -- the frames are these, and the memory is as it was
+      moves_fit : (frames : List Frame) → FramesHaveKinds code kinds frames
+          → ActedFits code kinds (record { memory = m; frames = frames; started = []; printed = []; trap = None })
+      moves_fit frames h = record { more = kinds; ext = λ o ty e. e; memory = fits; frames = h; started = tt }
 
-    goes_on : ActedFits code kinds (record { memory = m; frames = moved_to frame (frame.next + 1) ∷ callers; started =
-        []; printed = []; trap = None })
-    goes_on = moves_fit (moved_to frame (frame.next + 1) ∷ callers)
-        (stays code kinds frame callers all (frame.next + 1))
+      goes_on : ActedFits code kinds (record {
+        memory = m;
+        frames = moved_to frame (frame.next + 1) ∷ callers;
+        started =
+            [];
+        printed = [];
+        trap = None;
+      })
+      goes_on = moves_fit (moved_to frame (frame.next + 1) ∷ callers)
+          (stays code kinds frame callers all (frame.next + 1))
 
-    -- ---- an action
+      -- ---- an action
 
-    acted : (to : Option ℕ) (given : Option «Type») (place : ℕ) (e : Option Effect)
-        → ((more : List «Type») (v : Value) → Extends kinds more → GivesKind more given v
-        → HaveKinds more (erased_fn all.0.0).variables (assigned frame.variables to v))
-        → Always (Performed code kinds given) e → Always (ActedFits code kinds) (effected m frame callers to place e)
-    acted to given place None target p = tt
-    acted to given place (Some (Does m' v)) target (more, ext, fits', g) = record {
-      more = more;
-      ext = ext;
-      memory = fits';
-      frames =
-          goes code kinds more frame callers all ext (assigned frame.variables to v) (frame.next + 1)
-              (target more v ext g);
-      started = tt;
-    }
-    acted to given place (Some (Traps trap)) target p =
-        record { more = kinds; ext = λ o ty e. e; memory = fits; frames = all; started = tt }
+      acted : (to : Option ℕ) (given : Option «Type») (place : ℕ) (e : Option Effect)
+          → ((more : List «Type») (v : Value) → Extends kinds more → GivesKind more given v
+          → HaveKinds more (erased_fn all.0.0).variables (assigned frame.variables to v))
+          → Always (Performed code kinds given) e → Always (ActedFits code kinds) (effected m frame callers to place e)
+      acted to given place None target p = tt
+      acted to given place (Some (Does m' v)) target (more, ext, fits', g) = record {
+        more = more;
+        ext = ext;
+        memory = fits';
+        frames =
+            goes code kinds more frame callers all ext (assigned frame.variables to v) (frame.next + 1)
+            (target more v ext g);
+        started = tt;
+      }
+      acted to given place (Some (Traps trap)) target p =
+          record { more = kinds; ext = λ o ty e. e; memory = fits; frames = all; started = tt }
 
-    -- the type for which a value is made is that of the variable
-    type_is : (d : ℕ) (ty : «Type») → HasType (erased_fn all.0.0) d ty → type_of (erased code) frame (Some d) ≡ ty
-    type_is d ty t =
-        ap (λ o. type_in o d) (slice_get-map erased_fn code.functions frame.function
-            ∙ ap (option_map erased_fn) all.0.1)
-        ∙ get_or_from_slice_get (erased_fn all.0.0).variables d ty _ t
+      -- the type for which a value is made is that of the variable
+      type_is : (d : ℕ) (ty : «Type») → HasType (erased_fn all.0.0) d ty → type_of (erased code) frame (Some d) ≡ ty
+      type_is d ty t =
+          ap (λ o. type_in o d) (slice_get-map erased_fn code.functions frame.function
+          ∙ ap (option_map erased_fn) all.0.1)
+          ∙ get_or_from_slice_get (erased_fn all.0.0).variables d ty _ t
 
-    does : (to : Option ℕ) (action : Action) (from : List ℕ) (tys : List «Type») (place : ℕ)
-        → HaveTypes (erased_fn all.0.0) from tys → DoFits (erased code) (erased_fn all.0.0) to action tys
-        → Always (ActedFits code kinds) (effected m frame callers to place
-            (performed code.structs action (type_of (erased code) frame to) (values_of frame from) m))
-    does None action from tys place have t =
-        acted None None place (performed code.structs action (type_of (erased code) frame None) (values_of frame from)
-            m)
-        (λ more v ext g. more_kinds kinds more ext (erased_fn all.0.0).variables frame.variables all.0.2)
-        (takes code kinds m fits action (type_of (erased code) frame None) tys (values_of frame from) t
-        (vars_kinds kinds (erased_fn all.0.0) frame all.0.2 from tys have))
-    does (Some d) action from tys place have (ty, t, r) =
-        subst (λ x. Always (ActedFits code kinds) (effected m frame callers (Some d) place
-            (performed code.structs action x (values_of frame from) m))) (sym (type_is d ty t))
-        (acted (Some d) (Some ty) place (performed code.structs action ty (values_of frame from) m)
-        (λ more v ext g. set_kinds more (erased_fn all.0.0).variables frame.variables d ty v
-        (more_kinds kinds more ext (erased_fn all.0.0).variables frame.variables all.0.2) t g)
-        (returns code kinds m fits action ty tys (values_of frame from) r
-        (vars_kinds kinds (erased_fn all.0.0) frame all.0.2 from tys have)))
+      does : (to : Option ℕ) (action : Action) (from : List ℕ) (tys : List «Type») (place : ℕ)
+          → HaveTypes (erased_fn all.0.0) from tys → DoFits (erased code) (erased_fn all.0.0) to action tys
+          → Always (ActedFits code kinds) (effected m frame callers to place
+          (performed code.structs action (type_of (erased code) frame to) (values_of frame from) m))
+      does None action from tys place have t =
+          acted None None place (performed code.structs action (type_of (erased code) frame None) (values_of frame from)
+          m)
+          (λ more v ext g. more_kinds kinds more ext (erased_fn all.0.0).variables frame.variables all.0.2)
+          (takes code kinds m fits action (type_of (erased code) frame None) tys (values_of frame from) t
+          (vars_kinds kinds (erased_fn all.0.0) frame all.0.2 from tys have))
+      does (Some d) action from tys place have (ty, t, r) =
+          subst (λ x. Always (ActedFits code kinds) (effected m frame callers (Some d) place
+          (performed code.structs action x (values_of frame from) m))) (sym (type_is d ty t))
+          (acted (Some d) (Some ty) place (performed code.structs action ty (values_of frame from) m)
+          (λ more v ext g. set_kinds more (erased_fn all.0.0).variables frame.variables d ty v
+          (more_kinds kinds more ext (erased_fn all.0.0).variables frame.variables all.0.2) t g)
+          (returns code kinds m fits action ty tys (values_of frame from) r
+          (vars_kinds kinds (erased_fn all.0.0) frame all.0.2 from tys have)))
 
-    -- ---- a call, and a start
+      -- ---- a call, and a start
 
-    -- the variables of the callee's frame
-    enters : (n : ℕ) (callee : CodeFn) (from : List ℕ) → ArgumentsFit (erased_fn all.0.0) (Some (erased_fn callee)) from
-        → HaveKinds kinds (erased_fn callee).variables (called (erased_fn callee) n (values_of frame from)).variables
-    enters n callee from fit =
-        called_kinds kinds (erased_fn callee).variables callee.params (values_of frame from)
-        (vars_kinds kinds (erased_fn all.0.0) frame all.0.2 from (take callee.params (erased_fn callee).variables) fit)
+      -- the variables of the callee's frame
+      enters : (n : ℕ) (callee : CodeFn) (from : List ℕ) → ArgumentsFit (erased_fn all.0.0) (Some (erased_fn callee))
+          from
+          → HaveKinds kinds (erased_fn callee).variables (called (erased_fn callee) n (values_of frame from)).variables
+      enters n callee from fit =
+          called_kinds kinds (erased_fn callee).variables callee.params (values_of frame from)
+          (vars_kinds kinds (erased_fn all.0.0) frame all.0.2 from (take callee.params (erased_fn callee).variables)
+              fit)
 
-    calls : (to : Option ℕ) (n : ℕ) (from : List ℕ) (passes : List Class) (protects removes : List ℕ)
-        → instr.op ≡ Call to n from passes protects removes
-        → ArgumentsFit (erased_fn all.0.0) (slice_get (erased code).functions n) from
-        → Always (ActedFits code kinds) (call m frame callers n (values_of frame from)
-            (slice_get (erased code).functions n))
-    calls to n from passes protects removes is fit =
-        subst (λ o. ArgumentsFit (erased_fn all.0.0) o from
-            → Always (ActedFits code kinds) (call m frame callers n (values_of frame from) o))
-            (sym (slice_get-map erased_fn code.functions n))
-        (go (slice_get code.functions n) refl) fit
-      where
-        go : (o : Option CodeFn) → slice_get code.functions n ≡ o
-            → ArgumentsFit (erased_fn all.0.0) (option_map erased_fn o) from
-            → Always (ActedFits code kinds) (call m frame callers n (values_of frame from) (option_map erased_fn o))
-        go None q fit = goes_on
-        go (Some callee) q fit =
-            moves_fit (called (erased_fn callee) n (values_of frame from) ∷ frame ∷ callers) (
-              (callee, q, enters n callee from fit),
-              (callee, q, instr, cur, subst (λ o. IsCallOf code o callee) (sym is) q),
-              all,
-            )
+      calls : (to : Option ℕ) (n : ℕ) (from : List ℕ) (passes : List Class) (protects removes : List ℕ)
+          → instr.op ≡ Call to n from passes protects removes
+          → ArgumentsFit (erased_fn all.0.0) (slice_get (erased code).functions n) from
+          → Always (ActedFits code kinds) (call m frame callers n (values_of frame from)
+          (slice_get (erased code).functions n))
+      calls to n from passes protects removes is fit =
+          subst (λ o. ArgumentsFit (erased_fn all.0.0) o from
+          → Always (ActedFits code kinds) (call m frame callers n (values_of frame from) o))
+          (sym (slice_get-map erased_fn code.functions n))
+          (go (slice_get code.functions n) refl) fit
+        where
+          go : (o : Option CodeFn) → slice_get code.functions n ≡ o
+              → ArgumentsFit (erased_fn all.0.0) (option_map erased_fn o) from
+              → Always (ActedFits code kinds) (call m frame callers n (values_of frame from) (option_map erased_fn o))
+          go None q fit = goes_on
+          go (Some callee) q fit =
+              moves_fit (called (erased_fn callee) n (values_of frame from) ∷ frame ∷ callers) (
+                (callee, q, enters n callee from fit),
+                (callee, q, instr, cur, subst (λ o. IsCallOf code o callee) (sym is) q),
+                all,
+              )
 
-    begins : (n : ℕ) (from : List ℕ) → ArgumentsFit (erased_fn all.0.0) (slice_get (erased code).functions n) from
-        → Always (ActedFits code kinds) (start m frame callers n (values_of frame from)
-            (slice_get (erased code).functions n))
-    begins n from fit =
-        subst (λ o. ArgumentsFit (erased_fn all.0.0) o from
-            → Always (ActedFits code kinds) (start m frame callers n (values_of frame from) o))
-            (sym (slice_get-map erased_fn code.functions n))
-        (go (slice_get code.functions n) refl) fit
-      where
-        go : (o : Option CodeFn) → slice_get code.functions n ≡ o
-            → ArgumentsFit (erased_fn all.0.0) (option_map erased_fn o) from
-            → Always (ActedFits code kinds) (start m frame callers n (values_of frame from) (option_map erased_fn o))
-        go None q fit = goes_on
-        go (Some callee) q fit = record {
-          more = kinds;
-          ext = λ o ty e. e;
-          memory = fits;
-          frames = stays code kinds frame callers all (frame.next + 1);
-          started = (((callee, q, enters n callee from fit), tt, tt), tt);
-        }
+      begins : (n : ℕ) (from : List ℕ) → ArgumentsFit (erased_fn all.0.0) (slice_get (erased code).functions n) from
+          → Always (ActedFits code kinds) (start m frame callers n (values_of frame from)
+          (slice_get (erased code).functions n))
+      begins n from fit =
+          subst (λ o. ArgumentsFit (erased_fn all.0.0) o from
+          → Always (ActedFits code kinds) (start m frame callers n (values_of frame from) o))
+          (sym (slice_get-map erased_fn code.functions n))
+          (go (slice_get code.functions n) refl) fit
+        where
+          go : (o : Option CodeFn) → slice_get code.functions n ≡ o
+              → ArgumentsFit (erased_fn all.0.0) (option_map erased_fn o) from
+              → Always (ActedFits code kinds) (start m frame callers n (values_of frame from) (option_map erased_fn o))
+          go None q fit = goes_on
+          go (Some callee) q fit = record {
+            more = kinds;
+            ext = λ o ty e. e;
+            memory = fits;
+            frames = stays code kinds frame callers all (frame.next + 1);
+            started = (((callee, q, enters n callee from fit), tt, tt), tt);
+          }
 
-    -- ---- a return
+      -- ---- a return
 
-    comes_back : (value : Option ℕ) → instr.op ≡ Return value
-        → Always (ActedFits code kinds) (returned (erased code) m (option_map (value_at frame) value) callers)
-    comes_back value is = go callers all.1 all.2
-      where
-        go : (cs : List Frame) → CalledFrom code frame cs → FramesHaveKinds code kinds cs
-            → Always (ActedFits code kinds) (returned (erased code) m (option_map (value_at frame) value) cs)
-        go [] c h = moves_fit [] tt
-        go (caller ∷ cs) (f, is_f, call, cur', of) waits =
-            moves_fit (resumed_at caller _ (option_map (value_at frame) value) ∷ cs)
-            (subst (λ o. FramesHaveKinds code kinds (resumed_at caller o (option_map (value_at frame) value) ∷ cs))
-            (sym (current_erased code caller ∙ ap (option_map erased_instr) cur'))
-            (by call.op of (types caller waits.0.0 call waits.0.1 cur' call.op refl)))
-          where
-            same_fn : all.0.0 ≡ f
-            same_fn = same_Some all.0.0 f (sym all.0.1 ∙ is_f)
+      comes_back : (value : Option ℕ) → instr.op ≡ Return value
+          → Always (ActedFits code kinds) (returned (erased code) m (option_map (value_at frame) value) callers)
+      comes_back value is = go callers all.1 all.2
+        where
+          go : (cs : List Frame) → CalledFrom code frame cs → FramesHaveKinds code kinds cs
+              → Always (ActedFits code kinds) (returned (erased code) m (option_map (value_at frame) value) cs)
+          go [] c h = moves_fit [] tt
+          go (caller ∷ cs) (f, is_f, call, cur', of) waits =
+              moves_fit (resumed_at caller _ (option_map (value_at frame) value) ∷ cs)
+              (subst (λ o. FramesHaveKinds code kinds (resumed_at caller o (option_map (value_at frame) value) ∷ cs))
+              (sym (current_erased code caller ∙ ap (option_map erased_instr) cur'))
+              (by call.op of (types caller waits.0.0 call waits.0.1 cur' call.op refl)))
+            where
+              same_fn : all.0.0 ≡ f
+              same_fn = same_Some all.0.0 f (sym all.0.1 ∙ is_f)
 
-            -- the type of the target is that of the result
-            target : (d n v : ℕ) → slice_get code.functions n ≡ Some f
-                → TargetFits (erased_fn waits.0.0) (slice_get (erased code).functions n) (Some d) → value ≡ Some v
-                → HaveKinds kinds (erased_fn waits.0.0).variables (slice_set caller.variables d (value_at frame v))
-            target d n v named fit b =
-                let r = types frame all.0.0 instr all.0.1 cur (Return (Some v)) (is ∙ ap Return b) in
-                let fit' : TargetFits (erased_fn waits.0.0) (Some (erased_fn f)) (Some d) =
-                subst (λ o. TargetFits (erased_fn waits.0.0) o (Some d))
-                    (slice_get-map erased_fn code.functions n ∙ ap (option_map erased_fn) named) fit
-                in
-                set_kinds kinds (erased_fn waits.0.0).variables caller.variables d r.0 (value_at frame v) waits.0.2
-                (fit' r.0 (ap (λ (z : CodeFn). (erased_fn z).result_type) (sym same_fn) ∙ r.1))
-                (var_kind kinds (erased_fn all.0.0) frame all.0.2 v r.0 r.2)
+              -- the type of the target is that of the result
+              target : (d n v : ℕ) → slice_get code.functions n ≡ Some f
+                  → TargetFits (erased_fn waits.0.0) (slice_get (erased code).functions n) (Some d) → value ≡ Some v
+                  → HaveKinds kinds (erased_fn waits.0.0).variables (slice_set caller.variables d (value_at frame v))
+              target d n v named fit b =
+                  let r = types frame all.0.0 instr all.0.1 cur (Return (Some v)) (is ∙ ap Return b) in
+                  let fit' : TargetFits (erased_fn waits.0.0) (Some (erased_fn f)) (Some d) =
+                  subst (λ o. TargetFits (erased_fn waits.0.0) o (Some d))
+                  (slice_get-map erased_fn code.functions n ∙ ap (option_map erased_fn) named) fit
+                  in
+                  set_kinds kinds (erased_fn waits.0.0).variables caller.variables d r.0 (value_at frame v) waits.0.2
+                  (fit' r.0 (ap (λ (z : CodeFn). (erased_fn z).result_type) (sym same_fn) ∙ r.1))
+                  (var_kind kinds (erased_fn all.0.0) frame all.0.2 v r.0 r.2)
 
-            by : (op : CodeOp) → IsCallOf code op f → OpFits (erased code) (erased_fn waits.0.0) (erased_op op)
-                → FramesHaveKinds code kinds (resumed_by caller (erased_op op) (option_map (value_at frame) value) ∷ cs)
-            by (Call to n from passes protects removes) named t = result to t.1 value refl
-              where
-                result : (to : Option ℕ) → TargetFits (erased_fn waits.0.0) (slice_get (erased code).functions n) to
-                    → (w : Option ℕ) → value ≡ w
-                    → FramesHaveKinds code kinds (resumed_by caller (erased_op (Call to n from passes protects removes))
-                        (option_map (value_at frame) w) ∷ cs)
-                result to fit None b = stays code kinds caller cs waits (caller.next + 1)
-                result None fit (Some v) b = stays code kinds caller cs waits (caller.next + 1)
-                result (Some d) fit (Some v) b =
-                    goes code kinds kinds caller cs waits (λ o ty e. e)
-                        (slice_set caller.variables d (value_at frame v))
-                    (caller.next + 1) (target d n v named fit b)
-            by (Do to action from removes) named t = absurd named
-            by (Go n from passes removes) named t = absurd named
-            by (Print pieces from removes) named t = absurd named
-            by (Jump j removes) named t = absurd named
-            by (Branch v j removes k others) named t = absurd named
-            by (Return v) named t = absurd named
+              by : (op : CodeOp) → IsCallOf code op f → OpFits (erased code) (erased_fn waits.0.0) (erased_op op)
+                  → FramesHaveKinds code kinds (resumed_by caller (erased_op op) (option_map (value_at frame) value) ∷
+                      cs)
+              by (Call to n from passes protects removes) named t = result to t.1 value refl
+                where
+                  result : (to : Option ℕ) → TargetFits (erased_fn waits.0.0) (slice_get (erased code).functions n) to
+                      → (w : Option ℕ) → value ≡ w
+                      → FramesHaveKinds code kinds (resumed_by caller
+                          (erased_op (Call to n from passes protects removes))
+                      (option_map (value_at frame) w) ∷ cs)
+                  result to fit None b = stays code kinds caller cs waits (caller.next + 1)
+                  result None fit (Some v) b = stays code kinds caller cs waits (caller.next + 1)
+                  result (Some d) fit (Some v) b =
+                      goes code kinds kinds caller cs waits (λ o ty e. e)
+                      (slice_set caller.variables d (value_at frame v))
+                      (caller.next + 1) (target d n v named fit b)
+              by (Do to action from removes) named t = absurd named
+              by (Go n from passes removes) named t = absurd named
+              by (Print pieces from removes) named t = absurd named
+              by (Jump j removes) named t = absurd named
+              by (Branch v j removes k others) named t = absurd named
+              by (Return v) named t = absurd named
 
-    -- ---- each instruction
+      -- ---- each instruction
 
-    acts : (op : CodeOp) → instr.op ≡ op
-        → Always (ActedFits code kinds) (act (erased code) m (erased_op op) instr.place frame callers)
-    acts (Do to action from removes) is =
-        let t = types frame all.0.0 instr all.0.1 cur (Do to action from removes) is in
-        does to action from t.0 (trap_place action instr.place) t.1 t.2
-    acts (Call to n from passes protects removes) is =
-        calls to n from passes protects removes is
-        (types frame all.0.0 instr all.0.1 cur (Call to n from passes protects removes) is).0
-    acts (Go n from passes removes) is =
-        begins n from (types frame all.0.0 instr all.0.1 cur (Go n from passes removes) is)
-    acts (Print pieces from removes) is = record {
-      more = kinds;
-      ext = λ o ty e. e;
-      memory = fits;
-      frames = stays code kinds frame callers all (frame.next + 1);
-      started = tt;
-    }
-    acts (Jump j removes) is = moves_fit (moved_to frame j ∷ callers) (stays code kinds frame callers all j)
-    acts (Branch v j removes k others) is =
-        moves_fit (moved_to frame (if is_true (value_at frame v) then j else k) ∷ callers)
-        (stays code kinds frame callers all (if is_true (value_at frame v) then j else k))
-    acts (Return value) is = comes_back value is
+      acts : (op : CodeOp) → instr.op ≡ op
+          → Always (ActedFits code kinds) (act (erased code) m (erased_op op) instr.place frame callers)
+      acts (Do to action from removes) is =
+          let t = types frame all.0.0 instr all.0.1 cur (Do to action from removes) is in
+          does to action from t.0 (trap_place action instr.place) t.1 t.2
+      acts (Call to n from passes protects removes) is =
+          calls to n from passes protects removes is
+          (types frame all.0.0 instr all.0.1 cur (Call to n from passes protects removes) is).0
+      acts (Go n from passes removes) is =
+          begins n from (types frame all.0.0 instr all.0.1 cur (Go n from passes removes) is)
+      acts (Print pieces from removes) is = record {
+        more = kinds;
+        ext = λ o ty e. e;
+        memory = fits;
+        frames = stays code kinds frame callers all (frame.next + 1);
+        started = tt;
+      }
+      acts (Jump j removes) is = moves_fit (moved_to frame j ∷ callers) (stays code kinds frame callers all j)
+      acts (Branch v j removes k others) is =
+          moves_fit (moved_to frame (if is_true (value_at frame v) then j else k) ∷ callers)
+          (stays code kinds frame callers all (if is_true (value_at frame v) then j else k))
+      acts (Return value) is = comes_back value is
 
   pub alone_fits : (kinds : List «Type») (m : Memory) (frames : List Frame) → MemoryFits code kinds m
       → FramesHaveKinds code kinds frames → Always (ActedFits code kinds) (alone (erased code) m frames)
   alone_fits kinds m [] fits all = tt
   alone_fits kinds m (frame ∷ callers) fits all =
       subst (λ o. Always (ActedFits code kinds) (act_at (erased code) m o frame callers))
-          (sym (current_erased code frame))
+      (sym (current_erased code frame))
       (go (current code frame) refl)
     where
       go : (o : Option CodeInstr) → current code frame ≡ o
@@ -372,7 +382,7 @@ module _ (code : Code) (checked : IsChecked code) where
         next = λ v k.
             subst (FramesHaveKinds code kinds) (sym (on v))
             (goes code kinds kinds x.frame x.callers all' (λ o ty e. e) (slice_set x.frame.variables d v)
-                (x.frame.next + 1)
+            (x.frame.next + 1)
             (set_kinds kinds (erased_fn all'.0.0).variables x.frame.variables d ty v all'.0.2 t k));
       }
 
@@ -432,12 +442,12 @@ module _ (code : Code) (checked : IsChecked code) where
       → ((j : ℕ) (fs : List Frame) → slice_get goroutines j ≡ Some fs → FramesHaveKinds code kinds fs)
       → slice_get goroutines g ≡ Some old → FramesHaveKinds code kinds frames
       → (j : ℕ) (fs : List Frame) → slice_get (slice_set goroutines g frames) j ≡ Some fs
-          → FramesHaveKinds code kinds fs
+      → FramesHaveKinds code kinds fs
   other_frames kinds goroutines g old frames each q h j fs e =
       split (nat_eq g j)
       (λ u. subst (FramesHaveKinds code kinds)
       (same_Some frames fs (sym (get_set_same goroutines g old frames q)
-          ∙ ap (slice_get (slice_set goroutines g frames)) (eq_of g j u) ∙ e))
+      ∙ ap (slice_get (slice_set goroutines g frames)) (eq_of g j u) ∙ e))
       h)
       (λ n. each j fs (sym (get_set_other goroutines g j frames n) ∙ e))
 
@@ -474,7 +484,7 @@ module _ (code : Code) (checked : IsChecked code) where
       go (Some frames) q =
           subst (Always (Typed code)) (sym (alone_is (erased code) p g running frames q))
           (by frames q (alone (erased code) p.memory frames)
-              (alone_fits t.kinds p.memory frames t.memory (t.frames g frames q)))
+          (alone_fits t.kinds p.memory frames t.memory (t.frames g frames q)))
 
   -- two meet
   meet_step : (p : TacState) (r u : ℕ) → Typed code p → Always (Typed code) (picked (tac (erased code)) p (Meet r u))
@@ -493,7 +503,7 @@ module _ (code : Code) (checked : IsChecked code) where
 
           by : (b : Bool) → meets_at p.memory c d ≡ b
               → Always (Typed code) (if b then Some (with_frames (with_frames p r (go_on v ∷ fs)) u (next ∷ hs)) else
-                  None)
+              None)
           by true e =
               let o = one_object p.memory c d e in
               let same = one_inner t.kinds rec.inner snd.inner c d o.0 rec.channel snd.channel o.1 o.2 in
@@ -529,7 +539,7 @@ module _ (code : Code) (checked : IsChecked code) where
       go : (b : Bool) → nat_eq r u ≡ b → (o : Option (List Frame)) → slice_get p.goroutines r ≡ o
           → (o' : Option (List Frame)) → slice_get p.goroutines u ≡ o'
           → Always (Typed code) (if b then None else option_and_then
-              (λ fs. option_and_then (met_by (tac (erased code)) p r u fs) o') o)
+          (λ fs. option_and_then (met_by (tac (erased code)) p r u fs) o') o)
       go true ne o q o' q' = tt
       go false ne None q o' q' = tt
       go false ne (Some fs) q None q' = tt

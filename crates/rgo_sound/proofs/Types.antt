@@ -62,7 +62,7 @@ same_pointer m n e = let x : base.Pointer m ≡ base.Pointer n = ap (λ (t : «T
 
 inner_of : (l k : Layer) (t u : «Type»)
     → ◌≡◌ {A = «Type»} (record { layers = l ∷ t.layers; base = t.base })
-        (record { layers = k ∷ u.layers; base = u.base })
+    (record { layers = k ∷ u.layers; base = u.base })
     → t ≡ u
 inner_of l k t u e =
     let x : l ∷ t.layers ≡ k ∷ u.layers = ap (λ (t : «Type»). t.layers) e in
@@ -241,7 +241,7 @@ set_object code kinds m o ty object fits k h =
     same p x u e (old, w) =
         let is : x ≡ object =
         same_Some x object (sym e ∙ ap (slice_get (slice_set m.heap o object)) (sym u)
-            ∙ get_set_same m.heap o old object w)
+        ∙ get_set_same m.heap o old object w)
         in (
           ty,
           ap (slice_get kinds) (sym u) ∙ k,
@@ -413,7 +413,7 @@ module _ (code : Code) (kinds : List «Type») (m : Memory) (fits : MemoryFits c
   field_type n k t s (fields, at, f) e =
       ap (λ x. slice_get x k) (same_Some s.fields fields
       (sym (ap (option_map (λ (s : Struct). s.fields)) e) ∙ sym
-          (slice_get-map (λ (s : Struct). s.fields) code.structs n) ∙ at))
+      (slice_get-map (λ (s : Struct). s.fields) code.structs n) ∙ at))
       ∙ f
 
   loads : (n k : ℕ) (t : «Type») (v : Value) → HasField (declared_by (erased code)) n k t
@@ -454,7 +454,7 @@ module _ (code : Code) (kinds : List «Type») (m : Memory) (fits : MemoryFits c
       by_int kinds (λ v. Performed code kinds None (put m u v w))
       (λ i. by_pointer kinds (λ u. Performed code kinds None (put m u (value.Int i) w)) (slice_of t) refl tt
       (λ o q. by_slice (λ x. Performed code kinds None (to_object m o (put_in i w) x)) t o q
-          (λ cells hs. into o q cells i hs))
+      (λ cells hs. into o q cells i hs))
       u h) v g
     where
       into : (o : ℕ) → slice_get kinds o ≡ Some (slice_of t) → (cells : List Value) (i : ℤ)
@@ -465,7 +465,7 @@ module _ (code : Code) (kinds : List «Type») (m : Memory) (fits : MemoryFits c
         where
           by : (b : Bool)
               → Performed code kinds None (in_memory m o (if b then Does (SliceObject (slice_set cells i w)) value.Nil
-                  else Traps IndexRange))
+              else Traps IndexRange))
           by true =
               writes None o (slice_of t) (SliceObject (slice_set cells i w)) value.Nil q
               (t, refl, each_set (HasKind kinds t) cells i w hs k) tt
@@ -498,13 +498,13 @@ module _ (code : Code) (kinds : List «Type») (m : Memory) (fits : MemoryFits c
   receives t v h =
       by_pointer kinds (λ v. Always (Performed code kinds (Some t)) (receive m v (zero_of t))) (chan_of t) refl tt
       (λ o q. by_channel (λ x. Always (Performed code kinds (Some t)) (to_object_if_ready m o (received (zero_of t)) x))
-          t o q
+      t o q
       (λ capacity queue closed hs. into o q capacity queue closed hs)) v h
     where
       into : (o : ℕ) → slice_get kinds o ≡ Some (chan_of t) → (capacity : ℕ) (queue : List Value) (closed : Bool)
           → Each (HasKind kinds t) queue
           → Always (Performed code kinds (Some t)) (in_memory_if_ready m o
-              (received (zero_of t) (Channel capacity queue closed)))
+          (received (zero_of t) (Channel capacity queue closed)))
       into o q capacity (v ∷ queue) closed hs =
           writes (Some t) o (chan_of t) (Channel capacity queue closed) v q (t, refl, hs.1) hs.0
       into o q capacity [] true hs =
@@ -516,20 +516,20 @@ module _ (code : Code) (kinds : List «Type») (m : Memory) (fits : MemoryFits c
   sends t v w h g =
       by_pointer kinds (λ v. Always (Performed code kinds None) (option_map silent (send m v w))) (chan_of t) refl tt
       (λ o q. by_channel (λ x. Always (Performed code kinds None)
-          (option_map silent (to_object_if_ready m o (sent w) x))) t o q
+      (option_map silent (to_object_if_ready m o (sent w) x))) t o q
       (λ capacity queue closed hs. into o q capacity queue closed hs)) v h
     where
       into : (o : ℕ) → slice_get kinds o ≡ Some (chan_of t) → (capacity : ℕ) (queue : List Value) (closed : Bool)
           → Each (HasKind kinds t) queue
           → Always (Performed code kinds None) (option_map silent
-              (in_memory_if_ready m o (sent w (Channel capacity queue closed))))
+          (in_memory_if_ready m o (sent w (Channel capacity queue closed))))
       into o q capacity queue true hs = tt
       into o q capacity queue false hs = by (nat_lt (length queue) capacity)
         where
           by : (b : Bool)
               → Always (Performed code kinds None) (option_map silent
-                  (in_memory_if_ready m o (if b then Some (Does (Channel capacity (queue ++ w ∷ []) false) value.Nil)
-                  else None)))
+              (in_memory_if_ready m o (if b then Some (Does (Channel capacity (queue ++ w ∷ []) false) value.Nil)
+              else None)))
           by true =
               writes None o (chan_of t) (Channel capacity (queue ++ w ∷ []) false) value.Nil q
               (t, refl, each_snoc (HasKind kinds t) queue w hs g) tt
@@ -647,7 +647,7 @@ module _ (code : Code) (kinds : List «Type») (m : Memory) (fits : MemoryFits c
       by_one kinds (Gives action.Recv t) tys vs (chan_of t) r h (λ v g. receives t v g)
   returns (action.Get n) t tys vs r h =
       by_none kinds (Gives (action.Get n) t) tys vs r.0 h (gives (Some t) (or_nil (slice_get m.variables n))
-          (gets n t r.1))
+      (gets n t r.1))
   returns (action.Store k) t tys vs r h = absurd r
   returns action.Put t tys vs r h = absurd r
   returns action.Send t tys vs r h = absurd r

@@ -12,7 +12,6 @@ use Rattle.rgo_sound.proofs.Static.{contains_here, contains_there, contains_nil,
 use Rattle.rgo_sound.proofs.TypedSteps.{ActedFits, ReceiveFits, SendFits, alone_fits, receive_fits, send_fits}
 use Rattle.rgo_sound.proofs.TypedSteps.{one_inner, one_object, here, types_keep}
 use Rattle.rgo_sound.proofs.Types.{zero_kind, zeros_kinds}
-use Rattle.rgo_sound.proofs.RunLemmas.{run_keeps}
 use Rattle.rgo_sound.proofs.Others.{Main, fine_step, fine_start, main_of}
 use Rattle.rgo_sound.proofs.Homes.{HomeAfter, has_class, home_into, home_of_plain, into_home, into_plain, joined_home}
 use Rattle.rgo_sound.proofs.Homes.{plain_home, zero_plain}
@@ -38,7 +37,7 @@ use Rattle.rgo_region_machine.specs.Duties.{with_protection, without_protection}
 use Rattle.rgo_region_machine.specs.Instructions.{child_holder, holder_after, instructed_with, last_frames, taken_offer}
 use Rattle.rgo_region_machine.specs.Instructions.{unless_trapped}
 use Rattle.rgo_region_machine.specs.Machine.{Acknowledge, Attend, Event, Finish, Instruct, MakeOffer, TakePage}
-use Rattle.rgo_region_machine.specs.Machine.{finished, main_holder, page_for, page_taken, region_run}
+use Rattle.rgo_region_machine.specs.Machine.{finished, main_holder, page_for, page_taken}
 use Rattle.rgo_region_machine.specs.Machine.{region_start, region_step, take_page, takes_page}
 use Rattle.rgo_region_machine.specs.Objects.{making_region}
 use Rattle.rgo_region_machine.specs.Offers.{acknowledge, make_offer, offer_for, offered}
@@ -53,7 +52,7 @@ use Rattle.rgo_sound.specs.Core.{AreStaked, NamesStaked}
 use Rattle.rgo_sound.specs.Good.{Good}
 use Rattle.rgo_sound.specs.Invariant.{Fine, FramesFit, GoodHolder, HasInstr, IsFree, IsReady, Settled, Stands}
 use Rattle.rgo_sound.specs.Safety.{PointersStay, cells_of}
-use Rattle.rgo_sound.specs.Types.{Each, FramesHaveKinds, HasKind, HaveKinds, Typed, TypesAlways}
+use Rattle.rgo_sound.specs.Types.{Each, FramesHaveKinds, HasKind, HaveKinds, Typed}
 use Rattle.rgo_sound.specs.Values.{FramesLead, LeadsHome, LeadsInto, MemoryHome, ValuesStay}
 use Rattle.rgo_tac.specs.Flow.{reads, writes}
 use Rattle.rgo_tac.specs.Frames.{Frame, assigned, called, going, value_at}
@@ -104,9 +103,15 @@ top_of code h frame callers good = go h.environments refl
     go [] e = absurd (subst (λ x. FramesFit code h.base (frame ∷ callers) x h.duties) e good.fit)
     go (f ∷ fs) e =
         let fit : FramesFit code h.base (frame ∷ callers) (f ∷ fs) h.duties =
-            subst (λ x. FramesFit code h.base (frame ∷ callers) x h.duties) e good.fit in
-        record { f = f; fs = fs; environments = e; stands = fit.0; staked =
-            (subst (λ x. AreStaked h.stakes x) e good.core.staked).0 }
+        subst (λ x. FramesFit code h.base (frame ∷ callers) x h.duties) e good.fit in
+        record {
+          f = f;
+          fs = fs;
+          environments = e;
+          stands = fit.0;
+          staked =
+              (subst (λ x. AreStaked h.stakes x) e good.core.staked).0;
+        }
 
 module _ (code : Code) (s : RegionState) (values : ValuesStay code s) where
   -- one goroutine has other environments
@@ -130,9 +135,9 @@ module _ (code : Code) (s : RegionState) (values : ValuesStay code s) where
       each j x q =
           split (nat_eq g j)
           (λ t. subst (λ (y : Holder). FramesLead code s.owners (frames_of s.plain j) y.environments)
-              (the_same k x (sym (get_set_same s.holders g h k e)
-              ∙ ap (slice_get (slice_set s.holders g k)) (eq_of g j t) ∙ q))
-              (subst (λ i. FramesLead code s.owners (frames_of s.plain i) k.environments) (eq_of g j t) lead))
+          (the_same k x (sym (get_set_same s.holders g h k e)
+          ∙ ap (slice_get (slice_set s.holders g k)) (eq_of g j t) ∙ q))
+          (subst (λ i. FramesLead code s.owners (frames_of s.plain i) k.environments) (eq_of g j t) lead))
           (λ n. values.frames j x (sym (get_set_other s.holders g j k n) ∙ q))
 
   -- or the same environments
@@ -165,12 +170,12 @@ module _ (code : Code) (s : RegionState) (values : ValuesStay code s) where
             let top = top_of code h frame callers (subst (λ x. GoodHolder code x h) q good) in
             let c = change frame callers top in
             let old : FramesLead code s.owners (frame ∷ callers) (top.f ∷ top.fs) =
-                subst (FramesLead code s.owners (frame ∷ callers)) top.environments
-                (subst (λ x. FramesLead code s.owners x h.environments) q (values.frames g h e)) in
+            subst (FramesLead code s.owners (frame ∷ callers)) top.environments
+            (subst (λ x. FramesLead code s.owners x h.environments) q (values.frames g h e)) in
             subst (λ x. FramesLead code s.owners (frame ∷ callers) (F x)) (sym top.environments)
             (subst (FramesLead code s.owners (frame ∷ callers)) (sym c.is)
             (names_lead code s.owners frame callers top.f top.fs top.stands.fn top.stands.is_fn top.stands.lends c.names
-                c.protections c.same old))
+            c.protections c.same old))
 
     -- the first duty can be done, and so its name is not live there
     first : (frame : Frame) (callers : List Frame) (top : Top code h frame callers)
@@ -206,7 +211,7 @@ module _ (code : Code) (s : RegionState) (values : ValuesStay code s) where
       same = λ j. split (nat_eq k j)
           (λ t. inl (subst (IsFree top.stands.fn frame.next) (eq_of k j t) (free frame callers top)))
           (λ n. inr (ap (λ b. if b then Some (Numbered r) else bound (unbind top.f.names k) j) n
-              ∙ bound_unbind_other top.f.names k j n));
+          ∙ bound_unbind_other top.f.names k j n));
     })
       where
         free : (frame : Frame) (callers : List Frame) (top : Top code h frame callers)
@@ -221,12 +226,20 @@ module _ (code : Code) (s : RegionState) (values : ValuesStay code s) where
         × (F (f ∷ fs) ≡ record f { protections = new } ∷ fs))
         → FramesLead code s.owners (frames_of s.plain g) (F h.environments)
     protections_change F is = changed F (λ frame callers top.
-        record { names = top.f.names; protections = (is top.f top.fs).0; is = (is top.f top.fs).1; same =
-        λ k. inr refl })
+        record {
+          names = top.f.names;
+          protections = (is top.f top.fs).0;
+          is = (is top.f top.fs).1;
+          same =
+              λ k. inr refl;
+        })
 
     removes : (k : ℕ) → d ≡ Remove k → (q : Region) → Yields (ValuesStay code)
-        (removal s g (record h { duties = ds; environments =
-        with_top h.environments (unbind (top_names h.environments) k) }) q)
+        (removal s g (record h {
+          duties = ds;
+          environments =
+              with_top h.environments (unbind (top_names h.environments) k);
+        }) q)
     removes k is GlobalRegion = yields _ (values_with _ g h _ e refl refl refl (unbinds k is))
     removes k is (Numbered r) = yields_if _ _ _ (yields_if _ _ _
         (yields _ (values_with _ g h _ e refl refl refl (unbinds k is)))
@@ -343,8 +356,8 @@ module _ (code : Code) (s : RegionState) (values : ValuesStay code s) where
           ≡ environments_after code (top.f ∷ top.fs) x.instr.op
       k_environments =
           unless_environments g x.a.frames x.a.trap x.given.0
-              (holder_after code x.given.0 x.frame x.callers x.instr.op (frames_of (after s.plain g x.a) g))
-              (calm x.a.trap acted.calm)
+          (holder_after code x.given.0 x.frame x.callers x.instr.op (frames_of (after s.plain g x.a) g))
+          (calm x.a.trap acted.calm)
           ∙ after_environments code x.given.0 x.frame x.callers x.instr.op (frames_of (after s.plain g x.a) g)
           ∙ ap (λ y. environments_after code y x.instr.op) given_environments
         where
@@ -373,34 +386,36 @@ module _ (code : Code) (s : RegionState) (values : ValuesStay code s) where
       old j y q =
           split (nat_eq g j)
           (λ u. subst (λ (z : Holder). FramesLead code (s.owners ++ x.given.1)
-              (frames_in (slice_get (slice_set s.plain.goroutines g x.a.frames) j)) z.environments)
-              (the_same _ y (sym (get_set_same s.holders g x.h _ x.there)
-              ∙ ap (slice_get (slice_set s.holders g (unless_trapped (after s.plain g x.a).ended x.given.0
-              (holder_after code x.given.0 x.frame x.callers x.instr.op (frames_of (after s.plain g x.a) g)))))
-              (eq_of g j u) ∙ q))
+          (frames_in (slice_get (slice_set s.plain.goroutines g x.a.frames) j)) z.environments)
+          (the_same _ y (sym (get_set_same s.holders g x.h _ x.there)
+          ∙ ap (slice_get (slice_set s.holders g (unless_trapped (after s.plain g x.a).ended x.given.0
+          (holder_after code x.given.0 x.frame x.callers x.instr.op (frames_of (after s.plain g x.a) g)))))
+          (eq_of g j u) ∙ q))
           (subst (λ i. FramesLead code (s.owners ++ x.given.1)
-              (frames_in (slice_get (slice_set s.plain.goroutines g x.a.frames) i))
-              (unless_trapped (after s.plain g x.a).ended x.given.0
-              (holder_after code x.given.0 x.frame x.callers x.instr.op
-              (frames_of (after s.plain g x.a) g))).environments) (eq_of g j u)
+          (frames_in (slice_get (slice_set s.plain.goroutines g x.a.frames) i))
+          (unless_trapped (after s.plain g x.a).ended x.given.0
+          (holder_after code x.given.0 x.frame x.callers x.instr.op
+          (frames_of (after s.plain g x.a) g))).environments) (eq_of g j u)
           (subst (λ fr. FramesLead code (s.owners ++ x.given.1) fr
-              (unless_trapped (after s.plain g x.a).ended x.given.0
-              (holder_after code x.given.0 x.frame x.callers x.instr.op
-              (frames_of (after s.plain g x.a) g))).environments)
-              (sym (ap frames_in (get_set_same s.plain.goroutines g (x.frame ∷ x.callers) x.a.frames x.at)))
+          (unless_trapped (after s.plain g x.a).ended x.given.0
+          (holder_after code x.given.0 x.frame x.callers x.instr.op
+          (frames_of (after s.plain g x.a) g))).environments)
+          (sym (ap frames_in (get_set_same s.plain.goroutines g (x.frame ∷ x.callers) x.a.frames x.at)))
           (subst (FramesLead code (s.owners ++ x.given.1) x.a.frames) (sym k_environments) acted.frames))))
           (λ n. subst (λ fr. FramesLead code (s.owners ++ x.given.1) fr y.environments)
-              (sym (ap frames_in (get_set_other s.plain.goroutines g j x.a.frames n)))
-              (more_frames_lead code s.owners x.given.1 (frames_of s.plain j) y.environments
-              (values.frames j y (sym (get_set_other s.holders g j _ n) ∙ q))))
+          (sym (ap frames_in (get_set_other s.plain.goroutines g j x.a.frames n)))
+          (more_frames_lead code s.owners x.given.1 (frames_of s.plain j) y.environments
+          (values.frames j y (sym (get_set_other s.holders g j _ n) ∙ q))))
 
       -- a child
       child : (op : CodeOp) → x.instr.op ≡ op → (frames : List Frame) (i : ℕ) (y : Holder)
           → slice_get (child_holder code x.given.0 op frames) i ≡ Some y
           → (y.environments ≡ child_environment code (top.f ∷ top.fs) op ∷ []) × (i ≡ 0)
-      child (Go n from passes removes) is frames zero y q =
-          (ap (λ (z : Holder). z.environments) (sym (the_same _ y q))
-          ∙ ap (λ sh. child_environment code sh (Go n from passes removes) ∷ []) given_environments, refl)
+      child (Go n from passes removes) is frames zero y q = (
+        ap (λ (z : Holder). z.environments) (sym (the_same _ y q))
+            ∙ ap (λ sh. child_environment code sh (Go n from passes removes) ∷ []) given_environments,
+        refl,
+      )
       child (Go n from passes removes) is frames (suc i) y q = cc
       child (Do to action from removes) is frames i y q = cc
       child (Call to n from passes protects removes) is frames i y q = cc
@@ -436,17 +451,17 @@ module _ (code : Code) (s : RegionState) (values : ValuesStay code s) where
               (frames_in (slice_get (slice_set s.plain.goroutines g x.a.frames ++ x.a.started) j)) y.environments
           place j y (inl q) =
               subst (λ o. FramesLead code (s.owners ++ x.given.1) (frames_in o) y.environments)
-                  (sym (get_append_left (slice_set s.plain.goroutines g x.a.frames) x.a.started j
-                  (let b = get_below _ j y q in let l = long in omega (arith, b, l)))) (old j y q)
+              (sym (get_append_left (slice_set s.plain.goroutines g x.a.frames) x.a.started j
+              (let b = get_below _ j y q in let l = long in omega (arith, b, l)))) (old j y q)
           place j y (inr (i, at, q)) =
               let c = child x.instr.op refl (last_frames (after s.plain g x.a).goroutines) i y q in
               subst (λ o. FramesLead code (s.owners ++ x.given.1) (frames_in o) y.environments)
-                  (sym (get_append_right (slice_set s.plain.goroutines g x.a.frames) x.a.started j i
-                  (let l = long in omega (arith, at, l))))
+              (sym (get_append_right (slice_set s.plain.goroutines g x.a.frames) x.a.started j i
+              (let l = long in omega (arith, at, l))))
               (subst (λ n. FramesLead code (s.owners ++ x.given.1) (frames_in (slice_get x.a.started n)) y.environments)
-                  (sym c.1)
+              (sym c.1)
               (subst (FramesLead code (s.owners ++ x.given.1) (frames_in (slice_get x.a.started 0))) (sym c.0)
-                  (first_child x.a.started (child_environment code (top.f ∷ top.fs) x.instr.op) acted.children)))
+              (first_child x.a.started (child_environment code (top.f ∷ top.fs) x.instr.op) acted.children)))
 
   -- ---- a meeting
 
@@ -530,12 +545,12 @@ module _ (code : Code) (s : RegionState) (values : ValuesStay code s) where
       sent_into =
           home_into s.owners top_u.f.names (class_of top_u.stands.fn x.sends.channel) channel_u.0 x.v channel_u.1
           (joined_home top_u.stands.fn top_u.f.names s.owners (class_of top_u.stands.fn x.sends.channel)
-              (class_of top_u.stands.fn x.sends.sent) x.v joins_u
-              (λ o q. has_class s.owners top_u.f.names (class_of top_u.stands.fn x.sends.channel) the_object.0
-              channel_u)
+          (class_of top_u.stands.fn x.sends.sent) x.v joins_u
+          (λ o q. has_class s.owners top_u.f.names (class_of top_u.stands.fn x.sends.channel) the_object.0
+          channel_u)
           (subst (LeadsHome s.owners top_u.f.names (class_of top_u.stands.fn x.sends.sent)) (sym x.sends.sent_is)
-              (read_u x.sends.sent (contains_there x.sends.channel (x.sends.sent ∷ []) x.sends.sent
-              (contains_here x.sends.sent [])))))
+          (read_u x.sends.sent (contains_there x.sends.channel (x.sends.sent ∷ []) x.sends.sent
+          (contains_here x.sends.sent [])))))
 
       the_region : (x y : Region) → Some x ≡ Some y → x ≡ y
       the_region x y e = cc
@@ -552,11 +567,11 @@ module _ (code : Code) (s : RegionState) (values : ValuesStay code s) where
           go None e = tt
           go (Some d) e = λ n.
               joined_home top_r.stands.fn top_r.f.names s.owners (class_of top_r.stands.fn d)
-                  (class_of top_r.stands.fn x.receives.channel) x.v
+              (class_of top_r.stands.fn x.receives.channel) x.v
               (joins_agree code checked x.receives.frame.function x.receives.frame.next top_r.stands.fn x.receives.instr
-                  top_r.stands.is_fn here_r x.receives.to Recv (x.receives.channel ∷ []) x.receives.removes
-                  x.receives.is (member.Variable d) (member.Variable x.receives.channel)
-                  (ap (λ t. action_joins Recv t (x.receives.channel ∷ [])) e))
+              top_r.stands.is_fn here_r x.receives.to Recv (x.receives.channel ∷ []) x.receives.removes
+              x.receives.is (member.Variable d) (member.Variable x.receives.channel)
+              (ap (λ t. action_joins Recv t (x.receives.channel ∷ [])) e))
               n came_home
 
       -- the types behind the meeting
@@ -582,26 +597,26 @@ module _ (code : Code) (s : RegionState) (values : ValuesStay code s) where
           → class_of top_r.stands.fn d ≢ NoClass
       classed d o e =
           ref_class typed.kinds top_r.stands.fn (going x.receives.frame x.receives.to x.v)
-              (λ v sl q. checked rule.Classes (line.Slot x.receives.frame.function v) top_r.stands.fn sl
-              top_r.stands.is_fn q)
+          (λ v sl q. checked rule.Classes (line.Slot x.receives.frame.function v) top_r.stands.fn sl
+          top_r.stands.is_fn q)
           (subst (λ (g : CodeFn). HaveKinds typed.kinds (erased_fn g).variables
-              (going x.receives.frame x.receives.to x.v).variables)
-              (the_fn typed_next.0.0 top_r.stands.fn (sym typed_next.0.1 ∙ top_r.stands.is_fn)) typed_next.0.2) d o e
+          (going x.receives.frame x.receives.to x.v).variables)
+          (the_fn typed_next.0.0 top_r.stands.fn (sym typed_next.0.1 ∙ top_r.stands.is_fn)) typed_next.0.2) d o e
 
       receiver_leads : FramesLead code s.owners (x.go_on x.v) x.h.environments
       receiver_leads =
           subst (FramesLead code s.owners (x.go_on x.v)) (sym top_r.environments)
           (subst (λ fr. FramesLead code s.owners fr (top_r.f ∷ top_r.fs)) (sym (x.receives.goes x.v))
           (subst (λ o. FramesLead code o (going x.receives.frame x.receives.to x.v ∷ x.receives.callers)
-              (top_r.f ∷ top_r.fs)) same_owners
+          (top_r.f ∷ top_r.fs)) same_owners
           (goes_on code checked s.owners s.plain.memory values.memory x.receives.frame x.receives.callers
-              x.receives.instr x.receives.cur top_r.f top_r.fs lead_r top_r.stands.fn top_r.stands.is_fn
-              top_r.stands.lends [] x.receives.to x.v (x.receives.frame.next + 1) x.receives.removes
+          x.receives.instr x.receives.cur top_r.f top_r.fs lead_r top_r.stands.fn top_r.stands.is_fn
+          top_r.stands.lends [] x.receives.to x.v (x.receives.frame.next + 1) x.receives.removes
           (subst (λ (op : CodeOp). Contains {X = ℕ × List ℕ} (edges op x.receives.frame.next)
-              (x.receives.frame.next + 1, x.receives.removes)) (sym x.receives.is)
-              (contains_here {X = ℕ × List ℕ} (x.receives.frame.next + 1, x.receives.removes) []))
+          (x.receives.frame.next + 1, x.receives.removes)) (sym x.receives.is)
+          (contains_here {X = ℕ × List ℕ} (x.receives.frame.next + 1, x.receives.removes) []))
           (ap (λ op. writes (erased_op op)) x.receives.is) (λ d o t e. classed d o e)
-              (subst (λ o. HomeAfter top_r.stands.fn top_r.f.names o x.receives.to x.v) (sym same_owners) received))))
+          (subst (λ o. HomeAfter top_r.stands.fn top_r.f.names o x.receives.to x.v) (sym same_owners) received))))
 
       -- a sender goes on with nil, if with anything
       no_object : (d o : ℕ) → x.sends.to ≡ Some d → value_at (going x.sends.frame x.sends.to value.Nil) d
@@ -614,15 +629,15 @@ module _ (code : Code) (s : RegionState) (values : ValuesStay code s) where
           subst (FramesLead code s.owners x.next) (sym top_u.environments)
           (subst (λ fr. FramesLead code s.owners fr (top_u.f ∷ top_u.fs)) (sym x.sends.goes)
           (subst (λ o. FramesLead code o (going x.sends.frame x.sends.to value.Nil ∷ x.sends.callers)
-              (top_u.f ∷ top_u.fs)) same_owners
+          (top_u.f ∷ top_u.fs)) same_owners
           (goes_on code checked s.owners s.plain.memory values.memory x.sends.frame x.sends.callers x.sends.instr
-              x.sends.cur top_u.f top_u.fs lead_u top_u.stands.fn top_u.stands.is_fn top_u.stands.lends [] x.sends.to
-              value.Nil (x.sends.frame.next + 1) x.sends.removes
+          x.sends.cur top_u.f top_u.fs lead_u top_u.stands.fn top_u.stands.is_fn top_u.stands.lends [] x.sends.to
+          value.Nil (x.sends.frame.next + 1) x.sends.removes
           (subst (λ (op : CodeOp). Contains {X = ℕ × List ℕ} (edges op x.sends.frame.next)
-              (x.sends.frame.next + 1, x.sends.removes)) (sym x.sends.is)
-              (contains_here {X = ℕ × List ℕ} (x.sends.frame.next + 1, x.sends.removes) []))
+          (x.sends.frame.next + 1, x.sends.removes)) (sym x.sends.is)
+          (contains_here {X = ℕ × List ℕ} (x.sends.frame.next + 1, x.sends.removes) []))
           (ap (λ op. writes (erased_op op)) x.sends.is) (λ d o t e. absurd (no_object d o t e))
-              (plain_home top_u.stands.fn top_u.f.names (s.owners ++ []) x.sends.to value.Nil tt))))
+          (plain_home top_u.stands.fn top_u.f.names (s.owners ++ []) x.sends.to value.Nil tt))))
 
       the_same : (x y : Holder) → Some x ≡ Some y → x ≡ y
       the_same x y e = cc
@@ -634,18 +649,18 @@ module _ (code : Code) (s : RegionState) (values : ValuesStay code s) where
       each j y q =
           split (nat_eq u j)
           (λ w. subst (λ (z : Holder). FramesLead code s.owners
-              (frames_in (slice_get (slice_set (slice_set s.plain.goroutines r (x.go_on x.v)) u x.next) j))
-              z.environments) (the_same k' y (sym (get_set_same (slice_set s.holders r h') u x.k k'
-              (get_set_other s.holders r u h' x.apart ∙ x.there_k))
-              ∙ ap (slice_get (slice_set (slice_set s.holders r h') u k')) (eq_of u j w) ∙ q))
+          (frames_in (slice_get (slice_set (slice_set s.plain.goroutines r (x.go_on x.v)) u x.next) j))
+          z.environments) (the_same k' y (sym (get_set_same (slice_set s.holders r h') u x.k k'
+          (get_set_other s.holders r u h' x.apart ∙ x.there_k))
+          ∙ ap (slice_get (slice_set (slice_set s.holders r h') u k')) (eq_of u j w) ∙ q))
           (subst (λ i. FramesLead code s.owners (frames_in (slice_get
-              (slice_set (slice_set s.plain.goroutines r (x.go_on x.v)) u x.next) i)) x.k.environments) (eq_of u j w)
+          (slice_set (slice_set s.plain.goroutines r (x.go_on x.v)) u x.next) i)) x.k.environments) (eq_of u j w)
           (subst (λ fr. FramesLead code s.owners fr x.k.environments)
-              (sym (ap frames_in (get_set_same (slice_set s.plain.goroutines r (x.go_on x.v)) u x.sender x.next
-              (get_set_other s.plain.goroutines r u (x.go_on x.v) x.apart ∙ x.at_u)))) sender_leads)))
+          (sym (ap frames_in (get_set_same (slice_set s.plain.goroutines r (x.go_on x.v)) u x.sender x.next
+          (get_set_other s.plain.goroutines r u (x.go_on x.v) x.apart ∙ x.at_u)))) sender_leads)))
           (λ n. subst (λ fr. FramesLead code s.owners fr y.environments)
-              (sym (ap frames_in (get_set_other (slice_set s.plain.goroutines r (x.go_on x.v)) u j x.next n)))
-              (other n (sym (get_set_other (slice_set s.holders r h') u j k' n) ∙ q)))
+          (sym (ap frames_in (get_set_other (slice_set s.plain.goroutines r (x.go_on x.v)) u j x.next n)))
+          (other n (sym (get_set_other (slice_set s.holders r h') u j k' n) ∙ q)))
         where
           h' : Holder
           h' = gone_on (receive_goes x.receives x.v) x.h
@@ -659,20 +674,20 @@ module _ (code : Code) (s : RegionState) (values : ValuesStay code s) where
           other n q =
               split (nat_eq r j)
               (λ w. subst (λ (z : Holder). FramesLead code s.owners
-                  (frames_in (slice_get (slice_set s.plain.goroutines r (x.go_on x.v)) j)) z.environments)
-                  (the_same (gone_on (receive_goes x.receives x.v) x.h) y
-                  (sym (get_set_same s.holders r x.h (gone_on (receive_goes x.receives x.v) x.h) x.there_h)
-                  ∙ ap (slice_get (slice_set s.holders r (gone_on (receive_goes x.receives x.v) x.h))) (eq_of r j w)
-                  ∙ q))
+              (frames_in (slice_get (slice_set s.plain.goroutines r (x.go_on x.v)) j)) z.environments)
+              (the_same (gone_on (receive_goes x.receives x.v) x.h) y
+              (sym (get_set_same s.holders r x.h (gone_on (receive_goes x.receives x.v) x.h) x.there_h)
+              ∙ ap (slice_get (slice_set s.holders r (gone_on (receive_goes x.receives x.v) x.h))) (eq_of r j w)
+              ∙ q))
               (subst (λ i. FramesLead code s.owners (frames_in
-                  (slice_get (slice_set s.plain.goroutines r (x.go_on x.v)) i)) x.h.environments) (eq_of r j w)
+              (slice_get (slice_set s.plain.goroutines r (x.go_on x.v)) i)) x.h.environments) (eq_of r j w)
               (subst (λ fr. FramesLead code s.owners fr x.h.environments)
-                  (sym (ap frames_in (get_set_same s.plain.goroutines r x.receiver (x.go_on x.v) x.at_r)))
-                  receiver_leads)))
+              (sym (ap frames_in (get_set_same s.plain.goroutines r x.receiver (x.go_on x.v) x.at_r)))
+              receiver_leads)))
               (λ n'. subst (λ fr. FramesLead code s.owners fr y.environments)
-                  (sym (ap frames_in (get_set_other s.plain.goroutines r j (x.go_on x.v) n')))
-                  (values.frames j y (sym (get_set_other s.holders r j (gone_on (receive_goes x.receives x.v) x.h) n')
-                  ∙ q)))
+              (sym (ap frames_in (get_set_other s.plain.goroutines r j (x.go_on x.v) n')))
+              (values.frames j y (sym (get_set_other s.holders r j (gone_on (receive_goes x.receives x.v) x.h) n')
+              ∙ q)))
 
   -- ---- each step
 
@@ -766,10 +781,13 @@ values_start code checked =
 
     first : FramesLead code [] (called (erased_fn start.main) start.number [] ∷ [])
         (main_holder code (frames_of (tac_start (erased code)) 0)).environments
-    first = ((λ fn is v l. home_of_plain [] [] (class_of fn v)
-        (value_at (called (erased_fn start.main) start.number []) v)
-        (plain_at (called (erased_fn start.main) start.number []).variables v
-        (zeros_plain (erased_fn start.main).variables))), tt)
+    first = (
+      (λ fn is v l. home_of_plain [] [] (class_of fn v)
+          (value_at (called (erased_fn start.main) start.number []) v)
+          (plain_at (called (erased_fn start.main) start.number []).variables v
+          (zeros_plain (erased_fn start.main).variables))),
+      tt,
+    )
 
     the_same : (x y : Holder) → Some x ≡ Some y → x ≡ y
     the_same x y e = cc
@@ -788,8 +806,8 @@ pub good_step : (code : Code) (page_words : ℕ) (s : RegionState) (event : Even
     → Good code s → Yields (Good code) (region_step code page_words s event)
 good_step code page_words s event checked written good =
     all (region_step code page_words s event) (fine_step code page_words s good.fine event checked written)
-        (typed_step code page_words s event checked good.typed)
-        (values_step code s good.values page_words event checked good.fine good.typed)
+    (typed_step code page_words s event checked good.typed)
+    (values_step code s good.values page_words event checked good.fine good.typed)
   where
     all : (o : Option RegionState) → Yields (Fine code) o → Yields (λ t. Typed code t.plain) o
         → Yields (ValuesStay code) o → Yields (Good code) o
@@ -797,25 +815,16 @@ good_step code page_words s event checked written good =
     all (Some t) a b c = yields t (record { fine = a.fact; typed = b.fact; values = c.fact })
 
 pub good_start : (code : Code) → IsChecked code → Ascends code → Good code (region_start code)
-good_start code checked written = record { fine = fine_start code checked written; typed =
-    typed_start code checked; values = values_start code checked }
-
-pub runs_good : (code : Code) (page_words : ℕ) (events : List Event) (s : RegionState) → IsChecked code → Ascends code
-    → region_run code page_words events ≡ Some s → Good code s
-runs_good code page_words events s checked written r = run_keeps code page_words (Good code)
-    (λ t e good. good_step code page_words t e checked written good) events (region_start code) s
-    (good_start code checked written) r
-
-pub types_always : TypesAlways
-types_always code page_words events s checked r = run_keeps code page_words (λ t. Typed code t.plain)
-    (λ t e typed. typed_step code page_words t e checked typed) events (region_start code) s (typed_start code checked)
-    r
+good_start code checked written = record {
+  fine = fine_start code checked written;
+  typed =
+      typed_start code checked;
+  values = values_start code checked;
+}
 
 -- a pointer in a cell leads into the same region
-pub pointers_always : (code : Code) (page_words : ℕ) (events : List Event) (s : RegionState) → IsChecked code
-    → Ascends code → region_run code page_words events ≡ Some s → PointersStay s
-pointers_always code page_words events s checked written r o p object q e w live c =
-    let good = runs_good code page_words events s checked written r in
+pub pointers_stay : (code : Code) (s : RegionState) → Good code s → PointersStay s
+pointers_stay code s good o p object q e w live c =
     each_contains (LeadsInto s.owners q) (cells_of object) (value.Object p) (good.values.memory.cells o object q e w) c
   where
     each_contains : (P : Value → Type 0) (xs : List Value) (x : Value) → Each P xs → Contains xs x → P x

@@ -25,7 +25,7 @@ abbrev pub erased_picks : Code → ℕ → RegionState → List Event → List P
 erased_picks code page_words s [] = []
 erased_picks code page_words s (event ∷ events) =
     event_picks s.mark event ++ unwrap_or (option_map (λ t. erased_picks code page_words t events)
-        (region_step code page_words s event)) []
+    (region_step code page_words s event)) []
 
 -- the end of a plain run and the end mark: an exit or a trap is both; another end mark is none of the plain run
 abbrev pub SameEnd : Option End → Option Mark → Type 0

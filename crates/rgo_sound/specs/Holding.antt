@@ -25,5 +25,5 @@ held r (f ∷ fs) = held_in f.lent r f.names + held r fs
 abbrev pub OneHoldingName : RegionState → Type 0
 OneHoldingName s =
     (g : ℕ) (h : Holder) (r : ℕ) → slice_get s.holders g ≡ Some h → Contains h.stakes r
-        → guards h.base h.environments (Numbered r) ≡ false →
+    → guards h.base h.environments (Numbered r) ≡ false →
     held r h.environments ≡ 1

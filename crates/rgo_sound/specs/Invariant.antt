@@ -2,13 +2,9 @@
 use Rattle.std.specs.List.{list_any}
 use Rattle.std.specs.Prelude.{Bool, Contains, List, None, Option, Some, [], false, if◌then◌else◌, length, map, nat_eq}
 use Rattle.std.specs.Prelude.{slice_get, suc, true, zero, ℕ, ◌+◌, ◌<◌, ◌∷◌, ◌≡◌, ◌≢◌}
-use Rattle.rgo_code.specs.Checked.{IsChecked}
-use Rattle.rgo_code.specs.Code.{Branch, Call, Code, CodeFn, CodeInstr, CodeOp, Do, Go, Jump, Print, Return}
-use Rattle.rgo_code.specs.NameRules.{Ascends, protected_names}
+use Rattle.rgo_code.specs.Code.{Call, Code, CodeFn, CodeInstr, CodeOp, Go}
+use Rattle.rgo_code.specs.NameRules.{protected_names}
 use Rattle.rgo_code.specs.Names.{Gives, Holds, IsOwn, result_class}
-use Rattle.rgo_machine.specs.declared.picks.Pick.TheVariants.{Meet, One}
-use Rattle.rgo_region_machine.specs.Duties.{may_go}
-use Rattle.rgo_region_machine.specs.Machine.{Attend, Event, Instruct, region_run, region_step}
 use Rattle.rgo_region_machine.specs.Owed.{current, function_at, regions_named}
 use Rattle.rgo_region_machine.specs.Regions.{Bindings, RegionInfo, bound, removed_once, same_region, unbind}
 use Rattle.rgo_region_machine.specs.States.{Create, Duty, EndBase, Environment, Holder, Protect, RegionState, Remove}
@@ -18,7 +14,6 @@ use Rattle.rgo_region_machine.specs.declared.regions.Region.TheVariants.{Global 
 use Rattle.rgo_sound.specs.Core.{Core}
 use Rattle.rgo_sound.specs.Stakes.{holders_of, is_in, one_if, pending_of, times_in}
 use Rattle.rgo_tac.specs.Frames.{Frame}
-use Rattle.rgo_tac.specs.declared.regions.Class.{Class}
 use Rattle.rgo_tac.specs.declared.regions.Class.TheVariants.{Name}
 
 -- instruction i of a function
@@ -46,12 +41,12 @@ AreProtections protections names ks = (r : Region) → times r protections ≡ b
 -- ---- a frame before its next instruction, when nothing is owed
 
 pub record Settled (fn : CodeFn) (i : ℕ) (instr : CodeInstr) (names : Bindings) (protections : List Region) : Type 0
-    where
-  pub there : (k : ℕ) → Holds fn k i → bound names k ≢ None
-  pub made : (k : ℕ) → Contains instr.creates k → bound names k ≢ None
-  pub gone : (k : ℕ) → IsOwn fn k → ¬ (Holds fn k i) → ¬ (Contains instr.creates k) → bound names k ≡ None
-  pub lent : (k : ℕ) → result_class fn ≡ Name k → bound names k ≢ None
-  pub protections_fit : AreProtections protections names (protected_names instr.op)
+  where
+    pub there : (k : ℕ) → Holds fn k i → bound names k ≢ None
+    pub made : (k : ℕ) → Contains instr.creates k → bound names k ≢ None
+    pub gone : (k : ℕ) → IsOwn fn k → ¬ (Holds fn k i) → ¬ (Contains instr.creates k) → bound names k ≡ None
+    pub lent : (k : ℕ) → result_class fn ≡ Name k → bound names k ≢ None
+    pub protections_fit : AreProtections protections names (protected_names instr.op)
 
 -- what is there behind an instruction, before its removals: what a call gave is not there
 pub record Left (code : Code) (fn : CodeFn) (i : ℕ) (instr : CodeInstr) (names : Bindings) : Type 0 where
@@ -182,71 +177,3 @@ pub record Fine (code : Code) (s : RegionState) : Type 0 where
       → r < length s.regions
   pub pended : (g : ℕ) (h : Holder) (r : ℕ) → slice_get s.holders g ≡ Some h → 0 < times_in r h.pending
       → r < length s.regions
-
--- what a goroutine owes can be done, and what holds of the state holds behind it
-abbrev pub DutiesGo : Type 0
-DutiesGo =
-    (code : Code) (page_words : ℕ) (s : RegionState) (g : ℕ) (h : Holder) → Fine code s → slice_get s.holders g ≡ Some h
-        → h.duties ≢ [] → may_go h.offer ≡ true →
-    (t : RegionState) × (region_step code page_words s (Attend g) ≡ Some t) × Fine code t
-
--- no call, no start and no return
-abbrev pub IsSimple : CodeOp → Type 0
-IsSimple (Do to action from removes) = Unit {0}
-IsSimple (Call to n from passes protects removes) = ⊥
-IsSimple (Go n from passes removes) = ⊥
-IsSimple (Print pieces from removes) = Unit {0}
-IsSimple (Jump j removes) = Unit {0}
-IsSimple (Branch v j removes k others) = Unit {0}
-IsSimple (Return value) = ⊥
-
--- such an instruction of checked code keeps what holds of the state
-abbrev pub MovesKeep : Type 0
-MovesKeep =
-    (code : Code) (page_words : ℕ) (s t : RegionState) (g : ℕ) (h : Holder) (frame : Frame) (callers : List Frame)
-        (instr : CodeInstr) → IsChecked code → Ascends code → Fine code s →
-    slice_get s.holders g ≡ Some h → frames_of s.plain g ≡ frame ∷ callers → current code frame ≡ Some instr
-        → IsSimple instr.op →
-    region_step code page_words s (Instruct (One g)) ≡ Some t → Fine code t
-
-abbrev pub CallsKeep : Type 0
-CallsKeep =
-    (code : Code) (page_words : ℕ) (s t : RegionState) (g : ℕ) (h : Holder) (frame : Frame) (callers : List Frame)
-        (call : CodeInstr)
-    (to : Option ℕ) (n : ℕ) (from : List ℕ) (passes : List Class) (protects removes : List ℕ) → IsChecked code
-        → Ascends code → Fine code s →
-    slice_get s.holders g ≡ Some h → frames_of s.plain g ≡ frame ∷ callers → current code frame ≡ Some call → call.op
-        ≡ Call to n from passes protects removes →
-    region_step code page_words s (Instruct (One g)) ≡ Some t → Fine code t
-
-abbrev pub ReturnsKeep : Type 0
-ReturnsKeep =
-    (code : Code) (page_words : ℕ) (s t : RegionState) (g : ℕ) (h : Holder) (frame : Frame) (callers : List Frame)
-        (instr : CodeInstr) (value : Option ℕ) → IsChecked code → Ascends code → Fine code s →
-    slice_get s.holders g ≡ Some h → frames_of s.plain g ≡ frame ∷ callers → current code frame ≡ Some instr → instr.op
-        ≡ Return value →
-    region_step code page_words s (Instruct (One g)) ≡ Some t → Fine code t
-
--- a meeting keeps what holds of the state
-abbrev pub MeetsKeep : Type 0
-MeetsKeep =
-    (code : Code) (page_words : ℕ) (s t : RegionState) (receiver sender : ℕ) → IsChecked code → Ascends code
-        → Fine code s →
-    region_step code page_words s (Instruct (Meet receiver sender)) ≡ Some t → Fine code t
-
--- a `go` keeps what holds of the state
-abbrev pub StartsKeep : Type 0
-StartsKeep =
-    (code : Code) (page_words : ℕ) (s t : RegionState) (g : ℕ) (h : Holder) (frame : Frame) (callers : List Frame)
-        (instr : CodeInstr) (n : ℕ) (from : List ℕ) (passes : List Class) (removes : List ℕ) → IsChecked code
-        → Ascends code → Fine code s →
-    slice_get s.holders g ≡ Some h → frames_of s.plain g ≡ frame ∷ callers → current code frame ≡ Some instr → instr.op
-        ≡ Go n from passes removes →
-    region_step code page_words s (Instruct (One g)) ≡ Some t → Fine code t
-
--- ---- runs
-
--- every state of every run of checked code
-abbrev pub RunsAreFine : Type 0
-RunsAreFine = (code : Code) (page_words : ℕ) (events : List Event) (s : RegionState) → IsChecked code → Ascends code
-    → region_run code page_words events ≡ Some s → Fine code s

@@ -6,7 +6,6 @@ pub mod Invariant
 pub mod NextNames
 pub mod Offers
 pub mod Progress
-pub mod Runs
 pub mod Safety
 pub mod Stakes
 pub mod Tally

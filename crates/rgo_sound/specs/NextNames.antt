@@ -26,7 +26,7 @@ InstructionNames code s h [] r = ⊥
 InstructionNames code s h (frame ∷ callers) r =
     (i : CodeInstr) × (current code frame ≡ Some i)
     × ((making_region (function_at code frame) (top_names h.environments) i.op ≡ Some r)
-        ⊎ ((o : ℕ) × (touched frame i.op ≡ Some o) × (slice_get s.owners o ≡ Some r)))
+    ⊎ ((o : ℕ) × (touched frame i.op ≡ Some o) × (slice_get s.owners o ≡ Some r)))
 
 -- the goroutine's next step names the region: its first duty, its acknowledgement, or its instruction
 abbrev pub NextNames : Code → RegionState → ℕ → Holder → List Duty → Offer → Region → Type 0

@@ -27,7 +27,7 @@ cells_of (Channel capacity queue closed) = queue
 abbrev pub PointersStay : RegionState → Type 0
 PointersStay s =
     (o p : ℕ) (object : Object) (r : Region) → slice_get s.plain.memory.heap o ≡ Some object → slice_get s.owners o
-        ≡ Some r → is_live s.regions r ≡ true →
+    ≡ Some r → is_live s.regions r ≡ true →
     Contains (cells_of object) (value.Object p) → slice_get s.owners p ≡ Some r
 
 -- ---- numbers
@@ -64,5 +64,5 @@ Safety = (code : Code) (page_words : ℕ) (events : List Event) (s : RegionState
 abbrev pub RemovedStays : Type 0
 RemovedStays =
     (code : Code) (page_words : ℕ) (s t : RegionState) (event : Event) (r : ℕ) (info : RegionInfo)
-        → region_step code page_words s event ≡ Some t →
+    → region_step code page_words s event ≡ Some t →
     slice_get s.regions r ≡ Some info → info.stakes ≡ 0 → slice_get t.regions r ≡ Some info

@@ -65,9 +65,13 @@ share_of_holder s (Some h) = share_of_first s h h.duties
 -- an instruction: what the plain machine made
 abbrev pub share_of_plain : RegionState → Option TacState → Counts
 share_of_plain s None = no_share
-share_of_plain s (Some next) = record no_share { steps = 1; objects =
-    length next.memory.heap - length s.plain.memory.heap; goroutines =
-    length next.goroutines - length s.plain.goroutines }
+share_of_plain s (Some next) = record no_share {
+  steps = 1;
+  objects =
+      length next.memory.heap - length s.plain.memory.heap;
+  goroutines =
+      length next.goroutines - length s.plain.goroutines;
+}
 
 abbrev pub share_of : Code → RegionState → Event → Counts
 share_of code s (Instruct pick) = share_of_plain s (plain_step code s.plain pick)

@@ -6,9 +6,8 @@ use Rattle.rgo_code.specs.Erasure.{erased_fn}
 use Rattle.rgo_machine.specs.declared.picks.Pick.{Pick}
 use Rattle.rgo_memory.specs.Memory.{Channel, Memory, Object, SliceObject, StructObject}
 use Rattle.rgo_memory.specs.declared.values.Value.{Value}
-use Rattle.rgo_region_machine.specs.Machine.{Event, plain_step, region_run}
+use Rattle.rgo_region_machine.specs.Machine.{plain_step}
 use Rattle.rgo_region_machine.specs.Owed.{current, function_at, function_of}
-use Rattle.rgo_region_machine.specs.States.{RegionState}
 use Rattle.rgo_tac.specs.Frames.{Frame}
 use Rattle.rgo_tac.specs.Tac.{TacState}
 use Rattle.rgo_typed.specs.Types.{is_pointer_like}
@@ -79,8 +78,3 @@ pub record Typed (code : Code) (p : TacState) : Type 0 where
 abbrev pub TypesKeep : Type 0
 TypesKeep = (code : Code) (p q : TacState) (pick : Pick) → IsChecked code → Typed code p → plain_step code p pick
     ≡ Some q → Typed code q
-
--- and each region run
-abbrev pub TypesAlways : Type 0
-TypesAlways = (code : Code) (page_words : ℕ) (events : List Event) (s : RegionState) → IsChecked code
-    → region_run code page_words events ≡ Some s → Typed code s.plain

@@ -53,14 +53,14 @@ TopLeads code owners frame names = (fn : CodeFn) → function_at code frame ≡ 
 abbrev pub CallerLeads : Code → List Region → Frame → Bindings → Type 0
 CallerLeads code owners frame names =
     (fn : CodeFn) (call : CodeInstr) → function_at code frame ≡ Some fn → current code frame ≡ Some call → (v : ℕ)
-        → call_target call.op ≢ Some v → Live (erased_fn fn) v (frame.next + 1) →
+    → call_target call.op ≢ Some v → Live (erased_fn fn) v (frame.next + 1) →
     LeadsHome owners names (class_of fn v) (value_at frame v)
 
 -- what is lent for a result is the region of the variable that waits for it
 abbrev pub IsLinked : Code → Environment → Frame → Environment → Type 0
 IsLinked code f caller d =
     (fn : CodeFn) (call : CodeInstr) (to : ℕ) → function_at code caller ≡ Some fn → current code caller ≡ Some call
-        → call_target call.op ≡ Some to →
+    → call_target call.op ≡ Some to →
     f.lent ≢ NoClass → class_region f.names f.lent ≡ class_region d.names (class_of fn to)
 
 abbrev pub CallersLead : Code → List Region → Environment → List Frame → List Environment → Type 0
