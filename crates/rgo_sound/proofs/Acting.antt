@@ -1,5 +1,6 @@
 -- What one goroutine does alone, as one record: its frames and the memory after it, the goroutine that it starts, what
 -- it prints, and its trap.
+use Rattle.std.proofs.lemmas.Option.{same_Some}
 use Rattle.std.proofs.Common.{◌≡◌, ℕ, zero, suc, ◌+◌, List, [], ◌∷◌, ◌++◌, Option, Some, None, refl, sym, ap, ◌∙◌}
 use Rattle.std.proofs.Common.{slice_get, slice_set, if◌then◌else◌}
 use Rattle.std.specs.Option.{option_map}
@@ -123,12 +124,9 @@ alone code m (frame ∷ callers) = act_at code m (instr_of code frame) frame cal
 
 -- ---- the machine's step, as an act
 
-the_same : {X : Type 0} (x y : X) → Some x ≡ Some y → x ≡ y
-the_same x y e = cc
-
 set_same : {X : Type 0} (xs : List X) (i : ℕ) (x : X) → slice_get xs i ≡ Some x → slice_set xs i x ≡ xs
 set_same [] i x e = refl
-set_same (y ∷ ys) zero x e = ap (λ z. z ∷ ys) (the_same x y (sym e))
+set_same (y ∷ ys) zero x e = ap (λ z. z ∷ ys) (same_Some x y (sym e))
 set_same (y ∷ ys) (suc i) x e = ap (λ zs. y ∷ zs) (set_same ys i x e)
 
 module _ (code : Tac) (s : TacState) (g : ℕ) where

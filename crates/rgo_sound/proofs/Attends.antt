@@ -1,4 +1,6 @@
 -- Each duty that a goroutine owes can be done in its turn, and keeps what holds of the state.
+use Rattle.std.proofs.lemmas.Option.{same_Some}
+use Rattle.rgo_sound.proofs.Places.{nat_eq_refl, nat_ne_sym}
 use Rattle.std.proofs.Common.{◌≡◌, ◌≢◌, ℕ, zero, suc, ◌+◌, ◌-◌, ◌≤◌, ◌<◌, Bool, true, false, not, ◌||◌, List, [], ◌∷◌}
 use Rattle.std.proofs.Common.{◌++◌}
 use Rattle.std.proofs.Common.{map, length, Option, Some, None, refl, sym, ap, ◌∙◌, subst, nat_eq, nat_lt, if◌then◌else◌}
@@ -35,18 +37,12 @@ use Rattle.rgo_tac.specs.declared.regions.Class.TheVariants.{Name}
 pub total_set : (f : Holder → ℕ) (hs : List Holder) (g : ℕ) (h k : Holder) → slice_get hs g ≡ Some h
     → total f (slice_set hs g k) + f h ≡ total f hs + f k
 total_set f [] g h k e = cc
-total_set f (x ∷ xs) zero h k e = let q : f x ≡ f h = ap f (the_same x h e) in omega (arith, q)
-  where
-    the_same : (x h : Holder) → Some x ≡ Some h → x ≡ h
-    the_same x h e = cc
+total_set f (x ∷ xs) zero h k e = let q : f x ≡ f h = ap f (same_Some x h e) in omega (arith, q)
 total_set f (x ∷ xs) (suc g) h k e = let q = total_set f xs g h k e in omega (arith, q)
 
 total_at : (f : Holder → ℕ) (hs : List Holder) (g : ℕ) (h : Holder) → slice_get hs g ≡ Some h → f h ≤ total f hs
 total_at f [] g h e = cc
-total_at f (x ∷ xs) zero h e = let q : f x ≡ f h = ap f (the_same x h e) in omega (arith, q)
-  where
-    the_same : (x h : Holder) → Some x ≡ Some h → x ≡ h
-    the_same x h e = cc
+total_at f (x ∷ xs) zero h e = let q : f x ≡ f h = ap f (same_Some x h e) in omega (arith, q)
 total_at f (x ∷ xs) (suc g) h e = let q = total_at f xs g h e in omega (arith, q)
 
 pub total_none : (f : Holder → ℕ) (hs : List Holder) → ((g : ℕ) (h : Holder) → slice_get hs g ≡ Some h → f h ≡ 0)
@@ -121,11 +117,8 @@ fine_with code s g h k regions fine e more good staked pending counts =
           (λ n. let b = fine.pended j x r (sym (get_set_other s.holders g j k n) ∙ q) i in omega (arith, b, more));
     }
   where
-    the_same : (x y : Holder) → Some x ≡ Some y → x ≡ y
-    the_same x y e = cc
-
     is_k : (j : ℕ) (x : Holder) → g ≡ j → slice_get (slice_set s.holders g k) j ≡ Some x → x ≡ k
-    is_k j x t q = the_same x k (sym q ∙ ap (slice_get (slice_set s.holders g k)) (sym t)
+    is_k j x t q = same_Some x k (sym q ∙ ap (slice_get (slice_set s.holders g k)) (sym t)
         ∙ get_set_same s.holders g h k e)
 
     each_same : (j : ℕ) (x : Holder) → g ≡ j → slice_get (slice_set s.holders g k) j ≡ Some x
@@ -166,10 +159,7 @@ not_positive (suc n) h = absurd (h (omega arith))
 
 -- the name that is lent is no own name
 pub lent_names : (lent : Class) (j : ℕ) → lent ≡ Name j → is_mine lent j ≡ false
-lent_names lent j e = ap (λ x. is_mine x j) e ∙ ap (λ x. not x) (self j)
-  where
-    self : (j : ℕ) → nat_eq j j ≡ true
-    self j = grind arith
+lent_names lent j e = ap (λ x. is_mine x j) e ∙ ap (λ x. not x) (nat_eq_refl j)
 
 -- what is protected behind the end of a protection was protected before it
 any_removed : (p : Region → Bool) (q : Region) (ss : List Region) → list_any p (removed_once q ss) ≡ true
@@ -243,12 +233,9 @@ stake_ends code s g h k r fine e staked ks kp good =
             let v : Some info ≡ Some (one_fewer old) = sym i ∙ subst
             (λ x. slice_get (with_info s.regions r one_fewer) x ≡ option_map one_fewer (slice_get s.regions x)) u
             (with_info_same s.regions r one_fewer) ∙ ap (option_map one_fewer) o in
-            let m : info.stakes ≡ old.stakes - 1 = ap (λ (x : RegionInfo). x.stakes) (the_same info (one_fewer old) v)
+            let m : info.stakes ≡ old.stakes - 1 = ap (λ (x : RegionInfo). x.stakes) (same_Some info (one_fewer old) v)
             in
             omega (arith, a, p, d, y, z, m, a', p')
-          where
-            the_same : (x y : RegionInfo) → Some x ≡ Some y → x ≡ y
-            the_same x y e = cc
 
         other : nat_eq r q ≡ false → info.stakes ≡ total (λ (x : Holder). one_if (is_in q x.stakes))
             (slice_set s.holders g k) + total (λ (x : Holder). times_in q x.pending) (slice_set s.holders g k)
@@ -625,7 +612,7 @@ module _ (code : Code) (s : RegionState) (g : ℕ) (stakes pending : List ℕ) (
                 base_once = once;
                 shares =
                     subst (λ x. Shares (to_share code (frame ∷ callers)) ds f.names
-                        (if x then pending else r ∷ pending)) n
+                    (if x then pending else r ∷ pending)) n
                     (sh (Numbered r) b);
               })) (λ q i. let x = fine.made g (before (Share k)) q e i in
               omega (arith, x, same_length)) pended counts;
@@ -686,12 +673,9 @@ module _ (code : Code) (s : RegionState) (g : ℕ) (stakes pending : List ℕ) (
                 (λ x. slice_get (with_info s.regions r one_more) x ≡ option_map one_more (slice_get s.regions x)) u
                 (with_info_same s.regions r one_more) ∙ ap (option_map one_more) o in
                 let m : info.stakes ≡ old.stakes + 1 = ap (λ (x : RegionInfo). x.stakes)
-                    (the_same info (one_more old) v)
+                (same_Some info (one_more old) v)
                 in
                 omega (arith, a, p, d, y, m)
-              where
-                the_same : (x y : RegionInfo) → Some x ≡ Some y → x ≡ y
-                the_same x y e = cc
 
             other : nat_eq r q ≡ false → info.stakes ≡ total (λ (x : Holder). one_if (is_in q x.stakes))
                 (slice_set s.holders g (sharing r)) + total (λ (x : Holder). times_in q x.pending)
@@ -792,10 +776,7 @@ module _ (code : Code) (s : RegionState) (g : ℕ) (stakes pending : List ℕ) (
 
         others : (q : ℕ) → nat_eq r q ≡ false → list_any (same_region (Numbered q)) (Numbered r ∷ rs)
             ≡ list_any (same_region (Numbered q)) rs
-        others q n = ap (λ x. x || list_any (same_region (Numbered q)) rs) (flip r q n)
-          where
-            flip : (x y : ℕ) → nat_eq x y ≡ false → nat_eq y x ≡ false
-            flip x y h = grind arith
+        others q n = ap (λ x. x || list_any (same_region (Numbered q)) rs) (nat_ne_sym r q n)
 
 -- ---- all duties
 

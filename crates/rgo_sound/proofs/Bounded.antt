@@ -1,5 +1,6 @@
 -- Regions are at most the names of a function, for each step and each goroutine: each instruction creates at most so
 -- many, and one that meets creates none.
+use Rattle.std.proofs.lemmas.Option.{same_Some}
 use Rattle.std.proofs.Common.{◌≡◌, ◌≢◌, ℕ, zero, suc, ◌+◌, ◌*◌, ◌≤◌, Bool, true, false, ◌||◌, ◌&&◌, List, [], ◌∷◌, ◌++◌}
 use Rattle.std.proofs.Common.{map, length}
 use Rattle.std.proofs.Common.{Option, Some, None, refl, sym, ap, ◌∙◌, subst, if◌then◌else◌, arith, true≢false}
@@ -171,10 +172,7 @@ sum_set : (code : Code) (gs : List (List Frame)) (g : ℕ) (old new : List Frame
     → sum_of code (slice_set gs g new) + creates_of code old ≡ sum_of code gs + creates_of code new
 sum_set code [] g old new e = cc
 sum_set code (x ∷ xs) zero old new e = let q : creates_of code x ≡ creates_of code old =
-    ap (creates_of code) (the_same x old e) in omega (arith, q)
-  where
-    the_same : (x y : List Frame) → Some x ≡ Some y → x ≡ y
-    the_same x y e = cc
+    ap (creates_of code) (same_Some x old e) in omega (arith, q)
 sum_set code (x ∷ xs) (suc g) old new e = let q = sum_set code xs g old new e in omega (arith, q)
 
 sum_append : (code : Code) (xs ys : List (List Frame)) → sum_of code (xs ++ ys) ≡ sum_of code xs + sum_of code ys
@@ -240,10 +238,7 @@ fewer (k ∷ ks) cs d h =
 most_of : (fs : List CodeFn) (n : ℕ) (f : CodeFn) → slice_get fs n ≡ Some f → name_count f ≤ most_names fs
 most_of [] n f e = cc
 most_of (g ∷ fs) zero f e = let a = le-max_left (name_count g) (most_names fs) in let b : name_count g ≡ name_count f =
-    ap name_count (the_same g f e) in omega (arith, a, b)
-  where
-    the_same : (x y : CodeFn) → Some x ≡ Some y → x ≡ y
-    the_same x y e = cc
+    ap name_count (same_Some g f e) in omega (arith, a, b)
 most_of (g ∷ fs) (suc n) f e = let a = le-max_right (name_count g) (most_names fs) in let b = most_of fs n f e in
     omega (arith, a, b)
 
@@ -373,11 +368,8 @@ module _ (code : Code) (checked : IsChecked code) (written : Ascends code) where
         sym (join (subst (λ x. class_of fn x ≢ NoClass) (sym (target v w)) n)) ∙ ap (class_of fn) (target v w),
       ))
         where
-          the_same : (x y : ℕ) → Some x ≡ Some y → x ≡ y
-          the_same x y e = cc
-
           target : (v : ℕ) → writes (erased_op instr.op) ≡ Some v → d ≡ v
-          target v w = the_same d v (sym (ap (λ op. writes (erased_op op)) is) ∙ w)
+          target v w = same_Some d v (sym (ap (λ op. writes (erased_op op)) is) ∙ w)
 
           fits : OpFits (erased code) (erased_fn fn) (erased_op (Do (Some d) Recv (channel ∷ []) removes))
           fits = subst (λ op. OpFits (erased code) (erased_fn fn) (erased_op op)) is
@@ -619,9 +611,6 @@ module _ (code : Code) (page_words : ℕ) (s : RegionState) (old : Bounded code 
               (current_erased code x.frame ∙ ap (option_map erased_instr) x.cur)
               ∙ ap (λ o. act (erased code) s.plain.memory (erased_op o) x.instr.place x.frame x.callers) is) ∙ x.acts
 
-          the_same : (x y : Acted) → Some x ≡ Some y → x ≡ y
-          the_same x y e = cc
-
           by : (op : CodeOp) → x.instr.op ≡ op → total owed_of
               (child_holder code x.given.0 x.instr.op (last_frames
               (slice_set s.plain.goroutines g x.a.frames ++ x.a.started))) ≤ sum_of code x.a.started
@@ -633,7 +622,7 @@ module _ (code : Code) (page_words : ℕ) (s : RegionState) (old : Bounded code 
                   (last_frames (slice_set s.plain.goroutines g x.a.frames ++ x.a.started))) ≤ sum_of code x.a.started
               go (callee, q) =
                   let st : x.a.started ≡ (called callee n (values_of x.frame from) ∷ []) ∷ [] =
-                  ap (λ (y : Acted). y.started) (the_same x.a _
+                  ap (λ (y : Acted). y.started) (same_Some x.a _
                   (sym (sym (ap (start s.plain.memory x.frame x.callers n (values_of x.frame from)) q)
                   ∙ acts (Go n from passes removes) is))) in
                   let l : last_frames (slice_set s.plain.goroutines g x.a.frames ++ x.a.started)

@@ -1,5 +1,6 @@
 -- What region safety says of stakes, from what holds of a state: one holding name, duties that name what is live, and
 -- nothing left at the end.
+use Rattle.rgo_sound.proofs.Places.{nat_eq_refl}
 use Rattle.std.proofs.Common.{◌≡◌, ℕ, zero, suc, Bool, true, false, ◌||◌, List, [], ◌∷◌, map, length, Some, refl, sym}
 use Rattle.std.proofs.Common.{ap, ◌∙◌, subst, nat_eq, if◌then◌else◌, arith, ◌⊎◌, inl, inr, true≢false, slice_get}
 use Rattle.std.proofs.Common.{Contains, count_by, cond}
@@ -31,9 +32,6 @@ contains_in : (xs : List ℕ) (r : ℕ) → Contains xs r → is_in r xs ≡ tru
 contains_in [] r c = absurd (contains_nil r c)
 contains_in (x ∷ xs) r c = go (contains_cases x xs r c) (contains_in xs r)
   where
-    self : (x : ℕ) → nat_eq x x ≡ true
-    self x = grind arith
-
     always : (b : Bool) → (if b then true else true) ≡ true
     always true = refl
     always false = refl
@@ -41,7 +39,7 @@ contains_in (x ∷ xs) r c = go (contains_cases x xs r c) (contains_in xs r)
     go : (x ≡ r) ⊎ Contains xs r → (Contains xs r → is_in r xs ≡ true) → (if nat_eq r x then true else is_in r xs)
         ≡ true
     go (inl e) next = ap (λ y. if nat_eq r y then true else is_in r xs) e
-        ∙ ap (λ b. if b then true else is_in r xs) (self r)
+        ∙ ap (λ b. if b then true else is_in r xs) (nat_eq_refl r)
     go (inr d) next = ap (λ y. if nat_eq r x then true else y) (next d) ∙ always (nat_eq r x)
 
 in_contains : (xs : List ℕ) (r : ℕ) → is_in r xs ≡ true → Contains xs r
@@ -172,10 +170,7 @@ count_all (info ∷ regions) h =
 
 no_stakes : (xs : List ℕ) → ((r : ℕ) → is_in r xs ≡ false) → xs ≡ []
 no_stakes [] h = refl
-no_stakes (x ∷ xs) h = absurd (true≢false (sym (ap (λ b. if b then true else is_in x xs) (self x)) ∙ h x))
-  where
-    self : (x : ℕ) → nat_eq x x ≡ true
-    self x = grind arith
+no_stakes (x ∷ xs) h = absurd (true≢false (sym (ap (λ b. if b then true else is_in x xs) (nat_eq_refl x)) ∙ h x))
 
 -- ---- of a state
 

@@ -1,4 +1,6 @@
 -- What the rule on protections says of the lists of a call, by counts.
+use Rattle.std.proofs.lemmas.Option.{same_Some}
+use Rattle.rgo_sound.proofs.Places.{nat_eq_refl}
 use Rattle.std.proofs.Common.{◌≡◌, ◌≢◌, ℕ, zero, suc, ◌+◌, ◌≤◌, Bool, true, false, not, ◌||◌, List, [], ◌∷◌, Option}
 use Rattle.std.proofs.Common.{Some, refl, sym, ap, ◌∙◌, subst, nat_eq, arith, ◌⊎◌, inl, inr, true≢false, slice_get}
 use Rattle.std.proofs.Common.{Contains}
@@ -16,26 +18,20 @@ use Rattle.rgo_tac.specs.declared.regions.Class.TheVariants.{Name}
 
 pub get_contains : {X : Type 0} (xs : List X) (p : ℕ) (x : X) → slice_get xs p ≡ Some x → Contains xs x
 get_contains [] p x e = cc
-get_contains (y ∷ ys) zero x e = subst (λ z. Contains (y ∷ ys) z) (the_same y x e) (contains_here y ys)
-  where
-    the_same : {X : Type 0} (x y : X) → Some x ≡ Some y → x ≡ y
-    the_same x y e = cc
+get_contains (y ∷ ys) zero x e = subst (λ z. Contains (y ∷ ys) z) (same_Some y x e) (contains_here y ys)
 get_contains (y ∷ ys) (suc p) x e = contains_there y ys x (get_contains ys p x e)
 
 pub any_contains : (ks : List ℕ) (k : ℕ) → Contains ks k → list_any (nat_eq k) ks ≡ true
 any_contains [] k c = absurd (contains_nil k c)
 any_contains (j ∷ ks) k c = go (contains_cases j ks k c) (any_contains ks k)
   where
-    self : (x : ℕ) → nat_eq x x ≡ true
-    self x = grind arith
-
     there : (a b : Bool) → b ≡ true → (a || b) ≡ true
     there true b e = refl
     there false b e = e
 
     go : (j ≡ k) ⊎ Contains ks k → (Contains ks k → list_any (nat_eq k) ks ≡ true)
         → (nat_eq k j || list_any (nat_eq k) ks) ≡ true
-    go (inl e) next = ap (λ x. nat_eq k x || list_any (nat_eq k) ks) e ∙ ap (λ x. x || list_any (nat_eq k) ks) (self k)
+    go (inl e) next = ap (λ x. nat_eq k x || list_any (nat_eq k) ks) e ∙ ap (λ x. x || list_any (nat_eq k) ks) (nat_eq_refl k)
     go (inr d) next = there (nat_eq k j) (list_any (nat_eq k) ks) (next d)
 
 -- a name that is passed has a position

@@ -1,4 +1,5 @@
 -- A call of checked code keeps what holds of the state.
+use Rattle.std.proofs.lemmas.Option.{same_Some}
 use Rattle.std.proofs.Common.{◌≡◌, ◌≢◌, ℕ, zero, suc, ◌≤◌, true, false, List, [], ◌∷◌, ◌++◌, map, length, Option, Some}
 use Rattle.std.proofs.Common.{None, is_some, refl, sym, ap, ◌∙◌, subst, nat_eq, arith, ◌↔◌, true≢false, slice_get}
 use Rattle.std.proofs.Common.{slice_set, option_map, append-nil}
@@ -53,12 +54,6 @@ first_instr (i ∷ is) n = (i, refl)
 module _ (code : Code) (checked : IsChecked code) (written : Ascends code) (frame : Frame) (callers : List Frame)
     (call : CodeInstr) (to : Option ℕ) (n : ℕ) (from : List ℕ) (passes : List Class) (protects removes : List ℕ)
     (is : call.op ≡ Call to n from passes protects removes) (cur : current code frame ≡ Some call) where
-  the_call : (x y : CodeInstr) → Some x ≡ Some y → x ≡ y
-  the_call x y e = cc
-
-  the_fn : (x y : CodeFn) → Some x ≡ Some y → x ≡ y
-  the_fn x y e = cc
-
   good_behind : (h : Holder) (environments : List Environment) (duties : List Duty) (entered : Frame) (callee : CodeFn)
       → entered.function ≡ n → entered.next ≡ 0 → function_of code n ≡ Some callee → duties ≡ []
       → Core h.stakes h.base environments → EachOnce h.base
@@ -96,7 +91,7 @@ module _ (code : Code) (checked : IsChecked code) (written : Ascends code) (fram
       st = fit.0
 
       same : st.instr ≡ call
-      same = the_call st.instr call (sym (ap (λ o. current_in o frame.next) st.is_fn ∙ st.is_instr) ∙ cur)
+      same = same_Some st.instr call (sym (ap (λ o. current_in o frame.next) st.is_fn ∙ st.is_instr) ∙ cur)
 
       here : HasInstr st.fn frame.next call
       here = st.is_instr ∙ ap Some same
@@ -118,7 +113,7 @@ module _ (code : Code) (checked : IsChecked code) (written : Ascends code) (fram
           (checked rule.Exists (line.Instr frame.function frame.next) st.fn call st.is_fn here).exists)
 
       is_callee : there.callee ≡ callee
-      is_callee = the_fn there.callee callee (sym there.found ∙ found)
+      is_callee = same_Some there.callee callee (sym there.found ∙ found)
 
       fits_callee : Passes st.fn callee to from passes
       fits_callee = subst (λ (o : Option CodeFn). CallPasses st.fn o to from passes) found
@@ -312,9 +307,6 @@ fine_call code page_words s t g x to n from passes protects removes checked writ
     in
     subst (Fine code) (sym x.is)
     (subst (λ a. Fine code (instructed_with code s g x.frame x.callers x.instr (after s.plain g a) x.given))
-    (the_same (has_called s.plain.memory x.frame x.callers n from c.0) x.a (sym c.2 ∙ x.acts))
+    (same_Some (has_called s.plain.memory x.frame x.callers n from c.0) x.a (sym c.2 ∙ x.acts))
     (behind code s g x.h x.frame x.callers x.instr to n from passes protects removes checked written fine x.there
     (ap frames_in x.at) x.cur is c.0 (x.frame ∷ x.callers) x.given c.1 x.at (ap has_none x.ready.none) x.same))
-  where
-    the_same : (a b : Acted) → Some a ≡ Some b → a ≡ b
-    the_same a b e = cc

@@ -1,4 +1,5 @@
 -- A call passes its regions on: what the callee is given, and what is left to the caller.
+use Rattle.rgo_sound.proofs.Places.{nat_eq_refl, nat_ne_sym}
 use Rattle.std.proofs.Common.{◌≡◌, ◌≢◌, ℕ, zero, suc, ◌+◌, ◌≤◌, Bool, true, false, not, ◌&&◌, ◌||◌, List, [], ◌∷◌}
 use Rattle.std.proofs.Common.{Option, Some, None, refl, sym, ap, ◌∙◌, subst, nat_eq, if◌then◌else◌, arith, ◌⊎◌, inl}
 use Rattle.std.proofs.Common.{inr, true≢false}
@@ -99,14 +100,11 @@ module _ (names : Bindings) (lent : Class) (protects : List ℕ) where
   not_passed (Name i ∷ formals) (c ∷ regions) k n = go (class_region names c)
       (not_passed formals regions k (or_right (nat_eq k i) (list_any (is_name k) formals) n))
     where
-      flip : (x y : ℕ) → nat_eq x y ≡ false → nat_eq y x ≡ false
-      flip x y h = grind arith
-
       go : (o : Option Region) → bound (to_callee formals regions) k ≡ None
           → bound (passed (Name i ∷ formals) (o ∷ passed_regions names regions)) k ≡ None
       go None e = e
       go (Some r) e = ap (λ x. if x then Some r else bound (to_callee formals regions) k)
-          (flip k i (or_left (nat_eq k i) (list_any (is_name k) formals) n)) ∙ e
+          (nat_ne_sym k i (or_left (nat_eq k i) (list_any (is_name k) formals) n)) ∙ e
   not_passed (Global ∷ formals) (c ∷ regions) k n = not_passed formals regions k n
   not_passed (NoClass ∷ formals) (c ∷ regions) k n = not_passed formals regions k n
 
@@ -238,9 +236,6 @@ module _ (names : Bindings) (lent : Class) (protects : List ℕ) where
       more true k h = omega (arith, h)
       more false k h = omega (arith, h)
 
-      self : (x : ℕ) → nat_eq x x ≡ true
-      self x = grind arith
-
       or_true : (b : Bool) → (b || true) ≡ true
       or_true true = refl
       or_true false = refl
@@ -270,7 +265,7 @@ module _ (names : Bindings) (lent : Class) (protects : List ℕ) where
           let w : times_in j (given (Name i ∷ formals) (Name j ∷ regions)) ≡ times_in j (given formals regions) =
           ap (λ x. times_in j (if x then given formals regions else j ∷ given formals regions)) c in
           let g = given_times formals regions j in
-          let s : one_if (nat_eq j j) ≡ 1 = ap one_if (self j) in
+          let s : one_if (nat_eq j j) ≡ 1 = ap one_if (nat_eq_refl j) in
           (j, h ∙ v, omega (arith, w, g, s))
 
 -- ---- what is left to the caller
@@ -281,14 +276,11 @@ pub left_other : (ks : List ℕ) (names : Bindings) (j : ℕ) → times_in j ks 
 left_other [] names j z = refl
 left_other (k ∷ ks) names j z = go (nat_eq j k) refl z (λ z'. left_other ks (unbind names k) j z')
   where
-    flip : (x y : ℕ) → nat_eq x y ≡ false → nat_eq y x ≡ false
-    flip x y h = grind arith
-
     go : (b : Bool) → nat_eq j k ≡ b → one_if b + times_in j ks ≡ 0
         → (times_in j ks ≡ 0 → bound (without_all (unbind names k) ks) j ≡ bound (unbind names k) j)
         → bound (without_all (unbind names k) ks) j ≡ bound names j
     go true t z next = absurd (omega (arith, z))
-    go false n z next = next (omega (arith, z)) ∙ bound_unbind_other names k j (flip j k n)
+    go false n z next = next (omega (arith, z)) ∙ bound_unbind_other names k j (nat_ne_sym j k n)
 
 -- what stood for none still does
 pub left_gone : (ks : List ℕ) (names : Bindings) (j : ℕ) → bound names j ≡ None → bound (without_all names ks) j ≡ None
@@ -335,21 +327,15 @@ left_count mine r (k ∷ ks) names u d m = go (bound names k) refl
     (left_count mine r ks (unbind names k) (unique_unbind names k u) (λ j. fewer (nat_eq j k) (d j))
     (λ j h. m j (omega (arith, h))))
   where
-    self : (x : ℕ) → nat_eq x x ≡ true
-    self x = grind arith
-
-    flip : (x y : ℕ) → nat_eq x y ≡ false → nat_eq y x ≡ false
-    flip x y h = grind arith
-
     fewer : {n : ℕ} (b : Bool) → one_if b + n ≤ 1 → n ≤ 1
     fewer true h = omega (arith, h)
     fewer false h = omega (arith, h)
 
     no_more : times_in k ks ≡ 0
-    no_more = let a = d k in let b : one_if (nat_eq k k) ≡ 1 = ap one_if (self k) in omega (arith, a, b)
+    no_more = let a = d k in let b : one_if (nat_eq k k) ≡ 1 = ap one_if (nat_eq_refl k) in omega (arith, a, b)
 
     mine_here : is_mine mine k ≡ true
-    mine_here = m k (let b : one_if (nat_eq k k) ≡ 1 = ap one_if (self k) in omega (arith, b))
+    mine_here = m k (let b : one_if (nat_eq k k) ≡ 1 = ap one_if (nat_eq_refl k) in omega (arith, b))
 
     -- the others stand for what they stood for
     same : (js : List ℕ) → times_in k js ≡ 0 → bound_times (Numbered r) (unbind names k) js
@@ -395,11 +381,8 @@ found_in : (r : Region) (names : Bindings) (ks : List ℕ) → (bound_times r na
 found_in r names [] = inl refl
 found_in r names (k ∷ ks) = go (bound names k) refl (found_in r names ks)
   where
-    self : (x : ℕ) → nat_eq x x ≡ true
-    self x = grind arith
-
     first : 1 ≤ times_in k (k ∷ ks)
-    first = let a : one_if (nat_eq k k) ≡ 1 = ap one_if (self k) in omega (arith, a)
+    first = let a : one_if (nat_eq k k) ≡ 1 = ap one_if (nat_eq_refl k) in omega (arith, a)
 
     go : (o : Option Region) → bound names k ≡ o → (bound_times r names ks ≡ 0)
         ⊎ ((j : ℕ) × (1 ≤ times_in j ks) × (bound names j ≡ Some r))
@@ -542,15 +525,12 @@ module _ (stakes : List ℕ) (base : List Region) (f : Environment) (fs : List E
               flip true e = refl
               flip false e = cc
 
-          self : (x : ℕ) → nat_eq x x ≡ true
-          self x = grind arith
-
           unbound : held_in f.lent r f.names ≡ 1 + held_in f.lent r (unbind f.names k)
           unbound =
               let a = held_unbind f.lent r f.names k (Numbered r) core.unique.0 bk in
               let b : one_if (is_mine f.lent k && same_region (Numbered r) (Numbered r)) ≡ 1 =
               ap (λ x. one_if (x && same_region (Numbered r) (Numbered r))) (given_mine k gk)
-              ∙ ap one_if (self r) in
+              ∙ ap one_if (nat_eq_refl r) in
               omega (arith, a, b)
 
           two : is_mine f.lent j ≡ true → ⊥
@@ -577,15 +557,12 @@ module _ (stakes : List ℕ) (base : List Region) (f : Environment) (fs : List E
       → guards base (f ∷ fs) (Numbered r) ≡ false → 1 ≤ held_in f.lent r left_names + held r fs
   lends m r l e u = go (lent_at f.names callee protects formals regions m r l fits.formals_fit e)
     where
-      self : (x : ℕ) → nat_eq x x ≡ true
-      self x = grind arith
-
       go : (k : ℕ) × (bound f.names k ≡ Some (Numbered r)) × (suc (times_in k gives) ≤ times_named k regions)
           → 1 ≤ held_in f.lent r left_names + held r fs
       go (k, b, h) =
           let unprotected : list_any (nat_eq k) protects ≡ false =
           split (list_any (nat_eq k) protects) (λ t. absurd
-          (true≢false (sym (ap (same_bound (Numbered r)) b ∙ self r) ∙ free r u k t))) (λ n. n) in
+          (true≢false (sym (ap (same_bound (Numbered r)) b ∙ nat_eq_refl r) ∙ free r u k t))) (λ n. n) in
           let t = fits.twice k unprotected in
           let z : times_in k gives ≡ 0 = omega (arith, h, t) in
           let mine = fits.own k unprotected (omega (arith, h)) in

@@ -1,5 +1,6 @@
 -- How the count of holding names changes with each step of a goroutine, and why each of its regions keeps its one
 -- holding name.
+use Rattle.rgo_sound.proofs.Places.{nat_eq_refl, nat_ne_sym}
 use Rattle.std.proofs.Common.{◌≡◌, ℕ, ◌+◌, ◌≤◌, Bool, true, false, not, ◌&&◌, ◌||◌, List, [], ◌∷◌, Some, None, refl}
 use Rattle.std.proofs.Common.{sym, ap, ◌∙◌, subst, nat_eq, if◌then◌else◌, arith, ◌⊎◌, inl, inr, true≢false}
 use Rattle.std.specs.List.{list_any}
@@ -16,9 +17,6 @@ use Rattle.rgo_tac.specs.declared.regions.Class.{Class}
 use Rattle.rgo_tac.specs.declared.regions.Class.TheVariants.{Global, Name, NoClass}
 
 -- ---- numbers and tests
-
-nat_eq_refl : (a : ℕ) → nat_eq a a ≡ true
-nat_eq_refl a = grind arith
 
 pub eq_of : (a b : ℕ) → nat_eq a b ≡ true → a ≡ b
 eq_of a b e = grind arith
@@ -360,9 +358,6 @@ core_removed stakes base f fs k r e m g c =
             let o = c.once q (sym (in_without r q stakes n) ∙ e') in
             ((λ u. ap (λ x. x + held q fs) (keeps n) ∙ o.0 u), o.1)
           where
-            flip : (a b : ℕ) → nat_eq a b ≡ false → nat_eq b a ≡ false
-            flip a b h = grind arith
-
             none : (x : Bool) → one_if (x && false) ≡ 0
             none true = refl
             none false = refl
@@ -371,7 +366,7 @@ core_removed stakes base f fs k r e m g c =
             keeps n =
                 let h = held_unbind f.lent q f.names k (Numbered r) c.unique.0 e in
                 let z : one_if (is_mine f.lent k && same_region (Numbered q) (Numbered r)) ≡ 0 =
-                ap (λ x. one_if (is_mine f.lent k && x)) (flip r q n) ∙ none (is_mine f.lent k) in
+                ap (λ x. one_if (is_mine f.lent k && x)) (nat_ne_sym r q n) ∙ none (is_mine f.lent k) in
                 omega (arith, h, z)
 
 -- protections of the top frame begin and end

@@ -204,7 +204,7 @@ calls_on code fn callee frame entered callers call next to n from passes protect
             protections_fit =
                 λ r. s.protections_fit r ∙ ap (bound_times r f.names) (ap protected_names is_call)
                 ∙ same r protects (λ k c. right.kept k c) ∙ ap (bound_times r left_names)
-                    (ap protected_names (sym is_call));
+                (ap protected_names (sym is_call));
           },
           w,
         ),

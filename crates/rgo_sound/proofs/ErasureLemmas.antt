@@ -1,4 +1,5 @@
 -- A region step keeps the plain state, and an instruction steps it.
+use Rattle.std.proofs.lemmas.Option.{same_Some}
 use Rattle.std.proofs.Common.{◌≡◌, ℕ, Bool, true, false, List, [], ◌∷◌, ◌++◌, Option, Some, None, refl, sym, ap, ◌∙◌}
 use Rattle.std.proofs.Common.{subst}
 use Rattle.std.specs.Prelude.{option_and_then, unwrap_or, option_map, if◌then◌else◌, slice_get}
@@ -219,9 +220,6 @@ step_follows code page_words s (Acknowledge g) = yields_then {X = Holder} (λ h.
     (slice_get s.holders g) (λ h. kept_acknowledge s g h h.offer)
 step_follows code page_words s (Finish limit) = record { fact = (refl, refl) }
 
-some_same : {X : Type 0} (x y : X) → Some x ≡ Some y → x ≡ y
-some_same x y e = cc
-
 -- what is printed and the mark of a run that is over stay
 record Over (s t : RegionState) (end : Mark) : Type 0 where
   printed : t.plain.printed ≡ s.plain.printed
@@ -246,7 +244,7 @@ over_here s t (Acknowledge g) code page_words end m f =
 module _ (code : Code) (page_words : ℕ) where
   over_stays : (events : List Event) (s t : RegionState) (end : Mark) → s.mark ≡ Some end
       → run (region_step code page_words) s events ≡ Some t → Over s t end
-  over_stays [] s t end m r = let e = some_same s t r in
+  over_stays [] s t end m r = let e = same_Some s t r in
       record {
         printed = ap (λ (q : RegionState). q.plain.printed) (sym e);
         mark =
@@ -354,7 +352,7 @@ module _ (code : Code) (page_words : ℕ) where
   erases : (events : List Event) (s t : RegionState) → s.mark ≡ None → s.plain.ended ≡ None
       → run (region_step code page_words) s events ≡ Some t → Erases s.plain (erased_picks code page_words s events) t
   erases [] s t m e r =
-      let q = some_same s t r in
+      let q = same_Some s t r in
       record {
         state = s.plain;
         leads = refl;

@@ -1,5 +1,6 @@
 -- What each action does keeps pointers in their regions, and gives a value that leads into the region of its variable's
 -- class.
+use Rattle.std.proofs.lemmas.Option.{same_Some}
 use Rattle.std.proofs.Common.{◌≡◌, ◌≢◌, ℕ, zero, suc, ◌+◌, ◌<◌, Bool, true, false, List, [], ◌∷◌, ◌++◌, map, length}
 use Rattle.std.proofs.Common.{Option, Some, None, refl, sym, ap, ◌∙◌, subst, nat_eq, nat_lt, if◌then◌else◌, arith, ◌⊎◌}
 use Rattle.std.proofs.Common.{inl, inr, slice_get, slice_set, length-append, Contains, append-nil}
@@ -333,13 +334,10 @@ module _ (fn : CodeFn) (names : Bindings) (owners : List Region) (m : Memory) (h
         variables = home.variables;
       }
     where
-      the_same : (x y : Object) → Some x ≡ Some y → x ≡ y
-      the_same x y e = cc
-
       same : (p : ℕ) (x : Object) (r : Region) → o ≡ p → slice_get (slice_set m.heap o object) p ≡ Some x
           → slice_get owners p ≡ Some r → Each (LeadsInto owners r) (cells_of x)
       same p x r u e w =
-          let same_object : x ≡ object = the_same x object (sym e ∙ ap (slice_get (slice_set m.heap o object)) (sym u)
+          let same_object : x ≡ object = same_Some x object (sym e ∙ ap (slice_get (slice_set m.heap o object)) (sym u)
           ∙ get_set_same m.heap o old object is) in
           let w' : slice_get owners o ≡ Some r = ap (slice_get owners) u ∙ w in
           subst (λ (y : Object). Each (LeadsInto owners r) (cells_of y)) (sym same_object)
@@ -474,12 +472,9 @@ module _ (fn : CodeFn) (names : Bindings) (owners : List Region) (m : Memory) (h
   written c d o value.Nil j h g r e = tt
   written c d o (value.Object p) j h g r e =
       let same : c ≡ d = j (has_class owners names c o h) (has_class owners names d p g) in
-      let x : h.0 ≡ r = the_same h.0 r (sym h.2 ∙ e) in
-      let y : g.0 ≡ h.0 = the_same g.0 h.0 (sym g.1 ∙ ap (class_region names) (sym same) ∙ h.1) in
+      let x : h.0 ≡ r = same_Some h.0 r (sym h.2 ∙ e) in
+      let y : g.0 ≡ h.0 = same_Some g.0 h.0 (sym g.1 ∙ ap (class_region names) (sym same) ∙ h.1) in
       g.2 ∙ ap Some (y ∙ x)
-    where
-      the_same : (x y : Region) → Some x ≡ Some y → x ≡ y
-      the_same x y e = cc
 
   -- the two operands of an action have one class
   pair : (a b : ℕ) (both : Option (Member × Member)) → both ≡ joined a b → ClassesAgree fn both

@@ -1,4 +1,5 @@
 -- An instruction of one goroutine that is no call, no `go` and no return keeps what holds of the state.
+use Rattle.std.proofs.lemmas.Option.{same_Some}
 use Rattle.std.proofs.Common.{◌≡◌, ℕ, zero, suc, ◌+◌, ◌<◌, Bool, true, false, List, [], ◌∷◌, ◌++◌, map, length, Option}
 use Rattle.std.proofs.Common.{Some, None, refl, sym, ap, ◌∙◌, subst, nat_eq, arith, if◌then◌else◌, ◌⊎◌, inl, inr}
 use Rattle.std.proofs.Common.{slice_get, slice_set, option_map, Contains, append-nil}
@@ -156,14 +157,11 @@ fine_plain code s t g h k fine e rs hs ks kp gs frames good =
           ap length rs in omega (arith, b, l));
     }
   where
-    the_same : (x y : Holder) → Some x ≡ Some y → x ≡ y
-    the_same x y e = cc
-
     was : (j : ℕ) (x : Holder) → nat_eq g j ≡ false → slice_get t.holders j ≡ Some x → slice_get s.holders j ≡ Some x
     was j x n q = sym (ap (λ y. slice_get y j) hs ∙ get_set_other s.holders g j k n) ∙ q
 
     is_k : (j : ℕ) (x : Holder) → g ≡ j → slice_get (slice_set s.holders g k) j ≡ Some x → x ≡ k
-    is_k j x u q = the_same x k (sym q ∙ ap (slice_get (slice_set s.holders g k)) (sym u)
+    is_k j x u q = same_Some x k (sym q ∙ ap (slice_get (slice_set s.holders g k)) (sym u)
         ∙ get_set_same s.holders g h k e)
 
     each_same : (j : ℕ) (x : Holder) → g ≡ j → slice_get (slice_set s.holders g k) j ≡ Some x
@@ -240,7 +238,7 @@ frame_goes code frame frame' callers instr k [] duties ruled cur simple d core o
 frame_goes code frame frame' callers instr k (f ∷ fs) duties ruled cur simple d core once fit sh same edge =
     let st = fit.0 in
     let cur' : current code frame ≡ Some st.instr = ap (λ o. current_in o frame.next) st.is_fn ∙ st.is_instr in
-    let is : st.instr ≡ instr = the_same st.instr instr (sym cur' ∙ cur) in
+    let is : st.instr ≡ instr = same_Some st.instr instr (sym cur' ∙ cur) in
     let here : HasInstr st.fn frame.next instr = st.is_instr ∙ ap Some is in
     let to = ruled.goes_on frame.function frame.next frame'.next st.fn instr (removes_behind frame instr.op) st.is_fn
     here edge in
@@ -258,9 +256,6 @@ frame_goes code frame frame' callers instr k (f ∷ fs) duties ruled cur simple 
     subst (λ (x : Option CodeInstr). GoodHolder code (frame' ∷ callers)
     (record k { environments = f ∷ fs; duties = map Remove (removes_behind frame instr.op) ++ duties_before x }))
     (sym next_is) good
-  where
-    the_same : (x y : CodeInstr) → Some x ≡ Some y → x ≡ y
-    the_same x y e = cc
 
 module _ (code : Code) (page_words : ℕ) (s : RegionState) (g : ℕ) (h : Holder) (frame : Frame) (callers : List Frame)
     (instr : CodeInstr) (fine : Fine code s) (ruled : IsRuled code) (e : slice_get s.holders g ≡ Some h)

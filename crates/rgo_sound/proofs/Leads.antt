@@ -1,4 +1,6 @@
 -- Where the variables of frames lead, behind each instruction.
+use Rattle.std.proofs.lemmas.Option.{same_Some}
+use Rattle.rgo_sound.proofs.Places.{nat_eq_refl}
 use Rattle.std.proofs.Common.{◌≡◌, ◌≢◌, ℕ, zero, suc, ◌+◌, ◌<◌, Bool, true, false, ◌&&◌, ◌||◌, List, [], ◌∷◌, ◌++◌, map}
 use Rattle.std.proofs.Common.{length, drop, get_or, Option, Some, None, refl, sym, ap, ◌∙◌, subst, nat_eq}
 use Rattle.std.proofs.Common.{if◌then◌else◌, arith, ◌⊎◌, inl, inr, true≢false, slice_get, slice_set, option_map}
@@ -81,12 +83,6 @@ renamed_home owners names names' c (value.Bool b) e h = tt
 renamed_home owners names names' c value.Nil e h = tt
 renamed_home owners names names' c (value.Object o) e (r, q, w) = (r, e ∙ q, w)
 
-the_fn : (x y : CodeFn) → Some x ≡ Some y → x ≡ y
-the_fn x y e = cc
-
-the_acted : (x y : Acted) → Some x ≡ Some y → x ≡ y
-the_acted x y e = cc
-
 -- the top frame has other names: those that are live, and the lent one, are as they were
 pub names_lead : (code : Code) (owners : List Region) (frame : Frame) (callers : List Frame) (f : Environment)
     (fs : List Environment) (fn : CodeFn) → function_at code frame ≡ Some fn → f.lent ≡ result_class fn
@@ -105,7 +101,7 @@ names_lead code owners frame callers f fs fn is lends names protections same lea
 
     top : TopLeads code owners frame names
     top g is' v l =
-        let q : g ≡ fn = the_fn g fn (sym is' ∙ is) in
+        let q : g ≡ fn = same_Some g fn (sym is' ∙ is) in
         let l' : Live (erased_fn fn) v frame.next = subst (λ x. Live (erased_fn x) v frame.next) q l in
         renamed_home owners f.names names (class_of g v) (value_at frame v)
         (class_other f.names names (class_of g v) (λ k c. live v l' k (subst (λ x. class_of x v ≡ Name k) q c)))
@@ -305,23 +301,17 @@ passed_at names (Name k ∷ formals) (d ∷ regions) zero m c f e q =
     let dc : d ≡ c = cc in
     here km (class_region names d) ∙ ap (class_region names) dc
   where
-    self : (k : ℕ) → nat_eq k k ≡ true
-    self k = grind arith
-
     here : k ≡ m → (o : Option Region) → bound (passed (Name k ∷ formals) (o ∷ passed_regions names regions)) m ≡ o
     here km None = not_passed names NoClass [] formals regions m (ap (λ x. list_any (is_name x) formals) (sym km) ∙ f.0)
     here km (Some r) = ap (λ b. if b then Some r else bound (passed formals (passed_regions names regions)) m)
-        (ap (nat_eq k) (sym km) ∙ self k)
+        (ap (nat_eq k) (sym km) ∙ nat_eq_refl k)
 passed_at names (Name k ∷ formals) (d ∷ regions) (suc p) m c f e q =
     go (class_region names d) (passed_at names formals regions p m c f.1 e q)
   where
     any : (cs : List Class) (i : ℕ) → slice_get cs i ≡ Some (Name m) → list_any (is_name m) cs ≡ true
     any [] i e = cc
     any (c ∷ cs) zero e = let x : c ≡ Name m = cc in ap (λ y. is_name m y || list_any (is_name m) cs) x
-        ∙ ap (λ y. y || list_any (is_name m) cs) (self m)
-      where
-        self : (k : ℕ) → nat_eq k k ≡ true
-        self k = grind arith
+        ∙ ap (λ y. y || list_any (is_name m) cs) (nat_eq_refl m)
     any (c ∷ cs) (suc i) e = or_there (is_name m c) (any cs i e)
       where
         or_there : (b : Bool) → list_any (is_name m) cs ≡ true → (b || list_any (is_name m) cs) ≡ true
@@ -445,10 +435,10 @@ module _ (code : Code) (checked : IsChecked code) (owners : List Region) (m : Me
     where
       top : TopLeads code (owners ++ given) (continued frame to v i) f.names
       top g is x l = subst (λ y. LeadsHome (owners ++ given) f.names (class_of y x)
-          (value_at (continued frame to v i) x)) (the_fn fn g (sym is_fn ∙ is)) (by to refl)
+          (value_at (continued frame to v i) x)) (same_Some fn g (sym is_fn ∙ is)) (by to refl)
         where
           l' : Live (erased_fn fn) x i
-          l' = subst (λ y. Live (erased_fn y) x i) (the_fn g fn (sym is ∙ is_fn)) l
+          l' = subst (λ y. Live (erased_fn y) x i) (same_Some g fn (sym is ∙ is_fn)) l
 
           -- it was not written
           kept : (writes (erased_op instr.op) ≡ Some x → ⊥) → value_at frame x ≡ value_at (continued frame to v i) x
@@ -524,7 +514,7 @@ module _ (code : Code) (checked : IsChecked code) (owners : List Region) (m : Me
       next = record { memory = m'; frames = going frame to v ∷ callers; started = []; printed = []; trap = None }
 
       a_is : record { memory = m'; frames = going frame to v ∷ callers; started = []; printed = []; trap = None } ≡ a
-      a_is = the_acted (record {
+      a_is = same_Some (record {
         memory = m';
         frames = going frame to v ∷ callers;
         started = [];
@@ -541,7 +531,7 @@ module _ (code : Code) (checked : IsChecked code) (owners : List Region) (m : Me
       classed d o t e =
           let fr : FramesHaveKinds code fits.more (going frame to v ∷ callers) =
           subst (λ (y : Acted). FramesHaveKinds code fits.more y.frames) (sym a_is) fits.frames in
-          let same : fr.0.0 ≡ fn = the_fn fr.0.0 fn (sym fr.0.1 ∙ is_fn) in
+          let same : fr.0.0 ≡ fn = same_Some fr.0.0 fn (sym fr.0.1 ∙ is_fn) in
           ref_class fits.more fn (going frame to v) slots (subst
           (λ (g : CodeFn). HaveKinds fits.more (erased_fn g).variables (going frame to v).variables) same fr.0.2) d
           o e
@@ -562,7 +552,7 @@ module _ (code : Code) (checked : IsChecked code) (owners : List Region) (m : Me
     where
       a_is : record { memory = m; frames = frame ∷ callers; started = []; printed = []; trap = Some (Trap trap place) }
           ≡ a
-      a_is = the_acted (record {
+      a_is = same_Some (record {
         memory = m;
         frames = frame ∷ callers;
         started = [];
@@ -580,7 +570,7 @@ module _ (code : Code) (checked : IsChecked code) (owners : List Region) (m : Me
       (passed (region_parameters callee) (passed_regions f.names passes))
   entered_home kinds to n callee from passes given found args rightly read typed g is v l =
       subst (λ y. LeadsHome (owners ++ given) names (class_of y v) (value_at entered v))
-      (the_fn callee g (sym found ∙ is)) (by (slice_get entered.variables v) refl)
+      (same_Some callee g (sym found ∙ is)) (by (slice_get entered.variables v) refl)
     where
       entered : Frame
       entered = entering callee n frame from
@@ -589,7 +579,7 @@ module _ (code : Code) (checked : IsChecked code) (owners : List Region) (m : Me
       names = passed (region_parameters callee) (passed_regions f.names passes)
 
       same : typed.0.0 ≡ callee
-      same = the_fn typed.0.0 callee (sym typed.0.1 ∙ found)
+      same = same_Some typed.0.0 callee (sym typed.0.1 ∙ found)
 
       classed : (o : ℕ) → value_at (entering callee n frame from) v ≡ value.Object o → class_of callee v ≢ NoClass
       classed o e = ref_class kinds callee (entering callee n frame from) (slots_fit code checked n callee found)
@@ -607,7 +597,7 @@ module _ (code : Code) (checked : IsChecked code) (owners : List Region) (m : Me
       argument x None a e q = let z : None ≡ Some x = sym (slice_get-map (value_at frame) from v
           ∙ ap (option_map (value_at frame)) a) ∙ e in cc
       argument x (Some b) a e q =
-          let xb : value_at frame b ≡ x = the_value (value_at frame b) x
+          let xb : value_at frame b ≡ x = same_Some (value_at frame b) x
           (sym (slice_get-map (value_at frame) from v ∙ ap (option_map (value_at frame)) a) ∙ e) in
           let below : v < callee.params = let z = get_below from v b a in omega (arith, z, args) in
           let h = more_home owners given f.names (class_of fn b) (value_at frame b)
@@ -616,9 +606,6 @@ module _ (code : Code) (checked : IsChecked code) (owners : List Region) (m : Me
           (value_at (entering callee n frame from) v) (formals_once callee) (rightly.arguments v b below a)
           (λ m c. any_at m (region_parameters callee) ((formals_are callee m).1 (inl (v, below, c)))) classed
           (subst (λ w. LeadsHome (owners ++ given) f.names (class_of fn b) w) (xb ∙ sym q) h)
-        where
-          the_value : (x y : Value) → Some x ≡ Some y → x ≡ y
-          the_value x y e = cc
 
       by : (o : Option Value) → slice_get (entering callee n frame from).variables v ≡ o
           → LeadsHome (owners ++ given) (passed (region_parameters callee) (passed_regions f.names passes))
@@ -696,7 +683,7 @@ module _ (code : Code) (checked : IsChecked code) (owners : List Region) (m : Me
     caller_leads : (given : List Region) → CallerLeads code (owners ++ given) frame
         (without_all f.names (given_names (result_class callee) (region_parameters callee) passes protects))
     caller_leads given g call' is' cur' v n l =
-        subst (λ y. LeadsHome (owners ++ given) left (class_of y v) (value_at frame v)) (the_fn fn g (sym is_fn ∙ is'))
+        subst (λ y. LeadsHome (owners ++ given) left (class_of y v) (value_at frame v)) (same_Some fn g (sym is_fn ∙ is'))
         (renamed_home (owners ++ given) f.names left (class_of fn v) (value_at frame v)
         (class_other f.names left (class_of fn v) (λ k c.
         behind_kept k (inl (record { variable = v; named = c; live = l' }))))
@@ -705,13 +692,10 @@ module _ (code : Code) (checked : IsChecked code) (owners : List Region) (m : Me
         l'))))
       where
         l' : Live (erased_fn fn) v (frame.next + 1)
-        l' = subst (λ y. Live (erased_fn y) v (frame.next + 1)) (the_fn g fn (sym is' ∙ is_fn)) l
-
-        the_instr : (x y : CodeInstr) → Some x ≡ Some y → x ≡ y
-        the_instr x y e = cc
+        l' = subst (λ y. Live (erased_fn y) v (frame.next + 1)) (same_Some g fn (sym is' ∙ is_fn)) l
 
         target : to ≢ Some v
-        target e = (subst (λ (i : CodeInstr). call_target i.op ≢ Some v) (the_instr call' instr (sym cur' ∙ cur)) n)
+        target e = (subst (λ (i : CodeInstr). call_target i.op ≢ Some v) (same_Some call' instr (sym cur' ∙ cur)) n)
             (is_target e)
           where
             is_target : to ≡ Some v → call_target instr.op ≡ Some v
@@ -728,17 +712,14 @@ module _ (code : Code) (checked : IsChecked code) (owners : List Region) (m : Me
               protects);
         })
     linked g call' d is' cur' t n = subst (λ y. class_region callee_names (result_class callee)
-        ≡ class_region left (class_of y d)) (the_fn fn g (sym is_fn ∙ is')) (by (result_class callee) refl)
+        ≡ class_region left (class_of y d)) (same_Some fn g (sym is_fn ∙ is')) (by (result_class callee) refl)
       where
         callee_names : Bindings
         callee_names = passed (region_parameters callee) (passed_regions f.names passes)
 
-        the_instr : (x y : CodeInstr) → Some x ≡ Some y → x ≡ y
-        the_instr x y e = cc
-
         to_is : to ≡ Some d
         to_is = sym (ap call_target is) ∙ ap (λ (i : CodeInstr). call_target i.op)
-            (the_instr instr call' (sym cur ∙ cur')) ∙ t
+            (same_Some instr call' (sym cur ∙ cur')) ∙ t
 
         fits : IsPassedFor (region_parameters callee) passes (result_class callee) (class_of fn d)
         fits = rightly.result d to_is
@@ -814,11 +795,8 @@ module _ (code : Code) (checked : IsChecked code) (owners : List Region) (m : Me
           subst (λ op. OpFits (erased code) (erased_fn fn) (erased_op op)) is
           (checked rule.Types (line.Instr frame.function frame.next) fn instr is_fn instr_here) in x)
 
-      the_tac_fn : (x y : TacFn) → Some x ≡ Some y → x ≡ y
-      the_tac_fn x y e = cc
-
       same : erased_fn fn ≡ exists.callee
-      same = the_tac_fn (erased_fn fn) exists.callee (sym (slice_get-map erased_fn code.functions n
+      same = same_Some (erased_fn fn) exists.callee (sym (slice_get-map erased_fn code.functions n
           ∙ ap (option_map erased_fn) calls) ∙ exists.declared)
 
       go : (t : Option ℕ) → is_some t ≡ false → t ≡ None
@@ -864,7 +842,7 @@ module _ (code : Code) (checked : IsChecked code) (owners : List Region) (m : Me
           → FramesHaveKinds code kinds cs → returned (erased code) m (option_map (value_at frame) back) cs ≡ Some a
           → ActedLeads code (f ∷ ds) (Return back) (owners ++ given) a
       go [] ds h c t q =
-          let is_a = the_acted (record { memory = m; frames = []; started = []; printed = []; trap = None }) a q in
+          let is_a = same_Some (record { memory = m; frames = []; started = []; printed = []; trap = None }) a q in
           record {
             memory = memory (sym (ap (λ (x : Acted). x.memory) is_a));
             frames =
@@ -877,7 +855,7 @@ module _ (code : Code) (checked : IsChecked code) (owners : List Region) (m : Me
           }
       go (caller ∷ cs) [] h c t q = absurd h
       go (caller ∷ cs) (d ∷ ds) h (g, is_g, caller_instr, cur', calls') t q =
-          let is_a = the_acted (record {
+          let is_a = same_Some (record {
             memory = m;
             frames =
                 resumed (erased code) caller (option_map (value_at frame) back) ∷ cs;
@@ -919,7 +897,7 @@ module _ (code : Code) (checked : IsChecked code) (owners : List Region) (m : Me
           exists = (checked rule.Exists (line.Instr caller.function caller.next) t.0.0 caller_instr t.0.1 here_c).exists
 
           calls_fn : IsCallOf code caller_instr.op fn
-          calls_fn = subst (IsCallOf code caller_instr.op) (the_fn g fn (sym is_g ∙ is_fn)) calls'
+          calls_fn = subst (IsCallOf code caller_instr.op) (same_Some g fn (sym is_g ∙ is_fn)) calls'
 
           none_some : (v : ℕ) → None ≡ Some v → ⊥
           none_some v e = cc
@@ -965,11 +943,8 @@ module _ (code : Code) (checked : IsChecked code) (owners : List Region) (m : Me
           set cfn v is_c l u e (Some to) t = split (nat_eq to v) (λ w. same (eq_of to v w))
               (λ n. subst (λ w. LeadsHome (owners ++ given) d.names (class_of cfn v) w)
               (value_other caller.variables to v (value_at frame u) n)
-              (other cfn v is_c l (λ z. differs n (number to v (sym t ∙ z)))))
+              (other cfn v is_c l (λ z. differs n (same_Some to v (sym t ∙ z)))))
             where
-              number : (x y : ℕ) → Some x ≡ Some y → x ≡ y
-              number x y z = cc
-
               differs : nat_eq to v ≡ false → to ≡ v → ⊥
               differs n z = grind arith
 
@@ -1053,10 +1028,7 @@ module _ (code : Code) (checked : IsChecked code) (owners : List Region) (m : Me
   callee_of n from t e l = go (slice_get code.functions n) refl (sym (slice_get-map erased_fn code.functions n) ∙ e)
     where
       params : (c : CodeFn) → Some (erased_fn c) ≡ Some t → t.params ≡ c.params
-      params c e = ap (λ (x : TacFn). x.params) (sym (the_tac_fn (erased_fn c) t e))
-        where
-          the_tac_fn : (x y : TacFn) → Some x ≡ Some y → x ≡ y
-          the_tac_fn x y e = cc
+      params c e = ap (λ (x : TacFn). x.params) (sym (same_Some (erased_fn c) t e))
 
       go : (o : Option CodeFn) → slice_get code.functions n ≡ o → option_map erased_fn o ≡ Some t → Callee n from
       go None q e = cc
@@ -1117,7 +1089,7 @@ module _ (code : Code) (checked : IsChecked code) (owners : List Region) (m : Me
                 [];
             trap = None;
           } ≡ a
-          is_a = the_acted (record {
+          is_a = same_Some (record {
             memory = m;
             frames = entering c.callee n frame from ∷ frame ∷ callers;
             started =
@@ -1155,7 +1127,7 @@ module _ (code : Code) (checked : IsChecked code) (owners : List Region) (m : Me
             printed = [];
             trap = None;
           } ≡ a
-          is_a = the_acted (record {
+          is_a = same_Some (record {
             memory = m;
             frames = moved_to frame (frame.next + 1) ∷ callers;
             started =
@@ -1186,10 +1158,10 @@ module _ (code : Code) (checked : IsChecked code) (owners : List Region) (m : Me
       by (Print pieces from removes) is = at (Print pieces from removes) is
           (moved_on (Print pieces from removes) is (frame.next + 1) removes
           (contains_here {X = ℕ × List ℕ} (frame.next + 1, removes) []) refl refl
-          (line_of pieces (values_of frame from)) a (the_acted _ a (acts (Print pieces from removes) is)) None given
+          (line_of pieces (values_of frame from)) a (same_Some _ a (acts (Print pieces from removes) is)) None given
           (allots_at (Print pieces from removes) is))
       by (Jump j removes) is = at (Jump j removes) is (moved_on (Jump j removes) is j removes
-          (contains_here {X = ℕ × List ℕ} (j, removes) []) refl refl [] a (the_acted _ a (acts (Jump j removes) is))
+          (contains_here {X = ℕ × List ℕ} (j, removes) []) refl refl [] a (same_Some _ a (acts (Jump j removes) is))
           None given (allots_at (Jump j removes) is))
       by (Branch v j removes k others) is = at (Branch v j removes k others) is
           (go (is_true (value_at frame v)) (acts (Branch v j removes k others) is))
@@ -1197,11 +1169,11 @@ module _ (code : Code) (checked : IsChecked code) (owners : List Region) (m : Me
           go : (b : Bool) → moves m (moved_to frame (if b then j else k) ∷ callers) ≡ Some a
               → ActedLeads code (f ∷ fs) (Branch v j removes k others) (owners ++ given) a
           go true q = moved_on (Branch v j removes k others) is j removes
-              (contains_here {X = ℕ × List ℕ} (j, removes) ((k, others) ∷ [])) refl refl [] a (the_acted _ a q) None
+              (contains_here {X = ℕ × List ℕ} (j, removes) ((k, others) ∷ [])) refl refl [] a (same_Some _ a q) None
               given (allots_at (Branch v j removes k others) is)
           go false q = moved_on (Branch v j removes k others) is k others
               (contains_there {X = ℕ × List ℕ} (j, removes) ((k, others) ∷ []) (k, others)
-              (contains_here {X = ℕ × List ℕ} (k, others) [])) refl refl [] a (the_acted _ a q) None given
+              (contains_here {X = ℕ × List ℕ} (k, others) [])) refl refl [] a (same_Some _ a q) None given
               (allots_at (Branch v j removes k others) is)
       by (Return value) is = at (Return value) is (returned_leads kinds value given is typed a (acts (Return value) is)
           (allots_at (Return value) is))

@@ -1,4 +1,5 @@
 -- The lists of a call, from the rules.
+use Rattle.std.proofs.lemmas.Option.{same_Some}
 use Rattle.std.proofs.Common.{◌≡◌, ◌≢◌, ℕ, zero, suc, ◌+◌, ◌≤◌, Bool, true, false, ◌||◌, List, [], ◌∷◌, ◌++◌, length}
 use Rattle.std.proofs.Common.{Option, Some, refl, sym, ap, ◌∙◌, subst, nat_eq, if◌then◌else◌, arith, ◌⊎◌, inl, inr, ◌↔◌}
 use Rattle.std.proofs.Common.{true≢false, slice_get, Contains}
@@ -278,12 +279,9 @@ gives_are code fn g i to n from passes protects removes names found long rule k 
             f' = subst (λ (o : Option CodeFn). slice_get (callee_regions o) x.at ≡ Some (callee_result o)) found
                 x.parameter
 
-            the_same : (x y : Class) → Some x ≡ Some y → x ≡ y
-            the_same x y e = cc
-
             differs : a.0 ≢ x.at
             differs q =
-                let c : a.1 ≡ result_class g = the_same a.1 (result_class g)
+                let c : a.1 ≡ result_class g = same_Some a.1 (result_class g)
                 (sym a.2 ∙ ap (slice_get (region_parameters g)) q ∙ f') in
                 let t : same_class a.1 (result_class g) ≡ true =
                 ap (same_class a.1) (sym c) ∙ ap (λ x. same_class x x) m.1 ∙ self_named m.0 in

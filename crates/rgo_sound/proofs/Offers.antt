@@ -1,5 +1,6 @@
 -- Offers: a standing one is that of the send at which its goroutine stands, and one that was taken is on a live
 -- channel.
+use Rattle.std.proofs.lemmas.Option.{same_Some}
 use Rattle.std.proofs.Common.{◌≡◌, ℕ, zero, suc, ◌+◌, ◌==◌, Bool, true, false, List, [], ◌∷◌, ◌++◌, map, length, Option}
 use Rattle.std.proofs.Common.{Some, None, refl, sym, ap, ◌∙◌, subst, nat_eq, nat_lt, if◌then◌else◌, arith, true≢false}
 use Rattle.std.proofs.Common.{slice_get, slice_set, option_map, option_and_then, ◌⊎◌, inl, inr, Contains}
@@ -146,9 +147,6 @@ module _ (m : Memory) (b : Bool) where
       ≡ capacity_of old → Steady (Does (with_object m o object) v)
   writes o object old v e same = (keeps, λ f. length_set m.heap o object)
     where
-      the_same : (x y : Object) → Some x ≡ Some y → x ≡ y
-      the_same x y e = cc
-
       here : (p : ℕ) (x : Object) → slice_get m.heap p ≡ Some x → capacity_of x ≡ Some 0 → o ≡ p
           → IsUnbuffered (with_object m o object) p
       here p x q c u = (
@@ -156,7 +154,7 @@ module _ (m : Memory) (b : Bool) where
         ap (slice_get (slice_set m.heap o object)) (sym u)
             ∙ get_set_same m.heap o old object e,
         same ∙ ap capacity_of
-            (the_same old x (sym e ∙ ap (slice_get m.heap) u ∙ q)) ∙ c,
+            (same_Some old x (sym e ∙ ap (slice_get m.heap) u ∙ q)) ∙ c,
       )
 
       keeps : (p : ℕ) → IsUnbuffered m p → IsUnbuffered (with_object m o object) p
@@ -387,9 +385,6 @@ module _ (code : Code) (m : Memory) where
 
 -- ---- what an instruction touches, and where it makes an offer
 
-number : (p o : ℕ) → Some p ≡ Some o → p ≡ o
-number p o e = cc
-
 pub touched_first : (action : Action) (vs : List Value) (o : ℕ) → touched_by action vs ≡ Some o → (rest : List Value)
     × (vs ≡ value.Object o ∷ rest)
 touched_first (Int k) vs o e = cc
@@ -404,27 +399,27 @@ touched_first Len [] o e = cc
 touched_first Len ((value.Int i) ∷ vs) o e = cc
 touched_first Len ((value.Bool b) ∷ vs) o e = cc
 touched_first Len (value.Nil ∷ vs) o e = cc
-touched_first Len (value.Object p ∷ vs) o e = (vs, ap (λ x. value.Object x ∷ vs) (number p o e))
+touched_first Len (value.Object p ∷ vs) o e = (vs, ap (λ x. value.Object x ∷ vs) (same_Some p o e))
 touched_first (Load k) [] o e = cc
 touched_first (Load k) ((value.Int i) ∷ vs) o e = cc
 touched_first (Load k) ((value.Bool b) ∷ vs) o e = cc
 touched_first (Load k) (value.Nil ∷ vs) o e = cc
-touched_first (Load k) (value.Object p ∷ vs) o e = (vs, ap (λ x. value.Object x ∷ vs) (number p o e))
+touched_first (Load k) (value.Object p ∷ vs) o e = (vs, ap (λ x. value.Object x ∷ vs) (same_Some p o e))
 touched_first (Store k) [] o e = cc
 touched_first (Store k) ((value.Int i) ∷ vs) o e = cc
 touched_first (Store k) ((value.Bool b) ∷ vs) o e = cc
 touched_first (Store k) (value.Nil ∷ vs) o e = cc
-touched_first (Store k) (value.Object p ∷ vs) o e = (vs, ap (λ x. value.Object x ∷ vs) (number p o e))
+touched_first (Store k) (value.Object p ∷ vs) o e = (vs, ap (λ x. value.Object x ∷ vs) (same_Some p o e))
 touched_first At [] o e = cc
 touched_first At ((value.Int i) ∷ vs) o e = cc
 touched_first At ((value.Bool b) ∷ vs) o e = cc
 touched_first At (value.Nil ∷ vs) o e = cc
-touched_first At (value.Object p ∷ vs) o e = (vs, ap (λ x. value.Object x ∷ vs) (number p o e))
+touched_first At (value.Object p ∷ vs) o e = (vs, ap (λ x. value.Object x ∷ vs) (same_Some p o e))
 touched_first Put [] o e = cc
 touched_first Put ((value.Int i) ∷ vs) o e = cc
 touched_first Put ((value.Bool b) ∷ vs) o e = cc
 touched_first Put (value.Nil ∷ vs) o e = cc
-touched_first Put (value.Object p ∷ vs) o e = (vs, ap (λ x. value.Object x ∷ vs) (number p o e))
+touched_first Put (value.Object p ∷ vs) o e = (vs, ap (λ x. value.Object x ∷ vs) (same_Some p o e))
 touched_first (New name) vs o e = cc
 touched_first Slice vs o e = cc
 touched_first Chan vs o e = cc
@@ -432,17 +427,17 @@ touched_first Recv [] o e = cc
 touched_first Recv ((value.Int i) ∷ vs) o e = cc
 touched_first Recv ((value.Bool b) ∷ vs) o e = cc
 touched_first Recv (value.Nil ∷ vs) o e = cc
-touched_first Recv (value.Object p ∷ vs) o e = (vs, ap (λ x. value.Object x ∷ vs) (number p o e))
+touched_first Recv (value.Object p ∷ vs) o e = (vs, ap (λ x. value.Object x ∷ vs) (same_Some p o e))
 touched_first Send [] o e = cc
 touched_first Send ((value.Int i) ∷ vs) o e = cc
 touched_first Send ((value.Bool b) ∷ vs) o e = cc
 touched_first Send (value.Nil ∷ vs) o e = cc
-touched_first Send (value.Object p ∷ vs) o e = (vs, ap (λ x. value.Object x ∷ vs) (number p o e))
+touched_first Send (value.Object p ∷ vs) o e = (vs, ap (λ x. value.Object x ∷ vs) (same_Some p o e))
 touched_first Close [] o e = cc
 touched_first Close ((value.Int i) ∷ vs) o e = cc
 touched_first Close ((value.Bool b) ∷ vs) o e = cc
 touched_first Close (value.Nil ∷ vs) o e = cc
-touched_first Close (value.Object p ∷ vs) o e = (vs, ap (λ x. value.Object x ∷ vs) (number p o e))
+touched_first Close (value.Object p ∷ vs) o e = (vs, ap (λ x. value.Object x ∷ vs) (same_Some p o e))
 touched_first (Get name) vs o e = cc
 touched_first (Set name) vs o e = cc
 
@@ -484,7 +479,7 @@ offers_at s frame (Do to act' from removes) o q = action act' from q
     place p (Some (StructObject cells)) e q = cc
     place p (Some (SliceObject cells)) e q = cc
     place p (Some (Channel zero queue true)) e q = cc
-    place p (Some (Channel zero queue false)) e q = (number p o q, (Channel zero queue false, e, refl))
+    place p (Some (Channel zero queue false)) e q = (same_Some p o q, (Channel zero queue false, e, refl))
     place p (Some (Channel (suc n) queue true)) e q = cc
     place p (Some (Channel (suc n) queue false)) e q = absurd (none p (suc n == 0) (nonzero n) q)
 
@@ -567,11 +562,8 @@ pub at_send : (code : Code) (p : TacState) (g o : ℕ) (st : StandsAtSend code p
     → (instr.op ≡ Do st.to Send (st.channel ∷ st.sent ∷ []) st.removes) × (value_at frame st.channel ≡ value.Object o)
 at_send code p g o st frame callers instr q cur =
     let same : st.frame ≡ frame = the_frames st.frame frame st.callers callers (sym st.at ∙ q) in
-    let one : st.instr ≡ instr = the_same st.instr instr (sym st.cur ∙ ap (current code) same ∙ cur) in
+    let one : st.instr ≡ instr = same_Some st.instr instr (sym st.cur ∙ ap (current code) same ∙ cur) in
     (ap (λ (i : CodeInstr). i.op) (sym one) ∙ st.is, ap (λ f. value_at f st.channel) (sym same) ∙ st.channel_is)
-  where
-    the_same : (x y : CodeInstr) → Some x ≡ Some y → x ≡ y
-    the_same x y e = cc
 
 -- a goroutine that traps leaves its frames and the memory as they were
 abbrev trapped_there : Memory → List Frame → End → Acted
@@ -585,9 +577,6 @@ sends_trap m frame callers to place o w a (object, e, c) q =
     go object c (sym (ap (λ x. effected m frame callers to place
     (option_map silent (to_object_if_ready m o (sent w) x))) e) ∙ q)
   where
-    the_same : (x y : Acted) → Some x ≡ Some y → x ≡ y
-    the_same x y e = cc
-
     waits : (b : Bool) (x : Outcome Object) → b ≡ false → effected m frame callers to place
         (option_map silent (in_memory_if_ready m o (if b then Some x else None))) ≡ Some a → ⊥
     waits true x n q = true≢false n
@@ -604,7 +593,7 @@ sends_trap m frame callers to place o w a (object, e, c) q =
     go (Channel capacity queue true) c q = (
       SendClosed,
       sym
-          (the_same (trapped_there m (frame ∷ callers) (Trap SendClosed place)) a q),
+          (same_Some (trapped_there m (frame ∷ callers) (Trap SendClosed place)) a q),
     )
     go (Channel capacity queue false) c q =
         let zero' : capacity ≡ 0 = cc in
@@ -646,14 +635,11 @@ module _ (code : Code) (s : RegionState) (old : OffersFit code s) where
             (each j x (sym (ap (λ y. slice_get y j) hs) ∙ q));
       }
     where
-      the_same : (x y : Holder) → Some x ≡ Some y → x ≡ y
-      the_same x y e = cc
-
       each : (j : ℕ) (x : Holder) → slice_get (slice_set s.holders g k) j ≡ Some x → OfferFits code s j x x.offer
       each j x q =
           split (nat_eq g j)
           (λ t. subst (λ (y : Holder). OfferFits code s j y y.offer)
-          (the_same k x (sym (get_set_same s.holders g h k e)
+          (same_Some k x (sym (get_set_same s.holders g h k e)
           ∙ ap (slice_get (slice_set s.holders g k)) (eq_of g j t) ∙ q))
           (subst (λ i. OfferFits code s i k k.offer) (eq_of g j t) new))
           (λ n. old.fits j x (sym (get_set_other s.holders g j k n) ∙ q))
@@ -817,9 +803,6 @@ module _ (code : Code) (s : RegionState) (old : OffersFit code s) where
           (holder_after code x.given.0 x.frame x.callers x.instr.op (frames_of (after s.plain g x.a) g))
           (after_offer code x.given.0 x.frame x.callers x.instr.op (frames_of (after s.plain g x.a) g)) ∙ given_offer
 
-      the_same : (x y : Holder) → Some x ≡ Some y → x ≡ y
-      the_same x y e = cc
-
       -- its own offer
       own : (offer : Offer) → x.h.offer ≡ offer → OfferFits code s g x.h offer
           → OfferFits code (instructed_with code s g x.frame x.callers x.instr (after s.plain g x.a) x.given) g
@@ -886,7 +869,7 @@ module _ (code : Code) (s : RegionState) (old : OffersFit code s) where
 
       child : (op : CodeOp) (frames : List Frame) (i : ℕ) (y : Holder)
           → slice_get (child_holder code x.given.0 op frames) i ≡ Some y → y.offer ≡ NoOffer
-      child (Go n from passes removes) frames zero y q = ap (λ (z : Holder). z.offer) (sym (the_same _ y q))
+      child (Go n from passes removes) frames zero y q = ap (λ (z : Holder). z.offer) (sym (same_Some _ y q))
       child (Go n from passes removes) frames (suc i) y q = cc
       child (Do to action from removes) frames i y q = cc
       child (Call to n from passes protects removes) frames i y q = cc
@@ -909,7 +892,7 @@ module _ (code : Code) (s : RegionState) (old : OffersFit code s) where
       place j y (inl q) =
           split (nat_eq g j)
           (λ u. subst (λ (z : Holder). OfferFits code (instructed_with code s g x.frame x.callers x.instr
-          (after s.plain g x.a) x.given) j z z.offer) (the_same _ y
+          (after s.plain g x.a) x.given) j z z.offer) (same_Some _ y
           (sym (get_set_same s.holders g x.h _ x.there) ∙ ap
           (slice_get (slice_set s.holders g (unless_trapped (after s.plain g x.a).ended x.given.0
           (holder_after code x.given.0 x.frame x.callers x.instr.op (frames_of (after s.plain g x.a) g)))))
@@ -942,9 +925,6 @@ module _ (code : Code) (s : RegionState) (old : OffersFit code s) where
 
       k' : Holder
       k' = record (gone_on (send_goes x.sends) x.k) { offer = taken_offer x.k.offer }
-
-      the_same : (x y : Holder) → Some x ≡ Some y → x ≡ y
-      the_same x y e = cc
 
       frames_r : frames_of s.plain r ≡ x.receives.frame ∷ x.receives.callers
       frames_r = ap frames_in x.at_r ∙ x.receives.at
@@ -1011,7 +991,7 @@ module _ (code : Code) (s : RegionState) (old : OffersFit code s) where
       each j y q =
           split (nat_eq u j)
           (λ w. subst (λ (z : Holder). OfferFits code t j z z.offer)
-          (the_same k' y (sym (get_set_same (slice_set s.holders r h') u x.k k'
+          (same_Some k' y (sym (get_set_same (slice_set s.holders r h') u x.k k'
           (get_set_other s.holders r u h' x.apart ∙ x.there_k))
           ∙ ap (slice_get (slice_set (slice_set s.holders r h') u k')) (eq_of u j w) ∙ q))
           (subst (λ i. OfferFits code t i k' (taken_offer x.k.offer)) (eq_of u j w)
@@ -1023,7 +1003,7 @@ module _ (code : Code) (s : RegionState) (old : OffersFit code s) where
           other n q =
               split (nat_eq r j)
               (λ w. subst (λ (z : Holder). OfferFits code t j z z.offer)
-              (the_same (gone_on (receive_goes x.receives x.v) x.h) y
+              (same_Some (gone_on (receive_goes x.receives x.v) x.h) y
               (sym (get_set_same s.holders r x.h (gone_on (receive_goes x.receives x.v) x.h) x.there_h)
               ∙ ap (slice_get (slice_set s.holders r (gone_on (receive_goes x.receives x.v) x.h))) (eq_of r j w)
               ∙ q))
@@ -1068,12 +1048,9 @@ all_good_step code page_words s event checked written all =
 pub all_good_start : StartIsGood
 all_good_start code checked written = record { good = good_start code checked written; offers = record { fits = fits } }
   where
-    the_same : (x y : Holder) → Some x ≡ Some y → x ≡ y
-    the_same x y e = cc
-
     fits : (g : ℕ) (h : Holder) → slice_get (region_start code).holders g ≡ Some h
         → OfferFits code (region_start code) g h h.offer
-    fits zero h q = subst (OfferFits code (region_start code) 0 h) (ap (λ (x : Holder). x.offer) (the_same _ h q)) tt
+    fits zero h q = subst (OfferFits code (region_start code) 0 h) (ap (λ (x : Holder). x.offer) (same_Some _ h q)) tt
     fits (suc g) h q = cc
 
 pub steps_keep_good : StepsKeepGood
@@ -1094,10 +1071,7 @@ pub class_has_stake : (code : Code) (s : RegionState) (g : ℕ) (h : Holder) (fr
     (top : Top code h frame callers) (c : Class) (r : Region) → Fine code s → slice_get s.holders g ≡ Some h
     → class_region top.f.names c ≡ Some r → HasStake s h r
 class_has_stake code s g h frame callers top NoClass r fine e q = cc
-class_has_stake code s g h frame callers top Global r fine e q = subst (HasStake s h) (the_region GlobalRegion r q) tt
-  where
-    the_region : (x y : Region) → Some x ≡ Some y → x ≡ y
-    the_region x y e = cc
+class_has_stake code s g h frame callers top Global r fine e q = subst (HasStake s h) (same_Some GlobalRegion r q) tt
 class_has_stake code s g h frame callers top (Name k) r fine e q =
     name_staked code s g h k r fine e (ap (λ sh. bound (top_names sh) k) top.environments ∙ q)
 
@@ -1165,9 +1139,6 @@ names_only_live code page_words events s g h r checked written run e n = go h.du
     all : AllGood code s
     all = runs_are_good code page_words events s checked written run
 
-    the_region : (x y : Region) → Some x ≡ Some y → x ≡ y
-    the_region x y e = cc
-
     instruction : (frames : List Frame) → frames_of s.plain g ≡ frames → InstructionNames code s h frames r
         → HasStake s h r
     instruction [] at n = absurd n
@@ -1185,13 +1156,13 @@ names_only_live code page_words events s g h r checked written run e n = go h.du
             class_has_stake code s g h frame callers top c.0 r all.good.fine e c.1
         by (inr (o, t, w)) =
             let x = touched_home code s g h frame callers instr top o checked all.good e at cur t in
-            subst (HasStake s h) (the_region x.0 r (sym x.1 ∙ w)) x.2
+            subst (HasStake s h) (same_Some x.0 r (sym x.1 ∙ w)) x.2
 
     go : (ds : List Duty) → h.duties ≡ ds → (offer : Offer) → h.offer ≡ offer → NextNames code s g h ds offer r
         → HasStake s h r
     go (d ∷ ds) q offer w n = duty_staked code s g h d ds r all.good.fine e q n
     go [] q (Taken o) w n =
         let f : OfferFits code s g h (Taken o) = subst (OfferFits code s g h) w (all.offers.fits g h e) in
-        has_stake code s g h r all.good.fine e (λ p i. f.2 p (the_region f.0 r (sym f.1 ∙ n) ∙ i))
+        has_stake code s g h r all.good.fine e (λ p i. f.2 p (same_Some f.0 r (sym f.1 ∙ n) ∙ i))
     go [] q NoOffer w n = instruction (frames_of s.plain g) refl n
     go [] q (Standing o) w n = instruction (frames_of s.plain g) refl n

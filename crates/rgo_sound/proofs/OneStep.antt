@@ -1,6 +1,7 @@
 -- What the steps of instructions are, unfolded once: of one goroutine, and of two that meet.
+use Rattle.rgo_sound.proofs.Places.{nat_ne_sym}
 use Rattle.std.proofs.Common.{◌≡◌, ℕ, ◌+◌, Bool, true, false, ◌&&◌, List, [], ◌∷◌, ◌++◌, map, Option, Some, None, refl}
-use Rattle.std.proofs.Common.{sym, ap, ◌∙◌, subst, nat_eq, if◌then◌else◌, arith, true≢false, slice_get, slice_set}
+use Rattle.std.proofs.Common.{sym, ap, ◌∙◌, subst, nat_eq, if◌then◌else◌, true≢false, slice_get, slice_set}
 use Rattle.std.proofs.Common.{option_map, option_and_then, Contains}
 use Rattle.std.proofs.lemmas.Option.{slice_get-map}
 use Rattle.rgo_sound.proofs.Places.{get_set_other, get_set_same}
@@ -450,9 +451,6 @@ pub meet_done : (code : Code) (page_words : ℕ) (s : RegionState) (r u : ℕ)
     → Yields (MeetDone code s r u) (region_step code page_words s (Instruct (Meet r u)))
 meet_done code page_words s r u = runs s.plain.ended refl
   where
-    flip : (x y : ℕ) → nat_eq x y ≡ false → nat_eq y x ≡ false
-    flip x y h = grind arith
-
     both : s.plain.ended ≡ None → nat_eq r u ≡ false → (a b : List Frame) → slice_get s.plain.goroutines r ≡ Some a
         → slice_get s.plain.goroutines u ≡ Some b → (c d v : Value) (go_on : Value → List Frame) (next : List Frame)
         (x : ReceivesAt code a c go_on) (y : SendsAt code b d v next) → meets_at s.plain.memory c d ≡ true
@@ -512,7 +510,7 @@ meet_done code page_words s r u = runs s.plain.ended refl
         receiver_side =
             ap (λ f. side_after code h f (frames_of (met_with s.plain r u (go_on v) next) r)) (ap frames_in qa)
             ∙ ap (side_after code h a) (ap frames_in (get_set_other (slice_set s.plain.goroutines r (go_on v)) u r next
-            (flip r u ne) ∙ get_set_same s.plain.goroutines r a (go_on v) qa))
+            (nat_ne_sym r u ne) ∙ get_set_same s.plain.goroutines r a (go_on v) qa))
             ∙ side_is code h a (go_on v) (receive_goes x v)
 
         sender_side : side_after code k (frames_of s.plain u) (frames_of (met_with s.plain r u (go_on v) next) u)

@@ -1,4 +1,5 @@
 -- Pages, offers, acknowledgements, ends and the start; and all runs.
+use Rattle.std.proofs.lemmas.Option.{same_Some}
 use Rattle.std.proofs.Common.{◌≡◌, ℕ, zero, suc, ◌+◌, ◌<◌, Bool, true, false, List, [], ◌∷◌, ◌++◌, map, length, Option}
 use Rattle.std.proofs.Common.{Some, None, refl, sym, ap, ◌∙◌, subst, nat_eq, if◌then◌else◌, arith, true≢false}
 use Rattle.std.proofs.Common.{slice_get, slice_set, option_map, option_and_then, Contains}
@@ -75,9 +76,6 @@ module _ (code : Code) (page_words : ℕ) (s : RegionState) (fine : Fine code s)
       long : length (with_info s.regions r one_page_more) ≡ length s.regions
       long = length_with_info s.regions r one_page_more
 
-      the_same : (x y : RegionInfo) → Some x ≡ Some y → x ≡ y
-      the_same x y e = cc
-
       old : (q : ℕ) (info : RegionInfo) → slice_get (with_info s.regions r one_page_more) q ≡ Some info → info.stakes
           ≡ holders_of s q + pending_of s q
       old q info i = split (nat_eq r q) (λ t. here t (get_some s.regions q
@@ -91,7 +89,7 @@ module _ (code : Code) (page_words : ℕ) (s : RegionState) (fine : Fine code s)
               ∙ subst (λ x. slice_get (with_info s.regions r one_page_more) x
               ≡ option_map one_page_more (slice_get s.regions x)) (eq_of r q t)
               (with_info_same s.regions r one_page_more) ∙ ap (option_map one_page_more) p in
-              ap (λ (x : RegionInfo). x.stakes) (the_same info (one_page_more o) v) ∙ fine.counted q o p
+              ap (λ (x : RegionInfo). x.stakes) (same_Some info (one_page_more o) v) ∙ fine.counted q o p
 
       counts : (q : ℕ) (info : RegionInfo) → slice_get (with_info s.regions r one_page_more) q ≡ Some info → info.stakes
           ≡ total (λ (x : Holder). one_if (is_in q x.stakes))
@@ -209,13 +207,10 @@ first_main : (fs : List TacFn) (m n : ℕ) (f : TacFn) → slice_get fs m ≡ So
 first_main [] m n f e t b = cc
 first_main (g ∷ fs) zero n f e t b =
     ap (λ x. if x then called g n [] ∷ [] else main_frames fs (suc n))
-    (ap (λ (x : TacFn). bytes_eq x.name (codes "main")) (the_same g f e) ∙ t)
-    ∙ ap (λ (x : TacFn). called x n [] ∷ []) (the_same g f e)
+    (ap (λ (x : TacFn). bytes_eq x.name (codes "main")) (same_Some g f e) ∙ t)
+    ∙ ap (λ (x : TacFn). called x n [] ∷ []) (same_Some g f e)
     ∙ ap (λ k. called f k [] ∷ []) (add_zero n)
   where
-    the_same : (x y : TacFn) → Some x ≡ Some y → x ≡ y
-    the_same x y e = cc
-
     add_zero : (n : ℕ) → n ≡ n + 0
     add_zero n = omega arith
 first_main (g ∷ fs) (suc m) n f e t b =
@@ -262,15 +257,12 @@ main_of code checked =
     there = unmapped (slice_get code.functions has.number) refl
         (sym (slice_get-map erased_fn code.functions has.number) ∙ has.declared)
       where
-        the_same : (x y : TacFn) → Some x ≡ Some y → x ≡ y
-        the_same x y e = cc
-
         unmapped : (o : Option CodeFn) → slice_get code.functions has.number ≡ o
             → option_map erased_fn (slice_get code.functions has.number) ≡ Some has.main → (f : CodeFn)
             × (slice_get code.functions has.number ≡ Some f) × (has.main ≡ erased_fn f)
         unmapped None q e = let x : option_map erased_fn None ≡ Some has.main = ap (option_map erased_fn) (sym q) ∙ e in
             cc
-        unmapped (Some f) q e = (f, q, the_same has.main (erased_fn f) (sym e ∙ ap (option_map erased_fn) q))
+        unmapped (Some f) q e = (f, q, same_Some has.main (erased_fn f) (sym e ∙ ap (option_map erased_fn) q))
 
     named : there.0.name ≡ codes "main"
     named = sym (ap (λ (f : TacFn). f.name) there.2) ∙ has.named
@@ -376,21 +368,18 @@ fine_start code checked written =
         (main_holder code (frames_of (tac_start (erased code)) 0))
     start_good = subst (λ x. GoodHolder code x (main_holder code x)) (sym start.begins) good
 
-    the_same : (x y : Holder) → Some x ≡ Some y → x ≡ y
-    the_same x y e = cc
-
     each : (g : ℕ) (h : Holder) → slice_get (region_start code).holders g ≡ Some h
         → GoodHolder code (frames_of (tac_start (erased code)) g) h
-    each zero h q = subst (λ x. GoodHolder code (frames_of (tac_start (erased code)) 0) x) (the_same _ h q) start_good
+    each zero h q = subst (λ x. GoodHolder code (frames_of (tac_start (erased code)) 0) x) (same_Some _ h q) start_good
     each (suc g) h q = cc
 
     unstaked : (g : ℕ) (h : Holder) (r : ℕ) → slice_get (region_start code).holders g ≡ Some h → is_in r h.stakes ≡ true
         → r < 0
-    unstaked zero h r q i = absurd (true≢false (sym (ap (λ (x : Holder). is_in r x.stakes) (the_same _ h q) ∙ i)))
+    unstaked zero h r q i = absurd (true≢false (sym (ap (λ (x : Holder). is_in r x.stakes) (same_Some _ h q) ∙ i)))
     unstaked (suc g) h r q i = cc
 
     unpended : (g : ℕ) (h : Holder) (r : ℕ) → slice_get (region_start code).holders g ≡ Some h
         → 0 < times_in r h.pending → r < 0
     unpended zero h r q i = let x : 0 ≡ times_in r h.pending =
-        ap (λ (x : Holder). times_in r x.pending) (the_same _ h q) in absurd (omega (arith, x, i))
+        ap (λ (x : Holder). times_in r x.pending) (same_Some _ h q) in absurd (omega (arith, x, i))
     unpended (suc g) h r q i = cc

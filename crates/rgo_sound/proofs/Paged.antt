@@ -1,4 +1,6 @@
 -- Pages are taken for objects: a goroutine that took a page makes an object there before it takes another.
+use Rattle.std.proofs.lemmas.Option.{same_Some}
+use Rattle.rgo_sound.proofs.Places.{nat_eq_refl, nat_ne_sym}
 use Rattle.std.proofs.Common.{◌≡◌, ℕ, zero, suc, ◌+◌, ◌≤◌, ◌<◌, Bool, true, false, not, ◌&&◌, List, [], ◌∷◌, ◌++◌, map}
 use Rattle.std.proofs.Common.{length}
 use Rattle.std.proofs.Common.{Option, Some, None, refl, sym, ap, ◌∙◌, subst, nat_eq, nat_lt, nat_le, if◌then◌else◌}
@@ -210,25 +212,22 @@ makes_alone code frame callers instr cur t = by instr.op refl t
     by (Branch v j removes k others) is t = absurd (true≢false (sym t))
     by (Return value) is t = absurd (true≢false (sym t))
 
-the_acted : (x y : Acted) → Some x ≡ Some y → x ≡ y
-the_acted x y e = cc
-
 -- what is there behind it
 module _ {code : Code} {frame : Frame} {callers : List Frame} (x : MakesAlone code frame callers) where
   after_makes : (m : Memory) (b : Acted) (object : Object) → alone (erased code) m (frame ∷ callers) ≡ Some b
       → x.effect m ≡ made m object → b.memory.heap ≡ m.heap ++ object ∷ []
   after_makes m b object w p = ap (λ (y : Acted). y.memory.heap)
-      (the_acted b _ (sym w ∙ x.does m ∙ ap (λ e. effected m frame callers x.to x.place (Some e)) p))
+      (same_Some b _ (sym w ∙ x.does m ∙ ap (λ e. effected m frame callers x.to x.place (Some e)) p))
 
   after_traps : (m : Memory) (b : Acted) (trap : TrapKind) → alone (erased code) m (frame ∷ callers) ≡ Some b
       → x.effect m ≡ Traps trap → b.memory.heap ≡ m.heap
   after_traps m b trap w p = ap (λ (y : Acted). y.memory.heap)
-      (the_acted b _ (sym w ∙ x.does m ∙ ap (λ e. effected m frame callers x.to x.place (Some e)) p))
+      (same_Some b _ (sym w ∙ x.does m ∙ ap (λ e. effected m frame callers x.to x.place (Some e)) p))
 
   after_nothing : (m : Memory) (b : Acted) → alone (erased code) m (frame ∷ callers) ≡ Some b → x.effect m ≡ nothing m
       → b.memory.heap ≡ m.heap
   after_nothing m b w p = ap (λ (y : Acted). y.memory.heap)
-      (the_acted b _ (sym w ∙ x.does m ∙ ap (λ e. effected m frame callers x.to x.place (Some e)) p))
+      (same_Some b _ (sym w ∙ x.does m ∙ ap (λ e. effected m frame callers x.to x.place (Some e)) p))
 
 -- one step that made an object shows what each makes
 makes_next : (code : Code) (m : Memory) (frame : Frame) (callers : List Frame) (instr : CodeInstr) (a : Acted)
@@ -243,9 +242,6 @@ makes_next code m frame callers instr a object cur acts q =
     still : length a.memory.heap ≡ length m.heap → ⊥
     still e = let x : None ≡ Some object = sym (get_beyond a.memory.heap (length m.heap) (omega (arith, e))) ∙ q in cc
 
-    the_object : (x y : Object) → Some x ≡ Some y → x ≡ y
-    the_object x y e = cc
-
     by : MakesAlone code frame callers → MakesNext code frame callers (words object)
     by x = view x.view
       where
@@ -255,7 +251,7 @@ makes_next code m frame callers instr a object cur acts q =
               same = λ m' b w. (
                 y,
                 ap (λ z. slice_get z (length m'.heap)) (after_makes x m' b y w (p m')) ∙ get_last m'.heap y,
-                ap words (the_object y object (sym (get_last m.heap y)
+                ap words (same_Some y object (sym (get_last m.heap y)
                     ∙ sym (ap (λ z. slice_get z (length m.heap)) (after_makes x m a y acts (p m))) ∙ q)),
                 ap length (after_makes x m' b y w (p m')) ∙ length-append m'.heap (y ∷ []),
               );
@@ -289,10 +285,7 @@ at_other : (c : ℕ → ℕ) (g x j : ℕ) → nat_eq j g ≡ false → with_at 
 at_other c g x j n = ap (λ b. if b then x else c j) n
 
 at_same : (c : ℕ → ℕ) (g x : ℕ) → with_at c g x g ≡ x
-at_same c g x = ap (λ b. if b then x else c g) (self g)
-  where
-    self : (n : ℕ) → nat_eq n n ≡ true
-    self n = grind arith
+at_same c g x = ap (λ b. if b then x else c g) (nat_eq_refl g)
 
 sum_below : (c : ℕ → ℕ) (g x n : ℕ) → n ≤ g → sum_to (with_at c g x) n ≡ sum_to c n
 sum_below c g x zero h = refl
@@ -403,9 +396,6 @@ heap_grows code m frame callers instr a cur acts = split (makes_at instr.op)
 differs : (j g : ℕ) → g < j → nat_eq j g ≡ false
 differs j g l = grind arith
 
-flip : (x y : ℕ) → nat_eq x y ≡ false → nat_eq y x ≡ false
-flip x y n = grind arith
-
 the_heads : (f g : Frame) (fs gs : List Frame) → f ∷ fs ≡ g ∷ gs → f ≡ g
 the_heads f g fs gs e = cc
 
@@ -458,15 +448,12 @@ module _ (code : Code) (page_words : ℕ) (s : RegionState) (paged : Paged code 
       long : length t.holders ≡ length s.holders
       long = ap length hs ∙ length_set s.holders g k
 
-      the_same : (x y : Holder) → Some x ≡ Some y → x ≡ y
-      the_same x y e = cc
-
       each : (j : ℕ) (x : Holder) → slice_get (slice_set s.holders g k) j ≡ Some x → paged.c j ≡ 1
           → Full code page_words s.plain j x
       each j x q w =
           split (nat_eq g j)
           (λ t. subst (λ (y : Holder). Full code page_words s.plain j y)
-          (the_same k x (sym (get_set_same s.holders g h k e)
+          (same_Some k x (sym (get_set_same s.holders g h k e)
           ∙ ap (slice_get (slice_set s.holders g k)) (eq_of g j t) ∙ q))
           (subst (λ i. Full code page_words s.plain i k) (eq_of g j t)
           (still (paged.full g h e (ap paged.c (eq_of g j t) ∙ w)))))
@@ -619,28 +606,19 @@ module _ (code : Code) (page_words : ℕ) (s : RegionState) (paged : Paged code 
           was_none : paged.c g ≡ 0
           was_none = go (paged.c g) refl (paged.small g)
             where
-              the_region : (x y : Region) → Some x ≡ Some y → x ≡ y
-              the_region x y e = cc
-
-              the_instr : (x y : CodeInstr) → Some x ≡ Some y → x ≡ y
-              the_instr x y e = cc
-
-              the_object : (x y : Object) → Some x ≡ Some y → x ≡ y
-              the_object x y e = cc
-
               clash : Full code page_words s.plain g h → ⊥
               clash f =
                   let fr : f.frame ≡ frame = the_heads f.frame frame f.callers callers (sym f.at ∙ at) in
                   let tl : f.callers ≡ callers = the_tails f.frame frame f.callers callers (sym f.at ∙ at) in
-                  let i : f.instr ≡ instr = the_instr f.instr instr (sym f.cur ∙ ap (current code) fr ∙ cur) in
-                  let rr : f.region ≡ r = the_region f.region r (sym f.making
+                  let i : f.instr ≡ instr = same_Some f.instr instr (sym f.cur ∙ ap (current code) fr ∙ cur) in
+                  let rr : f.region ≡ r = same_Some f.region r (sym f.making
                   ∙ ap (λ (y : CodeInstr). making_region (function_at code f.frame) (top_names h.environments) y.op)
                   i ∙ ap (λ y. making_region (function_at code y) (top_names h.environments) instr.op) fr ∙ making)
                   in
                   let o = MakesNext.same f.next s.plain.memory act'.0
                   (ap (λ y. alone (erased code) s.plain.memory (y ∷ f.callers)) fr
                   ∙ ap (λ y. alone (erased code) s.plain.memory (frame ∷ y)) tl ∙ act'.1) in
-                  let n : words x ≡ f.n = ap words (the_object x o.0 (sym act'.2 ∙ o.1)) ∙ o.2 in
+                  let n : words x ≡ f.n = ap words (same_Some x o.0 (sym act'.2 ∙ o.1)) ∙ o.2 in
                   true≢false (sym f.fitting ∙ ap (λ y. fits page_words (fill_of h.fills y) f.n) rr
                   ∙ ap (fits page_words (fill_of h.fills r)) (sym n)
                   ∙ no_true (fits page_words (fill_of h.fills r) (words x)) small.1)
@@ -655,9 +633,6 @@ module _ (code : Code) (page_words : ℕ) (s : RegionState) (paged : Paged code 
 
           below : g < length s.holders
           below = get_below s.holders g h there
-
-          the_same : (x y : Holder) → Some x ≡ Some y → x ≡ y
-          the_same x y e = cc
 
           full_now : Full code page_words s.plain g (record h { fills = with_fill h.fills r 0 })
           full_now =
@@ -707,11 +682,11 @@ module _ (code : Code) (page_words : ℕ) (s : RegionState) (paged : Paged code 
               each j y q w =
                   split (nat_eq g j)
                   (λ u. subst (λ (z : Holder). Full code page_words s.plain j z)
-                  (the_same k y (sym (get_set_same s.holders g h k there)
+                  (same_Some k y (sym (get_set_same s.holders g h k there)
                   ∙ ap (slice_get (slice_set s.holders g k)) (eq_of g j u) ∙ q))
                   (subst (λ i. Full code page_words s.plain i k) (eq_of g j u) full_now))
                   (λ n. paged.full j y (sym (get_set_other s.holders g j k n) ∙ q)
-                  (sym (at_other paged.c g 1 j (flip g j n)) ∙ w))
+                  (sym (at_other paged.c g 1 j (nat_ne_sym g j n)) ∙ w))
 
           by : (q : Region) → r ≡ q → Paged code page_words (page_taken s g h r)
           by GlobalRegion e' = subst (λ z. Paged code page_words (page_taken s g h z)) (sym e')
@@ -816,7 +791,7 @@ module _ (code : Code) (page_words : ℕ) (s : RegionState) (paged : Paged code 
               other n =
                   let cj : paged.c j ≡ 1 = sym (at_other paged.c g 0 j n) ∙ w in
                   let l : j < length s.holders = within (nat_lt j (length s.holders)) refl cj in
-                  let old : slice_get s.holders j ≡ Some y = sym (get_set_other s.holders g j (after_of x) (flip j g n))
+                  let old : slice_get s.holders j ≡ Some y = sym (get_set_other s.holders g j (after_of x) (nat_ne_sym j g n))
                   ∙ sym (get_append_left (slice_set s.holders g (after_of x))
                   (child_holder code x.given.0 x.instr.op (last_frames (after s.plain g x.a).goroutines)) j
                   (let b = length_set s.holders g (after_of x) in omega (arith, b, l))) ∙ q in
@@ -824,7 +799,7 @@ module _ (code : Code) (page_words : ℕ) (s : RegionState) (paged : Paged code 
                   x.given).plain j y y
                   (ap frames_in (get_append_left (slice_set s.plain.goroutines g x.a.frames) x.a.started j
                   (let b = length_set s.plain.goroutines g x.a.frames in let c = fine.as_many in
-                  omega (arith, b, c, l)) ∙ get_set_other s.plain.goroutines g j x.a.frames (flip j g n)))
+                  omega (arith, b, c, l)) ∙ get_set_other s.plain.goroutines g j x.a.frames (nat_ne_sym j g n)))
                   refl refl refl (paged.full j y old cj)
                 where
                   lt_of : (a b : ℕ) → nat_lt a b ≡ true → a < b
@@ -850,11 +825,8 @@ module _ (code : Code) (page_words : ℕ) (s : RegionState) (paged : Paged code 
       clash : None ≡ Some f.region → ⊥
       clash e = cc
 
-      the_instr : (x y : CodeInstr) → Some x ≡ Some y → x ≡ y
-      the_instr x y e = cc
-
       i : f.instr ≡ instr
-      i = the_instr f.instr instr (sym f.cur ∙ ap (current code)
+      i = same_Some f.instr instr (sym f.cur ∙ ap (current code)
           (the_heads f.frame frame f.callers callers (sym f.at ∙ at)) ∙ cur)
 
   paged_meet : (r u : ℕ) (t : RegionState) → MeetDone code s r u t → Paged code page_words t

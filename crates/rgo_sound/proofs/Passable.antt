@@ -1,4 +1,5 @@
 -- What a call passes has a region.
+use Rattle.std.proofs.lemmas.Option.{same_Some}
 use Rattle.std.proofs.Common.{◌≡◌, ◌≢◌, ℕ, zero, suc, ◌<◌, List, [], ◌∷◌, ◌++◌, length, Option, Some, None, is_some}
 use Rattle.std.proofs.Common.{refl, sym, ap, ◌∙◌, subst, arith, ◌⊎◌, inl, inr, true≢false, slice_get, Contains}
 use Rattle.std.proofs.Common.{option_map}
@@ -29,13 +30,10 @@ pub slot_at : (fn : CodeFn) (v : ℕ) (ty : «Type») → HasType (erased_fn fn)
     × (slice_get fn.variables v ≡ Some s) × (s.ty ≡ ty)
 slot_at fn v ty e = go (slice_get fn.variables v) refl (sym (slice_get-map (λ (s : Slot). s.ty) fn.variables v) ∙ e)
   where
-    the_same : (x y : «Type») → Some x ≡ Some y → x ≡ y
-    the_same x y e = cc
-
     go : (o : Option Slot) → slice_get fn.variables v ≡ o → option_map (λ (s : Slot). s.ty) (slice_get fn.variables v)
         ≡ Some ty → (s : Slot) × (slice_get fn.variables v ≡ Some s) × (s.ty ≡ ty)
     go None q h = let x : None ≡ Some ty = sym (ap (option_map (λ (s : Slot). s.ty)) q) ∙ h in cc
-    go (Some s) q h = (s, q, the_same s.ty ty (sym (ap (option_map (λ (s : Slot). s.ty)) q) ∙ h))
+    go (Some s) q h = (s, q, same_Some s.ty ty (sym (ap (option_map (λ (s : Slot). s.ty)) q) ∙ h))
 
 -- an argument has the type of its parameter
 pub argument_fits : (fn g : CodeFn) (from : List ℕ) (i v : ℕ) (formal : Slot)
@@ -132,9 +130,6 @@ module _ (fn g : CodeFn) (instr : CodeInstr) (to : Option ℕ) (from : List ℕ)
   each p c e = formal (get_some (region_parameters g) p (let x = get_below passes p c e in let y = fits.len in
       omega (arith, x, y)))
     where
-      the_same : (x y : Class) → Some x ≡ Some y → x ≡ y
-      the_same x y e = cc
-
       formal : (f : Class) × (slice_get (region_parameters g) p ≡ Some f) → IsThere names c
       formal (f, q) = by (Contains-append_cases (parameter_classes g.params g.variables) (result_class g ∷ []) f m.0)
         where
@@ -145,7 +140,7 @@ module _ (fn g : CodeFn) (instr : CodeInstr) (to : Option ℕ) (from : List ℕ)
           is_passed actual d h x =
               let x' : IsPassedFor (region_parameters g) passes (Name m.1.0) actual =
               subst (λ y. IsPassedFor (region_parameters g) passes y actual) (h ∙ m.1.1) x in
-              the_same actual c (sym (x' p (q ∙ ap Some m.1.1)) ∙ e)
+              same_Some actual c (sym (x' p (q ∙ ap Some m.1.1)) ∙ e)
 
           target : (o : Option ℕ) → to ≡ o → (s : Slot) → g.result ≡ Some s → (d : ℕ) × (to ≡ Some d)
           target None t s gr = let x : is_some {T = ℕ} None ≡ is_some (Some s) =

@@ -1,11 +1,20 @@
 -- Lists by number: what stands at a place after a write, in a longer list, and of each.
-use Rattle.std.proofs.Common.{◌≡◌, ℕ, zero, suc, ◌+◌, ◌≤◌, ◌<◌, false, List, [], ◌∷◌, ◌++◌, length, Some, None}
+use Rattle.std.proofs.lemmas.Option.{same_Some}
+use Rattle.std.proofs.Common.{◌≡◌, ℕ, zero, suc, ◌+◌, ◌≤◌, ◌<◌, true, false, List, [], ◌∷◌, ◌++◌, length, Some, None}
 use Rattle.std.proofs.Common.{refl, ap, subst, nat_eq, arith, ◌⊎◌, inl, inr, slice_get, slice_set, slice_index}
 use Rattle.std.proofs.Common.{replicate}
 use Rattle.std.specs.List.{Contains}
 use Rattle.std.specs.List.Sorted.{IsStrictlyIncreasing}
 use Rattle.std.proofs.lemmas.List.Kept.{AllPairs-from_increasing}
 use Rattle.rgo_sound.specs.Types.{Each}
+
+-- ---- numbers as tests
+
+pub nat_eq_refl : (a : ℕ) → nat_eq a a ≡ true
+nat_eq_refl a = grind arith
+
+pub nat_ne_sym : (a b : ℕ) → nat_eq a b ≡ false → nat_eq b a ≡ false
+nat_ne_sym a b h = grind arith
 
 -- ---- after a write
 
@@ -102,10 +111,7 @@ get_beyond (x ∷ xs) (suc i) h = get_beyond xs i (omega (arith, h))
 module _ {X : Type 0} (P : X → Type 0) where
   pub each_get : (xs : List X) (i : ℕ) (x : X) → Each P xs → slice_get xs i ≡ Some x → P x
   each_get [] i x h e = cc
-  each_get (y ∷ ys) zero x h e = subst P (the_same y x e) h.0
-    where
-      the_same : (y x : X) → Some y ≡ Some x → y ≡ x
-      the_same y x e = cc
+  each_get (y ∷ ys) zero x h e = subst P (same_Some y x e) h.0
   each_get (y ∷ ys) (suc i) x h e = each_get ys i x h.1 e
 
   pub each_set : (xs : List X) (i : ℕ) (x : X) → Each P xs → P x → Each P (slice_set xs i x)

@@ -1,5 +1,7 @@
 -- No step is missing: where the three-address machine has an instruction's step, the region machine has one after some
 -- region steps.
+use Rattle.std.proofs.lemmas.Option.{same_Some}
+use Rattle.rgo_sound.proofs.Places.{nat_eq_refl, nat_ne_sym}
 use Rattle.std.proofs.Common.{◌≡◌, ◌≢◌, ℕ, zero, suc, ◌+◌, ◌<◌, Bool, true, false, not, ◌&&◌, ◌||◌, List, [], ◌∷◌, map}
 use Rattle.std.proofs.Common.{length, Option, Some, None, IsSome, refl, sym, ap, ◌∙◌, subst, nat_eq, nat_le}
 use Rattle.std.proofs.Common.{if◌then◌else◌, arith, true≢false, slice_get, slice_set, option_map, option_and_then, inr}
@@ -342,11 +344,8 @@ module _ (code : Code) (checked : IsChecked code) (s : RegionState) (g : ℕ) (h
   there : HasInstr top.stands.fn frame.next instr
   there = here code checked frame top.stands.fn instr top.stands.is_fn cur
 
-  the_instr : (x y : CodeInstr) → Some x ≡ Some y → x ≡ y
-  the_instr x y e = cc
-
   same : top.stands.instr ≡ instr
-  same = the_instr top.stands.instr instr (sym top.stands.is_instr ∙ there)
+  same = same_Some top.stands.instr instr (sym top.stands.is_instr ∙ there)
 
   settled : Settled top.stands.fn frame.next instr top.f.names top.f.protections
   settled = subst (λ x. Settled top.stands.fn frame.next x top.f.names top.f.protections) same
@@ -476,9 +475,6 @@ module _ (code : Code) (page_words : ℕ) (checked : IsChecked code) (written : 
     where
       running : s.plain.ended ≡ None
       running = running_of code s.plain (One g) next step
-
-      the_same : (x y : TacState) → Some x ≡ Some y → x ≡ y
-      the_same x y e = cc
 
       at_instr : (frame : Frame) (callers : List Frame) → slice_get s.plain.goroutines g ≡ Some (frame ∷ callers)
           → (a : Acted) → alone (erased code) s.plain.memory (frame ∷ callers) ≡ Some a → after s.plain g a ≡ next
@@ -613,7 +609,7 @@ module _ (code : Code) (page_words : ℕ) (checked : IsChecked code) (written : 
           → CanInstruct code page_words s (One g)
       acted fr q None w z = cc
       acted [] q (Some a) w z = cc
-      acted (frame ∷ callers) q (Some a) w z = at_instr frame callers q a w (the_same (after s.plain g a) next z)
+      acted (frame ∷ callers) q (Some a) w z = at_instr frame callers q a w (same_Some (after s.plain g a) next z)
           top.stands.instr (ap (λ o. current_in o frame.next) top.stands.is_fn ∙ top.stands.is_instr)
         where
           top : Top code h frame callers
@@ -687,14 +683,11 @@ module _ (code : Code) (page_words : ℕ) (checked : IsChecked code) (written : 
       at_w : slice_get s.plain.goroutines w ≡ Some (st.frame ∷ st.callers)
       at_w = frames_some (slice_get s.plain.goroutines w) st.frame st.callers st.at
 
-      self : (n : ℕ) → nat_eq n n ≡ true
-      self n = grind arith
-
       meets : meets_at s.plain.memory x.c (value_at st.frame st.channel) ≡ true
       meets =
           ap (λ v. meets_at s.plain.memory v (value_at st.frame st.channel)) x.leads
           ∙ ap (meets_at s.plain.memory (value.Object o)) st.channel_is
-          ∙ ap (λ b. if b then is_meeting_at (slice_get s.plain.memory.heap o) else false) (self o)
+          ∙ ap (λ b. if b then is_meeting_at (slice_get s.plain.memory.heap o) else false) (nat_eq_refl o)
           ∙ x.meeting
 
       stepped : region_step code page_words s (Instruct (Meet r w))
@@ -780,9 +773,6 @@ module _ (code : Code) (page_words : ℕ) (checked : IsChecked code) (written : 
     free = x.free;
   }
 
-  the_holder : (x y : Holder) → Some x ≡ Some y → x ≡ y
-  the_holder x y e = cc
-
   module _ (apart : nat_eq r u ≡ false) where
     -- nobody offers there: the sender does
     offers_then : (s : RegionState) (h k : Holder) → AtChannel s h → Sends s k
@@ -792,14 +782,11 @@ module _ (code : Code) (page_words : ℕ) (checked : IsChecked code) (written : 
         (now code page_words checked written (Meet r u) t (Meet r u) (u, refl)
         (meet_now t h u (record k { offer = Standing o }) (moved_channel s t h x
         (good_at code page_words checked written (Meet r u) s t (MakeOffer u) x.good makes) refl
-        (get_set_other s.holders u r (record k { offer = Standing o }) (flip r u apart) ∙ x.there)) apart
+        (get_set_other s.holders u r (record k { offer = Standing o }) (nat_ne_sym r u apart) ∙ x.there)) apart
         (get_set_same s.holders u k (record k { offer = Standing o }) y.there) y.none refl refl y.sends))
       where
         t : RegionState
         t = attended s u (record k { offer = Standing o })
-
-        flip : (x y : ℕ) → nat_eq x y ≡ false → nat_eq y x ≡ false
-        flip x y h = grind arith
 
         makes : region_step code page_words s (MakeOffer u) ≡ Some (attended s u (record k { offer = Standing o }))
         makes =
@@ -824,7 +811,7 @@ module _ (code : Code) (page_words : ℕ) (checked : IsChecked code) (written : 
       where
         same : w ≡ j → ⊥
         same u' = true≢false (sym my ∙ ap (λ (v : Holder). may_go v.offer)
-            (the_holder y q (sym ey ∙ ap (slice_get s.holders) (sym u') ∙ e)) ∙ ap may_go z)
+            (same_Some y q (sym ey ∙ ap (slice_get s.holders) (sym u') ∙ e)) ∙ ap may_go z)
 
     -- somebody offers there, or somebody's offer there has to be acknowledged first
     by_find : (s : RegionState) (h k : Holder) → AtChannel s h → Sends s k
@@ -935,12 +922,6 @@ module _ (code : Code) (page_words : ℕ) (checked : IsChecked code) (written : 
       running : s.plain.ended ≡ None
       running = running_of code s.plain (Meet r u) next step
 
-      flip : (x y : ℕ) → nat_eq x y ≡ false → nat_eq y x ≡ false
-      flip x y h = grind arith
-
-      self : (n : ℕ) → nat_eq n n ≡ true
-      self n = grind arith
-
       go : (b : Bool) → nat_eq r u ≡ b → (p : Option (List Frame)) → slice_get s.plain.goroutines r ≡ p
           → (q : Option (List Frame)) → slice_get s.plain.goroutines u ≡ q
           → (if b then None else option_and_then (λ f. option_and_then (met_by (tac (erased code)) s.plain r u f) q) p)
@@ -997,7 +978,7 @@ module _ (code : Code) (page_words : ℕ) (checked : IsChecked code) (written : 
                         receives = ha;
                         leads = eco;
                         meeting = ap (λ p. is_meeting_at (slice_get p.memory.heap o)) (cv.plain ∙ ct.plain) ∙ meeting;
-                        there = cv.others r (flip r u ne) ∙ ct.there;
+                        there = cv.others r (nat_ne_sym r u ne) ∙ ct.there;
                         none = dh;
                         free = mh;
                       })
@@ -1025,7 +1006,7 @@ module _ (code : Code) (page_words : ℕ) (checked : IsChecked code) (written : 
                     where
                       meeting : is_meeting_at (slice_get s.plain.memory.heap o) ≡ true
                       meeting = sym (ap (λ b. if b then is_meeting_at (slice_get s.plain.memory.heap o) else false)
-                          (self o)) ∙ sym (ap (λ y. meets_at s.plain.memory y (value.Object o)) eco)
+                          (nat_eq_refl o)) ∙ sym (ap (λ y. meets_at s.plain.memory y (value.Object o)) eco)
                           ∙ sym (ap (meets_at s.plain.memory c) edo) ∙ m
 
 pub no_step_missing : NoStepMissing

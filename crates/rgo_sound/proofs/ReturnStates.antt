@@ -1,4 +1,5 @@
 -- A return of checked code keeps what holds of the state.
+use Rattle.std.proofs.lemmas.Option.{same_Some}
 use Rattle.std.proofs.Common.{◌≡◌, ℕ, zero, suc, ◌+◌, true, false, List, [], ◌∷◌, ◌++◌, map, length, Option, Some, None}
 use Rattle.std.proofs.Common.{refl, sym, ap, ◌∙◌, subst, nat_eq, slice_get, slice_set, option_map, Contains, append-nil}
 use Rattle.rgo_sound.proofs.Places.{get_set_other, get_set_same, length_set}
@@ -30,9 +31,6 @@ use Rattle.rgo_tac.specs.Steps.{resumed, resumed_at, resumed_by}
 use Rattle.rgo_tac.specs.Tac.{TacState}
 use Rattle.rgo_code.specs.declared.rules.Line.TheVariants as line
 use Rattle.rgo_code.specs.declared.rules.Rule.TheVariants as rule
-
-the_instr : (x y : CodeInstr) → Some x ≡ Some y → x ≡ y
-the_instr x y e = cc
 
 -- the frames behind a return
 abbrev behind_frames : Code → Frame → Option ℕ → List Frame → List Frame
@@ -71,7 +69,7 @@ module _ (code : Code) (checked : IsChecked code) (written : Ascends code) (fram
       st = fit.0
 
       same : st.instr ≡ instr
-      same = the_instr st.instr instr (sym (ap (λ o. current_in o frame.next) st.is_fn ∙ st.is_instr) ∙ cur)
+      same = same_Some st.instr instr (sym (ap (λ o. current_in o frame.next) st.is_fn ∙ st.is_instr) ∙ cur)
 
       here : HasInstr st.fn frame.next instr
       here = st.is_instr ∙ ap Some same
@@ -246,10 +244,7 @@ pub fine_return : (code : Code) (page_words : ℕ) (s t : RegionState) (g : ℕ)
 fine_return code page_words s t g x value checked written fine is =
     subst (Fine code) (sym x.is)
     (subst (λ a. Fine code (instructed_with code s g x.frame x.callers x.instr (after s.plain g a) x.given))
-    (sym (the_same x.a _ (sym x.acts ∙ is_returned code page_words s g x.h x.frame x.callers x.instr value checked
+    (sym (same_Some x.a _ (sym x.acts ∙ is_returned code page_words s g x.h x.frame x.callers x.instr value checked
     written fine x.there (ap frames_in x.at) x.cur is)))
     (behind code page_words s g x.h x.frame x.callers x.instr value checked written fine x.there (ap frames_in x.at)
     x.cur is (x.frame ∷ x.callers) x.given x.at (ap has_none x.ready.none) x.same))
-  where
-    the_same : (x y : Acted) → Some x ≡ Some y → x ≡ y
-    the_same x y e = cc

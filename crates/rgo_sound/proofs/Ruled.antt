@@ -1,4 +1,5 @@
 -- Checked code gives the facts that the steps ask for.
+use Rattle.std.proofs.lemmas.Option.{same_Some}
 use Rattle.std.proofs.Common.{◌≡◌, ◌≢◌, ℕ, zero, suc, ◌+◌, ◌<◌, Bool, true, false, List, [], ◌∷◌, ◌++◌, length, Option}
 use Rattle.std.proofs.Common.{Some, None, is_some, refl, sym, ap, ◌∙◌, subst, nat_eq, if◌then◌else◌, arith, ◌⊎◌, inl}
 use Rattle.std.proofs.Common.{inr, true≢false, slice_get, Contains, option_map}
@@ -39,12 +40,9 @@ erased_function code n f e = go (function_of code n) refl
     is : slice_get (erased code).functions n ≡ option_map erased_fn (function_of code n)
     is = slice_get-map erased_fn code.functions n
 
-    the_same : (x y : TacFn) → Some x ≡ Some y → x ≡ y
-    the_same x y e = cc
-
     go : (o : Option CodeFn) → function_of code n ≡ o → (g : CodeFn) × (function_of code n ≡ Some g) × (f ≡ erased_fn g)
     go None q = let x : Some f ≡ None = sym e ∙ is ∙ ap (option_map erased_fn) q in cc
-    go (Some g) q = (g, q, the_same f (erased_fn g) (sym e ∙ is ∙ ap (option_map erased_fn) q))
+    go (Some g) q = (g, q, same_Some f (erased_fn g) (sym e ∙ is ∙ ap (option_map erased_fn) q))
 
 -- and each of the code is there
 pub erased_found : (code : Code) (n : ℕ) (g : CodeFn) → function_of code n ≡ Some g
@@ -121,18 +119,15 @@ distinct_member seen (Global ∷ cs) p c e = let x = distinct_member seen cs p c
 distinct_member seen (Name k ∷ cs) p c e = go (list_any (is_name k) seen) p e (λ p' e'. distinct_member seen cs p' c e')
     (λ p' e'. distinct_member (Name k ∷ seen) cs p' c e')
   where
-    the_same : (x y : Class) → Some x ≡ Some y → x ≡ y
-    the_same x y e = cc
-
     go : (b : Bool) (p : ℕ) → slice_get (if b then distinct_names seen cs else Name k ∷ distinct_names (Name k ∷ seen)
         cs) p ≡ Some c → ((p' : ℕ) → slice_get (distinct_names seen cs) p' ≡ Some c → Contains cs c
         × ((m : ℕ) × (c ≡ Name m))) → ((p' : ℕ) → slice_get (distinct_names (Name k ∷ seen) cs) p' ≡ Some c
         → Contains cs c × ((m : ℕ) × (c ≡ Name m))) → Contains (Name k ∷ cs) c × ((m : ℕ) × (c ≡ Name m))
     go true p e one two = let x = one p e in (contains_there (Name k) cs c x.0, x.1)
     go false zero e one two = (
-      subst (λ x. Contains (Name k ∷ cs) x) (the_same (Name k) c e)
+      subst (λ x. Contains (Name k ∷ cs) x) (same_Some (Name k) c e)
           (contains_here (Name k) cs),
-      (k, sym (the_same (Name k) c e)),
+      (k, sym (same_Some (Name k) c e)),
     )
     go false (suc p) e one two = let x = two p e in (contains_there (Name k) cs c x.0, x.1)
 
@@ -177,9 +172,6 @@ passed_is_named : (fn g : CodeFn) (to : Option ℕ) (arguments : List ℕ) (regi
 passed_is_named fn g to arguments regions k args res passes c =
     at (contains_get regions (Name k) c)
   where
-    the_same : (x y : Class) → Some x ≡ Some y → x ≡ y
-    the_same x y e = cc
-
     at : (p : ℕ) × (slice_get regions p ≡ Some (Name k)) → ((v : ℕ) × Contains arguments v × (class_of fn v ≡ Name k))
         ⊎ ((d : ℕ) × (to ≡ Some d) × (class_of fn d ≡ Name k))
     at (p, e) = formal (get_some (region_parameters g) p (let x = get_below regions p (Name k) e in let y =
@@ -197,7 +189,7 @@ passed_is_named fn g to arguments regions k args res passes c =
             fits actual c is h =
                 let h' : IsPassedFor (region_parameters g) regions (Name m.1.0) actual =
                 subst (λ x. IsPassedFor (region_parameters g) regions x actual) (is ∙ m.1.1) h in
-                the_same actual (Name k) (sym (h' p (q ∙ ap Some m.1.1)) ∙ e)
+                same_Some actual (Name k) (sym (h' p (q ∙ ap Some m.1.1)) ∙ e)
 
             result : (r : Option Slot) → g.result ≡ r → slot_class r ≡ f → (o : Option ℕ) → to ≡ o → (d : ℕ)
                 × (to ≡ Some d)

@@ -1,4 +1,5 @@
 -- What holds at the start of a run and is kept by each step holds after the run.
+use Rattle.std.proofs.lemmas.Option.{same_Some}
 use Rattle.std.proofs.Common.{◌≡◌, ℕ, List, [], ◌∷◌, Option, Some, None, subst}
 use Rattle.std.proofs.Common.{option_and_then}
 use Rattle.rgo_sound.proofs.ErasureLemmas.{Yields}
@@ -11,10 +12,7 @@ module _ (code : Code) (page_words : ℕ) where
   pub run_keeps : (P : RegionState → Type 0) → ((s : RegionState) (e : Event) → P s
       → Yields P (region_step code page_words s e)) → (es : List Event) (s t : RegionState) → P s
       → run (region_step code page_words) s es ≡ Some t → P t
-  run_keeps P step [] s t p r = subst P (some_same s t r) p
-    where
-      some_same : (x y : RegionState) → Some x ≡ Some y → x ≡ y
-      some_same x y e = cc
+  run_keeps P step [] s t p r = subst P (same_Some s t r) p
   run_keeps P step (e ∷ es) s t p r = next (region_step code page_words s e) (step s e p) r
       (λ u p' r'. run_keeps P step es u t p' r')
     where

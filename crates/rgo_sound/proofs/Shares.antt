@@ -1,4 +1,5 @@
 -- Stakes for a coming child: what is pending behind the duties of an instruction.
+use Rattle.rgo_sound.proofs.Places.{nat_eq_refl}
 use Rattle.std.proofs.Common.{◌≡◌, ℕ, zero, suc, ◌+◌, ◌≤◌, Bool, true, false, ◌||◌, List, [], ◌∷◌, ◌++◌, map, Option}
 use Rattle.std.proofs.Common.{Some, None, refl, sym, ap, ◌∙◌, subst, nat_eq, if◌then◌else◌, arith, true≢false}
 use Rattle.std.specs.List.{list_any}
@@ -152,10 +153,7 @@ shares_next code frames front n names = shares_front (to_share code frames) fron
 -- where nothing is counted, nothing is pending
 none_in : (xs : List ℕ) → ((r : ℕ) → times_in r xs ≡ 0) → xs ≡ []
 none_in [] h = refl
-none_in (x ∷ xs) h = let a = h x in let b : one_if (nat_eq x x) ≡ 1 = ap one_if (self x) in absurd (omega (arith, a, b))
-  where
-    self : (x : ℕ) → nat_eq x x ≡ true
-    self x = grind arith
+none_in (x ∷ xs) h = let a = h x in let b : one_if (nat_eq x x) ≡ 1 = ap one_if (nat_eq_refl x) in absurd (omega (arith, a, b))
 
 pub none_pending : (names : Bindings) (pending : List ℕ) → Shares [] [] names pending → pending ≡ []
 none_pending names pending h = none_in pending h

@@ -1,4 +1,5 @@
 -- A `go` of checked code keeps what holds of the state: the child has the stakes that were pending.
+use Rattle.std.proofs.lemmas.Option.{same_Some}
 use Rattle.std.proofs.Common.{◌≡◌, ℕ, zero, suc, ◌+◌, ◌≤◌, ◌<◌, Bool, true, false, not, ◌&&◌, ◌||◌, List, [], ◌∷◌, ◌++◌}
 use Rattle.std.proofs.Common.{map, length, Option, Some, None, is_some, refl, sym, ap, ◌∙◌, subst, nat_eq}
 use Rattle.std.proofs.Common.{if◌then◌else◌, arith, ◌⊎◌, inl, inr, ◌↔◌, true≢false, slice_get, slice_set, option_map}
@@ -219,12 +220,6 @@ child_core pending names formals passes f l p =
 module _ (code : Code) (checked : IsChecked code) (written : Ascends code) (frame : Frame) (callers : List Frame)
     (instr : CodeInstr) (n : ℕ) (from : List ℕ) (passes : List Class) (removes : List ℕ)
     (is : instr.op ≡ Go n from passes removes) (cur : current code frame ≡ Some instr) where
-  the_instr : (x y : CodeInstr) → Some x ≡ Some y → x ≡ y
-  the_instr x y e = cc
-
-  the_tac_fn : (x y : TacFn) → Some x ≡ Some y → x ≡ y
-  the_tac_fn x y e = cc
-
   abbrev child_of : Holder → List Environment → CodeFn → List Frame → Holder
   child_of h environments callee frames =
       record {
@@ -274,7 +269,7 @@ module _ (code : Code) (checked : IsChecked code) (written : Ascends code) (fram
       st = fit.0
 
       same : st.instr ≡ instr
-      same = the_instr st.instr instr (sym (ap (λ o. current_in o frame.next) st.is_fn ∙ st.is_instr) ∙ cur)
+      same = same_Some st.instr instr (sym (ap (λ o. current_in o frame.next) st.is_fn ∙ st.is_instr) ∙ cur)
 
       here : HasInstr st.fn frame.next instr
       here = st.is_instr ∙ ap Some same
@@ -329,7 +324,7 @@ module _ (code : Code) (checked : IsChecked code) (written : Ascends code) (fram
 
       as_many : length from ≡ callee.params
       as_many = there.arguments ∙ ap (λ (x : TacFn). x.params)
-          (the_tac_fn there.callee (erased_fn callee) (sym there.declared ∙ slice_get-map erased_fn code.functions n
+          (same_Some there.callee (erased_fn callee) (sym there.declared ∙ slice_get-map erased_fn code.functions n
           ∙ ap (option_map erased_fn) found))
 
       starts_rightly : (callee.result ≡ None) × Passes st.fn callee None from passes
@@ -469,9 +464,6 @@ fine_started code s t g h k c frames child fine e rs hs gs ks kp cs cp once good
           ap length rs in omega (arith, a, b);
     }
   where
-    the_same : (x y : Holder) → Some x ≡ Some y → x ≡ y
-    the_same x y e = cc
-
     long : length (slice_set s.holders g k) ≡ length (slice_set s.plain.goroutines g frames)
     long = length_set s.holders g k ∙ fine.as_many ∙ sym (length_set s.plain.goroutines g frames)
 
@@ -487,7 +479,7 @@ fine_started code s t g h k c frames child fine e rs hs gs ks kp cs cp once good
         go (inr z) = inr (inr z)
         go (inl z) = split (nat_eq g j) (λ u. inr (inl (
           eq_of g j u,
-          the_same x k
+          same_Some x k
               (sym z ∙ ap (slice_get (slice_set s.holders g k)) (sym (eq_of g j u)) ∙ get_set_same s.holders g h k e),
         )))
             (λ n. inl (n, sym (get_set_other s.holders g j k n) ∙ z))
@@ -693,10 +685,7 @@ fine_start_of code page_words s t g x n from passes removes checked written fine
     x.there (ap frames_in x.at) x.cur is in
     subst (Fine code) (sym x.is)
     (subst (λ a. Fine code (instructed_with code s g x.frame x.callers x.instr (after s.plain g a) x.given))
-    (the_same _ x.a (sym c.acts ∙ x.acts))
+    (same_Some _ x.a (sym c.acts ∙ x.acts))
     (behind code page_words s g x.h x.frame x.callers x.instr n from passes removes checked written fine x.there
     (ap frames_in x.at) x.cur is c.callee (x.frame ∷ x.callers) x.given c.declared x.at (ap has_none x.ready.none)
     x.same))
-  where
-    the_same : (x y : Acted) → Some x ≡ Some y → x ≡ y
-    the_same x y e = cc

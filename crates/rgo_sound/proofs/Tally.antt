@@ -1,4 +1,5 @@
 -- What each step adds to the counts of a run.
+use Rattle.std.proofs.lemmas.Option.{same_Some}
 use Rattle.std.proofs.Common.{◌≡◌, ℕ, zero, suc, ◌+◌, ◌≤◌, Bool, true, false, ◌&&◌, List, [], ◌∷◌, ◌++◌, length, Option}
 use Rattle.std.proofs.Common.{Some, None, refl, sym, ap, ◌∙◌, subst, nat_eq, nat_lt, if◌then◌else◌, arith, true≢false}
 use Rattle.std.proofs.Common.{slice_get, slice_set, option_and_then, sum_by, length-append}
@@ -64,12 +65,9 @@ sum_with_info f [] r change info e = cc
 sum_with_info f (x ∷ xs) zero change info e =
     let a = sum_by-cons f (change x) xs in
     let b = sum_by-cons f x xs in
-    let c : f x ≡ f info = ap f (the_same x info e) in
-    let d : f (change x) ≡ f (change info) = ap (λ y. f (change y)) (the_same x info e) in
+    let c : f x ≡ f info = ap f (same_Some x info e) in
+    let d : f (change x) ≡ f (change info) = ap (λ y. f (change y)) (same_Some x info e) in
     omega (arith, a, b, c, d)
-  where
-    the_same : (x y : RegionInfo) → Some x ≡ Some y → x ≡ y
-    the_same x y e = cc
 sum_with_info f (x ∷ xs) (suc r) change info e =
     let a = sum_by-cons f x (with_info xs r change) in
     let b = sum_by-cons f x xs in

@@ -207,7 +207,7 @@ module _ (code : Code) (checked : IsChecked code) where
       enters n callee from fit =
           called_kinds kinds (erased_fn callee).variables callee.params (values_of frame from)
           (vars_kinds kinds (erased_fn all.0.0) frame all.0.2 from (take callee.params (erased_fn callee).variables)
-              fit)
+          fit)
 
       calls : (to : Option ℕ) (n : ℕ) (from : List ℕ) (passes : List Class) (protects removes : List ℕ)
           → instr.op ≡ Call to n from passes protects removes
@@ -286,13 +286,13 @@ module _ (code : Code) (checked : IsChecked code) where
 
               by : (op : CodeOp) → IsCallOf code op f → OpFits (erased code) (erased_fn waits.0.0) (erased_op op)
                   → FramesHaveKinds code kinds (resumed_by caller (erased_op op) (option_map (value_at frame) value) ∷
-                      cs)
+                  cs)
               by (Call to n from passes protects removes) named t = result to t.1 value refl
                 where
                   result : (to : Option ℕ) → TargetFits (erased_fn waits.0.0) (slice_get (erased code).functions n) to
                       → (w : Option ℕ) → value ≡ w
                       → FramesHaveKinds code kinds (resumed_by caller
-                          (erased_op (Call to n from passes protects removes))
+                      (erased_op (Call to n from passes protects removes))
                       (option_map (value_at frame) w) ∷ cs)
                   result to fit None b = stays code kinds caller cs waits (caller.next + 1)
                   result None fit (Some v) b = stays code kinds caller cs waits (caller.next + 1)

@@ -1,4 +1,5 @@
 -- Each step of the region machine keeps pointers in their regions.
+use Rattle.std.proofs.lemmas.Option.{same_Some}
 use Rattle.std.proofs.Common.{◌≡◌, ◌≢◌, ℕ, zero, suc, ◌+◌, false, List, [], ◌∷◌, ◌++◌, map, length, get_or, Option}
 use Rattle.std.proofs.Common.{Some, None, refl, sym, ap, ◌∙◌, subst, nat_eq, if◌then◌else◌, arith, slice_get, slice_set}
 use Rattle.std.proofs.Common.{append-nil, ◌⊎◌, inl, inr, Contains}
@@ -127,15 +128,12 @@ module _ (code : Code) (s : RegionState) (values : ValuesStay code s) where
             (each j x (sym (ap (λ y. slice_get y j) hs) ∙ q)));
       }
     where
-      the_same : (x y : Holder) → Some x ≡ Some y → x ≡ y
-      the_same x y e = cc
-
       each : (j : ℕ) (x : Holder) → slice_get (slice_set s.holders g k) j ≡ Some x
           → FramesLead code s.owners (frames_of s.plain j) x.environments
       each j x q =
           split (nat_eq g j)
           (λ t. subst (λ (y : Holder). FramesLead code s.owners (frames_of s.plain j) y.environments)
-          (the_same k x (sym (get_set_same s.holders g h k e)
+          (same_Some k x (sym (get_set_same s.holders g h k e)
           ∙ ap (slice_get (slice_set s.holders g k)) (eq_of g j t) ∙ q))
           (subst (λ i. FramesLead code s.owners (frames_of s.plain i) k.environments) (eq_of g j t) lead))
           (λ n. values.frames j x (sym (get_set_other s.holders g j k n) ∙ q))
@@ -374,9 +372,6 @@ module _ (code : Code) (s : RegionState) (values : ValuesStay code s) where
           ≡ length (slice_set s.plain.goroutines g x.a.frames)
       long = length_set s.holders g _ ∙ fine.as_many ∙ sym (length_set s.plain.goroutines g x.a.frames)
 
-      the_same : (x y : Holder) → Some x ≡ Some y → x ≡ y
-      the_same x y e = cc
-
       -- those that were there
       old : (j : ℕ) (y : Holder) → slice_get (slice_set s.holders g
           (unless_trapped (after s.plain g x.a).ended x.given.0
@@ -387,7 +382,7 @@ module _ (code : Code) (s : RegionState) (values : ValuesStay code s) where
           split (nat_eq g j)
           (λ u. subst (λ (z : Holder). FramesLead code (s.owners ++ x.given.1)
           (frames_in (slice_get (slice_set s.plain.goroutines g x.a.frames) j)) z.environments)
-          (the_same _ y (sym (get_set_same s.holders g x.h _ x.there)
+          (same_Some _ y (sym (get_set_same s.holders g x.h _ x.there)
           ∙ ap (slice_get (slice_set s.holders g (unless_trapped (after s.plain g x.a).ended x.given.0
           (holder_after code x.given.0 x.frame x.callers x.instr.op (frames_of (after s.plain g x.a) g)))))
           (eq_of g j u) ∙ q))
@@ -412,7 +407,7 @@ module _ (code : Code) (s : RegionState) (values : ValuesStay code s) where
           → slice_get (child_holder code x.given.0 op frames) i ≡ Some y
           → (y.environments ≡ child_environment code (top.f ∷ top.fs) op ∷ []) × (i ≡ 0)
       child (Go n from passes removes) is frames zero y q = (
-        ap (λ (z : Holder). z.environments) (sym (the_same _ y q))
+        ap (λ (z : Holder). z.environments) (sym (same_Some _ y q))
             ∙ ap (λ sh. child_environment code sh (Go n from passes removes) ∷ []) given_environments,
         refl,
       )
@@ -552,13 +547,10 @@ module _ (code : Code) (s : RegionState) (values : ValuesStay code s) where
           (read_u x.sends.sent (contains_there x.sends.channel (x.sends.sent ∷ []) x.sends.sent
           (contains_here x.sends.sent [])))))
 
-      the_region : (x y : Region) → Some x ≡ Some y → x ≡ y
-      the_region x y e = cc
-
       came_home : LeadsHome s.owners top_r.f.names (class_of top_r.stands.fn x.receives.channel) x.v
       came_home = into_home s.owners top_r.f.names (class_of top_r.stands.fn x.receives.channel) channel_r.0 x.v
           channel_r.1 (subst (λ q. LeadsInto s.owners q x.v)
-          (the_region channel_u.0 channel_r.0 (sym channel_u.2 ∙ channel_r.2)) sent_into)
+          (same_Some channel_u.0 channel_r.0 (sym channel_u.2 ∙ channel_r.2)) sent_into)
 
       received : HomeAfter top_r.stands.fn top_r.f.names s.owners x.receives.to x.v
       received = go x.receives.to refl
@@ -590,9 +582,6 @@ module _ (code : Code) (s : RegionState) (values : ValuesStay code s) where
           (sym (one_inner code checked typed.kinds rec.inner typed_u.inner x.c x.d the_object.0 rec.channel
           typed_u.channel the_object.1 the_object.2)) typed_u.value))
 
-      the_fn : (x y : CodeFn) → Some x ≡ Some y → x ≡ y
-      the_fn x y e = cc
-
       classed : (d o : ℕ) → value_at (going x.receives.frame x.receives.to x.v) d ≡ value.Object o
           → class_of top_r.stands.fn d ≢ NoClass
       classed d o e =
@@ -601,7 +590,7 @@ module _ (code : Code) (s : RegionState) (values : ValuesStay code s) where
           top_r.stands.is_fn q)
           (subst (λ (g : CodeFn). HaveKinds typed.kinds (erased_fn g).variables
           (going x.receives.frame x.receives.to x.v).variables)
-          (the_fn typed_next.0.0 top_r.stands.fn (sym typed_next.0.1 ∙ top_r.stands.is_fn)) typed_next.0.2) d o e
+          (same_Some typed_next.0.0 top_r.stands.fn (sym typed_next.0.1 ∙ top_r.stands.is_fn)) typed_next.0.2) d o e
 
       receiver_leads : FramesLead code s.owners (x.go_on x.v) x.h.environments
       receiver_leads =
@@ -639,9 +628,6 @@ module _ (code : Code) (s : RegionState) (values : ValuesStay code s) where
           (ap (λ op. writes (erased_op op)) x.sends.is) (λ d o t e. absurd (no_object d o t e))
           (plain_home top_u.stands.fn top_u.f.names (s.owners ++ []) x.sends.to value.Nil tt))))
 
-      the_same : (x y : Holder) → Some x ≡ Some y → x ≡ y
-      the_same x y e = cc
-
       each : (j : ℕ) (y : Holder) → slice_get (slice_set (slice_set s.holders r
           (gone_on (receive_goes x.receives x.v) x.h)) u (record (gone_on (send_goes x.sends) x.k)
           { offer = taken_offer x.k.offer })) j ≡ Some y → FramesLead code s.owners
@@ -650,7 +636,7 @@ module _ (code : Code) (s : RegionState) (values : ValuesStay code s) where
           split (nat_eq u j)
           (λ w. subst (λ (z : Holder). FramesLead code s.owners
           (frames_in (slice_get (slice_set (slice_set s.plain.goroutines r (x.go_on x.v)) u x.next) j))
-          z.environments) (the_same k' y (sym (get_set_same (slice_set s.holders r h') u x.k k'
+          z.environments) (same_Some k' y (sym (get_set_same (slice_set s.holders r h') u x.k k'
           (get_set_other s.holders r u h' x.apart ∙ x.there_k))
           ∙ ap (slice_get (slice_set (slice_set s.holders r h') u k')) (eq_of u j w) ∙ q))
           (subst (λ i. FramesLead code s.owners (frames_in (slice_get
@@ -675,7 +661,7 @@ module _ (code : Code) (s : RegionState) (values : ValuesStay code s) where
               split (nat_eq r j)
               (λ w. subst (λ (z : Holder). FramesLead code s.owners
               (frames_in (slice_get (slice_set s.plain.goroutines r (x.go_on x.v)) j)) z.environments)
-              (the_same (gone_on (receive_goes x.receives x.v) x.h) y
+              (same_Some (gone_on (receive_goes x.receives x.v) x.h) y
               (sym (get_set_same s.holders r x.h (gone_on (receive_goes x.receives x.v) x.h) x.there_h)
               ∙ ap (slice_get (slice_set s.holders r (gone_on (receive_goes x.receives x.v) x.h))) (eq_of r j w)
               ∙ q))
@@ -756,13 +742,10 @@ typed_start code checked =
     first : FramesHaveKinds code [] (called (erased_fn start.main) start.number [] ∷ [])
     first = ((start.main, start.declared, zeros_kinds [] (erased_fn start.main).variables), tt, tt)
 
-    the_frames : (x y : List Frame) → Some x ≡ Some y → x ≡ y
-    the_frames x y e = cc
-
     frames : (g : ℕ) (frames : List Frame) → slice_get (main_frames (erased code).functions 0 ∷ []) g ≡ Some frames
         → FramesHaveKinds code [] frames
     frames zero fs e = subst (FramesHaveKinds code []) (sym start.begins
-        ∙ the_frames (main_frames (erased code).functions 0) fs e) first
+        ∙ same_Some (main_frames (erased code).functions 0) fs e) first
     frames (suc g) fs e = cc
 
 values_start : (code : Code) → IsChecked code → ValuesStay code (region_start code)
@@ -789,13 +772,10 @@ values_start code checked =
       tt,
     )
 
-    the_same : (x y : Holder) → Some x ≡ Some y → x ≡ y
-    the_same x y e = cc
-
     frames : (g : ℕ) (h : Holder) → slice_get (region_start code).holders g ≡ Some h
         → FramesLead code [] (frames_of (tac_start (erased code)) g) h.environments
     frames zero h e = subst (λ (k : Holder). FramesLead code [] (frames_of (tac_start (erased code)) 0) k.environments)
-        (the_same _ h e) (subst (λ f. FramesLead code [] f (main_holder code
+        (same_Some _ h e) (subst (λ f. FramesLead code [] f (main_holder code
         (frames_of (tac_start (erased code)) 0)).environments) (sym start.begins) first)
     frames (suc g) h e = cc
 
