@@ -129,14 +129,12 @@ set_same [] i x e = refl
 set_same (y ∷ ys) zero x e = ap (λ z. z ∷ ys) (same_Some x y (sym e))
 set_same (y ∷ ys) (suc i) x e = ap (λ zs. y ∷ zs) (set_same ys i x e)
 
-module _ (code : Tac) (s : TacState) (g : ℕ) where
-  no_end : (f : Frame) (fs : List Frame) → end_by g (f ∷ fs) None ≡ None
-  no_end f fs = go g
-    where
-      go : (g : ℕ) → end_by g (f ∷ fs) None ≡ None
-      go zero = refl
-      go (suc g) = refl
+-- a goroutine that has frames has not ended the run
+pub no_end : (g : ℕ) (f : Frame) (fs : List Frame) → end_by g (f ∷ fs) None ≡ None
+no_end zero f fs = refl
+no_end (suc g) f fs = refl
 
+module _ (code : Tac) (s : TacState) (g : ℕ) where
   returned_end : machine.end_of_return g ≡ end_by g [] None
   returned_end = go g
     where
@@ -154,7 +152,7 @@ module _ (code : Tac) (s : TacState) (g : ℕ) where
       memory = m;
       goroutines = p i;
       printed = q i;
-      ended = (running ∙ sym (no_end f fs)) i;
+      ended = (running ∙ sym (no_end g f fs)) i;
     }
 
     goes_on : (m : Memory) (f : Frame) (fs : List Frame)

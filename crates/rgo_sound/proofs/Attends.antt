@@ -1,6 +1,8 @@
 -- Each duty that a goroutine owes can be done in its turn, and keeps what holds of the state.
+use Rattle.rgo_sound.proofs.Tests.{or_there}
+use Rattle.rgo_sound.proofs.Tests.{split, eq_of}
+use Rattle.rgo_sound.proofs.Tests.{nat_eq_refl, nat_ne_sym}
 use Rattle.std.proofs.lemmas.Option.{same_Some}
-use Rattle.rgo_sound.proofs.Places.{nat_eq_refl, nat_ne_sym}
 use Rattle.std.proofs.Common.{◌≡◌, ◌≢◌, ℕ, zero, suc, ◌+◌, ◌-◌, ◌≤◌, ◌<◌, Bool, true, false, not, ◌||◌, List, [], ◌∷◌}
 use Rattle.std.proofs.Common.{◌++◌}
 use Rattle.std.proofs.Common.{map, length, Option, Some, None, refl, sym, ap, ◌∙◌, subst, nat_eq, nat_lt, if◌then◌else◌}
@@ -9,7 +11,7 @@ use Rattle.std.proofs.Common.{option_and_then}
 use Rattle.std.specs.List.{list_any}
 use Rattle.rgo_sound.proofs.Places.{get_below, get_set_other, get_set_same, get_snoc, get_some, length_set}
 use Rattle.rgo_sound.proofs.Static.{is_named}
-use Rattle.rgo_sound.proofs.CoreLemmas.{split, eq_of, core_kept, core_removed, core_created, core_protected}
+use Rattle.rgo_sound.proofs.CoreLemmas.{core_kept, core_removed, core_created, core_protected}
 use Rattle.rgo_sound.proofs.CoreLemmas.{core_unbased, in_without, not_in_without}
 use Rattle.rgo_code.specs.Code.{Code, CodeFn, CodeInstr}
 use Rattle.rgo_code.specs.Names.{IsOwn, is_name, result_class}
@@ -167,17 +169,13 @@ any_removed : (p : Region → Bool) (q : Region) (ss : List Region) → list_any
 any_removed p q [] e = e
 any_removed p q (s ∷ ss) e = go (same_region q s) e (any_removed p q ss)
   where
-    there : (b c : Bool) → c ≡ true → (b || c) ≡ true
-    there true c h = refl
-    there false c h = h
-
     deeper : (b c d : Bool) → (b || c) ≡ true → (c ≡ true → d ≡ true) → (b || d) ≡ true
     deeper true c d h n = refl
     deeper false c d h n = n h
 
     go : (b : Bool) → list_any p (if b then ss else s ∷ removed_once q ss) ≡ true
         → (list_any p (removed_once q ss) ≡ true → list_any p ss ≡ true) → (p s || list_any p ss) ≡ true
-    go true e next = there (p s) (list_any p ss) e
+    go true e next = or_there (p s) (list_any p ss) e
     go false e next = deeper (p s) (list_any p (removed_once q ss)) (list_any p ss) e next
 
 -- a goroutine's stake ends

@@ -1,5 +1,8 @@
 -- Regions are at most the names of a function, for each step and each goroutine: each instruction creates at most so
 -- many, and one that meets creates none.
+use Rattle.rgo_sound.proofs.Places.{get_contains}
+use Rattle.rgo_sound.proofs.Places.{contains_here, contains_there}
+use Rattle.rgo_sound.proofs.Tests.{eq_of}
 use Rattle.std.proofs.lemmas.Option.{same_Some}
 use Rattle.std.proofs.Common.{◌≡◌, ◌≢◌, ℕ, zero, suc, ◌+◌, ◌*◌, ◌≤◌, Bool, true, false, ◌||◌, ◌&&◌, List, [], ◌∷◌, ◌++◌}
 use Rattle.std.proofs.Common.{map, length}
@@ -59,8 +62,6 @@ use Rattle.rgo_region_machine.specs.declared.regions.Region.{Region}
 use Rattle.rgo_region_machine.specs.declared.regions.Region.TheVariants.{Global as GlobalRegion, Numbered}
 use Rattle.rgo_sound.proofs.Acting.{after, Acted, act, act_at, start}
 use Rattle.rgo_sound.proofs.Attends.{total_set, length_with_info}
-use Rattle.rgo_sound.proofs.CallRules.{get_contains}
-use Rattle.rgo_sound.proofs.CoreLemmas.{eq_of}
 use Rattle.rgo_sound.proofs.ErasureLemmas.{Yields, yields, yields_none, yields_if, yields_then, yields_at, yields_from}
 use Rattle.rgo_sound.proofs.Leads.{live_read}
 use Rattle.rgo_sound.proofs.Lists.{listed}
@@ -71,7 +72,6 @@ use Rattle.rgo_sound.proofs.Places.{AreDistinct, ascending_distinct, get_append_
 use Rattle.rgo_sound.proofs.Places.{get_set_same, length_set}
 use Rattle.rgo_sound.proofs.RunLemmas.{run_keeps}
 use Rattle.rgo_sound.proofs.Starts.{last_frames_snoc}
-use Rattle.rgo_sound.proofs.Static.{contains_here, contains_there}
 use Rattle.rgo_sound.proofs.TypedSteps.{here}
 use Rattle.rgo_sound.proofs.ValueSteps.{Top, top_of}
 use Rattle.rgo_sound.specs.Invariant.{Fine, GoodHolder, HasInstr}

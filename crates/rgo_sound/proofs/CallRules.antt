@@ -1,12 +1,14 @@
 -- What the rule on protections says of the lists of a call, by counts.
-use Rattle.std.proofs.lemmas.Option.{same_Some}
-use Rattle.rgo_sound.proofs.Places.{nat_eq_refl}
+use Rattle.rgo_sound.proofs.Tests.{or_there}
+use Rattle.rgo_sound.proofs.Places.{get_contains}
+use Rattle.rgo_sound.proofs.Places.{contains_cases, contains_nil}
+use Rattle.rgo_sound.proofs.Tests.{split}
+use Rattle.rgo_sound.proofs.Tests.{nat_eq_refl}
 use Rattle.std.proofs.Common.{◌≡◌, ◌≢◌, ℕ, zero, suc, ◌+◌, ◌≤◌, Bool, true, false, not, ◌||◌, List, [], ◌∷◌, Option}
-use Rattle.std.proofs.Common.{Some, refl, sym, ap, ◌∙◌, subst, nat_eq, arith, ◌⊎◌, inl, inr, true≢false, slice_get}
+use Rattle.std.proofs.Common.{Some, refl, sym, ap, ◌∙◌, nat_eq, arith, ◌⊎◌, inl, inr, true≢false, slice_get}
 use Rattle.std.proofs.Common.{Contains}
 use Rattle.std.specs.List.{list_any}
-use Rattle.rgo_sound.proofs.CoreLemmas.{split}
-use Rattle.rgo_sound.proofs.Static.{contains_here, contains_there, contains_cases, contains_nil, is_named}
+use Rattle.rgo_sound.proofs.Static.{is_named}
 use Rattle.rgo_sound.proofs.Calls.{times_named}
 use Rattle.rgo_code.specs.Code.{Call, CodeFn}
 use Rattle.rgo_code.specs.NameRules.{ProtectsUsed}
@@ -16,23 +18,14 @@ use Rattle.rgo_sound.specs.Stakes.{one_if}
 use Rattle.rgo_tac.specs.declared.regions.Class.{Class}
 use Rattle.rgo_tac.specs.declared.regions.Class.TheVariants.{Name}
 
-pub get_contains : {X : Type 0} (xs : List X) (p : ℕ) (x : X) → slice_get xs p ≡ Some x → Contains xs x
-get_contains [] p x e = cc
-get_contains (y ∷ ys) zero x e = subst (λ z. Contains (y ∷ ys) z) (same_Some y x e) (contains_here y ys)
-get_contains (y ∷ ys) (suc p) x e = contains_there y ys x (get_contains ys p x e)
-
 pub any_contains : (ks : List ℕ) (k : ℕ) → Contains ks k → list_any (nat_eq k) ks ≡ true
 any_contains [] k c = absurd (contains_nil k c)
 any_contains (j ∷ ks) k c = go (contains_cases j ks k c) (any_contains ks k)
   where
-    there : (a b : Bool) → b ≡ true → (a || b) ≡ true
-    there true b e = refl
-    there false b e = e
-
     go : (j ≡ k) ⊎ Contains ks k → (Contains ks k → list_any (nat_eq k) ks ≡ true)
         → (nat_eq k j || list_any (nat_eq k) ks) ≡ true
     go (inl e) next = ap (λ x. nat_eq k x || list_any (nat_eq k) ks) e ∙ ap (λ x. x || list_any (nat_eq k) ks) (nat_eq_refl k)
-    go (inr d) next = there (nat_eq k j) (list_any (nat_eq k) ks) (next d)
+    go (inr d) next = or_there (nat_eq k j) (list_any (nat_eq k) ks) (next d)
 
 -- a name that is passed has a position
 named_at : (k : ℕ) (cs : List Class) → 1 ≤ times_named k cs → (p : ℕ) × (slice_get cs p ≡ Some (Name k))

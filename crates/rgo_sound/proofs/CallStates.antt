@@ -1,4 +1,5 @@
 -- A call of checked code keeps what holds of the state.
+use Rattle.rgo_sound.proofs.Acting.{no_end}
 use Rattle.std.proofs.lemmas.Option.{same_Some}
 use Rattle.std.proofs.Common.{◌≡◌, ◌≢◌, ℕ, zero, suc, ◌≤◌, true, false, List, [], ◌∷◌, ◌++◌, map, length, Option, Some}
 use Rattle.std.proofs.Common.{None, is_some, refl, sym, ap, ◌∙◌, subst, nat_eq, arith, ◌↔◌, true≢false, slice_get}
@@ -31,7 +32,7 @@ use Rattle.rgo_region_machine.specs.Regions.{without_all}
 use Rattle.rgo_region_machine.specs.States.{Duty, Environment, Holder, RegionState, Remove, environment_of, frames_in}
 use Rattle.rgo_region_machine.specs.States.{frames_of, top_names, with_top}
 use Rattle.rgo_region_machine.specs.declared.regions.Region.{Region}
-use Rattle.rgo_sound.proofs.Acting.{after, Acted, act, act_at, alone, end_by}
+use Rattle.rgo_sound.proofs.Acting.{after, Acted, act, act_at, alone}
 use Rattle.rgo_sound.proofs.Acting as acting
 use Rattle.rgo_sound.specs.Core.{Core}
 use Rattle.rgo_sound.specs.Holding.{is_mine}
@@ -225,10 +226,6 @@ module _ (code : Code) (s : RegionState) (g : ℕ) (h : Holder) (frame : Frame) 
 
   abbrev next : CodeFn → TacState
   next callee = after s.plain g (has_called s.plain.memory frame callers n from callee)
-
-  no_end : (g : ℕ) (f : Frame) (fs : List Frame) → end_by g (f ∷ fs) None ≡ None
-  no_end zero f fs = refl
-  no_end (suc g) f fs = refl
 
   goroutines : (callee : CodeFn) (frames : List Frame) → slice_get s.plain.goroutines g ≡ Some frames
       → frames_of (next callee) g ≡ entered callee ∷ frame ∷ callers

@@ -1,12 +1,15 @@
 -- A call passes its regions on: what the callee is given, and what is left to the caller.
-use Rattle.rgo_sound.proofs.Places.{nat_eq_refl, nat_ne_sym}
+use Rattle.rgo_sound.proofs.Tests.{none_if}
+use Rattle.rgo_sound.proofs.Tests.{ne_of}
+use Rattle.rgo_sound.proofs.Tests.{split, eq_of, or_right}
+use Rattle.rgo_sound.proofs.Tests.{nat_eq_refl, nat_ne_sym}
 use Rattle.std.proofs.Common.{◌≡◌, ◌≢◌, ℕ, zero, suc, ◌+◌, ◌≤◌, Bool, true, false, not, ◌&&◌, ◌||◌, List, [], ◌∷◌}
 use Rattle.std.proofs.Common.{Option, Some, None, refl, sym, ap, ◌∙◌, subst, nat_eq, if◌then◌else◌, arith, ◌⊎◌, inl}
 use Rattle.std.proofs.Common.{inr, true≢false}
 use Rattle.std.specs.List.{list_any}
-use Rattle.rgo_sound.proofs.CoreLemmas.{core_called, unbind_none, split, eq_of, bound_unbind, bound_unbind_other}
-use Rattle.rgo_sound.proofs.CoreLemmas.{unique_unbind, held_unbind, bound_held, or_left, or_right}
-use Rattle.rgo_sound.proofs.Static.{is_named, ne_of}
+use Rattle.rgo_sound.proofs.CoreLemmas.{core_called, unbind_none, bound_unbind, bound_unbind_other}
+use Rattle.rgo_sound.proofs.CoreLemmas.{unique_unbind, held_unbind, bound_held, or_left}
+use Rattle.rgo_sound.proofs.Static.{is_named}
 use Rattle.rgo_sound.proofs.Moves.{same_regions}
 use Rattle.rgo_code.specs.Names.{is_name}
 use Rattle.rgo_region_machine.specs.Duties.{guards}
@@ -122,10 +125,6 @@ module _ (names : Bindings) (lent : Class) (protects : List ℕ) where
   passed_unique (NoClass ∷ formals) regions f = absurd f
 
   -- ---- what is given is as much as is received
-
-  none_if : (b : Bool) → one_if (b && false) ≡ 0
-  none_if true = refl
-  none_if false = refl
 
   -- the callee's own names for an unprotected region are as many as the names for it that are given
   pub received : (r : ℕ) (formals regions : List Class) → AreFormals formals → ArePassable names regions

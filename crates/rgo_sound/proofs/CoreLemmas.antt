@@ -1,6 +1,8 @@
 -- How the count of holding names changes with each step of a goroutine, and why each of its regions keeps its one
 -- holding name.
-use Rattle.rgo_sound.proofs.Places.{nat_eq_refl, nat_ne_sym}
+use Rattle.rgo_sound.proofs.Tests.{none_if}
+use Rattle.rgo_sound.proofs.Tests.{eq_of, split, or_right, or_there}
+use Rattle.rgo_sound.proofs.Tests.{nat_eq_refl, nat_ne_sym}
 use Rattle.std.proofs.Common.{◌≡◌, ℕ, ◌+◌, ◌≤◌, Bool, true, false, not, ◌&&◌, ◌||◌, List, [], ◌∷◌, Some, None, refl}
 use Rattle.std.proofs.Common.{sym, ap, ◌∙◌, subst, nat_eq, if◌then◌else◌, arith, ◌⊎◌, inl, inr, true≢false}
 use Rattle.std.specs.List.{list_any}
@@ -15,16 +17,6 @@ use Rattle.rgo_sound.specs.Holding.{held, held_in, is_mine}
 use Rattle.rgo_sound.specs.Stakes.{is_in, one_if}
 use Rattle.rgo_tac.specs.declared.regions.Class.{Class}
 use Rattle.rgo_tac.specs.declared.regions.Class.TheVariants.{Global, Name, NoClass}
-
--- ---- numbers and tests
-
-pub eq_of : (a b : ℕ) → nat_eq a b ≡ true → a ≡ b
-eq_of a b e = grind arith
-
--- by cases on a test, with what it says
-pub split : {A : Type 0} (b : Bool) → (b ≡ true → A) → (b ≡ false → A) → A
-split true f g = f refl
-split false f g = g refl
 
 -- ---- names
 
@@ -173,14 +165,6 @@ pub or_left : (a b : Bool) → (a || b) ≡ false → a ≡ false
 or_left true b e = e
 or_left false b e = refl
 
-pub or_right : (a b : Bool) → (a || b) ≡ false → b ≡ false
-or_right true b e = cc
-or_right false b e = e
-
-or_there : (a b : Bool) → b ≡ true → (a || b) ≡ true
-or_there true b e = refl
-or_there false b e = e
-
 -- what is in the base is guarded at every frame
 base_guards : (base : List Region) (fs : List Environment) (r : Region) → list_any (same_region r) base ≡ true
     → guards base fs r ≡ true
@@ -256,17 +240,13 @@ core_kept stakes base f fs k q e g c = core_unbound stakes base f fs k
     is_same r GlobalRegion e = cc
     is_same r (Numbered p) e = ap Numbered (sym (eq_of r p e))
 
-    none : (m : Bool) → one_if (m && false) ≡ 0
-    none true = refl
-    none false = refl
-
     keeps : (r : ℕ) → guards base fs (Numbered r) ≡ false → (b : Bool) → same_region (Numbered r) q ≡ b
         → held_in f.lent r (unbind f.names k) ≡ held_in f.lent r f.names
     keeps r u true s = absurd (true≢false (sym (g r (is_same r q s)) ∙ u))
     keeps r u false s =
         let h = held_unbind f.lent r f.names k q c.unique.0 e in
         let z : one_if (is_mine f.lent k && same_region (Numbered r) q) ≡ 0 =
-        ap (λ x. one_if (is_mine f.lent k && x)) s ∙ none (is_mine f.lent k) in
+        ap (λ x. one_if (is_mine f.lent k && x)) s ∙ none_if (is_mine f.lent k) in
         omega (arith, h, z)
 
 -- the last removal: the goroutine's stake ends with its only holding name
@@ -358,15 +338,11 @@ core_removed stakes base f fs k r e m g c =
             let o = c.once q (sym (in_without r q stakes n) ∙ e') in
             ((λ u. ap (λ x. x + held q fs) (keeps n) ∙ o.0 u), o.1)
           where
-            none : (x : Bool) → one_if (x && false) ≡ 0
-            none true = refl
-            none false = refl
-
             keeps : nat_eq r q ≡ false → held_in f.lent q (unbind f.names k) ≡ held_in f.lent q f.names
             keeps n =
                 let h = held_unbind f.lent q f.names k (Numbered r) c.unique.0 e in
                 let z : one_if (is_mine f.lent k && same_region (Numbered q) (Numbered r)) ≡ 0 =
-                ap (λ x. one_if (is_mine f.lent k && x)) (nat_ne_sym r q n) ∙ none (is_mine f.lent k) in
+                ap (λ x. one_if (is_mine f.lent k && x)) (nat_ne_sym r q n) ∙ none_if (is_mine f.lent k) in
                 omega (arith, h, z)
 
 -- protections of the top frame begin and end
@@ -509,15 +485,11 @@ core_created stakes base f fs k r e m fresh c =
             let o = c.once q e'' in
             ((λ u. other (o.0 u)), o.1)
           where
-            off : (x : Bool) → one_if (x && false) ≡ 0
-            off true = refl
-            off false = refl
-
             other : held q (f ∷ fs) ≡ 1 → held q (record f { names = (k, Numbered r) ∷ unbind f.names k } ∷ fs) ≡ 1
             other h =
                 let a = counts q in
                 let b : one_if (is_mine f.lent k && nat_eq q r) ≡ 0 =
-                ap (λ x. one_if (is_mine f.lent k && x)) n ∙ off (is_mine f.lent k) in
+                ap (λ x. one_if (is_mine f.lent k && x)) n ∙ none_if (is_mine f.lent k) in
                 omega (arith, a, b, h)
 
     lent : IsLentBelow base (record f { names = (k, Numbered r) ∷ unbind f.names k }) fs

@@ -1,10 +1,11 @@
 -- What a run has made: a region that was removed stays as it was; and pages are taken for objects.
-use Rattle.std.proofs.Common.{◌≡◌, ℕ, Bool, true, false, ◌&&◌, List, [], ◌∷◌, Some, refl, sym, ap, ◌∙◌, nat_eq, nat_lt}
+use Rattle.rgo_sound.proofs.Tests.{and_third}
+use Rattle.rgo_sound.proofs.Tests.{split, eq_of}
+use Rattle.std.proofs.Common.{◌≡◌, ℕ, true, false, ◌&&◌, List, [], ◌∷◌, Some, sym, ap, ◌∙◌, nat_eq, nat_lt}
 use Rattle.std.proofs.Common.{true≢false, slice_get}
 use Rattle.rgo_sound.proofs.Places.{get_append_left, get_below}
 use Rattle.rgo_sound.proofs.ErasureLemmas.{Yields, yields, yields_none, yields_if, yields_then, yields_is, yields_from}
 use Rattle.rgo_sound.proofs.ErasureLemmas.{yields_where}
-use Rattle.rgo_sound.proofs.CoreLemmas.{split, eq_of}
 use Rattle.rgo_sound.proofs.Attends.{with_info_other}
 use Rattle.rgo_sound.proofs.OneStep.{one_done, meet_done}
 use Rattle.rgo_code.specs.Code.{Code}
@@ -72,17 +73,11 @@ module _ (s : RegionState) (r : ℕ) (info : RegionInfo) (e : slice_get s.region
     still_take code page_words g h (frame ∷ callers) = yields_then (page_for code page_words s g h frame) _
         (λ i. yields_then (takes_page code page_words s g h) _ taken)
       where
-        live : (a b c d : Bool) → (a && b && c && d) ≡ true → c ≡ true
-        live true true true d q = refl
-        live true true false d q = q
-        live true false c d q = absurd (true≢false (sym q))
-        live false b c d q = absurd (true≢false (sym q))
-
         taken : (q : Region) → Yields Still (takes_page code page_words s g h q)
         taken GlobalRegion = yields_if _ _ _ (yields _ e) yields_none
         taken (Numbered q) = yields_where (has_none h.duties && may_go h.offer && is_live s.regions (Numbered q) &&
             wants_page page_words (fill_of h.fills (Numbered q)) (next_object code s g)) _
-            (λ l. yields _ (changes q one_page_more (live (has_none h.duties) (may_go h.offer)
+            (λ l. yields _ (changes q one_page_more (and_third (has_none h.duties) (may_go h.offer)
             (is_live s.regions (Numbered q)) _ l)))
 
     still_make : (code : Code) (g : ℕ) (h : Holder) (frames : List Frame) → Yields Still (make_offer code s g h frames)

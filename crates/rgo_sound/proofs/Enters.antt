@@ -1,12 +1,13 @@
 -- A call: the callee's entry, and the caller that waits.
+use Rattle.rgo_sound.proofs.Tests.{nat_ne_sym}
+use Rattle.rgo_sound.proofs.Places.{stands_or_not, contains_here, contains_there}
+use Rattle.rgo_sound.proofs.Tests.{split}
 use Rattle.std.proofs.Common.{◌≡◌, ◌≢◌, ℕ, zero, suc, ◌≤◌, ◌<◌, Bool, true, false, ◌||◌, List, [], ◌∷◌, ◌++◌, map}
 use Rattle.std.proofs.Common.{length, Option, Some, None, refl, sym, ap, ◌∙◌, subst, nat_eq, if◌then◌else◌, arith, ◌⊎◌}
 use Rattle.std.proofs.Common.{inl, inr, true≢false, Contains, ◌↔◌}
 use Rattle.std.specs.List.{list_any}
-use Rattle.rgo_sound.proofs.CoreLemmas.{split}
 use Rattle.rgo_sound.proofs.Places.{AreDistinct, ascending_distinct}
-use Rattle.rgo_sound.proofs.Static.{Kept, ready_removes, ready_creates, ready_ops, stands_or_not, named_bound}
-use Rattle.rgo_sound.proofs.Static.{contains_here, contains_there}
+use Rattle.rgo_sound.proofs.Static.{Kept, ready_removes, ready_creates, ready_ops, named_bound}
 use Rattle.rgo_sound.proofs.Calls.{AreFormals, ArePassable, CallFits, called_core, not_passed, given_times, given_free}
 use Rattle.rgo_sound.proofs.Calls.{left_other, left_given, left_gone}
 use Rattle.rgo_sound.proofs.Attends.{lent_names}
@@ -103,9 +104,6 @@ passed_bound names (Name i ∷ formals) (c ∷ regions) k f p l e =
     flip : (x y : ℕ) → nat_eq x y ≡ true → nat_eq y x ≡ true
     flip x y h = grind arith
 
-    flip' : (x y : ℕ) → nat_eq x y ≡ false → nat_eq y x ≡ false
-    flip' x y h = grind arith
-
     passable : (c : Class) → ArePassable names (c ∷ regions) → ArePassable names regions
     passable NoClass p = absurd p
     passable Global p = p
@@ -125,7 +123,7 @@ passed_bound names (Name i ∷ formals) (c ∷ regions) k f p l e =
     pick r true t e next z = let a : Some r ≡ None = ap (λ x.
         if x then Some r else bound (passed formals (passed_regions names regions)) k) (sym (flip k i t)) ∙ z in cc
     pick r false n e next z = next e (ap (λ x. if x then Some r else bound
-        (passed formals (passed_regions names regions)) k) (sym (flip' k i n)) ∙ z)
+        (passed formals (passed_regions names regions)) k) (sym (nat_ne_sym k i n)) ∙ z)
 
     go : (c : Class) (o : Option Region) → class_region names c ≡ o → ArePassable names (c ∷ regions)
         → (nat_eq k i || list_any (is_name k) formals) ≡ true

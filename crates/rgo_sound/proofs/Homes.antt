@@ -1,5 +1,7 @@
 -- What each action does keeps pointers in their regions, and gives a value that leads into the region of its variable's
 -- class.
+use Rattle.rgo_sound.proofs.Places.{contains_here, contains_there}
+use Rattle.rgo_sound.proofs.Tests.{split, eq_of}
 use Rattle.std.proofs.lemmas.Option.{same_Some}
 use Rattle.std.proofs.Common.{◌≡◌, ◌≢◌, ℕ, zero, suc, ◌+◌, ◌<◌, Bool, true, false, List, [], ◌∷◌, ◌++◌, map, length}
 use Rattle.std.proofs.Common.{Option, Some, None, refl, sym, ap, ◌∙◌, subst, nat_eq, nat_lt, if◌then◌else◌, arith, ◌⊎◌}
@@ -13,8 +15,6 @@ use Rattle.rgo_sound.proofs.Places.{each_get, each_more, each_replicate, each_se
 use Rattle.rgo_sound.proofs.Places.{get_append_left, get_below, get_beyond, get_set_other, get_set_same, get_snoc}
 use Rattle.rgo_sound.proofs.Places.{length_set}
 use Rattle.rgo_sound.proofs.OneStep.{Allots}
-use Rattle.rgo_sound.proofs.CoreLemmas.{split, eq_of}
-use Rattle.rgo_sound.proofs.Static.{contains_here, contains_there}
 use Rattle.rgo_ast.specs.declared.ops.BinaryOp.{BinaryOp}
 use Rattle.rgo_ast.specs.declared.ops.BinaryOp.TheVariants.{Mul, Div, Rem, Add, Sub, Eq, Ne, Lt, Le, Gt, Ge, And, Or}
 use Rattle.rgo_code.specs.Code.{CodeFn}

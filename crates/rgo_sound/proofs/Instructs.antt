@@ -1,11 +1,13 @@
 -- An instruction of one goroutine that is no call, no `go` and no return keeps what holds of the state.
+use Rattle.rgo_sound.proofs.Acting.{no_end}
+use Rattle.rgo_sound.proofs.Places.{contains_here, contains_there}
+use Rattle.rgo_sound.proofs.Tests.{split, eq_of}
 use Rattle.std.proofs.lemmas.Option.{same_Some}
-use Rattle.std.proofs.Common.{◌≡◌, ℕ, zero, suc, ◌+◌, ◌<◌, Bool, true, false, List, [], ◌∷◌, ◌++◌, map, length, Option}
+use Rattle.std.proofs.Common.{◌≡◌, ℕ, ◌+◌, ◌<◌, Bool, true, false, List, [], ◌∷◌, ◌++◌, map, length, Option}
 use Rattle.std.proofs.Common.{Some, None, refl, sym, ap, ◌∙◌, subst, nat_eq, arith, if◌then◌else◌, ◌⊎◌, inl, inr}
 use Rattle.std.proofs.Common.{slice_get, slice_set, option_map, Contains, append-nil}
 use Rattle.rgo_sound.proofs.Places.{get_set_other, get_set_same, length_set}
-use Rattle.rgo_sound.proofs.CoreLemmas.{split, eq_of}
-use Rattle.rgo_sound.proofs.Static.{Kept, contains_here, contains_there}
+use Rattle.rgo_sound.proofs.Static.{Kept}
 use Rattle.rgo_sound.proofs.Attends.{total_set}
 use Rattle.rgo_sound.proofs.OneStep.{SameHolder, none_owed, after_simple, OneDone, current_erased}
 use Rattle.rgo_sound.proofs.Moves.{moves_on, settled_pending}
@@ -280,10 +282,6 @@ module _ (code : Code) (page_words : ℕ) (s : RegionState) (g : ℕ) (h : Holde
     as_long a st = ap (λ x. length (slice_set s.plain.goroutines g a.frames ++ x)) st
         ∙ ap length (append-nil (slice_set s.plain.goroutines g a.frames)) ∙ length_set s.plain.goroutines g a.frames
 
-    ends_none : (n : ℕ) (f : Frame) (fs : List Frame) → end_by n (f ∷ fs) None ≡ None
-    ends_none zero f fs = refl
-    ends_none (suc n) f fs = refl
-
     behind : (a : Acted) (frames : List Frame) (given : Holder × List Region) → slice_get s.plain.goroutines g
         ≡ Some frames → has_none h.duties ≡ true → SameHolder h given.0 → Goes frame callers instr.op a
         ⊎ Stays frame callers a → Fine code (instructed_with code s g frame callers instr (after s.plain g a) given)
@@ -310,7 +308,7 @@ module _ (code : Code) (page_words : ℕ) (s : RegionState) (g : ℕ) (h : Holde
 
         ended : (after s.plain g a).ended ≡ None
         ended = ap (λ x. end_by g x a.trap) go.frames ∙ ap (end_by g (go.frame' ∷ callers)) go.trap
-            ∙ ends_none g go.frame' callers
+            ∙ no_end g go.frame' callers
 
         hs : (instructed_with code s g frame callers instr (after s.plain g a) given).holders
             ≡ slice_set s.holders g (record h {

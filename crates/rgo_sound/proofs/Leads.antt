@@ -1,6 +1,10 @@
 -- Where the variables of frames lead, behind each instruction.
+use Rattle.rgo_sound.proofs.Places.{get_contains}
+use Rattle.rgo_sound.proofs.Places.{contains_here, contains_there}
+use Rattle.rgo_sound.proofs.Tests.{ne_of}
+use Rattle.rgo_sound.proofs.Tests.{split, eq_of}
+use Rattle.rgo_sound.proofs.Tests.{nat_eq_refl}
 use Rattle.std.proofs.lemmas.Option.{same_Some}
-use Rattle.rgo_sound.proofs.Places.{nat_eq_refl}
 use Rattle.std.proofs.Common.{◌≡◌, ◌≢◌, ℕ, zero, suc, ◌+◌, ◌<◌, Bool, true, false, ◌&&◌, ◌||◌, List, [], ◌∷◌, ◌++◌, map}
 use Rattle.std.proofs.Common.{length, drop, get_or, Option, Some, None, refl, sym, ap, ◌∙◌, subst, nat_eq}
 use Rattle.std.proofs.Common.{if◌then◌else◌, arith, ◌⊎◌, inl, inr, true≢false, slice_get, slice_set, option_map}
@@ -12,10 +16,8 @@ use Rattle.rgo_sound.proofs.Acting.{performed}
 use Rattle.rgo_sound.proofs.Places.{each_get, get_append_cases, get_below, get_set_other}
 use Rattle.rgo_sound.proofs.OneStep.{Allots, current_erased}
 use Rattle.rgo_sound.proofs.ErasureLemmas.{Always}
-use Rattle.rgo_sound.proofs.CoreLemmas.{split, eq_of}
-use Rattle.rgo_sound.proofs.Static.{contains_here, contains_there, live_back, ne_of}
+use Rattle.rgo_sound.proofs.Static.{live_back}
 use Rattle.rgo_sound.proofs.Calls.{AreFormals, left_other, not_passed}
-use Rattle.rgo_sound.proofs.CallRules.{get_contains}
 use Rattle.rgo_sound.proofs.Lists.{formals_once, formals_are, gives_are, any_at}
 use Rattle.rgo_sound.proofs.Types.{get_kinds}
 use Rattle.rgo_sound.proofs.TypedSteps.{ActedFits, here}

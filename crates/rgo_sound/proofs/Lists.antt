@@ -1,4 +1,9 @@
 -- The lists of a call, from the rules.
+use Rattle.rgo_sound.proofs.Tests.{or_there}
+use Rattle.rgo_sound.proofs.Places.{contains_get}
+use Rattle.rgo_sound.proofs.Places.{get_contains}
+use Rattle.rgo_sound.proofs.Places.{contains_here, contains_there, contains_cases, contains_nil, contains_one}
+use Rattle.rgo_sound.proofs.Tests.{split, eq_of, or_right}
 use Rattle.std.proofs.lemmas.Option.{same_Some}
 use Rattle.std.proofs.Common.{◌≡◌, ◌≢◌, ℕ, zero, suc, ◌+◌, ◌≤◌, Bool, true, false, ◌||◌, List, [], ◌∷◌, ◌++◌, length}
 use Rattle.std.proofs.Common.{Option, Some, refl, sym, ap, ◌∙◌, subst, nat_eq, if◌then◌else◌, arith, ◌⊎◌, inl, inr, ◌↔◌}
@@ -6,12 +11,11 @@ use Rattle.std.proofs.Common.{true≢false, slice_get, Contains}
 use Rattle.std.proofs.lemmas.List.Elements.{Contains-append_left, Contains-append_right, Contains-append_cases}
 use Rattle.std.specs.List.{list_any}
 use Rattle.rgo_sound.proofs.Places.{get_below, get_some}
-use Rattle.rgo_sound.proofs.CoreLemmas.{split, eq_of, or_right}
-use Rattle.rgo_sound.proofs.Static.{contains_here, contains_there, contains_cases, contains_nil, contains_one, is_named}
-use Rattle.rgo_sound.proofs.CallRules.{get_contains, any_contains}
+use Rattle.rgo_sound.proofs.Static.{is_named}
+use Rattle.rgo_sound.proofs.CallRules.{any_contains}
 use Rattle.rgo_sound.proofs.Calls.{AreFormals, given_free}
 use Rattle.rgo_sound.proofs.Enters.{IsParameter}
-use Rattle.rgo_sound.proofs.Ruled.{distinct_member, parameter_member, parameter_listed, contains_get}
+use Rattle.rgo_sound.proofs.Ruled.{distinct_member, parameter_member, parameter_listed}
 use Rattle.rgo_code.specs.Code.{Call, Code, CodeFn}
 use Rattle.rgo_code.specs.NameRules.{ProtectsUsed}
 use Rattle.rgo_code.specs.Names.{Gives, IsPassedForResult, callee_regions, callee_result, distinct_names, is_name}
@@ -34,12 +38,8 @@ not_again seen [] k e = refl
 not_again seen (NoClass ∷ cs) k e = not_again seen cs k e
 not_again seen (Global ∷ cs) k e = not_again seen cs k e
 not_again seen (Name j ∷ cs) k e = go (list_any (is_name j) seen) refl (not_again seen cs k e)
-    (not_again (Name j ∷ seen) cs k (there (nat_eq k j) (list_any (is_name k) seen) e))
+    (not_again (Name j ∷ seen) cs k (or_there (nat_eq k j) (list_any (is_name k) seen) e))
   where
-    there : (a b : Bool) → b ≡ true → (a || b) ≡ true
-    there true b e = refl
-    there false b e = e
-
     go : (b : Bool) → list_any (is_name j) seen ≡ b → list_any (is_name k) (distinct_names seen cs) ≡ false
         → list_any (is_name k) (distinct_names (Name j ∷ seen) cs) ≡ false
         → list_any (is_name k) (if b then distinct_names seen cs else Name j ∷ distinct_names (Name j ∷ seen) cs)
@@ -94,11 +94,7 @@ listed seen (Name j ∷ cs) k c n = go (list_any (is_name j) seen) refl (contain
         (number e) ∙ ap (λ x. x || list_any (is_name k) (distinct_names (Name j ∷ seen) cs)) (self_named k)
     go false q (inr d) one two = split (nat_eq k j) (λ t.
         ap (λ x. x || list_any (is_name k) (distinct_names (Name j ∷ seen) cs)) t)
-        (λ m. there (nat_eq k j) _ (two d (ap (λ x. x || list_any (is_name k) seen) m ∙ n)))
-      where
-        there : (a b : Bool) → b ≡ true → (a || b) ≡ true
-        there true b e = refl
-        there false b e = e
+        (λ m. or_there (nat_eq k j) _ (two d (ap (λ x. x || list_any (is_name k) seen) m ∙ n)))
 
 -- a name in a list has a position
 pub any_at : (k : ℕ) (cs : List Class) → list_any (is_name k) cs ≡ true → (p : ℕ) × (slice_get cs p ≡ Some (Name k))

@@ -1,5 +1,7 @@
 -- Offers: a standing one is that of the send at which its goroutine stands, and one that was taken is on a live
 -- channel.
+use Rattle.rgo_sound.proofs.Places.{contains_here}
+use Rattle.rgo_sound.proofs.Tests.{split, eq_of}
 use Rattle.std.proofs.lemmas.Option.{same_Some}
 use Rattle.std.proofs.Common.{◌≡◌, ℕ, zero, suc, ◌+◌, ◌==◌, Bool, true, false, List, [], ◌∷◌, ◌++◌, map, length, Option}
 use Rattle.std.proofs.Common.{Some, None, refl, sym, ap, ◌∙◌, subst, nat_eq, nat_lt, if◌then◌else◌, arith, true≢false}
@@ -10,8 +12,6 @@ use Rattle.rgo_sound.proofs.Places.{length_set}
 use Rattle.rgo_sound.proofs.Bullets.{name_staked, duty_staked, has_stake}
 use Rattle.rgo_sound.proofs.ErasureLemmas.{Always, Yields, yields, yields_none, yields_if, yields_then, yields_is}
 use Rattle.rgo_sound.proofs.ErasureLemmas.{yields_at, yields_from, yields_where}
-use Rattle.rgo_sound.proofs.CoreLemmas.{split, eq_of}
-use Rattle.rgo_sound.proofs.Static.{contains_here}
 use Rattle.rgo_sound.proofs.Leads.{reads_home}
 use Rattle.rgo_sound.proofs.OneStep.{Ready, ready_is, OneDone, one_done, MeetDone, meet_done, current_erased, gone_on}
 use Rattle.rgo_sound.proofs.OneStep.{receive_goes, send_goes}

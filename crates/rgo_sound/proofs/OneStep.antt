@@ -1,12 +1,13 @@
 -- What the steps of instructions are, unfolded once: of one goroutine, and of two that meet.
-use Rattle.rgo_sound.proofs.Places.{nat_ne_sym}
+use Rattle.rgo_sound.proofs.Places.{contains_here}
+use Rattle.rgo_sound.proofs.Tests.{and_split}
+use Rattle.rgo_sound.proofs.Tests.{nat_ne_sym}
 use Rattle.std.proofs.Common.{◌≡◌, ℕ, ◌+◌, Bool, true, false, ◌&&◌, List, [], ◌∷◌, ◌++◌, map, Option, Some, None, refl}
 use Rattle.std.proofs.Common.{sym, ap, ◌∙◌, subst, nat_eq, if◌then◌else◌, true≢false, slice_get, slice_set}
 use Rattle.std.proofs.Common.{option_map, option_and_then, Contains}
 use Rattle.std.proofs.lemmas.Option.{slice_get-map}
 use Rattle.rgo_sound.proofs.Places.{get_set_other, get_set_same}
 use Rattle.rgo_sound.proofs.ErasureLemmas.{Yields, yields_none, yields_with, yields_where}
-use Rattle.rgo_sound.proofs.Static.{contains_here}
 use Rattle.rgo_code.specs.Code.{Branch, Call, Code, CodeFn, CodeInstr, CodeOp, Do, Go, Jump, Print, Return}
 use Rattle.rgo_code.specs.Erasure.{erased, erased_fn, erased_instr, erased_op}
 use Rattle.rgo_code.specs.Names.{edges}
@@ -442,10 +443,6 @@ pub record MeetDone (code : Code) (s : RegionState) (r u : ℕ) (t : RegionState
   pub steps : t.steps ≡ s.steps + 1
   pub holders : t.holders ≡ slice_set (slice_set s.holders r (gone_on (receive_goes receives v) h)) u
       (record (gone_on (send_goes sends) k) { offer = taken_offer k.offer })
-
-and_split : (a b : Bool) → (a && b) ≡ true → (a ≡ true) × (b ≡ true)
-and_split true b e = (refl, e)
-and_split false b e = absurd (true≢false (sym e))
 
 pub meet_done : (code : Code) (page_words : ℕ) (s : RegionState) (r u : ℕ)
     → Yields (MeetDone code s r u) (region_step code page_words s (Instruct (Meet r u)))

@@ -1,4 +1,6 @@
 -- Pages, offers, acknowledgements, ends and the start; and all runs.
+use Rattle.rgo_sound.proofs.Places.{contains_here, contains_nil}
+use Rattle.rgo_sound.proofs.Tests.{split, eq_of}
 use Rattle.std.proofs.lemmas.Option.{same_Some}
 use Rattle.std.proofs.Common.{◌≡◌, ℕ, zero, suc, ◌+◌, ◌<◌, Bool, true, false, List, [], ◌∷◌, ◌++◌, map, length, Option}
 use Rattle.std.proofs.Common.{Some, None, refl, sym, ap, ◌∙◌, subst, nat_eq, if◌then◌else◌, arith, true≢false}
@@ -8,8 +10,6 @@ use Rattle.std.proofs.lemmas.Option.{slice_get-map}
 use Rattle.std.proofs.lemmas.Slice.Eq.{bytes_eq-Decides}
 use Rattle.rgo_sound.proofs.Places.{ascending_distinct, get_below, get_some}
 use Rattle.rgo_sound.proofs.ErasureLemmas.{Yields, yields, yields_none, yields_if, yields_then, yields_at, yields_from}
-use Rattle.rgo_sound.proofs.CoreLemmas.{split, eq_of}
-use Rattle.rgo_sound.proofs.Static.{contains_here, contains_nil}
 use Rattle.rgo_sound.proofs.Attends.{fine_with, total_set, with_info_same, with_info_other, length_with_info, duties_go}
 use Rattle.rgo_sound.proofs.Shares.{shares_next}
 use Rattle.rgo_sound.proofs.Enters.{IsParameter, enters}

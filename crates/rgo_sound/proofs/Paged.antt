@@ -1,6 +1,8 @@
 -- Pages are taken for objects: a goroutine that took a page makes an object there before it takes another.
+use Rattle.rgo_sound.proofs.Tests.{and_split}
+use Rattle.rgo_sound.proofs.Tests.{split, eq_of}
+use Rattle.rgo_sound.proofs.Tests.{nat_eq_refl, nat_ne_sym}
 use Rattle.std.proofs.lemmas.Option.{same_Some}
-use Rattle.rgo_sound.proofs.Places.{nat_eq_refl, nat_ne_sym}
 use Rattle.std.proofs.Common.{◌≡◌, ℕ, zero, suc, ◌+◌, ◌≤◌, ◌<◌, Bool, true, false, not, ◌&&◌, List, [], ◌∷◌, ◌++◌, map}
 use Rattle.std.proofs.Common.{length}
 use Rattle.std.proofs.Common.{Option, Some, None, refl, sym, ap, ◌∙◌, subst, nat_eq, nat_lt, nat_le, if◌then◌else◌}
@@ -53,7 +55,6 @@ use Rattle.rgo_region_machine.specs.declared.limits.Limit.{Limit}
 use Rattle.rgo_region_machine.specs.declared.regions.Region.{Region}
 use Rattle.rgo_region_machine.specs.declared.regions.Region.TheVariants.{Global as GlobalRegion, Numbered}
 use Rattle.rgo_sound.proofs.Acting.{after, Acted, act, act_at, alone, alone_is, effected, performed, trap_place}
-use Rattle.rgo_sound.proofs.CoreLemmas.{split, eq_of}
 use Rattle.rgo_sound.proofs.ErasureLemmas.{Always, Yields, yields, yields_none, yields_if, yields_then, yields_at}
 use Rattle.rgo_sound.proofs.ErasureLemmas.{yields_from, yields_where}
 use Rattle.rgo_sound.proofs.Offers.{alone_steady, SteadyActed, makes_at}
@@ -550,10 +551,6 @@ module _ (code : Code) (page_words : ℕ) (s : RegionState) (paged : Paged code 
       → Paged code page_words (page_taken s g h r)
   paged_take g h there frame callers at instr cur r making none wants = object (next_object code s g) refl wants
     where
-      two : (a b : Bool) → (a && b) ≡ true → (a ≡ true) × (b ≡ true)
-      two true b e = (refl, e)
-      two false b e = absurd (true≢false (sym e))
-
       no_true : (b : Bool) → not b ≡ true → b ≡ false
       no_true true e = absurd (true≢false (sym e))
       no_true false e = refl
@@ -593,7 +590,7 @@ module _ (code : Code) (page_words : ℕ) (s : RegionState) (paged : Paged code 
       object (Some x) q w = by r refl
         where
           small : (nat_le (words x) page_words ≡ true) × (not (fits page_words (fill_of h.fills r) (words x)) ≡ true)
-          small = two (nat_le (words x) page_words) (not (fits page_words (fill_of h.fills r) (words x))) w
+          small = and_split (nat_le (words x) page_words) (not (fits page_words (fill_of h.fills r) (words x))) w
 
           act' : (a : Acted) × (alone (erased code) s.plain.memory (frame ∷ callers) ≡ Some a)
               × (slice_get a.memory.heap (length s.plain.memory.heap) ≡ Some x)

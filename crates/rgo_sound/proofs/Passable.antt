@@ -1,4 +1,6 @@
 -- What a call passes has a region.
+use Rattle.rgo_sound.proofs.Places.{get_contains}
+use Rattle.rgo_sound.proofs.Places.{contains_one}
 use Rattle.std.proofs.lemmas.Option.{same_Some}
 use Rattle.std.proofs.Common.{◌≡◌, ◌≢◌, ℕ, zero, suc, ◌<◌, List, [], ◌∷◌, ◌++◌, length, Option, Some, None, is_some}
 use Rattle.std.proofs.Common.{refl, sym, ap, ◌∙◌, subst, arith, ◌⊎◌, inl, inr, true≢false, slice_get, Contains}
@@ -7,8 +9,6 @@ use Rattle.std.specs.Prelude.{take}
 use Rattle.std.proofs.lemmas.List.Elements.{Contains-append_cases}
 use Rattle.std.proofs.lemmas.Option.{slice_get-map}
 use Rattle.rgo_sound.proofs.Places.{get_below, get_some}
-use Rattle.rgo_sound.proofs.Static.{contains_one}
-use Rattle.rgo_sound.proofs.CallRules.{get_contains}
 use Rattle.rgo_sound.proofs.Calls.{ArePassable}
 use Rattle.rgo_sound.proofs.Ruled.{distinct_member, parameter_member}
 use Rattle.rgo_code.specs.ClassRules.{IsPassedFor, Passes, ResultFits, SlotFits}

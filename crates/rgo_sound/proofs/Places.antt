@@ -1,20 +1,13 @@
 -- Lists by number: what stands at a place after a write, in a longer list, and of each.
 use Rattle.std.proofs.lemmas.Option.{same_Some}
-use Rattle.std.proofs.Common.{◌≡◌, ℕ, zero, suc, ◌+◌, ◌≤◌, ◌<◌, true, false, List, [], ◌∷◌, ◌++◌, length, Some, None}
+use Rattle.std.proofs.Common.{◌≡◌, ℕ, zero, suc, ◌+◌, ◌≤◌, ◌<◌, false, List, [], ◌∷◌, ◌++◌, length, Some, None}
 use Rattle.std.proofs.Common.{refl, ap, subst, nat_eq, arith, ◌⊎◌, inl, inr, slice_get, slice_set, slice_index}
-use Rattle.std.proofs.Common.{replicate}
+use Rattle.std.proofs.Common.{replicate, rules}
 use Rattle.std.specs.List.{Contains}
 use Rattle.std.specs.List.Sorted.{IsStrictlyIncreasing}
 use Rattle.std.proofs.lemmas.List.Kept.{AllPairs-from_increasing}
+use Rattle.rgo_sound.proofs.Tests.{eq_of, split}
 use Rattle.rgo_sound.specs.Types.{Each}
-
--- ---- numbers as tests
-
-pub nat_eq_refl : (a : ℕ) → nat_eq a a ≡ true
-nat_eq_refl a = grind arith
-
-pub nat_ne_sym : (a b : ℕ) → nat_eq a b ≡ false → nat_eq b a ≡ false
-nat_ne_sym a b h = grind arith
 
 -- ---- after a write
 
@@ -150,3 +143,54 @@ ascending_distinct (k ∷ ks) rises = (
       absurd (omega (arith, less, h.2)),
   ascending_distinct ks (ascending_tail k ks rises),
 )
+
+-- ---- being in a list
+
+-- what is in an empty list, in a list of one, and in a list with a first element
+pub contains_nil : {X : Type 0} (x : X) → Contains [] x → ⊥
+contains_nil x c = omega (arith, c.1)
+
+pub contains_here : {X : Type 0} (x : X) (xs : List X) → Contains (x ∷ xs) x
+contains_here x xs = (0, search rules, refl)
+
+pub contains_there : {X : Type 0} (y : X) (xs : List X) (x : X) → Contains xs x → Contains (y ∷ xs) x
+contains_there y xs x c = (suc c.0, omega (arith, c.1), c.2)
+
+pub contains_one : {X : Type 0} (y x : X) → Contains (y ∷ []) x → y ≡ x
+contains_one y x (zero, h, e) = e
+contains_one y x (suc k, h, e) = absurd (omega (arith, h))
+
+pub contains_cases : {X : Type 0} (y : X) (ys : List X) (x : X) → Contains (y ∷ ys) x → (y ≡ x) ⊎ Contains ys x
+contains_cases y ys x (zero, h, e) = inl e
+contains_cases y ys x (suc k, h, e) = inr (k, omega (arith, h), e)
+
+-- whether a number stands in a list
+pub stands_or_not : (xs : List ℕ) (v : ℕ) → Contains xs v ⊎ (¬ (Contains xs v))
+stands_or_not [] v = inr (λ c. contains_nil v c)
+stands_or_not (x ∷ xs) v = go (stands_or_not xs v)
+  where
+    go : Contains xs v ⊎ (¬ (Contains xs v)) → Contains (x ∷ xs) v ⊎ (¬ (Contains (x ∷ xs) v))
+    go (inl c) = inl (contains_there x xs v c)
+    go (inr n) = split (nat_eq x v) (λ t. inl (subst (λ y. Contains (x ∷ xs) y) (eq_of x v t) (contains_here x xs)))
+        (λ f. inr (λ c. neither f (contains_cases x xs v c)))
+      where
+        refutes : (a b : ℕ) → nat_eq a b ≡ false → a ≡ b → ⊥
+        refutes a b f e = grind arith
+
+        neither : nat_eq x v ≡ false → (x ≡ v) ⊎ Contains xs v → ⊥
+        neither f (inl e) = refutes x v f e
+        neither f (inr c) = n c
+
+pub get_contains : {X : Type 0} (xs : List X) (p : ℕ) (x : X) → slice_get xs p ≡ Some x → Contains xs x
+get_contains [] p x e = cc
+get_contains (y ∷ ys) zero x e = subst (λ z. Contains (y ∷ ys) z) (same_Some y x e) (contains_here y ys)
+get_contains (y ∷ ys) (suc p) x e = contains_there y ys x (get_contains ys p x e)
+
+pub contains_get : {X : Type 0} (xs : List X) (x : X) → Contains xs x → (p : ℕ) × (slice_get xs p ≡ Some x)
+contains_get [] x c = absurd (contains_nil x c)
+contains_get (y ∷ ys) x c = go (contains_cases y ys x c) (λ d. contains_get ys x d)
+  where
+    go : (y ≡ x) ⊎ Contains ys x → (Contains ys x → (p : ℕ) × (slice_get ys p ≡ Some x)) → (p : ℕ)
+        × (slice_get (y ∷ ys) p ≡ Some x)
+    go (inl e) next = (zero, ap Some e)
+    go (inr d) next = let z = next d in (suc z.0, z.1)

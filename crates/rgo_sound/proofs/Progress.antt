@@ -1,7 +1,8 @@
 -- No step is missing: where the three-address machine has an instruction's step, the region machine has one after some
 -- region steps.
+use Rattle.rgo_sound.proofs.Tests.{split, eq_of}
+use Rattle.rgo_sound.proofs.Tests.{nat_eq_refl, nat_ne_sym}
 use Rattle.std.proofs.lemmas.Option.{same_Some}
-use Rattle.rgo_sound.proofs.Places.{nat_eq_refl, nat_ne_sym}
 use Rattle.std.proofs.Common.{◌≡◌, ◌≢◌, ℕ, zero, suc, ◌+◌, ◌<◌, Bool, true, false, not, ◌&&◌, ◌||◌, List, [], ◌∷◌, map}
 use Rattle.std.proofs.Common.{length, Option, Some, None, IsSome, refl, sym, ap, ◌∙◌, subst, nat_eq, nat_le}
 use Rattle.std.proofs.Common.{if◌then◌else◌, arith, true≢false, slice_get, slice_set, option_map, option_and_then, inr}
@@ -11,7 +12,6 @@ use Rattle.std.proofs.lemmas.Bool.Decides.{nat_tests}
 use Rattle.rgo_sound.proofs.Places.{get_below, get_beyond, get_set_other, get_set_same, get_some}
 use Rattle.rgo_sound.proofs.OneStep.{ReceivesAt, StandsAt, current_erased, met_with, stands_at_channel}
 use Rattle.rgo_sound.proofs.ErasureLemmas.{Always, Yields, yields, yields_none, yields_if, yields_then, yields_is}
-use Rattle.rgo_sound.proofs.CoreLemmas.{split, eq_of}
 use Rattle.rgo_sound.proofs.Static.{named_bound}
 use Rattle.rgo_sound.proofs.Attends.{total_set, staked_live, duties_go, same_reflexive}
 use Rattle.rgo_sound.proofs.TypedSteps.{here, one_object}

@@ -1,10 +1,10 @@
 -- A return of checked code keeps what holds of the state.
+use Rattle.rgo_sound.proofs.Places.{contains_here}
 use Rattle.std.proofs.lemmas.Option.{same_Some}
 use Rattle.std.proofs.Common.{◌≡◌, ℕ, zero, suc, ◌+◌, true, false, List, [], ◌∷◌, ◌++◌, map, length, Option, Some, None}
 use Rattle.std.proofs.Common.{refl, sym, ap, ◌∙◌, subst, nat_eq, slice_get, slice_set, option_map, Contains, append-nil}
 use Rattle.rgo_sound.proofs.Places.{get_set_other, get_set_same, length_set}
 use Rattle.rgo_sound.proofs.Moves.{returns_on, returns_last, settled_pending}
-use Rattle.rgo_sound.proofs.Static.{contains_here}
 use Rattle.rgo_sound.proofs.Instructs.{IsRuled, fine_plain}
 use Rattle.rgo_sound.proofs.OneStep.{SameHolder, none_owed, current_erased, OneDone}
 use Rattle.rgo_sound.proofs.Ruled.{ruled}

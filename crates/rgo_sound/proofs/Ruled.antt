@@ -1,4 +1,8 @@
 -- Checked code gives the facts that the steps ask for.
+use Rattle.rgo_sound.proofs.Places.{contains_get}
+use Rattle.rgo_sound.proofs.Places.{get_contains}
+use Rattle.rgo_sound.proofs.Places.{contains_here, contains_there, contains_cases, contains_nil, contains_one}
+use Rattle.rgo_sound.proofs.Tests.{split, eq_of}
 use Rattle.std.proofs.lemmas.Option.{same_Some}
 use Rattle.std.proofs.Common.{◌≡◌, ◌≢◌, ℕ, zero, suc, ◌+◌, ◌<◌, Bool, true, false, List, [], ◌∷◌, ◌++◌, length, Option}
 use Rattle.std.proofs.Common.{Some, None, is_some, refl, sym, ap, ◌∙◌, subst, nat_eq, if◌then◌else◌, arith, ◌⊎◌, inl}
@@ -8,10 +12,7 @@ use Rattle.std.proofs.lemmas.List.{length-map}
 use Rattle.std.proofs.lemmas.Option.{slice_get-map}
 use Rattle.std.specs.List.{list_any}
 use Rattle.rgo_sound.proofs.Places.{get_below, get_some}
-use Rattle.rgo_sound.proofs.CoreLemmas.{split, eq_of}
-use Rattle.rgo_sound.proofs.Static.{asked_names, contains_here, contains_there, contains_cases, contains_nil}
-use Rattle.rgo_sound.proofs.Static.{contains_one}
-use Rattle.rgo_sound.proofs.CallRules.{get_contains}
+use Rattle.rgo_sound.proofs.Static.{asked_names}
 use Rattle.rgo_sound.proofs.Instructs.{IsRuled}
 use Rattle.rgo_code.specs.Checked.{IsChecked}
 use Rattle.rgo_code.specs.ClassRules.{CallPasses, CallsPass, IsPassedFor, Passes, StartPasses, StartsPass}
@@ -155,15 +156,6 @@ parameter_listed (suc n) (s ∷ slots) (suc i) k h e = contains_there s.class (p
     (parameter_listed n slots i k (omega (arith, h)) e)
 
 -- ---- what a call or a `go` passes is the class of a variable that it names
-
-pub contains_get : {X : Type 0} (xs : List X) (x : X) → Contains xs x → (p : ℕ) × (slice_get xs p ≡ Some x)
-contains_get [] x c = absurd (contains_nil x c)
-contains_get (y ∷ ys) x c = go (contains_cases y ys x c) (λ d. contains_get ys x d)
-  where
-    go : (y ≡ x) ⊎ Contains ys x → (Contains ys x → (p : ℕ) × (slice_get ys p ≡ Some x)) → (p : ℕ)
-        × (slice_get (y ∷ ys) p ≡ Some x)
-    go (inl e) next = (zero, ap Some e)
-    go (inr d) next = let z = next d in (suc z.0, z.1)
 
 -- the class is that of an argument, or of the target
 passed_is_named : (fn g : CodeFn) (to : Option ℕ) (arguments : List ℕ) (regions : List Class) (k : ℕ) → length arguments

@@ -1,4 +1,7 @@
 -- A `go` of checked code keeps what holds of the state: the child has the stakes that were pending.
+use Rattle.rgo_sound.proofs.Acting.{no_end}
+use Rattle.rgo_sound.proofs.Places.{contains_here}
+use Rattle.rgo_sound.proofs.Tests.{split, eq_of}
 use Rattle.std.proofs.lemmas.Option.{same_Some}
 use Rattle.std.proofs.Common.{◌≡◌, ℕ, zero, suc, ◌+◌, ◌≤◌, ◌<◌, Bool, true, false, not, ◌&&◌, ◌||◌, List, [], ◌∷◌, ◌++◌}
 use Rattle.std.proofs.Common.{map, length, Option, Some, None, is_some, refl, sym, ap, ◌∙◌, subst, nat_eq}
@@ -8,8 +11,8 @@ use Rattle.std.specs.List.{list_any}
 use Rattle.std.proofs.lemmas.Option.{slice_get-map}
 use Rattle.rgo_sound.proofs.Places.{ascending_distinct, get_append_last, get_append_left, get_below, get_set_other}
 use Rattle.rgo_sound.proofs.Places.{get_set_same, get_snoc, get_some, length_set}
-use Rattle.rgo_sound.proofs.CoreLemmas.{split, eq_of, core_child, bound_held}
-use Rattle.rgo_sound.proofs.Static.{named_bound, contains_here}
+use Rattle.rgo_sound.proofs.CoreLemmas.{core_child, bound_held}
+use Rattle.rgo_sound.proofs.Static.{named_bound}
 use Rattle.rgo_sound.proofs.Shares.{at_most_one_is, at_most_one_some, removes_share_none, shares_next}
 use Rattle.rgo_sound.proofs.Attends.{total_set}
 use Rattle.rgo_sound.proofs.Moves.{moves_on}
@@ -40,7 +43,7 @@ use Rattle.rgo_region_machine.specs.States.{Duty, Environment, Holder, NoOffer, 
 use Rattle.rgo_region_machine.specs.States.{frames_in, frames_of, top_names}
 use Rattle.rgo_region_machine.specs.declared.regions.Region.{Region}
 use Rattle.rgo_region_machine.specs.declared.regions.Region.TheVariants.{Global as GlobalRegion, Numbered}
-use Rattle.rgo_sound.proofs.Acting.{after, Acted, act, act_at, alone, end_by, start}
+use Rattle.rgo_sound.proofs.Acting.{after, Acted, act, act_at, alone, start}
 use Rattle.rgo_sound.specs.Core.{AreUnique, Core}
 use Rattle.rgo_sound.specs.Holding.{held_in}
 use Rattle.rgo_sound.specs.Invariant.{ArePending, EachOnce, Fine, FramesFit, GoodHolder, HasInstr, IsFree, IsReady}
@@ -576,10 +579,6 @@ module _ (code : Code) (page_words : ℕ) (s : RegionState) (g : ℕ) (h : Holde
 
   abbrev next : CodeFn → TacState
   next callee = after s.plain g (acted callee)
-
-  no_end : (g : ℕ) (f : Frame) (fs : List Frame) → end_by g (f ∷ fs) None ≡ None
-  no_end zero f fs = refl
-  no_end (suc g) f fs = refl
 
   own : (callee : CodeFn) (frames : List Frame) → slice_get s.plain.goroutines g ≡ Some frames
       → frames_of (next callee) g ≡ frame' ∷ callers

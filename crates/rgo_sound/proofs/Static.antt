@@ -1,9 +1,12 @@
 -- What the rules say of the names along an edge, and that the duties on it can be done.
-use Rattle.std.proofs.Common.{◌≡◌, ◌≢◌, ℕ, zero, suc, ◌+◌, true, false, List, [], ◌∷◌, ◌++◌, map, Option, Some, None}
+use Rattle.rgo_sound.proofs.Places.{contains_nil, contains_here, contains_there, contains_one, contains_cases, stands_or_not}
+use Rattle.rgo_sound.proofs.Tests.{ne_of}
+use Rattle.rgo_sound.proofs.Tests.{split, eq_of}
+use Rattle.std.proofs.Common.{◌≡◌, ◌≢◌, ℕ, suc, ◌+◌, true, false, List, [], ◌∷◌, ◌++◌, map, Option, Some, None}
 use Rattle.std.proofs.Common.{refl, sym, ap, ◌∙◌, subst, nat_eq, arith, ◌⊎◌, inl, inr, Contains, option_map, slice_get}
-use Rattle.std.proofs.Common.{rules, if◌then◌else◌}
+use Rattle.std.proofs.Common.{if◌then◌else◌}
 use Rattle.std.proofs.lemmas.Option.{slice_get-map}
-use Rattle.rgo_sound.proofs.CoreLemmas.{split, eq_of, bound_unbind, bound_unbind_other}
+use Rattle.rgo_sound.proofs.CoreLemmas.{bound_unbind, bound_unbind_other}
 use Rattle.rgo_sound.proofs.Places.{AreDistinct, ascending_distinct}
 use Rattle.rgo_code.specs.Code.{Branch, Call, Code, CodeFn, CodeInstr, CodeOp, Do, Go, Jump, Print, Return}
 use Rattle.rgo_code.specs.Erasure.{erased_fn, erased_instr, erased_op}
@@ -21,46 +24,6 @@ use Rattle.rgo_sound.specs.Stakes.{one_if}
 use Rattle.rgo_tac.specs.Flow.{leads_to, writes}
 use Rattle.rgo_tac.specs.declared.regions.Class.{Class}
 use Rattle.rgo_tac.specs.declared.regions.Class.TheVariants.{Global, Name, NoClass}
-
--- ---- lists
-
--- what stands in a list of none, of one, and behind a first element
-pub contains_nil : {X : Type 0} (x : X) → Contains [] x → ⊥
-contains_nil x c = omega (arith, c.1)
-
-pub contains_here : {X : Type 0} (x : X) (xs : List X) → Contains (x ∷ xs) x
-contains_here x xs = (0, search rules, refl)
-
-pub contains_there : {X : Type 0} (y : X) (xs : List X) (x : X) → Contains xs x → Contains (y ∷ xs) x
-contains_there y xs x c = (suc c.0, omega (arith, c.1), c.2)
-
-pub contains_one : {X : Type 0} (y x : X) → Contains (y ∷ []) x → y ≡ x
-contains_one y x (zero, h, e) = e
-contains_one y x (suc k, h, e) = absurd (omega (arith, h))
-
-pub contains_cases : {X : Type 0} (y : X) (ys : List X) (x : X) → Contains (y ∷ ys) x → (y ≡ x) ⊎ Contains ys x
-contains_cases y ys x (zero, h, e) = inl e
-contains_cases y ys x (suc k, h, e) = inr (k, omega (arith, h), e)
-
-pub ne_of : (a b : ℕ) → (a ≡ b → ⊥) → nat_eq a b ≡ false
-ne_of a b h = split (nat_eq a b) (λ t. absurd (h (eq_of a b t))) (λ n. n)
-
--- whether a number stands in a list
-pub stands_or_not : (xs : List ℕ) (v : ℕ) → Contains xs v ⊎ (¬ (Contains xs v))
-stands_or_not [] v = inr (λ c. contains_nil v c)
-stands_or_not (x ∷ xs) v = go (stands_or_not xs v)
-  where
-    go : Contains xs v ⊎ (¬ (Contains xs v)) → Contains (x ∷ xs) v ⊎ (¬ (Contains (x ∷ xs) v))
-    go (inl c) = inl (contains_there x xs v c)
-    go (inr n) = split (nat_eq x v) (λ t. inl (subst (λ y. Contains (x ∷ xs) y) (eq_of x v t) (contains_here x xs)))
-        (λ f. inr (λ c. neither f (contains_cases x xs v c)))
-      where
-        refutes : (a b : ℕ) → nat_eq a b ≡ false → a ≡ b → ⊥
-        refutes a b f e = grind arith
-
-        neither : nat_eq x v ≡ false → (x ≡ v) ⊎ Contains xs v → ⊥
-        neither f (inl e) = refutes x v f e
-        neither f (inr c) = n c
 
 -- ---- duties that can be done
 

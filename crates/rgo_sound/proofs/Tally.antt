@@ -1,4 +1,5 @@
 -- What each step adds to the counts of a run.
+use Rattle.rgo_sound.proofs.Tests.{and_third}
 use Rattle.std.proofs.lemmas.Option.{same_Some}
 use Rattle.std.proofs.Common.{◌≡◌, ℕ, zero, suc, ◌+◌, ◌≤◌, Bool, true, false, ◌&&◌, List, [], ◌∷◌, ◌++◌, length, Option}
 use Rattle.std.proofs.Common.{Some, None, refl, sym, ap, ◌∙◌, subst, nat_eq, nat_lt, if◌then◌else◌, arith, true≢false}
@@ -294,12 +295,6 @@ module _ (s : RegionState) where
   adds_take code page_words g h (frame ∷ callers) = yields_then (page_for code page_words s g h frame) _
       (λ i. yields_then (takes_page code page_words s g h) _ taken)
     where
-      live : (a b c d : Bool) → (a && b && c && d) ≡ true → c ≡ true
-      live true true true d q = refl
-      live true true false d q = q
-      live true false c d q = absurd (true≢false (sym q))
-      live false b c d q = absurd (true≢false (sym q))
-
       taken : (q : Region) → Yields (Adds s (record no_share { taken = 1 })) (takes_page code page_words s g h q)
       taken GlobalRegion = yields_if _ _ _ (yields _ (record {
         made = add_none _;
@@ -313,7 +308,7 @@ module _ (s : RegionState) where
       })) yields_none
       taken (Numbered r) = yields_where (has_none h.duties && may_go h.offer && is_live s.regions (Numbered r) &&
           wants_page page_words (fill_of h.fills (Numbered r)) (next_object code s g)) _
-          (λ l. yields _ (page_added _ r (live (has_none h.duties) (may_go h.offer) (is_live s.regions (Numbered r)) _
+          (λ l. yields _ (page_added _ r (and_third (has_none h.duties) (may_go h.offer) (is_live s.regions (Numbered r)) _
           l) refl refl refl refl))
 
   adds_make : (code : Code) (g : ℕ) (h : Holder) (frames : List Frame)

@@ -1,4 +1,5 @@
 -- Each step of the three-address machine keeps the types of values.
+use Rattle.rgo_sound.proofs.Tests.{eq_of, split}
 use Rattle.std.proofs.Common.{◌≡◌, ℕ, zero, suc, ◌+◌, ◌⊎◌, inl, inr, Bool, true, false, List, [], ◌∷◌, ◌++◌, map, take}
 use Rattle.std.proofs.Common.{drop, length, Option, Some, None, refl, sym, ap, ◌∙◌, subst}
 use Rattle.std.proofs.Common.{nat_eq, if◌then◌else◌, true≢false, slice_get, slice_set, option_map, option_and_then}
@@ -38,7 +39,6 @@ use Rattle.rgo_sound.specs.Types.{CalledFrom, Each, FramesHaveKinds, HasKind, Ha
 use Rattle.rgo_sound.specs.Types.{TypesKeep}
 use Rattle.rgo_sound.proofs.Acting.{Acted, act, act_at, after, alone, alone_is, call, effected, performed, returned}
 use Rattle.rgo_sound.proofs.Acting.{start, trap_place}
-use Rattle.rgo_sound.proofs.CoreLemmas.{eq_of, split}
 use Rattle.rgo_sound.proofs.ErasureLemmas.{Always}
 use Rattle.rgo_sound.proofs.OneStep.{ReceivesAt, SendsAt, StandsAt, current_erased, stands_at_channel}
 use Rattle.rgo_sound.proofs.Places.{each_get, get_append_cases, get_set_other, get_set_same}

@@ -1,4 +1,5 @@
 -- What each action does keeps the types of the memory, and gives a value of its type.
+use Rattle.rgo_sound.proofs.Tests.{eq_of, split}
 use Rattle.std.proofs.Common.{◌≡◌, ℕ, zero, suc, ◌+◌, ◌<◌, ◌⊎◌, inl, inr, Bool, true, false, List, [], ◌∷◌, ◌++◌, map}
 use Rattle.std.proofs.Common.{length, replicate, Option, Some, None, Result, Ok, Err, refl, sym, ap, ◌∙◌, subst}
 use Rattle.std.proofs.Common.{ℤ, pos, negsuc, nat_eq, nat_lt, int_eq, if◌then◌else◌, arith, true≢false, slice_get}
@@ -39,7 +40,6 @@ use Rattle.rgo_code.specs.Exists.{declared_by}
 use Rattle.rgo_code.specs.Types.{ReturnsType}
 use Rattle.rgo_sound.specs.Types.{Each, HasKind, HaveKinds, MemoryFits, ObjectFits}
 use Rattle.rgo_sound.proofs.Acting.{performed, silent}
-use Rattle.rgo_sound.proofs.CoreLemmas.{eq_of, split}
 use Rattle.rgo_sound.proofs.ErasureLemmas.{Always}
 use Rattle.rgo_sound.proofs.Places.{each_get, each_more, each_replicate, each_set, each_snoc, get_append_last}
 use Rattle.rgo_sound.proofs.Places.{get_append_left, get_below, get_set_other, get_set_same, get_snoc, get_some}

@@ -1,4 +1,6 @@
 -- Each step of the region machine keeps pointers in their regions.
+use Rattle.rgo_sound.proofs.Places.{contains_here, contains_there, contains_nil, contains_cases}
+use Rattle.rgo_sound.proofs.Tests.{split, eq_of}
 use Rattle.std.proofs.lemmas.Option.{same_Some}
 use Rattle.std.proofs.Common.{◌≡◌, ◌≢◌, ℕ, zero, suc, ◌+◌, false, List, [], ◌∷◌, ◌++◌, map, length, get_or, Option}
 use Rattle.std.proofs.Common.{Some, None, refl, sym, ap, ◌∙◌, subst, nat_eq, if◌then◌else◌, arith, slice_get, slice_set}
@@ -8,8 +10,7 @@ use Rattle.rgo_sound.proofs.Places.{get_append_left, get_append_place, get_appen
 use Rattle.rgo_sound.proofs.Places.{get_set_same, length_set}
 use Rattle.rgo_sound.proofs.ErasureLemmas.{Always, Yields, yields, yields_none, yields_if, yields_then, Follows}
 use Rattle.rgo_sound.proofs.ErasureLemmas.{step_follows, yields_at, yields_from}
-use Rattle.rgo_sound.proofs.CoreLemmas.{split, eq_of, bound_unbind_other}
-use Rattle.rgo_sound.proofs.Static.{contains_here, contains_there, contains_nil, contains_cases}
+use Rattle.rgo_sound.proofs.CoreLemmas.{bound_unbind_other}
 use Rattle.rgo_sound.proofs.TypedSteps.{ActedFits, ReceiveFits, SendFits, alone_fits, receive_fits, send_fits}
 use Rattle.rgo_sound.proofs.TypedSteps.{one_inner, one_object, here, types_keep}
 use Rattle.rgo_sound.proofs.Types.{zero_kind, zeros_kinds}
