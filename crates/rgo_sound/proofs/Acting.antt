@@ -1,5 +1,4 @@
--- What one goroutine does alone, as one record: its frames and the memory after it, the goroutine that it starts, what
--- it prints, and its trap.
+-- What one goroutine does alone, as one record: frames, memory, a started goroutine, printed bytes, a trap.
 use Rattle.std.proofs.lemmas.Option.{same_Some}
 use Rattle.std.proofs.Common.{◌≡◌, ℕ, zero, suc, ◌+◌, List, [], ◌∷◌, ◌++◌, Option, Some, None, refl, sym, ap, ◌∙◌}
 use Rattle.std.proofs.Common.{slice_get, slice_set, if◌then◌else◌}
@@ -41,6 +40,7 @@ end_by zero [] None = Some Exit
 end_by zero (f ∷ fs) None = None
 end_by (suc g) frames None = None
 
+-- the state of the machine after goroutine g has done this
 abbrev pub after : TacState → ℕ → Acted → TacState
 after s g a = record {
   memory = a.memory;
@@ -51,16 +51,20 @@ after s g a = record {
 
 -- ---- acts
 
+-- other memory and frames, and nothing else
 abbrev pub moves : Memory → List Frame → Option Acted
 moves m frames = Some (record { memory = m; frames = frames; started = []; printed = []; trap = None })
 
+-- a goroutine is started
 abbrev pub starts : Memory → List Frame → List Frame → Option Acted
 starts m frames child =
     Some (record { memory = m; frames = frames; started = child ∷ []; printed = []; trap = None })
 
+-- bytes are printed
 abbrev pub prints : Memory → List Frame → List ℕ → Option Acted
 prints m frames bytes = Some (record { memory = m; frames = frames; started = []; printed = bytes; trap = None })
 
+-- the run ends
 abbrev pub traps : Memory → List Frame → End → Option Acted
 traps m frames e = Some (record { memory = m; frames = frames; started = []; printed = []; trap = Some e })
 
@@ -76,6 +80,7 @@ performed structs action.Send ty (c ∷ v ∷ []) m = option_map silent (send m 
 performed structs action.Close ty (c ∷ []) m = Some (silent (close m c))
 performed structs action ty values m = Some (perform structs action ty values m)
 
+-- the effect of an action on the frame that does it
 abbrev pub effected : Memory → Frame → List Frame → Option ℕ → ℕ → Option Effect → Option Acted
 effected m frame callers to place None = None
 effected m frame callers to place (Some (Does m' v)) = moves m' (going frame to v ∷ callers)
@@ -99,6 +104,7 @@ abbrev pub returned : Tac → Memory → Option Value → List Frame → Option 
 returned code m value [] = moves m []
 returned code m value (caller ∷ callers) = moves m (resumed code caller value ∷ callers)
 
+-- one instruction of a frame
 abbrev pub act : Tac → Memory → Op → ℕ → Frame → List Frame → Option Acted
 act code m (Do to action from) place frame callers =
     effected m frame callers to (trap_place action place)
@@ -118,6 +124,7 @@ abbrev pub act_at : Tac → Memory → Option Instr → Frame → List Frame →
 act_at code m None frame callers = moves m (frame ∷ callers)
 act_at code m (Some i) frame callers = act code m i.op i.place frame callers
 
+-- the instruction at which the frames are
 abbrev pub alone : Tac → Memory → List Frame → Option Acted
 alone code m [] = None
 alone code m (frame ∷ callers) = act_at code m (instr_of code frame) frame callers

@@ -1,4 +1,5 @@
 -- Each duty that a goroutine owes can be done in its turn, and keeps what holds of the state.
+use Rattle.std.proofs.lemmas.Option.{slice_get_within}
 use Rattle.rgo_sound.proofs.Tests.{or_there}
 use Rattle.rgo_sound.proofs.Tests.{split, eq_of}
 use Rattle.rgo_sound.proofs.Tests.{nat_eq_refl, nat_ne_sym}
@@ -9,7 +10,7 @@ use Rattle.std.proofs.Common.{map, length, Option, Some, None, refl, sym, ap, �
 use Rattle.std.proofs.Common.{arith, length-append, ◌⊎◌, inl, inr, true≢false, slice_get, slice_set, option_map}
 use Rattle.std.proofs.Common.{option_and_then}
 use Rattle.std.specs.List.{list_any}
-use Rattle.rgo_sound.proofs.Places.{get_below, get_set_other, get_set_same, get_snoc, get_some, length_set}
+use Rattle.rgo_sound.proofs.Places.{get_set_other, get_set_same, get_snoc, get_some, length_set}
 use Rattle.rgo_sound.proofs.Static.{is_named}
 use Rattle.rgo_sound.proofs.CoreLemmas.{core_kept, core_removed, core_created, core_protected}
 use Rattle.rgo_sound.proofs.CoreLemmas.{core_unbased, in_without, not_in_without}
@@ -47,6 +48,7 @@ total_at f [] g h e = cc
 total_at f (x ∷ xs) zero h e = let q : f x ≡ f h = ap f (same_Some x h e) in omega (arith, q)
 total_at f (x ∷ xs) (suc g) h e = let q = total_at f xs g h e in omega (arith, q)
 
+-- a sum of zeros
 pub total_none : (f : Holder → ℕ) (hs : List Holder) → ((g : ℕ) (h : Holder) → slice_get hs g ≡ Some h → f h ≡ 0)
     → total f hs ≡ 0
 total_none f [] n = refl
@@ -155,6 +157,7 @@ mine_of : (fn : CodeFn) (f : Environment) (k : ℕ) → f.lent ≡ result_class 
 mine_of fn f k l own = split (is_name k f.lent) (λ t. absurd (own (sym l ∙ is_named k f.lent t)))
     (λ n. ap (λ x. not x) n)
 
+-- a number that is not positive is zero
 pub not_positive : (n : ℕ) → (0 < n → ⊥) → n ≡ 0
 not_positive zero h = refl
 not_positive (suc n) h = absurd (h (omega arith))
@@ -365,7 +368,7 @@ module _ (code : Code) (s : RegionState) (g : ℕ) (stakes pending : List ℕ) (
                 (λ (x : Holder). times_in q x.pending) (slice_set s.holders g (created k))
             go (inl o) =
                 let d = fine.counted q info o in
-                let l = get_below s.regions q info o in
+                let l = slice_get_within s.regions q info o in
                 let n : nat_eq q (length s.regions) ≡ false = differs q (length s.regions) l in
                 let y : one_if (is_in q (length s.regions ∷ stakes)) ≡ one_if (is_in q stakes) =
                 ap (λ x. one_if (if x then true else is_in q stakes)) n in

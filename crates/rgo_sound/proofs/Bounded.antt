@@ -1,5 +1,5 @@
--- Regions are at most the names of a function, for each step and each goroutine: each instruction creates at most so
--- many, and one that meets creates none.
+-- The regions made are bounded by the names of a function, for each step and each goroutine.
+use Rattle.std.proofs.lemmas.Option.{slice_get_within}
 use Rattle.rgo_sound.proofs.Places.{get_contains}
 use Rattle.rgo_sound.proofs.Places.{contains_here, contains_there}
 use Rattle.rgo_sound.proofs.Tests.{eq_of}
@@ -68,7 +68,7 @@ use Rattle.rgo_sound.proofs.Lists.{listed}
 use Rattle.rgo_sound.proofs.OneStep.{OneDone, one_done, MeetDone, meet_done, OnFrom, current_erased, gone_on}
 use Rattle.rgo_sound.proofs.OneStep.{receive_goes, send_goes}
 use Rattle.rgo_sound.proofs.Others.{fine_step, fine_start}
-use Rattle.rgo_sound.proofs.Places.{AreDistinct, ascending_distinct, get_append_left, get_below, get_set_other}
+use Rattle.rgo_sound.proofs.Places.{AreDistinct, ascending_distinct, get_append_left, get_set_other}
 use Rattle.rgo_sound.proofs.Places.{get_set_same, length_set}
 use Rattle.rgo_sound.proofs.RunLemmas.{run_keeps}
 use Rattle.rgo_sound.proofs.Starts.{last_frames_snoc}
@@ -588,7 +588,7 @@ module _ (code : Code) (page_words : ℕ) (s : RegionState) (old : Bounded code 
 
       own : frames_of (after s.plain g x.a) g ≡ x.a.frames
       own = ap frames_in (get_append_left (slice_set s.plain.goroutines g x.a.frames) x.a.started g
-          (let b = get_below s.plain.goroutines g (x.frame ∷ x.callers) x.at in let l =
+          (let b = slice_get_within s.plain.goroutines g (x.frame ∷ x.callers) x.at in let l =
           length_set s.plain.goroutines g x.a.frames in omega (arith, b, l))
           ∙ get_set_same s.plain.goroutines g (x.frame ∷ x.callers) x.a.frames x.at)
 

@@ -1,5 +1,4 @@
--- What region safety says of stakes, from what holds of a state: one holding name, duties that name what is live, and
--- nothing left at the end.
+-- What the invariant says of stakes: one holding name each, duties that name live regions, nothing left at the end.
 use Rattle.rgo_sound.proofs.Places.{contains_nil, contains_cases, contains_here, contains_there}
 use Rattle.rgo_sound.proofs.Tests.{split, eq_of, or_right}
 use Rattle.rgo_sound.proofs.Tests.{nat_eq_refl}

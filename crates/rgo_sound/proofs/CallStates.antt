@@ -181,6 +181,7 @@ module _ (code : Code) (checked : IsChecked code) (written : Ascends code) (fram
 abbrev pub entered_frame : Frame → ℕ → List ℕ → CodeFn → Frame
 entered_frame frame n from callee = called (erased_fn callee) n (values_of frame from)
 
+-- what a call does
 abbrev pub has_called : Memory → Frame → List Frame → ℕ → List ℕ → CodeFn → Acted
 has_called m frame callers n from callee = record {
   memory = m;

@@ -55,9 +55,11 @@ pub record CallFits (mine lent : Class) (names : Bindings) (formals regions : Li
     pub own : (k : ℕ) → list_any (nat_eq k) protects ≡ false → 1 ≤ times_named k regions → is_mine mine k ≡ true
 
 module _ (names : Bindings) (lent : Class) (protects : List ℕ) where
+  -- the caller's names that a call gives to its callee
   abbrev pub given : List Class → List Class → List ℕ
   given formals regions = given_names lent formals regions protects
 
+  -- the callee's names and their regions
   abbrev pub to_callee : List Class → List Class → Bindings
   to_callee formals regions = passed formals (passed_regions names regions)
 

@@ -1,5 +1,4 @@
--- How the count of holding names changes with each step of a goroutine, and why each of its regions keeps its one
--- holding name.
+-- How each step changes the count of holding names, and why each region of a goroutine keeps one holding name.
 use Rattle.rgo_sound.proofs.Tests.{none_if}
 use Rattle.rgo_sound.proofs.Tests.{eq_of, split, or_right, or_there}
 use Rattle.rgo_sound.proofs.Tests.{nat_eq_refl, nat_ne_sym}

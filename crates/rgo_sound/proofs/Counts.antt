@@ -1,9 +1,10 @@
--- What a run has made: a region that was removed stays as it was; and pages are taken for objects.
+-- A region that was removed stays as it was.
+use Rattle.std.proofs.lemmas.Option.{slice_get_within}
 use Rattle.rgo_sound.proofs.Tests.{and_third}
 use Rattle.rgo_sound.proofs.Tests.{split, eq_of}
 use Rattle.std.proofs.Common.{◌≡◌, ℕ, true, false, ◌&&◌, List, [], ◌∷◌, Some, sym, ap, ◌∙◌, nat_eq, nat_lt}
 use Rattle.std.proofs.Common.{true≢false, slice_get}
-use Rattle.rgo_sound.proofs.Places.{get_append_left, get_below}
+use Rattle.rgo_sound.proofs.Places.{get_append_left}
 use Rattle.rgo_sound.proofs.ErasureLemmas.{Yields, yields, yields_none, yields_if, yields_then, yields_is, yields_from}
 use Rattle.rgo_sound.proofs.ErasureLemmas.{yields_where}
 use Rattle.rgo_sound.proofs.Attends.{with_info_other}
@@ -55,7 +56,7 @@ module _ (s : RegionState) (r : ℕ) (info : RegionInfo) (e : slice_get s.region
 
     still_done : (g : ℕ) (h : Holder) (d : Duty) → Yields Still (duty_done s g h d)
     still_done g h (Create k) = yields _ (get_append_left s.regions (record { stakes = 1; pages = 0 } ∷ []) r
-        (get_below s.regions r info e) ∙ e)
+        (slice_get_within s.regions r info e) ∙ e)
     still_done g h (Share k) = yields_then (shared s g h) _ (still_shared g h)
     still_done g h (Protect k) = yields_then (protected s g h) _ (λ q. yields_if _ _ _ (yields _ e) yields_none)
     still_done g h (Unprotect k) = yields_then (λ q. Some (attended s g (unprotected h q))) _ (λ q. yields _ e)

@@ -1,4 +1,4 @@
--- A region step keeps the plain state, and an instruction steps it.
+-- A region step keeps the plain state, and an instruction makes a step of it: the law of erasure.
 use Rattle.std.proofs.lemmas.Option.{same_Some}
 use Rattle.std.proofs.Common.{◌≡◌, ℕ, Bool, true, false, List, [], ◌∷◌, ◌++◌, Option, Some, None, refl, sym, ap, ◌∙◌}
 use Rattle.std.proofs.Common.{subst}
@@ -49,6 +49,7 @@ module _ {Y : Type 0} {P : Y → Type 0} where
   yields_then f None h = record { fact = tt }
   yields_then f (Some x) h = h x
 
+  -- what a step yields holds of its result
   pub yields_is : (o : Option Y) (y : Y) → Yields P o → o ≡ Some y → P y
   yields_is o y h e = subst (Always P) e h.fact
 
@@ -57,6 +58,7 @@ pub yields_with : {X Y : Type 0} {P : Y → Type 0} (Q : X → Type 0) (f : X �
 yields_with Q f None y h = record { fact = tt }
 yields_with Q f (Some x) y h = h x y.fact
 
+-- a step that is done only where a test is true
 pub yields_where : {Y : Type 0} {P : Y → Type 0} (b : Bool) (o : Option Y) → (b ≡ true → Yields P o)
     → Yields P (if b then o else None)
 yields_where true o h = h refl
@@ -67,6 +69,7 @@ pub yields_from : {X : Type 0} → {P Q : X → Type 0} → (o : Option X) → Y
 yields_from None y f = record { fact = tt }
 yields_from (Some x) y f = record { fact = f x y.fact }
 
+-- a step from what is found, with the fact that it is found
 pub yields_at : {X Y : Type 0} → {P : Y → Type 0} → (o : Option X) (f : X → Option Y)
     → ((x : X) → o ≡ Some x → Yields P (f x)) → Yields P (option_and_then f o)
 yields_at {X} {Y} {P} o f next = go o refl
@@ -205,6 +208,7 @@ instruct_follows code page_words s pick (Some next) e = with_fact _ (instruct_in
     with_fact None y = yields_none
     with_fact (Some t) y = record { fact = (next, e, y.fact) }
 
+-- each step keeps the plain state or makes a step of it
 pub step_follows : (code : Code) (page_words : ℕ) (s : RegionState) (event : Event)
     → Yields (Follows code page_words s event) (region_step code page_words s event)
 step_follows code page_words s (Instruct pick) = instruct_follows code page_words s pick _ refl

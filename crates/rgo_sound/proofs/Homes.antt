@@ -1,5 +1,5 @@
--- What each action does keeps pointers in their regions, and gives a value that leads into the region of its variable's
--- class.
+-- Each action keeps pointers in their regions; its value leads into the region of its variable's class.
+use Rattle.std.proofs.lemmas.Option.{slice_get_within, slice_get_past}
 use Rattle.rgo_sound.proofs.Places.{contains_here, contains_there}
 use Rattle.rgo_sound.proofs.Tests.{split, eq_of}
 use Rattle.std.proofs.lemmas.Option.{same_Some}
@@ -12,7 +12,7 @@ use Rattle.std.specs.Option.{option_map}
 use Rattle.std.specs.Ordering.{int_eq}
 use Rattle.rgo_sound.proofs.Acting.{performed, silent}
 use Rattle.rgo_sound.proofs.Places.{each_get, each_more, each_replicate, each_set, each_snoc, get_append_last}
-use Rattle.rgo_sound.proofs.Places.{get_append_left, get_below, get_beyond, get_set_other, get_set_same, get_snoc}
+use Rattle.rgo_sound.proofs.Places.{get_append_left, get_set_other, get_set_same, get_snoc}
 use Rattle.rgo_sound.proofs.Places.{length_set}
 use Rattle.rgo_sound.proofs.OneStep.{Allots}
 use Rattle.rgo_ast.specs.declared.ops.BinaryOp.{BinaryOp}
@@ -196,8 +196,9 @@ more_into : (owners given : List Region) (r : Region) (v : Value) → LeadsInto 
 more_into owners given r (value.Int i) h = tt
 more_into owners given r (value.Bool b) h = tt
 more_into owners given r value.Nil h = tt
-more_into owners given r (value.Object o) h = get_append_left owners given o (get_below owners o r h) ∙ h
+more_into owners given r (value.Object o) h = get_append_left owners given o (slice_get_within owners o r h) ∙ h
 
+-- more objects change nothing
 pub more_home : (owners given : List Region) (names : Bindings) (c : Class) (v : Value) → LeadsHome owners names c v
     → LeadsHome (owners ++ given) names c v
 more_home owners given names c (value.Int i) h = tt
@@ -218,6 +219,7 @@ into_home owners names c r (value.Bool b) e h = tt
 into_home owners names c r value.Nil e h = tt
 into_home owners names c r (value.Object o) e h = (r, e, h)
 
+-- from the class of a variable to its region
 pub home_into : (owners : List Region) (names : Bindings) (c : Class) (r : Region) (v : Value) → class_region names c
     ≡ Some r → LeadsHome owners names c v → LeadsInto owners r v
 home_into owners names c r (value.Int i) e h = tt
@@ -225,6 +227,7 @@ home_into owners names c r (value.Bool b) e h = tt
 home_into owners names c r value.Nil e h = tt
 home_into owners names c r (value.Object o) e (q, e', w) = w ∙ (sym e' ∙ e)
 
+-- a value that is no pointer leads home, whatever the class
 pub home_of_plain : (owners : List Region) (names : Bindings) (c : Class) (v : Value) → IsPlain v
     → LeadsHome owners names c v
 home_of_plain owners names c (value.Int i) p = tt
@@ -275,7 +278,7 @@ module _ (fn : CodeFn) (names : Bindings) (owners : List Region) (m : Memory) (h
   still : (m' : Memory) (v : Value) → MemoryHome owners m' → length m'.heap ≡ length m.heap
       → HomeAfter fn names owners to v → Moved (Does m' v)
   still m' v home' l h given allots =
-      let none : given ≡ [] = subst (λ o. Allots region o given) (get_beyond m'.heap (length m.heap) (omega (arith, l)))
+      let none : given ≡ [] = subst (λ o. Allots region o given) (slice_get_past m'.heap (length m.heap) (omega (arith, l)))
       allots in
       let same : owners ++ given ≡ owners = ap (λ x. owners ++ x) none ∙ append-nil owners in
       (subst (λ x. MemoryHome x m') (sym same) home', subst (λ x. HomeAfter fn names x to v) (sym same) h)
@@ -657,7 +660,7 @@ module _ (fn : CodeFn) (names : Bindings) (owners : List Region) (m : Memory) (h
                 ⊎ ((o ≡ length m.heap) × (x ≡ object)) → slice_get (owners ++ r ∷ []) o ≡ Some q
                 → Each (LeadsInto (owners ++ r ∷ []) q) (cells_of x)
             place o x q (inl e) w =
-                let b : o < length owners = let a = get_below m.heap o x e in let l = home.owned in
+                let b : o < length owners = let a = slice_get_within m.heap o x e in let l = home.owned in
                 omega (arith, a, l) in
                 each_more (LeadsInto owners q) (LeadsInto (owners ++ r ∷ []) q) (cells_of x)
                 (more_into owners (r ∷ []) q) (home.cells o x q e (sym (get_append_left owners (r ∷ []) o b) ∙ w))

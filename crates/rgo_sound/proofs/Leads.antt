@@ -1,4 +1,5 @@
 -- Where the variables of frames lead, behind each instruction.
+use Rattle.std.proofs.lemmas.Option.{slice_get_within}
 use Rattle.rgo_sound.proofs.Places.{get_contains}
 use Rattle.rgo_sound.proofs.Places.{contains_here, contains_there}
 use Rattle.rgo_sound.proofs.Tests.{ne_of}
@@ -13,7 +14,7 @@ use Rattle.std.specs.List.{list_any}
 use Rattle.std.proofs.lemmas.Option.{slice_get-map, get_or_from_slice_get}
 use Rattle.rgo_sound.proofs.Acting.{Acted, act, act_at, alone, call, effected, moves, returned, start, trap_place}
 use Rattle.rgo_sound.proofs.Acting.{performed}
-use Rattle.rgo_sound.proofs.Places.{each_get, get_append_cases, get_below, get_set_other}
+use Rattle.rgo_sound.proofs.Places.{each_get, get_append_cases, get_set_other}
 use Rattle.rgo_sound.proofs.OneStep.{Allots, current_erased}
 use Rattle.rgo_sound.proofs.ErasureLemmas.{Always}
 use Rattle.rgo_sound.proofs.Static.{live_back}
@@ -193,6 +194,7 @@ no_object_set vs d o e = go (value_set vs d value.Nil)
     go (inl q) = clash (sym q ∙ e)
     go (inr q) = clash (sym q ∙ e)
 
+-- what is no pointer at each place of a list
 pub plain_at : (vs : List Value) (v : ℕ) → Each IsPlain vs → IsPlain (get_or vs v value.Nil)
 plain_at [] v h = tt
 plain_at (x ∷ xs) zero h = h.0
@@ -403,6 +405,7 @@ home_of_nil owners names c (value.Bool b) e = tt
 home_of_nil owners names c value.Nil e = tt
 home_of_nil owners names c (value.Object o) e = cc
 
+-- zeros are no pointers
 pub zeros_plain : (tys : List «Type») → Each IsPlain (map zero_of tys)
 zeros_plain [] = tt
 zeros_plain (ty ∷ tys) = (zero_plain ty, zeros_plain tys)
@@ -601,7 +604,7 @@ module _ (code : Code) (checked : IsChecked code) (owners : List Region) (m : Me
       argument x (Some b) a e q =
           let xb : value_at frame b ≡ x = same_Some (value_at frame b) x
           (sym (slice_get-map (value_at frame) from v ∙ ap (option_map (value_at frame)) a) ∙ e) in
-          let below : v < callee.params = let z = get_below from v b a in omega (arith, z, args) in
+          let below : v < callee.params = let z = slice_get_within from v b a in omega (arith, z, args) in
           let h = more_home owners given f.names (class_of fn b) (value_at frame b)
           (reads_home b (read b (get_contains from v b a))) in
           formal_home (owners ++ given) f.names (region_parameters callee) passes (class_of callee v) (class_of fn b)

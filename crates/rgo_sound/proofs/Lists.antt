@@ -1,4 +1,5 @@
 -- The lists of a call, from the rules.
+use Rattle.std.proofs.lemmas.Option.{slice_get_within}
 use Rattle.rgo_sound.proofs.Tests.{or_there}
 use Rattle.rgo_sound.proofs.Places.{contains_get}
 use Rattle.rgo_sound.proofs.Places.{get_contains}
@@ -10,7 +11,7 @@ use Rattle.std.proofs.Common.{Option, Some, refl, sym, ap, ◌∙◌, subst, nat
 use Rattle.std.proofs.Common.{true≢false, slice_get, Contains}
 use Rattle.std.proofs.lemmas.List.Elements.{Contains-append_left, Contains-append_right, Contains-append_cases}
 use Rattle.std.specs.List.{list_any}
-use Rattle.rgo_sound.proofs.Places.{get_below, get_some}
+use Rattle.rgo_sound.proofs.Places.{get_some}
 use Rattle.rgo_sound.proofs.Static.{is_named}
 use Rattle.rgo_sound.proofs.CallRules.{any_contains}
 use Rattle.rgo_sound.proofs.Calls.{AreFormals, given_free}
@@ -107,6 +108,7 @@ any_at k (c ∷ cs) e = go (is_name k c) refl e (any_at k cs)
     go true q e next = (0, ap Some (is_named k c q))
     go false q e next = let x = next e in (suc x.0, x.1)
 
+-- the region parameters of a function are names, each once
 pub formals_once : (g : CodeFn) → AreFormals (region_parameters g)
 formals_once g = are_formals [] (parameter_classes g.params g.variables ++ result_class g ∷ [])
 
@@ -232,7 +234,7 @@ gives_are code fn g i to n from passes protects removes names found long rule k 
         at : (p : ℕ) × (slice_get passes p ≡ Some (Name k))
             → 1 ≤ times_in k (given_names (result_class g) (region_parameters g) passes protects)
         at (p, e) = formal (get_some (region_parameters g) p
-            (let y = get_below passes p (Name k) e in omega (arith, y, long)))
+            (let y = slice_get_within passes p (Name k) e in omega (arith, y, long)))
           where
             formal : (f : Class) × (slice_get (region_parameters g) p ≡ Some f)
                 → 1 ≤ times_in k (given_names (result_class g) (region_parameters g) passes protects)

@@ -66,6 +66,7 @@ module _ (code : Code) (s : RegionState) (r u : ℕ) (fine : Fine code s) (rules
         (subst (λ f. GoodHolder code f (gone_on y k')) (sym (ap (λ z. frames_in (slice_get z u)) gs
         ∙ ap frames_in (get_set_same (slice_set s.plain.goroutines r a') u b b' sender_there))) good)
 
+-- a meeting keeps what holds of the state
 pub fine_meet : (code : Code) (s t : RegionState) (r u : ℕ) → Fine code s → IsRuled code → MeetDone code s r u t
     → Fine code t
 fine_meet code s t r u fine rules x =

@@ -1,5 +1,5 @@
--- Offers: a standing one is that of the send at which its goroutine stands, and one that was taken is on a live
--- channel.
+-- Offers: a standing one is that of the send of its goroutine, and one that was taken is on a live channel.
+use Rattle.std.proofs.lemmas.Option.{slice_get_within}
 use Rattle.rgo_sound.proofs.Places.{contains_here}
 use Rattle.rgo_sound.proofs.Tests.{split, eq_of}
 use Rattle.std.proofs.lemmas.Option.{same_Some}
@@ -7,7 +7,7 @@ use Rattle.std.proofs.Common.{◌≡◌, ℕ, zero, suc, ◌+◌, ◌==◌, Bool
 use Rattle.std.proofs.Common.{Some, None, refl, sym, ap, ◌∙◌, subst, nat_eq, nat_lt, if◌then◌else◌, arith, true≢false}
 use Rattle.std.proofs.Common.{slice_get, slice_set, option_map, option_and_then, ◌⊎◌, inl, inr, Contains}
 use Rattle.std.specs.Prelude.{ℤ, pos, negsuc, Result, Ok, Err}
-use Rattle.rgo_sound.proofs.Places.{get_append_left, get_append_place, get_below, get_set_other, get_set_same}
+use Rattle.rgo_sound.proofs.Places.{get_append_left, get_append_place, get_set_other, get_set_same}
 use Rattle.rgo_sound.proofs.Places.{length_set}
 use Rattle.rgo_sound.proofs.Bullets.{name_staked, duty_staked, has_stake}
 use Rattle.rgo_sound.proofs.ErasureLemmas.{Always, Yields, yields, yields_none, yields_if, yields_then, yields_is}
@@ -275,7 +275,7 @@ module _ (m : Memory) where
     where
       keeps : (p : ℕ) (x : Object) → slice_get m.heap p ≡ Some x → capacity_of x ≡ Some 0
           → IsUnbuffered (record m { heap = m.heap ++ object ∷ [] }) p
-      keeps p x q c = (x, get_append_left m.heap (object ∷ []) p (get_below m.heap p x q) ∙ q, c)
+      keeps p x q c = (x, get_append_left m.heap (object ∷ []) p (slice_get_within m.heap p x q) ∙ q, c)
 
   news : (o : Option Struct) → Steady m true (made_struct o m)
   news None = stays m true value.Nil
@@ -340,6 +340,7 @@ module _ (m : Memory) (structs : List Struct) (ty : «Type») where
   steady (Set n) vs = takes_one m false structs (Set n) ty refl (λ v. ((λ o u. u), λ f. refl)) (λ v w. refl)
       (λ u v w. refl) vs
 
+-- the instruction makes an object
 abbrev pub makes_at : CodeOp → Bool
 makes_at (Do to action from removes) = makes_object action
 makes_at op = false
@@ -377,6 +378,7 @@ module _ (code : Code) (m : Memory) where
   acts_steady (Return value) place frame [] = ((λ o u. u), λ f. refl)
   acts_steady (Return value) place frame (caller ∷ callers) = ((λ o u. u), λ f. refl)
 
+  -- an instruction keeps channels, and makes an object only where it is one that does
   pub alone_steady : (frame : Frame) (callers : List Frame) (instr : CodeInstr) → current code frame ≡ Some instr
       → Always (SteadyActed m (makes_at instr.op)) (alone (erased code) m (frame ∷ callers))
   alone_steady frame callers instr cur = subst (λ o. Always (SteadyActed m (makes_at instr.op))
@@ -385,6 +387,7 @@ module _ (code : Code) (m : Memory) where
 
 -- ---- what an instruction touches, and where it makes an offer
 
+-- the object that an action touches is its first operand
 pub touched_first : (action : Action) (vs : List Value) (o : ℕ) → touched_by action vs ≡ Some o → (rest : List Value)
     × (vs ≡ value.Object o ∷ rest)
 touched_first (Int k) vs o e = cc
@@ -441,6 +444,7 @@ touched_first Close (value.Object p ∷ vs) o e = (vs, ap (λ x. value.Object x 
 touched_first (Get name) vs o e = cc
 touched_first (Set name) vs o e = cc
 
+-- the instruction is a send on this channel, which is unbuffered
 pub record OffersAt (s : RegionState) (frame : Frame) (op : CodeOp) (o : ℕ) : Type 0 where
   pub to : Option ℕ
   pub channel : ℕ
@@ -450,6 +454,7 @@ pub record OffersAt (s : RegionState) (frame : Frame) (op : CodeOp) (o : ℕ) : 
   pub channel_is : value_at frame channel ≡ value.Object o
   pub unbuffered : IsUnbuffered s.plain.memory o
 
+-- only such a send makes an offer
 pub offers_at : (s : RegionState) (frame : Frame) (op : CodeOp) (o : ℕ) → offered_channel s frame op ≡ Some o
     → OffersAt s frame op o
 offers_at s frame (Do to act' from removes) o q = action act' from q
@@ -537,6 +542,7 @@ offers_at s frame (Return value) o q = cc
 
 -- ---- each step
 
+-- an instruction changes no offer
 pub after_offer : (code : Code) (k : Holder) (frame : Frame) (callers : List Frame) (op : CodeOp) (next : List Frame)
     → (holder_after code k frame callers op next).offer ≡ k.offer
 after_offer code k frame callers (Do to action from removes) next = refl
@@ -791,7 +797,7 @@ module _ (code : Code) (s : RegionState) (old : OffersFit code s) where
           (alone_steady code s.plain.memory x.frame x.callers x.instr x.cur)).0
 
       more : (o : ℕ) (r : Region) → slice_get s.owners o ≡ Some r → slice_get (s.owners ++ x.given.1) o ≡ Some r
-      more o r w = get_append_left s.owners x.given.1 o (get_below s.owners o r w) ∙ w
+      more o r w = get_append_left s.owners x.given.1 o (slice_get_within s.owners o r w) ∙ w
 
       given_offer : x.given.0.offer ≡ x.h.offer
       given_offer = ap (λ (y : Holder). y.offer) x.same.same
@@ -857,7 +863,7 @@ module _ (code : Code) (s : RegionState) (old : OffersFit code s) where
               ≡ x.frame ∷ x.callers
           frames_same =
               ap frames_in (get_append_left (slice_set s.plain.goroutines g x.a.frames) x.a.started g
-              (let b = get_below s.plain.goroutines g (x.frame ∷ x.callers) x.at in let l =
+              (let b = slice_get_within s.plain.goroutines g (x.frame ∷ x.callers) x.at in let l =
               length_set s.plain.goroutines g x.a.frames in omega (arith, b, l)))
               ∙ ap frames_in (get_set_same s.plain.goroutines g (x.frame ∷ x.callers) x.a.frames x.at)
               ∙ ap (λ (y : Acted). y.frames) trapped.1
@@ -909,7 +915,7 @@ module _ (code : Code) (s : RegionState) (old : OffersFit code s) where
           (sym k_offer) (own x.h.offer refl (old.fits g x.h x.there)))))
           (λ n. carry (instructed_with code s g x.frame x.callers x.instr (after s.plain g x.a) x.given) j y
           (ap frames_in (get_append_left (slice_set s.plain.goroutines g x.a.frames) x.a.started j
-          (let b = get_below _ j y q in let l = long in omega (arith, b, l)))
+          (let b = slice_get_within _ j y q in let l = long in omega (arith, b, l)))
           ∙ ap frames_in (get_set_other s.plain.goroutines g j x.a.frames n))
           more steadily y.offer (old.fits j y (sym (get_set_other s.holders g j _ n) ∙ q)))
 
@@ -1035,6 +1041,7 @@ module _ (code : Code) (s : RegionState) (old : OffersFit code s) where
 
 -- ---- all of it, in every run
 
+-- each step keeps the whole invariant
 pub all_good_step : (code : Code) (page_words : ℕ) (s : RegionState) (event : Event) → IsChecked code → Ascends code
     → AllGood code s → Yields (AllGood code) (region_step code page_words s event)
 all_good_step code page_words s event checked written all =
@@ -1045,6 +1052,7 @@ all_good_step code page_words s event checked written all =
     go None a b = yields_none
     go (Some t) a b = yields t (record { good = a.fact; offers = b.fact })
 
+-- the whole invariant holds at the start
 pub all_good_start : StartIsGood
 all_good_start code checked written = record { good = good_start code checked written; offers = record { fits = fits } }
   where
@@ -1067,6 +1075,7 @@ runs_are_good code page_words events s checked written r =
 
 -- ---- what the next step names is Global, or live with an own stake
 
+-- a goroutine has a stake in the region of each class of its top frame
 pub class_has_stake : (code : Code) (s : RegionState) (g : ℕ) (h : Holder) (frame : Frame) (callers : List Frame)
     (top : Top code h frame callers) (c : Class) (r : Region) → Fine code s → slice_get s.holders g ≡ Some h
     → class_region top.f.names c ≡ Some r → HasStake s h r

@@ -39,6 +39,7 @@ use Rattle.rgo_typed.specs.declared.actions.Action.TheVariants.{Get, Int, IsNil,
 use Rattle.rgo_typed.specs.declared.actions.Action.TheVariants.{Recv, Send, Set, Slice, Store}
 use Rattle.rgo_memory.specs.declared.values.Value.TheVariants as value
 
+-- only the fills of pages differ
 pub record SameHolder (h k : Holder) : Type 0 where
   pub fills : List (Region × ℕ)
   pub same : k ≡ record h { fills = fills }
@@ -77,6 +78,7 @@ current_erased code frame = ap (option_and_then (λ f. slice_get f.body frame.ne
 
 -- ---- where a goroutine stands at a channel
 
+-- the goroutine is to receive on c
 pub record ReceivesAt (code : Code) (frames : List Frame) (c : Value) (go_on : Value → List Frame) : Type 0 where
   pub frame : Frame
   pub callers : List Frame
@@ -90,6 +92,7 @@ pub record ReceivesAt (code : Code) (frames : List Frame) (c : Value) (go_on : V
   pub channel_is : c ≡ value_at frame channel
   pub goes : (v : Value) → go_on v ≡ going frame to v ∷ callers
 
+-- the goroutine is to send v on c
 pub record SendsAt (code : Code) (frames : List Frame) (c v : Value) (next : List Frame) : Type 0 where
   pub frame : Frame
   pub callers : List Frame
@@ -113,6 +116,7 @@ StandsAt code frame callers (AtCall next callee) = Unit {0}
 StandsAt code frame callers (AtStart next child) = Unit {0}
 StandsAt code frame callers Elsewhere = Unit {0}
 
+-- where the plain machine is to receive or to send, so is the code
 pub stands_at_channel : (code : Code) (frame : Frame) (callers : List Frame)
     → StandsAt code frame callers (stand (erased code) frame)
 stands_at_channel code frame callers = subst (λ o. StandsAt code frame callers (stand_at (erased code) frame o))
@@ -224,6 +228,7 @@ action_edge op frame to action from removes is = subst (λ (o : CodeOp).
     Contains {X = ℕ × List ℕ} (edges o frame.next) (frame.next + 1, removes_behind frame o)) (sym is)
     (contains_here {X = ℕ × List ℕ} (frame.next + 1, removes) [])
 
+-- a receive goes on along an edge
 pub receive_goes : {code : Code} → {frames : List Frame} → {c : Value} → {go_on : Value → List Frame}
     → ReceivesAt code frames c go_on → (v : Value) → OnFrom code frames (go_on v)
 receive_goes x v =
@@ -242,6 +247,7 @@ receive_goes x v =
           action_edge x.instr.op x.frame x.to Recv (x.channel ∷ []) x.removes x.is;
     }
 
+-- a send goes on along an edge
 pub send_goes : {code : Code} → {frames : List Frame} → {c v : Value} → {next : List Frame}
     → SendsAt code frames c v next → OnFrom code frames next
 send_goes x =
@@ -260,6 +266,7 @@ send_goes x =
           action_edge x.instr.op x.frame x.to Send (x.channel ∷ x.sent ∷ []) x.removes x.is;
     }
 
+-- what a goroutine owes after an instruction that is no call, no start and no return
 pub after_simple : (code : Code) (h : Holder) (frame : Frame) (callers : List Frame) (op : CodeOp) (next : List Frame)
     → IsSimple op → holder_after code h frame callers op next
     ≡ record h { duties = map Remove (removes_behind frame op) ++ next_duties code next }
@@ -278,6 +285,7 @@ gone_on {code} x h = record h {
       ++ next_duties code (x.frame' ∷ x.callers);
 }
 
+-- what a goroutine owes after its side of a meeting
 pub side_is : (code : Code) (h : Holder) (frames next : List Frame) (x : OnFrom code frames next)
     → side_after code h frames next ≡ gone_on x h
 side_is code h frames next x =
@@ -309,6 +317,7 @@ pub record Ready (s : RegionState) (h : Holder) (frame : Frame) (instr : CodeIns
   pub free : may_go h.offer ≡ true
   pub live : may_touch s (touched frame instr.op) ≡ true
 
+-- what the test says that a goroutine is ready
 pub ready_is : (code : Code) (s : RegionState) (h : Holder) (frame : Frame) (callers : List Frame) (instr : CodeInstr)
     → current code frame ≡ Some instr → is_ready code s h (frame ∷ callers) ≡ true → Ready s h frame instr
 ready_is code s h frame callers instr cur r = go (has_none h.duties) refl (may_go h.offer) refl
@@ -339,6 +348,7 @@ pub record OneDone (code : Code) (page_words : ℕ) (s : RegionState) (g : ℕ) 
       (new_object s.plain (after s.plain g a)) given.1
   pub is : t ≡ instructed_with code s g frame callers instr (after s.plain g a) given
 
+-- a step of one goroutine, unfolded
 pub one_done : (code : Code) (page_words : ℕ) (s : RegionState) (g : ℕ)
     → Yields (OneDone code page_words s g) (region_step code page_words s (Instruct (One g)))
 one_done code page_words s g = runs s.plain.ended refl
@@ -414,6 +424,7 @@ one_done code page_words s g = runs s.plain.ended refl
 abbrev pub met_with : TacState → ℕ → ℕ → List Frame → List Frame → TacState
 met_with p r u receiver sender = with_frames (with_frames p r receiver) u sender
 
+-- a meeting that was done, with all that was tested
 pub record MeetDone (code : Code) (s : RegionState) (r u : ℕ) (t : RegionState) : Type 0 where
   pub running : s.plain.ended ≡ None
   pub apart : nat_eq r u ≡ false
@@ -444,6 +455,7 @@ pub record MeetDone (code : Code) (s : RegionState) (r u : ℕ) (t : RegionState
   pub holders : t.holders ≡ slice_set (slice_set s.holders r (gone_on (receive_goes receives v) h)) u
       (record (gone_on (send_goes sends) k) { offer = taken_offer k.offer })
 
+-- a meeting, unfolded
 pub meet_done : (code : Code) (page_words : ℕ) (s : RegionState) (r u : ℕ)
     → Yields (MeetDone code s r u) (region_step code page_words s (Instruct (Meet r u)))
 meet_done code page_words s r u = runs s.plain.ended refl

@@ -1,4 +1,5 @@
--- Pages, offers, acknowledgements, ends and the start; and all runs.
+-- Pages, offers, acknowledgements, ends and the start keep what holds of a state; and so does each step.
+use Rattle.std.proofs.lemmas.Option.{slice_get_within}
 use Rattle.rgo_sound.proofs.Places.{contains_here, contains_nil}
 use Rattle.rgo_sound.proofs.Tests.{split, eq_of}
 use Rattle.std.proofs.lemmas.Option.{same_Some}
@@ -8,7 +9,7 @@ use Rattle.std.proofs.Common.{slice_get, slice_set, option_map, option_and_then,
 use Rattle.std.specs.Prelude.{bytes_eq, codes}
 use Rattle.std.proofs.lemmas.Option.{slice_get-map}
 use Rattle.std.proofs.lemmas.Slice.Eq.{bytes_eq-Decides}
-use Rattle.rgo_sound.proofs.Places.{ascending_distinct, get_below, get_some}
+use Rattle.rgo_sound.proofs.Places.{ascending_distinct, get_some}
 use Rattle.rgo_sound.proofs.ErasureLemmas.{Yields, yields, yields_none, yields_if, yields_then, yields_at, yields_from}
 use Rattle.rgo_sound.proofs.Attends.{fine_with, total_set, with_info_same, with_info_other, length_with_info, duties_go}
 use Rattle.rgo_sound.proofs.Shares.{shares_next}
@@ -79,7 +80,7 @@ module _ (code : Code) (page_words : ℕ) (s : RegionState) (fine : Fine code s)
       old : (q : ℕ) (info : RegionInfo) → slice_get (with_info s.regions r one_page_more) q ≡ Some info → info.stakes
           ≡ holders_of s q + pending_of s q
       old q info i = split (nat_eq r q) (λ t. here t (get_some s.regions q
-          (let x = get_below (with_info s.regions r one_page_more) q info i in omega (arith, x, long))))
+          (let x = slice_get_within (with_info s.regions r one_page_more) q info i in omega (arith, x, long))))
           (λ n. fine.counted q info (sym (with_info_other s.regions r q one_page_more n) ∙ i))
         where
           here : nat_eq r q ≡ true → (o : RegionInfo) × (slice_get s.regions q ≡ Some o) → info.stakes
@@ -183,6 +184,7 @@ module _ (code : Code) (page_words : ℕ) (s : RegionState) (fine : Fine code s)
       by (Go n from passes removes) is = fine_start_of code page_words s t g x n from passes removes checked written
           fine is
 
+  -- each step keeps what holds of a state
   pub fine_step : (event : Event) → IsChecked code → Ascends code
       → Yields (Fine code) (region_step code page_words s event)
   fine_step (Instruct (One g)) checked written = yields_from _ (one_done code page_words s g)
@@ -232,6 +234,7 @@ pub record Main (code : Code) : Type 0 where
   -- it is the first of that name
   pub begins : main_frames (erased code).functions 0 ≡ called (erased_fn main) number [] ∷ []
 
+-- the function main of checked code
 pub main_of : (code : Code) → IsChecked code → Main code
 main_of code checked =
     record {
@@ -289,6 +292,7 @@ no_elements : (ks : List ℕ) → ((k : ℕ) → Contains ks k → ⊥) → ks �
 no_elements [] n = refl
 no_elements (k ∷ ks) n = absurd (n k (contains_here k ks))
 
+-- it holds at the start
 pub fine_start : (code : Code) → IsChecked code → Ascends code → Fine code (region_start code)
 fine_start code checked written =
     record {

@@ -1,4 +1,5 @@
 -- Pages are taken for objects: a goroutine that took a page makes an object there before it takes another.
+use Rattle.std.proofs.lemmas.Option.{slice_get_within, slice_get_past}
 use Rattle.rgo_sound.proofs.Tests.{and_split}
 use Rattle.rgo_sound.proofs.Tests.{split, eq_of}
 use Rattle.rgo_sound.proofs.Tests.{nat_eq_refl, nat_ne_sym}
@@ -61,7 +62,7 @@ use Rattle.rgo_sound.proofs.Offers.{alone_steady, SteadyActed, makes_at}
 use Rattle.rgo_sound.proofs.OneStep.{OneDone, one_done, MeetDone, meet_done, current_erased, gone_on, none_owed}
 use Rattle.rgo_sound.proofs.OneStep.{receive_goes, send_goes}
 use Rattle.rgo_sound.proofs.Others.{fine_step, fine_start}
-use Rattle.rgo_sound.proofs.Places.{get_append_left, get_below, get_beyond, get_set_other, get_set_same, length_set}
+use Rattle.rgo_sound.proofs.Places.{get_append_left, get_set_other, get_set_same, length_set}
 use Rattle.rgo_sound.proofs.Progress.{fill_with}
 use Rattle.rgo_sound.proofs.RunLemmas.{run_keeps}
 use Rattle.rgo_sound.specs.Invariant.{Fine}
@@ -241,7 +242,7 @@ makes_next code m frame callers instr a object cur acts q =
     grown = subst (Always (SteadyActed m (makes_at instr.op))) acts (alone_steady code m frame callers instr cur)
 
     still : length a.memory.heap ≡ length m.heap → ⊥
-    still e = let x : None ≡ Some object = sym (get_beyond a.memory.heap (length m.heap) (omega (arith, e))) ∙ q in cc
+    still e = let x : None ≡ Some object = sym (slice_get_past a.memory.heap (length m.heap) (omega (arith, e))) ∙ q in cc
 
     by : MakesAlone code frame callers → MakesNext code frame callers (words object)
     by x = view x.view
@@ -629,7 +630,7 @@ module _ (code : Code) (page_words : ℕ) (s : RegionState) (paged : Paged code 
           k = record h { fills = with_fill h.fills r 0 }
 
           below : g < length s.holders
-          below = get_below s.holders g h there
+          below = slice_get_within s.holders g h there
 
           full_now : Full code page_words s.plain g (record h { fills = with_fill h.fills r 0 })
           full_now =
@@ -727,7 +728,7 @@ module _ (code : Code) (page_words : ℕ) (s : RegionState) (paged : Paged code 
   paged_one g t fine x = subst (Paged code page_words) (sym x.is) done
     where
       below : g < length s.holders
-      below = get_below s.holders g x.h x.there
+      below = slice_get_within s.holders g x.h x.there
 
       grows : length s.plain.memory.heap ≤ length x.a.memory.heap
       grows = heap_grows code s.plain.memory x.frame x.callers x.instr x.a x.cur x.acts

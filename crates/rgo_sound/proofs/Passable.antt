@@ -1,4 +1,5 @@
 -- What a call passes has a region.
+use Rattle.std.proofs.lemmas.Option.{slice_get_within}
 use Rattle.rgo_sound.proofs.Places.{get_contains}
 use Rattle.rgo_sound.proofs.Places.{contains_one}
 use Rattle.std.proofs.lemmas.Option.{same_Some}
@@ -8,7 +9,7 @@ use Rattle.std.proofs.Common.{option_map}
 use Rattle.std.specs.Prelude.{take}
 use Rattle.std.proofs.lemmas.List.Elements.{Contains-append_cases}
 use Rattle.std.proofs.lemmas.Option.{slice_get-map}
-use Rattle.rgo_sound.proofs.Places.{get_below, get_some}
+use Rattle.rgo_sound.proofs.Places.{get_some}
 use Rattle.rgo_sound.proofs.Calls.{ArePassable}
 use Rattle.rgo_sound.proofs.Ruled.{distinct_member, parameter_member}
 use Rattle.rgo_code.specs.ClassRules.{IsPassedFor, Passes, ResultFits, SlotFits}
@@ -127,7 +128,7 @@ module _ (fn g : CodeFn) (instr : CodeInstr) (to : Option ℕ) (from : List ℕ)
   slot_of (Some s) m e = (s, refl, e)
 
   each : (p : ℕ) (c : Class) → slice_get passes p ≡ Some c → IsThere names c
-  each p c e = formal (get_some (region_parameters g) p (let x = get_below passes p c e in let y = fits.len in
+  each p c e = formal (get_some (region_parameters g) p (let x = slice_get_within passes p c e in let y = fits.len in
       omega (arith, x, y)))
     where
       formal : (f : Class) × (slice_get (region_parameters g) p ≡ Some f) → IsThere names c

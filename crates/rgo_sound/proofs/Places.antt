@@ -1,6 +1,6 @@
--- Lists by number: what stands at a place after a write, in a longer list, and of each.
+-- Lists by position: after a write, in a longer list, and of each element; and being in a list.
 use Rattle.std.proofs.lemmas.Option.{same_Some}
-use Rattle.std.proofs.Common.{◌≡◌, ℕ, zero, suc, ◌+◌, ◌≤◌, ◌<◌, false, List, [], ◌∷◌, ◌++◌, length, Some, None}
+use Rattle.std.proofs.Common.{◌≡◌, ℕ, zero, suc, ◌+◌, ◌<◌, false, List, [], ◌∷◌, ◌++◌, length, Some}
 use Rattle.std.proofs.Common.{refl, ap, subst, nat_eq, arith, ◌⊎◌, inl, inr, slice_get, slice_set, slice_index}
 use Rattle.std.proofs.Common.{replicate, rules}
 use Rattle.std.specs.List.{Contains}
@@ -36,16 +36,12 @@ length_set [] i v = refl
 length_set (x ∷ xs) zero v = refl
 length_set (x ∷ xs) (suc i) v = let e = length_set xs i v in omega (arith, e)
 
-pub get_below : {X : Type 0} (xs : List X) (i : ℕ) (x : X) → slice_get xs i ≡ Some x → i < length xs
-get_below [] i x h = cc
-get_below (y ∷ ys) zero x h = omega arith
-get_below (y ∷ ys) (suc i) x h = let k = get_below ys i x h in omega (arith, k)
-
 pub get_some : {X : Type 0} (xs : List X) (i : ℕ) → i < length xs → (x : X) × (slice_get xs i ≡ Some x)
 get_some [] i h = absurd (omega (arith, h))
 get_some (y ∷ ys) zero h = (y, refl)
 get_some (y ∷ ys) (suc i) h = get_some ys i (omega (arith, h))
 
+-- an element of a list with one more
 pub get_snoc : {X : Type 0} (xs : List X) (x : X) (i : ℕ) (y : X) → slice_get (xs ++ x ∷ []) i ≡ Some y
     → (slice_get xs i ≡ Some y) ⊎ ((i ≡ length xs) × (y ≡ x))
 get_snoc [] x zero y h = inr (refl, cc)
@@ -77,6 +73,7 @@ get_append_cases [] ys i x e = inr (i, e)
 get_append_cases (y ∷ xs) ys zero x e = inl e
 get_append_cases (y ∷ xs) ys (suc i) x e = get_append_cases xs ys i x e
 
+-- an element of two lists is at a position of one of them
 pub get_append_place : {X : Type 0} (xs ys : List X) (i : ℕ) (x : X) → slice_get (xs ++ ys) i ≡ Some x
     → (slice_get xs i ≡ Some x) ⊎ ((j : ℕ) × (i ≡ length xs + j) × (slice_get ys j ≡ Some x))
 get_append_place [] ys i x e = inr (i, omega arith, e)
@@ -93,11 +90,6 @@ pub get_append_right : {X : Type 0} (xs ys : List X) (i j : ℕ) → i ≡ lengt
 get_append_right [] ys i j e = ap (slice_get ys) (omega (arith, e))
 get_append_right (x ∷ xs) ys zero j e = absurd (omega (arith, e))
 get_append_right (x ∷ xs) ys (suc i) j e = get_append_right xs ys i j (omega (arith, e))
-
-pub get_beyond : {X : Type 0} (xs : List X) (i : ℕ) → length xs ≤ i → slice_get xs i ≡ None
-get_beyond [] i h = refl
-get_beyond (x ∷ xs) zero h = absurd (omega (arith, h))
-get_beyond (x ∷ xs) (suc i) h = get_beyond xs i (omega (arith, h))
 
 -- ---- of each
 
@@ -181,11 +173,13 @@ stands_or_not (x ∷ xs) v = go (stands_or_not xs v)
         neither f (inl e) = refutes x v f e
         neither f (inr c) = n c
 
+-- what is at a position is in the list
 pub get_contains : {X : Type 0} (xs : List X) (p : ℕ) (x : X) → slice_get xs p ≡ Some x → Contains xs x
 get_contains [] p x e = cc
 get_contains (y ∷ ys) zero x e = subst (λ z. Contains (y ∷ ys) z) (same_Some y x e) (contains_here y ys)
 get_contains (y ∷ ys) (suc p) x e = contains_there y ys x (get_contains ys p x e)
 
+-- what is in the list is at a position
 pub contains_get : {X : Type 0} (xs : List X) (x : X) → Contains xs x → (p : ℕ) × (slice_get xs p ≡ Some x)
 contains_get [] x c = absurd (contains_nil x c)
 contains_get (y ∷ ys) x c = go (contains_cases y ys x c) (λ d. contains_get ys x d)

@@ -1,5 +1,5 @@
--- No step is missing: where the three-address machine has an instruction's step, the region machine has one after some
--- region steps.
+-- No step is missing: each instruction of the three-address machine can be done after some region steps.
+use Rattle.std.proofs.lemmas.Option.{slice_get_within, slice_get_past}
 use Rattle.rgo_sound.proofs.Tests.{split, eq_of}
 use Rattle.rgo_sound.proofs.Tests.{nat_eq_refl, nat_ne_sym}
 use Rattle.std.proofs.lemmas.Option.{same_Some}
@@ -9,7 +9,7 @@ use Rattle.std.proofs.Common.{if◌then◌else◌, arith, true≢false, slice_ge
 use Rattle.std.proofs.Common.{rules}
 use Rattle.std.specs.List.{list_any}
 use Rattle.std.proofs.lemmas.Bool.Decides.{nat_tests}
-use Rattle.rgo_sound.proofs.Places.{get_below, get_beyond, get_set_other, get_set_same, get_some}
+use Rattle.rgo_sound.proofs.Places.{get_set_other, get_set_same, get_some}
 use Rattle.rgo_sound.proofs.OneStep.{ReceivesAt, StandsAt, current_erased, met_with, stands_at_channel}
 use Rattle.rgo_sound.proofs.ErasureLemmas.{Always, Yields, yields, yields_none, yields_if, yields_then, yields_is}
 use Rattle.rgo_sound.proofs.Static.{named_bound}
@@ -427,7 +427,7 @@ module _ (code : Code) (checked : IsChecked code) (s : RegionState) (g : ℕ) (h
           (alone_steady code s.plain.memory frame callers instr cur)
 
       none : makes_at instr.op ≡ false → ⊥
-      none n = let x : None ≡ Some object = sym (get_beyond a.memory.heap (length s.plain.memory.heap)
+      none n = let x : None ≡ Some object = sym (slice_get_past a.memory.heap (length s.plain.memory.heap)
           (let l = grown.1 n in omega (arith, l))) ∙ o in cc
 
 -- ---- one goroutine's instruction
@@ -438,6 +438,7 @@ some_is o x e = subst IsSome (sym e) (search rules)
 some_when : {X : Type 0} (b : Bool) (o : Option X) (x : X) → b ≡ true → o ≡ (if b then Some x else None) → IsSome o
 some_when b o x t e = some_is o x (e ∙ ap (λ c. if c then Some x else None) t)
 
+-- a fill that was set is found
 pub fill_with : (fills : List (Region × ℕ)) (r : Region) (n : ℕ) → fill_of (with_fill fills r n) r ≡ Some n
 fill_with [] r n = ap (λ b. if b then Some n else None) (same_reflexive r)
 fill_with (f ∷ fs) r n = go (same_region f.0 r) refl (fill_with fs r n)
@@ -889,7 +890,7 @@ module _ (code : Code) (page_words : ℕ) (checked : IsChecked code) (written : 
 
 get_holder : (s : RegionState) (code : Code) (g : ℕ) → AllGood code s → (fr : List Frame)
     → slice_get s.plain.goroutines g ≡ Some fr → (h : Holder) × (slice_get s.holders g ≡ Some h)
-get_holder s code g all fr e = get_some s.holders g (let a = get_below s.plain.goroutines g fr e in let b =
+get_holder s code g all fr e = get_some s.holders g (let a = slice_get_within s.plain.goroutines g fr e in let b =
     all.good.fine.as_many in omega (arith, a, b))
 
 module _ (code : Code) (page_words : ℕ) (checked : IsChecked code) (written : Ascends code) (s : RegionState)

@@ -239,6 +239,7 @@ module _ (code : Code) (page_words : ℕ) (s : RegionState) (g : ℕ) (h : Holde
       go [] = refl
       go (c ∷ cs) = refl
 
+-- a return keeps what holds of the state
 pub fine_return : (code : Code) (page_words : ℕ) (s t : RegionState) (g : ℕ) (x : OneDone code page_words s g t)
     (value : Option ℕ) → IsChecked code → Ascends code → Fine code s → x.instr.op ≡ Return value → Fine code t
 fine_return code page_words s t g x value checked written fine is =

@@ -1,4 +1,5 @@
 -- Checked code gives the facts that the steps ask for.
+use Rattle.std.proofs.lemmas.Option.{slice_get_within}
 use Rattle.rgo_sound.proofs.Places.{contains_get}
 use Rattle.rgo_sound.proofs.Places.{get_contains}
 use Rattle.rgo_sound.proofs.Places.{contains_here, contains_there, contains_cases, contains_nil, contains_one}
@@ -11,7 +12,7 @@ use Rattle.std.proofs.lemmas.List.Elements.{Contains-append_cases}
 use Rattle.std.proofs.lemmas.List.{length-map}
 use Rattle.std.proofs.lemmas.Option.{slice_get-map}
 use Rattle.std.specs.List.{list_any}
-use Rattle.rgo_sound.proofs.Places.{get_below, get_some}
+use Rattle.rgo_sound.proofs.Places.{get_some}
 use Rattle.rgo_sound.proofs.Static.{asked_names}
 use Rattle.rgo_sound.proofs.Instructs.{IsRuled}
 use Rattle.rgo_code.specs.Checked.{IsChecked}
@@ -146,6 +147,7 @@ parameter_member (suc n) (s ∷ slots) c e = go (contains_cases s.class (paramet
     go (inl q) next = (zero, omega arith, q)
     go (inr d) next = let x = next d in (suc x.0, omega (arith, x.1), x.2)
 
+-- the class of a parameter is listed
 pub parameter_listed : (n : ℕ) (slots : List Slot) (i k : ℕ) → i < n → slot_class (slice_get slots i) ≡ Name k
     → Contains (parameter_classes n slots) (Name k)
 parameter_listed zero slots i k h e = absurd (omega (arith, h))
@@ -166,7 +168,7 @@ passed_is_named fn g to arguments regions k args res passes c =
   where
     at : (p : ℕ) × (slice_get regions p ≡ Some (Name k)) → ((v : ℕ) × Contains arguments v × (class_of fn v ≡ Name k))
         ⊎ ((d : ℕ) × (to ≡ Some d) × (class_of fn d ≡ Name k))
-    at (p, e) = formal (get_some (region_parameters g) p (let x = get_below regions p (Name k) e in let y =
+    at (p, e) = formal (get_some (region_parameters g) p (let x = slice_get_within regions p (Name k) e in let y =
         passes.len in omega (arith, x, y)))
       where
         formal : (f : Class) × (slice_get (region_parameters g) p ≡ Some f)
@@ -265,7 +267,7 @@ next_is_there : (fn : CodeFn) (i j : ℕ) (code : Code) (instr : CodeInstr) (op 
 next_is_there fn i j code instr op removes is here there c = go op is c
   where
     below : i < length fn.body
-    below = get_below fn.body i instr here
+    below = slice_get_within fn.body i instr here
 
     as_long : length (erased_fn fn).body ≡ length fn.body
     as_long = length-map fn.body erased_instr

@@ -1,4 +1,5 @@
 -- A `go` of checked code keeps what holds of the state: the child has the stakes that were pending.
+use Rattle.std.proofs.lemmas.Option.{slice_get_within}
 use Rattle.rgo_sound.proofs.Acting.{no_end}
 use Rattle.rgo_sound.proofs.Places.{contains_here}
 use Rattle.rgo_sound.proofs.Tests.{split, eq_of}
@@ -9,7 +10,7 @@ use Rattle.std.proofs.Common.{if◌then◌else◌, arith, ◌⊎◌, inl, inr, �
 use Rattle.std.proofs.Common.{Contains, length-append}
 use Rattle.std.specs.List.{list_any}
 use Rattle.std.proofs.lemmas.Option.{slice_get-map}
-use Rattle.rgo_sound.proofs.Places.{ascending_distinct, get_append_last, get_append_left, get_below, get_set_other}
+use Rattle.rgo_sound.proofs.Places.{ascending_distinct, get_append_last, get_append_left, get_set_other}
 use Rattle.rgo_sound.proofs.Places.{get_set_same, get_snoc, get_some, length_set}
 use Rattle.rgo_sound.proofs.CoreLemmas.{core_child, bound_held}
 use Rattle.rgo_sound.proofs.Static.{named_bound}
@@ -244,6 +245,7 @@ module _ (code : Code) (checked : IsChecked code) (written : Ascends code) (fram
         map Remove removes ++ next_duties code frames;
   }
 
+  -- what holds of the parent and of its child
   pub record Started (h : Holder) (environments : List Environment) (frame' entered : Frame) (callee : CodeFn) : Type 0
     where
       pub parent : GoodHolder code (frame' ∷ callers) (parent_of h environments (frame' ∷ callers))
@@ -430,6 +432,7 @@ module _ (code : Code) (checked : IsChecked code) (written : Ascends code) (fram
 
 -- ---- the state behind it
 
+-- a sum over a longer list
 pub total_snoc : (f : Holder → ℕ) (hs : List Holder) (h : Holder) → total f (hs ++ h ∷ []) ≡ total f hs + f h
 total_snoc f [] h = omega arith
 total_snoc f (x ∷ xs) h = let e = total_snoc f xs h in omega (arith, e)
@@ -488,7 +491,7 @@ fine_started code s t g h k c frames child fine e rs hs gs ks kp cs cp once good
             (λ n. inl (n, sym (get_set_other s.holders g j k n) ∙ z))
 
     below : (j : ℕ) (x : Holder) → slice_get s.holders j ≡ Some x → j < length (slice_set s.plain.goroutines g frames)
-    below j x q = let a = get_below s.holders j x q in let b = fine.as_many in let d =
+    below j x q = let a = slice_get_within s.holders j x q in let b = fine.as_many in let d =
         length_set s.plain.goroutines g frames in omega (arith, a, b, d)
 
     each : (j : ℕ) (x : Holder) → ((nat_eq g j ≡ false) × (slice_get s.holders j ≡ Some x))
@@ -506,7 +509,7 @@ fine_started code s t g h k c frames child fine e rs hs gs ks kp cs cp once good
         ∙ ap frames_in (get_set_same s.plain.goroutines g old.0 frames old.1))) good_k)
       where
         old : (fs : List Frame) × (slice_get s.plain.goroutines g ≡ Some fs)
-        old = get_some s.plain.goroutines g (let a = get_below s.holders g h e in let b = fine.as_many in
+        old = get_some s.plain.goroutines g (let a = slice_get_within s.holders g h e in let b = fine.as_many in
             omega (arith, a, b))
     each j x (inr (inr (at, is))) =
         subst (λ y. GoodHolder code (frames_of t.plain j) y) (sym is)
@@ -548,6 +551,7 @@ fine_started code s t g h k c frames child fine e rs hs gs ks kp cs cp once good
         ∙ total_snoc (λ (x : Holder). times_in r x.pending) (slice_set s.holders g k) c in
         omega (arith, n, a, b, a', b', d, d', x, y)
 
+-- the last goroutine is the one that was added
 pub last_frames_snoc : (xs : List (List Frame)) (y : List Frame) → last_frames (xs ++ y ∷ []) ≡ y
 last_frames_snoc [] y = refl
 last_frames_snoc (x ∷ []) y = refl
@@ -584,7 +588,7 @@ module _ (code : Code) (page_words : ℕ) (s : RegionState) (g : ℕ) (h : Holde
       → frames_of (next callee) g ≡ frame' ∷ callers
   own callee frames q =
       ap frames_in (get_append_left (slice_set s.plain.goroutines g (frame' ∷ callers)) ((entered callee ∷ []) ∷ []) g
-      (let a = get_below s.plain.goroutines g frames q in let b =
+      (let a = slice_get_within s.plain.goroutines g frames q in let b =
       length_set s.plain.goroutines g (frame' ∷ callers) in omega (arith, a, b)))
       ∙ ap frames_in (get_set_same s.plain.goroutines g frames (frame' ∷ callers) q)
 

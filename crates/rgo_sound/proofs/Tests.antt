@@ -9,6 +9,7 @@ and_third true true false d q = q
 and_third true false c d q = absurd (true≢false (sym q))
 and_third false b c d q = absurd (true≢false (sym q))
 
+-- nothing is counted where the second test is false
 pub none_if : (b : Bool) → one_if (b && false) ≡ 0
 none_if true = refl
 none_if false = refl
@@ -31,6 +32,7 @@ pub or_right : (a b : Bool) → (a || b) ≡ false → b ≡ false
 or_right true b e = cc
 or_right false b e = e
 
+-- it is enough that the second is true
 pub or_there : (a b : Bool) → b ≡ true → (a || b) ≡ true
 or_there true b e = refl
 or_there false b e = e

@@ -79,6 +79,7 @@ called_kinds kinds (ty ∷ tys) (suc params) (v ∷ vs) h = (h.0, called_kinds k
 
 -- ---- frames
 
+-- more objects change nothing
 pub more_frames : (code : Code) (kinds more : List «Type») → Extends kinds more → (frames : List Frame)
     → FramesHaveKinds code kinds frames → FramesHaveKinds code more frames
 more_frames code kinds more ext [] h = tt
@@ -332,6 +333,7 @@ module _ (code : Code) (checked : IsChecked code) where
           (stays code kinds frame callers all (if is_true (value_at frame v) then j else k))
       acts (Return value) is = comes_back value is
 
+  -- what one goroutine does keeps types
   pub alone_fits : (kinds : List «Type») (m : Memory) (frames : List Frame) → MemoryFits code kinds m
       → FramesHaveKinds code kinds frames → Always (ActedFits code kinds) (alone (erased code) m frames)
   alone_fits kinds m [] fits all = tt
@@ -347,11 +349,13 @@ module _ (code : Code) (checked : IsChecked code) where
 
   -- ---- a meeting
 
+  -- a receive that fits, whatever value comes
   pub record ReceiveFits (kinds : List «Type») (c : Value) (go_on : Value → List Frame) : Type 0 where
     pub inner : «Type»
     pub channel : HasKind kinds (chan_of inner) c
     pub next : (v : Value) → HasKind kinds inner v → FramesHaveKinds code kinds (go_on v)
 
+  -- a send that fits
   pub record SendFits (kinds : List «Type») (c v : Value) (next : List Frame) : Type 0 where
     pub inner : «Type»
     pub channel : HasKind kinds (chan_of inner) c
@@ -545,6 +549,7 @@ module _ (code : Code) (checked : IsChecked code) where
       go false ne (Some fs) q None q' = tt
       go false ne (Some fs) q (Some hs) q' = both ne fs q hs q'
 
+  -- each step of the plain machine keeps types
   pub pick_typed : (p : TacState) (pick : Pick) → Typed code p → Always (Typed code) (plain_step code p pick)
   pick_typed p pick t = go p.ended refl
     where

@@ -1,4 +1,5 @@
 -- What each action does keeps the types of the memory, and gives a value of its type.
+use Rattle.std.proofs.lemmas.Option.{slice_get_within}
 use Rattle.rgo_sound.proofs.Tests.{eq_of, split}
 use Rattle.std.proofs.Common.{◌≡◌, ℕ, zero, suc, ◌+◌, ◌<◌, ◌⊎◌, inl, inr, Bool, true, false, List, [], ◌∷◌, ◌++◌, map}
 use Rattle.std.proofs.Common.{length, replicate, Option, Some, None, Result, Ok, Err, refl, sym, ap, ◌∙◌, subst}
@@ -42,7 +43,7 @@ use Rattle.rgo_sound.specs.Types.{Each, HasKind, HaveKinds, MemoryFits, ObjectFi
 use Rattle.rgo_sound.proofs.Acting.{performed, silent}
 use Rattle.rgo_sound.proofs.ErasureLemmas.{Always}
 use Rattle.rgo_sound.proofs.Places.{each_get, each_more, each_replicate, each_set, each_snoc, get_append_last}
-use Rattle.rgo_sound.proofs.Places.{get_append_left, get_below, get_set_other, get_set_same, get_snoc, get_some}
+use Rattle.rgo_sound.proofs.Places.{get_append_left, get_set_other, get_set_same, get_snoc, get_some}
 use Rattle.rgo_sound.proofs.Places.{length_set}
 
 -- ---- types
@@ -93,18 +94,21 @@ abbrev pub Extends : List «Type» → List «Type» → Type 0
 Extends kinds more = (o : ℕ) (ty : «Type») → slice_get kinds o ≡ Some ty → slice_get more o ≡ Some ty
 
 module _ (kinds more : List «Type») (ext : Extends kinds more) where
+  -- more objects change nothing: of a value
   pub more_kind : (ty : «Type») (v : Value) → HasKind kinds ty v → HasKind more ty v
   more_kind ty (value.Int i) h = h
   more_kind ty (value.Bool b) h = h
   more_kind ty value.Nil h = h
   more_kind ty (value.Object o) h = (ext o ty h.0, h.1)
 
+  -- of values
   pub more_kinds : (tys : List «Type») (vs : List Value) → HaveKinds kinds tys vs → HaveKinds more tys vs
   more_kinds [] [] h = tt
   more_kinds [] (v ∷ vs) h = h
   more_kinds (ty ∷ tys) [] h = h
   more_kinds (ty ∷ tys) (v ∷ vs) h = (more_kind ty v h.0, more_kinds tys vs h.1)
 
+  -- of an object
   pub more_object : (structs : List Struct) (ty : «Type») (object : Object)
       → ObjectFits structs kinds ty object → ObjectFits structs more ty object
   more_object structs ty (StructObject cells) (n, is, s, at, h) = (n, is, s, at, more_kinds s.fields cells h)
@@ -114,6 +118,7 @@ module _ (kinds more : List «Type») (ext : Extends kinds more) where
       (e, is, each_more (HasKind kinds e) (HasKind more e) queue (λ v. more_kind e v) h)
 
 module _ (kinds : List «Type») where
+  -- a value read
   pub get_kinds : (tys : List «Type») (vs : List Value) (i : ℕ) (ty : «Type») → HaveKinds kinds tys vs
       → slice_get tys i ≡ Some ty → (v : Value) × (slice_get vs i ≡ Some v) × HasKind kinds ty v
   get_kinds [] vs i ty h e = cc
@@ -121,6 +126,7 @@ module _ (kinds : List «Type») where
   get_kinds (t ∷ tys) (v ∷ vs) zero ty h e = (v, refl, subst (λ x. HasKind kinds x v) (same_Some t ty e) h.0)
   get_kinds (t ∷ tys) (v ∷ vs) (suc i) ty h e = get_kinds tys vs i ty h.1 e
 
+  -- a value written
   pub set_kinds : (tys : List «Type») (vs : List Value) (i : ℕ) (ty : «Type») (v : Value) → HaveKinds kinds tys vs
       → slice_get tys i ≡ Some ty → HasKind kinds ty v → HaveKinds kinds tys (slice_set vs i v)
   set_kinds [] vs i ty v h e k = cc
@@ -129,6 +135,7 @@ module _ (kinds : List «Type») where
       (subst (λ x. HasKind kinds x v) (sym (same_Some t ty e)) k, h.1)
   set_kinds (t ∷ tys) (w ∷ ws) (suc i) ty v h e k = (h.0, set_kinds tys ws i ty v h.1 e k)
 
+  -- the zero of a type has that type
   pub zero_kind : (ty : «Type») → HasKind kinds ty (zero_of ty)
   zero_kind ty = go ty.layers ty.base
     where
@@ -220,6 +227,7 @@ Performed code kinds to (Does m v) =
     (more : List «Type») × Extends kinds more × MemoryFits code more m × GivesKind more to v
 Performed code kinds to (Traps trap) = Unit {0}
 
+-- an object written
 pub set_object : (code : Code) (kinds : List «Type») (m : Memory) (o : ℕ) (ty : «Type») (object : Object)
     → MemoryFits code kinds m → slice_get kinds o ≡ Some ty → ObjectFits code.structs kinds ty object
     → MemoryFits code kinds (with_object m o object)
@@ -233,7 +241,7 @@ set_object code kinds m o ty object fits k h =
     }
   where
     below : o < length m.heap
-    below = let a = get_below kinds o ty k in let b = fits.no_more in omega (arith, a, b)
+    below = let a = slice_get_within kinds o ty k in let b = fits.no_more in omega (arith, a, b)
 
     same : (p : ℕ) (x : Object) → o ≡ p → slice_get (slice_set m.heap o object) p ≡ Some x
         → (old : Object) × (slice_get m.heap o ≡ Some old)
@@ -249,8 +257,9 @@ set_object code kinds m o ty object fits k h =
         )
 
 extends_snoc : (kinds : List «Type») (ty : «Type») → Extends kinds (kinds ++ ty ∷ [])
-extends_snoc kinds ty o t e = get_append_left kinds (ty ∷ []) o (get_below kinds o t e) ∙ e
+extends_snoc kinds ty o t e = get_append_left kinds (ty ∷ []) o (slice_get_within kinds o t e) ∙ e
 
+-- an object made
 pub make_object : (code : Code) (kinds : List «Type») (m : Memory) (ty : «Type») (object : Object)
     → MemoryFits code kinds m → is_pointer_like ty ≡ true → ObjectFits code.structs kinds ty object
     → Performed code kinds (Some ty) (made m object)
@@ -292,7 +301,7 @@ module _ (code : Code) (kinds : List «Type») (m : Memory) (fits : MemoryFits c
   object_of o ty k = go (get_some m.heap o below)
     where
       below : o < length m.heap
-      below = let a = get_below kinds o ty k in let b = fits.no_more in omega (arith, a, b)
+      below = let a = slice_get_within kinds o ty k in let b = fits.no_more in omega (arith, a, b)
 
       go : (object : Object) × (slice_get m.heap o ≡ Some object)
           → (object : Object) × (slice_get m.heap o ≡ Some object) × ObjectFits code.structs kinds ty object

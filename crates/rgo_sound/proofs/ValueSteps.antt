@@ -1,4 +1,5 @@
 -- Each step of the region machine keeps pointers in their regions.
+use Rattle.std.proofs.lemmas.Option.{slice_get_within}
 use Rattle.rgo_sound.proofs.Places.{contains_here, contains_there, contains_nil, contains_cases}
 use Rattle.rgo_sound.proofs.Tests.{split, eq_of}
 use Rattle.std.proofs.lemmas.Option.{same_Some}
@@ -6,7 +7,7 @@ use Rattle.std.proofs.Common.{◌≡◌, ◌≢◌, ℕ, zero, suc, ◌+◌, fal
 use Rattle.std.proofs.Common.{Some, None, refl, sym, ap, ◌∙◌, subst, nat_eq, if◌then◌else◌, arith, slice_get, slice_set}
 use Rattle.std.proofs.Common.{append-nil, ◌⊎◌, inl, inr, Contains}
 use Rattle.rgo_sound.proofs.Acting.{after, end_by}
-use Rattle.rgo_sound.proofs.Places.{get_append_left, get_append_place, get_append_right, get_below, get_set_other}
+use Rattle.rgo_sound.proofs.Places.{get_append_left, get_append_place, get_append_right, get_set_other}
 use Rattle.rgo_sound.proofs.Places.{get_set_same, length_set}
 use Rattle.rgo_sound.proofs.ErasureLemmas.{Always, Yields, yields, yields_none, yields_if, yields_then, Follows}
 use Rattle.rgo_sound.proofs.ErasureLemmas.{step_follows, yields_at, yields_from}
@@ -97,6 +98,7 @@ pub record Top (code : Code) (h : Holder) (frame : Frame) (callers : List Frame)
   pub stands : Stands code frame f h.duties
   pub staked : NamesStaked h.stakes f.names
 
+-- the top frame of a goroutine and what holds of it
 pub top_of : (code : Code) (h : Holder) (frame : Frame) (callers : List Frame) → GoodHolder code (frame ∷ callers) h
     → Top code h frame callers
 top_of code h frame callers good = go h.environments refl
@@ -448,7 +450,7 @@ module _ (code : Code) (s : RegionState) (values : ValuesStay code s) where
           place j y (inl q) =
               subst (λ o. FramesLead code (s.owners ++ x.given.1) (frames_in o) y.environments)
               (sym (get_append_left (slice_set s.plain.goroutines g x.a.frames) x.a.started j
-              (let b = get_below _ j y q in let l = long in omega (arith, b, l)))) (old j y q)
+              (let b = slice_get_within _ j y q in let l = long in omega (arith, b, l)))) (old j y q)
           place j y (inr (i, at, q)) =
               let c = child x.instr.op refl (last_frames (after s.plain g x.a).goroutines) i y q in
               subst (λ o. FramesLead code (s.owners ++ x.given.1) (frames_in o) y.environments)
@@ -678,6 +680,7 @@ module _ (code : Code) (s : RegionState) (values : ValuesStay code s) where
 
   -- ---- each step
 
+  -- each step keeps pointers in their regions
   pub values_step : (page_words : ℕ) (event : Event) → IsChecked code → Fine code s → Typed code s.plain
       → Yields (ValuesStay code) (region_step code page_words s event)
   values_step page_words (Instruct (One g)) checked fine typed =
@@ -703,6 +706,7 @@ module _ (code : Code) (s : RegionState) (values : ValuesStay code s) where
 typed_same : (code : Code) (p q : TacState) → q ≡ p → Typed code p → Typed code q
 typed_same code p q e t = subst (Typed code) (sym e) t
 
+-- each step keeps types
 pub typed_step : (code : Code) (page_words : ℕ) (s : RegionState) (event : Event) → IsChecked code → Typed code s.plain
     → Yields (λ t. Typed code t.plain) (region_step code page_words s event)
 typed_step code page_words s event checked typed = go (region_step code page_words s event)
@@ -795,6 +799,7 @@ good_step code page_words s event checked written good =
     all None a b c = yields_none
     all (Some t) a b c = yields t (record { fine = a.fact; typed = b.fact; values = c.fact })
 
+-- what holds of each state holds at the start
 pub good_start : (code : Code) → IsChecked code → Ascends code → Good code (region_start code)
 good_start code checked written = record {
   fine = fine_start code checked written;

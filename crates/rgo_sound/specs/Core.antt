@@ -45,6 +45,7 @@ abbrev pub AreLentBelow : List Region → List Environment → Type 0
 AreLentBelow base [] = Unit {0}
 AreLentBelow base (f ∷ fs) = IsLentBelow base f fs × AreLentBelow base fs
 
+-- the part of the invariant that counts names
 pub record Core (stakes : List ℕ) (base : List Region) (environments : List Environment) : Type 0 where
   pub unique : AreUniqueIn environments
   pub staked : AreStaked stakes environments

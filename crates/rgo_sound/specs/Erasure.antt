@@ -35,8 +35,7 @@ SameEnd None (Some (Stopped limit)) = Unit {0}
 SameEnd (Some end) mark = mark ≡ Some (Ended end)
 
 -- the erasure is a run of the three-address code with the same print and the same end; before an end mark it leads to
--- the
--- plain part of the state
+-- the plain part of the state
 pub record ErasesTo (code : Code) (page_words : ℕ) (events : List Event) (s : RegionState) : Type 0 where
   pub state : TacState
   pub leads : Leads (tac_step (erased code)) (tac_start (erased code))
@@ -45,6 +44,7 @@ pub record ErasesTo (code : Code) (page_words : ℕ) (events : List Event) (s : 
   pub end : SameEnd state.ended s.mark
   pub same : s.mark ≡ None → state ≡ s.plain
 
+-- each region run erases to a plain run
 abbrev pub Erasure : Type 0
 Erasure = (code : Code) (page_words : ℕ) (events : List Event) (s : RegionState) → region_run code page_words events
     ≡ Some s → ErasesTo code page_words events s

@@ -21,9 +21,11 @@ pub record AllGood (code : Code) (s : RegionState) : Type 0 where
   pub good : Good code s
   pub offers : OffersFit code s
 
+-- it holds at the start
 abbrev pub StartIsGood : Type 0
 StartIsGood = (code : Code) → IsChecked code → Ascends code → AllGood code (region_start code)
 
+-- each step keeps it
 abbrev pub StepsKeepGood : Type 0
 StepsKeepGood = (code : Code) (page_words : ℕ) (s t : RegionState) (event : Event) → IsChecked code → Ascends code
     → AllGood code s → region_step code page_words s event ≡ Some t → AllGood code t

@@ -22,6 +22,7 @@ abbrev pub held : ℕ → List Environment → ℕ
 held r [] = 0
 held r (f ∷ fs) = held_in f.lent r f.names + held r fs
 
+-- each stake that no base and no frame protects has exactly one holding name
 abbrev pub OneHoldingName : RegionState → Type 0
 OneHoldingName s =
     (g : ℕ) (h : Holder) (r : ℕ) → slice_get s.holders g ≡ Some h → Contains h.stakes r

@@ -22,6 +22,7 @@ HasInstr fn i instr = slice_get fn.body i ≡ Some instr
 
 -- ---- protections by number
 
+-- how often a region is protected
 abbrev pub times : Region → List Region → ℕ
 times r [] = 0
 times r (s ∷ ss) = one_if (same_region r s) + times r ss
@@ -35,11 +36,13 @@ abbrev pub bound_times : Region → Bindings → List ℕ → ℕ
 bound_times r names [] = 0
 bound_times r names (k ∷ ks) = one_if (same_bound r (bound names k)) + bound_times r names ks
 
+-- each region is protected as often as these names stand for it
 abbrev pub AreProtections : List Region → Bindings → List ℕ → Type 0
 AreProtections protections names ks = (r : Region) → times r protections ≡ bound_times r names ks
 
 -- ---- a frame before its next instruction, when nothing is owed
 
+-- each name that is held, made or lent is bound, and no other own name is
 pub record Settled (fn : CodeFn) (i : ℕ) (instr : CodeInstr) (names : Bindings) (protections : List Region) : Type 0
   where
     pub there : (k : ℕ) → Holds fn k i → bound names k ≢ None
@@ -114,6 +117,7 @@ abbrev pub shared_before : Option CodeInstr → List ℕ
 shared_before None = []
 shared_before (Some instr) = shared_names instr.op
 
+-- the names that a goroutine shares before its instruction
 abbrev pub to_share : Code → List Frame → List ℕ
 to_share code [] = []
 to_share code (frame ∷ callers) = shared_before (current code frame)
@@ -159,6 +163,7 @@ abbrev pub EachOnce : List Region → Type 0
 EachOnce [] = Unit {0}
 EachOnce (r ∷ rs) = (list_any (same_region r) rs ≡ false) × EachOnce rs
 
+-- what holds of each goroutine
 pub record GoodHolder (code : Code) (frames : List Frame) (h : Holder) : Type 0 where
   pub core : Core h.stakes h.base h.environments
   pub fit : FramesFit code h.base frames h.environments h.duties
@@ -167,6 +172,7 @@ pub record GoodHolder (code : Code) (frames : List Frame) (h : Holder) : Type 0 
 
 -- ---- a state
 
+-- what holds of each state: its goroutines, and the counts of stakes
 pub record Fine (code : Code) (s : RegionState) : Type 0 where
   pub as_many : length s.holders ≡ length s.plain.goroutines
   pub each : (g : ℕ) (h : Holder) → slice_get s.holders g ≡ Some h → GoodHolder code (frames_of s.plain g) h

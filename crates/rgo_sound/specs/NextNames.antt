@@ -13,6 +13,7 @@ use Rattle.rgo_region_machine.specs.declared.regions.Region.{Region}
 use Rattle.rgo_region_machine.specs.declared.regions.Region.TheVariants.{Global as GlobalRegion, Numbered}
 use Rattle.rgo_tac.specs.Frames.{Frame}
 
+-- a duty names a region
 abbrev pub DutyNames : Holder → Duty → Region → Type 0
 DutyNames h (Create k) r = ⊥
 DutyNames h (Share k) r = bound (top_names h.environments) k ≡ Some r
@@ -21,6 +22,7 @@ DutyNames h (Unprotect k) r = bound (top_names h.environments) k ≡ Some r
 DutyNames h (Remove k) r = bound (top_names h.environments) k ≡ Some r
 DutyNames h (EndBase q) r = q ≡ r
 
+-- an instruction names a region: it makes an object there, or touches one there
 abbrev pub InstructionNames : Code → RegionState → Holder → List Frame → Region → Type 0
 InstructionNames code s h [] r = ⊥
 InstructionNames code s h (frame ∷ callers) r =
@@ -34,10 +36,12 @@ NextNames code s g h (duty ∷ duties) offer r = DutyNames h duty r
 NextNames code s g h [] (Taken o) r = slice_get s.owners o ≡ Some r
 NextNames code s g h [] offer r = InstructionNames code s h (frames_of s.plain g) r
 
+-- the region is Global, or live with a stake of the goroutine
 abbrev pub HasStake : RegionState → Holder → Region → Type 0
 HasStake s h GlobalRegion = Unit {0}
 HasStake s h (Numbered r) = (is_live s.regions (Numbered r) ≡ true) × Contains h.stakes r
 
+-- what a goroutine names next is live, in every state of a run of checked code
 abbrev pub NamesOnlyLive : Type 0
 NamesOnlyLive =
     (code : Code) (page_words : ℕ) (events : List Event) (s : RegionState) (g : ℕ) (h : Holder) (r : Region) →

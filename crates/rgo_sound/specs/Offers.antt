@@ -36,13 +36,13 @@ pub record StandsAtSend (code : Code) (p : TacState) (g o : ℕ) : Type 0 where
   pub channel_is : value_at frame channel ≡ value.Object o
 
 -- a standing offer is that of the send at which its goroutine stands, which owes nothing; one that was taken is on a
--- channel in
--- a region with an own stake
+-- channel in a region in which the goroutine has a stake
 abbrev pub OfferFits : Code → RegionState → ℕ → Holder → Offer → Type 0
 OfferFits code s g h NoOffer = Unit {0}
 OfferFits code s g h (Standing o) = (h.duties ≡ []) × IsUnbuffered s.plain.memory o × StandsAtSend code s.plain g o
 OfferFits code s g h (Taken o) = (r : Region) × (slice_get s.owners o ≡ Some r)
     × ((q : ℕ) → r ≡ Numbered q → is_in q h.stakes ≡ true)
 
+-- each offer fits
 pub record OffersFit (code : Code) (s : RegionState) : Type 0 where
   pub fits : (g : ℕ) (h : Holder) → slice_get s.holders g ≡ Some h → OfferFits code s g h h.offer

@@ -1,5 +1,4 @@
--- No step is missing: where the three-address machine has a step, the region machine has it after some steps with
--- regions.
+-- No step is missing: each step of the three-address machine can be done after some region steps.
 use Rattle.std.specs.Prelude.{IsSome, List, Some, [], ℕ, ◌<◌, ◌∷◌, ◌≡◌}
 use Rattle.rgo_code.specs.Checked.{IsChecked}
 use Rattle.rgo_code.specs.Code.{Code}
@@ -13,6 +12,7 @@ use Rattle.rgo_region_machine.specs.Objects.{new_object, words}
 use Rattle.rgo_region_machine.specs.States.{RegionState}
 use Rattle.rgo_tac.specs.Tac.{TacState, tac_step}
 
+-- no instruction and no end
 abbrev pub IsRegionStep : Event → Type 0
 IsRegionStep (Instruct pick) = ⊥
 IsRegionStep (Finish end) = ⊥
@@ -26,13 +26,12 @@ AreRegionSteps (event ∷ events) = IsRegionStep event × AreRegionSteps events
 abbrev pub MakesTooLarge : ℕ → TacState → TacState → Type 0
 MakesTooLarge page_words old next = (object : _) × (new_object old next ≡ Some object) × (page_words < words object)
 
--- after some region steps, there is an instruction's step of the kind of the pick: of the same goroutine, or a meeting
--- of
--- the same receiver, perhaps with another sender, whose offer stands there
+-- a pick of the same kind: the same goroutine, or a meeting of the same receiver, perhaps with another sender
 abbrev pub IsLike : Pick → Pick → Type 0
 IsLike (One g) pick = pick ≡ One g
 IsLike (Meet r t) pick = (u : ℕ) × (pick ≡ Meet r u)
 
+-- after some region steps, an instruction like the pick can be done
 pub record CanInstruct (code : Code) (page_words : ℕ) (s : RegionState) (like : Pick) : Type 0 where
   pub pick : Pick
   pub is_like : IsLike like pick

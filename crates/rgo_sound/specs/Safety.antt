@@ -32,6 +32,7 @@ PointersStay s =
 
 -- ---- numbers
 
+-- the region names of a function
 abbrev pub name_count : CodeFn → ℕ
 name_count f = length (distinct_names [] (map (λ (slot : Slot). slot.class) f.variables ++ result_class f ∷ []))
 
@@ -40,9 +41,11 @@ abbrev pub most_names : List CodeFn → ℕ
 most_names [] = 0
 most_names (f ∷ fs) = max (name_count f) (most_names fs)
 
+-- every goroutine has ended
 abbrev pub AllEnded : RegionState → Type 0
 AllEnded s = (g : ℕ) (h : Holder) → slice_get s.holders g ≡ Some h → HasEnded s g h
 
+-- pages are bounded by objects, regions by names, and all regions are removed in the end
 pub record CountsFit (code : Code) (s : RegionState) : Type 0 where
   pub pages : (counts_of s).taken ≤ (counts_of s).objects + (counts_of s).goroutines
   pub regions : (counts_of s).made ≤ ((counts_of s).steps + (counts_of s).goroutines) * most_names code.functions
@@ -59,8 +62,7 @@ abbrev pub Safety : Type 0
 Safety = (code : Code) (page_words : ℕ) (events : List Event) (s : RegionState) → IsChecked code → Ascends code
     → region_run code page_words events ≡ Some s → IsSafe code s
 
--- a region whose last stake has ended stays as it was, whatever the code: so none is removed twice, nor gets a page
--- again
+-- a region whose last stake has ended stays as it was: none is removed twice, and none gets a page after its removal
 abbrev pub RemovedStays : Type 0
 RemovedStays =
     (code : Code) (page_words : ℕ) (s t : RegionState) (event : Event) (r : ℕ) (info : RegionInfo)

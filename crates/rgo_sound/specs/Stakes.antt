@@ -15,6 +15,7 @@ abbrev pub times_in : ℕ → List ℕ → ℕ
 times_in r [] = 0
 times_in r (x ∷ xs) = one_if (nat_eq r x) + times_in r xs
 
+-- the sum over the goroutines
 abbrev pub total : (Holder → ℕ) → List Holder → ℕ
 total f [] = 0
 total f (h ∷ hs) = f h + total f hs
@@ -30,6 +31,7 @@ pending_of s r = total (λ h. times_in r h.pending) s.holders
 abbrev pub HasEnded : RegionState → ℕ → Holder → Type 0
 HasEnded s g h = (frames_of s.plain g ≡ []) × (h.duties ≡ [])
 
+-- each count of stakes is right, and a goroutine that has ended has none
 pub record StakesAreCounted (s : RegionState) : Type 0 where
   pub counted : (r : ℕ) (info : RegionInfo) → slice_get s.regions r ≡ Some info → info.stakes
       ≡ holders_of s r + pending_of s r

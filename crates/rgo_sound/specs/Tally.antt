@@ -73,6 +73,7 @@ share_of_plain s (Some next) = record no_share {
       length next.goroutines - length s.plain.goroutines;
 }
 
+-- what a step adds
 abbrev pub share_of : Code → RegionState → Event → Counts
 share_of code s (Instruct pick) = share_of_plain s (plain_step code s.plain pick)
 share_of code s (Attend g) = share_of_holder s (slice_get s.holders g)

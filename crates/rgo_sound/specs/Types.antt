@@ -35,6 +35,7 @@ HaveKinds kinds [] (v ∷ vs) = ⊥
 HaveKinds kinds (ty ∷ tys) [] = ⊥
 HaveKinds kinds (ty ∷ tys) (v ∷ vs) = HasKind kinds ty v × HaveKinds kinds tys vs
 
+-- what is in an object has its type
 abbrev pub ObjectFits : List Struct → List «Type» → «Type» → Object → Type 0
 ObjectFits structs kinds ty (StructObject cells) =
     (n : ℕ) × (ty ≡ pointer_to n) × (s : Struct) × (slice_get structs n ≡ Some s) × HaveKinds kinds s.fields cells
@@ -43,12 +44,14 @@ ObjectFits structs kinds ty (SliceObject cells) =
 ObjectFits structs kinds ty (Channel capacity queue closed) =
     (e : «Type») × (ty ≡ chan_of e) × Each (HasKind kinds e) queue
 
+-- each object and each package variable fits
 pub record MemoryFits (code : Code) (kinds : List «Type») (m : Memory) : Type 0 where
   pub objects : (o : ℕ) (object : Object) → slice_get m.heap o ≡ Some object
       → (ty : «Type») × (slice_get kinds o ≡ Some ty) × ObjectFits code.structs kinds ty object
   pub no_more : length kinds ≡ length m.heap
   pub variables : HaveKinds kinds (map (λ (v : Variable). v.ty) code.variables) m.variables
 
+-- each variable of a frame has its type
 abbrev pub FrameFits : Code → List «Type» → Frame → Type 0
 FrameFits code kinds frame = (fn : CodeFn) × (function_at code frame ≡ Some fn)
     × HaveKinds kinds (erased_fn fn).variables frame.variables
@@ -68,6 +71,7 @@ FramesHaveKinds code kinds [] = Unit {0}
 FramesHaveKinds code kinds (frame ∷ callers) = FrameFits code kinds frame × CalledFrom code frame callers
     × FramesHaveKinds code kinds callers
 
+-- each value has its type
 pub record Typed (code : Code) (p : TacState) : Type 0 where
   pub kinds : List «Type»
   pub memory : MemoryFits code kinds p.memory

@@ -40,16 +40,16 @@ pub record MemoryHome (owners : List Region) (m : Memory) : Type 0 where
       → Each (LeadsInto owners r) (cells_of object)
   pub variables : Each (LeadsInto owners GlobalRegion) m.variables
 
--- of the top frame: what is live into its instruction. Of a caller: what is live behind its call, but for the call's
--- own
 abbrev pub call_target : CodeOp → Option ℕ
 call_target (Call to n from passes protects removes) = to
 call_target op = None
 
+-- of the top frame: what is live into its instruction
 abbrev pub TopLeads : Code → List Region → Frame → Bindings → Type 0
 TopLeads code owners frame names = (fn : CodeFn) → function_at code frame ≡ Some fn → (v : ℕ)
     → Live (erased_fn fn) v frame.next → LeadsHome owners names (class_of fn v) (value_at frame v)
 
+-- of a caller: what is live after its call, except the call's own target
 abbrev pub CallerLeads : Code → List Region → Frame → Bindings → Type 0
 CallerLeads code owners frame names =
     (fn : CodeFn) (call : CodeInstr) → function_at code frame ≡ Some fn → current code frame ≡ Some call → (v : ℕ)
@@ -76,6 +76,7 @@ FramesLead code owners (frame ∷ callers) [] = ⊥
 FramesLead code owners (frame ∷ callers) (f ∷ fs) = TopLeads code owners frame f.names
     × CallersLead code owners f callers fs
 
+-- pointers stay in their regions
 pub record ValuesStay (code : Code) (s : RegionState) : Type 0 where
   pub memory : MemoryHome s.owners s.plain.memory
   pub frames : (g : ℕ) (h : Holder) → slice_get s.holders g ≡ Some h
