@@ -24,7 +24,8 @@ any_contains (j ∷ ks) k c = go (contains_cases j ks k c) (any_contains ks k)
   where
     go : (j ≡ k) ⊎ Contains ks k → (Contains ks k → list_any (nat_eq k) ks ≡ true)
         → (nat_eq k j || list_any (nat_eq k) ks) ≡ true
-    go (inl e) next = ap (λ x. nat_eq k x || list_any (nat_eq k) ks) e ∙ ap (λ x. x || list_any (nat_eq k) ks) (nat_eq_refl k)
+    go (inl e) next = ap (λ x. nat_eq k x || list_any (nat_eq k) ks) e
+        ∙ ap (λ x. x || list_any (nat_eq k) ks) (nat_eq_refl k)
     go (inr d) next = or_there (nat_eq k j) (list_any (nat_eq k) ks) (next d)
 
 -- a name that is passed has a position

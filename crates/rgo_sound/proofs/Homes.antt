@@ -278,7 +278,8 @@ module _ (fn : CodeFn) (names : Bindings) (owners : List Region) (m : Memory) (h
   still : (m' : Memory) (v : Value) → MemoryHome owners m' → length m'.heap ≡ length m.heap
       → HomeAfter fn names owners to v → Moved (Does m' v)
   still m' v home' l h given allots =
-      let none : given ≡ [] = subst (λ o. Allots region o given) (slice_get_past m'.heap (length m.heap) (omega (arith, l)))
+      let none : given ≡ [] = subst (λ o. Allots region o given)
+      (slice_get_past m'.heap (length m.heap) (omega (arith, l)))
       allots in
       let same : owners ++ given ≡ owners = ap (λ x. owners ++ x) none ∙ append-nil owners in
       (subst (λ x. MemoryHome x m') (sym same) home', subst (λ x. HomeAfter fn names x to v) (sym same) h)

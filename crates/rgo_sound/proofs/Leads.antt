@@ -688,7 +688,8 @@ module _ (code : Code) (checked : IsChecked code) (owners : List Region) (m : Me
     caller_leads : (given : List Region) → CallerLeads code (owners ++ given) frame
         (without_all f.names (given_names (result_class callee) (region_parameters callee) passes protects))
     caller_leads given g call' is' cur' v n l =
-        subst (λ y. LeadsHome (owners ++ given) left (class_of y v) (value_at frame v)) (same_Some fn g (sym is_fn ∙ is'))
+        subst (λ y. LeadsHome (owners ++ given) left (class_of y v) (value_at frame v))
+        (same_Some fn g (sym is_fn ∙ is'))
         (renamed_home (owners ++ given) f.names left (class_of fn v) (value_at frame v)
         (class_other f.names left (class_of fn v) (λ k c.
         behind_kept k (inl (record { variable = v; named = c; live = l' }))))

@@ -242,7 +242,8 @@ makes_next code m frame callers instr a object cur acts q =
     grown = subst (Always (SteadyActed m (makes_at instr.op))) acts (alone_steady code m frame callers instr cur)
 
     still : length a.memory.heap ≡ length m.heap → ⊥
-    still e = let x : None ≡ Some object = sym (slice_get_past a.memory.heap (length m.heap) (omega (arith, e))) ∙ q in cc
+    still e = let x : None ≡ Some object = sym (slice_get_past a.memory.heap (length m.heap) (omega (arith, e))) ∙ q in
+        cc
 
     by : MakesAlone code frame callers → MakesNext code frame callers (words object)
     by x = view x.view
@@ -789,7 +790,8 @@ module _ (code : Code) (page_words : ℕ) (s : RegionState) (paged : Paged code 
               other n =
                   let cj : paged.c j ≡ 1 = sym (at_other paged.c g 0 j n) ∙ w in
                   let l : j < length s.holders = within (nat_lt j (length s.holders)) refl cj in
-                  let old : slice_get s.holders j ≡ Some y = sym (get_set_other s.holders g j (after_of x) (nat_ne_sym j g n))
+                  let old : slice_get s.holders j ≡ Some y = sym
+                  (get_set_other s.holders g j (after_of x) (nat_ne_sym j g n))
                   ∙ sym (get_append_left (slice_set s.holders g (after_of x))
                   (child_holder code x.given.0 x.instr.op (last_frames (after s.plain g x.a).goroutines)) j
                   (let b = length_set s.holders g (after_of x) in omega (arith, b, l))) ∙ q in

@@ -153,7 +153,8 @@ shares_next code frames front n names = shares_front (to_share code frames) fron
 -- where nothing is counted, nothing is pending
 none_in : (xs : List ℕ) → ((r : ℕ) → times_in r xs ≡ 0) → xs ≡ []
 none_in [] h = refl
-none_in (x ∷ xs) h = let a = h x in let b : one_if (nat_eq x x) ≡ 1 = ap one_if (nat_eq_refl x) in absurd (omega (arith, a, b))
+none_in (x ∷ xs) h = let a = h x in let b : one_if (nat_eq x x) ≡ 1 = ap one_if (nat_eq_refl x) in
+    absurd (omega (arith, a, b))
 
 pub none_pending : (names : Bindings) (pending : List ℕ) → Shares [] [] names pending → pending ≡ []
 none_pending names pending h = none_in pending h

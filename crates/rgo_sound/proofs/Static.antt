@@ -1,5 +1,6 @@
 -- What the rules say of the names along an edge, and that the duties on it can be done.
-use Rattle.rgo_sound.proofs.Places.{contains_nil, contains_here, contains_there, contains_one, contains_cases, stands_or_not}
+use Rattle.rgo_sound.proofs.Places.{contains_nil, contains_here, contains_there, contains_one, contains_cases}
+use Rattle.rgo_sound.proofs.Places.{stands_or_not}
 use Rattle.rgo_sound.proofs.Tests.{ne_of}
 use Rattle.rgo_sound.proofs.Tests.{split, eq_of}
 use Rattle.std.proofs.Common.{◌≡◌, ◌≢◌, ℕ, suc, ◌+◌, true, false, List, [], ◌∷◌, ◌++◌, map, Option, Some, None}

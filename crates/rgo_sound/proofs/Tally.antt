@@ -308,7 +308,8 @@ module _ (s : RegionState) where
       })) yields_none
       taken (Numbered r) = yields_where (has_none h.duties && may_go h.offer && is_live s.regions (Numbered r) &&
           wants_page page_words (fill_of h.fills (Numbered r)) (next_object code s g)) _
-          (λ l. yields _ (page_added _ r (and_third (has_none h.duties) (may_go h.offer) (is_live s.regions (Numbered r)) _
+          (λ l. yields _ (page_added _ r (and_third (has_none h.duties) (may_go h.offer)
+          (is_live s.regions (Numbered r)) _
           l) refl refl refl refl))
 
   adds_make : (code : Code) (g : ℕ) (h : Holder) (frames : List Frame)

@@ -40,6 +40,7 @@ pub record MemoryHome (owners : List Region) (m : Memory) : Type 0 where
       → Each (LeadsInto owners r) (cells_of object)
   pub variables : Each (LeadsInto owners GlobalRegion) m.variables
 
+-- the variable that waits for the result of a call
 abbrev pub call_target : CodeOp → Option ℕ
 call_target (Call to n from passes protects removes) = to
 call_target op = None
