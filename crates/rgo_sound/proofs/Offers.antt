@@ -1167,11 +1167,17 @@ names_only_live code page_words events s g h r checked written run e n = go h.du
             let x = touched_home code s g h frame callers instr top o checked all.good e at cur t in
             subst (HasStake s h) (same_Some x.0 r (sym x.1 ∙ w)) x.2
 
-    go : (ds : List Duty) → h.duties ≡ ds → (offer : Offer) → h.offer ≡ offer → NextNames code s g h ds offer r
-        → HasStake s h r
-    go (d ∷ ds) q offer w n = duty_staked code s g h d ds r all.good.fine e q n
-    go [] q (Taken o) w n =
+    taken : (o : ℕ) → h.offer ≡ Taken o → slice_get s.owners o ≡ Some r → HasStake s h r
+    taken o w n =
         let f : OfferFits code s g h (Taken o) = subst (OfferFits code s g h) w (all.offers.fits g h e) in
         has_stake code s g h r all.good.fine e (λ p i. f.2 p (same_Some f.0 r (sym f.1 ∙ n) ∙ i))
+
+    go : (ds : List Duty) → h.duties ≡ ds → (offer : Offer) → h.offer ≡ offer → NextNames code s g h ds offer r
+        → HasStake s h r
+    go (d ∷ ds) q (Taken o) w (inl n) = taken o w n
+    go (d ∷ ds) q (Taken o) w (inr n) = duty_staked code s g h d ds r all.good.fine e q n
+    go (d ∷ ds) q NoOffer w n = duty_staked code s g h d ds r all.good.fine e q n
+    go (d ∷ ds) q (Standing o) w n = duty_staked code s g h d ds r all.good.fine e q n
+    go [] q (Taken o) w n = taken o w n
     go [] q NoOffer w n = instruction (frames_of s.plain g) refl n
     go [] q (Standing o) w n = instruction (frames_of s.plain g) refl n

@@ -30,10 +30,12 @@ InstructionNames code s h (frame ∷ callers) r =
     × ((making_region (function_at code frame) (top_names h.environments) i.op ≡ Some r)
     ⊎ ((o : ℕ) × (touched frame i.op ≡ Some o) × (slice_get s.owners o ≡ Some r)))
 
--- the goroutine's next step names the region: its first duty, its acknowledgement, or its instruction
+-- The goroutine's next step names the region: its acknowledgement, its first duty, or its instruction. An offer that was
+-- taken is acknowledged before the duties, which are named as well.
 abbrev pub NextNames : Code → RegionState → ℕ → Holder → List Duty → Offer → Region → Type 0
-NextNames code s g h (duty ∷ duties) offer r = DutyNames h duty r
+NextNames code s g h (duty ∷ duties) (Taken o) r = (slice_get s.owners o ≡ Some r) ⊎ DutyNames h duty r
 NextNames code s g h [] (Taken o) r = slice_get s.owners o ≡ Some r
+NextNames code s g h (duty ∷ duties) offer r = DutyNames h duty r
 NextNames code s g h [] offer r = InstructionNames code s h (frames_of s.plain g) r
 
 -- the region is Global, or live with a stake of the goroutine
