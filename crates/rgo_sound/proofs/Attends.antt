@@ -1,19 +1,15 @@
 -- Each duty that a goroutine owes can be done in its turn, and keeps what holds of the state.
-use Rattle.std.proofs.lemmas.Option.{slice_get_within}
-use Rattle.rgo_sound.proofs.Tests.{or_there}
-use Rattle.rgo_sound.proofs.Tests.{split, eq_of}
-use Rattle.rgo_sound.proofs.Tests.{nat_eq_refl, nat_ne_sym}
-use Rattle.std.proofs.lemmas.Option.{same_Some}
 use Rattle.std.proofs.Common.{◌≡◌, ◌≢◌, ℕ, zero, suc, ◌+◌, ◌-◌, ◌≤◌, ◌<◌, Bool, true, false, not, ◌||◌, List, [], ◌∷◌}
-use Rattle.std.proofs.Common.{◌++◌}
-use Rattle.std.proofs.Common.{map, length, Option, Some, None, refl, sym, ap, ◌∙◌, subst, nat_eq, nat_lt, if◌then◌else◌}
-use Rattle.std.proofs.Common.{arith, length-append, ◌⊎◌, inl, inr, true≢false, slice_get, slice_set, option_map}
-use Rattle.std.proofs.Common.{option_and_then}
+use Rattle.std.proofs.Common.{◌++◌, map, length, Option, Some, None, refl, sym, ap, ◌∙◌, subst, nat_eq, nat_lt}
+use Rattle.std.proofs.Common.{if◌then◌else◌, arith, length-append, ◌⊎◌, inl, inr, true≢false, slice_get, slice_set}
+use Rattle.std.proofs.Common.{option_map, option_and_then}
+use Rattle.std.proofs.lemmas.Option.{slice_get_within, same_Some}
 use Rattle.std.specs.List.{list_any}
+use Rattle.rgo_sound.proofs.Tests.{or_there, split, eq_of, nat_eq_refl, nat_ne_sym}
 use Rattle.rgo_sound.proofs.Places.{get_set_other, get_set_same, get_snoc, get_some, length_set}
 use Rattle.rgo_sound.proofs.Static.{is_named}
-use Rattle.rgo_sound.proofs.CoreLemmas.{core_kept, core_removed, core_created, core_protected}
-use Rattle.rgo_sound.proofs.CoreLemmas.{core_unbased, in_without, not_in_without}
+use Rattle.rgo_sound.proofs.CoreLemmas.{core_kept, core_removed, core_created, core_protected, core_unbased, in_without}
+use Rattle.rgo_sound.proofs.CoreLemmas.{not_in_without}
 use Rattle.rgo_code.specs.Code.{Code, CodeFn, CodeInstr}
 use Rattle.rgo_code.specs.Names.{IsOwn, is_name, result_class}
 use Rattle.rgo_region_machine.specs.Machine.{Attend, region_step}
@@ -27,8 +23,8 @@ use Rattle.rgo_region_machine.specs.declared.regions.Region.{Region}
 use Rattle.rgo_region_machine.specs.declared.regions.Region.TheVariants.{Global as GlobalRegion, Numbered}
 use Rattle.rgo_sound.specs.Core.{Core, RegionsStaked}
 use Rattle.rgo_sound.specs.Holding.{is_mine}
-use Rattle.rgo_sound.specs.Invariant.{AllWait, EachOnce, Fine, FramesFit, GoodHolder, IsFree, IsReady}
-use Rattle.rgo_sound.specs.Invariant.{Settled, Shares, Stands, to_share}
+use Rattle.rgo_sound.specs.Invariant.{AllWait, EachOnce, Fine, FramesFit, GoodHolder, IsFree, IsReady, Settled, Shares}
+use Rattle.rgo_sound.specs.Invariant.{Stands, to_share}
 use Rattle.rgo_sound.specs.Stakes.{holders_of, is_in, one_if, pending_of, times_in, total}
 use Rattle.rgo_tac.specs.Frames.{Frame}
 use Rattle.rgo_tac.specs.declared.regions.Class.{Class}

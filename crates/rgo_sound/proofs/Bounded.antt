@@ -1,18 +1,14 @@
 -- The regions made are bounded by the names of a function, for each step and each goroutine.
-use Rattle.std.proofs.lemmas.Option.{slice_get_within}
-use Rattle.rgo_sound.proofs.Places.{get_contains}
-use Rattle.rgo_sound.proofs.Places.{contains_here, contains_there}
-use Rattle.rgo_sound.proofs.Tests.{eq_of}
-use Rattle.std.proofs.lemmas.Option.{same_Some}
 use Rattle.std.proofs.Common.{◌≡◌, ◌≢◌, ℕ, zero, suc, ◌+◌, ◌*◌, ◌≤◌, Bool, true, false, ◌||◌, ◌&&◌, List, [], ◌∷◌, ◌++◌}
-use Rattle.std.proofs.Common.{map, length}
-use Rattle.std.proofs.Common.{Option, Some, None, refl, sym, ap, ◌∙◌, subst, if◌then◌else◌, arith, true≢false}
-use Rattle.std.proofs.Common.{slice_get, slice_set}
-use Rattle.std.proofs.Common.{option_map, ◌⊎◌, inl, inr, length-append, Contains}
+use Rattle.std.proofs.Common.{map, length, Option, Some, None, refl, sym, ap, ◌∙◌, subst, if◌then◌else◌, arith}
+use Rattle.std.proofs.Common.{true≢false, slice_get, slice_set, option_map, ◌⊎◌, inl, inr, length-append, Contains}
+use Rattle.std.proofs.lemmas.Option.{slice_get_within, same_Some, slice_get-map}
 use Rattle.std.specs.List.{list_any}
 use Rattle.std.proofs.Math.Nat.{le-max_left, le-max_right}
 use Rattle.std.proofs.lemmas.List.Elements.{Contains-append_left}
-use Rattle.std.proofs.lemmas.Option.{slice_get-map}
+use Rattle.rgo_sound.proofs.Places.{get_contains, contains_here, contains_there, AreDistinct, ascending_distinct}
+use Rattle.rgo_sound.proofs.Places.{get_append_left, get_set_other, get_set_same, length_set}
+use Rattle.rgo_sound.proofs.Tests.{eq_of}
 use Rattle.rgo_typed.specs.declared.actions.Action.TheVariants.{Recv, Send}
 use Rattle.rgo_typed.specs.declared.types.Type.{«Type»}
 use Rattle.rgo_machine.specs.declared.picks.End.{End}
@@ -49,9 +45,8 @@ use Rattle.rgo_region_machine.specs.Machine.{take_page, takes_page}
 use Rattle.rgo_region_machine.specs.Objects.{with_fill}
 use Rattle.rgo_region_machine.specs.Offers.{acknowledge, make_offer, offer_for, offered}
 use Rattle.rgo_region_machine.specs.Owed.{caller_duties, current, current_in, duties_before, duties_behind}
-use Rattle.rgo_region_machine.specs.Owed.{duties_behind_call}
-use Rattle.rgo_region_machine.specs.Owed.{duties_of_op, entry_removes, function_at, function_of, next_duties}
-use Rattle.rgo_region_machine.specs.Owed.{regions_named, removes_behind}
+use Rattle.rgo_region_machine.specs.Owed.{duties_behind_call, duties_of_op, entry_removes, function_at, function_of}
+use Rattle.rgo_region_machine.specs.Owed.{next_duties, regions_named, removes_behind}
 use Rattle.rgo_region_machine.specs.Regions.{RegionInfo, one_fewer, one_more, one_page_more, removed_once, unbind}
 use Rattle.rgo_region_machine.specs.Regions.{with_info, without}
 use Rattle.rgo_region_machine.specs.States.{Create, Duty, EndBase, Holder, NoOffer, Offer, Protect, RegionState, Remove}
@@ -68,8 +63,6 @@ use Rattle.rgo_sound.proofs.Lists.{listed}
 use Rattle.rgo_sound.proofs.OneStep.{OneDone, one_done, MeetDone, meet_done, OnFrom, current_erased, gone_on}
 use Rattle.rgo_sound.proofs.OneStep.{receive_goes, send_goes}
 use Rattle.rgo_sound.proofs.Others.{fine_step, fine_start}
-use Rattle.rgo_sound.proofs.Places.{AreDistinct, ascending_distinct, get_append_left, get_set_other}
-use Rattle.rgo_sound.proofs.Places.{get_set_same, length_set}
 use Rattle.rgo_sound.proofs.RunLemmas.{run_keeps}
 use Rattle.rgo_sound.proofs.Starts.{last_frames_snoc}
 use Rattle.rgo_sound.proofs.TypedSteps.{here}

@@ -1,12 +1,11 @@
 -- What the invariant says of stakes: one holding name each, duties that name live regions, nothing left at the end.
-use Rattle.rgo_sound.proofs.Places.{contains_nil, contains_cases, contains_here, contains_there}
-use Rattle.rgo_sound.proofs.Tests.{split, eq_of, or_right}
-use Rattle.rgo_sound.proofs.Tests.{nat_eq_refl}
 use Rattle.std.proofs.Common.{◌≡◌, ℕ, zero, suc, Bool, true, false, ◌||◌, List, [], ◌∷◌, map, length, Some, refl, sym}
 use Rattle.std.proofs.Common.{ap, ◌∙◌, subst, nat_eq, if◌then◌else◌, arith, ◌⊎◌, inl, inr, true≢false, slice_get}
 use Rattle.std.proofs.Common.{Contains, count_by, cond}
 use Rattle.std.specs.List.{list_any}
 use Rattle.std.proofs.lemmas.List.Sums.{sum_by-cons}
+use Rattle.rgo_sound.proofs.Places.{contains_nil, contains_cases, contains_here, contains_there}
+use Rattle.rgo_sound.proofs.Tests.{split, eq_of, or_right, nat_eq_refl}
 use Rattle.rgo_sound.proofs.Shares.{none_pending}
 use Rattle.rgo_sound.proofs.Attends.{staked_live, same_reflexive, total_none}
 use Rattle.rgo_code.specs.Code.{Code}

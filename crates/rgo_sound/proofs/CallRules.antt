@@ -1,13 +1,9 @@
 -- What the rule on protections says of the lists of a call, by counts.
-use Rattle.rgo_sound.proofs.Tests.{or_there}
-use Rattle.rgo_sound.proofs.Places.{get_contains}
-use Rattle.rgo_sound.proofs.Places.{contains_cases, contains_nil}
-use Rattle.rgo_sound.proofs.Tests.{split}
-use Rattle.rgo_sound.proofs.Tests.{nat_eq_refl}
 use Rattle.std.proofs.Common.{◌≡◌, ◌≢◌, ℕ, zero, suc, ◌+◌, ◌≤◌, Bool, true, false, not, ◌||◌, List, [], ◌∷◌, Option}
-use Rattle.std.proofs.Common.{Some, refl, sym, ap, ◌∙◌, nat_eq, arith, ◌⊎◌, inl, inr, true≢false, slice_get}
-use Rattle.std.proofs.Common.{Contains}
+use Rattle.std.proofs.Common.{Some, refl, sym, ap, ◌∙◌, nat_eq, arith, ◌⊎◌, inl, inr, true≢false, slice_get, Contains}
 use Rattle.std.specs.List.{list_any}
+use Rattle.rgo_sound.proofs.Tests.{or_there, split, nat_eq_refl}
+use Rattle.rgo_sound.proofs.Places.{get_contains, contains_cases, contains_nil}
 use Rattle.rgo_sound.proofs.Static.{is_named}
 use Rattle.rgo_sound.proofs.Calls.{times_named}
 use Rattle.rgo_code.specs.Code.{Call, CodeFn}

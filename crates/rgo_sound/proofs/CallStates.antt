@@ -1,11 +1,11 @@
 -- A call of checked code keeps what holds of the state.
-use Rattle.rgo_sound.proofs.Acting.{no_end}
-use Rattle.std.proofs.lemmas.Option.{same_Some}
 use Rattle.std.proofs.Common.{◌≡◌, ◌≢◌, ℕ, zero, suc, ◌≤◌, true, false, List, [], ◌∷◌, ◌++◌, map, length, Option, Some}
 use Rattle.std.proofs.Common.{None, is_some, refl, sym, ap, ◌∙◌, subst, nat_eq, arith, ◌↔◌, true≢false, slice_get}
 use Rattle.std.proofs.Common.{slice_set, option_map, append-nil}
+use Rattle.std.proofs.lemmas.Option.{same_Some}
+use Rattle.rgo_sound.proofs.Acting.{no_end, after, Acted, act, act_at, alone}
+use Rattle.rgo_sound.proofs.Static.{standing_instr, standing_settled, named_bound}
 use Rattle.rgo_sound.proofs.Places.{ascending_distinct, get_set_other, get_set_same, length_set}
-use Rattle.rgo_sound.proofs.Static.{named_bound}
 use Rattle.rgo_sound.proofs.Calls.{CallFits, given_free}
 use Rattle.rgo_sound.proofs.CallRules.{protects_twice, protects_result, any_contains}
 use Rattle.rgo_sound.proofs.Lists.{formals_once, formals_are, gives_are}
@@ -32,12 +32,11 @@ use Rattle.rgo_region_machine.specs.Regions.{without_all}
 use Rattle.rgo_region_machine.specs.States.{Duty, Environment, Holder, RegionState, Remove, environment_of, frames_in}
 use Rattle.rgo_region_machine.specs.States.{frames_of, top_names, with_top}
 use Rattle.rgo_region_machine.specs.declared.regions.Region.{Region}
-use Rattle.rgo_sound.proofs.Acting.{after, Acted, act, act_at, alone}
 use Rattle.rgo_sound.proofs.Acting as acting
 use Rattle.rgo_sound.specs.Core.{Core}
 use Rattle.rgo_sound.specs.Holding.{is_mine}
-use Rattle.rgo_sound.specs.Invariant.{EachOnce, Fine, FramesFit, GoodHolder, HasInstr, IsFree, IsReady}
-use Rattle.rgo_sound.specs.Invariant.{Settled, Shares, Stands, shared_names, to_share}
+use Rattle.rgo_sound.specs.Invariant.{EachOnce, Fine, FramesFit, GoodHolder, HasInstr, Settled, Shares}
+use Rattle.rgo_sound.specs.Invariant.{Stands, shared_names, to_share}
 use Rattle.rgo_sound.specs.Stakes.{times_in}
 use Rattle.rgo_tac.specs.Code.{TacFn}
 use Rattle.rgo_tac.specs.Frames.{Frame, called, values_of}
@@ -92,7 +91,7 @@ module _ (code : Code) (checked : IsChecked code) (written : Ascends code) (fram
       st = fit.0
 
       same : st.instr ≡ call
-      same = same_Some st.instr call (sym (ap (λ o. current_in o frame.next) st.is_fn ∙ st.is_instr) ∙ cur)
+      same = standing_instr code frame f duties call st cur
 
       here : HasInstr st.fn frame.next call
       here = st.is_instr ∙ ap Some same
@@ -105,9 +104,7 @@ module _ (code : Code) (checked : IsChecked code) (written : Ascends code) (fram
           ∙ ap (slice_get callee.body) e0 ∙ first.1
 
       settled : Settled st.fn frame.next call f.names f.protections
-      settled = subst (λ x. Settled st.fn frame.next x f.names f.protections) same
-          (subst (λ x. IsReady (IsFree st.fn frame.next) (Settled st.fn frame.next st.instr) x f.names f.protections) d
-          st.ready)
+      settled = standing_settled code frame f duties call st cur d
 
       there : CallIsThere code to n from
       there = call_is_there code to n from (subst (λ x. OpExists (erased code) (erased_fn st.fn) (erased_op x)) is

@@ -1,14 +1,11 @@
 -- A call passes its regions on: what the callee is given, and what is left to the caller.
-use Rattle.rgo_sound.proofs.Tests.{none_if}
-use Rattle.rgo_sound.proofs.Tests.{ne_of}
-use Rattle.rgo_sound.proofs.Tests.{split, eq_of, or_right}
-use Rattle.rgo_sound.proofs.Tests.{nat_eq_refl, nat_ne_sym}
 use Rattle.std.proofs.Common.{◌≡◌, ◌≢◌, ℕ, zero, suc, ◌+◌, ◌≤◌, Bool, true, false, not, ◌&&◌, ◌||◌, List, [], ◌∷◌}
 use Rattle.std.proofs.Common.{Option, Some, None, refl, sym, ap, ◌∙◌, subst, nat_eq, if◌then◌else◌, arith, ◌⊎◌, inl}
 use Rattle.std.proofs.Common.{inr, true≢false}
 use Rattle.std.specs.List.{list_any}
-use Rattle.rgo_sound.proofs.CoreLemmas.{core_called, unbind_none, bound_unbind, bound_unbind_other}
-use Rattle.rgo_sound.proofs.CoreLemmas.{unique_unbind, held_unbind, bound_held, or_left}
+use Rattle.rgo_sound.proofs.Tests.{none_if, ne_of, split, eq_of, or_right, nat_eq_refl, nat_ne_sym}
+use Rattle.rgo_sound.proofs.CoreLemmas.{core_called, unbind_none, bound_unbind, bound_unbind_other, unique_unbind}
+use Rattle.rgo_sound.proofs.CoreLemmas.{held_unbind, bound_held, or_left}
 use Rattle.rgo_sound.proofs.Static.{is_named}
 use Rattle.rgo_sound.proofs.Moves.{same_regions}
 use Rattle.rgo_code.specs.Names.{is_name}

@@ -1,10 +1,8 @@
 -- How each step changes the count of holding names, and why each region of a goroutine keeps one holding name.
-use Rattle.rgo_sound.proofs.Tests.{none_if}
-use Rattle.rgo_sound.proofs.Tests.{eq_of, split, or_right, or_there}
-use Rattle.rgo_sound.proofs.Tests.{nat_eq_refl, nat_ne_sym}
 use Rattle.std.proofs.Common.{◌≡◌, ℕ, ◌+◌, ◌≤◌, Bool, true, false, not, ◌&&◌, ◌||◌, List, [], ◌∷◌, Some, None, refl}
 use Rattle.std.proofs.Common.{sym, ap, ◌∙◌, subst, nat_eq, if◌then◌else◌, arith, ◌⊎◌, inl, inr, true≢false}
 use Rattle.std.specs.List.{list_any}
+use Rattle.rgo_sound.proofs.Tests.{none_if, eq_of, split, or_right, or_there, nat_eq_refl, nat_ne_sym}
 use Rattle.rgo_region_machine.specs.Duties.{guards}
 use Rattle.rgo_region_machine.specs.Regions.{Bindings, bound, same_region, unbind, without}
 use Rattle.rgo_region_machine.specs.States.{Environment}

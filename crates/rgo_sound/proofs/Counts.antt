@@ -1,9 +1,8 @@
 -- A region that was removed stays as it was.
+use Rattle.std.proofs.Common.{◌≡◌, ℕ, true, false, ◌&&◌, List, [], ◌∷◌, Some, sym, ap, ◌∙◌, nat_eq, nat_lt, true≢false}
+use Rattle.std.proofs.Common.{slice_get}
 use Rattle.std.proofs.lemmas.Option.{slice_get_within}
-use Rattle.rgo_sound.proofs.Tests.{and_third}
-use Rattle.rgo_sound.proofs.Tests.{split, eq_of}
-use Rattle.std.proofs.Common.{◌≡◌, ℕ, true, false, ◌&&◌, List, [], ◌∷◌, Some, sym, ap, ◌∙◌, nat_eq, nat_lt}
-use Rattle.std.proofs.Common.{true≢false, slice_get}
+use Rattle.rgo_sound.proofs.Tests.{and_third, split, eq_of}
 use Rattle.rgo_sound.proofs.Places.{get_append_left}
 use Rattle.rgo_sound.proofs.ErasureLemmas.{Yields, yields, yields_none, yields_if, yields_then, yields_is, yields_from}
 use Rattle.rgo_sound.proofs.ErasureLemmas.{yields_where}

@@ -1,12 +1,10 @@
 -- A call: the callee's entry, and the caller that waits.
-use Rattle.rgo_sound.proofs.Tests.{nat_ne_sym}
-use Rattle.rgo_sound.proofs.Places.{stands_or_not, contains_here, contains_there}
-use Rattle.rgo_sound.proofs.Tests.{split}
 use Rattle.std.proofs.Common.{◌≡◌, ◌≢◌, ℕ, zero, suc, ◌≤◌, ◌<◌, Bool, true, false, ◌||◌, List, [], ◌∷◌, ◌++◌, map}
 use Rattle.std.proofs.Common.{length, Option, Some, None, refl, sym, ap, ◌∙◌, subst, nat_eq, if◌then◌else◌, arith, ◌⊎◌}
 use Rattle.std.proofs.Common.{inl, inr, true≢false, Contains, ◌↔◌}
 use Rattle.std.specs.List.{list_any}
-use Rattle.rgo_sound.proofs.Places.{AreDistinct, ascending_distinct}
+use Rattle.rgo_sound.proofs.Tests.{nat_ne_sym, split}
+use Rattle.rgo_sound.proofs.Places.{stands_or_not, contains_here, contains_there, AreDistinct, ascending_distinct}
 use Rattle.rgo_sound.proofs.Static.{Kept, ready_removes, ready_creates, ready_ops, named_bound}
 use Rattle.rgo_sound.proofs.Calls.{AreFormals, ArePassable, CallFits, called_core, not_passed, given_times, given_free}
 use Rattle.rgo_sound.proofs.Calls.{left_other, left_given, left_gone}

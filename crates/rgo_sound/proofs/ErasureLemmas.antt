@@ -1,7 +1,7 @@
 -- A region step keeps the plain state, and an instruction makes a step of it: the law of erasure.
-use Rattle.std.proofs.lemmas.Option.{same_Some}
 use Rattle.std.proofs.Common.{◌≡◌, ℕ, Bool, true, false, List, [], ◌∷◌, ◌++◌, Option, Some, None, refl, sym, ap, ◌∙◌}
 use Rattle.std.proofs.Common.{subst}
+use Rattle.std.proofs.lemmas.Option.{same_Some}
 use Rattle.std.specs.Prelude.{option_and_then, unwrap_or, option_map, if◌then◌else◌, slice_get}
 use Rattle.rgo_code.specs.Code.{Code, CodeInstr}
 use Rattle.rgo_code.specs.Erasure.{erased}
@@ -12,13 +12,12 @@ use Rattle.rgo_machine.specs.declared.picks.Pick.TheVariants.{Meet, One}
 use Rattle.rgo_region_machine.specs.Duties.{attend, duty_done, protected, removal, shared}
 use Rattle.rgo_region_machine.specs.Instructions.{both_instructed, instruct, instructed, instructed_at, marked}
 use Rattle.rgo_region_machine.specs.Instructions.{one_instructed, plain_after, printed_if, some_instructed}
-use Rattle.rgo_region_machine.specs.Machine.{Acknowledge, Attend, Event, Finish, Instruct, MakeOffer, TakePage}
-use Rattle.rgo_region_machine.specs.Machine.{kept, page_for, page_taken, region_start, region_step, take_page}
-use Rattle.rgo_region_machine.specs.Machine.{plain_step, takes_page}
+use Rattle.rgo_region_machine.specs.Machine.{Acknowledge, Attend, Event, Finish, Instruct, MakeOffer, TakePage, kept}
+use Rattle.rgo_region_machine.specs.Machine.{page_for, page_taken, region_start, region_step, take_page, plain_step}
+use Rattle.rgo_region_machine.specs.Machine.{takes_page}
 use Rattle.rgo_region_machine.specs.Offers.{acknowledge, make_offer, offer_at, offer_for, offered}
 use Rattle.rgo_region_machine.specs.States.{Create, Duty, EndBase, Ended, Holder, Mark, NoOffer, Offer, Protect}
-use Rattle.rgo_region_machine.specs.States.{RegionState, Remove}
-use Rattle.rgo_region_machine.specs.States.{Share, Standing, Stopped, Taken, Unprotect, frames_of}
+use Rattle.rgo_region_machine.specs.States.{RegionState, Remove, Share, Standing, Stopped, Taken, Unprotect, frames_of}
 use Rattle.rgo_region_machine.specs.declared.regions.Region.{Region}
 use Rattle.rgo_region_machine.specs.declared.regions.Region.TheVariants.{Global as GlobalRegion, Numbered}
 use Rattle.rgo_sound.specs.Erasure.{Erasure, SameEnd, erased_picks, event_picks}

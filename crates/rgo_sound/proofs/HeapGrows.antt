@@ -11,8 +11,8 @@ use Rattle.rgo_memory.specs.declared.traps.Trap.{Trap}
 use Rattle.rgo_memory.specs.declared.values.Value.{Value}
 use Rattle.rgo_memory.specs.declared.values.Value.TheVariants as value
 use Rattle.rgo_memory.specs.Channels.{close, receive, received, send, sent, shut}
-use Rattle.rgo_memory.specs.Effects.{Does, Effect, Outcome, Traps, answered, in_memory}
-use Rattle.rgo_memory.specs.Effects.{in_memory_if_ready, to_object, to_object_if_ready}
+use Rattle.rgo_memory.specs.Effects.{Does, Effect, Outcome, Traps, answered, in_memory, in_memory_if_ready, to_object}
+use Rattle.rgo_memory.specs.Effects.{to_object_if_ready}
 use Rattle.rgo_memory.specs.Elements.{element_at, length_of, put, put_in}
 use Rattle.rgo_memory.specs.Fields.{load, or_nil, store, stored}
 use Rattle.rgo_memory.specs.Making.{made, made_struct, sized}

@@ -1,19 +1,17 @@
 -- Each action keeps pointers in their regions; its value leads into the region of its variable's class.
-use Rattle.std.proofs.lemmas.Option.{slice_get_within, slice_get_past}
-use Rattle.rgo_sound.proofs.Places.{contains_here, contains_there}
-use Rattle.rgo_sound.proofs.Tests.{split, eq_of}
-use Rattle.std.proofs.lemmas.Option.{same_Some}
 use Rattle.std.proofs.Common.{◌≡◌, ◌≢◌, ℕ, zero, suc, ◌+◌, ◌<◌, Bool, true, false, List, [], ◌∷◌, ◌++◌, map, length}
 use Rattle.std.proofs.Common.{Option, Some, None, refl, sym, ap, ◌∙◌, subst, nat_eq, nat_lt, if◌then◌else◌, arith, ◌⊎◌}
 use Rattle.std.proofs.Common.{inl, inr, slice_get, slice_set, length-append, Contains, append-nil}
+use Rattle.std.proofs.lemmas.Option.{slice_get_within, slice_get_past, same_Some}
 use Rattle.std.specs.Prelude.{ℤ, pos, negsuc, int_rem, Result, Ok, Err}
 use Rattle.std.specs.Int.{w64, int_wrapping_div}
 use Rattle.std.specs.Option.{option_map}
 use Rattle.std.specs.Ordering.{int_eq}
-use Rattle.rgo_sound.proofs.Acting.{performed, silent}
-use Rattle.rgo_sound.proofs.Places.{each_get, each_more, each_replicate, each_set, each_snoc, get_append_last}
-use Rattle.rgo_sound.proofs.Places.{get_append_left, get_set_other, get_set_same, get_snoc}
+use Rattle.rgo_sound.proofs.Places.{contains_here, contains_there, each_get, each_more, each_replicate, each_set}
+use Rattle.rgo_sound.proofs.Places.{each_snoc, get_append_last, get_append_left, get_set_other, get_set_same, get_snoc}
 use Rattle.rgo_sound.proofs.Places.{length_set}
+use Rattle.rgo_sound.proofs.Tests.{split, eq_of}
+use Rattle.rgo_sound.proofs.Acting.{performed, silent}
 use Rattle.rgo_sound.proofs.OneStep.{Allots}
 use Rattle.rgo_ast.specs.declared.ops.BinaryOp.{BinaryOp}
 use Rattle.rgo_ast.specs.declared.ops.BinaryOp.TheVariants.{Mul, Div, Rem, Add, Sub, Eq, Ne, Lt, Le, Gt, Ge, And, Or}

@@ -1,15 +1,14 @@
 -- An instruction of one goroutine that is no call, no `go` and no return keeps what holds of the state.
-use Rattle.rgo_sound.proofs.Acting.{no_end}
-use Rattle.rgo_sound.proofs.Places.{contains_here, contains_there}
-use Rattle.rgo_sound.proofs.Tests.{split, eq_of}
+use Rattle.std.proofs.Common.{◌≡◌, ℕ, ◌+◌, ◌<◌, Bool, true, false, List, [], ◌∷◌, ◌++◌, map, length, Option, Some, None}
+use Rattle.std.proofs.Common.{refl, sym, ap, ◌∙◌, subst, nat_eq, arith, if◌then◌else◌, ◌⊎◌, inl, inr, slice_get}
+use Rattle.std.proofs.Common.{slice_set, option_map, Contains, append-nil}
 use Rattle.std.proofs.lemmas.Option.{same_Some}
-use Rattle.std.proofs.Common.{◌≡◌, ℕ, ◌+◌, ◌<◌, Bool, true, false, List, [], ◌∷◌, ◌++◌, map, length, Option}
-use Rattle.std.proofs.Common.{Some, None, refl, sym, ap, ◌∙◌, subst, nat_eq, arith, if◌then◌else◌, ◌⊎◌, inl, inr}
-use Rattle.std.proofs.Common.{slice_get, slice_set, option_map, Contains, append-nil}
-use Rattle.rgo_sound.proofs.Places.{get_set_other, get_set_same, length_set}
-use Rattle.rgo_sound.proofs.Static.{Kept}
+use Rattle.rgo_sound.proofs.Static.{standing_instr, standing_settled, Kept}
+use Rattle.rgo_sound.proofs.Acting.{no_end, after, Acted, act, act_at, alone, effected, end_by, performed, trap_place}
+use Rattle.rgo_sound.proofs.Places.{contains_here, contains_there, get_set_other, get_set_same, length_set}
+use Rattle.rgo_sound.proofs.Tests.{split, eq_of}
 use Rattle.rgo_sound.proofs.Attends.{total_set}
-use Rattle.rgo_sound.proofs.OneStep.{SameHolder, none_owed, after_simple, OneDone, current_erased}
+use Rattle.rgo_sound.proofs.OneStep.{SameHolder, none_owed, after_simple, OneDone, current_erased, IsSimple}
 use Rattle.rgo_sound.proofs.Moves.{moves_on, settled_pending}
 use Rattle.rgo_code.specs.Code.{Branch, Call, Code, CodeFn, CodeInstr, CodeOp, Do, Go, Jump, Print, Return}
 use Rattle.rgo_code.specs.Erasure.{erased, erased_instr, erased_op}
@@ -27,11 +26,9 @@ use Rattle.rgo_region_machine.specs.Regions.{RegionInfo}
 use Rattle.rgo_region_machine.specs.States.{Duty, Environment, Holder, RegionState, Remove, frames_in, frames_of}
 use Rattle.rgo_region_machine.specs.States.{top_names}
 use Rattle.rgo_region_machine.specs.declared.regions.Region.{Region}
-use Rattle.rgo_sound.proofs.Acting.{after, Acted, act, act_at, alone, effected, end_by, performed, trap_place}
 use Rattle.rgo_sound.specs.Core.{Core}
-use Rattle.rgo_sound.specs.Invariant.{EachOnce, Fine, FramesFit, GoodHolder, HasInstr, IsFree, IsReady}
-use Rattle.rgo_sound.proofs.OneStep.{IsSimple}
-use Rattle.rgo_sound.specs.Invariant.{Settled, Shares, shared_names, to_share}
+use Rattle.rgo_sound.specs.Invariant.{EachOnce, Fine, FramesFit, GoodHolder, HasInstr, Shares}
+use Rattle.rgo_sound.specs.Invariant.{shared_names, to_share}
 use Rattle.rgo_sound.specs.Stakes.{holders_of, is_in, one_if, pending_of, times_in, total}
 use Rattle.rgo_tac.specs.Code.{Tac}
 use Rattle.rgo_tac.specs.Frames.{Frame, going, moved_to, value_at, values_of}
@@ -239,17 +236,13 @@ pub frame_goes : (code : Code) (frame frame' : Frame) (callers : List Frame) (in
 frame_goes code frame frame' callers instr k [] duties ruled cur simple d core once fit sh same edge = absurd fit
 frame_goes code frame frame' callers instr k (f ∷ fs) duties ruled cur simple d core once fit sh same edge =
     let st = fit.0 in
-    let cur' : current code frame ≡ Some st.instr = ap (λ o. current_in o frame.next) st.is_fn ∙ st.is_instr in
-    let is : st.instr ≡ instr = same_Some st.instr instr (sym cur' ∙ cur) in
+    let is : st.instr ≡ instr = standing_instr code frame f duties instr st cur in
     let here : HasInstr st.fn frame.next instr = st.is_instr ∙ ap Some is in
     let to = ruled.goes_on frame.function frame.next frame'.next st.fn instr (removes_behind frame instr.op) st.is_fn
     here edge in
     let is_fn' : function_at code frame' ≡ Some st.fn = ap (slice_get code.functions) same ∙ st.is_fn in
     let next_is : current code frame' ≡ Some to.0 = ap (λ o. current_in o frame'.next) is_fn' ∙ to.1 in
-    let settled : Settled st.fn frame.next instr f.names f.protections =
-    subst (λ x. Settled st.fn frame.next x f.names f.protections) is
-    (subst (λ x. IsReady (IsFree st.fn frame.next) (Settled st.fn frame.next st.instr) x f.names f.protections) d
-    st.ready) in
+    let settled = standing_settled code frame f duties instr st cur d in
     let good = moves_on code st.fn frame frame' callers instr to.0 (removes_behind frame instr.op) k f fs st.is_fn
     (ruled.kept frame.function frame.next st.fn instr st.is_fn here) is_fn'
     (ruled.kept frame.function frame'.next st.fn to.0 st.is_fn to.1) edge (simple_gives code instr.op simple)

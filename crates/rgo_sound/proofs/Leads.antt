@@ -1,20 +1,15 @@
 -- Where the variables of frames lead, behind each instruction.
-use Rattle.std.proofs.lemmas.Option.{slice_get_within}
-use Rattle.rgo_sound.proofs.Places.{get_contains}
-use Rattle.rgo_sound.proofs.Places.{contains_here, contains_there}
-use Rattle.rgo_sound.proofs.Tests.{ne_of}
-use Rattle.rgo_sound.proofs.Tests.{split, eq_of}
-use Rattle.rgo_sound.proofs.Tests.{nat_eq_refl}
-use Rattle.std.proofs.lemmas.Option.{same_Some}
 use Rattle.std.proofs.Common.{◌≡◌, ◌≢◌, ℕ, zero, suc, ◌+◌, ◌<◌, Bool, true, false, ◌&&◌, ◌||◌, List, [], ◌∷◌, ◌++◌, map}
 use Rattle.std.proofs.Common.{length, drop, get_or, Option, Some, None, refl, sym, ap, ◌∙◌, subst, nat_eq}
 use Rattle.std.proofs.Common.{if◌then◌else◌, arith, ◌⊎◌, inl, inr, true≢false, slice_get, slice_set, option_map}
 use Rattle.std.proofs.Common.{is_some, Contains, append-nil}
+use Rattle.std.proofs.lemmas.Option.{slice_get_within, same_Some, slice_get-map, get_or_from_slice_get}
 use Rattle.std.specs.List.{list_any}
-use Rattle.std.proofs.lemmas.Option.{slice_get-map, get_or_from_slice_get}
+use Rattle.rgo_sound.proofs.Places.{get_contains, contains_here, contains_there, each_get, get_append_cases}
+use Rattle.rgo_sound.proofs.Places.{get_set_other}
+use Rattle.rgo_sound.proofs.Tests.{ne_of, split, eq_of, nat_eq_refl}
 use Rattle.rgo_sound.proofs.Acting.{Acted, act, act_at, alone, call, effected, moves, returned, start, trap_place}
 use Rattle.rgo_sound.proofs.Acting.{performed}
-use Rattle.rgo_sound.proofs.Places.{each_get, get_append_cases, get_set_other}
 use Rattle.rgo_sound.proofs.OneStep.{Allots, current_erased}
 use Rattle.rgo_sound.proofs.ErasureLemmas.{Always}
 use Rattle.rgo_sound.proofs.Static.{live_back}

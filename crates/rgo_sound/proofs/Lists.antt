@@ -1,17 +1,13 @@
 -- The lists of a call, from the rules.
-use Rattle.std.proofs.lemmas.Option.{slice_get_within}
-use Rattle.rgo_sound.proofs.Tests.{or_there}
-use Rattle.rgo_sound.proofs.Places.{contains_get}
-use Rattle.rgo_sound.proofs.Places.{get_contains}
-use Rattle.rgo_sound.proofs.Places.{contains_here, contains_there, contains_cases, contains_nil, contains_one}
-use Rattle.rgo_sound.proofs.Tests.{split, eq_of, or_right}
-use Rattle.std.proofs.lemmas.Option.{same_Some}
 use Rattle.std.proofs.Common.{◌≡◌, ◌≢◌, ℕ, zero, suc, ◌+◌, ◌≤◌, Bool, true, false, ◌||◌, List, [], ◌∷◌, ◌++◌, length}
 use Rattle.std.proofs.Common.{Option, Some, refl, sym, ap, ◌∙◌, subst, nat_eq, if◌then◌else◌, arith, ◌⊎◌, inl, inr, ◌↔◌}
 use Rattle.std.proofs.Common.{true≢false, slice_get, Contains}
+use Rattle.std.proofs.lemmas.Option.{slice_get_within, same_Some}
 use Rattle.std.proofs.lemmas.List.Elements.{Contains-append_left, Contains-append_right, Contains-append_cases}
 use Rattle.std.specs.List.{list_any}
-use Rattle.rgo_sound.proofs.Places.{get_some}
+use Rattle.rgo_sound.proofs.Tests.{or_there, split, eq_of, or_right}
+use Rattle.rgo_sound.proofs.Places.{contains_get, get_contains, contains_here, contains_there, contains_cases}
+use Rattle.rgo_sound.proofs.Places.{contains_nil, contains_one, get_some}
 use Rattle.rgo_sound.proofs.Static.{is_named}
 use Rattle.rgo_sound.proofs.CallRules.{any_contains}
 use Rattle.rgo_sound.proofs.Calls.{AreFormals, given_free}

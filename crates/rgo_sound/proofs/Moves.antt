@@ -1,9 +1,9 @@
 -- What an instruction leaves of a goroutine's frames: moves along an edge, and returns.
-use Rattle.rgo_sound.proofs.Places.{contains_here, contains_there, stands_or_not}
-use Rattle.rgo_sound.proofs.Tests.{split, eq_of}
 use Rattle.std.proofs.Common.{◌≡◌, ◌≢◌, ℕ, ◌+◌, ◌≤◌, Bool, true, false, List, [], ◌∷◌, ◌++◌, map, Option, Some, None}
 use Rattle.std.proofs.Common.{refl, sym, ap, ◌∙◌, subst, if◌then◌else◌, arith, ◌⊎◌, inl, inr, true≢false, Contains}
 use Rattle.std.proofs.Common.{append_assoc, append-nil}
+use Rattle.rgo_sound.proofs.Places.{contains_here, contains_there, stands_or_not}
+use Rattle.rgo_sound.proofs.Tests.{split, eq_of}
 use Rattle.rgo_sound.proofs.CoreLemmas.{core_popped}
 use Rattle.rgo_sound.proofs.Static.{Kept, arrives, asked_names, is_named, not_named}
 use Rattle.rgo_sound.proofs.Shares.{HasNoShare, removes_share_none, behind_call_share_none, ends_share_none}

@@ -1,14 +1,12 @@
 -- Offers: a standing one is that of the send of its goroutine, and one that was taken is on a live channel.
-use Rattle.std.proofs.lemmas.Option.{slice_get_within}
-use Rattle.rgo_sound.proofs.Places.{contains_here}
-use Rattle.rgo_sound.proofs.Tests.{split, eq_of}
-use Rattle.std.proofs.lemmas.Option.{same_Some}
 use Rattle.std.proofs.Common.{◌≡◌, ℕ, zero, suc, ◌+◌, ◌==◌, Bool, true, false, List, [], ◌∷◌, ◌++◌, map, length, Option}
 use Rattle.std.proofs.Common.{Some, None, refl, sym, ap, ◌∙◌, subst, nat_eq, nat_lt, if◌then◌else◌, arith, true≢false}
 use Rattle.std.proofs.Common.{slice_get, slice_set, option_map, option_and_then, ◌⊎◌, inl, inr, Contains}
+use Rattle.std.proofs.lemmas.Option.{slice_get_within, same_Some}
 use Rattle.std.specs.Prelude.{ℤ, pos, negsuc, Result, Ok, Err}
-use Rattle.rgo_sound.proofs.Places.{get_append_left, get_append_place, get_set_other, get_set_same}
+use Rattle.rgo_sound.proofs.Places.{contains_here, get_append_left, get_append_place, get_set_other, get_set_same}
 use Rattle.rgo_sound.proofs.Places.{length_set}
+use Rattle.rgo_sound.proofs.Tests.{split, eq_of}
 use Rattle.rgo_sound.proofs.Bullets.{name_staked, duty_staked, has_stake}
 use Rattle.rgo_sound.proofs.ErasureLemmas.{Always, Yields, yields, yields_none, yields_if, yields_then, yields_is}
 use Rattle.rgo_sound.proofs.ErasureLemmas.{yields_at, yields_from, yields_where}
@@ -43,19 +41,18 @@ use Rattle.rgo_memory.specs.declared.traps.Trap.TheVariants.{SendClosed, IndexRa
 use Rattle.rgo_memory.specs.declared.values.Value.{Value}
 use Rattle.rgo_region_machine.specs.Duties.{attend, attended, duty_done, may_go, protected, removal, shared}
 use Rattle.rgo_region_machine.specs.Duties.{unprotected, with_protection}
-use Rattle.rgo_region_machine.specs.Instructions.{child_holder, holder_after, instructed_with, is_ready}
-use Rattle.rgo_region_machine.specs.Instructions.{last_frames, standing_at, taken_offer, unless_trapped}
+use Rattle.rgo_region_machine.specs.Instructions.{child_holder, holder_after, instructed_with, is_ready, last_frames}
+use Rattle.rgo_region_machine.specs.Instructions.{standing_at, taken_offer, unless_trapped}
 use Rattle.rgo_region_machine.specs.Machine.{Acknowledge, Attend, Event, Finish, Instruct, MakeOffer, TakePage}
 use Rattle.rgo_region_machine.specs.Machine.{finished, page_for, page_taken, region_run, region_start, region_step}
 use Rattle.rgo_region_machine.specs.Machine.{take_page, takes_page}
 use Rattle.rgo_region_machine.specs.Objects.{makes_object, making_region, target_class, touched, touched_by, with_fill}
-use Rattle.rgo_region_machine.specs.Offers.{acknowledge, make_offer, offer_for, offered, offered_channel}
-use Rattle.rgo_region_machine.specs.Offers.{open_channel}
+use Rattle.rgo_region_machine.specs.Offers.{acknowledge, make_offer, offer_for, offered, offered_channel, open_channel}
 use Rattle.rgo_region_machine.specs.Owed.{current, function_at}
 use Rattle.rgo_region_machine.specs.Regions.{Bindings, bound, class_region, removed_once, unbind, without}
-use Rattle.rgo_region_machine.specs.States.{Create, Duty, EndBase, Holder, NoOffer, Offer, Protect}
-use Rattle.rgo_region_machine.specs.States.{RegionState, Remove, Share, Standing, Taken, Unprotect, frames_in}
-use Rattle.rgo_region_machine.specs.States.{frames_of, top_names, with_top}
+use Rattle.rgo_region_machine.specs.States.{Create, Duty, EndBase, Holder, NoOffer, Offer, Protect, RegionState, Remove}
+use Rattle.rgo_region_machine.specs.States.{Share, Standing, Taken, Unprotect, frames_in, frames_of, top_names}
+use Rattle.rgo_region_machine.specs.States.{with_top}
 use Rattle.rgo_region_machine.specs.declared.limits.Limit.{Limit}
 use Rattle.rgo_region_machine.specs.declared.regions.Region.{Region}
 use Rattle.rgo_region_machine.specs.declared.regions.Region.TheVariants.{Global as GlobalRegion, Numbered}

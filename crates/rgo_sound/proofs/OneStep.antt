@@ -1,19 +1,16 @@
 -- What the steps of instructions are, unfolded once: of one goroutine, and of two that meet.
-use Rattle.rgo_sound.proofs.Places.{contains_here}
-use Rattle.rgo_sound.proofs.Tests.{and_split}
-use Rattle.rgo_sound.proofs.Tests.{nat_ne_sym}
 use Rattle.std.proofs.Common.{◌≡◌, ℕ, ◌+◌, Bool, true, false, ◌&&◌, List, [], ◌∷◌, ◌++◌, map, Option, Some, None, refl}
-use Rattle.std.proofs.Common.{sym, ap, ◌∙◌, subst, nat_eq, if◌then◌else◌, true≢false, slice_get, slice_set}
-use Rattle.std.proofs.Common.{option_map, option_and_then, Contains}
+use Rattle.std.proofs.Common.{sym, ap, ◌∙◌, subst, nat_eq, if◌then◌else◌, true≢false, slice_get, slice_set, option_map}
+use Rattle.std.proofs.Common.{option_and_then, Contains}
 use Rattle.std.proofs.lemmas.Option.{slice_get-map}
-use Rattle.rgo_sound.proofs.Places.{get_set_other, get_set_same}
+use Rattle.rgo_sound.proofs.Places.{contains_here, get_set_other, get_set_same}
+use Rattle.rgo_sound.proofs.Tests.{and_split, nat_ne_sym}
 use Rattle.rgo_sound.proofs.ErasureLemmas.{Yields, yields_none, yields_with, yields_where}
 use Rattle.rgo_code.specs.Code.{Branch, Call, Code, CodeFn, CodeInstr, CodeOp, Do, Go, Jump, Print, Return}
 use Rattle.rgo_code.specs.Erasure.{erased, erased_fn, erased_instr, erased_op}
 use Rattle.rgo_code.specs.Names.{edges}
 use Rattle.rgo_machine.specs.Machines.{AtCall, AtClose, AtReceive, AtSend, AtStart, Elsewhere, Stand}
-use Rattle.rgo_machine.specs.Machines.{alone as machine_alone, met, met_by, picked}
-use Rattle.rgo_machine.specs.Machines.{unless_ended, with_frames}
+use Rattle.rgo_machine.specs.Machines.{alone as machine_alone, met, met_by, picked, unless_ended, with_frames}
 use Rattle.rgo_machine.specs.declared.picks.End.{End}
 use Rattle.rgo_machine.specs.declared.picks.Pick.TheVariants.{Meet, One}
 use Rattle.rgo_memory.specs.Channels.{meets_at}

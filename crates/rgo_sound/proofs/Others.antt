@@ -1,21 +1,18 @@
 -- Pages, offers, acknowledgements, ends and the start keep what holds of a state; and so does each step.
-use Rattle.std.proofs.lemmas.Option.{slice_get_within}
-use Rattle.rgo_sound.proofs.Places.{contains_here, contains_nil}
-use Rattle.rgo_sound.proofs.Tests.{split, eq_of}
-use Rattle.std.proofs.lemmas.Option.{same_Some}
 use Rattle.std.proofs.Common.{◌≡◌, ℕ, zero, suc, ◌+◌, ◌<◌, Bool, true, false, List, [], ◌∷◌, ◌++◌, map, length, Option}
 use Rattle.std.proofs.Common.{Some, None, refl, sym, ap, ◌∙◌, subst, nat_eq, if◌then◌else◌, arith, true≢false}
 use Rattle.std.proofs.Common.{slice_get, slice_set, option_map, option_and_then, Contains}
+use Rattle.std.proofs.lemmas.Option.{slice_get_within, same_Some, slice_get-map}
 use Rattle.std.specs.Prelude.{bytes_eq, codes}
-use Rattle.std.proofs.lemmas.Option.{slice_get-map}
 use Rattle.std.proofs.lemmas.Slice.Eq.{bytes_eq-Decides}
-use Rattle.rgo_sound.proofs.Places.{ascending_distinct, get_some}
+use Rattle.rgo_sound.proofs.Places.{contains_here, contains_nil, ascending_distinct, get_some}
+use Rattle.rgo_sound.proofs.Tests.{split, eq_of}
 use Rattle.rgo_sound.proofs.ErasureLemmas.{Yields, yields, yields_none, yields_if, yields_then, yields_at, yields_from}
 use Rattle.rgo_sound.proofs.Attends.{fine_with, total_set, with_info_same, with_info_other, length_with_info, duties_go}
 use Rattle.rgo_sound.proofs.Shares.{shares_next}
 use Rattle.rgo_sound.proofs.Enters.{IsParameter, enters}
 use Rattle.rgo_sound.proofs.Instructs.{fine_plain, fine_move}
-use Rattle.rgo_sound.proofs.OneStep.{OneDone, one_done, meet_done}
+use Rattle.rgo_sound.proofs.OneStep.{OneDone, one_done, meet_done, IsSimple}
 use Rattle.rgo_sound.proofs.CallStates.{first_instr, fine_call}
 use Rattle.rgo_sound.proofs.ReturnStates.{fine_return}
 use Rattle.rgo_sound.proofs.Meets.{fine_meet}
@@ -30,8 +27,8 @@ use Rattle.rgo_code.specs.Names.{parameter_classes, result_class, slot_class}
 use Rattle.rgo_machine.specs.declared.picks.Pick.TheVariants.{Meet, One}
 use Rattle.rgo_region_machine.specs.Duties.{attend, attended, may_go}
 use Rattle.rgo_region_machine.specs.Machine.{Acknowledge, Attend, Event, Finish, Instruct, MakeOffer, TakePage}
-use Rattle.rgo_region_machine.specs.Machine.{finished, main_holder, page_for, page_taken, region_start}
-use Rattle.rgo_region_machine.specs.Machine.{region_step, take_page, takes_page}
+use Rattle.rgo_region_machine.specs.Machine.{finished, main_holder, page_for, page_taken, region_start, region_step}
+use Rattle.rgo_region_machine.specs.Machine.{take_page, takes_page}
 use Rattle.rgo_region_machine.specs.Objects.{with_fill}
 use Rattle.rgo_region_machine.specs.Offers.{acknowledge, make_offer, offer_for, offered}
 use Rattle.rgo_region_machine.specs.Owed.{current, current_in, duties_before}
@@ -42,7 +39,6 @@ use Rattle.rgo_region_machine.specs.declared.limits.Limit.{Limit}
 use Rattle.rgo_region_machine.specs.declared.regions.Region.{Region}
 use Rattle.rgo_region_machine.specs.declared.regions.Region.TheVariants.{Global as GlobalRegion, Numbered}
 use Rattle.rgo_sound.specs.Invariant.{Fine, GoodHolder, IsFree, IsReady, Settled}
-use Rattle.rgo_sound.proofs.OneStep.{IsSimple}
 use Rattle.rgo_sound.specs.Stakes.{holders_of, is_in, one_if, pending_of, times_in, total}
 use Rattle.rgo_tac.specs.Code.{TacFn}
 use Rattle.rgo_tac.specs.Frames.{Frame, called}

@@ -1,17 +1,13 @@
 -- Pages are taken for objects: a goroutine that took a page makes an object there before it takes another.
-use Rattle.std.proofs.lemmas.Option.{slice_get_within, slice_get_past}
-use Rattle.rgo_sound.proofs.Tests.{and_split}
-use Rattle.rgo_sound.proofs.Tests.{split, eq_of}
-use Rattle.rgo_sound.proofs.Tests.{nat_eq_refl, nat_ne_sym}
-use Rattle.std.proofs.lemmas.Option.{same_Some}
 use Rattle.std.proofs.Common.{◌≡◌, ℕ, zero, suc, ◌+◌, ◌≤◌, ◌<◌, Bool, true, false, not, ◌&&◌, List, [], ◌∷◌, ◌++◌, map}
-use Rattle.std.proofs.Common.{length}
-use Rattle.std.proofs.Common.{Option, Some, None, refl, sym, ap, ◌∙◌, subst, nat_eq, nat_lt, nat_le, if◌then◌else◌}
-use Rattle.std.proofs.Common.{arith, true≢false}
-use Rattle.std.proofs.Common.{slice_get, slice_set, option_map, option_and_then, sum_by, length-append, replicate}
+use Rattle.std.proofs.Common.{length, Option, Some, None, refl, sym, ap, ◌∙◌, subst, nat_eq, nat_lt, nat_le}
+use Rattle.std.proofs.Common.{if◌then◌else◌, arith, true≢false, slice_get, slice_set, option_map, option_and_then}
+use Rattle.std.proofs.Common.{sum_by, length-append, replicate}
+use Rattle.std.proofs.lemmas.Option.{slice_get_within, slice_get_past, same_Some}
 use Rattle.std.specs.Prelude.{pos, negsuc}
 use Rattle.std.proofs.lemmas.List.Sums.{sum_by-cons, sum_by_push}
 use Rattle.std.proofs.lemmas.Bool.Decides.{nat_tests}
+use Rattle.rgo_sound.proofs.Tests.{and_split, split, eq_of, nat_eq_refl, nat_ne_sym}
 use Rattle.rgo_typed.specs.declared.actions.Action.{Action}
 use Rattle.rgo_typed.specs.declared.actions.Action.TheVariants.{At, Binary, Bool as BoolConstant, Chan, Close, Copy}
 use Rattle.rgo_typed.specs.declared.actions.Action.TheVariants.{Get, Int, IsNil, Len, Load, Neg, New, Nil, Not, Put}
@@ -47,8 +43,8 @@ use Rattle.rgo_region_machine.specs.Machine.{region_start, region_step, take_pag
 use Rattle.rgo_region_machine.specs.Objects.{fill_of, fits, makes_object, making_region, wants_page, with_fill, words}
 use Rattle.rgo_region_machine.specs.Offers.{acknowledge, make_offer, offer_for, offered}
 use Rattle.rgo_region_machine.specs.Owed.{current, function_at}
-use Rattle.rgo_region_machine.specs.Regions.{Bindings, RegionInfo, is_live, one_fewer, one_more, one_page_more}
-use Rattle.rgo_region_machine.specs.Regions.{unbind, with_info, without}
+use Rattle.rgo_region_machine.specs.Regions.{Bindings, RegionInfo, is_live, one_fewer, one_more, one_page_more, unbind}
+use Rattle.rgo_region_machine.specs.Regions.{with_info, without}
 use Rattle.rgo_region_machine.specs.States.{Create, Duty, EndBase, Holder, NoOffer, Offer, Protect, RegionState, Remove}
 use Rattle.rgo_region_machine.specs.States.{Share, Standing, Taken, Unprotect, frames_in, frames_of, top_names}
 use Rattle.rgo_region_machine.specs.States.{with_top}

@@ -1,15 +1,11 @@
 -- What a call passes has a region.
-use Rattle.std.proofs.lemmas.Option.{slice_get_within}
-use Rattle.rgo_sound.proofs.Places.{get_contains}
-use Rattle.rgo_sound.proofs.Places.{contains_one}
-use Rattle.std.proofs.lemmas.Option.{same_Some}
 use Rattle.std.proofs.Common.{◌≡◌, ◌≢◌, ℕ, zero, suc, ◌<◌, List, [], ◌∷◌, ◌++◌, length, Option, Some, None, is_some}
 use Rattle.std.proofs.Common.{refl, sym, ap, ◌∙◌, subst, arith, ◌⊎◌, inl, inr, true≢false, slice_get, Contains}
 use Rattle.std.proofs.Common.{option_map}
+use Rattle.std.proofs.lemmas.Option.{slice_get_within, same_Some, slice_get-map}
 use Rattle.std.specs.Prelude.{take}
 use Rattle.std.proofs.lemmas.List.Elements.{Contains-append_cases}
-use Rattle.std.proofs.lemmas.Option.{slice_get-map}
-use Rattle.rgo_sound.proofs.Places.{get_some}
+use Rattle.rgo_sound.proofs.Places.{get_contains, contains_one, get_some}
 use Rattle.rgo_sound.proofs.Calls.{ArePassable}
 use Rattle.rgo_sound.proofs.Ruled.{distinct_member, parameter_member}
 use Rattle.rgo_code.specs.ClassRules.{IsPassedFor, Passes, ResultFits, SlotFits}

@@ -1,8 +1,7 @@
 -- Lists by position: after a write, in a longer list, and of each element; and being in a list.
+use Rattle.std.proofs.Common.{◌≡◌, ℕ, zero, suc, ◌+◌, ◌<◌, false, List, [], ◌∷◌, ◌++◌, length, Some, refl, ap, subst}
+use Rattle.std.proofs.Common.{nat_eq, arith, ◌⊎◌, inl, inr, slice_get, slice_set, slice_index, replicate, rules}
 use Rattle.std.proofs.lemmas.Option.{same_Some}
-use Rattle.std.proofs.Common.{◌≡◌, ℕ, zero, suc, ◌+◌, ◌<◌, false, List, [], ◌∷◌, ◌++◌, length, Some}
-use Rattle.std.proofs.Common.{refl, ap, subst, nat_eq, arith, ◌⊎◌, inl, inr, slice_get, slice_set, slice_index}
-use Rattle.std.proofs.Common.{replicate, rules}
 use Rattle.std.specs.List.{Contains}
 use Rattle.std.specs.List.Sorted.{IsStrictlyIncreasing}
 use Rattle.std.proofs.lemmas.List.Kept.{AllPairs-from_increasing}

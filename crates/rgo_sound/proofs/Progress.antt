@@ -1,18 +1,16 @@
 -- No step is missing: each instruction of the three-address machine can be done after some region steps.
-use Rattle.std.proofs.lemmas.Option.{slice_get_within, slice_get_past}
-use Rattle.rgo_sound.proofs.Tests.{split, eq_of}
-use Rattle.rgo_sound.proofs.Tests.{nat_eq_refl, nat_ne_sym}
-use Rattle.std.proofs.lemmas.Option.{same_Some}
 use Rattle.std.proofs.Common.{◌≡◌, ◌≢◌, ℕ, zero, suc, ◌+◌, ◌<◌, Bool, true, false, not, ◌&&◌, ◌||◌, List, [], ◌∷◌, map}
 use Rattle.std.proofs.Common.{length, Option, Some, None, IsSome, refl, sym, ap, ◌∙◌, subst, nat_eq, nat_le}
 use Rattle.std.proofs.Common.{if◌then◌else◌, arith, true≢false, slice_get, slice_set, option_map, option_and_then, inr}
 use Rattle.std.proofs.Common.{rules}
+use Rattle.std.proofs.lemmas.Option.{slice_get_within, slice_get_past, same_Some}
 use Rattle.std.specs.List.{list_any}
 use Rattle.std.proofs.lemmas.Bool.Decides.{nat_tests}
+use Rattle.rgo_sound.proofs.Static.{standing_settled, named_bound}
+use Rattle.rgo_sound.proofs.Tests.{split, eq_of, nat_eq_refl, nat_ne_sym}
 use Rattle.rgo_sound.proofs.Places.{get_set_other, get_set_same, get_some}
 use Rattle.rgo_sound.proofs.OneStep.{ReceivesAt, StandsAt, current_erased, met_with, stands_at_channel}
 use Rattle.rgo_sound.proofs.ErasureLemmas.{Always, Yields, yields, yields_none, yields_if, yields_then, yields_is}
-use Rattle.rgo_sound.proofs.Static.{named_bound}
 use Rattle.rgo_sound.proofs.Attends.{total_set, staked_live, duties_go, same_reflexive}
 use Rattle.rgo_sound.proofs.TypedSteps.{here, one_object}
 use Rattle.rgo_sound.proofs.ValueSteps.{Top, top_of}
@@ -26,8 +24,7 @@ use Rattle.rgo_code.specs.NameRules.{Ascends}
 use Rattle.rgo_code.specs.Names.{Names, class_of, slot_class}
 use Rattle.rgo_code.specs.Types.{DoFits, HasType, OpFits}
 use Rattle.rgo_machine.specs.Machines.{AtCall, AtClose, AtReceive, AtSend, AtStart, Elsewhere, Stand}
-use Rattle.rgo_machine.specs.Machines.{alone as machine_alone, meet, met, met_by, picked}
-use Rattle.rgo_machine.specs.Machines.{unless_ended}
+use Rattle.rgo_machine.specs.Machines.{alone as machine_alone, meet, met, met_by, picked, unless_ended}
 use Rattle.rgo_machine.specs.Runs.{run}
 use Rattle.rgo_machine.specs.declared.picks.End.{End}
 use Rattle.rgo_machine.specs.declared.picks.Pick.{Pick}
@@ -38,14 +35,14 @@ use Rattle.rgo_memory.specs.declared.values.Value.{Value}
 use Rattle.rgo_region_machine.specs.Duties.{attend, attended, duty_done, may_go, protected, removal, shared}
 use Rattle.rgo_region_machine.specs.Duties.{unprotected, with_protection}
 use Rattle.rgo_region_machine.specs.Instructions.{both_instructed, has_none, instruct, instructed, instructed_at}
-use Rattle.rgo_region_machine.specs.Instructions.{instructed_with}
-use Rattle.rgo_region_machine.specs.Instructions.{is_ready, one_instructed, some_instructed, standing_at, touches}
+use Rattle.rgo_region_machine.specs.Instructions.{instructed_with, is_ready, one_instructed, some_instructed}
+use Rattle.rgo_region_machine.specs.Instructions.{standing_at, touches}
 use Rattle.rgo_region_machine.specs.Machine.{Acknowledge, Attend, Event, Instruct, MakeOffer, TakePage, next_object}
 use Rattle.rgo_region_machine.specs.Machine.{object_made, page_for, page_taken, plain_step, region_step, take_page}
 use Rattle.rgo_region_machine.specs.Machine.{takes_page}
 use Rattle.rgo_region_machine.specs.Objects.{allotted, fill_of, fits, makes_object, making_region, may_touch}
-use Rattle.rgo_region_machine.specs.Objects.{new_object}
-use Rattle.rgo_region_machine.specs.Objects.{owner_live, placed, target_class, touched, wants_page, with_fill, words}
+use Rattle.rgo_region_machine.specs.Objects.{new_object, owner_live, placed, target_class, touched, wants_page}
+use Rattle.rgo_region_machine.specs.Objects.{with_fill, words}
 use Rattle.rgo_region_machine.specs.Offers.{acknowledge, make_offer, offer_at, offer_for, offered, offered_channel}
 use Rattle.rgo_region_machine.specs.Offers.{offers_on, open_channel}
 use Rattle.rgo_region_machine.specs.Owed.{current, current_in, function_at}
@@ -57,7 +54,7 @@ use Rattle.rgo_region_machine.specs.declared.regions.Region.{Region}
 use Rattle.rgo_region_machine.specs.declared.regions.Region.TheVariants.{Global as GlobalRegion, Numbered}
 use Rattle.rgo_sound.proofs.Acting.{after, Acted, alone, alone_is}
 use Rattle.rgo_sound.specs.Good.{AllGood}
-use Rattle.rgo_sound.specs.Invariant.{Fine, GoodHolder, HasInstr, IsFree, IsReady, Settled}
+use Rattle.rgo_sound.specs.Invariant.{Fine, GoodHolder, HasInstr, Settled}
 use Rattle.rgo_sound.specs.NextNames.{HasStake}
 use Rattle.rgo_sound.specs.Offers.{OfferFits, StandsAtSend}
 use Rattle.rgo_sound.specs.Progress.{CanInstruct, IsLike, IsRegionStep, MakesTooLarge, NoStepMissing}
@@ -344,13 +341,8 @@ module _ (code : Code) (checked : IsChecked code) (s : RegionState) (g : ℕ) (h
   there : HasInstr top.stands.fn frame.next instr
   there = here code checked frame top.stands.fn instr top.stands.is_fn cur
 
-  same : top.stands.instr ≡ instr
-  same = same_Some top.stands.instr instr (sym top.stands.is_instr ∙ there)
-
   settled : Settled top.stands.fn frame.next instr top.f.names top.f.protections
-  settled = subst (λ x. Settled top.stands.fn frame.next x top.f.names top.f.protections) same
-      (subst (λ x. IsReady (IsFree top.stands.fn frame.next) (Settled top.stands.fn frame.next top.stands.instr) x
-      top.f.names top.f.protections) d top.stands.ready)
+  settled = standing_settled code frame top.f h.duties instr top.stands cur d
 
   -- the target of an instruction has a region, where it is pointer-like
   target_region : (to : Option ℕ) (action : Action) (from removes : List ℕ) → instr.op ≡ Do to action from removes

@@ -1,9 +1,9 @@
 -- A return of checked code keeps what holds of the state.
-use Rattle.rgo_sound.proofs.Places.{contains_here}
-use Rattle.std.proofs.lemmas.Option.{same_Some}
 use Rattle.std.proofs.Common.{◌≡◌, ℕ, zero, suc, ◌+◌, true, false, List, [], ◌∷◌, ◌++◌, map, length, Option, Some, None}
 use Rattle.std.proofs.Common.{refl, sym, ap, ◌∙◌, subst, nat_eq, slice_get, slice_set, option_map, Contains, append-nil}
-use Rattle.rgo_sound.proofs.Places.{get_set_other, get_set_same, length_set}
+use Rattle.std.proofs.lemmas.Option.{same_Some}
+use Rattle.rgo_sound.proofs.Places.{contains_here, get_set_other, get_set_same, length_set}
+use Rattle.rgo_sound.proofs.Static.{standing_instr, standing_settled}
 use Rattle.rgo_sound.proofs.Moves.{returns_on, returns_last, settled_pending}
 use Rattle.rgo_sound.proofs.Instructs.{IsRuled, fine_plain}
 use Rattle.rgo_sound.proofs.OneStep.{SameHolder, none_owed, current_erased, OneDone}
@@ -23,7 +23,7 @@ use Rattle.rgo_region_machine.specs.States.{frames_in, frames_of, top_names}
 use Rattle.rgo_region_machine.specs.declared.regions.Region.{Region}
 use Rattle.rgo_sound.proofs.Acting.{after, Acted, act, act_at, alone, end_by, returned}
 use Rattle.rgo_sound.specs.Core.{Core}
-use Rattle.rgo_sound.specs.Invariant.{AllWait, EachOnce, Fine, FramesFit, GoodHolder, HasInstr, IsCall, IsFree, IsReady}
+use Rattle.rgo_sound.specs.Invariant.{AllWait, EachOnce, Fine, FramesFit, GoodHolder, HasInstr, IsCall}
 use Rattle.rgo_sound.specs.Invariant.{Settled, Shares, Stands, Waits, shared_names, to_share}
 use Rattle.rgo_tac.specs.Frames.{Frame, value_at}
 use Rattle.rgo_tac.specs.Code.{Op}
@@ -69,15 +69,13 @@ module _ (code : Code) (checked : IsChecked code) (written : Ascends code) (fram
       st = fit.0
 
       same : st.instr ≡ instr
-      same = same_Some st.instr instr (sym (ap (λ o. current_in o frame.next) st.is_fn ∙ st.is_instr) ∙ cur)
+      same = standing_instr code frame f duties instr st cur
 
       here : HasInstr st.fn frame.next instr
       here = st.is_instr ∙ ap Some same
 
       settled : Settled st.fn frame.next instr f.names f.protections
-      settled = subst (λ x. Settled st.fn frame.next x f.names f.protections) same
-          (subst (λ x. IsReady (IsFree st.fn frame.next) (Settled st.fn frame.next st.instr) x f.names f.protections) d
-          st.ready)
+      settled = standing_settled code frame f duties instr st cur d
 
       none : h.pending ≡ []
       none = settled_pending code frame callers instr f.names duties h.pending cur (ap shared_names is) d sh

@@ -1,18 +1,14 @@
 -- Checked code gives the facts that the steps ask for.
-use Rattle.std.proofs.lemmas.Option.{slice_get_within}
-use Rattle.rgo_sound.proofs.Places.{contains_get}
-use Rattle.rgo_sound.proofs.Places.{get_contains}
-use Rattle.rgo_sound.proofs.Places.{contains_here, contains_there, contains_cases, contains_nil, contains_one}
-use Rattle.rgo_sound.proofs.Tests.{split, eq_of}
-use Rattle.std.proofs.lemmas.Option.{same_Some}
 use Rattle.std.proofs.Common.{◌≡◌, ◌≢◌, ℕ, zero, suc, ◌+◌, ◌<◌, Bool, true, false, List, [], ◌∷◌, ◌++◌, length, Option}
 use Rattle.std.proofs.Common.{Some, None, is_some, refl, sym, ap, ◌∙◌, subst, nat_eq, if◌then◌else◌, arith, ◌⊎◌, inl}
 use Rattle.std.proofs.Common.{inr, true≢false, slice_get, Contains, option_map}
+use Rattle.std.proofs.lemmas.Option.{slice_get_within, same_Some, slice_get-map}
 use Rattle.std.proofs.lemmas.List.Elements.{Contains-append_cases}
 use Rattle.std.proofs.lemmas.List.{length-map}
-use Rattle.std.proofs.lemmas.Option.{slice_get-map}
 use Rattle.std.specs.List.{list_any}
-use Rattle.rgo_sound.proofs.Places.{get_some}
+use Rattle.rgo_sound.proofs.Places.{contains_get, get_contains, contains_here, contains_there, contains_cases}
+use Rattle.rgo_sound.proofs.Places.{contains_nil, contains_one, get_some}
+use Rattle.rgo_sound.proofs.Tests.{split, eq_of}
 use Rattle.rgo_sound.proofs.Static.{asked_names}
 use Rattle.rgo_sound.proofs.Instructs.{IsRuled}
 use Rattle.rgo_code.specs.Checked.{IsChecked}

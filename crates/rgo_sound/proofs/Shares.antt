@@ -1,9 +1,8 @@
 -- Stakes for a coming child: what is pending behind the duties of an instruction.
-use Rattle.rgo_sound.proofs.Tests.{split, eq_of}
-use Rattle.rgo_sound.proofs.Tests.{nat_eq_refl}
 use Rattle.std.proofs.Common.{◌≡◌, ℕ, zero, suc, ◌+◌, ◌≤◌, Bool, true, false, ◌||◌, List, [], ◌∷◌, ◌++◌, map, Option}
 use Rattle.std.proofs.Common.{Some, None, refl, sym, ap, ◌∙◌, subst, nat_eq, if◌then◌else◌, arith, true≢false}
 use Rattle.std.specs.List.{list_any}
+use Rattle.rgo_sound.proofs.Tests.{split, eq_of, nat_eq_refl}
 use Rattle.rgo_code.specs.Code.{Branch, Call, Code, CodeInstr, CodeOp, Do, Go, Jump, Print, Return}
 use Rattle.rgo_region_machine.specs.Owed.{current, duties_before, duties_of_op, next_duties, regions_named}
 use Rattle.rgo_region_machine.specs.Regions.{Bindings, bound, same_region, unbind}

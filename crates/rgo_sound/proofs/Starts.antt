@@ -1,19 +1,16 @@
 -- A `go` of checked code keeps what holds of the state: the child has the stakes that were pending.
-use Rattle.std.proofs.lemmas.Option.{slice_get_within}
-use Rattle.rgo_sound.proofs.Acting.{no_end}
-use Rattle.rgo_sound.proofs.Places.{contains_here}
-use Rattle.rgo_sound.proofs.Tests.{split, eq_of}
-use Rattle.std.proofs.lemmas.Option.{same_Some}
 use Rattle.std.proofs.Common.{◌≡◌, ℕ, zero, suc, ◌+◌, ◌≤◌, ◌<◌, Bool, true, false, not, ◌&&◌, ◌||◌, List, [], ◌∷◌, ◌++◌}
 use Rattle.std.proofs.Common.{map, length, Option, Some, None, is_some, refl, sym, ap, ◌∙◌, subst, nat_eq}
 use Rattle.std.proofs.Common.{if◌then◌else◌, arith, ◌⊎◌, inl, inr, ◌↔◌, true≢false, slice_get, slice_set, option_map}
 use Rattle.std.proofs.Common.{Contains, length-append}
+use Rattle.std.proofs.lemmas.Option.{slice_get_within, same_Some, slice_get-map}
 use Rattle.std.specs.List.{list_any}
-use Rattle.std.proofs.lemmas.Option.{slice_get-map}
-use Rattle.rgo_sound.proofs.Places.{ascending_distinct, get_append_last, get_append_left, get_set_other}
+use Rattle.rgo_sound.proofs.Static.{standing_instr, standing_settled, named_bound}
+use Rattle.rgo_sound.proofs.Acting.{no_end, after, Acted, act, act_at, alone, start}
+use Rattle.rgo_sound.proofs.Places.{contains_here, ascending_distinct, get_append_last, get_append_left, get_set_other}
 use Rattle.rgo_sound.proofs.Places.{get_set_same, get_snoc, get_some, length_set}
+use Rattle.rgo_sound.proofs.Tests.{split, eq_of}
 use Rattle.rgo_sound.proofs.CoreLemmas.{core_child, bound_held}
-use Rattle.rgo_sound.proofs.Static.{named_bound}
 use Rattle.rgo_sound.proofs.Shares.{at_most_one_is, at_most_one_some, removes_share_none, shares_next}
 use Rattle.rgo_sound.proofs.Attends.{total_set}
 use Rattle.rgo_sound.proofs.Moves.{moves_on}
@@ -22,9 +19,8 @@ use Rattle.rgo_sound.proofs.Lists.{formals_once, formals_are}
 use Rattle.rgo_sound.proofs.Passable.{all_passable, go_reads}
 use Rattle.rgo_sound.proofs.Enters.{IsParameter, enters, passed_bound}
 use Rattle.rgo_sound.proofs.Instructs.{IsRuled}
-use Rattle.rgo_sound.proofs.OneStep.{SameHolder, none_owed, OneDone}
+use Rattle.rgo_sound.proofs.OneStep.{SameHolder, none_owed, OneDone, current_erased}
 use Rattle.rgo_sound.proofs.CallStates.{first_instr}
-use Rattle.rgo_sound.proofs.OneStep.{current_erased}
 use Rattle.rgo_sound.proofs.Ruled.{ruled}
 use Rattle.rgo_code.specs.Checked.{IsChecked}
 use Rattle.rgo_code.specs.ClassRules.{Passes, StartPasses, StartsPass}
@@ -37,19 +33,18 @@ use Rattle.rgo_code.specs.Types.{ArgumentsFit, OpFits}
 use Rattle.rgo_region_machine.specs.Instructions.{child_holder, has_none, holder_after, instructed_with, last_frames}
 use Rattle.rgo_region_machine.specs.Instructions.{unless_trapped}
 use Rattle.rgo_region_machine.specs.Owed.{current, current_in, duties_before, entry_removes, formals_of, function_at}
-use Rattle.rgo_region_machine.specs.Owed.{next_duties, passed, passed_regions, regions_named, result_of}
-use Rattle.rgo_region_machine.specs.Owed.{stands_in, twice}
+use Rattle.rgo_region_machine.specs.Owed.{next_duties, passed, passed_regions, regions_named, result_of, stands_in}
+use Rattle.rgo_region_machine.specs.Owed.{twice}
 use Rattle.rgo_region_machine.specs.Regions.{Bindings, RegionInfo, bound, class_region, same_region}
 use Rattle.rgo_region_machine.specs.States.{Duty, Environment, Holder, NoOffer, RegionState, Remove, environment_of}
 use Rattle.rgo_region_machine.specs.States.{frames_in, frames_of, top_names}
 use Rattle.rgo_region_machine.specs.declared.regions.Region.{Region}
 use Rattle.rgo_region_machine.specs.declared.regions.Region.TheVariants.{Global as GlobalRegion, Numbered}
-use Rattle.rgo_sound.proofs.Acting.{after, Acted, act, act_at, alone, start}
 use Rattle.rgo_sound.specs.Core.{AreUnique, Core}
 use Rattle.rgo_sound.specs.Holding.{held_in}
 use Rattle.rgo_sound.specs.Invariant.{ArePending, EachOnce, Fine, FramesFit, GoodHolder, HasInstr, IsFree, IsReady}
-use Rattle.rgo_sound.specs.Invariant.{Settled, Shares, Stands, at_most_one, bound_times, same_bound}
-use Rattle.rgo_sound.specs.Invariant.{shared_before, shared_names, to_share}
+use Rattle.rgo_sound.specs.Invariant.{Settled, Shares, Stands, at_most_one, bound_times, same_bound, shared_before}
+use Rattle.rgo_sound.specs.Invariant.{shared_names, to_share}
 use Rattle.rgo_sound.specs.Stakes.{holders_of, is_in, one_if, pending_of, times_in, total}
 use Rattle.rgo_tac.specs.Code.{TacFn}
 use Rattle.rgo_tac.specs.Frames.{Frame, called, moved_to, values_of}
@@ -274,15 +269,13 @@ module _ (code : Code) (checked : IsChecked code) (written : Ascends code) (fram
       st = fit.0
 
       same : st.instr ≡ instr
-      same = same_Some st.instr instr (sym (ap (λ o. current_in o frame.next) st.is_fn ∙ st.is_instr) ∙ cur)
+      same = standing_instr code frame f duties instr st cur
 
       here : HasInstr st.fn frame.next instr
       here = st.is_instr ∙ ap Some same
 
       settled : Settled st.fn frame.next instr f.names f.protections
-      settled = subst (λ x. Settled st.fn frame.next x f.names f.protections) same
-          (subst (λ x. IsReady (IsFree st.fn frame.next) (Settled st.fn frame.next st.instr) x f.names f.protections) d
-          st.ready)
+      settled = standing_settled code frame f duties instr st cur d
 
       pends : ArePending h.pending f.names (regions_named passes)
       pends = subst (λ x. Shares x [] f.names h.pending) (ap shared_before cur ∙ ap shared_names is)

@@ -1,26 +1,25 @@
 -- What the rules say of the names along an edge, and that the duties on it can be done.
-use Rattle.rgo_sound.proofs.Places.{contains_nil, contains_here, contains_there, contains_one, contains_cases}
-use Rattle.rgo_sound.proofs.Places.{stands_or_not}
-use Rattle.rgo_sound.proofs.Tests.{ne_of}
-use Rattle.rgo_sound.proofs.Tests.{split, eq_of}
-use Rattle.std.proofs.Common.{◌≡◌, ◌≢◌, ℕ, suc, ◌+◌, true, false, List, [], ◌∷◌, ◌++◌, map, Option, Some, None}
-use Rattle.std.proofs.Common.{refl, sym, ap, ◌∙◌, subst, nat_eq, arith, ◌⊎◌, inl, inr, Contains, option_map, slice_get}
+use Rattle.std.proofs.Common.{◌≡◌, ◌≢◌, ℕ, suc, ◌+◌, true, false, List, [], ◌∷◌, ◌++◌, map, Option, Some, None, refl}
+use Rattle.std.proofs.Common.{sym, ap, ◌∙◌, subst, nat_eq, arith, ◌⊎◌, inl, inr, Contains, option_map, slice_get}
 use Rattle.std.proofs.Common.{if◌then◌else◌}
-use Rattle.std.proofs.lemmas.Option.{slice_get-map}
+use Rattle.std.proofs.lemmas.Option.{same_Some, slice_get-map}
+use Rattle.rgo_region_machine.specs.Owed.{current, current_in, duties_before, duties_of_op, regions_named}
+use Rattle.rgo_region_machine.specs.States.{Environment, Create, Duty, Protect, Remove, Share}
+use Rattle.rgo_sound.specs.Invariant.{Stands, AreProtections, HasInstr, IsFree, IsReady, Left, Settled, bound_times}
+use Rattle.rgo_sound.specs.Invariant.{same_bound, times}
+use Rattle.rgo_tac.specs.Frames.{Frame}
+use Rattle.rgo_sound.proofs.Places.{contains_nil, contains_here, contains_there, contains_one, contains_cases}
+use Rattle.rgo_sound.proofs.Places.{stands_or_not, AreDistinct, ascending_distinct}
+use Rattle.rgo_sound.proofs.Tests.{ne_of, split, eq_of}
 use Rattle.rgo_sound.proofs.CoreLemmas.{bound_unbind, bound_unbind_other}
-use Rattle.rgo_sound.proofs.Places.{AreDistinct, ascending_distinct}
 use Rattle.rgo_code.specs.Code.{Branch, Call, Code, CodeFn, CodeInstr, CodeOp, Do, Go, Jump, Print, Return}
 use Rattle.rgo_code.specs.Erasure.{erased_fn, erased_instr, erased_op}
 use Rattle.rgo_code.specs.NameRules.{CreatesUsed, InstrAscends, MayRemove, ProtectsUsed, RemovesDead, protected_names}
 use Rattle.rgo_code.specs.Names.{Gives, Holds, IsLiveName, IsOwn, Names, edges, is_name, result_class}
 use Rattle.rgo_flow.specs.Live.{Live, led_to_by, written_by}
-use Rattle.rgo_region_machine.specs.Owed.{duties_before, duties_of_op, regions_named}
 use Rattle.rgo_region_machine.specs.Regions.{Bindings, bound, same_region, unbind}
-use Rattle.rgo_region_machine.specs.States.{Create, Duty, Protect, Remove, Share}
 use Rattle.rgo_region_machine.specs.declared.regions.Region.{Region}
 use Rattle.rgo_region_machine.specs.declared.regions.Region.TheVariants.{Numbered}
-use Rattle.rgo_sound.specs.Invariant.{AreProtections, HasInstr, IsFree, IsReady, Left, Settled, bound_times, same_bound}
-use Rattle.rgo_sound.specs.Invariant.{times}
 use Rattle.rgo_sound.specs.Stakes.{one_if}
 use Rattle.rgo_tac.specs.Flow.{leads_to, writes}
 use Rattle.rgo_tac.specs.declared.regions.Class.{Class}
@@ -320,3 +319,20 @@ arrives code fn i j instr next removes names a c b l =
     lent left kept new kept' k r e =
         l.lent k r (sym (kept k (λ d. (goes k ((a.removes j removes c k).0 d)).1.0 r))
         ∙ sym (kept' k (λ d. ((b.creates k).0 d).0 r)) ∙ e)
+
+-- ---- the top frame of a goroutine that owes nothing
+
+-- the instruction that is known of it is the one at which it stands
+pub standing_instr : (code : Code) (frame : Frame) (f : Environment) (duties : List Duty) (instr : CodeInstr)
+    (st : Stands code frame f duties) → current code frame ≡ Some instr → st.instr ≡ instr
+standing_instr code frame f duties instr st cur =
+    same_Some st.instr instr (sym (ap (λ o. current_in o frame.next) st.is_fn ∙ st.is_instr) ∙ cur)
+
+-- its names and protections are those of that instruction
+pub standing_settled : (code : Code) (frame : Frame) (f : Environment) (duties : List Duty) (instr : CodeInstr)
+    (st : Stands code frame f duties) → current code frame ≡ Some instr → duties ≡ []
+    → Settled st.fn frame.next instr f.names f.protections
+standing_settled code frame f duties instr st cur d =
+    subst (λ x. Settled st.fn frame.next x f.names f.protections) (standing_instr code frame f duties instr st cur)
+    (subst (λ x. IsReady (IsFree st.fn frame.next) (Settled st.fn frame.next st.instr) x f.names f.protections) d
+    st.ready)

@@ -1,15 +1,15 @@
 -- What each step adds to the counts of a run.
-use Rattle.rgo_sound.proofs.Tests.{and_third}
-use Rattle.std.proofs.lemmas.Option.{same_Some}
 use Rattle.std.proofs.Common.{◌≡◌, ℕ, zero, suc, ◌+◌, ◌≤◌, Bool, true, false, ◌&&◌, List, [], ◌∷◌, ◌++◌, length, Option}
 use Rattle.std.proofs.Common.{Some, None, refl, sym, ap, ◌∙◌, subst, nat_eq, nat_lt, if◌then◌else◌, arith, true≢false}
 use Rattle.std.proofs.Common.{slice_get, slice_set, option_and_then, sum_by, length-append}
+use Rattle.std.proofs.lemmas.Option.{same_Some}
 use Rattle.std.proofs.lemmas.List.Sums.{sum_by-cons, sum_by_push}
+use Rattle.std.specs.Prelude.{◌-◌, cond}
+use Rattle.rgo_sound.proofs.Tests.{and_third}
 use Rattle.rgo_sound.proofs.Places.{length_set}
 use Rattle.rgo_sound.proofs.ErasureLemmas.{Yields, yields, yields_none, yields_if, yields_then, yields_is, yields_where}
-use Rattle.rgo_sound.proofs.OneStep.{one_done, meet_done}
-use Rattle.std.specs.Prelude.{◌-◌, cond}
 use Rattle.rgo_sound.proofs.ErasureLemmas.{step_follows}
+use Rattle.rgo_sound.proofs.OneStep.{one_done, meet_done}
 use Rattle.rgo_sound.proofs.Attends.{length_with_info}
 use Rattle.rgo_sound.proofs.HeapGrows.{heap_only_grows}
 use Rattle.rgo_code.specs.Code.{Code}

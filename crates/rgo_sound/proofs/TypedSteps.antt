@@ -1,9 +1,9 @@
 -- Each step of the three-address machine keeps the types of values.
-use Rattle.rgo_sound.proofs.Tests.{eq_of, split}
 use Rattle.std.proofs.Common.{◌≡◌, ℕ, zero, suc, ◌+◌, ◌⊎◌, inl, inr, Bool, true, false, List, [], ◌∷◌, ◌++◌, map, take}
-use Rattle.std.proofs.Common.{drop, length, Option, Some, None, refl, sym, ap, ◌∙◌, subst}
-use Rattle.std.proofs.Common.{nat_eq, if◌then◌else◌, true≢false, slice_get, slice_set, option_map, option_and_then}
+use Rattle.std.proofs.Common.{drop, length, Option, Some, None, refl, sym, ap, ◌∙◌, subst, nat_eq, if◌then◌else◌}
+use Rattle.std.proofs.Common.{true≢false, slice_get, slice_set, option_map, option_and_then}
 use Rattle.std.proofs.lemmas.Option.{get_or_from_slice_get, same_Some, slice_get-map}
+use Rattle.rgo_sound.proofs.Tests.{eq_of, split}
 use Rattle.rgo_typed.specs.declared.actions.Action.{Action}
 use Rattle.rgo_typed.specs.declared.actions.Action.TheVariants.{Recv, Send}
 use Rattle.rgo_typed.specs.declared.types.Type.{«Type»}

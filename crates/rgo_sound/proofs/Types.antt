@@ -1,11 +1,10 @@
 -- What each action does keeps the types of the memory, and gives a value of its type.
-use Rattle.std.proofs.lemmas.Option.{slice_get_within}
-use Rattle.rgo_sound.proofs.Tests.{eq_of, split}
 use Rattle.std.proofs.Common.{◌≡◌, ℕ, zero, suc, ◌+◌, ◌<◌, ◌⊎◌, inl, inr, Bool, true, false, List, [], ◌∷◌, ◌++◌, map}
-use Rattle.std.proofs.Common.{length, replicate, Option, Some, None, Result, Ok, Err, refl, sym, ap, ◌∙◌, subst}
-use Rattle.std.proofs.Common.{ℤ, pos, negsuc, nat_eq, nat_lt, int_eq, if◌then◌else◌, arith, true≢false, slice_get}
-use Rattle.std.proofs.Common.{slice_set, option_map, length-append}
-use Rattle.std.proofs.lemmas.Option.{same_Some, slice_get-map}
+use Rattle.std.proofs.Common.{length, replicate, Option, Some, None, Result, Ok, Err, refl, sym, ap, ◌∙◌, subst, ℤ, pos}
+use Rattle.std.proofs.Common.{negsuc, nat_eq, nat_lt, int_eq, if◌then◌else◌, arith, true≢false, slice_get, slice_set}
+use Rattle.std.proofs.Common.{option_map, length-append}
+use Rattle.std.proofs.lemmas.Option.{slice_get_within, same_Some, slice_get-map}
+use Rattle.rgo_sound.proofs.Tests.{eq_of, split}
 use Rattle.rgo_ast.specs.declared.ops.BinaryOp.{BinaryOp}
 use Rattle.rgo_ast.specs.declared.ops.BinaryOp.TheVariants as binary
 use Rattle.rgo_typed.specs.declared.actions.Action.{Action}
@@ -43,8 +42,7 @@ use Rattle.rgo_sound.specs.Types.{Each, HasKind, HaveKinds, MemoryFits, ObjectFi
 use Rattle.rgo_sound.proofs.Acting.{performed, silent}
 use Rattle.rgo_sound.proofs.ErasureLemmas.{Always}
 use Rattle.rgo_sound.proofs.Places.{each_get, each_more, each_replicate, each_set, each_snoc, get_append_last}
-use Rattle.rgo_sound.proofs.Places.{get_append_left, get_set_other, get_set_same, get_snoc, get_some}
-use Rattle.rgo_sound.proofs.Places.{length_set}
+use Rattle.rgo_sound.proofs.Places.{get_append_left, get_set_other, get_set_same, get_snoc, get_some, length_set}
 
 -- ---- types
 

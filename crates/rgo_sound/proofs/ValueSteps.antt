@@ -1,14 +1,12 @@
 -- Each step of the region machine keeps pointers in their regions.
-use Rattle.std.proofs.lemmas.Option.{slice_get_within}
-use Rattle.rgo_sound.proofs.Places.{contains_here, contains_there, contains_nil, contains_cases}
-use Rattle.rgo_sound.proofs.Tests.{split, eq_of}
-use Rattle.std.proofs.lemmas.Option.{same_Some}
 use Rattle.std.proofs.Common.{◌≡◌, ◌≢◌, ℕ, zero, suc, ◌+◌, false, List, [], ◌∷◌, ◌++◌, map, length, get_or, Option}
 use Rattle.std.proofs.Common.{Some, None, refl, sym, ap, ◌∙◌, subst, nat_eq, if◌then◌else◌, arith, slice_get, slice_set}
 use Rattle.std.proofs.Common.{append-nil, ◌⊎◌, inl, inr, Contains}
+use Rattle.std.proofs.lemmas.Option.{slice_get_within, same_Some}
+use Rattle.rgo_sound.proofs.Places.{contains_here, contains_there, contains_nil, contains_cases, get_append_left}
+use Rattle.rgo_sound.proofs.Places.{get_append_place, get_append_right, get_set_other, get_set_same, length_set}
+use Rattle.rgo_sound.proofs.Tests.{split, eq_of}
 use Rattle.rgo_sound.proofs.Acting.{after, end_by}
-use Rattle.rgo_sound.proofs.Places.{get_append_left, get_append_place, get_append_right, get_set_other}
-use Rattle.rgo_sound.proofs.Places.{get_set_same, length_set}
 use Rattle.rgo_sound.proofs.ErasureLemmas.{Always, Yields, yields, yields_none, yields_if, yields_then, Follows}
 use Rattle.rgo_sound.proofs.ErasureLemmas.{step_follows, yields_at, yields_from}
 use Rattle.rgo_sound.proofs.CoreLemmas.{bound_unbind_other}
@@ -40,8 +38,8 @@ use Rattle.rgo_region_machine.specs.Duties.{with_protection, without_protection}
 use Rattle.rgo_region_machine.specs.Instructions.{child_holder, holder_after, instructed_with, last_frames, taken_offer}
 use Rattle.rgo_region_machine.specs.Instructions.{unless_trapped}
 use Rattle.rgo_region_machine.specs.Machine.{Acknowledge, Attend, Event, Finish, Instruct, MakeOffer, TakePage}
-use Rattle.rgo_region_machine.specs.Machine.{finished, main_holder, page_for, page_taken}
-use Rattle.rgo_region_machine.specs.Machine.{region_start, region_step, take_page, takes_page}
+use Rattle.rgo_region_machine.specs.Machine.{finished, main_holder, page_for, page_taken, region_start, region_step}
+use Rattle.rgo_region_machine.specs.Machine.{take_page, takes_page}
 use Rattle.rgo_region_machine.specs.Objects.{making_region}
 use Rattle.rgo_region_machine.specs.Offers.{acknowledge, make_offer, offer_for, offered}
 use Rattle.rgo_region_machine.specs.Regions.{Bindings, bound, removed_once, unbind}
