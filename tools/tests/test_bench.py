@@ -24,6 +24,12 @@ exit {status}
 
 
 class Programs(unittest.TestCase):
+    @classmethod
+    def setUpClass(cls):
+        # Without this the first run would build the program, which takes an hour.
+        if pathlib.Path(error_pages.program()).resolve() == TOP / "rgo":
+            raise AssertionError("no program is built at crates/rgo/out/rgo, and the variable RGO names none")
+
     def test_the_smallest_sizes_print_what_go_printed(self):
         sources = sorted(BENCH.glob("*.go"))
         self.assertEqual(12, len(sources))

@@ -484,7 +484,7 @@ class WithTheProgram(test_explain.Case):
     def setUpClass(cls):
         cls.program = pathlib.Path(os.environ.get("RGO") or TOP / "crates" / "rgo" / "out" / "rgo").resolve()
         if not cls.program.is_file():
-            raise unittest.SkipTest("no program is built at crates/rgo/out/rgo, and the variable RGO names none")
+            raise AssertionError("no program is built at crates/rgo/out/rgo, and the variable RGO names none")
         text = (TEXTS / "field.go").read_bytes()
         ran = subprocess.run([cls.program, "emit"], input=text, capture_output=True, timeout=60, check=False)
         if ran.returncode == 64:
