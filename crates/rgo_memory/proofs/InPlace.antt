@@ -1,19 +1,18 @@
 -- What is done to one object in place, as done to the memory.
 use Rattle.std.specs.Prelude.{Option, Some, None, Result, Ok, Err, slice_get, slice_set}
-use Rattle.std.specs.Option.{option_map}
-use Rattle.std.specs.Vec.{with_item}
+use Rattle.std.specs.Option.{unwrap_or}
 use Rattle.std.specs.declared.alloc.AllocError.{AllocError}
-use Rattle.std.proofs.Common.{◌≡◌, ℕ, zero, suc, ◌<◌, ◌≤◌, List, [], ◌∷◌, map, length, get_or, refl, ap, sym, ◌∙◌}
-use Rattle.std.proofs.lemmas.List.{map-set}
-use Rattle.std.proofs.lemmas.Option.{same_Some, slice_get-map, slice_get-get_or, slice_get_past}
-use Rattle.rgo_memory.specs.declared.objects.Object.{Object as CodeObject}
-use Rattle.rgo_memory.specs.declared.memory.Memory.{Memory as CodeMemory}
+use Rattle.std.proofs.Common.{◌≡◌, ℕ, zero, suc, List, [], ◌∷◌, refl, ap, sym, ◌∙◌}
+use Rattle.std.proofs.lemmas.List.{set-get_or}
+use Rattle.std.proofs.lemmas.Option.{same_Some}
 use Rattle.rgo_memory.specs.declared.effects.Effect.{Effect as CodeEffect}
 use Rattle.rgo_memory.specs.declared.effects.Effect.TheVariants as effect
-use Rattle.rgo_memory.specs.Memory.{Object, Memory, with_object}
-use Rattle.rgo_memory.specs.Effects.{Outcome, nothing, in_memory, to_object, at_object}
+use Rattle.rgo_memory.specs.declared.values.Value.TheVariants.{Nil}
+use Rattle.rgo_memory.specs.Memory.{Object, StructObject, Memory, with_object, object_at}
+use Rattle.rgo_memory.specs.Effects.{Outcome, Does, nothing, in_memory, to_object, at_object}
 use Rattle.rgo_memory.specs.Effects.{in_memory_if_ready, to_object_if_ready, at_object_if_ready}
-use Rattle.rgo_memory.specs.Views.{object_of, memory_of, Leaves, LeavesIfReady, PerformsIfReady}
+use Rattle.rgo_memory.specs.Views.{Leaves, LeavesIfReady, PerformsIfReady}
+use Rattle.rgo_memory.proofs.Reading.{read_or}
 
 -- an element put where it was
 pub set_same : {X : Type 0} (xs : List X) (n : ℕ) (x : X) → slice_get xs n ≡ Some x → slice_set xs n x ≡ xs
@@ -21,79 +20,83 @@ set_same [] n x e = refl
 set_same (y ∷ xs) zero x e = ap (λ z. z ∷ xs) (same_Some x y (sym e))
 set_same (y ∷ xs) (suc n) x e = ap (λ zs. y ∷ zs) (set_same xs n x e)
 
--- the same for an object of the memory
-kept : (m : Memory) (n : ℕ) (object : Object) → slice_get m.heap n ≡ Some object → with_object m n object ≡ m
-kept m n object there = ap (λ heap. record m { heap = heap }) (set_same m.heap n object there)
+abbrev empty : Object
+empty = StructObject []
 
-object_there : (os : List CodeObject) (n : ℕ) (o : CodeObject) → n < length os → o ≡ get_or os n o →
-    slice_get (map object_of os) n ≡ Some (object_of o)
-object_there os n o within is =
-    slice_get-map object_of os n ∙ ap (option_map object_of) (slice_get-get_or os n o within ∙ ap Some (sym is))
+module _ (m : Memory) (n : ℕ) where
+  -- the same of an object of the memory
+  kept : with_object m n (object_at m n) ≡ m
+  kept = ap (λ heap. record m { heap = heap }) (set-get_or m.heap n empty)
 
-none_there : (os : List CodeObject) (n : ℕ) → length os ≤ n → slice_get (map object_of os) n ≡ None
-none_there os n past = slice_get-map object_of os n ∙ ap (option_map object_of) (slice_get_past os n past)
+  object_is : (found : Option Object) → slice_get m.heap n ≡ found → object_at m n ≡ unwrap_or found empty
+  object_is found there = sym (read_or (λ o. unwrap_or o empty) empty refl m.heap n) ∙ ap (λ o. unwrap_or o empty) there
 
-lifted : (answer : CodeEffect) (m : Memory) (n : ℕ) (before after : Object) (outcome : Outcome Object) →
-    slice_get m.heap n ≡ Some before → Leaves answer before after outcome →
-    Leaves answer m (with_object m n after) (in_memory m n outcome)
-lifted (effect.Gives v) m n before after outcome there leaves = ap (in_memory m n) leaves
-lifted (effect.Traps trap) m n before after outcome there leaves =
-    (ap (in_memory m n) leaves.0, rw leaves.1 (kept m n before there))
+  -- what does nothing to a struct without fields does nothing where there is no object
+  idle_there : object_at m n ≡ empty → nothing m ≡ in_memory m n (nothing empty)
+  idle_there none = ap (λ k. Does k Nil) (sym kept ∙ ap (with_object m n) none)
 
-lifted_if_ready : (answer : Option CodeEffect) (m : Memory) (n : ℕ) (before after : Object)
-    (outcome : Option (Outcome Object)) → slice_get m.heap n ≡ Some before →
-    LeavesIfReady answer before after outcome →
-    LeavesIfReady answer m (with_object m n after) (in_memory_if_ready m n outcome)
-lifted_if_ready None m n before after outcome there leaves =
-    (ap (in_memory_if_ready m n) leaves.0, rw leaves.1 (kept m n before there))
-lifted_if_ready (Some (effect.Gives v)) m n before after outcome there leaves = ap (in_memory_if_ready m n) leaves
-lifted_if_ready (Some (effect.Traps trap)) m n before after outcome there leaves =
-    (ap (in_memory_if_ready m n) leaves.0, rw leaves.1 (kept m n before there))
+  to_found : (f : Object → Outcome Object) → f empty ≡ nothing empty → (found : Option Object)
+      → slice_get m.heap n ≡ found → to_object m n f found ≡ in_memory m n (f (object_at m n))
+  to_found f idle None there =
+      let none = object_is None there in
+      idle_there none ∙ ap (in_memory m n) (sym (ap f none ∙ idle))
+  to_found f idle (Some o) there = ap (λ x. in_memory m n (f x)) (sym (object_is (Some o) there))
 
--- an object that exists is changed in place
-pub changed : (answer : CodeEffect) (m : CodeMemory) (n : ℕ) (before after : CodeObject)
-    (f : Object → Outcome Object) → n < length m.objects.items → before ≡ get_or m.objects.items n before →
-    Leaves answer (object_of before) (object_of after) (f (object_of before)) →
-    Leaves answer (memory_of m) (memory_of (record m { objects = with_item m.objects n after }))
-    (at_object (memory_of m) n f)
-changed answer m n before after f within is leaves =
-    let there : slice_get (map object_of m.objects.items) n ≡ Some (object_of before) =
-    object_there m.objects.items n before within is in
-    rw (there, map-set object_of m.objects.items n after)
-    (lifted answer (memory_of m) n (object_of before) (object_of after) (f (object_of before)) there leaves)
+  to_found_if_ready : (f : Object → Option (Outcome Object)) → f empty ≡ Some (nothing empty)
+      → (found : Option Object) → slice_get m.heap n ≡ found
+      → to_object_if_ready m n f found ≡ in_memory_if_ready m n (f (object_at m n))
+  to_found_if_ready f idle None there =
+      let none = object_is None there in
+      ap Some (idle_there none) ∙ ap (in_memory_if_ready m n) (sym (ap f none ∙ idle))
+  to_found_if_ready f idle (Some o) there =
+      ap (λ x. in_memory_if_ready m n (f x)) (sym (object_is (Some o) there))
 
--- the same where it may not be ready
-pub changed_if_ready : (answer : Option CodeEffect) (m : CodeMemory) (n : ℕ) (before after : CodeObject)
-    (f : Object → Option (Outcome Object)) → n < length m.objects.items → before ≡ get_or m.objects.items n before →
-    LeavesIfReady answer (object_of before) (object_of after) (f (object_of before)) →
-    LeavesIfReady answer (memory_of m) (memory_of (record m { objects = with_item m.objects n after }))
-    (at_object_if_ready (memory_of m) n f)
-changed_if_ready answer m n before after f within is leaves =
-    let there : slice_get (map object_of m.objects.items) n ≡ Some (object_of before) =
-    object_there m.objects.items n before within is in
-    rw (there, map-set object_of m.objects.items n after)
-    (lifted_if_ready answer (memory_of m) n (object_of before) (object_of after) (f (object_of before)) there leaves)
+-- the object of that number was lent to be changed
+module _ (m new : Memory) (n : ℕ) (before after : Object) (there : object_at m n ≡ before)
+    (written : new ≡ with_object m n after) where
+  unchanged : after ≡ before → new ≡ m
+  unchanged same = written ∙ ap (with_object m n) (same ∙ sym there) ∙ kept m n
 
--- the same where memory may be wanted
-pub changed_if_room : (answer : Result (Option CodeEffect) AllocError) (m : CodeMemory) (n : ℕ)
-    (before after : CodeObject) (f : Object → Option (Outcome Object)) → n < length m.objects.items →
-    before ≡ get_or m.objects.items n before →
-    PerformsIfReady answer (object_of before) (object_of after) (f (object_of before)) →
-    PerformsIfReady answer (memory_of m) (memory_of (record m { objects = with_item m.objects n after }))
-    (at_object_if_ready (memory_of m) n f)
-changed_if_room (Ok answer) m n before after f within is leaves =
-    changed_if_ready answer m n before after f within is leaves
-changed_if_room (Err e) m n before after f within is same =
-    ap (λ heap. record { heap = heap; variables = m.variables.items })
-    (map-set object_of m.objects.items n after
-    ∙ ap (slice_set (map object_of m.objects.items) n) same
-    ∙ set_same (map object_of m.objects.items) n (object_of before) (object_there m.objects.items n before within is))
+  lifted : (answer : CodeEffect) (outcome : Outcome Object) → Leaves answer before after outcome
+      → Leaves answer m new (in_memory m n outcome)
+  lifted (effect.Gives v) outcome leaves = ap (in_memory m n) leaves ∙ ap (λ k. Does k v) (sym written)
+  lifted (effect.Traps trap) outcome leaves = (ap (in_memory m n) leaves.0, unchanged leaves.1)
+
+  lifted_if_ready : (answer : Option CodeEffect) (outcome : Option (Outcome Object))
+      → LeavesIfReady answer before after outcome → LeavesIfReady answer m new (in_memory_if_ready m n outcome)
+  lifted_if_ready None outcome leaves = (ap (in_memory_if_ready m n) leaves.0, unchanged leaves.1)
+  lifted_if_ready (Some (effect.Gives v)) outcome leaves =
+      ap (in_memory_if_ready m n) leaves ∙ ap (λ k. Some (Does k v)) (sym written)
+  lifted_if_ready (Some (effect.Traps trap)) outcome leaves =
+      (ap (in_memory_if_ready m n) leaves.0, unchanged leaves.1)
+
+  pub changed : (answer : CodeEffect) (f : Object → Outcome Object) → f empty ≡ nothing empty
+      → Leaves answer before after (f before) → Leaves answer m new (at_object m n f)
+  changed answer f idle leaves =
+      rw (to_found m n f idle (slice_get m.heap n) refl, there) (lifted answer (f before) leaves)
+
+  -- the same where it may not be ready
+  pub changed_if_ready : (answer : Option CodeEffect) (f : Object → Option (Outcome Object))
+      → f empty ≡ Some (nothing empty) → LeavesIfReady answer before after (f before)
+      → LeavesIfReady answer m new (at_object_if_ready m n f)
+  changed_if_ready answer f idle leaves =
+      rw (to_found_if_ready m n f idle (slice_get m.heap n) refl, there) (lifted_if_ready answer (f before) leaves)
+
+  -- the same where memory may be wanted
+  pub changed_if_room : (answer : Result (Option CodeEffect) AllocError) (f : Object → Option (Outcome Object))
+      → f empty ≡ Some (nothing empty) → PerformsIfReady answer before after (f before)
+      → PerformsIfReady answer m new (at_object_if_ready m n f)
+  changed_if_room (Ok answer) f idle leaves = changed_if_ready answer f idle leaves
+  changed_if_room (Err e) f idle same = unchanged same
 
 -- where there is none of that number, nothing is done
-pub not_there : (m : CodeMemory) (n : ℕ) (f : Object → Outcome Object) → length m.objects.items ≤ n →
-    at_object (memory_of m) n f ≡ nothing (memory_of m)
-not_there m n f past = ap (to_object (memory_of m) n f) (none_there m.objects.items n past)
+module _ (m new : Memory) (n : ℕ) (none : object_at m n ≡ empty) (same : new ≡ m) where
+  pub not_there : (f : Object → Outcome Object) → f empty ≡ nothing empty → at_object m n f ≡ nothing new
+  not_there f idle =
+      changed m new n empty empty none (same ∙ sym (kept m n) ∙ ap (with_object m n) none) (effect.Gives Nil) f idle idle
 
-pub none_ready : (m : CodeMemory) (n : ℕ) (f : Object → Option (Outcome Object)) → length m.objects.items ≤ n →
-    at_object_if_ready (memory_of m) n f ≡ Some (nothing (memory_of m))
-none_ready m n f past = ap (to_object_if_ready (memory_of m) n f) (none_there m.objects.items n past)
+  pub none_ready : (f : Object → Option (Outcome Object)) → f empty ≡ Some (nothing empty)
+      → at_object_if_ready m n f ≡ Some (nothing new)
+  none_ready f idle =
+      changed_if_ready m new n empty empty none (same ∙ sym (kept m n) ∙ ap (with_object m n) none)
+      (Some (effect.Gives Nil)) f idle idle

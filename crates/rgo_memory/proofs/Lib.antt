@@ -1,3 +1,5 @@
+pub mod Heap
 pub mod InPlace
 pub mod Keeping
 pub mod Operating
+pub mod Reading

@@ -2,6 +2,7 @@ pub mod Channels
 pub mod Effects
 pub mod Elements
 pub mod Fields
+pub mod Lending
 pub mod Making
 pub mod Memory
 pub mod Opening

@@ -1,5 +1,5 @@
 -- Objects and the memory that holds them, as plain data.
-use Rattle.std.specs.Prelude.{ℕ, Bool, List, slice_set}
+use Rattle.std.specs.Prelude.{ℕ, Bool, List, [], slice_index_or, slice_set}
 use Rattle.rgo_memory.specs.declared.values.Value.{Value}
 
 -- the cells of a struct or of a slice; or a channel, with what was sent and not yet received, the oldest first
@@ -16,3 +16,11 @@ pub record Memory : Type 0 where
 -- the memory with another object of that number
 abbrev pub with_object : Memory → ℕ → Object → Memory
 with_object m n object = record m { heap = slice_set m.heap n object }
+
+-- the object of that number; a struct without fields where there is none
+abbrev pub object_at : Memory → ℕ → Object
+object_at m n = slice_index_or m.heap n (StructObject [])
+
+-- the memory without what the object of that number held
+abbrev pub emptied : Memory → ℕ → Memory
+emptied m n = with_object m n (StructObject [])

@@ -1,6 +1,8 @@
 -- The views: of the code's objects and memory, the plain data that contracts say of them, and what an answer
 -- of the code says of a definition's.
-use Rattle.std.specs.Prelude.{◌≡◌, map, Option, Some, None, Result, Ok, Err}
+use Rattle.std.specs.Prelude.{◌≡◌, ℕ, [], map, Option, Some, None, Result, Ok, Err, nat_eq}
+use Rattle.std.specs.HashMap.{get}
+use Rattle.std.specs.List.{range_with_len}
 use Rattle.std.specs.declared.alloc.AllocError.{AllocError}
 use Rattle.rgo_memory.specs.declared.values.Value.{Value}
 use Rattle.rgo_memory.specs.declared.traps.Trap.{Trap}
@@ -17,8 +19,18 @@ object_of (code.Struct cells) = StructObject cells.items
 object_of (code.Slice cells) = SliceObject cells.items
 object_of (code.Channel c) = Channel c.capacity c.queue.items c.closed
 
+-- an entry as an object: a struct without fields where there is none
+abbrev pub object_in : Option CodeObject → Object
+object_in (Some object) = object_of object
+object_in None = StructObject []
+
+-- the entry of that number, as an object
+abbrev pub entry_of : CodeMemory → ℕ → Object
+entry_of m n = object_in (get nat_eq m.objects n)
+
+-- the objects that were made, in the order of making; entries of other numbers are not seen
 abbrev pub memory_of : CodeMemory → Memory
-memory_of m = record { heap = map object_of m.objects.items; variables = m.variables.items }
+memory_of m = record { heap = map (entry_of m) (range_with_len 0 m.made); variables = m.variables.items }
 
 -- the answer of what only reads
 abbrev pub effect_of : Result Value Trap → CodeEffect

@@ -36,7 +36,7 @@ pub fn receive(memory: &mut Memory, channel: Value, blank: Value) -> Option<Effe
 {
     match channel {
         Value::Nil => None,
-        Value::Object(n) => match memory.objects.get_mut(n) {
+        Value::Object(n) => match memory.object_mut(n) {
             Some(object) => receive_from(object, blank),
             None => Some(Effect::Gives(Value::Nil)),
         },
@@ -54,12 +54,13 @@ fn has_value(object: &Object) -> bool
 }
 
 /// Whether a receiver at this channel does not have to wait.
+#[tactic(auto, using(crate::proofs::Reading::ready_read))]
 pub fn can_receive(memory: &Memory, channel: Value) -> bool
     ensures { (blank : Value) → result ≡ is_some (receive (memory_of memory.now) channel blank) }
 {
     match channel {
         Value::Nil => false,
-        Value::Object(n) => match memory.objects.get(n) {
+        Value::Object(n) => match memory.object(n) {
             Some(object) => has_value(object),
             None => true,
         },
@@ -96,7 +97,7 @@ pub fn send(memory: &mut Memory, channel: Value, value: Value) -> Result<Option<
 {
     match channel {
         Value::Nil => Ok(None),
-        Value::Object(n) => match memory.objects.get_mut(n) {
+        Value::Object(n) => match memory.object_mut(n) {
             Some(object) => send_to(object, value),
             None => Ok(Some(Effect::Gives(Value::Nil))),
         },
@@ -114,12 +115,13 @@ fn has_room(object: &Object) -> bool
 }
 
 /// Whether a sender at this channel does not have to wait.
+#[tactic(auto, using(crate::proofs::Reading::ready_read))]
 pub fn can_send(memory: &Memory, channel: Value) -> bool
     ensures { (value : Value) → result ≡ is_some (send (memory_of memory.now) channel value) }
 {
     match channel {
         Value::Nil => false,
-        Value::Object(n) => match memory.objects.get(n) {
+        Value::Object(n) => match memory.object(n) {
             Some(object) => has_room(object),
             None => true,
         },
@@ -148,7 +150,7 @@ pub fn close(memory: &mut Memory, channel: Value) -> Effect
 {
     match channel {
         Value::Nil => Effect::Traps(Trap::CloseNil),
-        Value::Object(n) => match memory.objects.get_mut(n) {
+        Value::Object(n) => match memory.object_mut(n) {
             Some(object) => shut(object),
             None => Effect::Gives(Value::Nil),
         },
@@ -171,7 +173,7 @@ pub fn meets_at(memory: &Memory, receiver: Value, sender: Value) -> bool
     ensures { result ≡ meets_at (memory_of memory.now) receiver sender }
 {
     match (receiver, sender) {
-        (Value::Object(m), Value::Object(n)) if m == n => match memory.objects.get(m) {
+        (Value::Object(m), Value::Object(n)) if m == n => match memory.object(m) {
             Some(object) => is_meeting_place(object),
             None => false,
         },

@@ -35,7 +35,7 @@ pub fn element_at(memory: &Memory, slice: Value, index: Value) -> Result<Value, 
 {
     match (slice, index) {
         (Value::Nil, Value::Int(_)) => Err(Trap::IndexRange),
-        (Value::Object(n), Value::Int(index)) => match memory.objects.get(n) {
+        (Value::Object(n), Value::Int(index)) => match memory.object(n) {
             Some(Object::Slice(cells)) => element(cells, index),
             _ => Ok(Value::Nil),
         },
@@ -50,7 +50,7 @@ pub fn length_of(memory: &Memory, slice: Value) -> Value
 {
     match slice {
         Value::Nil => Value::Int(0),
-        Value::Object(n) => match memory.objects.get(n) {
+        Value::Object(n) => match memory.object(n) {
             Some(Object::Slice(cells)) => Value::Int(cells.len() as i64),
             _ => Value::Nil,
         },
@@ -86,7 +86,7 @@ pub fn put(memory: &mut Memory, slice: Value, index: Value, value: Value) -> Eff
 {
     match (slice, index) {
         (Value::Nil, Value::Int(_)) => Effect::Traps(Trap::IndexRange),
-        (Value::Object(n), Value::Int(index)) => match memory.objects.get_mut(n) {
+        (Value::Object(n), Value::Int(index)) => match memory.object_mut(n) {
             Some(object) => put_in(object, index, value),
             None => Effect::Gives(Value::Nil),
         },

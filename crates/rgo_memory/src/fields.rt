@@ -21,7 +21,7 @@ pub fn load(memory: &Memory, pointer: Value, field: usize) -> Result<Value, Trap
 {
     match pointer {
         Value::Nil => Err(Trap::NilPointer),
-        Value::Object(n) => match memory.objects.get(n) {
+        Value::Object(n) => match memory.object(n) {
             Some(Object::Struct(cells)) => Ok(cells.get(field).copied().unwrap_or(Value::Nil)),
             _ => Ok(Value::Nil),
         },
@@ -50,7 +50,7 @@ pub fn store(memory: &mut Memory, pointer: Value, field: usize, value: Value) ->
 {
     match pointer {
         Value::Nil => Effect::Traps(Trap::NilPointer),
-        Value::Object(n) => match memory.objects.get_mut(n) {
+        Value::Object(n) => match memory.object_mut(n) {
             Some(object) => store_in(object, field, value),
             None => Effect::Gives(Value::Nil),
         },

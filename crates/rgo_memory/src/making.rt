@@ -19,9 +19,17 @@ fn make(memory: &mut Memory, object: Object) -> Result<Effect, AllocError>
     ensures { Performs result (memory_of memory.old) (memory_of memory.new)
         (made (memory_of memory.old) (object_of object)) }
 {
-    let number = memory.objects.len();
-    memory.objects.push(object)?;
-    Ok(Effect::Gives(Value::Object(number)))
+    let number = memory.made;
+    let Some(more) = number.checked_add(1) else {
+        return Err(AllocError);
+    };
+    match memory.objects.insert(number, object) {
+        Ok(_) => {
+            memory.made = more;
+            Ok(Effect::Gives(Value::Object(number)))
+        }
+        Err(_) => Err(AllocError),
+    }
 }
 
 fn zero_fields(alloc: Global, types: &[Type]) -> Result<Vec<Value>, AllocError>

@@ -1,20 +1,27 @@
 //! The memory of a running program.
 
-ghost use Rattle.std.specs.Prelude.{◌≡◌, map, IfOk};
+ghost use Rattle.std.specs.Prelude.{◌≡◌, map, length, IfOk};
+ghost use Rattle.std.specs.Borrow.{sem};
+ghost use Rattle.std.specs.Option.{option_copied, option_copied_mut};
 ghost use Rattle.rgo_memory.specs.Values.{zero_of};
 ghost use Rattle.rgo_memory.specs.Opening.{opening};
-ghost use Rattle.rgo_memory.specs.Views.{memory_of};
+ghost use Rattle.rgo_memory.specs.Memory.{emptied, object_at};
+ghost use Rattle.rgo_memory.specs.Lending.{LendsObject};
+ghost use Rattle.rgo_memory.specs.Views.{memory_of, object_in};
 
 use crate::objects::Object;
 use crate::values::{Value, zero};
 use rgo_typed::Variable;
 use std::alloc::{AllocError, Global};
+use std::collections::HashMap;
 
-/// The objects that were made, each numbered by its position, and the package variables. No object
-/// is ever taken away.
+/// The objects that were made, each by its number in the order of making, and the package
+/// variables. An object can be taken away: then it takes no memory, and reads as a struct without
+/// fields.
 #[derive(Drop)]
 pub struct Memory {
-    pub objects: Vec<Object>,
+    pub(crate) objects: HashMap<usize, Object>,
+    pub(crate) made: usize,
     pub variables: Vec<Value>,
 }
 
@@ -35,8 +42,50 @@ impl Memory {
         ensures { IfOk result (λ memory. memory_of memory ≡ opening variables.now) }
     {
         Ok(Memory {
-            objects: Vec::new(alloc),
+            objects: HashMap::new(alloc),
+            made: 0,
             variables: zero_variables(alloc, variables)?,
         })
+    }
+
+    /// How many objects were made. Those that were taken away are counted too.
+    #[inline(always)]
+    pub fn len(&self) -> usize
+        ensures { result ≡ length (memory_of self.now).heap }
+    {
+        self.made
+    }
+
+    /// Takes an object away, and gives back the memory that it held. Its number is not used again.
+    /// Nothing happens where it was taken away before, or never made.
+    pub fn take_away(&mut self, n: usize)
+        ensures { memory_of self.new ≡ emptied (memory_of self.old) n }
+    {
+        self.objects.remove(&n);
+    }
+
+    /// The object of a number, `None` where it was taken away or never made.
+    #[inline(always)]
+    pub(crate) fn object(&self, n: usize) -> Option<&Object>
+        ensures { object_at (memory_of self.now) n ≡ object_in (option_copied result) }
+    {
+        if n < self.made {
+            self.objects.get(&n)
+        } else {
+            None
+        }
+    }
+
+    /// The same, to be changed.
+    #[inline(always)]
+    pub(crate) fn object_mut(&mut self, n: usize) -> Option<&mut Object>
+        ensures* writes_back { sem 𝓛 (LendsObject self.entry n result) }
+        ensures value { object_at (memory_of self.old) n ≡ object_in (option_copied_mut result) }
+    {
+        if n < self.made {
+            self.objects.get_mut(&n)
+        } else {
+            None
+        }
     }
 }

@@ -256,6 +256,42 @@ fn fields_are_read_and_written(rt: HostRuntime) -> Result<(), Fail> {
     steps_hold(&rt, &mut memory, &[], Base::Int, &FIELDS)
 }
 
+/// After the first of two objects was taken away.
+static TAKEN_AWAY: [Step<'static>; 7] = [
+    (Action::Load(0), &[FIRST], Some(Effect::Gives(NIL))),
+    (Action::Store(0), &[FIRST, Value::Int(1)], DONE),
+    (Action::Load(0), &[FIRST], Some(Effect::Gives(NIL))),
+    (Action::Len, &[FIRST], Some(Effect::Gives(NIL))),
+    (Action::Close, &[FIRST], DONE),
+    (Action::Len, &[SECOND], Some(Effect::Gives(Value::Int(3)))),
+    (
+        Action::Slice,
+        &[Value::Int(1)],
+        Some(Effect::Gives(Value::Object(2))),
+    ),
+];
+
+#[test]
+fn an_object_is_taken_away(rt: HostRuntime) -> Result<(), Fail> {
+    let alloc = rt.alloc();
+    let mut memory = Memory::new(alloc, &[])?;
+    let structs = [node(alloc)?];
+    let pointer = ty(alloc, &[], Base::Pointer(0))?;
+    let new = perform(alloc, &mut memory, &structs, Action::New(0), &pointer, &[])?;
+    same(&rt, "the first object", &new, &Effect::Gives(FIRST));
+    let slice = ty(alloc, &[Layer::Slice], Base::Int)?;
+    let size = [Value::Int(3)];
+    let new = perform(alloc, &mut memory, &[], Action::Slice, &slice, &size)?;
+    same(&rt, "the second object", &new, &Effect::Gives(SECOND));
+    memory.take_away(0);
+    memory.take_away(0);
+    memory.take_away(5);
+    same(&rt, "how many were made", &memory.len(), &2);
+    steps_hold(&rt, &mut memory, &[Layer::Slice], Base::Int, &TAKEN_AWAY)?;
+    same(&rt, "how many were made", &memory.len(), &3);
+    Ok(())
+}
+
 static VARIABLES: [Step<'static>; 9] = [
     (Action::Get(0), &[], Some(Effect::Gives(Value::Int(0)))),
     (Action::Set(0), &[Value::Int(5)], DONE),

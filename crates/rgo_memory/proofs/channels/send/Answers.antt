@@ -1,10 +1,18 @@
+use Rattle.std.proofs.Common.{refl}
+use Rattle.rgo_memory.specs.Channels.{sent}
+use Rattle.rgo_memory.specs.Views.{memory_of}
 use Rattle.rgo_memory.proofs.InPlace.{changed_if_room, none_ready}
 use Rattle.rgo_memory.proofs.channels.send.Goals as goal
 
 pub returns-in-Some : goal.returns-in-Some
 returns-in-Some c =
-    let item = c.in-Some.ensures.item in
-    rw c.in-Object.is (changed_if_room _ c.args.memory.now _ c.in-Some.object.now _ _ item.3.0 item.1 c.send_to.ensures)
+    rw c.in-Object.is
+    (changed_if_room (memory_of c.args.memory.now) _ c.in-Object.n _ _ c.in-Some.ensures.value
+    (rw c.in-Some.is at (c.object_mut.follows.holds c.send_to.new.object)) c.send_to.result
+    (sent c.args.value) refl c.send_to.ensures)
 
 pub returns-in-None : goal.returns-in-None
-returns-in-None c = rw c.in-Object.is (none_ready c.args.memory.now _ _ c.in-None.ensures.item.3)
+returns-in-None c =
+    rw c.in-Object.is
+    (none_ready (memory_of c.args.memory.now) _ c.in-Object.n c.in-None.ensures.value
+    c.object_mut.follows.holds-at-none (sent c.args.value) refl)

@@ -1,10 +1,18 @@
+use Rattle.std.proofs.Common.{refl}
+use Rattle.rgo_memory.specs.Fields.{stored}
+use Rattle.rgo_memory.specs.Views.{memory_of}
 use Rattle.rgo_memory.proofs.InPlace.{changed, not_there}
 use Rattle.rgo_memory.proofs.fields.store.Goals as goal
 
 pub returns-in-Some : goal.returns-in-Some
 returns-in-Some c =
-    let item = c.in-Some.ensures.item in
-    rw c.in-Object.is (changed _ c.args.memory.now _ c.in-Some.object.now _ _ item.3.0 item.1 c.store_in.ensures)
+    rw c.in-Object.is
+    (changed (memory_of c.args.memory.now) _ c.in-Object.n _ _ c.in-Some.ensures.value
+    (rw c.in-Some.is at (c.object_mut.follows.holds c.store_in.new.object)) c.store_in.result
+    (stored c.args.field c.args.value) refl c.store_in.ensures)
 
 pub returns-in-None : goal.returns-in-None
-returns-in-None c = rw c.in-Object.is (not_there c.args.memory.now _ _ c.in-None.ensures.item.3)
+returns-in-None c =
+    rw c.in-Object.is
+    (not_there (memory_of c.args.memory.now) _ c.in-Object.n c.in-None.ensures.value c.object_mut.follows.holds-at-none
+    (stored c.args.field c.args.value) refl)

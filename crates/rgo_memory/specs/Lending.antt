@@ -1,0 +1,15 @@
+-- What becomes of the memory when one of its objects is lent to be changed.
+use Rattle.std.specs.Prelude.{◌≡◌, ℕ, Option, OnSome}
+use Rattle.std.specs.Borrow.{Fml, MutBor, LendsSo}
+use Rattle.rgo_memory.specs.declared.memory.Memory.{Memory}
+use Rattle.rgo_memory.specs.declared.objects.Object.{Object}
+use Rattle.rgo_memory.specs.contracts.memory.Memory as memory
+use Rattle.rgo_memory.specs.contracts.objects.Object as object
+use Rattle.rgo_memory.specs.Memory.{with_object}
+use Rattle.rgo_memory.specs.Views.{object_of, memory_of}
+
+-- the memory ends with the object that was written last; unchanged where none was lent
+abbrev pub LendsObject : MutBor Memory → ℕ → Option (MutBor Object) → Fml
+LendsObject m n lent = LendsSo memory.the_row object.the_row m lent
+    (λ after object. OnSome lent (memory_of after ≡ with_object (memory_of m.now) n (object_of object)))
+    (λ after. memory_of after ≡ memory_of m.now)
