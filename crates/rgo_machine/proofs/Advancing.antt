@@ -39,6 +39,7 @@ changed_too (stop.Operated c) m n k first second = λ j differ channel e. second
 changed_too (stop.Ended end) m n k first second = same_too m n k first second
 changed_too stop.TooDeep m n k first second = same_too m n k first second
 changed_too stop.Full m n k first second = same_too m n k first second
+changed_too (stop.NoRoom shortage) m n k first second = same_too m n k first second
 changed_too stop.NoMemory m n k first second = same_too m n k first second
 
 -- ---- prints
@@ -51,6 +52,7 @@ kept_too (stop.Operated channel) a b c first second = second ∙ first
 kept_too (stop.Ended end) a b c first second = second ∙ first
 kept_too stop.TooDeep a b c first second = second ∙ first
 kept_too stop.Full a b c first second = second ∙ first
+kept_too (stop.NoRoom shortage) a b c first second = second ∙ first
 kept_too stop.NoMemory a b c first second = second ∙ first
 
 -- ---- a limit is met
@@ -196,6 +198,7 @@ module _ {F : Type 0} (machine : Machine F) (limits : Limits) (s t u : State F) 
   over_too n at_most steps (stop.Ended e) whole over = (over.0, omega (arith, over.1))
   over_too n at_most steps stop.TooDeep whole over = over
   over_too n at_most steps stop.Full whole over = over
+  over_too n at_most steps (stop.NoRoom shortage) whole over = over
   over_too n at_most steps stop.NoMemory whole over = over
 
   -- both as one

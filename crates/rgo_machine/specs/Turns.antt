@@ -20,6 +20,8 @@ module _ {F : Type 0} where
   IsOver machine limits t g at_most steps (stop.Ended e) = (t.ended ≡ Some e) × (0 < steps)
   IsOver machine limits t g at_most steps stop.TooDeep = (t.ended ≡ None) × IsTooDeep machine t
   IsOver machine limits t g at_most steps stop.Full = (t.ended ≡ None) × IsFull machine limits t
+  -- what it has no room for is a matter of the machine's code
+  IsOver machine limits t g at_most steps (stop.NoRoom shortage) = t.ended ≡ None
   IsOver machine limits t g at_most steps stop.NoMemory = t.ended ≡ None
 
 -- which channels a turn has changed: at most one, that which it tells of

@@ -10,3 +10,14 @@ pub struct Limits {
 
 /// The most frames of a goroutine.
 pub const DEEPEST: usize = 100_000;
+
+/// How much room the regions of a run have.
+#[derive(Clone, Copy, Debug, PartialEq, Eq)]
+pub struct Sizes {
+    /// The words of a page.
+    pub page_words: usize,
+    /// The most pages that live regions and the global one have at one time.
+    pub pages: usize,
+    /// The most regions that are live at one time, but for the global one.
+    pub regions: usize,
+}

@@ -14,7 +14,7 @@ use std::marker::Model;
 /// A goroutine: its frames, the newest last; none where it has returned.
 #[derive(Drop)]
 pub struct Goroutine<F> {
-    pub(crate) frames: Vec<F>,
+    pub frames: Vec<F>,
 }
 
 impl<F> Model for Goroutine<F> {
@@ -31,10 +31,10 @@ impl<F> Model for Goroutine<F> {
 /// The state of a run.
 #[derive(Drop)]
 pub struct State<F> {
-    pub(crate) memory: Memory,
-    pub(crate) goroutines: Vec<Goroutine<F>>,
-    pub(crate) printed: Vec<u8>,
-    pub(crate) ended: Option<End>,
+    pub memory: Memory,
+    pub goroutines: Vec<Goroutine<F>>,
+    pub printed: Vec<u8>,
+    pub ended: Option<End>,
 }
 
 impl<F> Model for State<F> {

@@ -15,6 +15,17 @@ use crate::states::{State, standing};
 use crate::steps::step_alone;
 use std::alloc::Global;
 
+/// What a machine whose objects lie in regions can have no room for.
+#[derive(Clone, Copy, Debug, PartialEq, Eq)]
+pub enum Shortage {
+    /// All pages are taken, and an object wants another one.
+    Pages,
+    /// There are as many regions as there may be, and another one is to be created.
+    Regions,
+    /// An object is larger than a page.
+    ObjectSize,
+}
+
 /// Why a turn was over.
 #[derive(Clone, Copy, Debug, PartialEq, Eq)]
 pub enum Stop {
@@ -32,6 +43,8 @@ pub enum Stop {
     TooDeep,
     /// There are as many goroutines as there may be, and this one stands before the start of another.
     Full,
+    /// It stands before what its machine has no room for.
+    NoRoom(Shortage),
     /// Memory ran out.
     NoMemory,
 }
