@@ -11,4 +11,6 @@ mod lowering;
 #[cfg(test)]
 mod stepping;
 #[cfg(test)]
+mod stretches;
+#[cfg(test)]
 mod texts;

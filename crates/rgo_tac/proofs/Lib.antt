@@ -2,4 +2,5 @@ pub mod Bodies
 pub mod Fitting
 pub mod Hurrying
 pub mod Pacing
+pub mod Stretching
 pub mod Transferring

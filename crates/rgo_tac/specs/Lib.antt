@@ -5,6 +5,7 @@ pub mod Joins
 pub mod Ops
 pub mod Quick
 pub mod Steps
+pub mod Stretches
 pub mod Tac
 pub mod Transfers
 pub mod Views

@@ -15,9 +15,9 @@ use std::marker::Model;
 /// called a function is at the call until the callee has returned.
 #[derive(Drop)]
 pub struct Frame {
-    pub(crate) function: usize,
-    pub(crate) next: usize,
-    pub(crate) variables: Vec<Value>,
+    pub function: usize,
+    pub next: usize,
+    pub variables: Vec<Value>,
 }
 
 impl Model for Frame {
@@ -90,7 +90,7 @@ fn push_zeros(values: &mut Vec<Value>, zeros: &[Value], count: usize) -> Result<
 
 impl Frame {
     /// The value of a variable; nil if there is none of this number.
-    pub(crate) fn value(&self, n: u32) -> Value
+    pub fn value(&self, n: u32) -> Value
         ensures { result ≡ spec.value_at self.now n }
     {
         value_at(&self.variables, n)

@@ -17,6 +17,7 @@ mod quick;
 mod regions;
 mod stands;
 mod states;
+mod stretches;
 mod widths;
 
 pub use code::{Body, Instr};
@@ -32,3 +33,4 @@ pub use ops::{Op, Operands};
 pub use programs::Tac;
 pub use regions::{Class, Member, is_pointer_like, joins};
 pub use states::{TacState, tac_printed, tac_start, tac_step, tac_stuck};
+pub use stretches::stretch;
