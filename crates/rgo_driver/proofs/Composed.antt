@@ -1,7 +1,7 @@
 -- Steps of a turn, one after the other.
-use Rattle.std.proofs.Common.{◌≡◌, ◌<◌, ◌≤◌, ◌+◌, ◌-◌, ◌^◌, ◌⊎◌, inl, inr, ℕ, Bool, true, false, List, [], ◌∷◌, ◌++◌}
+use Rattle.std.proofs.Common.{◌≡◌, ◌<◌, ◌≤◌, ◌+◌, ◌-◌, ◌^◌, ◌⊎◌, inl, inr, ℕ, List, [], ◌∷◌, ◌++◌}
 use Rattle.std.proofs.Common.{length}
-use Rattle.std.proofs.Common.{Option, Some, None, Result, Ok, Err, MatchResult, refl, ap, sym, subst, ◌∙◌, arith}
+use Rattle.std.proofs.Common.{Option, Some, None, refl, ap, sym, subst, ◌∙◌, arith}
 use Rattle.std.proofs.Common.{replicate, length-append}
 use Rattle.std.proofs.lemmas.List.{length-replicate}
 use Rattle.std.proofs.lemmas.List.Elements.{All-nil, All-append, All-replicate, All-push}
@@ -19,9 +19,10 @@ use Rattle.rgo_driver.specs.declared.ends.RunEnd.{RunEnd}
 use Rattle.rgo_driver.specs.declared.ends.RunEnd.TheVariants as run_end
 use Rattle.rgo_driver.specs.Points.{Point}
 use Rattle.rgo_driver.specs.Rounds.{IsOf}
+use Rattle.rgo_driver.specs.Running.{GoesOn}
 use Rattle.rgo_driver.specs.Runs.{Ends}
 use Rattle.rgo_driver.specs.Turning as turning
-use Rattle.rgo_driver.specs.Turning.{Counts, CountsUp, AreMet, Tries, end_of, GoesOn, Moved, Stopped, Advances}
+use Rattle.rgo_driver.specs.Turning.{Counts, CountsUp, AreMet, end_of, Moved, Stopped, Advances}
 use Rattle.std.proofs.lemmas.Option.{same_Some}
 use Rattle.rgo_machine.proofs.Runs.{joined, single, ends_within, limited}
 use Rattle.rgo_driver.proofs.Others.{meeting_is}
@@ -68,23 +69,25 @@ module _ {F : Type 0} (machine : Machine F) (limits : Limits) where
   moved_by g p q a b e h = subst (Moved machine limits g p q) e h
 
   -- a meeting
-  met_own : (g h r t : ℕ) → AreMet (Meet r t) g h → IsOf g (Meet r t)
-  met_own g h r t (inl p) = inl p.0
-  met_own g h r t (inr p) = inr p.1
+  met_own : (g h : ℕ) (met : ℕ × ℕ) → AreMet met g h → IsOf g (Meet met.0 met.1)
+  met_own g h met (inl p) = inl p.0
+  met_own g h met (inr p) = inr p.1
 
-  pub moved_meeting : (g h r t : ℕ) (p q : Point F) → GoesOn limits p.state → AreMet (Meet r t) g h
-      → step_by machine p.state (Meet r t) ≡ Some q.state → CountsUp p.steps 1 q.steps → Moved machine limits g p q 1
-  moved_meeting g h r t p q on both step counted =
-      let met = meeting_is machine limits p.state r t q.state step in
-      let within = met.within on.within in
+  pub moved_meeting : (g h : ℕ) (met : ℕ × ℕ) (p q : Point F) → GoesOn limits p.state → AreMet met g h
+      → step_by machine p.state (Meet met.0 met.1) ≡ Some q.state → CountsUp p.steps 1 q.steps
+      → Moved machine limits g p q 1
+  moved_meeting g h met p q on both step counted =
+      let pick = Meet met.0 met.1 in
+      let is = meeting_is machine limits p.state met.0 met.1 q.state step in
+      let within = is.within on.within in
       record {
-        picks = Meet r t ∷ [];
-        leads = single (limited_step machine limits) p.state q.state (Meet r t)
-            (limited machine limits p.state q.state (Meet r t) step within);
-        own = All-push (IsOf g) [] (Meet r t) (All-nil (IsOf g)) (met_own g h r t both);
+        picks = pick ∷ [];
+        leads = single (limited_step machine limits) p.state q.state pick
+            (limited machine limits p.state q.state pick step within);
+        own = All-push (IsOf g) [] pick (All-nil (IsOf g)) (met_own g h met both);
         long = refl;
         counted = counted;
-        on = record { running = met.ended ∙ on.running; within = within };
+        on = record { running = is.ended ∙ on.running; within = within };
       }
 
   -- ---- a turn of the machine
@@ -98,6 +101,7 @@ module _ {F : Type 0} (machine : Machine F) (limits : Limits) where
   goes_on t g at_most n (stop.Ended e) none over = cc
   goes_on t g at_most n stop.TooDeep none over = cc
   goes_on t g at_most n stop.Full none over = cc
+  goes_on t g at_most n (stop.NoRoom shortage) none over = cc
   goes_on t g at_most n stop.NoMemory none over = cc
 
   pub turned_moves : (g at_most : ℕ) (p q : Point F) (turned : Turned) → GoesOn limits p.state
@@ -131,6 +135,8 @@ module _ {F : Type 0} (machine : Machine F) (limits : Limits) where
       subst (Ends machine limits before steps t) (same_Some run_end.CallsTooDeep end is) over
   found_end t g at_most n stop.Full end is over before steps =
       subst (Ends machine limits before steps t) (same_Some run_end.GoroutinesSpent end is) over
+  found_end t g at_most n (stop.NoRoom shortage) end is over before steps =
+      subst (Ends machine limits before steps t) (same_Some (run_end.NoRoom shortage) end is) over
   found_end t g at_most n stop.NoMemory end is over before steps =
       subst (Ends machine limits before steps t) (same_Some run_end.NoMemory end is) tt
 
@@ -142,6 +148,7 @@ module _ {F : Type 0} (machine : Machine F) (limits : Limits) where
   no_fault (stop.Ended x) end is e = let both : run_end.Ended x ≡ run_end.WriteFault = same_Some _ _ is ∙ e in cc
   no_fault stop.TooDeep end is e = let both : run_end.CallsTooDeep ≡ run_end.WriteFault = same_Some _ _ is ∙ e in cc
   no_fault stop.Full end is e = let both : run_end.GoroutinesSpent ≡ run_end.WriteFault = same_Some _ _ is ∙ e in cc
+  no_fault (stop.NoRoom x) end is e = let both : run_end.NoRoom x ≡ run_end.WriteFault = same_Some _ _ is ∙ e in cc
   no_fault stop.NoMemory end is e = let both : run_end.NoMemory ≡ run_end.WriteFault = same_Some _ _ is ∙ e in cc
 
   pub turned_stops : (g at_most : ℕ) (s t : State F) (turned : Turned) (end : RunEnd) → end_of turned.stop ≡ Some end
@@ -213,31 +220,6 @@ module _ {F : Type 0} (machine : Machine F) (limits : Limits) where
     no_fault = λ e. cc;
   }
 
-  -- ---- a meeting that was tried
-
-  pub meeting_moves : (g h : ℕ) (pick : Pick) (p q : Point F) (u : State F) (n : ℕ) (met : Bool) → GoesOn limits p.state
-      → AreMet pick g h → met ≡ true → Tries machine (Ok met) p.state u p.steps n pick → q.state ≡ u → q.steps ≡ n
-      → Moved machine limits g p q 1
-  meeting_moves g h (One k) p q u n met on both is tried state steps = absurd both
-  meeting_moves g h (Meet r t) p q u n met on both is tried state steps =
-      let took : Tries machine (Ok true) p.state u p.steps n (Meet r t) =
-      subst (λ b. Tries machine (Ok b) p.state u p.steps n (Meet r t)) is tried in
-      moved_meeting g h r t p q on both
-      (subst (λ v. step_by machine p.state (Meet r t) ≡ Some v) (sym state) took.0)
-      (subst (CountsUp p.steps 1) (sym steps) took.1)
-
-  pub meeting_fails : (g h : ℕ) (pick : Pick) (p q : Point F) (u : State F) (n : ℕ) (met : Bool) → GoesOn limits p.state
-      → AreMet pick g h → met ≡ true → Tries machine (Ok met) p.state u p.steps n pick → q.state ≡ u → q.steps ≡ n
-      → Stopped machine limits g p.state q.state 1 run_end.NoMemory
-  meeting_fails g h pick p q u n met on both is tried state steps =
-      moved_fails g 1 1 p q (meeting_moves g h pick p q u n met on both is tried state steps) (omega arith)
-
-  pub not_met : (s t : State F) (m n : ℕ) (pick : Pick) (met : Bool) → met ≡ false → Tries machine (Ok met) s t m n pick
-      → (t ≡ s) × (n ≡ m)
-  not_met s t m n pick met is tried =
-      let none : Tries machine (Ok false) s t m n pick = subst (λ b. Tries machine (Ok b) s t m n pick) is tried in
-      (none.1, none.2)
-
   -- ---- what is left of a turn
 
   pub advances_on : (rest : Option ℕ) (g a left : ℕ) (p q r : Point F) → Moved machine limits g p q a → a ≤ left
@@ -250,15 +232,6 @@ module _ {F : Type 0} (machine : Machine F) (limits : Limits) where
   advances_on None g a left p q r h le k =
       (a + k.0, omega (arith, k.1, le), moved_on g p q r a k.0 h k.2)
 
-  pub rest_on : (o : Result (Option ℕ) RunEnd) (g a left : ℕ) (p q r : Point F) → Moved machine limits g p q a
-      → a ≤ left
-      → MatchResult o (λ rest. Advances machine limits rest g q r (left - a))
-      (λ end. Stopped machine limits g q.state r.state (left - a) end)
-      → MatchResult o (λ rest. Advances machine limits rest g p r left)
-      (λ end. Stopped machine limits g p.state r.state left end)
-  rest_on (Ok rest) g a left p q r h le k = advances_on rest g a left p q r h le k
-  rest_on (Err end) g a left p q r h le k = stopped_on g a (left - a) left end p q r.state h k (omega (arith, le))
-
   -- a turn that is over, and not because it waits, has taken steps
   pub some_steps : (t : State F) (g at_most n : ℕ) (s : Stop) → end_of s ≡ None → (s ≡ stop.Waits → ⊥)
       → IsOver machine limits t g at_most n s → 0 < at_most → 0 < n
@@ -269,6 +242,7 @@ module _ {F : Type 0} (machine : Machine F) (limits : Limits) where
   some_steps t g at_most n (stop.Ended e) none not over some = cc
   some_steps t g at_most n stop.TooDeep none not over some = cc
   some_steps t g at_most n stop.Full none not over some = cc
+  some_steps t g at_most n (stop.NoRoom shortage) none not over some = cc
   some_steps t g at_most n stop.NoMemory none not over some = cc
 
   -- ---- a whole turn

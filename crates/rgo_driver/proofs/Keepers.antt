@@ -1,5 +1,5 @@
 -- No goroutine is lost: each is ready, or sleeps.
-use Rattle.std.proofs.Common.{◌≡◌, ◌<◌, ◌≤◌, ◌+◌, ◌⊎◌, inl, inr, ℕ, Bool, true, Result, Ok, Err, IfOk, List, [], ◌∷◌}
+use Rattle.std.proofs.Common.{◌≡◌, ◌<◌, ◌≤◌, ◌+◌, ◌⊎◌, inl, inr, ℕ, List, [], ◌∷◌}
 use Rattle.std.proofs.Common.{◌++◌, length, Contains, Option, Some, None}
 use Rattle.std.proofs.Common.{refl, ap, sym, subst, ◌∙◌, arith}
 use Rattle.std.proofs.lemmas.Bool.{cases_eq, cases_lt}
@@ -9,7 +9,6 @@ use Rattle.std.specs.Prelude.{slice_get}
 use Rattle.rgo_memory.specs.Channels.{channel_at}
 use Rattle.rgo_memory.specs.Memory.{Memory}
 use Rattle.rgo_machine.specs.declared.limits.Limits.{Limits}
-use Rattle.rgo_machine.specs.declared.picks.Pick.{Pick}
 use Rattle.rgo_machine.specs.declared.picks.Pick.TheVariants.{One, Meet}
 use Rattle.rgo_machine.specs.declared.turns.Stop.{Stop}
 use Rattle.rgo_machine.specs.declared.turns.Stop.TheVariants as stop
@@ -19,7 +18,7 @@ use Rattle.rgo_machine.specs.Turns.{Turns, ChangesChannels}
 use Rattle.rgo_driver.specs.Playing.{with_print}
 use Rattle.rgo_driver.specs.Points.{Point}
 use Rattle.rgo_driver.specs.Sleeping.{channel_of, Sleeps, Watches, Keeps, Passes}
-use Rattle.rgo_driver.specs.Turning.{operated, AreMet, Tries}
+use Rattle.rgo_driver.specs.Turning.{operated, AreMet}
 use Rattle.std.proofs.lemmas.Option.{same_Some}
 use Rattle.rgo_driver.proofs.Others.{turn_spares, Met, meeting_is}
 use Rattle.rgo_driver.proofs.Printing.{no_step}
@@ -67,6 +66,7 @@ left_alone (stop.Operated channel) m k n c not = c n (λ e. not (ap Some (sym e)
 left_alone (stop.Ended e) m k n c not = c n
 left_alone stop.TooDeep m k n c not = c n
 left_alone stop.Full m k n c not = c n
+left_alone (stop.NoRoom shortage) m k n c not = c n
 left_alone stop.NoMemory m k n c not = c n
 
 module _ {F : Type 0} (machine : Machine F) (g : ℕ) where
@@ -112,12 +112,6 @@ module _ {F : Type 0} (machine : Machine F) (g : ℕ) where
         → Contains ready h ⊎ Sleeps machine m.state m.waiting h
     by_cases h (inl c) = inl (more h c)
     by_cases h (inr sleeps) = inr sleeps
-
-  pub keeps_if : {X E : Type 0} (o : Result X E) (p q r : Point F) → Keeps machine g p q
-      → IfOk o (λ x. Keeps machine g q r)
-      → IfOk o (λ x. Keeps machine g p r)
-  keeps_if (Ok x) p q r a b = keeps_on p q r a b
-  keeps_if (Err e) p q r a b = tt
 
   -- after its turn the goroutine is ready, or sleeps
   pub passes : (p q : Point F) → Keeps machine g p q → Contains q.ready g ⊎ Sleeps machine q.state q.waiting g
@@ -185,46 +179,33 @@ module _ {F : Type 0} (machine : Machine F) (g : ℕ) where
             (λ n is c. subst (λ l. Contains l h) (sym (others n (not n is))) c)
             sleeps)
 
-  -- the same, where the state is known to be another's
-  pub keeps_steps : (limits : Limits) (p q : Point F) (at_most : ℕ) (turned : Turned) (t : State F) → q.state ≡ t
-      → p.state.ended ≡ None → Turns machine limits p.state t g at_most turned
-      → ((h : ℕ) → Contains p.ready h → Contains q.ready h)
-      → ((h : ℕ) → length p.state.goroutines ≤ h → h < length t.goroutines → Contains q.ready h)
-      → ((n h : ℕ) → operated turned.stop ≡ Some n → Contains (p.waiting n) h → Contains q.ready h)
-      → ((n : ℕ) → (operated turned.stop ≡ Some n → ⊥) → q.waiting n ≡ p.waiting n)
-      → Keeps machine g p q
-  keeps_steps limits p q at_most turned t is running turns stay fresh woken others =
-      keeps_turn limits p q at_most turned running
-      (subst (λ v. Turns machine limits p.state v g at_most turned) (sym is) turns) stay
-      (λ h past lt. fresh h past (omega (arith, lt, ap (λ v. length v.goroutines) is))) woken others
-
 -- ---- meetings
 
-neither : (pick : Pick) (r t g h k : ℕ) → pick ≡ Meet r t → AreMet pick g h → (k ≡ g → ⊥) → (k ≡ h → ⊥)
-    → (k ≡ r) ⊎ (k ≡ t) → ⊥
-neither pick r t g h k is met a b either = by_cases (subst (λ p. AreMet p g h) is met) either where
-  by_cases : ((r ≡ g) × (t ≡ h)) ⊎ ((r ≡ h) × (t ≡ g)) → (k ≡ r) ⊎ (k ≡ t) → ⊥
-  by_cases (inl p) (inl e) = a (e ∙ p.0)
-  by_cases (inl p) (inr e) = b (e ∙ p.1)
-  by_cases (inr p) (inl e) = b (e ∙ p.0)
-  by_cases (inr p) (inr e) = a (e ∙ p.1)
+neither : (met : ℕ × ℕ) (g h k : ℕ) → AreMet met g h → (k ≡ g → ⊥) → (k ≡ h → ⊥) → (k ≡ met.0) ⊎ (k ≡ met.1) → ⊥
+neither met g h k (inl p) a b (inl e) = a (e ∙ p.0)
+neither met g h k (inl p) a b (inr e) = b (e ∙ p.1)
+neither met g h k (inr p) a b (inl e) = b (e ∙ p.0)
+neither met g h k (inr p) a b (inr e) = a (e ∙ p.1)
 
 same_memory : (m k : Memory) (n : ℕ) → k ≡ m → SameAt m k n
 same_memory m k n e channel is = subst (λ v. channel_at v n ≡ Some channel) (sym e) is
 
 module _ {F : Type 0} (machine : Machine F) (limits : Limits) where
   -- one that waits as the last of its list has met the goroutine, and is ready
-  pub keeps_meeting : (g partner channel r t : ℕ) (p q : Point F) (rest : List ℕ) → p.state.ended ≡ None
-      → Met limits r t p.state q.state → AreMet (Meet r t) g partner
+  pub keeps_meeting : (g partner channel : ℕ) (met : ℕ × ℕ) (p q : Point F) (rest : List ℕ) → p.state.ended ≡ None
+      → step_by machine p.state (Meet met.0 met.1) ≡ Some q.state → AreMet met g partner
       → q.ready ≡ p.ready ++ partner ∷ [] → p.waiting channel ≡ rest ++ partner ∷ [] → q.waiting channel ≡ rest
       → ((n : ℕ) → (n ≡ channel → ⊥) → q.waiting n ≡ p.waiting n)
       → Keeps machine g p q
-  keeps_meeting g partner channel r t p q rest running met both ready was now others = record {
-    longer = met.spares.longer;
+  keeps_meeting g partner channel met p q rest running step both ready was now others = record {
+    longer = is.spares.longer;
     ready = λ h c. subst (λ l. Contains l h) (sym ready) (Contains-append_left p.ready (partner ∷ []) h c);
     sleeps = λ h other lt sleeps. asleep h other lt sleeps (cases_eq h partner);
-    fresh = λ h past lt. absurd (omega (arith, past, lt, met.count));
+    fresh = λ h past lt. absurd (omega (arith, past, lt, is.count));
   } where
+    is : Met limits met.0 met.1 p.state q.state
+    is = meeting_is machine limits p.state met.0 met.1 q.state step
+
     stays : (h : ℕ) → (h ≡ partner → ⊥) → Contains rest h ⊎ (partner ≡ h) → Contains rest h
     stays h other (inl c) = c
     stays h other (inr e) = absurd (other (sym e))
@@ -243,27 +224,10 @@ module _ {F : Type 0} (machine : Machine F) (limits : Limits) where
         (Contains-push p.ready partner)))
     asleep h other lt sleeps (inr apart) =
         inr (sleeps_on machine p.state q.state h p.waiting q.waiting running
-        (met.spares.same h (neither (Meet r t) r t g partner h refl both other apart) lt)
-        (λ n is. same_memory p.state.memory q.state.memory n met.memory)
-        (λ n is c. lists h n apart (cases_eq n channel) c)
+        (is.spares.same h (neither met g partner h both other apart) lt)
+        (λ n at. same_memory p.state.memory q.state.memory n is.memory)
+        (λ n at c. lists h n apart (cases_eq n channel) c)
         sleeps)
-
-  -- the same, by the pick that was tried
-  pub keeps_pick : (g partner channel : ℕ) (pick : Pick) (p q : Point F) (u : State F) (m n : ℕ) (rest : List ℕ)
-      (met : Bool)
-      → p.state.ended ≡ None → AreMet pick g partner → met ≡ true → Tries machine (Ok met) p.state u m n pick
-      → q.state ≡ u
-      → q.ready ≡ p.ready ++ partner ∷ [] → p.waiting channel ≡ rest ++ partner ∷ [] → q.waiting channel ≡ rest
-      → ((n : ℕ) → (n ≡ channel → ⊥) → q.waiting n ≡ p.waiting n)
-      → Keeps machine g p q
-  keeps_pick g partner channel (One k) p q u m n rest met running both is tried state ready was now others = absurd both
-  keeps_pick g partner channel (Meet r t) p q u m n rest met running both is tried state ready was now others =
-      let took : Tries machine (Ok true) p.state u m n (Meet r t) =
-      subst (λ b. Tries machine (Ok b) p.state u m n (Meet r t)) is tried in
-      keeps_meeting g partner channel r t p q rest running
-      (meeting_is machine limits p.state r t q.state (subst (λ v. step_by machine p.state (Meet r t) ≡ Some v)
-      (sym state) took.0))
-      both ready was now others
 
   -- two that met are ready
   pub watches_meeting : (r t : ℕ) (s u : State F) (ready more : List ℕ) (waiting : ℕ → List ℕ) → s.ended ≡ None
@@ -276,7 +240,7 @@ module _ {F : Type 0} (machine : Machine F) (limits : Limits) where
         later a b (inl c) = inl (subst (λ l. Contains l h) (sym is) (Contains-append_left ready (r ∷ t ∷ []) h c))
         later a b (inr sleeps) =
             inr (sleeps_on machine s u h waiting waiting running
-            (met.spares.same h (neither (Meet r t) r t r t h refl (inl (refl, refl)) a b) (omega
+            (met.spares.same h (neither (r, t) r t h (inl (refl, refl)) a b) (omega
             (arith, lt, met.count)))
             (λ n is. same_memory s.memory u.memory n met.memory)
             (λ n is c. c)

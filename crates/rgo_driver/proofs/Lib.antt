@@ -1,8 +1,11 @@
 pub mod Composed
+pub mod Found
 pub mod Given
 pub mod Keepers
+pub mod Left
 pub mod Others
 pub mod Played
 pub mod Printing
 pub mod Rounded
 pub mod Sleepers
+pub mod Taken

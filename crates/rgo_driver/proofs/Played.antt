@@ -1,7 +1,7 @@
 -- Turns and rounds, with what went out, one after the other.
 use Rattle.std.proofs.Common.{◌≡◌, ◌+◌, ◌⊎◌, inl, inr, ℕ, List, [], ◌∷◌, ◌++◌, length, take}
 use Rattle.std.proofs.Common.{Contains}
-use Rattle.std.proofs.Common.{Option, Some, Result, Ok, Err, MatchResult, OnOk, IsErrOf, refl, ap, sym, subst}
+use Rattle.std.proofs.Common.{Option, Some, Result, Ok, Err, MatchResult, IsErrOf, refl, ap, sym, subst}
 use Rattle.std.proofs.Common.{◌∙◌, arith}
 use Rattle.std.proofs.Common.{append_assoc, append-nil, length-append}
 use Rattle.std.proofs.lemmas.List.{take_all}
@@ -16,14 +16,18 @@ use Rattle.rgo_machine.specs.Limits.{LeadsWithin, limited_step}
 use Rattle.rgo_machine.specs.Machines.{Machine, State}
 use Rattle.rgo_driver.specs.declared.ends.RunEnd.{RunEnd}
 use Rattle.rgo_driver.specs.declared.ends.RunEnd.TheVariants as run_end
-use Rattle.rgo_driver.specs.Playing.{with_print, IsReady, Plays, Breaks}
-use Rattle.rgo_driver.specs.Points.{Point}
+use Rattle.rgo_driver.specs.declared.drivers.Driver.{Driver}
+use Rattle.rgo_driver.specs.Playing.{with_print, Plays, Breaks, PlaysTo}
+use Rattle.rgo_driver.specs.Points.{Point, point_of}
 use Rattle.rgo_driver.specs.Probing.{MeetsAny}
 use Rattle.rgo_driver.specs.Rounds.{IsOf, FitsTurn, IsTurn, AreTurns, IsBegunRound, all_of}
-use Rattle.rgo_driver.specs.Runs.{Ends, Gives, AppendsSome}
-use Rattle.rgo_driver.specs.Sleeping.{Sleeps, Watches, Passes}
-use Rattle.rgo_driver.specs.Turning.{Counts, GoesOn, Stopped, Turned}
+use Rattle.rgo_driver.specs.Running.{View, GoesOn, Clears}
+use Rattle.rgo_driver.specs.Runs.{Ends, Gives, AppendsSome, IsReady, IsLeft}
+use Rattle.rgo_driver.specs.Sleeping.{Sleeps, Watches}
+use Rattle.rgo_driver.specs.Taking.{StopsAt, TurnsTo}
+use Rattle.rgo_driver.specs.Turning.{Counts, Stopped, Turned}
 use Rattle.rgo_driver.proofs.Keepers.{watches_printed}
+use Rattle.rgo_driver.proofs.Left.{Lawful, left_at, left_printed, left_cleared, left_unwritten, all_given}
 use Rattle.rgo_machine.proofs.Runs.{joined}
 use Rattle.rgo_machine.proofs.Printing.{with_before, prefixed}
 use Rattle.rgo_driver.proofs.Printing.{no_step}
@@ -37,6 +41,7 @@ gives_whole run_end.Deadlock bytes old new h = h
 gives_whole run_end.CallsTooDeep bytes old new h = h
 gives_whole run_end.StepsSpent bytes old new h = h
 gives_whole run_end.GoroutinesSpent bytes old new h = h
+gives_whole (run_end.NoRoom shortage) bytes old new h = h
 gives_whole run_end.WriteFault bytes old new h =
     (length bytes, subst (Appends old new) (sym (take_all (length bytes) bytes (omega arith))) h)
 gives_whole run_end.NoMemory bytes old new h = h
@@ -51,6 +56,7 @@ module _ (before bytes : List ℕ) (a b c : Option (List ℕ)) (first : Appends 
   gives_behind run_end.CallsTooDeep h = both h
   gives_behind run_end.StepsSpent h = both h
   gives_behind run_end.GoroutinesSpent h = both h
+  gives_behind (run_end.NoRoom shortage) h = both h
   gives_behind run_end.WriteFault h = (
     length before + h.0,
     subst (Appends a c) (sym (take-append-add before bytes h.0)) (Appends-trans a b c before
@@ -62,10 +68,6 @@ pub nil_parts : {X : Type 0} (a b : List X) → a ++ b ≡ [] → (a ≡ []) × 
 nil_parts [] b e = (refl, e)
 nil_parts (x ∷ a) b e = cc
 
-pub on_ok : {X E : Type 0} → (A B : Type 0) (o : Result X E) → OnOk o (A → B) → A → OnOk o B
-on_ok A B (Ok x) f a = f a
-on_ok A B (Err e) f a = tt
-
 abbrev or_error : RunEnd → Result (Unit {0}) RunEnd → RunEnd
 or_error end (Ok x) = end
 or_error end (Err e) = e
@@ -74,14 +76,15 @@ pub error_is : (e f : RunEnd) (r q : Result (Unit {0}) RunEnd) → r ≡ Err e �
 error_is e f r q a b same = ap (or_error e) (sym a ∙ same ∙ b)
 
 -- a meeting that was looked for ends with no fault
-pub meets_no_fault : {F : Type 0} (machine : Machine F) (s t : State F) (m n : ℕ) (o : Result (Unit {0}) RunEnd)
-    → MeetsAny machine o s t m n → IsErrOf o run_end.WriteFault → ⊥
-meets_no_fault machine s t m n (Ok x) met is = cc
-meets_no_fault machine s t m n (Err end) (inl none) is =
-    let both : run_end.Deadlock ≡ run_end.WriteFault = sym none.0 ∙ ap (or_error end) is in
+pub meets_no_fault : {F C : Type 0} (run : View F C) (machine : Machine F) (given : List ℕ) (s : State F)
+    (d e : Driver) (o : Result (Unit {0}) RunEnd)
+    → MeetsAny run machine given s o d e → IsErrOf o run_end.WriteFault → ⊥
+meets_no_fault run machine given s d e (Ok x) met is = cc
+meets_no_fault run machine given s d e (Err end) (inl none) is =
+    let both : run_end.Deadlock ≡ run_end.WriteFault = sym none.is ∙ ap (or_error end) is in
     cc
-meets_no_fault machine s t m n (Err end) (inr none) is =
-    let both : run_end.NoMemory ≡ run_end.WriteFault = sym none ∙ ap (or_error end) is in
+meets_no_fault run machine given s d e (Err end) (inr none) is =
+    let both : run_end.NoMemory ≡ run_end.WriteFault = sym none.is ∙ ap (or_error end) is in
     cc
 
 pub all_more : (rounds : List (List Pick)) (picks : List Pick)
@@ -165,6 +168,7 @@ module _ {F : Type 0} (machine : Machine F) (limits : Limits) where
       starts = h.1.starts;
     },
   )
+  ends_after b n s print (run_end.NoRoom shortage) h = h
   ends_after b n s print run_end.WriteFault h = h
   ends_after b n s print run_end.NoMemory h = h
 
@@ -251,10 +255,9 @@ module _ {F : Type 0} (machine : Machine F) (limits : Limits) where
   -- the state after it, with its print gone
   pub played : (g : ℕ) (p q r : Point F) (a b : Option (List ℕ)) → p.state.printed ≡ [] → Turned machine limits g p q
       → r.state ≡ with_print q.state [] → r.steps ≡ q.steps → Appends a b q.state.printed
-      → Plays machine limits g p r a b
+      → Plays machine limits g p r q.state.printed a b
   played g p q r a b silent h cleared steps given = record {
     picks = h.picks;
-    bytes = q.state.printed;
     turn = λ before.
         subst (λ v. IsTurn machine limits (with_print p.state before) g h.picks (with_print v
         (before ++ q.state.printed)))
@@ -269,59 +272,84 @@ module _ {F : Type 0} (machine : Machine F) (limits : Limits) where
     silent = refl;
   })
 
-  breaks_so : (g : ℕ) (s t : State F) (picks : List Pick) (end : RunEnd) (a b : Option (List ℕ)) → s.printed ≡ []
+  breaks_so : {C : Type 0} (run : View F C) (g : ℕ) (given out : List ℕ) (s t : State F) (picks : List Pick)
+      (end : RunEnd) (a b : Option (List ℕ))
+      → s.printed ≡ []
       → FitsTurn machine limits s g picks t → ((before steps : ℕ) → Ends machine limits before steps t end)
-      → Gives end t.printed a b → Breaks machine limits s end a b
-  breaks_so g s t picks end a b silent fits ends given = record {
+      → Gives end t.printed a b → given ++ t.printed ≡ out ++ run.print
+      → IsLeft run machine out (with_print t run.print) end
+      → Breaks machine limits run given s end a b
+  breaks_so run g given out s t picks end a b silent fits ends gave whole left = record {
     picks = picks;
     bytes = t.printed;
     state = t;
     begun = λ before. begun_turn (with_print s before) (with_print t (before ++ t.printed)) g picks
         (fits_after s t g picks before silent fits);
     ends = λ print before steps. ends_after before steps t print end (ends before steps);
-    gives = given;
+    gives = gave;
+    before = out;
+    whole = whole;
+    left = left;
   }
 
-  pub breaks_stopped : (g : ℕ) (s t : State F) (end : RunEnd) (a b : Option (List ℕ)) → s.printed ≡ []
-      → Stopped machine limits g s t 1000 end → Appends a b t.printed → Breaks machine limits s end a b
-  breaks_stopped g s t end a b silent h given =
-      breaks_so g s t h.picks end a b silent (record { leads = h.leads; short = h.short; own = h.own }) h.ends
-      (gives_whole end t.printed a b given)
+  fits_stopped : (g : ℕ) (s t : State F) (end : RunEnd) → (h : Stopped machine limits g s t 1000 end)
+      → FitsTurn machine limits s g h.picks t
+  fits_stopped g s t end h = record { leads = h.leads; short = h.short; own = h.own }
+
+  -- ---- what is made of a run under way
 
   -- a write failed, whether the run goes on or not
-  pub breaks_fault : (g : ℕ) (p q : Point F) (r : Result (Unit {0}) RunEnd) (a b : Option (List ℕ))
-      → p.state.printed ≡ []
-      → MatchResult r (λ _. Turned machine limits g p q) (λ end. Stopped machine limits g p.state q.state 1000 end)
-      → AppendsSome a b q.state.printed → Breaks machine limits p.state run_end.WriteFault a b
-  breaks_fault g p q (Ok x) a b silent h given =
-      breaks_so g p.state q.state h.picks run_end.WriteFault a b silent h.turn.fits (λ before steps. tt) given
-  breaks_fault g p q (Err end) a b silent h given =
-      breaks_so g p.state q.state h.picks run_end.WriteFault a b silent
-      (record { leads = h.leads; short = h.short; own = h.own }) (λ before steps. tt) given
+  pub breaks_fault : {C : Type 0} (run : View F C) (g : ℕ) (given : List ℕ) (s : State F) (d e : Driver)
+      (o : Result (Unit {0}) RunEnd) (a b : Option (List ℕ))
+      → Lawful run → s.printed ≡ []
+      → MatchResult o (λ _. TurnsTo run machine limits g given s d e) (StopsAt run machine limits g given s 1000)
+      → AppendsSome a b run.print → Breaks machine limits run given s run_end.WriteFault a b
+  breaks_fault run g given s d e (Ok x) a b lawful silent h gave =
+      let t = h.state in
+      let print = lawful.prints given t h.at.shown in
+      breaks_so run g given given s t h.turned.picks run_end.WriteFault a b silent h.turned.turn.fits
+      (λ before steps. tt) (subst (AppendsSome a b) (sym print) gave) (ap (λ l. given ++ l) print)
+      (left_printed run machine given t run_end.WriteFault print
+      (left_at run machine given t run_end.WriteFault lawful h.at (λ shortage is. cc)))
+  breaks_fault run g given s d e (Err end) a b lawful silent h gave =
+      let t = h.state in
+      breaks_so run g given given s t h.stopped.picks run_end.WriteFault a b silent
+      (fits_stopped g s t end h.stopped) (λ before steps. tt) (subst (AppendsSome a b) (sym h.print) gave)
+      (ap (λ l. given ++ l) h.print)
+      (left_printed run machine given t run_end.WriteFault h.print (left_unwritten run machine given t end h.left))
 
-  -- all that a turn printed went out
-  pub settled : (g : ℕ) (p q r : Point F) (o : Result (Unit {0}) RunEnd) (a b : Option (List ℕ)) → p.state.printed ≡ []
-      → MatchResult o (λ _. Turned machine limits g p q) (λ end. Stopped machine limits g p.state q.state 1000 end)
-      → r.state ≡ with_print q.state [] → r.steps ≡ q.steps → Appends a b q.state.printed
-      → MatchResult o (λ _. Plays machine limits g p r a b) (λ end. Breaks machine limits p.state end a b)
-  settled g p q r (Ok x) a b silent h cleared steps given = played g p q r a b silent h cleared steps given
-  settled g p q r (Err end) a b silent h cleared steps given = breaks_stopped g p.state q.state end a b silent h given
+  -- all that a turn printed went out, and its print was cleared
+  pub settled : {C : Type 0} (old run : View F C) (g : ℕ) (given : List ℕ) (s : State F) (d e : Driver)
+      (o : Result (Unit {0}) RunEnd) (a b : Option (List ℕ))
+      → Lawful old → s.printed ≡ []
+      → MatchResult o (λ _. TurnsTo old machine limits g given s d e) (StopsAt old machine limits g given s 1000)
+      → Clears old run → Appends a b old.print
+      → MatchResult o (λ _. PlaysTo run machine limits given s d e g a b)
+      (λ end. Breaks machine limits run given s end a b)
+  settled old run g given s d e (Ok x) a b lawful silent h cleared gave =
+      let t = h.state in
+      let q = point_of t e in
+      let r = point_of (with_print t []) e in
+      record {
+        state = with_print t [];
+        bytes = t.printed;
+        at = record { is = cleared.machine ∙ h.at.is; shown = cleared.shows given t h.at.shown };
+        ready = ready_after t (with_print t []) h.turned.on refl;
+        plays = played g (point_of s d) q r a b silent h.turned refl refl
+            (subst (Appends a b) (sym (lawful.prints given t h.at.shown)) gave);
+        passes = λ rest watches. passes_printed q r [] rest refl refl (λ n. refl) (h.passes rest watches);
+      }
+  settled old run g given s d e (Err end) a b lawful silent h cleared gave =
+      let t = h.state in
+      breaks_so run g given (given ++ t.printed) s t h.stopped.picks end a b silent
+      (fits_stopped g s t end h.stopped) h.stopped.ends
+      (gives_whole end t.printed a b (subst (Appends a b) (sym h.print) gave))
+      (all_given (given ++ t.printed) run.print cleared.print)
+      (left_cleared old run machine given t end cleared h.left)
 
-  pub ready_if : (g : ℕ) (p q : Point F) (u : State F) (o : Result (Unit {0}) RunEnd)
-      → MatchResult o (λ _. Turned machine limits g p q) (λ end. Stopped machine limits g p.state q.state 1000 end)
-      → u ≡ with_print q.state [] → OnOk o (IsReady limits u)
-  ready_if g p q u (Ok x) h cleared = ready_after q.state u h.on cleared
-  ready_if g p q u (Err end) h cleared = tt
-
-  pub passes_if : (g : ℕ) (p q r : Point F) (o : Result (Unit {0}) RunEnd) → OnOk o (Passes machine g p q)
-      → r.state ≡ with_print q.state [] → r.ready ≡ q.ready → ((n : ℕ) → r.waiting n ≡ q.waiting n)
-      → OnOk o (Passes machine g p r)
-  passes_if g p q r (Ok x) h cleared ready waiting = λ rest watches.
-      passes_printed q r [] rest cleared ready waiting (h rest watches)
-  passes_if g p q r (Err end) h cleared ready waiting = tt
-
-  pub no_fault_if : (g : ℕ) (p q : Point F) (o : Result (Unit {0}) RunEnd)
-      → MatchResult o (λ _. Turned machine limits g p q) (λ end. Stopped machine limits g p.state q.state 1000 end)
+  pub no_fault_if : {C : Type 0} (run : View F C) (g : ℕ) (given : List ℕ) (s : State F) (d e : Driver)
+      (o : Result (Unit {0}) RunEnd)
+      → MatchResult o (λ _. TurnsTo run machine limits g given s d e) (StopsAt run machine limits g given s 1000)
       → IsErrOf o run_end.WriteFault → ⊥
-  no_fault_if g p q (Ok x) h is = cc
-  no_fault_if g p q (Err end) h is = h.no_fault (ap (or_error end) is)
+  no_fault_if run g given s d e (Ok x) h is = cc
+  no_fault_if run g given s d e (Err end) h is = h.stopped.no_fault (ap (or_error end) is)

@@ -15,19 +15,23 @@ use Rattle.rgo_machine.specs.declared.picks.Pick.TheVariants.{One, Meet}
 use Rattle.rgo_machine.specs.Limits.{LeadsWithin, limited_step}
 use Rattle.rgo_machine.specs.Machines.{Machine, State, step_by}
 use Rattle.rgo_machine.specs.Runs.{IsBlocked}
+use Rattle.std.specs.Prelude.{min}
 use Rattle.rgo_driver.specs.declared.ends.RunEnd.{RunEnd}
 use Rattle.rgo_driver.specs.declared.ends.RunEnd.TheVariants as run_end
-use Rattle.rgo_driver.specs.Playing.{with_print, IsReady, IsBetween, Plays, PlaysAll, PlaysRound, Breaks, Finishes}
-use Rattle.rgo_driver.specs.Playing.{Progresses}
-use Rattle.rgo_driver.specs.Points.{Point}
+use Rattle.rgo_driver.specs.declared.drivers.Driver.{Driver}
+use Rattle.rgo_driver.specs.Playing.{with_print, IsBetween, Plays, PlaysAll, PlaysRound, Breaks, Finishes}
+use Rattle.rgo_driver.specs.Playing.{Progresses, PlaysAllTo, PlaysRoundTo}
+use Rattle.rgo_driver.specs.Points.{Point, point_of}
 use Rattle.rgo_driver.specs.Probing.{MeetsAny}
 use Rattle.rgo_machine.specs.Meetings.{IsUnmet}
 use Rattle.rgo_driver.specs.Rounds.{IsOf, FitsTurn, IsTurn, AreTurns, IsRound, IsBegunRound, AreRounds, all_of}
-use Rattle.rgo_driver.specs.Runs.{Ends, Runs}
+use Rattle.rgo_driver.specs.Running.{View}
+use Rattle.rgo_driver.specs.Runs.{Ends, IsReady, IsLeft, RunsTo}
 use Rattle.rgo_driver.specs.Sleeping.{Sleeps, Watches}
 use Rattle.rgo_driver.specs.Turning.{Counts, CountsUp}
-use Rattle.rgo_driver.proofs.Composed.{counts_none, counts_on}
+use Rattle.rgo_driver.proofs.Composed.{counts_none, counts_on, counts_saturating}
 use Rattle.rgo_driver.proofs.Keepers.{first_or_later}
+use Rattle.rgo_driver.proofs.Left.{Lawful, left_at, left_over, left_printed, all_given}
 use Rattle.std.proofs.lemmas.Option.{same_Some}
 use Rattle.rgo_machine.proofs.Runs.{joined, single, limited}
 use Rattle.rgo_driver.proofs.Others.{meeting_is, beyond}
@@ -39,10 +43,9 @@ module _ {F : Type 0} (machine : Machine F) (limits : Limits) where
   -- ---- turns, and what they printed
 
   pub plays_none : (p q : Point F) (a : Option (List ℕ)) → q.state ≡ p.state → q.steps ≡ p.steps
-      → p.state.printed ≡ [] → PlaysAll machine limits [] p q a a
+      → p.state.printed ≡ [] → PlaysAll machine limits [] p q [] a a
   plays_none p q a state steps silent = record {
     picks = [];
-    bytes = [];
     turns = λ before. (
       refl,
       ap (λ v. with_print v (before ++ [])) state
@@ -52,44 +55,47 @@ module _ {F : Type 0} (machine : Machine F) (limits : Limits) where
     gave = Appends-nil a;
   }
 
-  pub plays_more : (order : List ℕ) (g : ℕ) (p q r : Point F) (a b c : Option (List ℕ))
-      → PlaysAll machine limits order p q a b → Plays machine limits g q r b c
-      → PlaysAll machine limits (order ++ g ∷ []) p r a c
-  plays_more order g p q r a b c h k =
+  pub plays_more : (order : List ℕ) (g : ℕ) (p q r : Point F) (out bytes : List ℕ) (a b c : Option (List ℕ))
+      → PlaysAll machine limits order p q out a b → Plays machine limits g q r bytes b c
+      → PlaysAll machine limits (order ++ g ∷ []) p r (out ++ bytes) a c
+  plays_more order g p q r out bytes a b c h k =
       let long = length-append h.picks k.picks in
       record {
         picks = h.picks ++ k.picks;
-        bytes = h.bytes ++ k.bytes;
         turns = λ before.
-            let there = with_print q.state (before ++ h.bytes) in
-            let behind = with_print r.state ((before ++ h.bytes) ++ k.bytes) in
+            let there = with_print q.state (before ++ out) in
+            let behind = with_print r.state ((before ++ out) ++ bytes) in
             subst (λ l. AreTurns machine limits (with_print p.state before) (order ++ g ∷ []) (h.picks ++ k.picks)
             (with_print r.state l))
-            (append_assoc before h.bytes k.bytes)
+            (append_assoc before out bytes)
             (turns_on machine limits (with_print p.state before) there behind order (g ∷ []) h.picks k.picks
             (h.turns before)
-            (one_turn machine limits there behind g k.picks (k.turn (before ++ h.bytes))));
+            (one_turn machine limits there behind g k.picks (k.turn (before ++ out))));
         counted = subst (λ n. CountsUp p.steps n r.steps) (sym long)
             (counts_on p.steps q.steps r.steps (length h.picks) (length k.picks) h.counted k.counted);
-        gave = Appends-trans a b c h.bytes k.bytes h.gave k.gave;
+        gave = Appends-trans a b c out bytes h.gave k.gave;
       }
 
-  pub breaks_on : (order : List ℕ) (end : RunEnd) (p q : Point F) (a b c : Option (List ℕ))
-      → PlaysAll machine limits order p q a b
-      → Breaks machine limits q.state end b c → Breaks machine limits p.state end a c
-  breaks_on order end p q a b c h k = record {
+  pub breaks_on : {C : Type 0} (run : View F C) (order : List ℕ) (end : RunEnd) (given : List ℕ) (p q : Point F)
+      (out : List ℕ) (a b c : Option (List ℕ))
+      → PlaysAll machine limits order p q out a b
+      → Breaks machine limits run (given ++ out) q.state end b c → Breaks machine limits run given p.state end a c
+  breaks_on run order end given p q out a b c h k = record {
     picks = h.picks ++ k.picks;
-    bytes = h.bytes ++ k.bytes;
+    bytes = out ++ k.bytes;
     state = k.state;
     begun = λ before.
-        let there = with_print q.state (before ++ h.bytes) in
-        let behind = with_print k.state ((before ++ h.bytes) ++ k.bytes) in
+        let there = with_print q.state (before ++ out) in
+        let behind = with_print k.state ((before ++ out) ++ k.bytes) in
         subst (λ l. IsBegunRound machine limits (with_print p.state before) (h.picks ++ k.picks) (with_print k.state l))
-        (append_assoc before h.bytes k.bytes)
+        (append_assoc before out k.bytes)
         (begun_on machine limits (with_print p.state before) there behind order h.picks k.picks (h.turns before)
-        (k.begun (before ++ h.bytes)));
+        (k.begun (before ++ out)));
     ends = k.ends;
-    gives = gives_behind h.bytes k.bytes a b c h.gave end k.gives;
+    gives = gives_behind out k.bytes a b c h.gave end k.gives;
+    before = k.before;
+    whole = sym (append_assoc given out k.bytes) ∙ k.whole;
+    left = k.left;
   }
 
   -- ---- rounds
@@ -105,54 +111,51 @@ module _ {F : Type 0} (machine : Machine F) (limits : Limits) where
     by_cases (inl lt) = watched (watches g lt)
     by_cases (inr past) = absurd (steps (no_step machine s before (One g) (beyond machine s g past)))
 
-  pub plays_round : (p q : Point F) (a b : Option (List ℕ)) → Watches machine p.state p.ready p.waiting
-      → PlaysAll machine limits p.ready p q a b → PlaysRound machine limits p q a b
-  plays_round p q a b watches h = record {
+  -- turns of all that were ready, and maybe of others, are a round
+  pub plays_round : (p q : Point F) (order out : List ℕ) (a b : Option (List ℕ))
+      → Watches machine p.state p.ready p.waiting
+      → ((g : ℕ) → Contains p.ready g → Contains order g) → PlaysAll machine limits order p q out a b
+      → PlaysRound machine limits p q out a b
+  plays_round p q order out a b watches all h = record {
     picks = h.picks;
-    bytes = h.bytes;
     round = λ before. record {
-      order = p.ready;
+      order = order;
       turns = h.turns before;
-      fair = fair p.state p.ready p.waiting before watches;
+      fair = λ g steps. all g (fair p.state p.ready p.waiting before watches g steps);
     };
     counted = h.counted;
     gave = h.gave;
   }
 
   -- two that met, as the turn of the receiver
-  pub plays_meeting : (r t : ℕ) (p q u : Point F) (a b : Option (List ℕ)) → Watches machine p.state p.ready p.waiting
-      → PlaysAll machine limits p.ready p q a b → IsReady limits q.state
-      → step_by machine q.state (Meet r t) ≡ Some u.state
-      → CountsUp q.steps 1 u.steps → PlaysRound machine limits p u a b
-  plays_meeting r t p q u a b watches h ready step counted =
-      let pick = Meet r t in
-      let met = meeting_is machine limits q.state r t u.state step in
+  pub plays_meeting : (met : ℕ × ℕ) (order : List ℕ) (p q u : Point F) (out : List ℕ) (a b : Option (List ℕ))
+      → PlaysAll machine limits order p q out a b → IsReady limits q.state
+      → step_by machine q.state (Meet met.0 met.1) ≡ Some u.state
+      → CountsUp q.steps 1 u.steps → PlaysAll machine limits (order ++ met.0 ∷ []) p u out a b
+  plays_meeting met order p q u out a b h ready step counted =
+      let r = met.0 in
+      let pick = Meet r met.1 in
+      let is = meeting_is machine limits q.state r met.1 u.state step in
       let fits : FitsTurn machine limits q.state r (pick ∷ []) u.state = record {
         leads = single (limited_step machine limits) q.state u.state pick
-            (limited machine limits q.state u.state pick step (met.within ready.on.within));
+            (limited machine limits q.state u.state pick step (is.within ready.on.within));
         short = omega arith;
         own = All-push (IsOf r) [] pick (All-nil (IsOf r)) (inl refl);
       } in
       let turn : IsTurn machine limits q.state r (pick ∷ []) u.state = record { fits = fits; plays = λ none. cc } in
       record {
         picks = h.picks ++ pick ∷ [];
-        bytes = h.bytes;
-        round = λ before.
-            let there = with_print q.state (before ++ h.bytes) in
-            let behind = with_print u.state (before ++ h.bytes) in
-            let silent : (before ++ h.bytes) ++ u.state.printed ≡ before ++ h.bytes =
-            ap (λ l. (before ++ h.bytes) ++ l) (met.printed ∙ ready.silent) ∙ append-nil (before ++ h.bytes) in
+        turns = λ before.
+            let there = with_print q.state (before ++ out) in
+            let behind = with_print u.state (before ++ out) in
+            let silent : (before ++ out) ++ u.state.printed ≡ before ++ out =
+            ap (λ l. (before ++ out) ++ l) (is.printed ∙ ready.silent) ∙ append-nil (before ++ out) in
             let last : IsTurn machine limits there r (pick ∷ []) behind =
             subst (λ l. IsTurn machine limits there r (pick ∷ []) (with_print u.state l)) silent
-            (turn_after machine limits q.state u.state r (pick ∷ []) (before ++ h.bytes) ready.silent turn) in
-            record {
-              order = p.ready ++ r ∷ [];
-              turns = turns_on machine limits (with_print p.state before) there behind p.ready (r ∷ []) h.picks
-                  (pick ∷ []) (h.turns before)
-                  (one_turn machine limits there behind r (pick ∷ []) last);
-              fair = λ g steps. Contains-append_left p.ready (r ∷ []) g
-                  (fair p.state p.ready p.waiting before watches g steps);
-            };
+            (turn_after machine limits q.state u.state r (pick ∷ []) (before ++ out) ready.silent turn) in
+            turns_on machine limits (with_print p.state before) there behind order (r ∷ []) h.picks
+            (pick ∷ []) (h.turns before)
+            (one_turn machine limits there behind r (pick ∷ []) last);
         counted = subst (λ n. CountsUp p.steps n u.steps) (sym (length-append h.picks (pick ∷ [])))
             (counts_on p.steps q.steps u.steps (length h.picks) 1 h.counted counted);
         gave = h.gave;
@@ -181,26 +184,32 @@ module _ {F : Type 0} (machine : Machine F) (limits : Limits) where
       let sum = counted m (omega (arith, lt)) in
       nil_from_length picks (omega (arith, sum, lt, le))
 
-  pub blocked : (p q : Point F) (a b : Option (List ℕ)) → IsBetween machine limits p
-      → PlaysAll machine limits p.ready p q a b → IsReady limits q.state → q.steps ≤ p.steps
-      → ((g : ℕ) → IsUnmet machine q.state g) → Breaks machine limits p.state run_end.Deadlock a b
-  blocked p q a b between h ready le unmet =
+  pub blocked : {C : Type 0} (run : View F C) (given : List ℕ) (p q : Point F) (out : List ℕ) (a b : Option (List ℕ))
+      → IsBetween machine limits p
+      → PlaysAll machine limits p.ready p q out a b → IsReady limits q.state → q.steps ≤ p.steps
+      → ((g : ℕ) → IsUnmet machine q.state g) → run.print ≡ []
+      → IsLeft run machine (given ++ out) (with_print q.state run.print) run_end.Deadlock
+      → Breaks machine limits run given p.state run_end.Deadlock a b
+  blocked run given p q out a b between h ready le unmet printed left =
       let none = none_counted p.steps q.steps h.picks between.counting le h.counted in
-      let still = idle (with_print p.state []) (with_print q.state ([] ++ h.bytes)) p.ready h.picks (h.turns []) none in
+      let still = idle (with_print p.state []) (with_print q.state ([] ++ out)) p.ready h.picks (h.turns []) none in
       record {
         picks = h.picks;
-        bytes = h.bytes;
+        bytes = out;
         state = q.state;
         begun = λ before. begun_whole machine limits (with_print p.state before) (with_print q.state
-            (before ++ h.bytes)) p.ready h.picks (h.turns before);
+            (before ++ out)) p.ready h.picks (h.turns before);
         ends = λ print before steps. (
           ready.on.running,
           λ pick. no_step machine q.state print pick
               (blocks still.0 still.1 pick),
         );
         gives = h.gave;
+        before = given ++ out;
+        whole = all_given (given ++ out) run.print printed;
+        left = left;
       } where
-        alone : with_print q.state ([] ++ h.bytes) ≡ with_print p.state []
+        alone : with_print q.state ([] ++ out) ≡ with_print p.state []
             → ((g : ℕ) → Contains p.ready g → step_by machine (with_print p.state []) (One g) ≡ None)
             → (g : ℕ) → (g < length p.state.goroutines) ⊎ (length p.state.goroutines ≤ g)
             → step_by machine p.state (One g) ≡ None
@@ -210,89 +219,149 @@ module _ {F : Type 0} (machine : Machine F) (limits : Limits) where
           watched (inr sleeps) = sleeps.still
         alone same still g (inr past) = beyond machine p.state g past
 
-        blocks : with_print q.state ([] ++ h.bytes) ≡ with_print p.state []
+        blocks : with_print q.state ([] ++ out) ≡ with_print p.state []
             → ((g : ℕ) → Contains p.ready g → step_by machine (with_print p.state []) (One g) ≡ None)
             → IsBlocked (step_by machine) q.state
         blocks same still (One g) =
-            no_step_of machine q.state ([] ++ h.bytes) (One g)
+            no_step_of machine q.state ([] ++ out) (One g)
             (ap (λ v. step_by machine v (One g)) same
             ∙ no_step machine p.state [] (One g) (alone same still g (cases_lt g (length p.state.goroutines))))
         blocks same still (Meet r t) = unmet t r
 
   -- there was no memory to go on
-  pub fails : (order : List ℕ) (p q : Point F) (a b : Option (List ℕ)) → PlaysAll machine limits order p q a b
-      → Breaks machine limits p.state run_end.NoMemory a b
-  fails order p q a b h = record {
+  pub fails : {C : Type 0} (run : View F C) (order given : List ℕ) (p q : Point F) (out : List ℕ)
+      (a b : Option (List ℕ))
+      → PlaysAll machine limits order p q out a b → run.print ≡ []
+      → IsLeft run machine (given ++ out) (with_print q.state run.print) run_end.NoMemory
+      → Breaks machine limits run given p.state run_end.NoMemory a b
+  fails run order given p q out a b h printed left = record {
     picks = h.picks;
-    bytes = h.bytes;
+    bytes = out;
     state = q.state;
     begun = λ before. begun_whole machine limits (with_print p.state before) (with_print q.state
-        (before ++ h.bytes)) order h.picks (h.turns before);
+        (before ++ out)) order h.picks (h.turns before);
     ends = λ print before steps. tt;
     gives = h.gave;
+    before = given ++ out;
+    whole = all_given (given ++ out) run.print printed;
+    left = left;
   }
 
-  -- a meeting was looked for
-  pub met_or_ends : (p q u : Point F) (o : Result (Unit {0}) RunEnd) (a b : Option (List ℕ))
-      → IsBetween machine limits p
-      → PlaysAll machine limits p.ready p q a b → IsReady limits q.state → q.steps ≤ p.steps
-      → MeetsAny machine o q.state u.state q.steps u.steps
-      → MatchResult o (λ _. PlaysRound machine limits p u a b) (λ end. Breaks machine limits p.state end a b)
-  met_or_ends p q u (Ok x) a b between h ready le met =
-      plays_meeting met.0.0 met.0.1 p q u a b between.watches h ready met.1.0 met.1.1
-  met_or_ends p q u (Err end) a b between h ready le (inl none) =
-      subst (λ e. Breaks machine limits p.state e a b) (sym none.0) (blocked p q a b between h ready le none.1)
-  met_or_ends p q u (Err end) a b between h ready le (inr is) =
-      subst (λ e. Breaks machine limits p.state e a b) (sym is) (fails p.ready p q a b h)
+  -- ---- a meeting was looked for after turns without a step
 
-  pub met_ready : (o : Result (Unit {0}) RunEnd) (s u : State F) (m n : ℕ) → IsReady limits s
-      → MeetsAny machine o s u m n
-      → OnOk o (IsReady limits u)
-  met_ready (Ok x) s u m n ready met =
-      let is = meeting_is machine limits s met.0.0 met.0.1 u met.1.0 in
+  pub met_or_ends : {C : Type 0} (old run : View F C) (given : List ℕ) (s : State F) (d m e : Driver)
+      (o : Result (Unit {0}) RunEnd) (a b : Option (List ℕ))
+      → Lawful run → IsBetween machine limits (point_of s d)
+      → (all : PlaysAllTo old machine limits given s d m d.ready.items [] a b) → m.steps ≤ d.steps
+      → MeetsAny run machine (given ++ all.bytes) all.state o m e
+      → MatchResult o (λ _. PlaysRoundTo run machine limits given s d e a b)
+      (λ end. Breaks machine limits run given s end a b)
+  met_or_ends old run given s d m e (Ok x) a b lawful between all le two =
+      let p = point_of s d in
+      let u = point_of two.meets.state e in
+      let met = two.met in
+      let is = meeting_is machine limits all.state met.0 met.1 two.meets.state two.meets.step in
       record {
-        on = record { running = is.ended ∙ ready.on.running; within = is.within ready.on.within };
-        silent = is.printed ∙ ready.silent;
+        state = two.meets.state;
+        bytes = all.bytes;
+        at = two.meets.at;
+        ready = record {
+          on = record { running = is.ended ∙ all.ready.on.running; within = is.within all.ready.on.within };
+          silent = is.printed ∙ all.ready.silent;
+        };
+        plays = plays_round p u (d.ready.items ++ met.0 ∷ []) all.bytes a b between.watches
+            (λ g c. Contains-append_left d.ready.items (met.0 ∷ []) g c)
+            (plays_meeting met d.ready.items p (point_of all.state m) u all.bytes a b all.plays all.ready two.meets.step
+            two.meets.counted);
+        watches = two.watches (all.watches between.watches);
       }
-  met_ready (Err end) s u m n ready met = tt
+  met_or_ends old run given s d m e (Err end) a b lawful between all le (inl none) =
+      let out = given ++ all.bytes in
+      let print = lawful.prints out all.state none.at.shown in
+      subst (λ end. Breaks machine limits run given s end a b) (sym none.is)
+      (blocked run given (point_of s d) (point_of all.state m) all.bytes a b between all.plays all.ready le none.unmet
+      (sym print ∙ all.ready.silent)
+      (left_printed run machine out all.state run_end.Deadlock print
+      (left_at run machine out all.state run_end.Deadlock lawful none.at (λ shortage is. cc))))
+  met_or_ends old run given s d m e (Err end) a b lawful between all le (inr late) =
+      subst (λ end. Breaks machine limits run given s end a b) (sym late.is) (by_cases late.step) where
+        left : IsLeft run machine (given ++ all.bytes) (with_print late.state run.print) run_end.NoMemory
+        left = left_printed run machine (given ++ all.bytes) late.state run_end.NoMemory late.left.print
+            (left_over run machine (given ++ all.bytes) late.state late.left)
 
-  pub met_counts : (p q u : Point F) (o : Result (Unit {0}) RunEnd) (a b : Option (List ℕ)) → p.steps < 2 ^ 64 - 1
-      → PlaysAll machine limits p.ready p q a b → q.steps ≤ p.steps → MeetsAny machine o q.state u.state q.steps u.steps
-      → OnOk o (p.steps < u.steps)
-  met_counts p q u (Ok x) a b counting h le met =
-      let none = none_counted p.steps q.steps h.picks counting le h.counted in
-      let before = h.counted p.steps (omega (arith, counting)) in
-      let after = met.1.1 q.steps (omega (arith, counting, le)) in
+        by_cases : (late.state ≡ all.state)
+            ⊎ ((met : ℕ × ℕ) × (step_by machine all.state (Meet met.0 met.1) ≡ Some late.state))
+            → Breaks machine limits run given s run_end.NoMemory a b
+        by_cases (inl same) =
+            fails run d.ready.items given (point_of s d) (point_of all.state m) all.bytes a b all.plays
+            (sym late.left.print ∙ ap (λ t. t.printed) same ∙ all.ready.silent)
+            (subst (λ t. IsLeft run machine (given ++ all.bytes) (with_print t run.print) run_end.NoMemory) same left)
+        by_cases (inr met) =
+            let u : Point F = record {
+              state = late.state;
+              steps = min (m.steps + 1) (2 ^ 64 - 1);
+              ready = [];
+              waiting = λ n. [];
+            } in
+            let is = meeting_is machine limits all.state met.0.0 met.0.1 late.state met.1 in
+            fails run (d.ready.items ++ met.0.0 ∷ []) given (point_of s d) u all.bytes a b
+            (plays_meeting met.0 d.ready.items (point_of s d) (point_of all.state m) u all.bytes a b all.plays all.ready
+            met.1 (counts_saturating m.steps u.steps 1 refl))
+            (sym late.left.print ∙ is.printed ∙ all.ready.silent) left
+
+  pub met_counts : {C : Type 0} (old run : View F C) (given : List ℕ) (s : State F) (d m e : Driver)
+      (o : Result (Unit {0}) RunEnd) (a b : Option (List ℕ))
+      → d.steps < 2 ^ 64 - 1 → (all : PlaysAllTo old machine limits given s d m d.ready.items [] a b)
+      → m.steps ≤ d.steps
+      → MeetsAny run machine (given ++ all.bytes) all.state o m e → OnOk o (d.steps < e.steps)
+  met_counts old run given s d m e (Ok x) a b counting all le two =
+      let none = none_counted d.steps m.steps all.plays.picks counting le all.plays.counted in
+      let before = all.plays.counted d.steps (omega (arith, counting)) in
+      let after = two.meets.counted m.steps (omega (arith, counting, le)) in
       omega (arith, before, after, counting, le, ap (λ l. length l) none)
-  met_counts p q u (Err end) a b counting h le met = tt
+  met_counts old run given s d m e (Err end) a b counting all le met = tt
 
   -- ---- passes
 
-  pub finishes : (s : State F) (m : ℕ) (end : RunEnd) (a b : Option (List ℕ)) → Breaks machine limits s end a b
-      → Finishes machine limits s m end a b
-  finishes s m end a b h = record {
+  pub finishes : {C : Type 0} (run : View F C) (given : List ℕ) (s : State F) (m : ℕ) (end : RunEnd)
+      (a b : Option (List ℕ))
+      → Breaks machine limits run given s end a b → Finishes machine limits run given s m end a b
+  finishes run given s m end a b h = record {
     picks = h.picks;
     bytes = h.bytes;
     state = h.state;
     begun = h.begun;
     ends = λ print taken is early. h.ends print taken (taken + length h.picks);
     gives = h.gives;
+    before = h.before;
+    whole = h.whole;
+    left = h.left;
   }
 
-  pub spent : (p q : Point F) (a b : Option (List ℕ)) → PlaysRound machine limits p q a b → IsReady limits q.state
-      → limits.steps ≤ q.steps → Finishes machine limits p.state p.steps run_end.StepsSpent a b
-  spent p q a b h ready le = record {
-    picks = h.picks;
-    bytes = h.bytes;
-    state = q.state;
-    begun = λ before. begun_whole machine limits (with_print p.state before) (with_print q.state
-        (before ++ h.bytes)) (h.round before).order h.picks
-        (h.round before).turns;
-    ends = λ print taken is early.
-        let sum = h.counted taken is in
-        (ready.on.running, omega (arith, sum, le), early);
-    gives = h.gave;
-  }
+  pub spent : {C : Type 0} (run : View F C) (given : List ℕ) (s : State F) (d e : Driver) (a b : Option (List ℕ))
+      → Lawful run
+      → PlaysRoundTo run machine limits given s d e a b → limits.steps ≤ e.steps
+      → Finishes machine limits run given s d.steps run_end.StepsSpent a b
+  spent run given s d e a b lawful k le =
+      let h = k.plays in
+      let out = given ++ k.bytes in
+      let print = lawful.prints out k.state k.at.shown in
+      record {
+        picks = h.picks;
+        bytes = k.bytes;
+        state = k.state;
+        begun = λ before. begun_whole machine limits (with_print s before) (with_print k.state
+            (before ++ k.bytes)) (h.round before).order h.picks
+            (h.round before).turns;
+        ends = λ print taken is early.
+            let sum = h.counted taken is in
+            (k.ready.on.running, omega (arith, sum, le), early);
+        gives = h.gave;
+        before = out;
+        whole = all_given out run.print (sym print ∙ k.ready.silent);
+        left = left_printed run machine out k.state run_end.StepsSpent print
+            (left_at run machine out k.state run_end.StepsSpent lawful k.at (λ shortage is. cc));
+      }
 
   -- ---- rounds in a row
 
@@ -310,63 +379,78 @@ module _ {F : Type 0} (machine : Machine F) (limits : Limits) where
       (rounds_lead h.0 t rounds h.2)
 
   pub begins : (p : Point F) (a : Option (List ℕ)) → p.state.printed ≡ [] → p.steps ≡ 0
-      → Progresses machine limits p.state p a a
+      → Progresses machine limits p.state p [] a a
   begins p a silent none = record {
     rounds = [];
-    bytes = [];
     went = ap (λ l. with_print p.state l) (sym silent);
     counted = omega (arith, none);
     early = omega arith;
     gave = Appends-nil a;
   }
 
-  pub progresses : (s : State F) (p q : Point F) (a b c : Option (List ℕ)) → Progresses machine limits s p a b
-      → PlaysRound machine limits p q b c → q.steps < limits.steps → q.steps < 2 ^ 64 - 1
-      → Progresses machine limits s q a c
-  progresses s p q a b c h k below counting =
+  pub progresses : (s : State F) (p q : Point F) (out bytes : List ℕ) (a b c : Option (List ℕ))
+      → Progresses machine limits s p out a b
+      → PlaysRound machine limits p q bytes b c → q.steps < limits.steps → q.steps < 2 ^ 64 - 1
+      → Progresses machine limits s q (out ++ bytes) a c
+  progresses s p q out bytes a b c h k below counting =
       let long = all_more h.rounds k.picks in
       let sum = k.counted (length (all_of h.rounds)) h.counted in
       record {
         rounds = h.rounds ++ k.picks ∷ [];
-        bytes = h.bytes ++ k.bytes;
-        went = rounds_on s (with_print p.state h.bytes) (with_print q.state
-            (h.bytes ++ k.bytes)) h.rounds k.picks h.went (k.round h.bytes);
+        went = rounds_on s (with_print p.state out) (with_print q.state
+            (out ++ bytes)) h.rounds k.picks h.went (k.round out);
         counted = omega (arith, long, sum);
         early = omega (arith, long, sum, below, counting);
-        gave = Appends-trans a b c h.bytes k.bytes h.gave k.gave;
+        gave = Appends-trans a b c out bytes h.gave k.gave;
       }
 
-  pub runs : (s : State F) (p : Point F) (end : RunEnd) (a b c : Option (List ℕ)) → Progresses machine limits s p a b
-      → Finishes machine limits p.state p.steps end b c → Runs machine limits s end a c
-  runs s p end a b c h k =
-      let begun = with_print p.state h.bytes in
-      let state = with_print k.state (h.bytes ++ k.bytes) in
+  pub runs : {C : Type 0} (run : View F C) (given : List ℕ) (s : State F) (p : Point F) (end : RunEnd) (out : List ℕ)
+      (a b c : Option (List ℕ))
+      → Progresses machine limits s p out a b
+      → Finishes machine limits run (given ++ out) p.state p.steps end b c
+      → RunsTo run machine limits given s end a c
+  runs run given s p end out a b c h k =
+      let begun = with_print p.state out in
+      let state = with_print k.state (out ++ k.bytes) in
       record {
-        rounds = h.rounds;
-        last = k.picks;
-        begun = begun;
-        state = state;
-        went = h.went;
-        goes = k.begun h.bytes;
-        ran = joined (limited_step machine limits) s begun state (all_of h.rounds) k.picks
-            (rounds_lead s begun h.rounds h.went)
-            (begun_leads machine limits begun state k.picks (k.begun h.bytes));
-        ends = subst (λ n. Ends machine limits (length (all_of h.rounds)) n state end)
-            (sym (length-append (all_of h.rounds) k.picks))
-            (k.ends (h.bytes ++ k.bytes) (length (all_of h.rounds)) h.counted h.early);
-        gives = gives_behind h.bytes k.bytes a b c h.gave end k.gives;
+        runs = record {
+          rounds = h.rounds;
+          last = k.picks;
+          begun = begun;
+          state = state;
+          went = h.went;
+          goes = k.begun out;
+          ran = joined (limited_step machine limits) s begun state (all_of h.rounds) k.picks
+              (rounds_lead s begun h.rounds h.went)
+              (begun_leads machine limits begun state k.picks (k.begun out));
+          ends = subst (λ n. Ends machine limits (length (all_of h.rounds)) n state end)
+              (sym (length-append (all_of h.rounds) k.picks))
+              (k.ends (out ++ k.bytes) (length (all_of h.rounds)) h.counted h.early);
+          gives = gives_behind out k.bytes a b c h.gave end k.gives;
+        };
+        before = k.before;
+        whole = sym (append_assoc given out k.bytes) ∙ k.whole;
+        left = k.left;
       }
 
   -- there was no memory to begin
-  pub none_ran : (s : State F) (a : Option (List ℕ)) → s.printed ≡ [] → Runs machine limits s run_end.NoMemory a a
-  none_ran s a silent = record {
-    rounds = [];
-    last = [];
-    begun = s;
-    state = s;
-    went = refl;
-    goes = begun_turn machine limits s s 0 [] (fits_none machine limits s 0);
-    ran = refl;
-    ends = tt;
-    gives = subst (Appends a a) (sym silent) (Appends-nil a);
+  pub none_ran : {C : Type 0} (run : View F C) (given : List ℕ) (s : State F) (a : Option (List ℕ)) → s.printed ≡ []
+      → s.printed ≡ run.print
+      → IsLeft run machine given (with_print s run.print) run_end.NoMemory
+      → RunsTo run machine limits given s run_end.NoMemory a a
+  none_ran run given s a silent print left = record {
+    runs = record {
+      rounds = [];
+      last = [];
+      begun = s;
+      state = s;
+      went = refl;
+      goes = begun_turn machine limits s s 0 [] (fits_none machine limits s 0);
+      ran = refl;
+      ends = tt;
+      gives = subst (Appends a a) (sym silent) (Appends-nil a);
+    };
+    before = given;
+    whole = ap (λ l. given ++ l) print;
+    left = left;
   }

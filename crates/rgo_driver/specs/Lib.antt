@@ -1,8 +1,11 @@
 pub mod Lines
+pub mod Plain
 pub mod Playing
 pub mod Points
 pub mod Probing
 pub mod Rounds
+pub mod Running
 pub mod Runs
 pub mod Sleeping
+pub mod Taking
 pub mod Turning

@@ -1,25 +1,22 @@
 -- What happens in rounds, with what goes out. Everything is said whatever was printed before.
-use Rattle.std.specs.Prelude.{◌≡◌, ◌<◌, ℕ, ◌+◌, ◌-◌, ◌^◌, min, max, List, [], ◌++◌, length, Option}
+use Rattle.std.specs.Prelude.{◌≡◌, ◌<◌, ℕ, ◌+◌, ◌-◌, ◌^◌, min, max, List, ◌++◌, length, Option}
 use Rattle.std.specs.Io.KnownBytes.{Appends}
 use Rattle.rgo_machine.specs.declared.limits.Limits.{Limits}
 use Rattle.rgo_machine.specs.declared.picks.Pick.{Pick}
 use Rattle.rgo_machine.specs.Machines.{Machine, State}
 use Rattle.rgo_driver.specs.declared.ends.RunEnd.{RunEnd}
-use Rattle.rgo_driver.specs.Points.{Point}
+use Rattle.rgo_driver.specs.declared.drivers.Driver.{Driver}
+use Rattle.rgo_driver.specs.Points.{Point, listed, point_of}
 use Rattle.rgo_driver.specs.Rounds.{IsTurn, AreTurns, IsRound, IsBegunRound, AreRounds, all_of}
-use Rattle.rgo_driver.specs.Runs.{Ends, Gives}
-use Rattle.rgo_driver.specs.Sleeping.{Watches}
-use Rattle.rgo_driver.specs.Turning.{Counts, GoesOn}
+use Rattle.rgo_driver.specs.Running.{View, IsAt}
+use Rattle.rgo_driver.specs.Runs.{Ends, Gives, IsReady, IsLeft}
+use Rattle.rgo_driver.specs.Sleeping.{Watches, Passes}
+use Rattle.rgo_driver.specs.Turning.{Counts}
 
 module _ {F : Type 0} where
   -- the state with this print
   abbrev pub with_print : State F → List ℕ → State F
   with_print s bytes = record s { printed = bytes }
-
--- between turns: the run goes on, and all that was printed went out
-pub record IsReady {F : Type 0} (limits : Limits) (s : State F) : Type 0 where
-  pub on : GoesOn limits s
-  pub silent : s.printed ≡ []
 
 module _ {F : Type 0} (machine : Machine F) (limits : Limits) where
   -- between rounds
@@ -28,35 +25,34 @@ module _ {F : Type 0} (machine : Machine F) (limits : Limits) where
     pub watches : Watches machine p.state p.ready p.waiting
     pub counting : p.steps < 2 ^ 64 - 1
 
-  -- a turn, and what it printed went out
-  pub record Plays (g : ℕ) (p q : Point F) (old new : Option (List ℕ)) : Type 0 where
+  -- a turn, and these bytes that it printed went out
+  pub record Plays (g : ℕ) (p q : Point F) (bytes : List ℕ) (old new : Option (List ℕ)) : Type 0 where
     pub picks : List Pick
-    pub bytes : List ℕ
     pub turn : (before : List ℕ)
         → IsTurn machine limits (with_print p.state before) g picks (with_print q.state (before ++ bytes))
     pub counted : Counts p.steps picks q.steps
     pub gave : Appends old new bytes
 
-  -- turns, one after the other, and what they printed went out
-  pub record PlaysAll (order : List ℕ) (p q : Point F) (old new : Option (List ℕ)) : Type 0 where
+  -- turns, one after the other, and these bytes that they printed went out
+  pub record PlaysAll (order : List ℕ) (p q : Point F) (bytes : List ℕ) (old new : Option (List ℕ)) : Type 0 where
     pub picks : List Pick
-    pub bytes : List ℕ
     pub turns : (before : List ℕ)
         → AreTurns machine limits (with_print p.state before) order picks (with_print q.state (before ++ bytes))
     pub counted : Counts p.steps picks q.steps
     pub gave : Appends old new bytes
 
-  -- a round, and what it printed went out
-  pub record PlaysRound (p q : Point F) (old new : Option (List ℕ)) : Type 0 where
+  -- a round, and these bytes that it printed went out
+  pub record PlaysRound (p q : Point F) (bytes : List ℕ) (old new : Option (List ℕ)) : Type 0 where
     pub picks : List Pick
-    pub bytes : List ℕ
     pub round : (before : List ℕ)
         → IsRound machine limits (with_print p.state before) picks (with_print q.state (before ++ bytes))
     pub counted : Counts p.steps picks q.steps
     pub gave : Appends old new bytes
 
-  -- part of a round, after which the run ends, whatever was counted
-  pub record Breaks (s : State F) (end : RunEnd) (old new : Option (List ℕ)) : Type 0 where
+  -- part of a round, after which the run ends, whatever was counted; so much was given out before
+  pub record Breaks
+      {C : Type 0} (run : View F C) (given : List ℕ) (s : State F) (end : RunEnd) (old new : Option (List ℕ))
+      : Type 0 where
     pub picks : List Pick
     pub bytes : List ℕ
     pub state : State F
@@ -64,9 +60,14 @@ module _ {F : Type 0} (machine : Machine F) (limits : Limits) where
         → IsBegunRound machine limits (with_print s before) picks (with_print state (before ++ bytes))
     pub ends : (print : List ℕ) (before steps : ℕ) → Ends machine limits before steps (with_print state print) end
     pub gives : Gives end bytes old new
+    pub before : List ℕ
+    pub whole : given ++ bytes ≡ before ++ run.print
+    pub left : IsLeft run machine before (with_print state run.print) end
 
-  -- part of a round, after which the run ends; so many steps were counted before
-  pub record Finishes (s : State F) (m : ℕ) (end : RunEnd) (old new : Option (List ℕ)) : Type 0 where
+  -- part of a round, after which the run ends; so much was given out and so many steps were counted before
+  pub record Finishes
+      {C : Type 0} (run : View F C) (given : List ℕ) (s : State F) (m : ℕ) (end : RunEnd) (old new : Option (List ℕ))
+      : Type 0 where
     pub picks : List Pick
     pub bytes : List ℕ
     pub state : State F
@@ -75,12 +76,66 @@ module _ {F : Type 0} (machine : Machine F) (limits : Limits) where
     pub ends : (print : List ℕ) (taken : ℕ) → m ≡ min taken (2 ^ 64 - 1) → taken < max 1 limits.steps
         → Ends machine limits taken (taken + length picks) (with_print state print) end
     pub gives : Gives end bytes old new
+    pub before : List ℕ
+    pub whole : given ++ bytes ≡ before ++ run.print
+    pub left : IsLeft run machine before (with_print state run.print) end
 
-  -- rounds so far, and what they printed went out
-  pub record Progresses (s : State F) (p : Point F) (old new : Option (List ℕ)) : Type 0 where
+  -- rounds so far, and these bytes that they printed went out
+  pub record Progresses (s : State F) (p : Point F) (bytes : List ℕ) (old new : Option (List ℕ)) : Type 0 where
     pub rounds : List (List Pick)
-    pub bytes : List ℕ
     pub went : AreRounds machine limits s rounds (with_print p.state bytes)
     pub counted : p.steps ≡ min (length (all_of rounds)) (2 ^ 64 - 1)
     pub early : length (all_of rounds) < max 1 limits.steps
     pub gave : Appends old new bytes
+
+-- ---- what is made of a run under way
+
+-- the run is at some state between rounds
+pub record StandsBetween {F C : Type 0} (run : View F C) (limits : Limits) (d : Driver) : Type 0 where
+  pub given : List ℕ
+  pub state : State F
+  pub shown : run.shows given state
+  pub between : IsBetween run.machine limits (point_of state d)
+
+module _
+    {F C : Type 0} (run : View F C) (machine : Machine F) (limits : Limits) (given : List ℕ) (s : State F)
+    (d e : Driver)
+  where
+    -- the run continues after a turn, and what it printed went out
+    pub record PlaysTo (g : ℕ) (old new : Option (List ℕ)) : Type 0 where
+      pub state : State F
+      pub bytes : List ℕ
+      pub at : IsAt run machine (given ++ bytes) state
+      pub ready : IsReady limits state
+      pub plays : Plays machine limits g (point_of s d) (point_of state e) bytes old new
+      pub passes : Passes machine g (point_of s d) (point_of state e)
+
+    -- the same after turns of these goroutines, one after the other; the others have theirs later in the round
+    pub record PlaysAllTo (order rest : List ℕ) (old new : Option (List ℕ)) : Type 0 where
+      pub state : State F
+      pub bytes : List ℕ
+      pub at : IsAt run machine (given ++ bytes) state
+      pub ready : IsReady limits state
+      pub plays : PlaysAll machine limits order (point_of s d) (point_of state e) bytes old new
+      pub watches : Watches machine s d.ready.items (listed d.waiting)
+          → Watches machine state (rest ++ e.ready.items) (listed e.waiting)
+
+    -- the same after a round
+    pub record PlaysRoundTo (old new : Option (List ℕ)) : Type 0 where
+      pub state : State F
+      pub bytes : List ℕ
+      pub at : IsAt run machine (given ++ bytes) state
+      pub ready : IsReady limits state
+      pub plays : PlaysRound machine limits (point_of s d) (point_of state e) bytes old new
+      pub watches : Watches machine state e.ready.items (listed e.waiting)
+
+-- the run continues after rounds, and what they printed went out
+pub record ProgressesTo
+    {F C : Type 0} (run : View F C) (machine : Machine F) (limits : Limits) (given : List ℕ) (s : State F)
+    (d : Driver) (old new : Option (List ℕ))
+    : Type 0 where
+  pub state : State F
+  pub bytes : List ℕ
+  pub at : IsAt run machine (given ++ bytes) state
+  pub between : IsBetween machine limits (point_of state d)
+  pub goes : Progresses machine limits s (point_of state d) bytes old new

@@ -22,5 +22,6 @@ pub record Point (F : Type 0) : Type 0 where
   -- those that wait at each channel
   pub waiting : ℕ → List ℕ
 
-abbrev pub point_of : {F : Type 0} → Driver F → Point F
-point_of d = record { state = d.state; steps = d.steps; ready = d.ready.items; waiting = listed d.waiting }
+-- a run that a driver drives, at this state
+abbrev pub point_of : {F : Type 0} → State F → Driver → Point F
+point_of s d = record { state = s; steps = d.steps; ready = d.ready.items; waiting = listed d.waiting }

@@ -1,18 +1,16 @@
 -- What happens in the turn of a goroutine: steps alone and meetings.
-use Rattle.std.specs.Prelude.{◌≡◌, ◌≤◌, ◌⊎◌, ℕ, ◌+◌, ◌-◌, ◌^◌, min, Bool, true, false, List, length, All}
-use Rattle.std.specs.Prelude.{Option, Some, None, Result, Ok, Err}
-use Rattle.std.specs.declared.alloc.AllocError.{AllocError}
+use Rattle.std.specs.Prelude.{◌≡◌, ◌≤◌, ◌⊎◌, ℕ, ◌+◌, ◌-◌, ◌^◌, min, List, length, All, Option, Some, None}
 use Rattle.rgo_machine.specs.declared.limits.Limits.{Limits}
 use Rattle.rgo_machine.specs.declared.picks.Pick.{Pick}
-use Rattle.rgo_machine.specs.declared.picks.Pick.TheVariants.{One, Meet}
 use Rattle.rgo_machine.specs.declared.turns.Stop.{Stop}
 use Rattle.rgo_machine.specs.declared.turns.Stop.TheVariants as stop
-use Rattle.rgo_machine.specs.Limits.{LeadsWithin, is_within}
-use Rattle.rgo_machine.specs.Machines.{Machine, State, step_by}
+use Rattle.rgo_machine.specs.Limits.{LeadsWithin}
+use Rattle.rgo_machine.specs.Machines.{Machine, State}
 use Rattle.rgo_driver.specs.declared.ends.RunEnd.{RunEnd}
 use Rattle.rgo_driver.specs.declared.ends.RunEnd.TheVariants as run_end
 use Rattle.rgo_driver.specs.Points.{Point}
 use Rattle.rgo_driver.specs.Rounds.{IsOf, IsTurn}
+use Rattle.rgo_driver.specs.Running.{GoesOn}
 use Rattle.rgo_driver.specs.Runs.{Ends}
 
 -- the channel on which a turn has operated last
@@ -25,6 +23,7 @@ abbrev pub end_of : Stop → Option RunEnd
 end_of (stop.Ended e) = Some (run_end.Ended e)
 end_of stop.TooDeep = Some run_end.CallsTooDeep
 end_of stop.Full = Some run_end.GoroutinesSpent
+end_of (stop.NoRoom shortage) = Some (run_end.NoRoom shortage)
 end_of stop.NoMemory = Some run_end.NoMemory
 end_of _ = None
 
@@ -37,21 +36,8 @@ abbrev pub Counts : ℕ → List Pick → ℕ → Type 0
 Counts m picks n = CountsUp m (length picks) n
 
 -- the two goroutines meet, the one as the receiver and the other as the sender
-abbrev pub AreMet : Pick → (g h : ℕ) → Type 0
-AreMet (One k) g h = ⊥
-AreMet (Meet r t) g h = ((r ≡ g) × (t ≡ h)) ⊎ ((r ≡ h) × (t ≡ g))
-
-module _ {F : Type 0} (machine : Machine F) where
-  -- what trying a meeting has made of a state, with the counts of steps
-  abbrev pub Tries : Result Bool AllocError → (s t : State F) → (m n : ℕ) → Pick → Type 0
-  Tries (Ok true) s t m n pick = (step_by machine s pick ≡ Some t) × CountsUp m 1 n
-  Tries (Ok false) s t m n pick = (step_by machine s pick ≡ None) × (t ≡ s) × (n ≡ m)
-  Tries (Err e) s t m n pick = (t ≡ s) × (n ≡ m)
-
--- a state in which a run goes on
-pub record GoesOn {F : Type 0} (limits : Limits) (s : State F) : Type 0 where
-  pub running : s.ended ≡ None
-  pub within : is_within limits s ≡ true
+abbrev pub AreMet : ℕ × ℕ → (g h : ℕ) → Type 0
+AreMet met g h = ((met.0 ≡ g) × (met.1 ≡ h)) ⊎ ((met.0 ≡ h) × (met.1 ≡ g))
 
 module _ {F : Type 0} (machine : Machine F) (limits : Limits) where
   -- so many steps of a goroutine, after which the run goes on
@@ -76,11 +62,6 @@ module _ {F : Type 0} (machine : Machine F) (limits : Limits) where
   abbrev pub Advances : Option ℕ → ℕ → Point F → Point F → ℕ → Type 0
   Advances (Some rest) g p q left = (rest ≤ left) × Moved g p q (left - rest)
   Advances None g p q left = (count : ℕ) × (count ≤ left) × Moved g p q count
-
-  -- a goroutine that waits has met another, or nothing has happened
-  abbrev pub Waits : Bool → ℕ → Point F → Point F → Type 0
-  Waits true g p q = Moved g p q 1
-  Waits false g p q = (q.state ≡ p.state) × (q.steps ≡ p.steps)
 
   -- a whole turn, after which the run goes on
   pub record Turned (g : ℕ) (p q : Point F) : Type 0 where

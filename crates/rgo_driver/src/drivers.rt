@@ -1,12 +1,10 @@
-//! A driver: a run under way.
+//! A driver: which goroutines of a run have a turn next.
 
-use rgo_machine::State;
 use std::collections::HashMap;
 
-/// A run under way.
+/// Which goroutines of a run have a turn next, and how many steps were taken.
 #[derive(Drop)]
-pub(crate) struct Driver<F> {
-    pub(crate) state: State<F>,
+pub(crate) struct Driver {
     /// How many steps were taken; at the end of its type it stays there.
     pub(crate) steps: u64,
     /// The goroutines that have a turn in the next round.

@@ -1,6 +1,6 @@
 //! How runs end.
 
-use rgo_machine::End;
+use rgo_machine::{End, Shortage};
 
 /// How a run ended.
 #[derive(Clone, Copy, Debug, PartialEq, Eq)]
@@ -15,6 +15,8 @@ pub enum RunEnd {
     StepsSpent,
     /// There are as many goroutines as the limit, and one starts another.
     GoroutinesSpent,
+    /// There is no room for what a goroutine does next.
+    NoRoom(Shortage),
     /// A write failed.
     WriteFault,
     /// Memory ran out.

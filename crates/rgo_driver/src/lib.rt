@@ -5,10 +5,14 @@ mod drivers;
 mod ends;
 mod lines;
 mod meetings;
+mod plain;
 mod rounds;
+mod running;
 mod runs;
 mod turns;
 mod waiting;
 
 pub use ends::RunEnd;
+pub use plain::Plain;
+pub use running::Running;
 pub use runs::run;

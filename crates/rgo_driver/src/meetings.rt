@@ -1,15 +1,15 @@
 //! Where a round has found no step, two goroutines that meet are looked for.
 
-ghost use Rattle.std.specs.Prelude.{◌≡◌, ◌++◌, ◌∷◌, [], None, OnOk};
-ghost use Rattle.rgo_driver.specs.Points.{listed};
-ghost use Rattle.rgo_driver.specs.Probing.{MeetsAny, Meets};
-ghost use Rattle.rgo_driver.specs.Sleeping.{Watches};
+ghost use Rattle.std.specs.Prelude.{◌≡◌, ℕ, List, ◌++◌, ◌∷◌, [], None, OnOk};
+ghost use Rattle.rgo_machine.specs.Machines as spec;
 ghost use Rattle.rgo_machine.specs.Meetings.{CanMeet};
+ghost use Rattle.rgo_driver.specs.Probing.{MeetsFound, MeetsAny};
+ghost use Rattle.rgo_driver.specs.Running.{IsAt, IsRunning};
 
 use crate::drivers::Driver;
 use crate::ends::RunEnd;
+use crate::running::Running;
 use crate::turns::meet;
-use rgo_machine::{Machine, Pick, State, find_meeting};
 use std::alloc::{AllocError, Global};
 
 /// Two goroutines are ready.
@@ -22,42 +22,44 @@ fn admit_both(ready: &mut Vec<usize>, first: usize, second: usize) -> Result<(),
 }
 
 /// Two goroutines meet, which can.
-fn meet_found<M: Machine>(
+fn meet_found<R: Running>(
     alloc: Global,
-    machine: &M,
-    state: &mut State<M::Frame>,
+    run: &mut R,
     steps: &mut u64,
     found: (usize, usize),
 ) -> Result<(), AllocError>
-    requires { CanMeet (M.machine machine.now) state.old found.0 found.1 }
-    ensures { OnOk result (Meets (M.machine machine.now) found state.old state.new steps.old steps.new) }
+    requires { IsRunning (R.view run.old) }
+    ensures meets { (machine : spec.Machine R.Frame) (given : List ℕ) (s : spec.State R.Frame)
+        → IsAt (R.view run.old) machine given s → s.ended ≡ None → CanMeet machine s found.0 found.1
+        → MeetsFound (R.view run.new) machine given s found steps.old steps.new result }
+    ensures fixed { (R.view run.new).fixed ≡ (R.view run.old).fixed }
 {
-    let (receiver, sender) = found;
-    meet(alloc, machine, state, steps, Pick::Meet(receiver, sender))?;
-    Ok(())
+    match meet(alloc, run, steps, found) {
+        Ok(_) => Ok(()),
+        Err(_) => Err(AllocError),
+    }
 }
 
 /// Two goroutines meet, where no goroutine has a step alone. Since goroutines meet as soon as they can, none are found
 /// here: what counts is that this is known before the run ends with a deadlock.
-pub(crate) fn meet_any<M: Machine>(
+pub(crate) fn meet_any<R: Running>(
     alloc: Global,
-    machine: &M,
-    driver: &mut Driver<M::Frame>,
+    run: &mut R,
+    driver: &mut Driver,
 ) -> Result<(), RunEnd>
-    requires running { driver.old.state.ended ≡ None }
-    ensures met { MeetsAny (M.machine machine.now) result driver.old.state driver.new.state
-        driver.old.steps driver.new.steps }
-    ensures watches { OnOk result (Watches (M.machine machine.now) driver.old.state driver.old.ready.items
-        (listed driver.old.waiting) → Watches (M.machine machine.now) driver.new.state driver.new.ready.items
-        (listed driver.new.waiting)) }
+    requires { IsRunning (R.view run.old) }
+    ensures meets { (machine : spec.Machine R.Frame) (given : List ℕ) (s : spec.State R.Frame)
+        → IsAt (R.view run.old) machine given s → s.ended ≡ None
+        → MeetsAny (R.view run.new) machine given s result driver.old driver.new }
+    ensures fixed { (R.view run.new).fixed ≡ (R.view run.old).fixed }
 {
-    let Ok(found) = find_meeting(alloc, machine, &driver.state) else {
+    let Ok(found) = run.find_meeting(alloc) else {
         return Err(RunEnd::NoMemory);
     };
     let Some(met) = found else {
         return Err(RunEnd::Deadlock);
     };
-    match meet_found(alloc, machine, &mut driver.state, &mut driver.steps, met) {
+    match meet_found(alloc, run, &mut driver.steps, met) {
         Ok(()) => {}
         Err(_) => return Err(RunEnd::NoMemory),
     }

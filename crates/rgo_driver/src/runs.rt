@@ -1,53 +1,49 @@
 //! Runs, round by round.
 
-ghost use Rattle.std.specs.Prelude.{◌≡◌, true, None, []};
+ghost use Rattle.std.specs.Prelude.{◌≡◌, ℕ, List, true};
 ghost use Rattle.rgo_outside.specs.Causes.{Rose};
 ghost use Rattle.rgo_outside.specs.Pieces.{AddsOnly};
-ghost use Rattle.rgo_machine.specs.Limits.{is_within};
+ghost use Rattle.rgo_machine.specs.Machines as spec;
 ghost use Rattle.rgo_driver.specs.Lines.{IsLineEnd};
-ghost use Rattle.rgo_driver.specs.Runs.{Runs};
+ghost use Rattle.rgo_driver.specs.Runs.{IsReady, CanBegin, RunsTo};
 
 use crate::drivers::Driver;
 use crate::ends::RunEnd;
 use crate::rounds::drive;
+use crate::running::Running;
 use crate::waiting::admit;
-use rgo_machine::{Limits, Machine, State};
+use rgo_machine::Limits;
 use rgo_outside::Sink;
 use std::alloc::Global;
 use std::collections::HashMap;
 
-/// Runs a machine from a state, in rounds: in each, every goroutine that can step has a turn of up to 1,000 steps. What
-/// a goroutine printed goes out after its turn, each line in one piece. After a failed write nothing more is written.
+/// Drives a run from the state that it is at, in rounds: in each, every goroutine that can step has a turn of up to
+/// 1,000 steps. What a goroutine printed goes out after its turn, each line in one piece. After a failed write nothing
+/// more is written.
 ///
-/// Answers how the run ended. Whether the limit of steps is reached is seen at the end of a round; the other limits are
-/// looked at before each step. Where memory runs out, what went out is the whole print of a shorter run.
-pub fn run<M: Machine, K: Sink>(
-    alloc: Global,
-    machine: &M,
-    state: State<M::Frame>,
-    limits: Limits,
-    out: &mut K,
-) -> RunEnd
-    requires running { state.ended ≡ None }
-    requires within { is_within limits state ≡ true }
-    requires silent { state.printed ≡ [] }
-    ensures runs { Runs (M.machine machine.now) limits state result (K.contents out.old) (K.contents out.new) }
+/// Returns how the run ended. Whether the limit of steps is reached is tested at the end of a round; the other limits
+/// are tested before each step. When memory runs out, what went out is the whole print of a shorter run.
+pub fn run<R: Running, K: Sink>(alloc: Global, run: &mut R, limits: Limits, out: &mut K) -> RunEnd
+    requires { CanBegin limits (R.view run.old) }
+    ensures runs { (given : List ℕ) (s : spec.State R.Frame) → (R.view run.old).shows given s → IsReady limits s
+        → RunsTo (R.view run.new) (R.view run.old).machine limits given s result
+        (K.contents out.old) (K.contents out.new) }
+    ensures fixed { (R.view run.new).fixed ≡ (R.view run.old).fixed }
     ensures fault { result ≡ RunEnd.WriteFault → Rose (K.faults out.old) (K.faults out.new) }
     ensures broken { result ≡ RunEnd.WriteFault → K.broken out.new ≡ true }
     ensures kept { (result ≡ RunEnd.WriteFault → ⊥) → K.faults out.new ≡ K.faults out.old }
     ensures lines { AddsOnly IsLineEnd (K.pieces out.old) (K.pieces out.new) }
 {
     let mut ready = Vec::new(alloc);
-    let count = state.goroutines();
+    let count = run.goroutines();
     match admit(&mut ready, 0, count) {
         Ok(()) => {}
         Err(_) => return RunEnd::NoMemory,
     }
     let mut driver = Driver {
-        state,
         steps: 0,
         ready,
         waiting: HashMap::new(alloc),
     };
-    drive(alloc, machine, &mut driver, limits, out)
+    drive(alloc, run, &mut driver, limits, out)
 }

@@ -1,22 +1,23 @@
 //! Turns of goroutines: up to 1,000 steps, alone and in meetings.
 
-ghost use Rattle.std.specs.Prelude.{◌≡◌, ◌≤◌, ◌<◌, ◌-◌, ◌++◌, ◌∷◌, [], ℕ, false, Some, None, length, Contains};
+ghost use Rattle.std.specs.Prelude.{◌≡◌, ◌≤◌, ◌<◌, ◌-◌, ◌++◌, ◌∷◌, [], ℕ, List, Some, None, length, Contains};
 ghost use Rattle.std.specs.Prelude.{MatchResult, IfOk, IfSome, OnOk};
 ghost use Rattle.rgo_machine.specs.declared.picks.Pick.TheVariants as pick;
+ghost use Rattle.rgo_machine.specs.Machines as spec;
 ghost use Rattle.rgo_machine.specs.Machines.{step_by};
-ghost use Rattle.rgo_driver.specs.Points.{listed, point_of};
+ghost use Rattle.rgo_driver.specs.Points.{listed};
+ghost use Rattle.rgo_driver.specs.Probing.{Tries};
+ghost use Rattle.rgo_driver.specs.Running.{GoesOn, IsAt, IsRunning, IsOn};
 ghost use Rattle.rgo_driver.specs.Sleeping as sleeping;
-ghost use Rattle.rgo_driver.specs.Sleeping.{Sleeps, Keeps, Passes};
+ghost use Rattle.rgo_driver.specs.Taking.{StopsAt, MovesTo, StepsTo, WaitsTo, AdvancesTo, TurnsTo};
 ghost use Rattle.rgo_driver.specs.Turning as turning;
-ghost use Rattle.rgo_driver.specs.Turning.{operated, AreMet, CountsUp, Tries, GoesOn, Stopped, Advances, Waits};
-ghost use Rattle.rgo_machine.specs.Turns.{Turns};
+ghost use Rattle.rgo_driver.specs.Turning.{operated, AreMet};
 
 use crate::drivers::Driver;
 use crate::ends::RunEnd;
+use crate::running::Running;
 use crate::waiting::{admit, put_list, take_list};
-use rgo_machine::{
-    Limits, Machine, Pick, Stand, State, Stepped, Stop, Turned, standing, step, turn,
-};
+use rgo_machine::{Limits, Stand, Stop, Turned};
 use rgo_memory::Value;
 use std::alloc::{AllocError, Global};
 use std::collections::HashMap;
@@ -42,67 +43,71 @@ fn waits_at(stand: Stand) -> Option<usize>
 }
 
 /// The channel at which a goroutine waits that has no step alone, if it may come back.
-fn channel_of<M: Machine>(machine: &M, state: &State<M::Frame>, g: usize) -> Option<usize>
-    ensures { result ≡ sleeping.channel_of (M.machine machine.now) state.now g }
+fn channel_of<R: Running>(run: &R, g: usize) -> Option<usize>
+    ensures { (machine : spec.Machine R.Frame) (given : List ℕ) (s : spec.State R.Frame)
+        → IsAt (R.view run.now) machine given s → result ≡ sleeping.channel_of machine s g }
 {
-    match standing(machine, state, g) {
+    match run.standing(g) {
         Some(stand) => waits_at(stand),
         None => None,
     }
 }
 
-/// The meeting of a goroutine that waits with another.
-fn meeting<M: Machine>(machine: &M, state: &State<M::Frame>, g: usize, partner: usize) -> Pick
+/// The receiver and the sender, where a goroutine that waits meets another.
+fn meeting<R: Running>(run: &R, g: usize, partner: usize) -> (usize, usize)
     ensures { AreMet result g partner }
 {
-    match standing(machine, state, g) {
-        Some(Stand::Receive { .. }) => Pick::Meet(g, partner),
-        _ => Pick::Meet(partner, g),
+    match run.standing(g) {
+        Some(Stand::Receive { .. }) => (g, partner),
+        _ => (partner, g),
     }
 }
 
-/// Two goroutines meet, if they can. Answers whether they have met.
+/// A receiver and a sender meet, if they can. Returns whether they have met.
 ///
 /// # Errors
 ///
-/// On allocation failure. Then nothing changed.
-pub(crate) fn meet<M: Machine>(
+/// On allocation failure.
+pub(crate) fn meet<R: Running>(
     alloc: Global,
-    machine: &M,
-    state: &mut State<M::Frame>,
+    run: &mut R,
     steps: &mut u64,
-    pick: Pick,
+    met: (usize, usize),
 ) -> Result<bool, AllocError>
-    ensures { Tries (M.machine machine.now) result state.old state.new steps.old steps.new pick }
+    requires { IsRunning (R.view run.old) }
+    ensures tries { (machine : spec.Machine R.Frame) (given : List ℕ) (s : spec.State R.Frame)
+        → IsAt (R.view run.old) machine given s → s.ended ≡ None
+        → Tries (R.view run.new) machine given s met steps.old steps.new result }
+    ensures fixed { (R.view run.new).fixed ≡ (R.view run.old).fixed }
 {
-    match step(alloc, machine, state, pick)? {
-        Stepped::NotEnabled => Ok(false),
-        Stepped::Advanced | Stepped::Ended(_) => {
+    let (receiver, sender) = met;
+    match run.meet(alloc, receiver, sender) {
+        Ok(true) => {
             *steps = steps.saturating_add(1);
             Ok(true)
         }
+        Ok(false) => Ok(false),
+        Err(_) => Err(AllocError),
     }
 }
 
 /// After some steps of a turn: the goroutines that were started are ready, and those that wait at the channel that
 /// changed.
-fn wake<F: Drop>(
+fn wake(
     alloc: Global,
-    driver: &mut Driver<F>,
+    driver: &mut Driver,
     from: usize,
+    to: usize,
     stop: Stop,
 ) -> Result<(), AllocError>
-    ensures state { driver.new.state ≡ driver.old.state }
     ensures steps { driver.new.steps ≡ driver.old.steps }
     ensures stay { OnOk result ((g : ℕ) → Contains driver.old.ready.items g → Contains driver.new.ready.items g) }
-    ensures fresh { OnOk result ((g : ℕ) → from ≤ g → g < length driver.old.state.goroutines
-        → Contains driver.new.ready.items g) }
+    ensures fresh { OnOk result ((g : ℕ) → from ≤ g → g < to → Contains driver.new.ready.items g) }
     ensures woken { OnOk result ((n g : ℕ) → operated stop ≡ Some n → Contains (listed driver.old.waiting n) g
         → Contains driver.new.ready.items g) }
     ensures others { OnOk result ((n : ℕ) → (operated stop ≡ Some n → ⊥)
         → listed driver.new.waiting n ≡ listed driver.old.waiting n) }
 {
-    let to = driver.state.goroutines();
     admit(&mut driver.ready, from, to)?;
     if let Stop::Operated(channel) = stop {
         let list = take_list(alloc, &mut driver.waiting, channel);
@@ -141,13 +146,12 @@ fn join_both(
 }
 
 /// A goroutine that waited has met another: it is ready, and the rest of its list waits on.
-fn come_back<F>(
-    driver: &mut Driver<F>,
+fn come_back(
+    driver: &mut Driver,
     channel: usize,
     list: Vec<usize>,
     g: usize,
 ) -> Result<(), AllocError>
-    ensures state { driver.new.state ≡ driver.old.state }
     ensures steps { driver.new.steps ≡ driver.old.steps }
     ensures ready { OnOk result (driver.new.ready.items ≡ driver.old.ready.items ++ g ∷ []) }
     ensures rest { OnOk result (listed driver.new.waiting channel ≡ list.items) }
@@ -159,24 +163,22 @@ fn come_back<F>(
 }
 
 /// A goroutine that waits at a channel meets the one that has waited there last, or joins those that wait there.
-/// Answers whether it has met.
-fn wait<M: Machine>(
+/// Returns whether it has met.
+fn wait<R: Running>(
     alloc: Global,
-    machine: &M,
-    driver: &mut Driver<M::Frame>,
+    run: &mut R,
+    driver: &mut Driver,
     limits: Limits,
     g: usize,
     channel: usize,
 ) -> Result<bool, RunEnd>
-    requires on { GoesOn limits driver.old.state }
-    requires still { step_by (M.machine machine.now) driver.old.state (pick.One g) ≡ None }
-    requires at { sleeping.channel_of (M.machine machine.now) driver.old.state g ≡ Some channel }
-    ensures went { MatchResult result
-        (λ met. Waits (M.machine machine.now) limits met g (point_of driver.old) (point_of driver.new))
-        (λ end. Stopped (M.machine machine.now) limits g driver.old.state driver.new.state 1 end) }
-    ensures keeps { IfOk result (λ _. Keeps (M.machine machine.now) g (point_of driver.old) (point_of driver.new)) }
-    ensures sleeps { IfOk result (λ met. met ≡ false
-        → Sleeps (M.machine machine.now) driver.new.state (listed driver.new.waiting) g) }
+    requires { IsOn limits (R.view run.old) }
+    ensures waits { (machine : spec.Machine R.Frame) (given : List ℕ) (s : spec.State R.Frame)
+        → IsAt (R.view run.old) machine given s → GoesOn limits s → step_by machine s (pick.One g) ≡ None
+        → sleeping.channel_of machine s g ≡ Some channel
+        → MatchResult result (WaitsTo (R.view run.new) machine limits g given s driver.old driver.new)
+        (StopsAt (R.view run.new) machine limits g given s 1) }
+    ensures fixed { (R.view run.new).fixed ≡ (R.view run.old).fixed }
 {
     let mut list = take_list(alloc, &mut driver.waiting, channel);
     let Some(partner) = list.pop() else {
@@ -185,8 +187,8 @@ fn wait<M: Machine>(
             Err(_) => Err(RunEnd::NoMemory),
         };
     };
-    let pick = meeting(machine, &driver.state, g, partner);
-    match meet(alloc, machine, &mut driver.state, &mut driver.steps, pick) {
+    let met = meeting(run, g, partner);
+    match meet(alloc, run, &mut driver.steps, met) {
         Ok(true) => match come_back(driver, channel, list, partner) {
             Ok(()) => Ok(true),
             Err(_) => Err(RunEnd::NoMemory),
@@ -199,33 +201,31 @@ fn wait<M: Machine>(
     }
 }
 
-/// A goroutine that has no step alone waits, if it may come back. Answers how many steps its turn has left, `None`
+/// A goroutine that has no step alone waits, if it may come back. Returns how many steps its turn has left, `None`
 /// where it sleeps.
-fn rest<M: Machine>(
+fn rest<R: Running>(
     alloc: Global,
-    machine: &M,
-    driver: &mut Driver<M::Frame>,
+    run: &mut R,
+    driver: &mut Driver,
     limits: Limits,
     g: usize,
     left: usize,
 ) -> Result<Option<usize>, RunEnd>
-    requires on { GoesOn limits driver.old.state }
-    requires still { step_by (M.machine machine.now) driver.old.state (pick.One g) ≡ None }
-    ensures went { MatchResult result
-        (λ rest. Advances (M.machine machine.now) limits rest g (point_of driver.old) (point_of driver.new) left)
-        (λ end. Stopped (M.machine machine.now) limits g driver.old.state driver.new.state left end) }
+    requires { IsOn limits (R.view run.old) }
+    ensures went { (machine : spec.Machine R.Frame) (given : List ℕ) (s : spec.State R.Frame)
+        → IsAt (R.view run.old) machine given s → GoesOn limits s → step_by machine s (pick.One g) ≡ None
+        → MatchResult result (AdvancesTo (R.view run.new) machine limits g given s driver.old driver.new left)
+        (StopsAt (R.view run.new) machine limits g given s left) }
+    ensures fixed { (R.view run.new).fixed ≡ (R.view run.old).fixed }
     ensures one { IfOk result (λ rest. IfSome rest (λ n. n ≡ left - 1)) }
-    ensures keeps { IfOk result (λ _. Keeps (M.machine machine.now) g (point_of driver.old) (point_of driver.new)) }
-    ensures sleeps { IfOk result (λ rest. rest ≡ None
-        → Sleeps (M.machine machine.now) driver.new.state (listed driver.new.waiting) g) }
 {
     if left == 0 {
         return Ok(Some(0));
     }
-    let Some(channel) = channel_of(machine, &driver.state, g) else {
+    let Some(channel) = channel_of(run, g) else {
         return Ok(None);
     };
-    match wait(alloc, machine, driver, limits, g, channel) {
+    match wait(alloc, run, driver, limits, g, channel) {
         Ok(true) => Ok(Some(left - 1)),
         Ok(false) => Ok(None),
         Err(end) => Err(end),
@@ -240,82 +240,88 @@ fn end_of(stop: Stop) -> Option<RunEnd>
         Stop::Ended(end) => Some(RunEnd::Ended(end)),
         Stop::TooDeep => Some(RunEnd::CallsTooDeep),
         Stop::Full => Some(RunEnd::GoroutinesSpent),
+        Stop::NoRoom(shortage) => Some(RunEnd::NoRoom(shortage)),
         Stop::NoMemory => Some(RunEnd::NoMemory),
         Stop::Spent | Stop::Waits | Stop::Printed | Stop::Operated(_) => None,
     }
 }
 
 /// A goroutine steps alone, and others wake.
-fn take_steps<M: Machine>(
+fn take_steps<R: Running>(
     alloc: Global,
-    machine: &M,
-    driver: &mut Driver<M::Frame>,
+    run: &mut R,
+    driver: &mut Driver,
     limits: Limits,
     g: usize,
     left: usize,
 ) -> Result<Turned, RunEnd>
-    requires on { GoesOn limits driver.old.state }
-    ensures turns { MatchResult result
-        (λ turned. Turns (M.machine machine.now) limits driver.old.state driver.new.state g left turned)
-        (λ end. Stopped (M.machine machine.now) limits g driver.old.state driver.new.state left end) }
-    ensures counted { IfOk result (λ turned. CountsUp driver.old.steps turned.steps driver.new.steps) }
-    ensures keeps { IfOk result (λ _. Keeps (M.machine machine.now) g (point_of driver.old) (point_of driver.new)) }
+    requires { IsOn limits (R.view run.old) }
+    ensures steps { (machine : spec.Machine R.Frame) (given : List ℕ) (s : spec.State R.Frame)
+        → IsAt (R.view run.old) machine given s → GoesOn limits s
+        → MatchResult result (StepsTo (R.view run.new) machine limits g given s driver.old driver.new left)
+        (StopsAt (R.view run.new) machine limits g given s left) }
+    ensures fixed { (R.view run.new).fixed ≡ (R.view run.old).fixed }
+    ensures within { IfOk result (λ turned. turned.steps ≤ left) }
 {
-    let from = driver.state.goroutines();
-    let turned = turn(alloc, machine, &mut driver.state, limits, g, left);
+    let from = run.goroutines();
+    let turned = run.turn(alloc, limits, g, left);
     driver.steps = driver.steps.saturating_add(turned.steps as u64);
-    match wake(alloc, driver, from, turned.stop) {
+    if let Some(end) = end_of(turned.stop) {
+        return Err(end);
+    }
+    let to = run.goroutines();
+    match wake(alloc, driver, from, to, turned.stop) {
         Ok(()) => Ok(turned),
         Err(_) => Err(RunEnd::NoMemory),
     }
 }
 
-/// A goroutine takes some steps of its turn. Answers how many it has left, `None` where it sleeps.
-fn advance<M: Machine>(
+/// A goroutine takes some steps of its turn. Returns how many it has left, `None` where it sleeps.
+fn advance<R: Running>(
     alloc: Global,
-    machine: &M,
-    driver: &mut Driver<M::Frame>,
+    run: &mut R,
+    driver: &mut Driver,
     limits: Limits,
     g: usize,
     left: usize,
 ) -> Result<Option<usize>, RunEnd>
-    requires on { GoesOn limits driver.old.state }
+    requires on { IsOn limits (R.view run.old) }
     requires some { 0 < left }
-    ensures went { MatchResult result
-        (λ rest. Advances (M.machine machine.now) limits rest g (point_of driver.old) (point_of driver.new) left)
-        (λ end. Stopped (M.machine machine.now) limits g driver.old.state driver.new.state left end) }
+    ensures went { (machine : spec.Machine R.Frame) (given : List ℕ) (s : spec.State R.Frame)
+        → IsAt (R.view run.old) machine given s → GoesOn limits s
+        → MatchResult result (AdvancesTo (R.view run.new) machine limits g given s driver.old driver.new left)
+        (StopsAt (R.view run.new) machine limits g given s left) }
+    ensures fixed { (R.view run.new).fixed ≡ (R.view run.old).fixed }
     ensures less { IfOk result (λ rest. IfSome rest (λ n. n < left)) }
-    ensures keeps { IfOk result (λ _. Keeps (M.machine machine.now) g (point_of driver.old) (point_of driver.new)) }
-    ensures sleeps { IfOk result (λ rest. rest ≡ None
-        → Sleeps (M.machine machine.now) driver.new.state (listed driver.new.waiting) g) }
 {
-    let turned = take_steps(alloc, machine, driver, limits, g, left)?;
-    if let Some(end) = end_of(turned.stop) {
-        return Err(end);
-    }
+    let turned = match take_steps(alloc, run, driver, limits, g, left) {
+        Ok(turned) => turned,
+        Err(end) => return Err(end),
+    };
     match turned.stop {
-        Stop::Waits => rest(alloc, machine, driver, limits, g, left - turned.steps),
+        Stop::Waits => rest(alloc, run, driver, limits, g, left - turned.steps),
         _ => Ok(Some(left - turned.steps)),
     }
 }
 
 /// A goroutine has its turn. Where it may have a step after it, it has a turn in the next round.
-pub(crate) fn take_turn<M: Machine>(
+pub(crate) fn take_turn<R: Running>(
     alloc: Global,
-    machine: &M,
-    driver: &mut Driver<M::Frame>,
+    run: &mut R,
+    driver: &mut Driver,
     limits: Limits,
     g: usize,
 ) -> Result<(), RunEnd>
-    requires on { GoesOn limits driver.old.state }
-    ensures turned { MatchResult result
-        (λ _. turning.Turned (M.machine machine.now) limits g (point_of driver.old) (point_of driver.new))
-        (λ end. Stopped (M.machine machine.now) limits g driver.old.state driver.new.state 1000 end) }
-    ensures passes { OnOk result (Passes (M.machine machine.now) g (point_of driver.old) (point_of driver.new)) }
+    requires { IsOn limits (R.view run.old) }
+    ensures turns { (machine : spec.Machine R.Frame) (given : List ℕ) (s : spec.State R.Frame)
+        → IsAt (R.view run.old) machine given s → GoesOn limits s
+        → MatchResult result (λ _. TurnsTo (R.view run.new) machine limits g given s driver.old driver.new)
+        (StopsAt (R.view run.new) machine limits g given s 1000) }
+    ensures fixed { (R.view run.new).fixed ≡ (R.view run.old).fixed }
 {
     let mut left = LONGEST_TURN;
     while left > 0 {
-        let next = match advance(alloc, machine, driver, limits, g, left) {
+        let next = match advance(alloc, run, driver, limits, g, left) {
             Ok(next) => next,
             Err(end) => return Err(end),
         };

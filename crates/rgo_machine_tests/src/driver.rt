@@ -2,7 +2,7 @@
 
 use crate::checks::same;
 use crate::texts::typed;
-use rgo_driver::{RunEnd, run};
+use rgo_driver::{Plain, RunEnd, run};
 use rgo_machine::{End, Limits};
 use rgo_meaning::{SourceMachine, start};
 use rgo_memory::Trap;
@@ -61,7 +61,7 @@ fn end_of(
 ) -> Result<RunEnd, AllocError> {
     let machine = SourceMachine::new(program);
     let state = start(alloc, program)?;
-    Ok(run(alloc, &machine, state, limits, out))
+    Ok(run(alloc, &mut Plain::new(&machine, state), limits, out))
 }
 
 /// Runs `main` with this body, and compares how the run ends and what is printed.

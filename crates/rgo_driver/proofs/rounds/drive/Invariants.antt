@@ -1,16 +1,19 @@
-use Rattle.std.proofs.Common.{◌-◌}
+use Rattle.std.proofs.Common.{◌≡◌, ◌-◌, ℕ, List}
+use Rattle.rgo_machine.specs.Machines.{Machine, State}
 use Rattle.rgo_driver.specs.Lines.{Writes}
-use Rattle.rgo_driver.specs.Playing.{IsBetween, Progresses}
+use Rattle.rgo_driver.specs.Playing.{IsBetween, ProgressesTo}
 use Rattle.rgo_driver.specs.Points.{point_of}
+use Rattle.rgo_driver.specs.Running.{IsAt}
 use Rattle.rgo_driver.proofs.rounds.drive.Given as goal
 
 -- what the rounds so far gave out
 abbrev pub invariant-loop-end : goal.invariant-loop-end
 invariant-loop-end g l = record {
-  goes : Progresses (g.M.Machine.machine l.machine) l.limits l.initial.driver.state (point_of l.driver)
-      (g.K.Sink.contents l.initial.out)
+  goes : (machine : Machine g.row.R-Frame.Denot) (given : List ℕ) (s : State g.row.R-Frame.Denot)
+      → IsAt (g.R.Running.view l.initial.run) machine given s → IsBetween machine l.limits (point_of s l.initial.driver)
+      → ProgressesTo (g.R.Running.view l.run) machine l.limits given s l.driver (g.K.Sink.contents l.initial.out)
       (g.K.Sink.contents l.out);
-  between : IsBetween (g.M.Machine.machine l.machine) l.limits (point_of l.driver);
+  fixed : (g.R.Running.view l.run).fixed ≡ (g.R.Running.view l.initial.run).fixed;
   sink : Writes ⊥ (g.K.Sink.faults l.initial.out) (g.K.Sink.faults l.out) (g.K.Sink.broken l.out)
       (g.K.Sink.pieces l.initial.out)
       (g.K.Sink.pieces l.out);

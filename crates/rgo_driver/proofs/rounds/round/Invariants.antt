@@ -1,19 +1,19 @@
-use Rattle.std.proofs.Common.{◌++◌, take, drop}
+use Rattle.std.proofs.Common.{◌≡◌, ℕ, List, take, drop}
+use Rattle.rgo_machine.specs.Machines.{Machine, State}
 use Rattle.rgo_driver.specs.Lines.{Writes}
-use Rattle.rgo_driver.specs.Playing.{IsReady, PlaysAll}
-use Rattle.rgo_driver.specs.Points.{listed, point_of}
-use Rattle.rgo_driver.specs.Sleeping.{Watches}
+use Rattle.rgo_driver.specs.Playing.{PlaysAllTo}
+use Rattle.rgo_driver.specs.Running.{IsAt}
+use Rattle.rgo_driver.specs.Runs.{IsReady}
 use Rattle.rgo_driver.proofs.rounds.round.Given as goal
 
 -- the turns so far, and that every goroutine has one later, is ready, or sleeps
 abbrev pub invariant-loop-i : goal.invariant-loop-i
 invariant-loop-i g l = record {
-  plays : PlaysAll (g.M.Machine.machine l.machine) l.limits (take l.i l.order.items) (point_of l.fn.driver)
-      (point_of l.driver)
-      (g.K.Sink.contents l.initial.out) (g.K.Sink.contents l.out);
-  ready : IsReady l.limits l.driver.state;
-  watches : Watches (g.M.Machine.machine l.machine) l.driver.state (drop l.i l.order.items ++ l.driver.ready.items)
-      (listed l.driver.waiting);
+  plays : (machine : Machine g.row.R-Frame.Denot) (given : List ℕ) (s : State g.row.R-Frame.Denot)
+      → IsAt (g.R.Running.view l.initial.run) machine given s → IsReady l.limits s
+      → PlaysAllTo (g.R.Running.view l.run) machine l.limits given s l.fn.driver l.driver (take l.i l.order.items)
+      (drop l.i l.order.items) (g.K.Sink.contents l.initial.out) (g.K.Sink.contents l.out);
+  fixed : (g.R.Running.view l.run).fixed ≡ (g.R.Running.view l.initial.run).fixed;
   sink : Writes ⊥ (g.K.Sink.faults l.initial.out) (g.K.Sink.faults l.out) (g.K.Sink.broken l.out)
       (g.K.Sink.pieces l.initial.out)
       (g.K.Sink.pieces l.out);

@@ -1,46 +1,68 @@
-use Rattle.std.proofs.Common.{arith}
+use Rattle.std.proofs.Common.{◌++◌, arith}
 use Rattle.rgo_driver.specs.Points.{point_of}
 use Rattle.rgo_driver.proofs.Given.{writes_whole}
-use Rattle.rgo_driver.proofs.Played.{meets_no_fault, on_ok}
-use Rattle.rgo_driver.proofs.Rounded.{plays_round, met_or_ends, met_ready, met_counts}
+use Rattle.rgo_driver.proofs.Left.{itself}
+use Rattle.rgo_driver.proofs.Played.{meets_no_fault}
+use Rattle.rgo_driver.proofs.Rounded.{plays_round, met_or_ends, met_counts}
 use Rattle.rgo_driver.proofs.rounds.whole_round.Goals as goal
 
 pub returns-then-driver-before-clause-plays : goal.returns-then-driver-before-clause-plays
-returns-then-driver-before-clause-plays g c =
-    plays_round (g.M.Machine.machine c.args.machine.now) c.args.limits (point_of c.args.driver.now)
-    (point_of c.round.new.driver)
-    (g.K.Sink.contents c.args.out.now)
-    (g.K.Sink.contents c.round.new.out) c.requires.between.watches c.in-Ok.ensures.plays
+returns-then-driver-before-clause-plays g c = λ machine given s at between.
+    let d = c.args.driver.now in
+    let all = c.in-Ok.ensures.plays machine given s at between.ready in
+    record {
+      state = all.state;
+      bytes = all.bytes;
+      at = all.at;
+      ready = all.ready;
+      plays = plays_round machine c.args.limits (point_of s d) (point_of all.state c.round.new.driver) d.ready.items
+          all.bytes
+          (g.K.Sink.contents c.args.out.now) (g.K.Sink.contents c.round.new.out) between.watches (λ g m. m) all.plays;
+      watches = all.watches between.watches;
+    }
+
+pub meet_any-requires : goal.meet_any-requires
+meet_any-requires g c =
+    let run = g.R.Running.view c.args.run.now in
+    let given = c.requires.given in
+    let start = c.requires.state in
+    let all = c.in-Ok.ensures.plays run.machine given start (itself run given start c.requires.shown)
+    c.requires.between.ready in
+    record { given = given ++ all.bytes; state = all.state; shown = all.at.shown; running = all.ready.on.running }
 
 pub returns-clause-plays : goal.returns-clause-plays
-returns-clause-plays g c =
-    met_or_ends (g.M.Machine.machine c.args.machine.now) c.args.limits (point_of c.args.driver.now)
-    (point_of c.round.new.driver)
-    (point_of c.meet_any.new.driver) c.meet_any.result (g.K.Sink.contents c.args.out.now)
+returns-clause-plays g c = λ machine given s at between.
+    let after = c.meet_any.new.run in
+    let all = c.in-Ok.ensures.plays machine given s at between.ready in
+    met_or_ends machine c.args.limits (g.R.Running.view c.round.new.run) (g.R.Running.view after) given s
+    c.args.driver.now c.round.new.driver c.meet_any.new.driver c.meet_any.result (g.K.Sink.contents c.args.out.now)
     (g.K.Sink.contents c.round.new.out)
-    c.requires.between c.in-Ok.ensures.plays c.in-Ok.ensures.ready (omega
-    (arith, c.if-driver-before.false)) c.meet_any.ensures.met
-
-pub returns-clause-ready : goal.returns-clause-ready
-returns-clause-ready g c =
-    met_ready (g.M.Machine.machine c.args.machine.now) c.args.limits c.meet_any.result c.round.new.driver.state
-    c.meet_any.new.driver.state c.round.new.driver.steps c.meet_any.new.driver.steps c.in-Ok.ensures.ready
-    c.meet_any.ensures.met
-
-pub returns-clause-watches : goal.returns-clause-watches
-returns-clause-watches g c = on_ok _ _ c.meet_any.result c.meet_any.ensures.watches c.in-Ok.ensures.watches
+    (record { prints = g.met.R.Running.shown_prints after; leaves = g.met.R.Running.shown_leaves after })
+    between all (omega (arith, c.if-driver-before.false))
+    (c.meet_any.ensures.meets machine (given ++ all.bytes) all.state all.at all.ready.on.running)
 
 pub returns-clause-on : goal.returns-clause-on
 returns-clause-on g c =
-    met_counts (g.M.Machine.machine c.args.machine.now) c.args.limits (point_of c.args.driver.now)
-    (point_of c.round.new.driver)
-    (point_of c.meet_any.new.driver) c.meet_any.result (g.K.Sink.contents c.args.out.now)
-    (g.K.Sink.contents c.round.new.out)
-    c.requires.between.counting c.in-Ok.ensures.plays (omega (arith, c.if-driver-before.false)) c.meet_any.ensures.met
+    let run = g.R.Running.view c.args.run.now in
+    let given = c.requires.given in
+    let start = c.requires.state in
+    let all = c.in-Ok.ensures.plays run.machine given start (itself run given start c.requires.shown)
+    c.requires.between.ready in
+    met_counts run.machine c.args.limits (g.R.Running.view c.round.new.run) (g.R.Running.view c.meet_any.new.run) given
+    start c.args.driver.now c.round.new.driver c.meet_any.new.driver c.meet_any.result
+    (g.K.Sink.contents c.args.out.now) (g.K.Sink.contents c.round.new.out) c.requires.between.counting all
+    (omega (arith, c.if-driver-before.false))
+    (c.meet_any.ensures.meets run.machine (given ++ all.bytes) all.state all.at all.ready.on.running)
 
 pub returns-clause-sink : goal.returns-clause-sink
 returns-clause-sink g c =
+    let run = g.R.Running.view c.args.run.now in
+    let given = c.requires.given in
+    let start = c.requires.state in
+    let all = c.in-Ok.ensures.plays run.machine given start (itself run given start c.requires.shown)
+    c.requires.between.ready in
     writes_whole _ _ _ _ _ _ _ (λ e. cc)
-    (meets_no_fault (g.M.Machine.machine c.args.machine.now) c.round.new.driver.state c.meet_any.new.driver.state
-    c.round.new.driver.steps c.meet_any.new.driver.steps c.meet_any.result c.meet_any.ensures.met)
+    (meets_no_fault (g.R.Running.view c.meet_any.new.run) run.machine (given ++ all.bytes) all.state c.round.new.driver
+    c.meet_any.new.driver c.meet_any.result
+    (c.meet_any.ensures.meets run.machine (given ++ all.bytes) all.state all.at all.ready.on.running))
     c.in-Ok.ensures.sink

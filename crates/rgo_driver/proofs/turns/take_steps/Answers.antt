@@ -1,25 +1,45 @@
-use Rattle.std.proofs.Common.{arith, subst, sym}
-use Rattle.rgo_driver.specs.declared.ends.RunEnd.TheVariants as run_end
-use Rattle.rgo_driver.specs.Points.{point_of}
-use Rattle.rgo_driver.specs.Turning.{Stopped}
-use Rattle.rgo_driver.proofs.Composed.{turned_fails}
-use Rattle.rgo_driver.proofs.Keepers.{keeps_steps}
+use Rattle.std.proofs.Common.{arith, sym, ◌∙◌}
+use Rattle.rgo_driver.proofs.Composed.{counts_saturating}
+use Rattle.rgo_driver.proofs.Left.{has_memory, turn_at}
+use Rattle.rgo_driver.proofs.Taken.{steps_to, stops_turn, stops_waking}
 use Rattle.rgo_driver.proofs.turns.take_steps.Goals as goal
 
-pub returns-in-Ok-clause-keeps : goal.returns-in-Ok-clause-keeps
-returns-in-Ok-clause-keeps g c =
+pub returns-in-Some-clause-steps : goal.returns-in-Some-clause-steps
+returns-in-Some-clause-steps g c = λ machine given s at on.
+    let new = g.R.Running.view c.turn-turned.new.self in
+    let turned = c.turn-turned.result in
+    stops_turn new machine c.args.limits c.args.g given s c.args.left turned c.in-Some.end
+    (c.turn-turned.ensures.machine ∙ at.is) (sym c.end_of.ensures ∙ c.in-Some.is)
+    (turn_at (g.R.Running.view c.args.run.now) new machine c.args.limits given s c.args.g c.args.left turned at on
+    c.turn-turned.ensures.turns)
+
+pub returns-in-Err-clause-steps : goal.returns-in-Err-clause-steps
+returns-in-Err-clause-steps g c = λ machine given s at on.
+    let new = g.R.Running.view c.turn-turned.new.self in
+    let turned = c.turn-turned.result in
+    stops_waking new machine c.args.limits c.args.g given s c.args.left turned (c.turn-turned.ensures.machine ∙ at.is)
+    (turn_at (g.R.Running.view c.args.run.now) new machine c.args.limits given s c.args.g c.args.left turned at on
+    c.turn-turned.ensures.turns)
+
+pub returns-in-Ok-clause-steps : goal.returns-in-Ok-clause-steps
+returns-in-Ok-clause-steps g c = λ machine given s at on.
+    let new = g.R.Running.view c.turn-turned.new.self in
+    let turned = c.turn-turned.result in
     let woke = c.in-Ok.ensures in
-    keeps_steps (g.M.Machine.machine c.args.machine.now) c.args.g c.args.limits (point_of c.args.driver.now)
-    (point_of c.wake.new.driver) c.args.left c.turn-turned.result c.turn-turned.new.state woke.state
-    c.requires.on.running
-    c.turn-turned.ensures woke.stay
-    (λ h past lt. woke.fresh h (omega (arith, past, c.goroutines-from.ensures)) lt)
+    let none = sym c.end_of.ensures ∙ c.in_default.is in
+    let taken = turn_at (g.R.Running.view c.args.run.now) new machine c.args.limits given s c.args.g c.args.left turned
+    at on c.turn-turned.ensures.turns in
+    let from = c.goroutines-from.ensures given s at.shown in
+    let to = c.goroutines-to.ensures given taken.state (taken.shows (has_memory turned.stop none)) in
+    steps_to new machine c.args.limits c.args.g given s c.args.driver.now c.wake.new.driver c.args.left turned
+    (c.turn-turned.ensures.machine ∙ at.is) on none taken
+    (counts_saturating c.args.driver.now.steps c.wake.new.driver.steps turned.steps
+    (woke.steps ∙ c.saturating_add-driver.ensures))
+    woke.stay
+    (λ h past lt. woke.fresh h (omega (arith, past, from)) (omega (arith, lt, to)))
     woke.woken woke.others
 
-pub returns-in-Err-clause-turns : goal.returns-in-Err-clause-turns
-returns-in-Err-clause-turns g c =
-    let machine = g.M.Machine.machine c.args.machine.now in
-    subst (λ t. Stopped machine c.args.limits c.args.g c.args.driver.now.state t c.args.left run_end.NoMemory)
-    (sym c.in-Err.ensures.state)
-    (turned_fails machine c.args.limits c.args.g c.args.left c.args.driver.now.state c.turn-turned.new.state
-    c.turn-turned.result c.turn-turned.ensures)
+pub returns-in-Ok-clause-within : goal.returns-in-Ok-clause-within
+returns-in-Ok-clause-within g c =
+    let taken = c.turn-turned.ensures.turns c.requires.given c.requires.state c.requires.shown c.requires.on in
+    taken.turns.within

@@ -1,16 +1,17 @@
-use Rattle.std.proofs.Common.{◌≤◌, ◌-◌}
-use Rattle.rgo_driver.specs.Points.{point_of}
-use Rattle.rgo_driver.specs.Sleeping.{Keeps}
-use Rattle.rgo_driver.specs.Turning.{Moved}
+use Rattle.std.proofs.Common.{◌≡◌, ◌≤◌, ◌-◌, ℕ, List}
+use Rattle.rgo_machine.specs.Machines.{Machine, State}
+use Rattle.rgo_driver.specs.Running.{GoesOn, IsAt}
+use Rattle.rgo_driver.specs.Taking.{MovesTo}
 use Rattle.rgo_driver.proofs.turns.take_turn.Given as goal
 
 -- the steps so far, and that no goroutine was lost
 abbrev pub invariant-loop-left : goal.invariant-loop-left
 invariant-loop-left g l = record {
-  moved : Moved (g.M.Machine.machine l.machine) l.limits l.g (point_of l.initial.driver) (point_of l.driver)
-      (1000 - l.left);
+  moves : (machine : Machine g.row.R-Frame.Denot) (given : List ℕ) (s : State g.row.R-Frame.Denot)
+      → IsAt (g.R.Running.view l.initial.run) machine given s → GoesOn l.limits s
+      → MovesTo (g.R.Running.view l.run) machine l.limits l.g given s l.initial.driver l.driver (1000 - l.left);
+  fixed : (g.R.Running.view l.run).fixed ≡ (g.R.Running.view l.initial.run).fixed;
   within : l.left ≤ 1000;
-  keeps : Keeps (g.M.Machine.machine l.machine) l.g (point_of l.initial.driver) (point_of l.driver);
 }
 
 abbrev pub decreases-loop-left : goal.decreases-loop-left

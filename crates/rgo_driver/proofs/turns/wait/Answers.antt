@@ -1,65 +1,82 @@
-use Rattle.std.proofs.Common.{◌++◌, ◌∷◌, [], ap, refl, sym, ◌∙◌}
-use Rattle.rgo_driver.specs.Points.{point_of}
-use Rattle.rgo_driver.proofs.Composed.{meeting_moves, meeting_fails, nothing_fails, not_met}
-use Rattle.rgo_driver.proofs.Keepers.{keeps_pick, keeps_joined}
+use Rattle.std.proofs.Common.{◌++◌, ◌∷◌, [], Ok, true, false, ap, append-nil, refl, subst, sym, ◌∙◌}
+use Rattle.rgo_driver.specs.Probing.{Tries}
+use Rattle.rgo_driver.proofs.Left.{left_over_of}
+use Rattle.rgo_driver.proofs.Taken.{joins, meets_last, stops_here, stops_meeting}
 use Rattle.rgo_driver.proofs.turns.wait.Goals as goal
 
-pub returns-in-Ok-come_back-clause-went : goal.returns-in-Ok-come_back-clause-went
-returns-in-Ok-come_back-clause-went g c =
-    let machine = g.M.Machine.machine c.args.machine.now in
-    meeting_moves machine c.args.limits c.args.g c.in-Some.partner c.meeting-pick.result (point_of c.args.driver.now)
-    (point_of c.come_back.new.driver) c.meet.new.state c.meet.new.steps c.in-Ok-true.field-0 c.requires.on
-    c.meeting-pick.ensures
-    c.in-Ok-true.field-0-test c.in-Ok-true.ensures c.in-Ok-come_back.ensures.state c.in-Ok-come_back.ensures.steps
+pub returns-in-Ok-clause-waits : goal.returns-in-Ok-clause-waits
+returns-in-Ok-clause-waits g c = λ machine given s at on still waits.
+    let taken = c.take_list-list.ensures in
+    joins (g.R.Running.view c.args.run.now) machine c.args.limits c.args.g given s c.args.driver.now _ c.args.channel at
+    on still waits refl refl
+    (c.in-Ok.ensures.joined
+    ∙ ap (λ l. l ++ c.args.g ∷ []) (sym (append-nil _) ∙ sym c.in_default.ensures.items ∙ taken.taken))
+    (λ n other. c.in-Ok.ensures.others n other ∙ taken.others n other)
 
-pub returns-in-Ok-come_back-clause-keeps : goal.returns-in-Ok-come_back-clause-keeps
-returns-in-Ok-come_back-clause-keeps g c =
-    let machine = g.M.Machine.machine c.args.machine.now in
+pub returns-in-Err-clause-waits : goal.returns-in-Err-clause-waits
+returns-in-Err-clause-waits g c = λ machine given s at on still waits.
+    let run = g.R.Running.view c.args.run.now in
+    stops_here run machine c.args.limits c.args.g given s 1
+    (left_over_of run machine given s
+    (record {
+      prints = g.met.R.Running.shown_prints c.args.run.now;
+      leaves = g.met.R.Running.shown_leaves c.args.run.now;
+    })
+    at)
+
+pub returns-in-Ok-come_back-clause-waits : goal.returns-in-Ok-come_back-clause-waits
+returns-in-Ok-come_back-clause-waits g c = λ machine given s at on still waits.
+    let run = g.R.Running.view c.meet.new.run in
+    let d = c.args.driver.now in
     let taken = c.take_list-list.ensures in
     let back = c.in-Ok-come_back.ensures in
-    keeps_pick machine c.args.limits c.args.g c.in-Some.partner c.args.channel c.meeting-pick.result
-    (point_of c.args.driver.now)
-    (point_of c.come_back.new.driver) c.meet.new.state c.args.driver.now.steps c.meet.new.steps c.pop.new.self.items
-    c.in-Ok-true.field-0 c.requires.on.running
-    c.meeting-pick.ensures c.in-Ok-true.field-0-test c.in-Ok-true.ensures back.state back.ready
+    let met : Tries run machine given s c.meeting-met.result d.steps c.meet.new.steps (Ok true) =
+    subst (λ b. Tries run machine given s c.meeting-met.result d.steps c.meet.new.steps (Ok b))
+    c.in-Ok-true.field-0-test (c.in-Ok-true.ensures.tries machine given s at on.running) in
+    meets_last run machine c.args.limits c.args.g given s d c.come_back.new.driver c.in-Some.partner c.args.channel
+    c.meet.new.steps c.meeting-met.result c.pop.new.self.items on c.meeting-met.ensures met back.steps back.ready
     (sym taken.taken ∙ c.in-Some.ensures.items) back.rest
     (λ n other. back.others n other ∙ taken.others n other)
 
-pub returns-in-Err-come_back-clause-went : goal.returns-in-Err-come_back-clause-went
-returns-in-Err-come_back-clause-went g c =
-    let machine = g.M.Machine.machine c.args.machine.now in
-    meeting_fails machine c.args.limits c.args.g c.in-Some.partner c.meeting-pick.result (point_of c.args.driver.now)
-    (point_of c.come_back.new.driver) c.meet.new.state c.meet.new.steps c.in-Ok-true.field-0 c.requires.on
-    c.meeting-pick.ensures
-    c.in-Ok-true.field-0-test c.in-Ok-true.ensures c.in-Err-come_back.ensures.state c.in-Err-come_back.ensures.steps
+pub returns-in-Err-come_back-clause-waits : goal.returns-in-Err-come_back-clause-waits
+returns-in-Err-come_back-clause-waits g c = λ machine given s at on still waits.
+    let after = c.meet.new.run in
+    let run = g.R.Running.view after in
+    let d = c.args.driver.now in
+    let met : Tries run machine given s c.meeting-met.result d.steps c.meet.new.steps (Ok true) =
+    subst (λ b. Tries run machine given s c.meeting-met.result d.steps c.meet.new.steps (Ok b))
+    c.in-Ok-true.field-0-test (c.in-Ok-true.ensures.tries machine given s at on.running) in
+    stops_meeting run machine c.args.limits c.args.g given s c.in-Some.partner d.steps c.meet.new.steps
+    c.meeting-met.result on c.meeting-met.ensures met
+    (left_over_of run machine given met.state
+    (record { prints = g.met.R.Running.shown_prints after; leaves = g.met.R.Running.shown_leaves after }) met.at)
 
-pub returns-in-Err-meet-clause-went : goal.returns-in-Err-meet-clause-went
-returns-in-Err-meet-clause-went g c =
-    nothing_fails (g.M.Machine.machine c.args.machine.now) c.args.limits c.args.g 1 c.args.driver.now.state
-    c.meet.new.state
-    c.in-Err-meet.ensures.0
-
-pub returns-in-Ok-join_both-clause-keeps : goal.returns-in-Ok-join_both-clause-keeps
-returns-in-Ok-join_both-clause-keeps g c =
-    let machine = g.M.Machine.machine c.args.machine.now in
+pub returns-in-Ok-join_both-clause-waits : goal.returns-in-Ok-join_both-clause-waits
+returns-in-Ok-join_both-clause-waits g c = λ machine given s at on still waits.
+    let run = g.R.Running.view c.meet.new.run in
     let d = c.args.driver.now in
     let taken = c.take_list-list.ensures in
     let both = c.in-Ok-join_both.ensures in
-    let same = not_met machine c.args.limits d.state c.meet.new.state d.steps c.meet.new.steps c.meeting-pick.result
-    c.in-Ok-false.field-0 c.in-Ok-false.field-0-test c.in-Ok-false.ensures in
-    keeps_joined machine c.args.limits c.args.g c.args.channel (point_of d) _ c.requires.on.running same.0 refl
+    let apart : Tries run machine given s c.meeting-met.result d.steps c.meet.new.steps (Ok false) =
+    subst (λ b. Tries run machine given s c.meeting-met.result d.steps c.meet.new.steps (Ok b))
+    c.in-Ok-false.field-0-test (c.in-Ok-false.ensures.tries machine given s at on.running) in
+    joins run machine c.args.limits c.args.g given s d _ c.args.channel apart.1 on still waits apart.2 refl
     (both.joined ∙ ap (λ l. l ++ c.args.g ∷ []) (sym (sym taken.taken ∙ c.in-Some.ensures.items)))
     (λ n other. both.others n other ∙ taken.others n other)
 
-pub returns-in-Err-join_both-clause-went : goal.returns-in-Err-join_both-clause-went
-returns-in-Err-join_both-clause-went g c =
-    let machine = g.M.Machine.machine c.args.machine.now in
+pub returns-in-Err-join_both-clause-waits : goal.returns-in-Err-join_both-clause-waits
+returns-in-Err-join_both-clause-waits g c = λ machine given s at on still waits.
+    let after = c.meet.new.run in
+    let run = g.R.Running.view after in
     let d = c.args.driver.now in
-    let same = not_met machine c.args.limits d.state c.meet.new.state d.steps c.meet.new.steps c.meeting-pick.result
-    c.in-Ok-false.field-0 c.in-Ok-false.field-0-test c.in-Ok-false.ensures in
-    nothing_fails machine c.args.limits c.args.g 1 d.state c.meet.new.state same.0
+    let apart : Tries run machine given s c.meeting-met.result d.steps c.meet.new.steps (Ok false) =
+    subst (λ b. Tries run machine given s c.meeting-met.result d.steps c.meet.new.steps (Ok b))
+    c.in-Ok-false.field-0-test (c.in-Ok-false.ensures.tries machine given s at on.running) in
+    stops_here run machine c.args.limits c.args.g given s 1
+    (left_over_of run machine given s
+    (record { prints = g.met.R.Running.shown_prints after; leaves = g.met.R.Running.shown_leaves after }) apart.1)
 
-pub returns-in-Err-clause-went : goal.returns-in-Err-clause-went
-returns-in-Err-clause-went g c =
-    nothing_fails (g.M.Machine.machine c.args.machine.now) c.args.limits c.args.g 1 c.args.driver.now.state
-    c.args.driver.now.state refl
+pub returns-in-Err-meet-clause-waits : goal.returns-in-Err-meet-clause-waits
+returns-in-Err-meet-clause-waits g c = λ machine given s at on still waits.
+    stops_here (g.R.Running.view c.meet.new.run) machine c.args.limits c.args.g given s 1
+    (c.in-Err-meet.ensures.tries machine given s at on.running)

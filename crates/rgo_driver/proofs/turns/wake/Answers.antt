@@ -1,4 +1,4 @@
-use Rattle.std.proofs.Common.{◌≡◌, Contains, ap, subst, sym, ◌∙◌, arith}
+use Rattle.std.proofs.Common.{◌≡◌, Contains, ap, subst, sym, ◌∙◌}
 use Rattle.std.proofs.lemmas.List.Elements.{Contains-append_left, Contains-append_right}
 use Rattle.rgo_driver.specs.Points.{listed}
 use Rattle.rgo_driver.specs.Turning.{operated}
@@ -6,17 +6,17 @@ use Rattle.std.proofs.lemmas.Option.{same_Some}
 use Rattle.rgo_driver.proofs.turns.wake.Goals as goal
 
 pub returns-in_ok-extend_from_slice-clause-stay : goal.returns-in_ok-extend_from_slice-clause-stay
-returns-in_ok-extend_from_slice-clause-stay g c = λ h m.
+returns-in_ok-extend_from_slice-clause-stay c = λ h m.
     subst (λ l. Contains l h) (sym c.in_ok-extend_from_slice.ensures.items)
     (Contains-append_left _ _ h (c.in_ok-admit.ensures.stay h m))
 
 pub returns-in_ok-extend_from_slice-clause-fresh : goal.returns-in_ok-extend_from_slice-clause-fresh
-returns-in_ok-extend_from_slice-clause-fresh g c = λ h past lt.
+returns-in_ok-extend_from_slice-clause-fresh c = λ h past lt.
     subst (λ l. Contains l h) (sym c.in_ok-extend_from_slice.ensures.items)
-    (Contains-append_left _ _ h (c.in_ok-admit.ensures.fresh h past (omega (arith, lt, c.goroutines-to.ensures))))
+    (Contains-append_left _ _ h (c.in_ok-admit.ensures.fresh h past lt))
 
 pub returns-in_ok-extend_from_slice-clause-woken : goal.returns-in_ok-extend_from_slice-clause-woken
-returns-in_ok-extend_from_slice-clause-woken g c = λ n h is m.
+returns-in_ok-extend_from_slice-clause-woken c = λ n h is m.
     let here : c.in-Operated.channel ≡ n =
     same_Some c.in-Operated.channel n (ap operated (sym c.in-Operated.is) ∙ is) in
     subst (λ l. Contains l h) (sym c.in_ok-extend_from_slice.ensures.items)

@@ -1,0 +1,100 @@
+//! Runs of machines whose states are held in full.
+
+ghost use Rattle.std.specs.Prelude.{◌≡◌};
+ghost use Rattle.rgo_driver.specs.Plain as plain;
+
+use crate::running::Running;
+use rgo_machine::{
+    Limits, Machine, Pick, Stand, State, Stepped, Stop, Turned, find_meeting, standing, step, turn,
+};
+use std::alloc::{AllocError, Global};
+
+/// A run whose state is held in full.
+#[derive(Drop)]
+pub struct Plain<'a, M: Machine> {
+    pub machine: &'a M,
+    pub state: State<M::Frame>,
+}
+
+impl<'a, M: Machine> Plain<'a, M> {
+    /// A run of the machine from this state.
+    pub fn new(machine: &'a M, state: State<M::Frame>) -> Plain<'a, M>
+        ensures machine { result.machine.now ≡ machine.now }
+        ensures state { result.state ≡ state }
+    {
+        Plain { machine, state }
+    }
+}
+
+/// Why a turn was over of a machine whose objects do not lie in regions: what is short is memory.
+fn without_regions(stop: Stop) -> Stop
+    ensures { result ≡ plain.without_regions stop }
+{
+    match stop {
+        Stop::NoRoom(_) => Stop::NoMemory,
+        _ => stop,
+    }
+}
+
+impl<'a, M: Machine> Running for Plain<'a, M> {
+    ghost use Rattle.std.specs.Prelude.{◌≡◌};
+
+    type Frame = M::Frame;
+
+    type Fixed = ();
+
+    ghost view = { λ run. record {
+      machine = M.machine run.machine.now;
+      shows = λ given s. s ≡ run.state;
+      leaves = λ given s. s ≡ run.state;
+      lacks = λ shortage given s. ⊥;
+      print = run.state.printed;
+      fixed = tt;
+    } };
+
+    ghost use Rattle.std.proofs.Common.{ap};
+
+    ghost shown_prints = { λ run given s is. ap (λ v. v.printed) is };
+
+    ghost shown_leaves = { λ run given s is. is };
+
+    fn goroutines(&self) -> usize {
+        self.state.goroutines()
+    }
+
+    fn standing(&self, g: usize) -> Option<Stand> {
+        standing(self.machine, &self.state, g)
+    }
+
+    fn printed(&self) -> &[u8] {
+        self.state.printed()
+    }
+
+    fn clear_printed(&mut self) {
+        self.state.clear_printed();
+    }
+
+    fn turn(&mut self, alloc: Global, limits: Limits, g: usize, at_most: usize) -> Turned {
+        let turned = turn(alloc, self.machine, &mut self.state, limits, g, at_most);
+        Turned {
+            steps: turned.steps,
+            stop: without_regions(turned.stop),
+        }
+    }
+
+    fn meet(&mut self, alloc: Global, receiver: usize, sender: usize) -> Result<bool, AllocError> {
+        match step(
+            alloc,
+            self.machine,
+            &mut self.state,
+            Pick::Meet(receiver, sender),
+        )? {
+            Stepped::NotEnabled => Ok(false),
+            Stepped::Advanced | Stepped::Ended(_) => Ok(true),
+        }
+    }
+
+    fn find_meeting(&self, alloc: Global) -> Result<Option<(usize, usize)>, AllocError> {
+        find_meeting(alloc, self.machine, &self.state)
+    }
+}
