@@ -18,12 +18,20 @@ _rgo_files() {
     COMPREPLY=($(compgen -f -X '!*.go' -- "${COMP_WORDS[COMP_CWORD]}") $(compgen -d -- "${COMP_WORDS[COMP_CWORD]}"))
 }
 
+# Offers the options of a run, but not where the number of one is expected.
+_rgo_run_options() {
+    local last=${COMP_WORDS[COMP_CWORD - 1]}
+    if [[ $last != --* || $last == --stats ]]; then
+        _rgo_words --steps --goroutines --pages --page-words --regions --stats
+    fi
+}
+
 _rgo() {
     COMPREPLY=()
     if ((COMP_CWORD == 1)); then
         _rgo_words run check emit code
-    elif [[ ${COMP_WORDS[1]} == run && ${COMP_WORDS[COMP_CWORD - 1]} != --* ]]; then
-        _rgo_words --steps --goroutines
+    elif [[ ${COMP_WORDS[1]} == run ]]; then
+        _rgo_run_options
     fi
 }
 
@@ -35,8 +43,8 @@ _rgor() {
         _rgo_words --check
     elif ((COMP_CWORD == file)); then
         _rgo_files
-    elif ((file == 1)) && [[ ${COMP_WORDS[COMP_CWORD - 1]} != --* ]]; then
-        _rgo_words --steps --goroutines
+    elif ((file == 1)); then
+        _rgo_run_options
     fi
 }
 

@@ -1,4 +1,4 @@
--- A first word that names no command asks for nothing, whatever stands behind it.
+-- A first word that names no command asks for nothing, whatever follows it.
 use Rattle.std.proofs.Common.{◌≡◌, refl, ap, codes, cond, Bool, true, false, List, [], ◌∷◌, None}
 use Rattle.std.specs.Prelude.{find}
 use Rattle.std.specs.Str.{bytes_eq}

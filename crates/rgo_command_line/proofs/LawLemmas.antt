@@ -1,63 +1,34 @@
 -- Which words ask for a command.
-use Rattle.std.proofs.Common.{◌≡◌, ◌∙◌, refl, sym, ap, subst, codes, Bool, true, false, List, [], ◌∷◌, ◌++◌}
-use Rattle.std.proofs.Common.{Option, Some, None, ◌⊎◌, inl, inr, ℕ, option_map}
-use Rattle.std.specs.Option.{option_and_then}
+use Rattle.std.proofs.Common.{◌≡◌, ◌∙◌, refl, sym, ap, subst, codes, cond, Bool, true, false, List, [], ◌∷◌, ◌++◌, map}
+use Rattle.std.proofs.Common.{Option, Some, None, inl, inr, ℕ, ◌*◌, ◌≤◌, nat_le, option_map, arith}
+use Rattle.std.specs.Prelude.{is_some}
+use Rattle.std.specs.List.Sorted.{IsPermutation}
 use Rattle.std.specs.Str.{bytes_eq}
+use Rattle.std.specs.Str.Parse.{digits_value}
+use Rattle.std.proofs.lemmas.Bool.Decides.{nat_tests}
+use Rattle.std.proofs.lemmas.List.Sorted.{IsPermutation-map}
 use Rattle.std.proofs.lemmas.Slice.Eq.{bytes_eq-Decides}
 use Rattle.clap.specs.Words.{Text}
-use Rattle.clap.proofs.OnLiterals.{clap_on_literals}
 use Rattle.rgo_command_line.specs.Commands.{command_of}
-use Rattle.rgo_command_line.specs.Laws.{ArePlain, AreWordsOf, AskExactly, AskForCommands, AskForNothing, IsEnd}
-use Rattle.rgo_command_line.specs.Limits.{goroutine_bounds, limit_by, step_bounds}
+use Rattle.rgo_command_line.specs.Laws.{ArePlain, AreWordsOf, AskExactly, IsEnd, SetFlag, SetOptions}
+use Rattle.rgo_command_line.specs.Laws.{joined}
+use Rattle.rgo_command_line.specs.Limits.{Fits, goroutine_bounds, limit_by, most_words, page_bounds, page_word_bounds}
+use Rattle.rgo_command_line.specs.Limits.{region_bounds, step_bounds}
+use Rattle.rgo_command_line.specs.Numbers.{is_numeral, within}
 use Rattle.rgo_command_line.specs.declared.commands.Command.{Command}
 use Rattle.rgo_command_line.specs.declared.commands.Command.TheVariants.{Run, Check, Emit, Code}
-use Rattle.rgo_machine.specs.declared.limits.Limits.{Limits}
+use Rattle.rgo_command_line.specs.declared.limits.Bounds.{Bounds}
+use Rattle.rgo_command_line.specs.declared.limits.RunOptions.{RunOptions}
+use Rattle.rgo_machine.specs.declared.limits.Sizes.{Sizes}
 use Rattle.rgo_command_line.proofs.FirstWordLemmas.{other_word}
-use Rattle.rgo_command_line.proofs.OptionLemmas.{AreOptions, MetOptions, asks, met_options}
+use Rattle.rgo_command_line.proofs.OptionLemmas.{AreOptions, Gives, IsNumeral, MetOptions, asks, met_options}
+use Rattle.rgo_command_line.proofs.OrderLemmas.{names, names_in_order}
 use Rattle.rgo_command_line.proofs.RestLemmas.{Plain, check, code, emit, more_rest, name_of, other_rest, plain_command}
+use Rattle.rgo_command_line.proofs.LiteralLemmas.{commands, nothing}
 use Rattle.rgo_command_line.proofs.RunLemmas.{at_first, between, from}
-
--- at words that are written out, `clap`'s definition computes what they ask for
-pub commands : AskForCommands
-unfolding clap_on_literals
-commands = record {
-  run = λ program. refl;
-  run_ended = λ program. refl;
-  apart = λ program. refl;
-  joined = λ program. refl;
-  zeros = λ program. refl;
-  both = λ program. refl;
-  check = λ program. refl;
-  check_ended = λ program. refl;
-  emit = λ program. refl;
-  emit_ended = λ program. refl;
-  code = λ program. refl;
-  code_ended = λ program. refl;
-}
-
-pub nothing : AskForNothing
-unfolding clap_on_literals
-nothing = record {
-  no_words = refl;
-  no_command = λ program. refl;
-  help = λ program. refl;
-  help_flag = λ program. refl;
-  version_flag = λ program. refl;
-  unknown = λ program. refl;
-  twice = λ program. refl;
-  before = λ program. refl;
-  check_option = λ program. refl;
-  emit_option = λ program. refl;
-  code_option = λ program. refl;
-  two_commands = λ program. refl;
-  option_twice = λ program. refl;
-  no_steps = λ program. refl;
-  many_steps = λ program. refl;
-  many_goroutines = λ program. refl;
-  no_word_holds = λ program. refl;
-  signed = λ program. refl;
-  empty = λ program. refl;
-}
+use Rattle.rgo_command_line.proofs.StatusLemmas.{Values, options_from, run_by}
+use Rattle.rgo_command_line.proofs.WordLemmas.{Name, Number, goroutines, number, page_words, pages, regions}
+use Rattle.rgo_command_line.proofs.WordLemmas.{stats, steps}
 
 -- the words are those of the command that they ask for
 abbrev Tells : List Text → Type 0
@@ -66,8 +37,87 @@ Tells words = (command : Command) → command_of words ≡ Some command → AreW
 tells_nothing : (words : List Text) → command_of words ≡ None → Tells words
 tells_nothing words none command e = cc
 
-behind_run : (program : Text) (rest : List Text) → Tells (program ∷ codes "run" ∷ rest)
-behind_run program rest command e = by_met (met_options rest)
+-- ---- the options of a run
+
+-- the values set these options
+record Sets (v : Values) (options : RunOptions) : Type 0 where
+  is_steps : limit_by step_bounds (v (number steps)) ≡ Some options.limits.steps
+  is_goroutines : limit_by goroutine_bounds (v (number goroutines)) ≡ Some options.limits.goroutines
+  is_pages : limit_by page_bounds (v (number pages)) ≡ Some options.sizes.pages
+  is_page_words : limit_by page_word_bounds (v (number page_words)) ≡ Some options.sizes.page_words
+  is_regions : limit_by region_bounds (v (number regions)) ≡ Some options.sizes.regions
+  is_stats : is_some (v stats) ≡ options.stats
+  fits : Fits options.sizes
+
+fits_by : (n : ℕ) → nat_le n most_words ≡ true → n ≤ most_words
+fits_by n e = grind (arith, nat_tests, e)
+
+test_fits : (n : ℕ) → n ≤ most_words → nat_le n most_words ≡ true
+test_fits n h = grind (arith, nat_tests, h)
+
+-- values that ask for a command set its options
+abbrev Found : Values → Command → Type 0
+Found v command = (options : RunOptions) × Sets v options × (Run options ≡ command)
+
+found : (v : Values) (command : Command) → run_by v ≡ Some command → Found v command
+found v command asked =
+    by_numbers (limit_by step_bounds (v (number steps))) (limit_by goroutine_bounds (v (number goroutines)))
+    (limit_by page_bounds (v (number pages))) (limit_by page_word_bounds (v (number page_words)))
+    (limit_by region_bounds (v (number regions))) refl refl refl refl refl asked
+  where
+    by_fit : (s g : ℕ) (sizes : Sizes) (b : Bool)
+        → nat_le (sizes.pages * sizes.page_words) most_words ≡ b
+        → limit_by step_bounds (v (number steps)) ≡ Some s
+        → limit_by goroutine_bounds (v (number goroutines)) ≡ Some g
+        → limit_by page_bounds (v (number pages)) ≡ Some sizes.pages
+        → limit_by page_word_bounds (v (number page_words)) ≡ Some sizes.page_words
+        → limit_by region_bounds (v (number regions)) ≡ Some sizes.regions
+        → option_map Run (option_map (λ (z : Sizes). record {
+          limits = record { steps = s; goroutines = g };
+          sizes = z;
+          stats = is_some (v stats);
+        }) (cond b (Some sizes) None)) ≡ Some command
+        → Found v command
+    by_fit s g sizes false fit hs hg hp hw hr e = cc
+    by_fit s g sizes true fit hs hg hp hw hr e =
+        let options : RunOptions = record {
+          limits = record { steps = s; goroutines = g };
+          sizes = sizes;
+          stats = is_some (v stats);
+        } in
+        let is : Run options ≡ command = cc in (
+          options,
+          record {
+            is_steps = hs;
+            is_goroutines = hg;
+            is_pages = hp;
+            is_page_words = hw;
+            is_regions = hr;
+            is_stats = refl;
+            fits = fits_by (sizes.pages * sizes.page_words) fit;
+          },
+          is,
+        )
+
+    by_numbers : (s g p w r : Option ℕ)
+        → limit_by step_bounds (v (number steps)) ≡ s
+        → limit_by goroutine_bounds (v (number goroutines)) ≡ g
+        → limit_by page_bounds (v (number pages)) ≡ p
+        → limit_by page_word_bounds (v (number page_words)) ≡ w
+        → limit_by region_bounds (v (number regions)) ≡ r
+        → option_map Run (options_from s g p w r (is_some (v stats))) ≡ Some command
+        → Found v command
+    by_numbers None g p w r hs hg hp hw hr e = cc
+    by_numbers (Some s) None p w r hs hg hp hw hr e = cc
+    by_numbers (Some s) (Some g) p None r hs hg hp hw hr e = cc
+    by_numbers (Some s) (Some g) None (Some w) r hs hg hp hw hr e = cc
+    by_numbers (Some s) (Some g) (Some p) (Some w) None hs hg hp hw hr e = cc
+    by_numbers (Some s) (Some g) (Some p) (Some w) (Some r) hs hg hp hw hr e =
+        by_fit s g (record { page_words = w; pages = p; regions = r }) (nat_le (p * w) most_words) refl
+        hs hg hp hw hr e
+
+after_run : (program : Text) (rest : List Text) → Tells (program ∷ codes "run" ∷ rest)
+after_run program rest command e = by_met (met_options rest)
   where
     words : List Text
     words = program ∷ codes "run" ∷ rest
@@ -75,51 +125,127 @@ behind_run program rest command e = by_met (met_options rest)
     met : from (between [] None) rest ≡ Some command
     met = sym (at_first program rest) ∙ e
 
-    of_limits : (s g : Option Text) (limits : Limits)
-        → AreOptions s g rest
-        → limit_by step_bounds s ≡ Some limits.steps
-        → limit_by goroutine_bounds g ≡ Some limits.goroutines
-        → AreWordsOf (Run limits) words
-    of_limits s g limits o d f = by_order o.whole
-      where
-        by_order : (rest ≡ (o.first ++ o.second) ++ o.ending) ⊎ (rest ≡ (o.second ++ o.first) ++ o.ending)
-            → AreWordsOf (Run limits) words
-        by_order (inl is) = (
-          program,
-          o.first ++ o.second,
-          o.ending,
-          (s, g, d, f, o.first, o.second, o.gives_steps, o.gives_goroutines, inl refl),
-          o.ends,
-          ap (λ r. program ∷ codes "run" ∷ r) is,
-        )
-        by_order (inr is) = (
-          program,
-          o.second ++ o.first,
-          o.ending,
-          (s, g, d, f, o.first, o.second, o.gives_steps, o.gives_goroutines, inr refl),
-          o.ends,
-          ap (λ r. program ∷ codes "run" ∷ r) is,
-        )
+    flag : (value : Option Text) (b : Bool) (mine : List Text)
+        → is_some value ≡ b
+        → Gives stats value mine
+        → SetFlag (codes "stats") b mine
+    flag None false mine is give = give
+    flag (Some v) true mine is give = give.1
+    flag None true mine is give = cc
+    flag (Some v) false mine is give = cc
 
-    by_limits : (s g : Option Text) (a b : Option ℕ)
-        → AreOptions s g rest
-        → limit_by step_bounds s ≡ a
-        → limit_by goroutine_bounds g ≡ b
-        → option_map Run (option_and_then (λ steps. option_map (λ goroutines. record {
-          steps = steps;
-          goroutines = goroutines;
-        }) b) a) ≡ Some command
-        → AreWordsOf command words
-    by_limits s g None b options d f is = cc
-    by_limits s g (Some x) None options d f is = cc
-    by_limits s g (Some x) (Some y) options d f is =
-        let same : Run (record { steps = x; goroutines = y }) ≡ command = cc in
-        subst (λ c. AreWordsOf c words) same (of_limits s g (record { steps = x; goroutines = y }) options d f)
+    of_options : (v : Values) (options : RunOptions)
+        → AreOptions v rest
+        → Sets v options
+        → AreWordsOf (Run options) words
+    of_options v options are sets = (
+      program,
+      joined (map are.words are.order),
+      are.ending,
+      record {
+        steps = are.words (number steps);
+        goroutines = are.words (number goroutines);
+        pages = are.words (number pages);
+        page_words = are.words (number page_words);
+        regions = are.words (number regions);
+        stats = are.words stats;
+        set_steps = (v (number steps), sets.is_steps, are.gives (number steps));
+        set_goroutines = (v (number goroutines), sets.is_goroutines, are.gives (number goroutines));
+        set_pages = (v (number pages), sets.is_pages, are.gives (number pages));
+        set_page_words = (v (number page_words), sets.is_page_words, are.gives (number page_words));
+        set_regions = (v (number regions), sets.is_regions, are.gives (number regions));
+        set_stats = flag (v stats) options.stats (are.words stats) sets.is_stats (are.gives stats);
+        fits = sets.fits;
+        order = map are.words are.order;
+        permuted = IsPermutation-map are.words names are.order are.permuted;
+        whole = refl;
+      },
+      are.ends,
+      ap (λ r. program ∷ codes "run" ∷ r) are.whole,
+    )
+
+    by_found : (v : Values) → AreOptions v rest → Found v command → AreWordsOf command words
+    by_found v are (options, sets, is) = subst (λ c. AreWordsOf c words) is (of_options v options are sets)
 
     by_met : MetOptions rest → AreWordsOf command words
     by_met (inl none) = tells_nothing words (at_first program rest ∙ none) command e
-    by_met (inr (s, g, options, is)) =
-        by_limits s g (limit_by step_bounds s) (limit_by goroutine_bounds g) options refl refl (sym is ∙ met)
+    by_met (inr (v, are, is)) = by_found v are (found v command (sym is ∙ met))
+
+-- what sets a number is a numeral
+sets_by_numeral : (bounds : Bounds) (n : Number) (value : Option Text) (k : ℕ)
+    → limit_by bounds value ≡ Some k
+    → IsNumeral (number n) value
+sets_by_numeral bounds n None k e = tt
+sets_by_numeral bounds n (Some text) k e = by_numeral (is_numeral text) e
+  where
+    by_numeral : (b : Bool)
+        → within bounds.least bounds.most (cond b (Some (digits_value 10 text)) None) ≡ Some k
+        → b ≡ true
+    by_numeral true e = refl
+    by_numeral false e = cc
+
+-- words that set these options ask for a run with them
+asks_set : (options : RunOptions) (set ending : List Text)
+    → SetOptions options set
+    → IsEnd ending
+    → from (between [] None) (set ++ ending) ≡ Some (Run options)
+asks_set options set ending sets ends =
+    ap (λ w. from (between [] None) (w ++ ending)) (sets.whole ∙ ap joined places.2)
+    ∙ asks values words ending gives numerals ends places.0 places.1
+    ∙ (rw (
+      sets.set_steps.1,
+      sets.set_goroutines.1,
+      sets.set_pages.1,
+      sets.set_page_words.1,
+      sets.set_regions.1,
+      test_fits (options.sizes.pages * options.sizes.page_words) sets.fits,
+      flag_is options.stats,
+    ) refl)
+  where
+    values : Values
+    values (number steps) = sets.set_steps.0
+    values (number goroutines) = sets.set_goroutines.0
+    values (number pages) = sets.set_pages.0
+    values (number page_words) = sets.set_page_words.0
+    values (number regions) = sets.set_regions.0
+    values stats = cond options.stats (Some (codes "true")) None
+
+    words : Name → List Text
+    words (number steps) = sets.steps
+    words (number goroutines) = sets.goroutines
+    words (number pages) = sets.pages
+    words (number page_words) = sets.page_words
+    words (number regions) = sets.regions
+    words stats = sets.stats
+
+    flag_is : (b : Bool) → is_some (cond b (Some (codes "true")) None) ≡ b
+    flag_is true = refl
+    flag_is false = refl
+
+    flag : (b : Bool) (mine : List Text)
+        → SetFlag (codes "stats") b mine
+        → Gives stats (cond b (Some (codes "true")) None) mine
+    flag true mine is = (refl, is)
+    flag false mine is = is
+
+    gives : (name : Name) → Gives name (values name) (words name)
+    gives (number steps) = sets.set_steps.2
+    gives (number goroutines) = sets.set_goroutines.2
+    gives (number pages) = sets.set_pages.2
+    gives (number page_words) = sets.set_page_words.2
+    gives (number regions) = sets.set_regions.2
+    gives stats = flag options.stats sets.stats sets.set_stats
+
+    numerals : (name : Name) → IsNumeral name (values name)
+    numerals (number steps) = sets_by_numeral step_bounds steps _ _ sets.set_steps.1
+    numerals (number goroutines) = sets_by_numeral goroutine_bounds goroutines _ _ sets.set_goroutines.1
+    numerals (number pages) = sets_by_numeral page_bounds pages _ _ sets.set_pages.1
+    numerals (number page_words) = sets_by_numeral page_word_bounds page_words _ _ sets.set_page_words.1
+    numerals (number regions) = sets_by_numeral region_bounds regions _ _ sets.set_regions.1
+    numerals stats = tt
+
+    places : (places : List Name) × IsPermutation names places × (sets.order ≡ map words places)
+    places = names_in_order words names sets.order sets.permuted
 
 -- ---- commands without options
 
@@ -147,9 +273,9 @@ tells_plain p program rest ends is command e =
     subst (λ c. AreWordsOf c (program ∷ name_of p ∷ rest)) same
     (are_words p (program ∷ name_of p ∷ rest) (program, rest, ends, refl))
 
-behind_plain : (p : Plain) (program : Text) (rest : List Text) → Tells (program ∷ name_of p ∷ rest)
-behind_plain p program [] = tells_plain p program [] (inl refl) (alone p program)
-behind_plain p program (x ∷ xs) = by_dashes xs (bytes_eq x (codes "--")) refl
+after_plain : (p : Plain) (program : Text) (rest : List Text) → Tells (program ∷ name_of p ∷ rest)
+after_plain p program [] = tells_plain p program [] (inl refl) (alone p program)
+after_plain p program (x ∷ xs) = by_dashes xs (bytes_eq x (codes "--")) refl
   where
     at_dashes : (more : List Text) → Tells (program ∷ name_of p ∷ codes "--" ∷ more)
     at_dashes [] = tells_plain p program (codes "--" ∷ []) (inr refl) (ended p program)
@@ -168,7 +294,7 @@ at_plain : (p : Plain) (program w : Text) (rest : List Text)
     → bytes_eq (name_of p) w ≡ true
     → Tells (program ∷ w ∷ rest)
 at_plain p program w rest e =
-    subst (λ w. Tells (program ∷ w ∷ rest)) ((bytes_eq-Decides (name_of p) w).0 e) (behind_plain p program rest)
+    subst (λ w. Tells (program ∷ w ∷ rest)) ((bytes_eq-Decides (name_of p) w).0 e) (after_plain p program rest)
 
 tells : (words : List Text) → Tells words
 tells [] = tells_nothing [] nothing.no_words
@@ -203,7 +329,7 @@ tells (program ∷ w ∷ rest) = by_run (bytes_eq (codes "run") w) refl
 
     by_run : (b : Bool) → bytes_eq (codes "run") w ≡ b → Tells (program ∷ w ∷ rest)
     by_run true is =
-        subst (λ w. Tells (program ∷ w ∷ rest)) ((bytes_eq-Decides (codes "run") w).0 is) (behind_run program rest)
+        subst (λ w. Tells (program ∷ w ∷ rest)) ((bytes_eq-Decides (codes "run") w).0 is) (after_run program rest)
     by_run false is = by_check (bytes_eq (codes "check") w) is refl
 
 ask_plain : (p : Plain) (words : List Text) → ArePlain (name_of p) words → command_of words ≡ Some (plain_command p)
@@ -213,8 +339,8 @@ ask_plain p words (program, ending, inr dashes, is) =
     ap command_of (is ∙ ap (λ e. program ∷ name_of p ∷ e) dashes) ∙ ended p program
 
 ask : (words : List Text) (command : Command) → AreWordsOf command words → command_of words ≡ Some command
-ask words (Run limits) (program, options, ending, sets, ends, is) =
-    ap command_of is ∙ at_first program (options ++ ending) ∙ asks limits options ending sets ends
+ask words (Run options) (program, set, ending, sets, ends, is) =
+    ap command_of is ∙ at_first program (set ++ ending) ∙ asks_set options set ending sets ends
 ask words Check are = ask_plain check words are
 ask words Emit are = ask_plain emit words are
 ask words Code are = ask_plain code words are

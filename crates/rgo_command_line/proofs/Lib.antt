@@ -7,5 +7,8 @@ pub mod FirstWordLemmas
 pub mod RestLemmas
 pub mod WordLemmas
 pub mod RunLemmas
+pub mod StatusLemmas
+pub mod OrderLemmas
 pub mod OptionLemmas
+pub mod LiteralLemmas
 pub mod LawLemmas

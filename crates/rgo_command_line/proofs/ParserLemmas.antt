@@ -44,7 +44,7 @@ no_version_flag shape = record shape { disable_version_flag = true }
 abbrev no_help_subcommand : Shape → Shape
 no_help_subcommand shape = record shape { disable_help_subcommand = true }
 
--- the three settings, one behind the other
+-- the three settings, one after the other
 pub with_settings : (c0 c1 c2 c3 : Command)
     → out-Command c1 ≡ record (out-Command c0) { disable_help_flag = true }
     → out-Command c2 ≡ record (out-Command c1) { disable_version_flag = true }

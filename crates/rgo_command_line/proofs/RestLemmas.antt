@@ -1,4 +1,4 @@
--- The words behind a command's name are judged at that command's own level alone.
+-- The words after a command's name are checked at that command's own level alone.
 use Rattle.std.proofs.Common.{◌≡◌, ◌∙◌, refl, sym, ap, ap₂, codes, cond, true}
 use Rattle.std.proofs.Common.{false, List, [], ◌∷◌, ◌++◌, Option, Some, None}
 use Rattle.std.proofs.Common.{append-nil, append_assoc, option_map}
@@ -13,7 +13,7 @@ use Rattle.clap.specs.Faults.{check_fault, defaults_fault, entered_fault, level_
 use Rattle.clap.specs.Faults.{settle_fault, walk_fault}
 use Rattle.clap.proofs.OnLiterals.{clap_on_literals}
 use Rattle.rgo_command_line.specs.Commands.{command_met, command_of, has_fault}
-use Rattle.rgo_command_line.specs.Limits.{limits_of}
+use Rattle.rgo_command_line.specs.Limits.{options_of}
 use Rattle.rgo_command_line.specs.Parser.{bare_parser, parser, run_parser}
 use Rattle.rgo_command_line.specs.declared.commands.Command.{Command}
 use Rattle.rgo_command_line.specs.declared.commands.Command.TheVariants.{Run, Check, Emit, Code}
@@ -51,22 +51,22 @@ plain_command code = Code
 abbrev leaf : Plain → Shape
 leaf p = built_leaf (inherited bare_parser.top (new_shape (name_of p)))
 
--- the walk over the words stands still once it has met a command
+-- the walk over the words does not move once it has met a command
 abbrev stopped_at : Text → List Text → Walk
 stopped_at n acc = record (walk_from nothing_held) { stopped = Some (n, acc) }
 
-stands : (n : Text) (acc rest : List Text)
+stays : (n : Text) (acc rest : List Text)
     → fold (walked top.rules names) (stopped_at n acc) rest ≡ stopped_at n (acc ++ rest)
 unfolding clap_on_literals
-stands n acc [] = ap (stopped_at n) (sym (append-nil acc))
-stands n acc (x ∷ xs) = stands n (acc ++ x ∷ []) xs ∙ ap (stopped_at n) (append_assoc acc (x ∷ []) xs)
+stays n acc [] = ap (stopped_at n) (sym (append-nil acc))
+stays n acc (x ∷ xs) = stays n (acc ++ x ∷ []) xs ∙ ap (stopped_at n) (append_assoc acc (x ∷ []) xs)
 
 no_fault : (n : Text) (acc rest : List Text) → walk_fault top names (stopped_at n acc) rest ≡ []
 unfolding clap_on_literals
 no_fault n acc [] = refl
 no_fault n acc (x ∷ xs) = no_fault n (acc ++ x ∷ []) xs
 
--- what is wrong behind the walk, by where it ended
+-- what is wrong after the walk, by where it ended
 abbrev end_fault : Walk → Kinds
 end_fault w =
     or_else (settle_fault top.rules top.args_override_self w.held)
@@ -79,46 +79,46 @@ whole w k =
     cond (has_fault (or_else k (or_else (entered_fault app w.stopped) (end_fault w))))
     None (command_met (entered app w.stopped))
 
-just_one : (k : Kinds) → has_fault (or_else k []) ≡ has_fault k
+pub just_one : (k : Kinds) → has_fault (or_else k []) ≡ has_fault k
 just_one [] = refl
 just_one (x ∷ xs) = refl
 
--- what is wrong with the words behind a command
+-- what is wrong with the words after a command
 abbrev pub rest_fault : Shape → List Text → Kinds
 rest_fault leaf rest = level_fault leaf [] nothing_held rest false []
 
--- what the words behind `run` ask for, where nothing is wrong with them
+-- what the words after `run` ask for, where nothing is wrong with them
 abbrev pub run_met : List Row → Option Command
-run_met rows = option_map Run (limits_of rows)
+run_met rows = option_map Run (options_of rows)
 
-pub behind_run : (program : Text) (rest : List Text)
+pub after_run : (program : Text) (rest : List Text)
     → command_of (program ∷ codes "run" ∷ rest)
     ≡ cond (has_fault (rest_fault run_leaf rest)) None (run_met (rows_after run_leaf.rules [] rest))
 unfolding clap_on_literals
-behind_run program rest =
-    ap₂ whole (stands (codes "run") [] rest) (no_fault (codes "run") [] rest)
+after_run program rest =
+    ap₂ whole (stays (codes "run") [] rest) (no_fault (codes "run") [] rest)
     ∙ ap (λ b. cond b None (run_met (rows_after run_leaf.rules [] rest))) (just_one (rest_fault run_leaf rest))
 
-behind_plain : (p : Plain) (program : Text) (rest : List Text)
+after_plain : (p : Plain) (program : Text) (rest : List Text)
     → command_of (program ∷ name_of p ∷ rest)
     ≡ cond (has_fault (rest_fault (leaf p) rest)) None (Some (plain_command p))
 unfolding clap_on_literals
-behind_plain check program rest =
-    ap₂ whole (stands (codes "check") [] rest) (no_fault (codes "check") [] rest)
+after_plain check program rest =
+    ap₂ whole (stays (codes "check") [] rest) (no_fault (codes "check") [] rest)
     ∙ ap (λ b. cond b None (Some Check)) (just_one (rest_fault (leaf check) rest))
-behind_plain emit program rest =
-    ap₂ whole (stands (codes "emit") [] rest) (no_fault (codes "emit") [] rest)
+after_plain emit program rest =
+    ap₂ whole (stays (codes "emit") [] rest) (no_fault (codes "emit") [] rest)
     ∙ ap (λ b. cond b None (Some Emit)) (just_one (rest_fault (leaf emit) rest))
-behind_plain code program rest =
-    ap₂ whole (stands (codes "code") [] rest) (no_fault (codes "code") [] rest)
+after_plain code program rest =
+    ap₂ whole (stays (codes "code") [] rest) (no_fault (codes "code") [] rest)
     ∙ ap (λ b. cond b None (Some Code)) (just_one (rest_fault (leaf code) rest))
 
 refused : (p : Plain) (program : Text) (rest : List Text)
     → has_fault (rest_fault (leaf p) rest) ≡ true
     → command_of (program ∷ name_of p ∷ rest) ≡ None
-refused p program rest e = behind_plain p program rest ∙ ap (λ b. cond b None (Some (plain_command p))) e
+refused p program rest e = after_plain p program rest ∙ ap (λ b. cond b None (Some (plain_command p))) e
 
--- a word behind such a command that is no `--`
+-- a word after such a command that is not `--`
 pub other_rest : (p : Plain) (program x : Text) (xs : List Text)
     → bytes_eq x (codes "--") ≡ false
     → command_of (program ∷ name_of p ∷ x ∷ xs) ≡ None
@@ -127,7 +127,7 @@ other_rest p program x xs e =
     refused p program (x ∷ xs)
     (with_first _ _ (with_first _ _ (stray (leaf p) [] None false true [] x refl e tt)))
 
--- a word behind the `--`
+-- a word after the `--`
 pub more_rest : (p : Plain) (program x : Text) (xs : List Text)
     → command_of (program ∷ name_of p ∷ codes "--" ∷ x ∷ xs) ≡ None
 unfolding clap_on_literals

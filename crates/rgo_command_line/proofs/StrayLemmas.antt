@@ -1,4 +1,4 @@
--- A word that a command takes for nothing.
+-- A word that a command does not take.
 use Rattle.std.proofs.Common.{◌≡◌, refl, sym, codes, Bool, true, false, true≢false, ℕ, List, [], ◌∷◌, length}
 use Rattle.std.proofs.Common.{Option, Some, None}
 use Rattle.std.specs.Prelude.{⊤, slice_get, find}
@@ -13,7 +13,7 @@ use Rattle.clap.specs.Walk.{plain, short_or_plain, walk_from}
 use Rattle.clap.specs.Faults.{bundle_fault, bundle_step_fault, flag_word_fault, flags_fault, step_fault, turn_fault}
 use Rattle.clap.proofs.OnLiterals.{clap_on_literals}
 use Rattle.rgo_command_line.specs.Commands.{has_fault}
-use Rattle.rgo_command_line.specs.Parser.{number_option}
+use Rattle.rgo_command_line.specs.Parser.{flag_option, number_option}
 
 -- a fault is not lost where another may follow
 pub with_first : (a b : Kinds) → has_fault a ≡ true → has_fault (or_else a b) ≡ true
@@ -24,9 +24,15 @@ with_first (k ∷ ks) b e = refl
 abbrev pub option_of : Text → Rule
 option_of name = filled (number_option name)
 
+-- the flag as it is built
+abbrev pub stats_flag : Rule
+stats_flag = filled (flag_option (codes "stats"))
+
 -- the options of `run`, or none
 abbrev pub rules_of : Bool → List Rule
-rules_of true = option_of (codes "steps") ∷ option_of (codes "goroutines") ∷ []
+rules_of true =
+    option_of (codes "steps") ∷ option_of (codes "goroutines") ∷ option_of (codes "pages")
+    ∷ option_of (codes "page-words") ∷ option_of (codes "regions") ∷ stats_flag ∷ []
 rules_of false = []
 
 -- the command, with such options
@@ -37,11 +43,19 @@ with_rules is_run s is_leaf = record s { rules = rules_of is_run; is_leaf = is_l
 abbrev pub holding : List Row → Option (Text × List Text) → Held
 holding rows pending = record { rows = rows; pending = pending; skip = 0 }
 
--- no option of these is called by what the word has behind its dashes
+-- the text is the name of no option of `run`
+pub record IsNoOption (text : Text) : Type 0 where
+  pub steps : bytes_eq (codes "steps") text ≡ false
+  pub goroutines : bytes_eq (codes "goroutines") text ≡ false
+  pub pages : bytes_eq (codes "pages") text ≡ false
+  pub page_words : bytes_eq (codes "page-words") text ≡ false
+  pub regions : bytes_eq (codes "regions") text ≡ false
+  pub stats : bytes_eq (codes "stats") text ≡ false
+
+-- no option of these is called by what the word has after its dashes
 abbrev pub IsUnknown : Bool → Text → Type 0
 IsUnknown false w = ⊤
-IsUnknown true w = (p : Text × Option Text) → long_of w ≡ Some p
-    → (bytes_eq (codes "steps") p.0 ≡ false) × (bytes_eq (codes "goroutines") p.0 ≡ false)
+IsUnknown true w = (p : Text × Option Text) → long_of w ≡ Some p → IsNoOption p.0
 
 module _ (s : Shape) (rows : List Row) (pending : Option (Text × List Text)) where
   abbrev again : Bool
@@ -85,7 +99,9 @@ module _ (s : Shape) (rows : List Row) (pending : Option (Text × List Text)) wh
       → IsUnknown r w
       → has_fault (or_else (flag_word_fault (rules_of r) again long w held)
       (met_fault r is_leaf (long_or_other (rules_of r) idle w long held))) ≡ true
-  by_long true is_leaf (Some p) w e unknown = rw ((unknown p e).0, (unknown p e).1) refl
+  by_long true is_leaf (Some p) w e unknown =
+      let none = unknown p e in
+      rw (none.steps, none.goroutines, none.pages, none.page_words, none.regions, none.stats) refl
   by_long false is_leaf (Some p) w e unknown = refl
   by_long r is_leaf None w e unknown = by_short r is_leaf (short_of w) w
 

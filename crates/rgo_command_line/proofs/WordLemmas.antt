@@ -1,8 +1,8 @@
--- What a word behind `run` can be.
+-- What a word after `run` can be.
 use Rattle.std.proofs.Common.{◌≡◌, ◌∙◌, refl, sym, ap, subst, codes, cond, Bool}
 use Rattle.std.proofs.Common.{true, false, true≢false, ℕ, ◌==◌, ◌+◌}
 use Rattle.std.proofs.Common.{[], ◌∷◌, ◌++◌, length, nat_lt, suc, Option}
-use Rattle.std.proofs.Common.{Some, None, arith}
+use Rattle.std.proofs.Common.{Some, None, arith, ◌⊎◌, inl, inr}
 use Rattle.std.specs.Char.{is_ascii_digit}
 use Rattle.std.specs.List.{list_all, before_first, after_first, position_or_len}
 use Rattle.std.specs.Option.{option_and_then}
@@ -13,16 +13,31 @@ use Rattle.clap.specs.Words.{Text}
 use Rattle.clap.specs.Lexer.{has_byte, long_of, long_of_rest, name_and_value, short_of, strip_byte}
 use Rattle.rgo_command_line.specs.Numbers.{is_numeral}
 use Rattle.rgo_command_line.proofs.NumberLemmas.{both}
-use Rattle.rgo_command_line.proofs.StrayLemmas.{IsUnknown}
+use Rattle.rgo_command_line.proofs.StrayLemmas.{IsNoOption, IsUnknown}
+
+-- the options of `run` that have a number
+pub data Number : Type 0 where
+  steps : Number
+  goroutines : Number
+  pages : Number
+  page_words : Number
+  regions : Number
 
 -- the options of `run`
 pub data Name : Type 0 where
-  steps : Name
-  goroutines : Name
+  number : Number → Name
+  stats : Name
+
+abbrev pub number_text : Number → Text
+number_text steps = codes "steps"
+number_text goroutines = codes "goroutines"
+number_text pages = codes "pages"
+number_text page_words = codes "page-words"
+number_text regions = codes "regions"
 
 abbrev pub text_of : Name → Text
-text_of steps = codes "steps"
-text_of goroutines = codes "goroutines"
+text_of (number n) = number_text n
+text_of stats = codes "stats"
 
 -- `--name`
 abbrev pub dashed : Name → Text
@@ -39,7 +54,7 @@ pub data Kind : Text → Type 0 where
   valued : (name : Name) (value : Text) → Kind (joined name value)
   other : (x : Text) → bytes_eq x (codes "--") ≡ false → IsUnknown true x → Kind x
 
--- a name, and the value that stands behind it if there is one
+-- a name, and the value that follows it, if there is one
 abbrev written : Text × Option Text → Text
 written (name, None) = name
 written (name, Some value) = name ++ 61 ∷ value
@@ -91,6 +106,36 @@ long_word x p e = by_first (strip_byte 45 x) refl e
     by_first None d e = cc
     by_first (Some y) d e = stripped 45 x y d ∙ ap (λ t. 45 ∷ t) (by_second y (strip_byte 45 y) refl e)
 
+-- the text is the name of an option, or of none
+abbrev pub Named : Text → Type 0
+Named text = ((name : Name) × (text_of name ≡ text)) ⊎ IsNoOption text
+
+pub name_of_text : (text : Text) → Named text
+name_of_text text =
+    by_names (bytes_eq (codes "steps") text) (bytes_eq (codes "goroutines") text) (bytes_eq (codes "pages") text)
+    (bytes_eq (codes "page-words") text) (bytes_eq (codes "regions") text) (bytes_eq (codes "stats") text)
+    refl refl refl refl refl refl
+  where
+    is : (name : Name) → bytes_eq (text_of name) text ≡ true → Named text
+    is name e = inl (name, (bytes_eq-Decides (text_of name) text).0 e)
+
+    by_names : (a b c d f g : Bool)
+        → bytes_eq (codes "steps") text ≡ a
+        → bytes_eq (codes "goroutines") text ≡ b
+        → bytes_eq (codes "pages") text ≡ c
+        → bytes_eq (codes "page-words") text ≡ d
+        → bytes_eq (codes "regions") text ≡ f
+        → bytes_eq (codes "stats") text ≡ g
+        → Named text
+    by_names true b c d f g ha hb hc hd hf hg = is (number steps) ha
+    by_names false true c d f g ha hb hc hd hf hg = is (number goroutines) hb
+    by_names false false true d f g ha hb hc hd hf hg = is (number pages) hc
+    by_names false false false true f g ha hb hc hd hf hg = is (number page_words) hd
+    by_names false false false false true g ha hb hc hd hf hg = is (number regions) hf
+    by_names false false false false false true ha hb hc hd hf hg = is stats hg
+    by_names false false false false false false ha hb hc hd hf hg =
+        inr (record { steps = ha; goroutines = hb; pages = hc; page_words = hd; regions = hf; stats = hg })
+
 -- the word is one of these
 pub kind_of_word : (x : Text) → Kind x
 kind_of_word x = by_dashes (bytes_eq x (codes "--")) refl
@@ -101,28 +146,20 @@ kind_of_word x = by_dashes (bytes_eq x (codes "--")) refl
     of_name name (n, Some v) e is =
         subst Kind (ap (λ t. codes "--" ++ (t ++ 61 ∷ v)) e ∙ sym is) (valued name v)
 
-    by_names : (p : Text × Option Text) (a b : Bool)
+    by_name : (p : Text × Option Text) → Named p.0
         → bytes_eq x (codes "--") ≡ false
         → long_of x ≡ Some p
-        → bytes_eq (codes "steps") p.0 ≡ a
-        → bytes_eq (codes "goroutines") p.0 ≡ b
         → Kind x
-    by_names p true b d l e f = of_name steps p ((bytes_eq-Decides (codes "steps") p.0).0 e) (long_word x p l)
-    by_names p false true d l e f =
-        of_name goroutines p ((bytes_eq-Decides (codes "goroutines") p.0).0 f) (long_word x p l)
-    by_names p false false d l e f =
-        other x d (λ q m. let same : p ≡ q = cc in (
-          ap (λ r. bytes_eq (codes "steps") r.0) (sym same) ∙ e,
-          ap (λ r. bytes_eq (codes "goroutines") r.0) (sym same) ∙ f,
-        ))
+    by_name p (inl (name, e)) d l = of_name name p e (long_word x p l)
+    by_name p (inr none) d l =
+        other x d (λ q m. let same : p ≡ q = cc in subst (λ r. IsNoOption r.0) same none)
 
     by_long : (long : Option (Text × Option Text)) → long_of x ≡ long → bytes_eq x (codes "--") ≡ false → Kind x
     by_long None l d = other x d (λ q m. absurd (none q (sym l ∙ m)))
       where
         none : (q : Text × Option Text) → None ≡ Some q → ⊥
         none q m = cc
-    by_long (Some p) l d =
-        by_names p (bytes_eq (codes "steps") p.0) (bytes_eq (codes "goroutines") p.0) d l refl refl
+    by_long (Some p) l d = by_name p (name_of_text p.0) d l
 
     by_dashes : (b : Bool) → bytes_eq x (codes "--") ≡ b → Kind x
     by_dashes true d = subst Kind (sym ((bytes_eq-Decides x (codes "--")).0 d)) dashes

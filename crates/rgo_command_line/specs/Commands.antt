@@ -3,7 +3,7 @@ use Rattle.std.specs.Prelude.{⊤, ◌≡◌, Bool, true, false, List, [], ◌�
 use Rattle.std.specs.Prelude.{if◌then◌else◌, option_and_then, option_map}
 use Rattle.std.specs.Str.{bytes_eq}
 use Rattle.clap.specs.Words.{Kinds, Row, Text, fault_of, subcommand_of}
-use Rattle.rgo_command_line.specs.Limits.{LieInBounds, limits_of}
+use Rattle.rgo_command_line.specs.Limits.{LieInBounds, options_of}
 use Rattle.rgo_command_line.specs.Parser.{parser}
 use Rattle.rgo_command_line.specs.declared.commands.Command.{Command}
 use Rattle.rgo_command_line.specs.declared.commands.Command.TheVariants.{Run, Check, Emit, Code}
@@ -13,7 +13,7 @@ use Rattle.rgo_command_line.specs.declared.commands.WordsError.TheVariants.{Usag
 -- the command of a name, by what was found for its options
 abbrev pub command_named : Text → List Row → Option Command
 command_named name rows =
-    if bytes_eq name (codes "run") then option_map Run (limits_of rows)
+    if bytes_eq name (codes "run") then option_map Run (options_of rows)
     else (if bytes_eq name (codes "check") then Some Check
     else (if bytes_eq name (codes "emit") then Some Emit
     else (if bytes_eq name (codes "code") then Some Code else None)))
@@ -41,7 +41,7 @@ Reads words answer = MatchResult answer
     (λ command. command_of words ≡ Some command)
     (λ error. error ≡ Usage → command_of words ≡ None)
 
--- the limits of a command lie in their bounds
+-- the numbers of a command lie in their bounds
 abbrev pub KeepsBounds : Command → Type 0
-KeepsBounds (Run limits) = LieInBounds limits
+KeepsBounds (Run options) = LieInBounds options
 KeepsBounds _ = ⊤

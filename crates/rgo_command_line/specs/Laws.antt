@@ -1,11 +1,16 @@
 -- Which words ask for a command, said without a reader of words.
-use Rattle.std.specs.Prelude.{◌≡◌, ◌⊎◌, ◌↔◌, List, [], ◌∷◌, ◌++◌, Option, Some, None, codes}
+use Rattle.std.specs.Prelude.{◌≡◌, ◌⊎◌, ◌↔◌, ℕ, Bool, true, false, List, [], ◌∷◌, ◌++◌, Option, Some, None, codes}
+use Rattle.std.specs.Prelude.{IsPermutation}
 use Rattle.clap.specs.Words.{Text}
 use Rattle.rgo_command_line.specs.Commands.{command_of}
-use Rattle.rgo_command_line.specs.Limits.{goroutine_bounds, limit_by, step_bounds}
+use Rattle.rgo_command_line.specs.Limits.{Fits, goroutine_bounds, limit_by, page_bounds, page_word_bounds}
+use Rattle.rgo_command_line.specs.Limits.{region_bounds, step_bounds}
 use Rattle.rgo_command_line.specs.declared.commands.Command.{Command}
 use Rattle.rgo_command_line.specs.declared.commands.Command.TheVariants.{Run, Check, Emit, Code}
+use Rattle.rgo_command_line.specs.declared.limits.Bounds.{Bounds}
+use Rattle.rgo_command_line.specs.declared.limits.RunOptions.{RunOptions}
 use Rattle.rgo_machine.specs.declared.limits.Limits.{Limits}
+use Rattle.rgo_machine.specs.declared.limits.Sizes.{Sizes}
 
 -- the words that give the option of this name this value: `--name value`, `--name=value`, or none
 abbrev pub Give : Text → Option Text → List Text → Type 0
@@ -14,15 +19,40 @@ Give name (Some value) words =
     (words ≡ (codes "--" ++ name) ∷ value ∷ [])
     ⊎ (words ≡ (codes "--" ++ (name ++ (codes "=" ++ value))) ∷ [])
 
--- each option at most once, in either order, which set these limits
-abbrev pub SetLimits : Limits → List Text → Type 0
-SetLimits limits words = (steps goroutines : Option Text)
-    × (limit_by step_bounds steps ≡ Some limits.steps)
-    × (limit_by goroutine_bounds goroutines ≡ Some limits.goroutines)
-    × (first second : List Text)
-    × Give (codes "steps") steps first
-    × Give (codes "goroutines") goroutines second
-    × ((words ≡ first ++ second) ⊎ (words ≡ second ++ first))
+-- the words set the number of this option: they give it a value, or they are none and it has its default
+abbrev pub SetNumber : Text → Bounds → ℕ → List Text → Type 0
+SetNumber name bounds n words = (value : Option Text) × (limit_by bounds value ≡ Some n) × Give name value words
+
+-- the word `--name` sets the flag of this name, and no words leave it unset
+abbrev pub SetFlag : Text → Bool → List Text → Type 0
+SetFlag name false words = words ≡ []
+SetFlag name true words = words ≡ (codes "--" ++ name) ∷ []
+
+-- the words of all groups, one group after the other
+abbrev pub joined : List (List Text) → List Text
+joined [] = []
+joined (group ∷ rest) = group ++ joined rest
+
+-- Words that set these options, each option at most once and in any order: each of the six options has
+-- a group of words, which is empty if the option does not occur, and the words are a permutation of the
+-- six groups, joined.
+pub record SetOptions (options : RunOptions) (words : List Text) : Type 0 where
+  pub steps : List Text
+  pub goroutines : List Text
+  pub pages : List Text
+  pub page_words : List Text
+  pub regions : List Text
+  pub stats : List Text
+  pub set_steps : SetNumber (codes "steps") step_bounds options.limits.steps steps
+  pub set_goroutines : SetNumber (codes "goroutines") goroutine_bounds options.limits.goroutines goroutines
+  pub set_pages : SetNumber (codes "pages") page_bounds options.sizes.pages pages
+  pub set_page_words : SetNumber (codes "page-words") page_word_bounds options.sizes.page_words page_words
+  pub set_regions : SetNumber (codes "regions") region_bounds options.sizes.regions regions
+  pub set_stats : SetFlag (codes "stats") options.stats stats
+  pub fits : Fits options.sizes
+  pub order : List (List Text)
+  pub permuted : IsPermutation (steps ∷ goroutines ∷ pages ∷ page_words ∷ regions ∷ stats ∷ []) order
+  pub whole : words ≡ joined order
 
 -- nothing, or a `--`
 abbrev pub IsEnd : List Text → Type 0
@@ -34,9 +64,9 @@ ArePlain name words = (program : Text) × (ending : List Text) × IsEnd ending �
 
 -- the same, for `run` with its options
 abbrev pub AreWordsOf : Command → List Text → Type 0
-AreWordsOf (Run limits) words = (program : Text) × (options ending : List Text)
-    × SetLimits limits options × IsEnd ending
-    × (words ≡ program ∷ codes "run" ∷ (options ++ ending))
+AreWordsOf (Run options) words = (program : Text) × (set ending : List Text)
+    × SetOptions options set × IsEnd ending
+    × (words ≡ program ∷ codes "run" ∷ (set ++ ending))
 AreWordsOf Check words = ArePlain (codes "check") words
 AreWordsOf Emit words = ArePlain (codes "emit") words
 AreWordsOf Code words = ArePlain (codes "code") words
@@ -50,22 +80,51 @@ AskExactly = (words : List Text) (command : Command)
 abbrev pub Ask : List Text → Option Command → Type 0
 Ask words wanted = (program : Text) → command_of (program ∷ words) ≡ wanted
 
--- after any name of the program these words ask for a run with these limits
-abbrev pub AskForRun : List Text → Limits → Type 0
-AskForRun words limits = Ask (codes "run" ∷ words) (Some (Run limits))
+-- after any name of the program these words ask for a run with these options
+abbrev pub AskForRun : List Text → RunOptions → Type 0
+AskForRun words options = Ask (codes "run" ∷ words) (Some (Run options))
 
-abbrev default_limits : Limits
-default_limits = record { steps = 4398046511104; goroutines = 100000 }
+abbrev default_options : RunOptions
+default_options = record {
+  limits = record { steps = 4398046511104; goroutines = 100000 };
+  sizes = record { page_words = 256; pages = 4096; regions = 65536 };
+  stats = false;
+}
+
+abbrev with_limits : Limits → RunOptions
+with_limits limits = record default_options { limits = limits }
+
+abbrev with_sizes : Sizes → RunOptions
+with_sizes sizes = record default_options { sizes = sizes }
 
 -- some of the words that ask for a command
 pub record AskForCommands : Type 0 where
-  pub run : AskForRun [] default_limits
-  pub run_ended : AskForRun (codes "--" ∷ []) default_limits
-  pub apart : AskForRun (codes "--steps" ∷ codes "5" ∷ []) (record default_limits { steps = 5 })
-  pub joined : AskForRun (codes "--steps=5" ∷ []) (record default_limits { steps = 5 })
-  pub zeros : AskForRun (codes "--goroutines" ∷ codes "007" ∷ []) (record default_limits { goroutines = 7 })
+  pub run : AskForRun [] default_options
+  pub run_ended : AskForRun (codes "--" ∷ []) default_options
+  pub apart : AskForRun (codes "--steps" ∷ codes "5" ∷ [])
+      (with_limits (record { steps = 5; goroutines = 100000 }))
+  pub joined : AskForRun (codes "--steps=5" ∷ [])
+      (with_limits (record { steps = 5; goroutines = 100000 }))
+  pub zeros : AskForRun (codes "--goroutines" ∷ codes "007" ∷ [])
+      (with_limits (record { steps = 4398046511104; goroutines = 7 }))
   pub both : AskForRun (codes "--goroutines=1000000" ∷ codes "--steps" ∷ codes "1" ∷ codes "--" ∷ [])
-      (record { steps = 1; goroutines = 1000000 })
+      (with_limits (record { steps = 1; goroutines = 1000000 }))
+  pub stats : AskForRun (codes "--stats" ∷ []) (record default_options { stats = true })
+  pub one_page : AskForRun (codes "--pages=1" ∷ codes "--stats" ∷ [])
+      (record default_options { sizes = record { page_words = 256; pages = 1; regions = 65536 }; stats = true })
+  pub least_page : AskForRun (codes "--page-words" ∷ codes "16" ∷ [])
+      (with_sizes (record { page_words = 16; pages = 4096; regions = 65536 }))
+  pub most_page : AskForRun (codes "--page-words=4096" ∷ [])
+      (with_sizes (record { page_words = 4096; pages = 4096; regions = 65536 }))
+  pub most_words : AskForRun (codes "--pages=65536" ∷ codes "--page-words=256" ∷ [])
+      (with_sizes (record { page_words = 256; pages = 65536; regions = 65536 }))
+  pub all : AskForRun (codes "--stats" ∷ codes "--regions" ∷ codes "3" ∷ codes "--page-words=64"
+      ∷ codes "--goroutines=2" ∷ codes "--pages" ∷ codes "5" ∷ codes "--steps=9" ∷ codes "--" ∷ [])
+      (record {
+        limits = record { steps = 9; goroutines = 2 };
+        sizes = record { page_words = 64; pages = 5; regions = 3 };
+        stats = true;
+      })
   pub check : Ask (codes "check" ∷ []) (Some Check)
   pub check_ended : Ask (codes "check" ∷ codes "--" ∷ []) (Some Check)
   pub emit : Ask (codes "emit" ∷ []) (Some Emit)
@@ -94,3 +153,13 @@ pub record AskForNothing : Type 0 where
   pub no_word_holds : Ask (codes "run" ∷ codes "--steps=18446744073709551617" ∷ []) None
   pub signed : Ask (codes "run" ∷ codes "--steps=+5" ∷ []) None
   pub empty : Ask (codes "run" ∷ codes "--steps=" ∷ []) None
+  pub no_pages : Ask (codes "run" ∷ codes "--pages=0" ∷ []) None
+  pub many_pages : Ask (codes "run" ∷ codes "--pages=65537" ∷ []) None
+  pub small_page : Ask (codes "run" ∷ codes "--page-words=15" ∷ []) None
+  pub large_page : Ask (codes "run" ∷ codes "--page-words=4097" ∷ []) None
+  pub no_regions : Ask (codes "run" ∷ codes "--regions=0" ∷ []) None
+  pub many_regions : Ask (codes "run" ∷ codes "--regions=65537" ∷ []) None
+  pub many_words : Ask (codes "run" ∷ codes "--pages=65536" ∷ codes "--page-words=257" ∷ []) None
+  pub stats_value : Ask (codes "run" ∷ codes "--stats=true" ∷ []) None
+  pub stats_apart : Ask (codes "run" ∷ codes "--stats" ∷ codes "true" ∷ []) None
+  pub stats_twice : Ask (codes "run" ∷ codes "--stats" ∷ codes "--stats" ∷ []) None

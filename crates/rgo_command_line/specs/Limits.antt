@@ -1,9 +1,14 @@
--- The limits of a run, as the options of `run` set them.
-use Rattle.std.specs.Prelude.{◌≤◌, List, Option, Some, None, ℕ, codes, option_and_then, option_map}
+-- The limits and sizes of a run, as the options of `run` set them.
+use Rattle.std.specs.Prelude.{◌*◌, ◌≤◌, Bool, false, List, Option, Some, None, ℕ, codes, nat_le, option_and_then}
+use Rattle.std.specs.Prelude.{if◌then◌else◌, option_map}
+use Rattle.std.specs.Option.{option_map_or}
+use Rattle.std.specs.Str.{bytes_eq}
 use Rattle.clap.specs.Words.{Row, Text, first_of}
 use Rattle.rgo_command_line.specs.Numbers.{number_of, within}
 use Rattle.rgo_command_line.specs.declared.limits.Bounds.{Bounds}
+use Rattle.rgo_command_line.specs.declared.limits.RunOptions.{RunOptions}
 use Rattle.rgo_machine.specs.declared.limits.Limits.{Limits}
+use Rattle.rgo_machine.specs.declared.limits.Sizes.{Sizes}
 
 abbrev pub step_bounds : Bounds
 step_bounds = record { least = 1; most = 4398046511104; default = 4398046511104 }
@@ -11,13 +16,42 @@ step_bounds = record { least = 1; most = 4398046511104; default = 4398046511104 
 abbrev pub goroutine_bounds : Bounds
 goroutine_bounds = record { least = 1; most = 1000000; default = 100000 }
 
+abbrev pub page_bounds : Bounds
+page_bounds = record { least = 1; most = 65536; default = 4096 }
+
+abbrev pub page_word_bounds : Bounds
+page_word_bounds = record { least = 16; most = 4096; default = 256 }
+
+abbrev pub region_bounds : Bounds
+region_bounds = record { least = 1; most = 65536; default = 65536 }
+
+-- the most words of all pages together
+abbrev pub most_words : ℕ
+most_words = 16777216
+
 abbrev pub LiesIn : Bounds → ℕ → Type 0
 LiesIn bounds n = (bounds.least ≤ n) × (n ≤ bounds.most)
 
 -- each limit is one that its option takes
-pub record LieInBounds (limits : Limits) : Type 0 where
+pub record LimitsLieInBounds (limits : Limits) : Type 0 where
   pub steps : LiesIn step_bounds limits.steps
   pub goroutines : LiesIn goroutine_bounds limits.goroutines
+
+-- each size is one that its option takes
+pub record SizesLieInBounds (sizes : Sizes) : Type 0 where
+  pub pages : LiesIn page_bounds sizes.pages
+  pub page_words : LiesIn page_word_bounds sizes.page_words
+  pub regions : LiesIn region_bounds sizes.regions
+
+-- all pages together have at most this many words
+abbrev pub Fits : Sizes → Type 0
+Fits sizes = sizes.pages * sizes.page_words ≤ most_words
+
+-- each number is one that its option takes, and the pages are not too large together
+pub record LieInBounds (options : RunOptions) : Type 0 where
+  pub limits : LimitsLieInBounds options.limits
+  pub sizes : SizesLieInBounds options.sizes
+  pub fits : Fits options.sizes
 
 -- the limit that an option sets by its value; the default without one
 abbrev pub limit_by : Bounds → Option Text → Option ℕ
@@ -28,6 +62,10 @@ limit_by bounds (Some text) = within bounds.least bounds.most (number_of text)
 abbrev pub limit_of : Text → Bounds → List Row → Option ℕ
 limit_of name bounds rows = limit_by bounds (first_of name rows)
 
+-- whether the words have the flag of this name
+abbrev pub is_given : Text → List Row → Bool
+is_given name rows = option_map_or (λ value. bytes_eq value (codes "true")) (first_of name rows) false
+
 -- the limits of a run, where each number is one that its option takes
 abbrev pub limits_of : List Row → Option Limits
 limits_of rows =
@@ -36,3 +74,28 @@ limits_of rows =
       goroutines = goroutines;
     }) (limit_of (codes "goroutines") goroutine_bounds rows))
     (limit_of (codes "steps") step_bounds rows)
+
+-- the sizes, if the pages are not too large together
+abbrev pub fitting : Sizes → Option Sizes
+fitting sizes = if nat_le (sizes.pages * sizes.page_words) most_words then Some sizes else None
+
+-- the sizes of a run, where each number is one that its option takes
+abbrev pub sizes_of : List Row → Option Sizes
+sizes_of rows =
+    option_and_then (λ page_words. option_and_then (λ pages. option_and_then (λ regions. fitting (record {
+      page_words = page_words;
+      pages = pages;
+      regions = regions;
+    })) (limit_of (codes "regions") region_bounds rows))
+    (limit_of (codes "pages") page_bounds rows))
+    (limit_of (codes "page-words") page_word_bounds rows)
+
+-- what the options of a run set
+abbrev pub options_of : List Row → Option RunOptions
+options_of rows =
+    option_and_then (λ limits. option_map (λ sizes. record {
+      limits = limits;
+      sizes = sizes;
+      stats = is_given (codes "stats") rows;
+    }) (sizes_of rows))
+    (limits_of rows)

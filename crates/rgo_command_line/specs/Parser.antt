@@ -1,16 +1,21 @@
 -- The command line as data of `clap`: which words it takes, and as what.
 use Rattle.std.specs.Prelude.{Some, true, codes}
 use Rattle.clap.specs.Words.{App, Rule, Text, new_app, new_rule, with_rule, with_subcommand}
-use Rattle.clap.specs.declared.builder.action.ArgAction.TheVariants.{Set}
+use Rattle.clap.specs.declared.builder.action.ArgAction.TheVariants.{Set, SetTrue}
 
 -- an option `--name N`, of which the words may have one
 abbrev pub number_option : Text → Rule
 number_option name = record (new_rule name) { long = Some name; action = Some Set }
 
--- `run`, with its two options
+-- an option `--name` without a value, of which the words may have one
+abbrev pub flag_option : Text → Rule
+flag_option name = record (new_rule name) { long = Some name; action = Some SetTrue }
+
+-- `run`, with its options
 abbrev pub run_parser : App
-run_parser = with_rule (with_rule (new_app (codes "run")) (number_option (codes "steps")))
-    (number_option (codes "goroutines"))
+run_parser = with_rule (with_rule (with_rule (with_rule (with_rule (with_rule (new_app (codes "run"))
+    (number_option (codes "steps"))) (number_option (codes "goroutines"))) (number_option (codes "pages")))
+    (number_option (codes "page-words"))) (number_option (codes "regions"))) (flag_option (codes "stats"))
 
 -- the program, with no help and no version of its own
 abbrev pub bare_parser : App

@@ -5,19 +5,18 @@ ghost use Rattle.clap.specs.Words.{found_of, rows_of, subcommand_rows_of};
 ghost use Rattle.rgo_command_line.specs.Commands.{KeepsBounds, Reads, command_met, command_named};
 ghost use Rattle.rgo_command_line.specs.declared.commands.WordsError.TheVariants.{NoMemory};
 
-use crate::limits::limits_of;
+use crate::limits::{RunOptions, options_of};
 use crate::parser::parser;
 use clap::ArgMatches;
 use clap::error::ErrorKind;
-use rgo_machine::Limits;
 use std::alloc::{AllocError, Global};
 use thiserror::Error;
 
 /// What the program is asked to do.
 #[derive(Clone, Copy, Debug, PartialEq, Eq)]
 pub enum Command {
-    /// `run`: reads a text and runs its program, within these limits.
-    Run(Limits),
+    /// `run`: reads a text and runs its program, with these options.
+    Run(RunOptions),
     /// `check`: reads a text and checks it.
     Check,
     /// `emit`: reads a text and prints its code.
@@ -32,7 +31,8 @@ pub enum WordsError {
     /// Memory ran out. It may be returned for any words, also for those that ask for nothing.
     #[error("out of memory")]
     NoMemory,
-    /// The words ask for nothing, or for a limit out of its range.
+    /// The words ask for nothing, for a number out of its range, or for pages that are too large
+    /// together.
     #[error("no command")]
     Usage,
 }
@@ -50,7 +50,7 @@ fn command_named(name: &str, matches: &ArgMatches<'_>) -> Option<Command>
     ensures bounds { IfSome result KeepsBounds }
 {
     match name {
-        "run" => Some(Command::Run(limits_of(matches)?)),
+        "run" => Some(Command::Run(options_of(matches)?)),
         "check" => Some(Command::Check),
         "emit" => Some(Command::Emit),
         "code" => Some(Command::Code),
@@ -68,10 +68,18 @@ fn command_met(matches: &ArgMatches<'_>) -> Option<Command>
 
 /// The command that the words ask for. The first word is the program's name, and is ignored.
 ///
-/// `run` takes the options `--steps N` and `--goroutines N`, also written `--steps=N`, each at most
-/// once and in any order. `N` is one or more decimal digits, from 1 to 4,398,046,511,104 for
-/// steps, which is also their default, and from 1 to 1,000,000 for goroutines, by default 100,000.
-/// `check`, `emit` and `code` take none. A `--` may end the words.
+/// `run` takes the options `--steps N`, `--goroutines N`, `--pages N`, `--page-words N`,
+/// `--regions N` and `--stats`, each at most once and in any order. An option with a number may be
+/// written `--steps=N`; `--stats` has no value. `N` is one or more decimal digits:
+///
+/// - steps: 1 to 4,398,046,511,104, which is also the default;
+/// - goroutines: 1 to 1,000,000, by default 100,000;
+/// - pages: 1 to 65,536, by default 4,096;
+/// - words of a page: 16 to 4,096, by default 256;
+/// - regions: 1 to 65,536, which is also the default.
+///
+/// Pages times words of a page is at most 16,777,216. `check`, `emit` and `code` take no option. A
+/// `--` may end the words.
 ///
 /// `Usage` is returned only where they ask for nothing; `NoMemory` may be returned for any words.
 pub fn read_words(alloc: Global, words: &[String]) -> Result<Command, WordsError>

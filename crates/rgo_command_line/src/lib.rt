@@ -1,4 +1,4 @@
-//! The command line: which command its words ask for, within which limits.
+//! The command line: which command its words ask for, with which options.
 #![tactic(auto)]
 
 mod commands;
@@ -9,3 +9,4 @@ mod parser;
 
 pub use commands::{Command, WordsError, read_words};
 pub use laws::words_asked;
+pub use limits::RunOptions;

@@ -2,11 +2,28 @@
 
 ghost use Rattle.std.specs.Prelude.{◌≡◌, IfSome};
 ghost use Rattle.clap.specs.Words.{found_of, rows_of};
-ghost use Rattle.rgo_command_line.specs.Limits.{LieInBounds, LiesIn, limit_of, limits_of};
+ghost use Rattle.rgo_command_line.specs.Limits.{Fits, LieInBounds, LiesIn, LimitsLieInBounds, SizesLieInBounds};
+ghost use Rattle.rgo_command_line.specs.Limits.{fitting, is_given, limit_of, limits_of, options_of, sizes_of};
 
 use crate::numbers::number_within;
 use clap::ArgMatches;
-use rgo_machine::Limits;
+use rgo_machine::{Limits, Sizes};
+
+/// What the options of `run` set.
+#[derive(Clone, Copy, Debug, PartialEq, Eq)]
+pub struct RunOptions {
+    /// `--steps`, from 1 to 4,398,046,511,104 instructions that all goroutines execute together, and
+    /// `--goroutines`, from 1 to 1,000,000 goroutines that are started, `main` included.
+    pub limits: Limits,
+    /// `--page-words`, from 16 to 4,096 words in a page; `--pages`, from 1 to 65,536 pages in use at
+    /// one time; and `--regions`, from 1 to 65,536 regions that are live at one time, the global region
+    /// not counted. All pages together have at most 16,777,216 words. A word has one field of a
+    /// structure or one element of a slice.
+    pub sizes: Sizes,
+    /// `--stats`: whether one line on standard error, after the run, counts its regions, pages, objects
+    /// and goroutines.
+    pub stats: bool,
+}
 
 /// The numbers that an option takes, and its default.
 #[derive(Clone, Copy)]
@@ -30,6 +47,30 @@ const GOROUTINES: Bounds = Bounds {
     default: 100_000,
 };
 
+/// How many pages there may be at one time.
+const PAGES: Bounds = Bounds {
+    least: 1,
+    most: 65_536,
+    default: 4_096,
+};
+
+/// How many words a page has.
+const PAGE_WORDS: Bounds = Bounds {
+    least: 16,
+    most: 4_096,
+    default: 256,
+};
+
+/// How many regions there may be at one time, without the global one.
+const REGIONS: Bounds = Bounds {
+    least: 1,
+    most: 65_536,
+    default: 65_536,
+};
+
+/// The most words of all pages together.
+const MOST_WORDS: usize = 16_777_216;
+
 #[tactic(auto, using(crate::proofs::RowLemmas::first_value_rows))]
 fn limit(matches: &ArgMatches<'_>, name: &str, bounds: Bounds) -> Option<u64>
     ensures value { result ≡ limit_of name.now bounds (rows_of (found_of matches.now)) }
@@ -41,13 +82,59 @@ fn limit(matches: &ArgMatches<'_>, name: &str, bounds: Bounds) -> Option<u64>
     }
 }
 
-/// The limits that the options of `run` set, where each number is one that its option takes.
-pub(crate) fn limits_of(matches: &ArgMatches<'_>) -> Option<Limits>
+/// Whether the words have the flag of this name.
+#[tactic(auto, using(crate::proofs::RowLemmas::first_value_rows))]
+fn is_given(matches: &ArgMatches<'_>, name: &str) -> bool
+    ensures { result ≡ is_given name.now (rows_of (found_of matches.now)) }
+{
+    matches.get_str(name) == Some("true")
+}
+
+fn limits_of(matches: &ArgMatches<'_>) -> Option<Limits>
     ensures value { result ≡ limits_of (rows_of (found_of matches.now)) }
-    ensures range { IfSome result LieInBounds }
+    ensures range { IfSome result LimitsLieInBounds }
 {
     Some(Limits {
         steps: limit(matches, "steps", STEPS)?,
         goroutines: limit(matches, "goroutines", GOROUTINES)? as usize,
+    })
+}
+
+/// The sizes, if all pages together have at most `MOST_WORDS` words.
+fn fitting(sizes: Sizes) -> Option<Sizes>
+    requires { SizesLieInBounds sizes }
+    ensures value { result ≡ fitting sizes }
+    ensures same { IfSome result (λ kept. kept ≡ sizes) }
+    ensures fits { IfSome result Fits }
+{
+    if sizes.pages * sizes.page_words <= MOST_WORDS {
+        Some(sizes)
+    } else {
+        None
+    }
+}
+
+fn sizes_of(matches: &ArgMatches<'_>) -> Option<Sizes>
+    ensures value { result ≡ sizes_of (rows_of (found_of matches.now)) }
+    ensures range { IfSome result SizesLieInBounds }
+    ensures fits { IfSome result Fits }
+{
+    fitting(Sizes {
+        page_words: limit(matches, "page-words", PAGE_WORDS)? as usize,
+        pages: limit(matches, "pages", PAGES)? as usize,
+        regions: limit(matches, "regions", REGIONS)? as usize,
+    })
+}
+
+/// What the options of `run` set, if each number is one that its option takes and the pages are not
+/// too large together.
+pub(crate) fn options_of(matches: &ArgMatches<'_>) -> Option<RunOptions>
+    ensures value { result ≡ options_of (rows_of (found_of matches.now)) }
+    ensures range { IfSome result LieInBounds }
+{
+    Some(RunOptions {
+        limits: limits_of(matches)?,
+        sizes: sizes_of(matches)?,
+        stats: is_given(matches, "stats"),
     })
 }

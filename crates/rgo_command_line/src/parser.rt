@@ -3,7 +3,7 @@
 ghost use Rattle.std.specs.Prelude.{◌≡◌, IfOk, false};
 ghost use Rattle.clap.specs.Words.{app_of, rule_of};
 ghost use Rattle.clap.specs.declared.builder.command.Command.TheViews.{out-Command};
-ghost use Rattle.rgo_command_line.specs.Parser.{number_option, parser, run_parser};
+ghost use Rattle.rgo_command_line.specs.Parser.{flag_option, number_option, parser, run_parser};
 
 use clap::{Arg, ArgAction, Command};
 use std::alloc::{AllocError, Global};
@@ -16,13 +16,25 @@ fn number_option<'a>(alloc: Global, name: &'a str) -> Arg<'a>
     Arg::new(alloc, name).long(name).action(ArgAction::Set)
 }
 
+// An option `--name` without a value.
+fn flag_option<'a>(alloc: Global, name: &'a str) -> Arg<'a>
+    ensures rule { rule_of result ≡ flag_option name.entry.now }
+    ensures local { result.global ≡ false }
+{
+    Arg::new(alloc, name).long(name).action(ArgAction::SetTrue)
+}
+
 fn run_parser<'a>(alloc: Global) -> Result<Command<'a>, AllocError>
     ensures app { IfOk result (λ command. app_of command ≡ run_parser) }
     ensures local { IfOk result (λ command. (out-Command command).has_globals ≡ false) }
 {
     Command::new(alloc, "run")
         .arg(number_option(alloc, "steps"))?
-        .arg(number_option(alloc, "goroutines"))
+        .arg(number_option(alloc, "goroutines"))?
+        .arg(number_option(alloc, "pages"))?
+        .arg(number_option(alloc, "page-words"))?
+        .arg(number_option(alloc, "regions"))?
+        .arg(flag_option(alloc, "stats"))
 }
 
 /// One level of subcommands. Help and versions are off, since none of `clap`'s texts is printed.

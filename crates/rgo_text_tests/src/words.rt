@@ -2,8 +2,8 @@
 
 use crate::checks::same;
 use crate::lines::words_of;
-use rgo_command_line::{Command, WordsError, read_words};
-use rgo_machine::Limits;
+use rgo_command_line::{Command, RunOptions, WordsError, read_words};
+use rgo_machine::{Limits, Sizes};
 use std::process::Abort;
 use std::test::Fail;
 
@@ -68,13 +68,136 @@ static RUNS: [(&str, u64, usize); 37] = [
     ("rgo|run|--steps|10", 10, 100_000),
 ];
 
+/// Command lines that ask for `run`, with its pages, the words of a page, its regions and whether it has `--stats`.
+/// Steps and goroutines are the defaults.
+static SIZED: [(&str, usize, usize, usize, bool); 41] = [
+    ("rgo|run", 4_096, 256, 65_536, false),
+    ("rgo|run|--stats", 4_096, 256, 65_536, true),
+    ("rgo|run|--stats|--", 4_096, 256, 65_536, true),
+    // An option and its number, apart and joined.
+    ("rgo|run|--pages|5", 5, 256, 65_536, false),
+    ("rgo|run|--pages=5", 5, 256, 65_536, false),
+    ("rgo|run|--page-words|32", 4_096, 32, 65_536, false),
+    ("rgo|run|--page-words=32", 4_096, 32, 65_536, false),
+    ("rgo|run|--regions|5", 4_096, 256, 5, false),
+    ("rgo|run|--regions=5", 4_096, 256, 5, false),
+    ("rgo|run|--pages|5|--", 5, 256, 65_536, false),
+    ("rgo|run|--page-words=32|--", 4_096, 32, 65_536, false),
+    ("rgo|run|--regions|5|--", 4_096, 256, 5, false),
+    // Several, in any order and form.
+    ("rgo|run|--pages=1|--stats", 1, 256, 65_536, true),
+    ("rgo|run|--stats|--pages=1", 1, 256, 65_536, true),
+    ("rgo|run|--stats|--pages|1|--", 1, 256, 65_536, true),
+    (
+        "rgo|run|--pages|5|--page-words|32|--regions|7",
+        5,
+        32,
+        7,
+        false,
+    ),
+    (
+        "rgo|run|--regions=7|--page-words=32|--pages=5",
+        5,
+        32,
+        7,
+        false,
+    ),
+    (
+        "rgo|run|--page-words|32|--regions=7|--stats|--pages|5",
+        5,
+        32,
+        7,
+        true,
+    ),
+    (
+        "rgo|run|--regions|7|--stats|--pages=5|--page-words=32",
+        5,
+        32,
+        7,
+        true,
+    ),
+    (
+        "rgo|run|--steps=4398046511104|--pages=5|--goroutines|100000|--stats|--regions|7|--page-words=32",
+        5,
+        32,
+        7,
+        true,
+    ),
+    (
+        "rgo|run|--stats|--regions|7|--page-words=32|--goroutines=100000|--pages|5|--steps|4398046511104|--",
+        5,
+        32,
+        7,
+        true,
+    ),
+    // The ends of each range.
+    ("rgo|run|--pages|1", 1, 256, 65_536, false),
+    ("rgo|run|--pages|2", 2, 256, 65_536, false),
+    ("rgo|run|--pages|65535", 65_535, 256, 65_536, false),
+    ("rgo|run|--pages|65536", 65_536, 256, 65_536, false),
+    ("rgo|run|--page-words|16", 4_096, 16, 65_536, false),
+    ("rgo|run|--page-words|17", 4_096, 17, 65_536, false),
+    ("rgo|run|--page-words|4095", 4_096, 4_095, 65_536, false),
+    ("rgo|run|--page-words|4096", 4_096, 4_096, 65_536, false),
+    ("rgo|run|--regions|1", 4_096, 256, 1, false),
+    ("rgo|run|--regions|2", 4_096, 256, 2, false),
+    ("rgo|run|--regions|65535", 4_096, 256, 65_535, false),
+    ("rgo|run|--regions|65536", 4_096, 256, 65_536, false),
+    // The most words of all pages.
+    (
+        "rgo|run|--pages=65536|--page-words=256",
+        65_536,
+        256,
+        65_536,
+        false,
+    ),
+    (
+        "rgo|run|--page-words=4096|--pages=4096",
+        4_096,
+        4_096,
+        65_536,
+        false,
+    ),
+    (
+        "rgo|run|--pages=65536|--page-words=16",
+        65_536,
+        16,
+        65_536,
+        false,
+    ),
+    (
+        "rgo|run|--pages=5592|--page-words=3000",
+        5_592,
+        3_000,
+        65_536,
+        false,
+    ),
+    (
+        "rgo|run|--pages=1|--page-words=16|--regions=1",
+        1,
+        16,
+        1,
+        false,
+    ),
+    // Leading zeros.
+    ("rgo|run|--pages|005", 5, 256, 65_536, false),
+    ("rgo|run|--page-words=00000032", 4_096, 32, 65_536, false),
+    (
+        "rgo|run|--regions|0000000000000000000000000000007",
+        4_096,
+        256,
+        7,
+        false,
+    ),
+];
+
 static CHECKS: [&str; 3] = ["rgo|check", "rgo|check|--", "-|check"];
 
 static EMITS: [&str; 3] = ["rgo|emit", "rgo|emit|--", "-|emit"];
 
 static CODES: [&str; 3] = ["rgo|code", "rgo|code|--", "-|code"];
 
-static REFUSED: [&str; 167] = [
+static REFUSED: [&str; 233] = [
     "rgo",
     "",
     "run",
@@ -121,7 +244,6 @@ static REFUSED: [&str; 167] = [
     "rgo|RUN",
     "rgo|ruñ",
     "rgo|--run",
-    "rgo|run|--stats",
     "rgo|--stats|run",
     "rgo|emi",
     "rgo|codes",
@@ -229,14 +351,85 @@ static REFUSED: [&str; 167] = [
     "rgo|run|---steps|5",
     "rgo|run|--=5",
     "rgo|run|--steps |5",
-    "rgo|run|--stats|--steps|5",
-    "rgo|run|--pages|5",
-    "rgo|run|--page-words|16",
-    "rgo|run|--regions|5",
     "rgo|run|--workers|4",
     "rgo|run|--steps|5|--help",
     "rgo|run|--steps=5|-h",
     "rgo|run|--steps=5|--version",
+    // `--pages`, `--page-words` and `--regions`: no number, or one that the option does not take.
+    "rgo|run|--pages",
+    "rgo|run|--pages=",
+    "rgo|run|--pages|",
+    "rgo|run|--pages|--stats",
+    "rgo|run|--pages|--",
+    "rgo|run|--pages|many",
+    "rgo|run|--pages|+5",
+    "rgo|run|--pages|-5",
+    "rgo|run|--pages|0",
+    "rgo|run|--pages=0",
+    "rgo|run|--pages|65537",
+    "rgo|run|--pages=65537",
+    "rgo|run|--pages|4294967297",
+    "rgo|run|--pages|18446744073709551617",
+    "rgo|run|--page-words",
+    "rgo|run|--page-words=",
+    "rgo|run|--page-words|0",
+    "rgo|run|--page-words|15",
+    "rgo|run|--page-words=15",
+    "rgo|run|--page-words|4097",
+    "rgo|run|--page-words=4097",
+    "rgo|run|--page-words|18446744073709551648",
+    "rgo|run|--regions",
+    "rgo|run|--regions=",
+    "rgo|run|--regions|0",
+    "rgo|run|--regions=0",
+    "rgo|run|--regions|65537",
+    "rgo|run|--regions=65537",
+    "rgo|run|--regions|18446744073709551617",
+    // All pages together have too many words.
+    "rgo|run|--pages=65536|--page-words=257",
+    "rgo|run|--page-words|257|--pages|65536",
+    "rgo|run|--pages=65536|--page-words=4096",
+    "rgo|run|--pages=4097|--page-words=4096",
+    "rgo|run|--pages=5593|--page-words=3000",
+    "rgo|run|--pages=65536|--page-words=257|--stats",
+    // `--stats` with a value, and options that occur twice.
+    "rgo|run|--stats=true",
+    "rgo|run|--stats=false",
+    "rgo|run|--stats=x",
+    "rgo|run|--stats=",
+    "rgo|run|--stats|true",
+    "rgo|run|--stats|x",
+    "rgo|run|--stats|",
+    "rgo|run|--stats|--stats",
+    "rgo|run|--stats|--pages=5|--stats",
+    "rgo|run|--stats|--|--stats",
+    "rgo|run|--pages=5|--pages=5",
+    "rgo|run|--pages|5|--pages=6",
+    "rgo|run|--page-words=32|--page-words=32",
+    "rgo|run|--page-words|32|--page-words|33",
+    "rgo|run|--regions=5|--regions=5",
+    "rgo|run|--regions|5|--stats|--regions=5",
+    "rgo|run|--pages=5|--steps=5|--pages=5",
+    // Words that are nearly one of these options.
+    "rgo|run|--stat",
+    "rgo|run|--statss",
+    "rgo|run|-stats",
+    "rgo|run|stats",
+    "rgo|run|--Stats",
+    "rgo|run|--page|5",
+    "rgo|run|--page=5",
+    "rgo|run|--page_words|32",
+    "rgo|run|--pagewords=32",
+    "rgo|run|--page-word=32",
+    "rgo|run|--page|words|32",
+    "rgo|run|--region|5",
+    "rgo|run|-p|5",
+    "rgo|run|--p=5",
+    "rgo|check|--pages|5",
+    "rgo|check|--stats",
+    "rgo|emit|--page-words=32",
+    "rgo|code|--regions=5",
+    "rgo|--pages=5|run",
     // Options in another place.
     "rgo|--steps|5",
     "rgo|--steps=5",
@@ -253,8 +446,34 @@ static REFUSED: [&str; 167] = [
 #[test]
 fn words_ask_for_their_commands(rt: HostRuntime) -> Result<(), Fail> {
     for (line, steps, goroutines) in &RUNS {
-        let (steps, goroutines) = (*steps, *goroutines);
-        asks(&rt, line, Ok(Command::Run(Limits { steps, goroutines })))?;
+        let options = RunOptions {
+            limits: Limits {
+                steps: *steps,
+                goroutines: *goroutines,
+            },
+            sizes: Sizes {
+                page_words: 256,
+                pages: 4_096,
+                regions: 65_536,
+            },
+            stats: false,
+        };
+        asks(&rt, line, Ok(Command::Run(options)))?;
+    }
+    for (line, pages, page_words, regions, stats) in &SIZED {
+        let options = RunOptions {
+            limits: Limits {
+                steps: MOST_STEPS,
+                goroutines: 100_000,
+            },
+            sizes: Sizes {
+                page_words: *page_words,
+                pages: *pages,
+                regions: *regions,
+            },
+            stats: *stats,
+        };
+        asks(&rt, line, Ok(Command::Run(options)))?;
     }
     for line in &CHECKS {
         asks(&rt, line, Ok(Command::Check))?;

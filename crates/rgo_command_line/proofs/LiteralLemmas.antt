@@ -1,0 +1,62 @@
+-- Words that are written out, and what they ask for.
+use Rattle.std.proofs.Common.{refl}
+use Rattle.clap.proofs.OnLiterals.{clap_on_literals}
+use Rattle.rgo_command_line.specs.Laws.{AskForCommands, AskForNothing}
+
+-- at words that are written out, `clap`'s definition computes what they ask for
+pub commands : AskForCommands
+unfolding clap_on_literals
+commands = record {
+  run = λ program. refl;
+  run_ended = λ program. refl;
+  apart = λ program. refl;
+  joined = λ program. refl;
+  zeros = λ program. refl;
+  both = λ program. refl;
+  stats = λ program. refl;
+  one_page = λ program. refl;
+  least_page = λ program. refl;
+  most_page = λ program. refl;
+  most_words = λ program. refl;
+  all = λ program. refl;
+  check = λ program. refl;
+  check_ended = λ program. refl;
+  emit = λ program. refl;
+  emit_ended = λ program. refl;
+  code = λ program. refl;
+  code_ended = λ program. refl;
+}
+
+pub nothing : AskForNothing
+unfolding clap_on_literals
+nothing = record {
+  no_words = refl;
+  no_command = λ program. refl;
+  help = λ program. refl;
+  help_flag = λ program. refl;
+  version_flag = λ program. refl;
+  unknown = λ program. refl;
+  twice = λ program. refl;
+  before = λ program. refl;
+  check_option = λ program. refl;
+  emit_option = λ program. refl;
+  code_option = λ program. refl;
+  two_commands = λ program. refl;
+  option_twice = λ program. refl;
+  no_steps = λ program. refl;
+  many_steps = λ program. refl;
+  many_goroutines = λ program. refl;
+  no_word_holds = λ program. refl;
+  signed = λ program. refl;
+  empty = λ program. refl;
+  no_pages = λ program. refl;
+  many_pages = λ program. refl;
+  small_page = λ program. refl;
+  large_page = λ program. refl;
+  no_regions = λ program. refl;
+  many_regions = λ program. refl;
+  many_words = λ program. refl;
+  stats_value = λ program. refl;
+  stats_apart = λ program. refl;
+  stats_twice = λ program. refl;
+}
