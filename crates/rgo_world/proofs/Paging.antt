@@ -1,0 +1,231 @@
+-- A goroutine takes a page: the step of the region machine, and what the world shows after it.
+use Rattle.std.proofs.Common.{◌≡◌, ℕ, ◌≤◌, ◌<◌, Bool, true, false, List, [], ◌∷◌, length, map, Option, Some, None}
+use Rattle.std.proofs.Common.{refl, sym, ap, ◌∙◌, subst, drop, nat_eq, if◌then◌else◌, arith, true≢false}
+use Rattle.std.proofs.Common.{slice_get, slice_set, option_map, option_and_then}
+use Rattle.rgo_machine.specs.Runs.{run}
+use Rattle.rgo_region_machine.specs.declared.regions.Region.{Region}
+use Rattle.rgo_region_machine.specs.declared.regions.Region.TheVariants.{Global as GlobalRegion, Numbered}
+use Rattle.rgo_region_machine.specs.Duties.{attended}
+use Rattle.rgo_region_machine.specs.Machine.{TakePage, page_taken, region_step}
+use Rattle.rgo_region_machine.specs.Objects.{fill_of, with_fill}
+use Rattle.rgo_region_machine.specs.Owed.{next_duties}
+use Rattle.rgo_region_machine.specs.Regions.{RegionInfo, is_live, one_page_more, same_region, with_info}
+use Rattle.rgo_region_machine.specs.States as spec
+use Rattle.rgo_region_machine.specs.States.{Duty, RegionState, frames_of}
+use Rattle.rgo_sound.proofs.Attends.{length_with_info, same_reflexive, with_info_other, with_info_same}
+use Rattle.rgo_sound.proofs.Moves.{same_regions}
+use Rattle.rgo_sound.proofs.Offers.{steps_keep_good}
+use Rattle.rgo_sound.proofs.Places.{get_set_other}
+use Rattle.rgo_sound.proofs.Tests.{eq_of, split}
+use Rattle.rgo_world.specs.declared.holders.Holder.{Holder}
+use Rattle.rgo_world.specs.declared.worlds.World.{World}
+use Rattle.rgo_world.specs.Holders.{Fills, HolderShows, SameBindings, fill_in}
+use Rattle.rgo_world.specs.Objects.{AddsPage}
+use Rattle.rgo_world.specs.Tables.{is_gone, is_gone_in, pages_with, regions_with_page}
+use Rattle.rgo_world.specs.Works.{Attended, Ready, Works}
+use Rattle.rgo_world.specs.Worlds.{HoldersShow, OwesNext, Shown, next_creates}
+use Rattle.rgo_world.proofs.Attending.{kept_others, memory_same, there_is}
+use Rattle.rgo_world.proofs.OneHolder.{Changes, d_is, differs, k_there, one_shows, others_owe}
+use Rattle.rgo_world.proofs.Orderly.{orderly_step}
+use Rattle.rgo_world.proofs.Preparing.{between_with, others_between}
+
+-- ---- what is used of the own pages
+
+-- what is used in each region, once so much is used in one
+pub fill_with_at : (fills : List (Region × ℕ)) (r : Region) (n : ℕ) (q : Region)
+    → fill_of (with_fill fills r n) q ≡ (if same_region r q then Some n else fill_of fills q)
+fill_with_at [] r n q = refl
+fill_with_at (f ∷ fs) r n q = go (same_region f.0 r) refl (fill_with_at fs r n q)
+  where
+    apart : same_region f.0 r ≡ false → (b : Bool) → same_region f.0 q ≡ b → (a : Bool) → same_region r q ≡ a
+        → (if b then Some f.1 else (if a then Some n else fill_of fs q))
+        ≡ (if a then Some n else (if b then Some f.1 else fill_of fs q))
+    apart e false x false y = refl
+    apart e false x true y = refl
+    apart e true x false y = refl
+    apart e true x true y = absurd (true≢false (
+        sym (same_reflexive r) ∙ ap (λ z. same_region z r) (same_regions r q y ∙ sym (same_regions f.0 q x)) ∙ e))
+
+    go : (b : Bool) → same_region f.0 r ≡ b
+        → fill_of (with_fill fs r n) q ≡ (if same_region r q then Some n else fill_of fs q)
+        → fill_of (if b then (r, n) ∷ fs else f ∷ with_fill fs r n) q
+        ≡ (if same_region r q then Some n else (if same_region f.0 q then Some f.1 else fill_of fs q))
+    go true e h = one (same_region r q) (ap (λ z. same_region z q) (same_regions f.0 r e))
+      where
+        one : (a : Bool) → same_region f.0 q ≡ a
+            → (if a then Some n else fill_of fs q)
+            ≡ (if a then Some n else (if same_region f.0 q then Some f.1 else fill_of fs q))
+        one true x = refl
+        one false x = sym (ap (λ b. if b then Some f.1 else fill_of fs q) x)
+    go false e h =
+        ap (λ o. if same_region f.0 q then Some f.1 else o) h
+        ∙ apart e (same_region f.0 q) refl (same_region r q) refl
+
+-- what the code keeps of a goroutine, after so much is used in one region
+pub fill_shown : (c d : Holder) (h : spec.Holder) (region : Region) (used : ℕ) (ds : List Duty) → HolderShows c h
+    → Fills c d region used → HolderShows d (record h { fills = with_fill h.fills region used; duties = ds })
+fill_shown c d h region used ds shows fills = record {
+  names = subst (λ l. SameBindings l h.environments) (sym fills.1.names) shows.names;
+  protections = λ r. fills.1.protections r ∙ shows.protections r;
+  base = ap (map Numbered) fills.1.base ∙ shows.base;
+  fills = λ r i. by (Numbered r) (shows.fills r i);
+  global_fill = by GlobalRegion shows.global_fill;
+  no_offer = shows.no_offer;
+}
+  where
+    by : (q : Region) → fill_in c q ≡ fill_of h.fills q → fill_in d q ≡ fill_of (with_fill h.fills region used) q
+    by q e = fills.0 q ∙ ap (λ o. if same_region region q then Some used else o) e
+        ∙ sym (fill_with_at h.fills region used q)
+
+pub fill_unmade : (c d : Holder) (h : spec.Holder) (region q : Region) (used : ℕ) → Fills c d region used
+    → fill_in c q ≡ fill_of h.fills q → fill_in d q ≡ fill_of (with_fill h.fills region used) q
+fill_unmade c d h region q used fills e =
+    fills.0 q ∙ ap (λ o. if same_region region q then Some used else o) e ∙ sym (fill_with_at h.fills region used q)
+
+-- ---- a page more
+
+-- no region is removed by it
+page_keeps : (regions : List RegionInfo) (r q : Region) → is_gone (regions_with_page regions r) q ≡ is_gone regions q
+page_keeps regions GlobalRegion q = refl
+page_keeps regions (Numbered r) GlobalRegion = refl
+page_keeps regions (Numbered r) (Numbered q) = split (nat_eq r q) (λ t. here (eq_of r q t))
+    (λ n. ap is_gone_in (with_info_other regions r q one_page_more n))
+  where
+    same : (o : Option RegionInfo) → is_gone_in (option_map one_page_more o) ≡ is_gone_in o
+    same None = refl
+    same (Some info) = refl
+
+    here : r ≡ q → is_gone_in (slice_get (with_info regions r one_page_more) q) ≡ is_gone_in (slice_get regions q)
+    here t =
+        subst (λ x. is_gone_in (slice_get (with_info regions r one_page_more) x) ≡ is_gone_in (slice_get regions x)) t
+        (ap is_gone_in (with_info_same regions r one_page_more) ∙ same (slice_get regions r))
+
+page_length : (regions : List RegionInfo) (r : Region) → length (regions_with_page regions r) ≡ length regions
+page_length regions GlobalRegion = refl
+page_length regions (Numbered r) = length_with_info regions r one_page_more
+
+-- ---- the world after it
+
+-- goroutine g has taken a page, and is ready
+pub record Pages (w v : World) (s : RegionState) (g : ℕ) (k : spec.Holder) : Type 0 where
+  pub attended : Attended w v s g []
+  pub ready : Ready v attended.state g
+  pub holder : ready.works.holder ≡ k
+
+module _ (w v : World) (s : RegionState) (g : ℕ) (ready : Ready w s g) (region : Region) (adds : AddsPage w v g region)
+    (live : is_live s.regions region ≡ true)
+    (steps : region_step w.code.now w.sizes.page_words s (TakePage g)
+    ≡ Some (page_taken s g ready.works.holder region)) where
+  abbrev h : spec.Holder
+  h = ready.works.holder
+
+  abbrev k : spec.Holder
+  k = record h { fills = with_fill h.fills region 0 }
+
+  abbrev now : World
+  now = record w { table = v.table; holders = v.holders }
+
+  abbrev next : RegionState
+  next = record (attended s g k) {
+    regions = regions_with_page s.regions region;
+    global_pages = pages_with s.global_pages region;
+  }
+
+  next_is : (r : Region) → page_taken s g h r ≡ record (attended s g (record h { fills = with_fill h.fills r 0 })) {
+    regions = regions_with_page s.regions r;
+    global_pages = pages_with s.global_pages r;
+  }
+  next_is GlobalRegion = refl
+  next_is (Numbered r) = refl
+
+  leads : region_step w.code.now w.sizes.page_words s (TakePage g) ≡ Some next
+  leads = steps ∙ ap Some (next_is region)
+
+  kept : (c : Holder) × (slice_get w.holders.items g ≡ Some c)
+  kept = there_is w s g [] ready.works
+
+  refilled : (d : Holder) × (v.holders.items ≡ slice_set w.holders.items g d) × Fills kept.0 d region 0
+  refilled = adds.refilled kept.0 kept.1
+
+  changes : Changes w now s next g kept.0 refilled.0 h k
+  changes = record { c_there = kept.1; h_there = ready.works.is_holder; v_is = refilled.1; t_is = refl }
+
+  shows : HoldersShow w s
+  shows = ready.works.shown.holders ready.works.running
+
+  shown_next : Shown now next
+  shown_next =
+      let old = ready.works.shown in
+      record {
+        goroutines = old.goroutines;
+        memory = memory_same w.state.memory s.plain.memory s.regions (regions_with_page s.regions region) s.owners
+            (λ o q e. page_keeps s.regions region q) old.memory;
+        before = old.before;
+        printed = old.printed;
+        ended = old.ended;
+        goes_on = old.goes_on;
+        table = adds.taken s.regions s.global_pages s.owners live old.table;
+        holders = λ m. one_shows changes shows
+            (let l = page_length s.regions region in omega (arith, l))
+            (fill_shown kept.0 refilled.0 h region 0 h.duties (shows.each g kept.0 h kept.1 ready.works.is_holder)
+            refilled.2)
+            (λ r l. fill_unmade kept.0 refilled.0 h region (Numbered r) 0 refilled.2
+            (shows.unmade g kept.0 h kept.1 ready.works.is_holder r
+            (let e = page_length s.regions region in omega (arith, e, l))));
+        steps = old.steps;
+      }
+
+  works_next : Works now next g []
+  works_next = record {
+    prepared = record {
+      checked = ready.works.prepared.checked;
+      ascends = ready.works.prepared.ascends;
+      marks = ready.works.prepared.marks;
+      formals = ready.works.prepared.formals;
+    };
+    good = steps_keep_good w.code.now w.sizes.page_words s next (TakePage g) ready.works.prepared.checked
+        ready.works.prepared.ascends ready.works.good leads;
+    orderly = orderly_step w.code.now w.sizes.page_words s next (TakePage g) ready.works.prepared.checked
+        ready.works.prepared.ascends ready.works.good ready.works.orderly leads;
+    shown = shown_next;
+    running = ready.works.running;
+    holder = k;
+    is_holder = k_there changes;
+    owed = ready.works.owed;
+  }
+
+  owes_next : (x : Holder) → slice_get v.holders.items g ≡ Some x → OwesNext w.code.now next g x k
+  owes_next x e =
+      subst (λ z. OwesNext w.code.now next g z k)
+      (d_is changes g x refl e) (record {
+        left = was.left ∙ ap (λ n. drop n (next_duties w.code.now (frames_of s.plain g))) (sym refilled.2.1.done);
+        within = subst (λ n. n ≤ length (next_duties w.code.now (frames_of s.plain g))) (sym refilled.2.1.done)
+            was.within;
+        together = λ l. was.together
+            (subst (λ n. length (next_creates w.code.now (frames_of s.plain g)) < n) refilled.2.1.done l);
+      })
+    where
+      was : OwesNext w.code.now s g kept.0 h
+      was = ready.between.owes g kept.0 h kept.1 ready.works.is_holder
+
+  pub pages : Pages w now s g k
+  unfolding works_next
+  pages = record {
+    attended = record {
+      events = TakePage g ∷ [];
+      only_regions = (tt, tt);
+      state = next;
+      leads = ap (option_and_then (λ (t : RegionState). run (region_step w.code.now w.sizes.page_words) t [])) leads;
+      works = works_next;
+      plain = refl;
+      same = record { code = refl; sizes = refl; print = refl };
+      kept = kept_others w now g refilled.0 refilled.1;
+      others = λ j n. get_set_other s.holders g j k (differs g j n);
+    };
+    ready = record {
+      between = between_with now next g [] works_next
+          (others_owe changes w.code.now (λ j n. refl) (others_between w s g ready.between)) owes_next;
+      works = works_next;
+    };
+    holder = refl;
+  }

@@ -1,0 +1,9 @@
+pub mod Calls
+pub mod Attending
+pub mod Holders
+pub mod Objects
+pub mod Orderly
+pub mod Tables
+pub mod Views
+pub mod Works
+pub mod Worlds

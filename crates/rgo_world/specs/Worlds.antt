@@ -1,0 +1,147 @@
+-- A run with its regions: which run of the region machine it is at.
+use Rattle.std.specs.Prelude.{◌≡◌, ◌≤◌, ◌<◌, ◌^◌, ◌-◌, ℕ, min, Bool, false, List, [], ◌∷◌, ◌++◌, drop, length, map, Option, Some, None}
+use Rattle.std.specs.Prelude.{IsSome, slice_get}
+use Rattle.rgo_machine.specs.declared.picks.End.{End}
+use Rattle.rgo_machine.specs.declared.picks.Pick.TheVariants.{One}
+use Rattle.rgo_machine.specs.declared.turns.Shortage.{Shortage}
+use Rattle.rgo_machine.specs.declared.turns.Shortage.TheVariants as shortage
+use Rattle.rgo_tac.specs.Frames.{Frame}
+use Rattle.rgo_tac.specs.Tac.{TacState}
+use Rattle.rgo_code.specs.Checked.{IsChecked}
+use Rattle.rgo_code.specs.Code.{CodeInstr, CodeFn, Code}
+use Rattle.rgo_code.specs.Lists.{creates_in, removes_in, otherwise_in}
+use Rattle.rgo_code.specs.NameRules.{Ascends}
+use Rattle.rgo_code.specs.Names.{region_parameters}
+use Rattle.rgo_region_machine.specs.Counts.{Counts, counts_of}
+use Rattle.rgo_region_machine.specs.Machine.{Event, TakePage, plain_step, region_step, region_run}
+use Rattle.rgo_region_machine.specs.declared.regions.Region.TheVariants.{Numbered}
+use Rattle.rgo_region_machine.specs.Objects.{fill_of}
+use Rattle.rgo_region_machine.specs.Owed.{current, next_duties}
+use Rattle.rgo_region_machine.specs.States.{Duty, Create, Mark, Ended, Stopped, RegionState, frames_of}
+use Rattle.rgo_region_machine.specs.States as spec
+use Rattle.rgo_sound.specs.Progress.{MakesTooLarge}
+use Rattle.rgo_world.specs.declared.holders.Holder.{Holder}
+use Rattle.rgo_machine.specs.declared.limits.Sizes.{Sizes}
+use Rattle.rgo_world.specs.declared.tally.Tally.{Tally}
+use Rattle.rgo_world.specs.declared.worlds.World.{World}
+use Rattle.rgo_world.specs.Holders.{HolderShows, fill_in}
+use Rattle.rgo_world.specs.Tables.{TableShows, MemoryShows}
+
+-- ---- what the code keeps of a state
+
+abbrev pub end_in : Option Mark → Option End
+end_in (Some (Ended end)) = Some end
+end_in _ = None
+
+-- of each goroutine
+pub record HoldersShow (w : World) (s : RegionState) : Type 0 where
+  pub as_many : length w.holders.items ≡ length s.holders
+  pub each : (g : ℕ) (c : Holder) (h : spec.Holder) → slice_get w.holders.items g ≡ Some c
+      → slice_get s.holders g ≡ Some h → HolderShows c h
+  -- both say the same of a region that is not made yet
+  pub unmade : (g : ℕ) (c : Holder) (h : spec.Holder) → slice_get w.holders.items g ≡ Some c
+      → slice_get s.holders g ≡ Some h → (r : ℕ) → length s.regions ≤ r
+      → fill_in c (Numbered r) ≡ fill_of h.fills (Numbered r)
+
+-- What was printed before the print was last cleared is forgotten, as is what the objects of removed regions held. Once
+-- the run has ended, nothing is said of what goroutines have of the regions.
+pub record Shown (w : World) (s : RegionState) : Type 0 where
+  pub goroutines : w.state.goroutines ≡ s.plain.goroutines
+  pub memory : MemoryShows w.state.memory s.regions s.owners s.plain.memory
+  pub before : List ℕ
+  pub printed : s.plain.printed ≡ before ++ w.state.printed
+  pub ended : w.state.ended ≡ end_in s.mark
+  -- the region machine keeps no end but its mark
+  pub goes_on : s.plain.ended ≡ None
+  pub table : TableShows w.table s.regions s.global_pages s.owners
+  pub holders : s.mark ≡ None → HoldersShow w s
+  pub steps : w.steps ≡ min s.steps (2 ^ 64 - 1)
+
+-- ---- what is known of the code
+
+-- an instruction without a mark has nothing to do with regions
+abbrev pub IsPlain : Option CodeInstr → Type 0
+IsPlain instr = (creates_in instr ≡ []) × (removes_in instr ≡ []) × (otherwise_in instr ≡ [])
+
+-- these are the marks of all functions' instructions
+abbrev pub AreMarks : Code → List (List Bool) → Type 0
+AreMarks code all = (n i : ℕ) (marks : List Bool) (f : CodeFn) → slice_get all n ≡ Some marks
+    → slice_get code.functions n ≡ Some f → slice_get marks i ≡ Some false → IsPlain (slice_get f.body i)
+
+pub record Prepared (w : World) : Type 0 where
+  pub checked : IsChecked w.code.now
+  pub ascends : Ascends w.code.now
+  pub marks : AreMarks w.code.now (map (λ v. v.items) w.marks.items)
+  pub formals : map (λ v. v.items) w.formals.items ≡ map region_parameters w.code.now.functions
+
+-- ---- between instructions
+
+-- the names that are created before the next instruction
+abbrev pub next_creates : Code → List Frame → List ℕ
+next_creates code [] = []
+next_creates code (frame ∷ callers) = creates_in (current code frame)
+
+-- a goroutine owes what is left of the steps before its next instruction; those that follow the creations are done
+-- together
+pub record OwesNext (code : Code) (s : RegionState) (g : ℕ) (c : Holder) (h : spec.Holder) : Type 0 where
+  pub left : h.duties ≡ drop c.done (next_duties code (frames_of s.plain g))
+  pub within : c.done ≤ length (next_duties code (frames_of s.plain g))
+  pub together : length (next_creates code (frames_of s.plain g)) < c.done → h.duties ≡ []
+
+abbrev pub AllOweNext : World → RegionState → Type 0
+AllOweNext w s = (g : ℕ) (c : Holder) (h : spec.Holder) → slice_get w.holders.items g ≡ Some c
+    → slice_get s.holders g ≡ Some h → OwesNext w.code.now s g c h
+
+-- the state of the three-address machine, with the end that marks the run
+abbrev pub plain_at : RegionState → List ℕ → TacState
+plain_at s printed = record s.plain { printed = printed; ended = end_in s.mark }
+
+-- a run of the region machine over the world's code has come to this state of the three-address machine; the print of the
+-- run is what was given out before, and then that of the world
+pub record Reaches (w : World) (given : List ℕ) (p : TacState) : Type 0 where
+  pub checked : IsChecked w.code.now
+  pub ascends : Ascends w.code.now
+  pub events : List Event
+  pub state : RegionState
+  pub run : region_run w.code.now w.sizes.page_words events ≡ Some state
+  pub is : p ≡ plain_at state w.state.printed
+  pub print : state.plain.printed ≡ given ++ w.state.printed
+
+-- and the world is at the state of that run
+pub record Stands (w : World) (given : List ℕ) (p : TacState) : Type 0 where
+  pub reaches : Reaches w given p
+  pub prepared : Prepared w
+  pub shown : Shown w reaches.state
+  pub owes : reaches.state.mark ≡ None → AllOweNext w reaches.state
+  -- no limit of the region machine has stopped it
+  pub unstopped : end_in reaches.state.mark ≡ None → reaches.state.mark ≡ None
+
+-- ---- why there is no room
+
+-- some goroutine is to take a page, create a region, or make an object that is larger than a page
+abbrev pub LacksIn : Code → Sizes → Shortage → RegionState → Type 0
+LacksIn code sizes shortage.Pages s =
+    (g : ℕ) × IsSome (region_step code sizes.page_words s (TakePage g))
+    × (sizes.pages ≤ (counts_of s).taken - (counts_of s).returned)
+LacksIn code sizes shortage.Regions s =
+    (g k : ℕ) × (h : spec.Holder) × (duties : List Duty) × (slice_get s.holders g ≡ Some h) × (h.duties ≡ Create k ∷ duties)
+    × (sizes.regions ≤ (counts_of s).made - (counts_of s).removed)
+LacksIn code sizes shortage.ObjectSize s =
+    (g : ℕ) × (next : TacState) × (plain_step code s.plain (One g) ≡ Some next) × MakesTooLarge sizes.page_words s.plain next
+
+abbrev pub Lacks : World → Shortage → (given : List ℕ) → TacState → Type 0
+Lacks w why given p = (at : Stands w given p) × LacksIn w.code.now w.sizes why at.reaches.state
+
+-- ---- what it has made and done
+
+-- the count of steps stays at the end of its type
+abbrev pub tally_of : Counts → Tally
+tally_of counts = record {
+  made = counts.made;
+  removed = counts.removed;
+  taken = counts.taken;
+  returned = counts.returned;
+  steps = min counts.steps (2 ^ 64 - 1);
+  objects = counts.objects;
+  goroutines = counts.goroutines;
+}

@@ -1,0 +1,260 @@
+//! What a goroutine has of the regions.
+
+ghost use Rattle.std.specs.Prelude.{◌≡◌, ◌<◌, ◌+◌, ◌-◌, ◌∷◌, [], ℕ, List, Bool, Option, Some, None, true, IfOk, OnOk, OnErr, length, nat_lt};
+ghost use Rattle.rgo_region_machine.specs.Regions.{Bindings, bound, unbind};
+ghost use Rattle.rgo_region_machine.specs.declared.regions.Region.TheVariants.{Global as GlobalRegion, Numbered};
+ghost use Rattle.rgo_world.specs.Holders as spec;
+
+use rgo_region_machine::Region;
+use std::alloc::{AllocError, Global};
+use std::collections::HashMap;
+
+/// What the names of a frame stand for, each by its number.
+pub(crate) type Names = Vec<Option<Region>>;
+
+/// What a goroutine has of the regions. That it has a stake in a region is nowhere kept: only what it names is ever
+/// removed.
+#[derive(Drop)]
+pub(crate) struct Holder {
+    /// What the names of each frame stand for, the newest frame last.
+    pub(crate) frames: Vec<Names>,
+    /// How many protections each region has, in its frames and by its base.
+    pub(crate) protections: HashMap<usize, usize>,
+    /// The regions that were given at two positions when it started, in the order in which they end.
+    pub(crate) base: Vec<usize>,
+    /// How many words are used of the page that it fills in each region.
+    pub(crate) fills: HashMap<usize, usize>,
+    /// The same of Global, if it has a page there.
+    pub(crate) global_fill: Option<usize>,
+    /// How many of the steps are done that it owes before its next instruction.
+    pub(crate) done: usize,
+}
+
+/// The region that a name of these stands for.
+pub(crate) fn region_of(names: &[Option<Region>], name: u32) -> Option<Region>
+    ensures { result ≡ spec.bound_in names.now name }
+{
+    match names.get(name as usize) {
+        Some(region) => *region,
+        None => None,
+    }
+}
+
+/// A name stands for a region.
+///
+/// # Errors
+///
+/// On allocation failure. Then each name stands for what it stood for.
+pub(crate) fn bind(names: &mut Names, name: u32, region: Region) -> Result<(), AllocError>
+    ensures binds { OnOk result ((k : ℕ) → spec.bound_in names.new.items k
+        ≡ spec.bound_with names.old.items name region k) }
+    ensures kept { OnErr result ((k : ℕ) → spec.bound_in names.new.items k ≡ spec.bound_in names.old.items k) }
+{
+    let name = name as usize;
+    if names.len() <= name {
+        names.resize(name + 1, None)?;
+    }
+    names[name] = Some(region);
+    Ok(())
+}
+
+/// A name no longer stands for a region.
+fn unbind(names: &mut Names, name: u32)
+    ensures { (k : ℕ) → spec.bound_in names.new.items k ≡ spec.bound_without names.old.items name k }
+{
+    if let Some(region) = names.get_mut(name as usize) {
+        *region = None;
+    }
+}
+
+impl Holder {
+    /// The holder of a goroutine that starts with one frame: what its names stand for, and the regions that were given
+    /// at two positions.
+    ///
+    /// # Errors
+    ///
+    /// On allocation failure.
+    pub(crate) fn new(alloc: Global, names: Names, base: Vec<usize>) -> Result<Holder, AllocError>
+        ensures { IfOk result (λ h. spec.Begins h names.items base.items) }
+    {
+        let mut protections = HashMap::new(alloc);
+        for r in base.iter() {
+            protections.insert(*r, 1)?;
+        }
+        let mut frames = Vec::new(alloc);
+        frames.push(names)?;
+        Ok(Holder {
+            frames,
+            protections,
+            base,
+            fills: HashMap::new(alloc),
+            global_fill: None,
+            done: 0,
+        })
+    }
+
+    /// What the names of the newest frame stand for.
+    pub(crate) fn names(&self) -> &[Option<Region>]
+        ensures { result.now ≡ spec.newest (spec.frames_of self.now) }
+    {
+        match self.frames.last() {
+            Some(names) => names,
+            None => &[],
+        }
+    }
+
+    /// The region that a name of the newest frame stands for.
+    pub(crate) fn region(&self, name: u32) -> Option<Region>
+        ensures { result ≡ spec.region_in self.now name }
+    {
+        match self.frames.last() {
+            Some(names) => region_of(names, name),
+            None => None,
+        }
+    }
+
+    /// A name of the newest frame stands for a region; if it stood for another, it no longer does.
+    ///
+    /// # Errors
+    ///
+    /// On allocation failure.
+    pub(crate) fn bind(&mut self, name: u32, region: Region) -> Result<(), AllocError>
+        ensures binds { OnOk result (spec.Binds self.old self.new name region) }
+    {
+        if let Some(names) = self.frames.last_mut() {
+            bind(names, name, region)?;
+        }
+        Ok(())
+    }
+
+    /// A name of the newest frame no longer stands for a region.
+    pub(crate) fn unbind(&mut self, name: u32)
+        ensures { spec.Unbinds self.old self.new name }
+    {
+        if let Some(names) = self.frames.last_mut() {
+            unbind(names, name);
+        }
+    }
+
+    /// A function is called, with what its names stand for.
+    ///
+    /// # Errors
+    ///
+    /// On allocation failure. Then nothing changed.
+    pub(crate) fn enter(&mut self, names: Names) -> Result<(), AllocError>
+        ensures enters { OnOk result (spec.Enters self.old self.new names.items) }
+        ensures kept { OnErr result (spec.Same self.old self.new) }
+    {
+        self.frames.push(names)?;
+        Ok(())
+    }
+
+    /// The newest function returns.
+    pub(crate) fn come_back(&mut self)
+        ensures { spec.ComesBack self.old self.new }
+    {
+        self.frames.pop();
+    }
+
+    /// One more protection of a region.
+    ///
+    /// # Errors
+    ///
+    /// On allocation failure. Then nothing changed.
+    pub(crate) fn protect(&mut self, region: Region) -> Result<(), AllocError>
+        ensures protects { OnOk result (spec.Protects self.old self.new region) }
+        ensures kept { OnErr result (spec.Same self.old self.new) }
+    {
+        let Region::Numbered(r) = region else {
+            return Ok(());
+        };
+        let count = match self.protections.get(&r) {
+            Some(count) => *count,
+            None => 0,
+        };
+        let Some(more) = count.checked_add(1) else {
+            return Err(AllocError);
+        };
+        match self.protections.insert(r, more) {
+            Ok(_) => Ok(()),
+            Err(_) => Err(AllocError),
+        }
+    }
+
+    /// One protection of a region ends.
+    pub(crate) fn unprotect(&mut self, region: Region)
+        ensures { spec.Unprotects self.old self.new region }
+    {
+        let Region::Numbered(r) = region else {
+            return;
+        };
+        let Some(count) = self.protections.get_mut(&r) else {
+            return;
+        };
+        if *count > 1 {
+            *count -= 1;
+        } else {
+            self.protections.remove(&r);
+        }
+    }
+
+    /// The first region that was given at two positions, which is no longer so protected; `None` where none is left.
+    pub(crate) fn end_base(&mut self) -> Option<usize>
+        ensures { spec.EndsBase self.old self.new result }
+    {
+        if self.base.is_empty() {
+            return None;
+        }
+        let r = self.base.remove(0);
+        self.unprotect(Region::Numbered(r));
+        Some(r)
+    }
+
+    /// Whether it protects a region.
+    pub(crate) fn guards(&self, r: usize) -> bool
+        ensures { result ≡ nat_lt 0 (spec.protections_in self.now r) }
+    {
+        match self.protections.get(&r) {
+            Some(count) => *count > 0,
+            None => false,
+        }
+    }
+
+    /// How many words are used of the page that it fills in a region; `None` where it has none.
+    pub(crate) fn fill(&self, region: Region) -> Option<usize>
+        ensures { result ≡ spec.fill_in self.now region }
+    {
+        match region {
+            Region::Global => self.global_fill,
+            Region::Numbered(r) => self.fills.get(&r).copied(),
+        }
+    }
+
+    /// Now so many words of that page are used.
+    ///
+    /// # Errors
+    ///
+    /// On allocation failure. Then nothing changed.
+    pub(crate) fn set_fill(&mut self, region: Region, used: usize) -> Result<(), AllocError>
+        ensures fills { OnOk result (spec.Fills self.old self.new region used) }
+        ensures kept { OnErr result (spec.Same self.old self.new) }
+    {
+        match region {
+            Region::Global => {
+                self.global_fill = Some(used);
+                Ok(())
+            }
+            Region::Numbered(r) => match self.fills.insert(r, used) {
+                Ok(_) => Ok(()),
+                Err(_) => Err(AllocError),
+            },
+        }
+    }
+
+    /// Its stake in a region has ended: it fills no page there.
+    pub(crate) fn leave(&mut self, r: usize)
+        ensures { spec.Leaves self.old self.new r }
+    {
+        self.fills.remove(&r);
+    }
+}

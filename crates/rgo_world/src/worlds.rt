@@ -1,0 +1,107 @@
+//! A run with its regions.
+
+ghost use Rattle.std.specs.Prelude.{◌≡◌, ◌∷◌, [], Some, None, MatchOption, OnSome, slice_get};
+ghost use Rattle.rgo_tac.specs.Tac.{tac};
+ghost use Rattle.rgo_code.specs.Erasure.{erased};
+ghost use Rattle.rgo_world.specs.declared.worlds.Halt.TheVariants.{NoMemory};
+ghost use Rattle.rgo_world.specs.Works as spec;
+ghost use Rattle.rgo_world.specs.Works.{IsNext, IsNextOf};
+
+use crate::holders::Holder;
+use crate::tables::Table;
+use rgo_code::{Code, CodeFn};
+use rgo_machine::{Shortage, Sizes, State, Stop, Turned};
+use rgo_tac::{Class, Frame, Op, TacMachine};
+use std::alloc::AllocError;
+
+/// A run of checked code with its regions.
+///
+/// It keeps the three-address machine's state, but not what the objects of removed regions held: no step looks at it.
+#[derive(Drop)]
+pub struct World<'a> {
+    pub(crate) code: &'a Code,
+    pub(crate) sizes: Sizes,
+    /// For each function, whether an instruction has to do with regions.
+    pub(crate) marks: Vec<Vec<bool>>,
+    /// The region parameters of each function.
+    pub(crate) formals: Vec<Vec<Class>>,
+    pub(crate) state: State<Frame>,
+    pub(crate) table: Table,
+    /// What each goroutine has of the regions.
+    pub(crate) holders: Vec<Holder>,
+    /// How many instructions were done; two that meet are one.
+    pub(crate) steps: usize,
+}
+
+/// Why a step with a region was not done.
+#[derive(Clone, Copy)]
+pub(crate) enum Halt {
+    NoMemory,
+    NoRoom(Shortage),
+}
+
+impl From<AllocError> for Halt {
+    ghost from_gives = { λ _ halt. halt ≡ NoMemory };
+
+    fn from(_: AllocError) -> Halt {
+        Halt::NoMemory
+    }
+}
+
+impl Halt {
+    /// A turn without steps that is over by it.
+    pub(crate) fn turned(self) -> Turned
+        ensures { result ≡ spec.halted self }
+    {
+        Turned {
+            steps: 0,
+            stop: match self {
+                Halt::NoMemory => Stop::NoMemory,
+                Halt::NoRoom(shortage) => Stop::NoRoom(shortage),
+            },
+        }
+    }
+}
+
+/// The next instruction of a goroutine.
+#[derive(Drop)]
+pub(crate) struct Next<'a> {
+    pub(crate) function: CodeFn<'a>,
+    pub(crate) at: usize,
+    pub(crate) op: Op<'a>,
+}
+
+impl<'a> World<'a> {
+    /// The newest frame of a goroutine; `None` where it has returned, or does not exist.
+    pub(crate) fn newest(&self, g: usize) -> Option<&Frame>
+        ensures { MatchOption result (spec.newest_of self.now g ≡ None) (λ f. spec.newest_of self.now g ≡ Some f.now) }
+    {
+        self.state.goroutines.get(g)?.frames.last()
+    }
+
+    /// The next instruction of a frame.
+    pub(crate) fn next_of(&self, frame: &Frame) -> Option<Next<'a>>
+        ensures { MatchOption result (spec.instr_of self.now frame.now ≡ None) (IsNext self.now.code.now frame.now) }
+    {
+        let function = self.code.function(frame.function)?;
+        let op = function.tac().op(frame.next)?;
+        Some(Next {
+            function,
+            at: frame.next,
+            op,
+        })
+    }
+
+    /// The next instruction of a goroutine.
+    pub(crate) fn next(&self, g: usize) -> Option<Next<'a>>
+        ensures { MatchOption result (spec.HasNoNext self.now g) (IsNextOf self.now g) }
+    {
+        self.next_of(self.newest(g)?)
+    }
+
+    pub(crate) fn machine(&self) -> TacMachine<'a>
+        ensures { result.code.now ≡ erased self.now.code.now }
+    {
+        TacMachine::new(self.code.tac())
+    }
+}
