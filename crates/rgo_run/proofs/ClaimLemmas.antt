@@ -1,25 +1,30 @@
 -- Each claim of the headline by itself, from how a call ended that read its text.
-use Rattle.std.proofs.Common.{◌≡◌, true, false, ℕ, ◌⊎◌, inl, inr, List, [], ◌++◌, length, None, refl, sym, ◌∙◌, ap, subst}
+use Rattle.std.proofs.Common.{◌≡◌, true, false, ℕ, ◌⊎◌, inl, inr, List, ◌++◌, length, None, Option, refl, sym, ◌∙◌, ap, subst}
 use Rattle.rgo_typed.specs.Tree.{Typed}
+use Rattle.rgo_machine.specs.declared.turns.Shortage.{Shortage}
+use Rattle.rgo_machine.specs.declared.turns.Shortage.TheVariants as shortage
+use Rattle.rgo_code.specs.Erasure.{erased}
+use Rattle.rgo_world.specs.declared.tally.Tally.{Tally}
 use Rattle.rgo_driver.specs.Rounds.{all_of}
 use Rattle.rgo_driver.specs.declared.ends.RunEnd.{RunEnd}
 use Rattle.rgo_driver.specs.declared.ends.RunEnd.TheVariants as run_end
-use Rattle.rgo_machine.specs.declared.limits.Limits.{Limits}
+use Rattle.rgo_command_line.specs.declared.limits.RunOptions.{RunOptions}
 use Rattle.rgo_command_line.specs.Commands.{command_of}
 use Rattle.rgo_run.specs.declared.endings.Ending.{Ending}
 use Rattle.rgo_run.specs.declared.endings.Ending.TheVariants.{Valid, Ran, Usage, ReadFault}
 use Rattle.rgo_run.specs.declared.endings.Ending.TheVariants.{WriteFault, NoMemory}
 use Rattle.rgo_command_line.specs.declared.commands.Command.{Command}
 use Rattle.rgo_command_line.specs.declared.commands.Command.TheVariants.{Run, Check, Emit, Code}
-use Rattle.rgo_run.specs.Calls.{Call, Asks, IsRun, IsCheck, IsEmit, IsCode, AsksRun, SourceHeld, Failed, Held, Grew, IsUntouched}
-use Rattle.rgo_run.specs.CodeVerdicts.{CodePasses}
+use Rattle.rgo_run.specs.Calls.{Call, Asks, IsRun, IsEmit, AsksRun, SinkUse, SourceHeld, Failed, Held, Grew}
+use Rattle.rgo_run.specs.Calls.{IsUntouched}
 use Rattle.rgo_run.specs.Compiled.{Emits, IsCodeText, WritesCode}
-use Rattle.rgo_run.specs.Endings.{status_of, is_fault_status, line_of}
+use Rattle.rgo_run.specs.Endings.{status_of, status_of_run, is_fault_status, line_of}
 use Rattle.rgo_run.specs.Reports.{Tells}
-use Rattle.rgo_run.specs.Runs.{ProgramRuns, RunsTo}
+use Rattle.rgo_run.specs.Runs.{ProgramRuns, RunsTo, stats_at}
 use Rattle.rgo_run.specs.Texts.{IsTextOf, AskSome, RefusedBy, AcceptedBy}
-use Rattle.rgo_run.specs.Verdicts.{Passes, IsProgram, Refused}
-use Rattle.rgo_run.specs.Headline.{EndsRun, EndsEmit, MayRun, MayEmit, Print, Faults, Suffices, RunsWhole, MustRunWhole, IsSilent, EmitsWhole}
+use Rattle.rgo_run.specs.Verdicts.{Passes, IsProgram}
+use Rattle.rgo_run.specs.Headline.{AlwaysHas, EndsRun, EndsEmit, IsOwnEnd, IsWriteFault, MayRun, MayEmit, NeverEnds, Print, Faults}
+use Rattle.rgo_run.specs.Headline.{Suffices, RunsWhole, MustRunWhole, IsSilent, EmitsWhole}
 use Rattle.rgo_run.proofs.EndingLemmas.{refused_status, not_one, one_is_no_run, one_is_no_emit, not_status_1, read_fault, write_fault}
 use Rattle.rgo_run.proofs.CodeVerdictLemmas as codes
 use Rattle.rgo_run.proofs.VerdictLemmas as verdicts
@@ -34,7 +39,7 @@ OnlyChecks _ = ⊥
 pub data Outcome (call : Call) (text : List ℕ) (e : Ending) : Type 0 where
   accepted : e ≡ Valid → (command : Command) → Asks call command → OnlyChecks command → AcceptedBy command text
       → IsUntouched call.out → Outcome call text e
-  ran : (limits : Limits) → IsRun call limits → RunsTo limits text e call.out → Outcome call text e
+  ran : (options : RunOptions) → IsRun call options → RunsTo options text e call.out → Outcome call text e
   emitted : IsEmit call → Emits text e call.out → Outcome call text e
   refused : (command : Command) → Asks call command → RefusedBy command text e → IsUntouched call.out → Outcome call text e
   no_memory : e ≡ NoMemory → IsUntouched call.out → Outcome call text e
@@ -53,31 +58,31 @@ told_whole call text e (inr t) n = absurd (n t.1)
 pub passes : (text : List ℕ) (program : Typed) → IsProgram text program → Passes text
 passes text program p = (p.tree, p.is_well_typed)
 
-same_limits : (call : Call) (a b : Limits) → IsRun call a → IsRun call b → a ≡ b
-same_limits call a b c d = cc
+same_options : (call : Call) (a b : RunOptions) → IsRun call a → IsRun call b → a ≡ b
+same_options call a b c d = cc
 
 same_command : (call : Call) (a b : Command) → Asks call a → Asks call b → a ≡ b
 same_command call a b c d = cc
 
-no_run : (call : Call) (command : Command) (limits : Limits) → Asks call command → OnlyChecks command → IsRun call limits → ⊥
-no_run call command limits c k r = subst OnlyChecks (same_command call command (Run limits) c r) k
+no_run : (call : Call) (command : Command) (options : RunOptions) → Asks call command → OnlyChecks command → IsRun call options → ⊥
+no_run call command options c k r = subst OnlyChecks (same_command call command (Run options) c r) k
 
 no_emit : (call : Call) (command : Command) → Asks call command → OnlyChecks command → IsEmit call → ⊥
 no_emit call command c k d = subst OnlyChecks (same_command call command Emit c d) k
 
-run_or_emit : (call : Call) (limits : Limits) → IsEmit call → IsRun call limits → ⊥
-run_or_emit call limits c d = let same = same_command call Emit (Run limits) c d in cc
+run_or_emit : (call : Call) (options : RunOptions) → IsEmit call → IsRun call options → ⊥
+run_or_emit call options c d = let same = same_command call Emit (Run options) c d in cc
 
 -- ---- verdicts by commands
 
 one_refusal : (command : Command) (text : List ℕ) (a b : Ending) → RefusedBy command text a → RefusedBy command text b → a ≡ b
-one_refusal (Run limits) text a b r s = verdicts.one_refusal text a b r s
+one_refusal (Run options) text a b r s = verdicts.one_refusal text a b r s
 one_refusal Check text a b r s = verdicts.one_refusal text a b r s
 one_refusal Emit text a b r s = verdicts.one_refusal text a b r s
 one_refusal Code text a b r s = codes.one_refusal text a b r s
 
 never_both : (command : Command) (text : List ℕ) (why : Ending) → AcceptedBy command text → RefusedBy command text why → ⊥
-never_both (Run limits) text why p r = p
+never_both (Run options) text why p r = p
 never_both Check text why p r = verdicts.never_both text why p r
 never_both Emit text why p r = verdicts.never_both text why p r
 never_both Code text why p r = codes.never_both text why p r
@@ -105,8 +110,8 @@ emit_status _ ends s = ends
 pub emit_ends : (call : Call) (text : List ℕ) (e : Ending) → Emits text e call.out → EndsEmit e
 emit_ends call text e em = emits_ends em.0 call e em.2
 
-emit_is_no_run : (e : Ending) (end : RunEnd) → EndsEmit e → e ≡ Ran end → ⊥
-emit_is_no_run e end ends is = subst EndsEmit is ends
+emit_is_no_run : (e : Ending) (end : RunEnd) (stats : Option Tally) → EndsEmit e → e ≡ Ran end stats → ⊥
+emit_is_no_run e end stats ends is = subst EndsEmit is ends
 
 emit_failed : (bytes : List ℕ) (call : Call) (e : Ending) → WritesCode bytes e call.out → e ≡ WriteFault → Failed call.out
 emit_failed bytes call WriteFault w x = w.0
@@ -122,7 +127,7 @@ emit_held bytes call _ w n = absurd w
 
 pub usage : (call : Call) (text : List ℕ) (e : Ending) → Outcome call text e → e ≡ Usage → command_of call.words ≡ None
 usage call text e (accepted is command c k p o) u = cc
-usage call text e (ran limits c r) u = absurd (let is = r.is_end in cc)
+usage call text e (ran options c r) u = absurd (let is = r.is_end in cc)
 usage call text e (emitted c em) u = absurd (subst EndsEmit u (emit_ends call text e em))
 usage call text e (refused command c f o) u =
     absurd (not_one e Usage (refused_status command text e f) (λ s. cc) u)
@@ -136,7 +141,7 @@ unknown call e (inr is) n = inr is
 pub is_refused : (call : Call) (text : List ℕ) (e : Ending) → Outcome call text e → status_of e ≡ 1
     → (command : Command) × Asks call command × RefusedBy command text e
 is_refused call text e (accepted is command c k p o) s = absurd (let t = subst (λ x. status_of x ≡ 1) is s in cc)
-is_refused call text e (ran limits c r) s = absurd (not_status_1 r.run_end (subst (λ x. status_of x ≡ 1) r.is_end s))
+is_refused call text e (ran options c r) s = absurd (not_status_1 r.run_end (subst (λ x. status_of x ≡ 1) r.is_end s))
 is_refused call text e (emitted c em) s = absurd (emit_status e (emit_ends call text e em) s)
 is_refused call text e (refused command c f o) s = (command, c, f)
 is_refused call text e (no_memory is o) s = absurd (let t = subst (λ x. status_of x ≡ 1) is s in cc)
@@ -144,7 +149,7 @@ is_refused call text e (no_memory is o) s = absurd (let t = subst (λ x. status_
 pub valid : (call : Call) (text : List ℕ) (e : Ending) → Outcome call text e → e ≡ Valid
     → (command : Command) × Asks call command × AcceptedBy command text
 valid call text e (accepted is command c k p o) x = (command, c, p)
-valid call text e (ran limits c r) x = absurd (let is = r.is_end in cc)
+valid call text e (ran options c r) x = absurd (let is = r.is_end in cc)
 valid call text e (emitted c em) x = (Emit, c, compiled_passes text em.0 em.1)
 valid call text e (refused command c f o) x =
     absurd (not_one e Valid (refused_status command text e f) (λ s. cc) x)
@@ -154,9 +159,9 @@ pub first : (call : Call) (text : List ℕ) (e : Ending) → Outcome call text e
     → (why : Ending) → RefusedBy command text why → (e ≡ why) ⊎ (e ≡ NoMemory)
 first call text e (accepted is other c k p o) command d why w =
     absurd (never_both other text why p (program_refused call text command other why d c w))
-first call text e (ran limits c r) command d why w =
+first call text e (ran options c r) command d why w =
     absurd (verdicts.never_both text why (passes text r.program r.is_program)
-    (program_refused call text command (Run limits) why d c w))
+    (program_refused call text command (Run options) why d c w))
 first call text e (emitted c em) command d why w =
     absurd (verdicts.never_both text why (compiled_passes text em.0 em.1) (program_refused call text command Emit why d c w))
 first call text e (refused other c f o) command d why w =
@@ -166,7 +171,7 @@ first call text e (no_memory is o) command d why w = inr is
 pub untouched : (call : Call) (text : List ℕ) (e : Ending) → Outcome call text e → (MayRun call e → ⊥)
     → (MayEmit call e → ⊥) → IsUntouched call.out
 untouched call text e (accepted is command c k p o) r m = o
-untouched call text e (ran limits c run) r m = absurd (r ((limits, c), subst EndsRun (sym run.is_end) tt))
+untouched call text e (ran options c run) r m = absurd (r ((options, c), subst EndsRun (sym run.is_end) tt))
 untouched call text e (emitted c em) r m = absurd (m (c, emit_ends call text e em))
 untouched call text e (refused command c f o) r m = o
 untouched call text e (no_memory is o) r m = o
@@ -179,48 +184,46 @@ emit_no_run_end WriteFault ends m = m
 emit_no_run_end _ ends m = ends
 
 pub print : (call : Call) (text : List ℕ) (e : Ending) → Outcome call text e → Print call text e
-print call text e (accepted is command c k p o) limits d m = absurd (subst EndsRun is m)
-print call text e (ran l c r) limits d m =
-    inl (subst (λ l. RunsTo l text e call.out) (same_limits call l limits c d) r)
-print call text e (emitted c em) limits d m = absurd (emit_no_run_end e (emit_ends call text e em) m)
-print call text e (refused command c f o) limits d m =
+print call text e (accepted is command c k p o) options d m = absurd (subst EndsRun is m)
+print call text e (ran l c r) options d m =
+    inl (subst (λ l. RunsTo l text e call.out) (same_options call l options c d) r)
+print call text e (emitted c em) options d m = absurd (emit_no_run_end e (emit_ends call text e em) m)
+print call text e (refused command c f o) options d m =
     absurd (one_is_no_run e (refused_status command text e f) m)
-print call text e (no_memory is o) limits d m = inr (is, o)
+print call text e (no_memory is o) options d m = inr (is, o)
 
 pub emission : (call : Call) (text : List ℕ) (e : Ending) → Outcome call text e → IsEmit call → EndsEmit e
     → Emits text e call.out
 emission call text e (accepted is command c k p o) d m = absurd (no_emit call command c k d)
-emission call text e (ran limits c r) d m = absurd (run_or_emit call limits d c)
+emission call text e (ran options c r) d m = absurd (run_or_emit call options d c)
 emission call text e (emitted c em) d m = em
 emission call text e (refused command c f o) d m = absurd (one_is_no_emit e (refused_status command text e f) m)
 emission call text e (no_memory is o) d m = absurd (subst EndsEmit is m)
 
 pub not_read_fault : (call : Call) (text : List ℕ) (e : Ending) → Outcome call text e → e ≡ ReadFault → ⊥
 not_read_fault call text e (accepted is command c k p o) x = cc
-not_read_fault call text e (ran limits c r) x = let is = r.is_end in cc
+not_read_fault call text e (ran options c r) x = let is = r.is_end in cc
 not_read_fault call text e (emitted c em) x = subst EndsEmit x (emit_ends call text e em)
 not_read_fault call text e (refused command c f o) x =
     not_one e ReadFault (refused_status command text e f) (λ s. cc) x
 not_read_fault call text e (no_memory is o) x = let memory = is in cc
 
--- a write to `out` failed
-abbrev pub IsWriteFault : Ending → Type 0
-IsWriteFault e = (e ≡ Ran run_end.WriteFault) ⊎ (e ≡ WriteFault)
-
-run_write_failed : (limits : Limits) (call : Call) (text : List ℕ) (e : Ending) → RunsTo limits text e call.out
+run_write_failed : (options : RunOptions) (call : Call) (text : List ℕ) (e : Ending) → RunsTo options text e call.out
     → IsWriteFault e → Failed call.out
-run_write_failed limits call text e r (inl x) =
+run_write_failed options call text e r (inl (stats, x)) =
     let is = r.is_end in let same : r.run_end ≡ run_end.WriteFault = cc in r.failed same
-run_write_failed limits call text e r (inr x) = absurd (let is = r.is_end in cc)
+run_write_failed options call text e r (inr x) = absurd (let is = r.is_end in cc)
 
 emit_write_failed : (call : Call) (text : List ℕ) (e : Ending) → Emits text e call.out → IsWriteFault e
     → Failed call.out
-emit_write_failed call text e em (inl x) = absurd (emit_is_no_run e run_end.WriteFault (emit_ends call text e em) x)
+emit_write_failed call text e em (inl (stats, x)) =
+    absurd (emit_is_no_run e run_end.WriteFault stats (emit_ends call text e em) x)
 emit_write_failed call text e em (inr x) = emit_failed em.0 call e em.2 x
 
 -- an ending that is not such a one
-pub no_write_fault : (e : Ending) → (e ≡ Ran run_end.WriteFault → ⊥) → (e ≡ WriteFault → ⊥) → IsWriteFault e → ⊥
-no_write_fault e run emit (inl x) = run x
+pub no_write_fault : (e : Ending) → ((stats : Option Tally) → e ≡ Ran run_end.WriteFault stats → ⊥)
+    → (e ≡ WriteFault → ⊥) → IsWriteFault e → ⊥
+no_write_fault e run emit (inl (stats, x)) = run stats x
 no_write_fault e run emit (inr x) = emit x
 
 -- nor is it another ending than the one that it is
@@ -229,25 +232,27 @@ not_other e is other x n y = n (sym x ∙ y)
 
 pub write_failed : (call : Call) (text : List ℕ) (e : Ending) → Outcome call text e → IsWriteFault e → Failed call.out
 write_failed call text e (accepted is command c k p o) x =
-    absurd (no_write_fault e (not_other e Valid (Ran run_end.WriteFault) is (λ w. cc))
+    absurd (no_write_fault e (λ stats. not_other e Valid (Ran run_end.WriteFault stats) is (λ w. cc))
     (not_other e Valid WriteFault is (λ w. cc)) x)
-write_failed call text e (ran limits c r) x = run_write_failed limits call text e r x
+write_failed call text e (ran options c r) x = run_write_failed options call text e r x
 write_failed call text e (emitted c em) x = emit_write_failed call text e em x
 write_failed call text e (refused command c f o) x =
     let one = refused_status command text e f in
-    absurd (no_write_fault e (not_one e (Ran run_end.WriteFault) one (λ s. cc)) (not_one e WriteFault one (λ s. cc)) x)
+    absurd (no_write_fault e (λ stats. not_one e (Ran run_end.WriteFault stats) one (λ s. cc))
+    (not_one e WriteFault one (λ s. cc)) x)
 write_failed call text e (no_memory is o) x =
-    absurd (no_write_fault e (not_other e NoMemory (Ran run_end.WriteFault) is (λ w. cc))
+    absurd (no_write_fault e (λ stats. not_other e NoMemory (Ran run_end.WriteFault stats) is (λ w. cc))
     (not_other e NoMemory WriteFault is (λ w. cc)) x)
 
-pub ran_asks : (call : Call) (text : List ℕ) (e : Ending) → Outcome call text e → (end : RunEnd) → e ≡ Ran end
-    → AsksRun call.words
-ran_asks call text e (accepted is command c k p o) end x = absurd (not_other e Valid (Ran end) is (λ w. cc) x)
-ran_asks call text e (ran limits c r) end x = (limits, c)
-ran_asks call text e (emitted c em) end x = absurd (emit_is_no_run e end (emit_ends call text e em) x)
-ran_asks call text e (refused command c f o) end x =
-    absurd (not_one e (Ran end) (refused_status command text e f) (not_status_1 end) x)
-ran_asks call text e (no_memory is o) end x = absurd (not_other e NoMemory (Ran end) is (λ w. cc) x)
+pub ran_asks : (call : Call) (text : List ℕ) (e : Ending) → Outcome call text e → (end : RunEnd) (stats : Option Tally)
+    → e ≡ Ran end stats → AsksRun call.words
+ran_asks call text e (accepted is command c k p o) end stats x =
+    absurd (not_other e Valid (Ran end stats) is (λ w. cc) x)
+ran_asks call text e (ran options c r) end stats x = (options, c)
+ran_asks call text e (emitted c em) end stats x = absurd (emit_is_no_run e end stats (emit_ends call text e em) x)
+ran_asks call text e (refused command c f o) end stats x =
+    absurd (not_one e (Ran end stats) (refused_status command text e f) (not_status_1 end) x)
+ran_asks call text e (no_memory is o) end stats x = absurd (not_other e NoMemory (Ran end stats) is (λ w. cc) x)
 
 -- ---- faults
 
@@ -271,10 +276,10 @@ not_fault : (call : Call) (e other : Ending) → is_fault_status (status_of othe
 not_fault call e other is t s x =
     let no = subst (λ n. is_fault_status n ≡ false) (t ∙ ap status_of x) s in cc
 
-out_held : (call : Call) (text : List ℕ) (e : Ending) → Outcome call text e → (e ≡ Ran run_end.WriteFault → ⊥)
-    → (e ≡ WriteFault → ⊥) → Held call.out
+out_held : (call : Call) (text : List ℕ) (e : Ending) → Outcome call text e
+    → ((stats : Option Tally) → e ≡ Ran run_end.WriteFault stats → ⊥) → (e ≡ WriteFault → ⊥) → Held call.out
 out_held call text e (accepted is command c k p o) n m = o.1
-out_held call text e (ran limits c r) n m = r.held (λ w. n (r.is_end ∙ ap Ran w))
+out_held call text e (ran options c r) n m = r.held (λ w. n r.stats (r.is_end ∙ ap (λ end. Ran end r.stats) w))
 out_held call text e (emitted c em) n m = emit_held em.0 call e em.2 m
 out_held call text e (refused command c f o) n m = o.1
 out_held call text e (no_memory is o) n m = o.1
@@ -289,32 +294,54 @@ faults call text e went t = record {
   read = λ s. absurd (not_read_fault call text e went.outcome (status_9 call text e t s));
   write = λ s. faults_write call text e went.outcome (status_10 call text e t s);
   none = λ s. let h = err_held call text e t s in
-      let run = not_fault call e (Ran run_end.WriteFault) refl h.1 s in
+      let run : (stats : Option Tally) → e ≡ Ran run_end.WriteFault stats → ⊥ =
+      λ stats. not_fault call e (Ran run_end.WriteFault stats) refl h.1 s in
       let emit = not_fault call e WriteFault refl h.1 s in
       (went.held, out_held call text e went.outcome run emit, h.0);
 }
 
 -- ---- completeness
 
-runs_whole : (limits : Limits) (call : Call) (text : List ℕ) (program : Typed) (end : RunEnd)
-    → ProgramRuns program limits end call.out → Suffices limits program
-    → (call.status ≡ status_of (Ran end)) × Grew call.err (line_of text (Ran end))
-    → (end ≡ run_end.WriteFault → ⊥) → RunsWhole limits call text program ⊎ (call.status ≡ 11)
-runs_whole limits call text program (run_end.Ended end) r s t w =
-    inl (record { run_end = run_end.Ended end; is_own = tt; runs = r; told = t.1; status = t.0 })
-runs_whole limits call text program run_end.Deadlock r s t w =
-    inl (record { run_end = run_end.Deadlock; is_own = tt; runs = r; told = t.1; status = t.0 })
-runs_whole limits call text program run_end.CallsTooDeep r s t w =
-    absurd (s.calls r.code r.lowered (length (all_of r.runs.rounds)) (all_of r.runs.rounds ++ r.runs.last) r.runs.state
-    r.runs.ran r.runs.ends)
-runs_whole limits call text program run_end.StepsSpent r s t w =
-    absurd (s.steps r.code r.lowered (length (all_of r.runs.rounds)) (all_of r.runs.rounds ++ r.runs.last) r.runs.state
-    r.runs.ran r.runs.ends)
-runs_whole limits call text program run_end.GoroutinesSpent r s t w =
-    absurd (s.goroutines r.code r.lowered (length (all_of r.runs.rounds)) (all_of r.runs.rounds ++ r.runs.last) r.runs.state
-    r.runs.ran r.runs.ends)
-runs_whole limits call text program run_end.WriteFault r s t w = absurd (w refl)
-runs_whole limits call text program run_end.NoMemory r s t w = inr t.0
+-- a run of the program, and what is said of it
+abbrev RunsWith : RunOptions → Typed → RunEnd → Option Tally → SinkUse → Type 0
+RunsWith options program end stats out =
+    (runs : ProgramRuns program options end out) × (stats ≡ stats_at options.stats end runs.regions.state)
+
+module _ (options : RunOptions) (call : Call) (text : List ℕ) (program : Typed) (stats : Option Tally)
+    (suffices : Suffices options program) where
+  own : (end : RunEnd) → IsOwnEnd end → (r : RunsWith options program end stats call.out)
+      → (call.status ≡ status_of_run end) × Grew call.err (line_of text (Ran end stats))
+      → RunsWhole options call text program
+  own end is r t = record {
+    run_end = end;
+    is_own = is;
+    runs = r.0;
+    told = subst (λ x. Grew call.err (line_of text (Ran end x))) r.1 t.1;
+    status = t.0;
+  }
+
+  lacks_none : (why : Shortage) → AlwaysHas options.sizes program why
+      → (r : RunsWith options program (run_end.NoRoom why) stats call.out) → ⊥
+  lacks_none why has r =
+      has r.0.code r.0.compiled r.0.regions.events r.0.regions.state r.0.regions.run (r.0.regions.lacks why refl)
+
+  never : (end : RunEnd) → NeverEnds options.limits program end → RunsWith options program end stats call.out → ⊥
+  never end n r = n (erased r.0.code) r.0.compiled.lowered (length (all_of r.0.runs.rounds))
+      (all_of r.0.runs.rounds ++ r.0.runs.last) r.0.runs.state r.0.runs.ran r.0.runs.ends
+
+  runs_whole : (end : RunEnd) → RunsWith options program end stats call.out
+      → (call.status ≡ status_of_run end) × Grew call.err (line_of text (Ran end stats))
+      → (end ≡ run_end.WriteFault → ⊥) → RunsWhole options call text program ⊎ (call.status ≡ 11)
+  runs_whole (run_end.Ended end) r t w = inl (own (run_end.Ended end) tt r t)
+  runs_whole run_end.Deadlock r t w = inl (own run_end.Deadlock tt r t)
+  runs_whole (run_end.NoRoom shortage.Pages) r t w = absurd (lacks_none shortage.Pages suffices.pages r)
+  runs_whole (run_end.NoRoom shortage.Regions) r t w = absurd (lacks_none shortage.Regions suffices.regions r)
+  runs_whole (run_end.NoRoom shortage.ObjectSize) r t w = absurd (lacks_none shortage.ObjectSize suffices.object_size r)
+  runs_whole run_end.CallsTooDeep r t w = absurd (never run_end.CallsTooDeep suffices.calls r)
+  runs_whole run_end.StepsSpent r t w = absurd (never run_end.StepsSpent suffices.steps r)
+  runs_whole run_end.GoroutinesSpent r t w = absurd (never run_end.GoroutinesSpent suffices.goroutines r)
+  runs_whole run_end.WriteFault r t w = absurd (w refl)
+  runs_whole run_end.NoMemory r t w = inr t.0
 
 -- an ending for want of memory is reported so
 memory_status : (call : Call) (text : List ℕ) (e : Ending) → e ≡ NoMemory → Tells text e call.status call.err
@@ -322,22 +349,21 @@ memory_status : (call : Call) (text : List ℕ) (e : Ending) → e ≡ NoMemory 
 memory_status call text e is t n = (told_whole call text e t n).0 ∙ ap status_of is
 
 pub complete_run : (call : Call) (text : List ℕ) (e : Ending) → Outcome call text e → Tells text e call.status call.err
-    → (limits : Limits) → IsRun call limits → (Failed call.out → ⊥) → (Failed call.err → ⊥)
-    → MustRunWhole limits call text
-complete_run call text e (accepted is command c k u o) t limits d w n program p s = absurd (no_run call command limits c k d)
-complete_run call text e (ran l c r) t limits d w n program p s =
-    let same = same_limits call l limits c d in
+    → (options : RunOptions) → IsRun call options → (Failed call.out → ⊥) → (Failed call.err → ⊥)
+    → MustRunWhole options call text
+complete_run call text e (accepted is command c k u o) t options d w n program p s = absurd (no_run call command options c k d)
+complete_run call text e (ran l c r) t options d w n program p s =
+    let same = same_options call l options c d in
     let q = verdicts.one_program text r.program program r.is_program p in
-    runs_whole limits call text program r.run_end
-    (subst (λ x. ProgramRuns program x r.run_end call.out) same
-    (subst (λ x. ProgramRuns x l r.run_end call.out) q r.runs))
-    s
+    runs_whole options call text program r.stats s r.run_end
+    (subst (λ x. RunsWith x program r.run_end r.stats call.out) same
+    (subst (λ x. RunsWith l x r.run_end r.stats call.out) q (r.runs, r.stats_are)))
     (subst (λ x. (call.status ≡ status_of x) × Grew call.err (line_of text x)) r.is_end (told_whole call text e t n))
     (λ f. w (r.failed f))
-complete_run call text e (emitted c em) t limits d w n program p s = absurd (run_or_emit call limits c d)
-complete_run call text e (refused command c f o) t limits d w n program p s =
-    absurd (verdicts.never_both text e (passes text program p) (program_refused call text command (Run limits) e c d f))
-complete_run call text e (no_memory is o) t limits d w n program p s = inr (memory_status call text e is t n)
+complete_run call text e (emitted c em) t options d w n program p s = absurd (run_or_emit call options c d)
+complete_run call text e (refused command c f o) t options d w n program p s =
+    absurd (verdicts.never_both text e (passes text program p) (program_refused call text command (Run options) e c d f))
+complete_run call text e (no_memory is o) t options d w n program p s = inr (memory_status call text e is t n)
 
 -- a text that is only checked, and that the command accepts
 pub complete_checking : (call : Call) (text : List ℕ) (e : Ending) → Outcome call text e
@@ -346,7 +372,7 @@ pub complete_checking : (call : Call) (text : List ℕ) (e : Ending) → Outcome
 complete_checking call text e (accepted is other c k u o) t command d only n p =
     let told = subst (λ x. (call.status ≡ status_of x) × Grew call.err (line_of text x)) is (told_whole call text e t n) in
     inl (record { status = told.0; untouched = o; silent = told.1 })
-complete_checking call text e (ran limits c r) t command d only n p = absurd (no_run call command limits d only c)
+complete_checking call text e (ran options c r) t command d only n p = absurd (no_run call command options d only c)
 complete_checking call text e (emitted c em) t command d only n p = absurd (no_emit call command d only c)
 complete_checking call text e (refused other c f o) t command d only n p =
     absurd (never_both command text e p (program_refused call text other command e c d f))
@@ -370,7 +396,7 @@ pub complete_emit : (call : Call) (text : List ℕ) (e : Ending) → Outcome cal
     → IsEmit call → (Failed call.out → ⊥) → (Failed call.err → ⊥) → Passes text
     → EmitsWhole call text ⊎ (call.status ≡ 11)
 complete_emit call text e (accepted is command c k u o) t d w n p = absurd (no_emit call command c k d)
-complete_emit call text e (ran limits c r) t d w n p = absurd (run_or_emit call limits d c)
+complete_emit call text e (ran options c r) t d w n p = absurd (run_or_emit call options d c)
 complete_emit call text e (emitted c em) t d w n p =
     inl (emits_whole call text e em.0 em.1 em.2 (told_whole call text e t n) w)
 complete_emit call text e (refused command c f o) t d w n p =

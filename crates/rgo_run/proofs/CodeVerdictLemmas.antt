@@ -1,16 +1,15 @@
 -- A code text is the text of one code at most, and has one refusal at most.
-use Rattle.std.proofs.Common.{◌≡◌, refl, sym, ◌∙◌, ap, ap₂, subst, ℕ, List, length, arith}
+use Rattle.std.proofs.Common.{◌≡◌, refl, sym, ◌∙◌, ap, ap₂, subst, ℕ, List, arith}
 use Rattle.rgo_code.specs.Checked.{IsChecked, IsFirstBroken}
 use Rattle.rgo_code.specs.Code.{Code}
 use Rattle.rgo_code.specs.declared.rules.CodeRefusal.{CodeRefusal}
-use Rattle.rgo_code_printing.specs.Text.{text_of}
 use Rattle.rgo_code_text.specs.Forms.{IsFirstWithoutForm}
 use Rattle.rgo_code_text.proofs.OneRefusal.{one_refusal as forms}
 use Rattle.rgo_code_text.proofs.Refusing.{no_two}
 use Rattle.rgo_checker.proofs.OneOutcome.{one_outcome}
 use Rattle.rgo_run.specs.declared.endings.Ending.{Ending}
 use Rattle.rgo_run.specs.declared.endings.Ending.TheVariants.{CodeTooLong, NoForm, Breaks}
-use Rattle.rgo_run.specs.CodeVerdicts.{IsTextOfCode, CodePasses, CodeBreaks, CodeRefused, OneCodeVerdict, code_limit}
+use Rattle.rgo_run.specs.CodeVerdicts.{IsTextOfCode, CodePasses, CodeBreaks, CodeRefused, OneCodeVerdict}
 
 one_code : (text : List ℕ) (a b : Code) → IsTextOfCode text a → IsTextOfCode text b → a ≡ b
 one_code text a b is also = no_two a b is.written also.written (sym is.text_is ∙ also.text_is)

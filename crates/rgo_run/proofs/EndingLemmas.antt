@@ -1,6 +1,8 @@
 -- What endings and statuses exclude.
-use Rattle.std.proofs.Common.{◌≡◌, ◌⊎◌, inl, inr, true, ℕ, List, refl, subst}
+use Rattle.std.proofs.Common.{◌≡◌, inl, inr, true, ℕ, List, [], Option, Some, Result, Ok, Err, IfOk, MatchResult, refl, subst}
+use Rattle.std.specs.declared.alloc.AllocError.{AllocError}
 use Rattle.rgo_machine.specs.declared.picks.End.TheVariants as the_end
+use Rattle.rgo_machine.specs.declared.turns.Shortage.TheVariants as shortage
 use Rattle.rgo_driver.specs.declared.ends.RunEnd.{RunEnd}
 use Rattle.rgo_driver.specs.declared.ends.RunEnd.TheVariants as run_end
 use Rattle.rgo_command_line.specs.declared.commands.Command.{Command}
@@ -8,8 +10,11 @@ use Rattle.rgo_command_line.specs.declared.commands.Command.TheVariants.{Run, Ch
 use Rattle.rgo_run.specs.declared.endings.Ending.{Ending}
 use Rattle.rgo_run.specs.declared.endings.Ending.TheVariants.{Valid, Ran, Usage, ReadFault, TooLong, CodeTooLong}
 use Rattle.rgo_run.specs.declared.endings.Ending.TheVariants.{Lexical, Syntax, Nesting, Typing, NoForm, Breaks, WriteFault, NoMemory}
-use Rattle.rgo_run.specs.Endings.{status_of, status_of_run, is_run_status}
-use Rattle.rgo_run.specs.Headline.{EndsEmit, EndsRun}
+use Rattle.rgo_run.specs.Calls.{SinkUse}
+use Rattle.rgo_run.specs.Endings.{line_of, line_of_run, stats_lines, status_of, status_of_run, is_run_status}
+use Rattle.rgo_run.specs.Reports.{Reports, Writes}
+use Rattle.rgo_world.specs.declared.tally.Tally.{Tally}
+use Rattle.rgo_run.specs.Headline.{EndsEmit, EndsRun, IsWriteFault}
 use Rattle.rgo_run.specs.CodeVerdicts.{CodeRefused}
 use Rattle.rgo_run.specs.Texts.{RefusedBy}
 use Rattle.rgo_run.specs.Verdicts.{Refused}
@@ -30,7 +35,7 @@ code_refused text (Breaks refusal) r = refl
 code_refused text _ r = absurd r
 
 pub refused_status : (command : Command) (text : List ℕ) (e : Ending) → RefusedBy command text e → status_of e ≡ 1
-refused_status (Run limits) text e r = text_refused text e r
+refused_status (Run options) text e r = text_refused text e r
 refused_status Check text e r = text_refused text e r
 refused_status Emit text e r = text_refused text e r
 refused_status Code text e r = code_refused text e r
@@ -40,6 +45,9 @@ pub not_status_1 : (end : RunEnd) → status_of_run end ≡ 1 → ⊥
 not_status_1 (run_end.Ended the_end.Exit) s = cc
 not_status_1 (run_end.Ended (the_end.Trap trap at)) s = cc
 not_status_1 run_end.Deadlock s = cc
+not_status_1 (run_end.NoRoom shortage.Pages) s = cc
+not_status_1 (run_end.NoRoom shortage.Regions) s = cc
+not_status_1 (run_end.NoRoom shortage.ObjectSize) s = cc
 not_status_1 run_end.CallsTooDeep s = cc
 not_status_1 run_end.StepsSpent s = cc
 not_status_1 run_end.GoroutinesSpent s = cc
@@ -51,7 +59,7 @@ pub not_one : (e other : Ending) → status_of e ≡ 1 → (status_of other ≡ 
 not_one e other s differs is = differs (subst (λ x. status_of x ≡ 1) is s)
 
 pub one_is_no_run : (e : Ending) → status_of e ≡ 1 → EndsRun e → ⊥
-one_is_no_run (Ran end) s m = not_status_1 end s
+one_is_no_run (Ran end stats) s m = not_status_1 end s
 one_is_no_run NoMemory s m = cc
 one_is_no_run _ s m = m
 
@@ -63,14 +71,17 @@ one_is_no_emit _ s m = m
 -- with status 9 a read failed
 pub read_fault : (e : Ending) → status_of e ≡ 9 → e ≡ ReadFault
 read_fault ReadFault s = refl
-read_fault (Ran (run_end.Ended the_end.Exit)) s = cc
-read_fault (Ran (run_end.Ended (the_end.Trap trap at))) s = cc
-read_fault (Ran run_end.Deadlock) s = cc
-read_fault (Ran run_end.CallsTooDeep) s = cc
-read_fault (Ran run_end.StepsSpent) s = cc
-read_fault (Ran run_end.GoroutinesSpent) s = cc
-read_fault (Ran run_end.WriteFault) s = cc
-read_fault (Ran run_end.NoMemory) s = cc
+read_fault (Ran (run_end.Ended the_end.Exit) stats) s = cc
+read_fault (Ran (run_end.Ended (the_end.Trap trap at)) stats) s = cc
+read_fault (Ran run_end.Deadlock stats) s = cc
+read_fault (Ran (run_end.NoRoom shortage.Pages) stats) s = cc
+read_fault (Ran (run_end.NoRoom shortage.Regions) stats) s = cc
+read_fault (Ran (run_end.NoRoom shortage.ObjectSize) stats) s = cc
+read_fault (Ran run_end.CallsTooDeep stats) s = cc
+read_fault (Ran run_end.StepsSpent stats) s = cc
+read_fault (Ran run_end.GoroutinesSpent stats) s = cc
+read_fault (Ran run_end.WriteFault stats) s = cc
+read_fault (Ran run_end.NoMemory stats) s = cc
 read_fault Valid s = cc
 read_fault Usage s = cc
 read_fault TooLong s = cc
@@ -85,16 +96,19 @@ read_fault WriteFault s = cc
 read_fault NoMemory s = cc
 
 -- with status 10 of an ending a write to `out` failed
-pub write_fault : (e : Ending) → status_of e ≡ 10 → (e ≡ Ran run_end.WriteFault) ⊎ (e ≡ WriteFault)
-write_fault (Ran run_end.WriteFault) s = inl refl
+pub write_fault : (e : Ending) → status_of e ≡ 10 → IsWriteFault e
+write_fault (Ran run_end.WriteFault stats) s = inl (stats, refl)
 write_fault WriteFault s = inr refl
-write_fault (Ran (run_end.Ended the_end.Exit)) s = cc
-write_fault (Ran (run_end.Ended (the_end.Trap trap at))) s = cc
-write_fault (Ran run_end.Deadlock) s = cc
-write_fault (Ran run_end.CallsTooDeep) s = cc
-write_fault (Ran run_end.StepsSpent) s = cc
-write_fault (Ran run_end.GoroutinesSpent) s = cc
-write_fault (Ran run_end.NoMemory) s = cc
+write_fault (Ran (run_end.Ended the_end.Exit) stats) s = cc
+write_fault (Ran (run_end.Ended (the_end.Trap trap at)) stats) s = cc
+write_fault (Ran run_end.Deadlock stats) s = cc
+write_fault (Ran (run_end.NoRoom shortage.Pages) stats) s = cc
+write_fault (Ran (run_end.NoRoom shortage.Regions) stats) s = cc
+write_fault (Ran (run_end.NoRoom shortage.ObjectSize) stats) s = cc
+write_fault (Ran run_end.CallsTooDeep stats) s = cc
+write_fault (Ran run_end.StepsSpent stats) s = cc
+write_fault (Ran run_end.GoroutinesSpent stats) s = cc
+write_fault (Ran run_end.NoMemory stats) s = cc
 write_fault ReadFault s = cc
 write_fault Valid s = cc
 write_fault Usage s = cc
@@ -108,8 +122,9 @@ write_fault (NoForm line) s = cc
 write_fault (Breaks refusal) s = cc
 write_fault NoMemory s = cc
 
-pub run_of_status : (e : Ending) → is_run_status (status_of e) ≡ true → (end : RunEnd) × (e ≡ Ran end)
-run_of_status (Ran end) s = (end, refl)
+pub run_of_status : (e : Ending) → is_run_status (status_of e) ≡ true
+    → (end : RunEnd) × (stats : Option Tally) × (e ≡ Ran end stats)
+run_of_status (Ran end stats) s = (end, stats, refl)
 run_of_status Valid s = cc
 run_of_status NoMemory s = cc
 run_of_status Usage s = cc
@@ -123,3 +138,14 @@ run_of_status CodeTooLong s = cc
 run_of_status (NoForm line) s = cc
 run_of_status (Breaks refusal) s = cc
 run_of_status WriteFault s = cc
+
+-- the lines of a run, with what it has made, were written, or there was no memory for them
+pub stats_reported : {S : Type 0} (bytes_of : S → List ℕ) (text : List ℕ) (end : RunEnd) (tally : Tally)
+    (lines : Result S AllocError) (status answer : ℕ) (err : SinkUse) → status ≡ status_of_run end
+    → IfOk lines (λ s. bytes_of s ≡ stats_lines tally (line_of_run text end))
+    → MatchResult lines (λ s. Writes (bytes_of s) status answer err) (λ e. Writes (line_of [] NoMemory) 11 answer err)
+    → Reports text (Ran end (Some tally)) answer err
+stats_reported bytes_of text end tally (Ok s) status answer err same is writes =
+    inl (subst (λ n. Writes (stats_lines tally (line_of_run text end)) n answer err) same
+    (subst (λ bytes. Writes bytes status answer err) is writes))
+stats_reported bytes_of text end tally (Err e) status answer err same is writes = inr (tt, writes)

@@ -1,25 +1,28 @@
 -- The claims of the whole, from what its parts leave: the text that was read and checked or run, and the report of the
 -- ending.
-use Rattle.std.proofs.Common.{◌≡◌, true, false, ℕ, ◌⊎◌, inl, inr, List, [], Option, None, Some, refl, subst}
-use Rattle.rgo_machine.specs.declared.picks.End.TheVariants as the_end
+use Rattle.std.proofs.Common.{◌≡◌, Bool, true, false, ℕ, ◌⊎◌, inl, inr, List, [], Option, None, Some, refl, ap, ◌∙◌, subst}
+use Rattle.std.specs.Io.KnownBytes.{Appends}
+use Rattle.rgo_region_machine.specs.States.{RegionState}
+use Rattle.rgo_world.specs.declared.tally.Tally.{Tally}
+use Rattle.rgo_driver.specs.Runs.{Gives}
 use Rattle.rgo_driver.specs.declared.ends.RunEnd.{RunEnd}
 use Rattle.rgo_driver.specs.declared.ends.RunEnd.TheVariants as run_end
 use Rattle.rgo_command_line.specs.declared.commands.Command.{Command}
 use Rattle.rgo_command_line.specs.declared.commands.Command.TheVariants.{Run, Check, Emit, Code}
-use Rattle.rgo_machine.specs.declared.limits.Limits.{Limits}
+use Rattle.rgo_command_line.specs.declared.limits.RunOptions.{RunOptions}
 use Rattle.rgo_command_line.specs.Commands.{command_of}
 use Rattle.rgo_run.specs.declared.endings.Ending.{Ending}
 use Rattle.rgo_run.specs.declared.endings.Ending.TheVariants.{Valid, Ran, Usage, ReadFault, TooLong, CodeTooLong}
 use Rattle.rgo_run.specs.declared.endings.Ending.TheVariants.{WriteFault, NoMemory}
-use Rattle.rgo_run.specs.Calls.{AsksRun, Call, Asks, IsCheck, SourceFailed, SourceHeld, IsUntouched}
+use Rattle.rgo_run.specs.Calls.{AsksRun, Call, Asks, SourceFailed, SourceHeld, IsUntouched}
 use Rattle.rgo_run.specs.Endings.{status_of, is_run_status, is_fault_status}
 use Rattle.rgo_run.specs.Reports.{Tells, HasPlace, Reports}
-use Rattle.rgo_run.specs.Runs.{ProgramRuns, RunsTo}
+use Rattle.rgo_run.specs.Runs.{RunsTo, stats_at}
 use Rattle.rgo_run.specs.Texts.{IsTextOf, IsRead, AskSome, NotRead, ReadTooMuch, Checks, ChecksCode, Fails, Performs, RefusedBy}
 use Rattle.rgo_run.specs.Verdicts.{Refused}
-use Rattle.rgo_run.specs.Headline.{EndsEmit, EndsRun, Headline}
+use Rattle.rgo_run.specs.Headline.{EndsEmit, EndsRun, Headline, IsWriteFault}
 use Rattle.rgo_run.proofs.EndingLemmas.{run_of_status}
-use Rattle.rgo_run.proofs.ClaimLemmas.{IsWriteFault, Outcome, accepted, ran, emitted, refused, no_memory, Went}
+use Rattle.rgo_run.proofs.ClaimLemmas.{Outcome, accepted, ran, emitted, refused, no_memory, Went}
 use Rattle.rgo_run.proofs.ClaimLemmas.{complete_checking, complete_emit, complete_run, emission, err_held, faults, first}
 use Rattle.rgo_run.proofs.ClaimLemmas.{is_refused, no_write_fault, not_read_fault, print, ran_asks, status_10, status_9}
 use Rattle.rgo_run.proofs.ClaimLemmas.{emit_ends, unknown, untouched, usage, valid, write_failed}
@@ -49,56 +52,78 @@ headline_told call text e went t = record {
   };
   faults = faults call text e went t;
   complete = record {
-    run = λ limits c s o n. complete_run call text e went.outcome t limits c o n;
+    run = λ options c s o n. complete_run call text e went.outcome t options c o n;
     check = λ c s n. complete_checking call text e went.outcome t Check c tt n;
     emit = λ c s o n. complete_emit call text e went.outcome t c o n;
     code = λ c s n. complete_checking call text e went.outcome t Code c tt n;
   };
 }
 
--- a run whose line had no memory counts as one that ran out of memory
-no_line_run : (limits : Limits) (text : List ℕ) (call : Call) (e : Ending) (end : RunEnd) → (r : RunsTo limits text e call.out)
-    → r.run_end ≡ end → HasPlace (Ran end) → RunsTo limits text (Ran run_end.NoMemory) call.out
-no_line_run limits text call e (run_end.Ended (the_end.Trap trap at)) r same h =
-    let runs = subst (λ x. ProgramRuns r.program limits x call.out) same r.runs in
-    record {
-      program = r.program;
-      is_program = r.is_program;
-      run_end = run_end.NoMemory;
-      is_end = refl;
-      runs = record {
-        code = runs.code;
-        lowered = runs.lowered;
-        runs = record {
-          rounds = runs.runs.rounds;
-          last = runs.runs.last;
-          begun = runs.runs.begun;
-          state = runs.runs.state;
-          went = runs.runs.went;
-          goes = runs.runs.goes;
-          ran = runs.runs.ran;
-          ends = tt;
-          gives = runs.runs.gives;
-        };
-        source = record {
-          picks = runs.source.picks;
-          state = runs.source.state;
-          leads = runs.source.leads;
-          printed = runs.source.printed;
-          ended = runs.source.ended;
-          deadlock = λ x. cc;
-        };
-      };
-      failed = λ x. cc;
-      held = λ _. r.held (λ w. cc);
-    }
-no_line_run limits text call e (run_end.Ended the_end.Exit) r same h = absurd h
-no_line_run limits text call e run_end.Deadlock r same h = absurd h
-no_line_run limits text call e run_end.CallsTooDeep r same h = absurd h
-no_line_run limits text call e run_end.StepsSpent r same h = absurd h
-no_line_run limits text call e run_end.GoroutinesSpent r same h = absurd h
-no_line_run limits text call e run_end.WriteFault r same h = absurd h
-no_line_run limits text call e run_end.NoMemory r same h = absurd h
+-- where no write failed, the whole print was given out
+whole_print : (end : RunEnd) (print : List ℕ) (old new : Option (List ℕ)) → (end ≡ run_end.WriteFault → ⊥)
+    → Gives end print old new → Appends old new print
+whole_print run_end.WriteFault print old new n g = absurd (n refl)
+whole_print (run_end.Ended end) print old new n g = g
+whole_print run_end.Deadlock print old new n g = g
+whole_print (run_end.NoRoom why) print old new n g = g
+whole_print run_end.CallsTooDeep print old new n g = g
+whole_print run_end.StepsSpent print old new n g = g
+whole_print run_end.GoroutinesSpent print old new n g = g
+whole_print run_end.NoMemory print old new n g = g
+
+-- a run of which the lines had no memory counts as one that ran out of memory
+no_line_run : (options : RunOptions) (text : List ℕ) (call : Call) (e : Ending) (r : RunsTo options text e call.out)
+    → (r.run_end ≡ run_end.WriteFault → ⊥) → RunsTo options text (Ran run_end.NoMemory None) call.out
+no_line_run options text call e r no_fault = record {
+  program = r.program;
+  is_program = r.is_program;
+  run_end = run_end.NoMemory;
+  stats = None;
+  is_end = refl;
+  runs = record {
+    code = r.runs.code;
+    compiled = r.runs.compiled;
+    runs = record {
+      rounds = r.runs.runs.rounds;
+      last = r.runs.runs.last;
+      begun = r.runs.runs.begun;
+      state = r.runs.runs.state;
+      went = r.runs.runs.went;
+      goes = r.runs.runs.goes;
+      ran = r.runs.runs.ran;
+      ends = tt;
+      gives = whole_print r.run_end r.runs.runs.state.printed call.out.old call.out.new no_fault r.runs.runs.gives;
+    };
+    source = record {
+      picks = r.runs.source.picks;
+      state = r.runs.source.state;
+      leads = r.runs.source.leads;
+      printed = r.runs.source.printed;
+      ended = r.runs.source.ended;
+      deadlock = λ x. cc;
+    };
+    regions = record {
+      events = r.runs.regions.events;
+      state = r.runs.regions.state;
+      run = r.runs.regions.run;
+      is = r.runs.regions.is;
+      printed = r.runs.regions.printed;
+      safe = r.runs.regions.safe;
+      lacks = λ why x. cc;
+    };
+  };
+  stats_are = refl;
+  failed = λ x. cc;
+  held = λ _. r.held no_fault;
+}
+
+-- after a failed write nothing is said of the run, and the line of that needs no memory
+no_fault_line : (end : RunEnd) (stats : Option Tally) (s : RegionState) (b : Bool) → stats ≡ stats_at b end s
+    → HasPlace (Ran end stats) → end ≡ run_end.WriteFault → ⊥
+no_fault_line end stats s b is h x = subst HasPlace same h
+  where
+    same : Ran end stats ≡ Ran run_end.WriteFault None
+    same = ap (λ z. Ran end z) is ∙ ap (λ z. Ran z (stats_at b z s)) x
 
 -- what was printed needs no memory for a line
 no_place : (e : Ending) → EndsEmit e → HasPlace e → ⊥
@@ -109,12 +134,13 @@ no_place _ ends h = ends
 no_line : (call : Call) (text : List ℕ) (e : Ending) → Went call text e → Outcome call text e → HasPlace e
     → Tells text NoMemory call.status call.err → Headline call
 no_line call text e went (accepted is command c k p o) h t = absurd (subst HasPlace is h)
-no_line call text e went (ran limits c r) h t =
-    headline_told call text (Ran run_end.NoMemory) (record {
+no_line call text e went (ran options c r) h t =
+    headline_told call text (Ran run_end.NoMemory None) (record {
       is_text = went.is_text;
       held = went.held;
-      asks = inl (Run limits, c);
-      outcome = ran limits c (no_line_run limits text call e r.run_end r refl (subst HasPlace r.is_end h));
+      asks = inl (Run options, c);
+      outcome = ran options c (no_line_run options text call e r
+          (no_fault_line r.run_end r.stats r.runs.regions.state options.stats r.stats_are (subst HasPlace r.is_end h)));
     }) t
 no_line call text e went (emitted c em) h t = absurd (no_place e (emit_ends call text e em) h)
 no_line call text e went (refused command c f o) h t =
@@ -151,8 +177,8 @@ code_outcome call text e c p u = refused Code c p u
 performed_outcome : (call : Call) (command : Command) (text : List ℕ) (e : Ending) → Asks call command
     → Performs command text e call.out → Outcome call text e
 performed_outcome call Check text e c p = checked_outcome call text e c p.0 p.1
-performed_outcome call (Run limits) text e c (inl r) = ran limits c r
-performed_outcome call (Run limits) text e c (inr f) = failed_outcome call (Run limits) text e c (λ why r. r) f.0 f.1
+performed_outcome call (Run options) text e c (inl r) = ran options c r
+performed_outcome call (Run options) text e c (inr f) = failed_outcome call (Run options) text e c (λ why r. r) f.0 f.1
 performed_outcome call Emit text e c (inl em) = emitted c em
 performed_outcome call Emit text e c (inr f) = failed_outcome call Emit text e c (λ why r. r) f.0 f.1
 performed_outcome call Code text e c p = code_outcome call text e c p.0 p.1
@@ -187,7 +213,7 @@ pub record IsOutside (e : Ending) : Type 0 where
   pub no_run : EndsRun e → ⊥
   pub no_emit : EndsEmit e → ⊥
   pub no_write_fault : IsWriteFault e → ⊥
-  pub not_ran : (end : RunEnd) → e ≡ Ran end → ⊥
+  pub not_ran : (end : RunEnd) (stats : Option Tally) → e ≡ Ran end stats → ⊥
 
 -- a call that did not read its text: its words ask for nothing, or a read failed
 headline_outside : (call : Call) (e : Ending) → IsOutside e → IsUntouched call.out → Tells (some_text call.source.left) e call.status call.err
@@ -209,12 +235,12 @@ headline_outside call e outside u t of_usage to_usage of_fault kept only = recor
     first = λ command c n. absurd (only command c n);
     untouched = λ _ _. u;
   };
-  print = λ limits c m. absurd (outside.no_run m);
+  print = λ options c m. absurd (outside.no_run m);
   emission = λ c m. absurd (outside.no_emit m);
   end = record {
     read_failed = of_fault;
     write_failed = λ x. absurd (outside.no_write_fault x);
-    ran = λ end x. absurd (outside.not_ran end x);
+    ran = λ end stats x. absurd (outside.not_ran end stats x);
     told = t;
   };
   faults = record {
@@ -223,7 +249,7 @@ headline_outside call e outside u t of_usage to_usage of_fault kept only = recor
     none = λ s. let h = err_held call _ e t s in (kept (subst (λ n. is_fault_status n ≡ false) h.1 s), u.1, h.0);
   };
   complete = record {
-    run = λ limits c s o n. absurd (only (Run limits) c s);
+    run = λ options c s o n. absurd (only (Run options) c s);
     check = λ c s n. absurd (only Check c s);
     emit = λ c s o n. absurd (only Emit c s);
     code = λ c s n. absurd (only Code c s);
@@ -236,8 +262,8 @@ usage_outside = record {
   not_valid = λ x. cc;
   no_run = λ m. m;
   no_emit = λ m. m;
-  no_write_fault = no_write_fault Usage (λ x. cc) (λ x. cc);
-  not_ran = λ end x. cc;
+  no_write_fault = no_write_fault Usage (λ stats x. cc) (λ x. cc);
+  not_ran = λ end stats x. cc;
 }
 
 fault_outside : IsOutside ReadFault
@@ -246,8 +272,8 @@ fault_outside = record {
   not_valid = λ x. cc;
   no_run = λ m. m;
   no_emit = λ m. m;
-  no_write_fault = no_write_fault ReadFault (λ x. cc) (λ x. cc);
-  not_ran = λ end x. cc;
+  no_write_fault = no_write_fault ReadFault (λ stats x. cc) (λ x. cc);
+  not_ran = λ end stats x. cc;
 }
 
 none_asked : (call : Call) → command_of call.words ≡ None → (command : Command) → Asks call command → ⊥
@@ -294,9 +320,10 @@ headline_of_words call _ n u t = absurd n
 -- ---- what a status alone says
 
 told_run : (call : Call) (text : List ℕ) (e : Ending) → Tells text e call.status call.err
-    → ((end : RunEnd) → e ≡ Ran end → AsksRun call.words) → is_run_status call.status ≡ true → AsksRun call.words
+    → ((end : RunEnd) (stats : Option Tally) → e ≡ Ran end stats → AsksRun call.words)
+    → is_run_status call.status ≡ true → AsksRun call.words
 told_run call text e (inl t) r s =
-    let run = run_of_status e (subst (λ n. is_run_status n ≡ true) t.0 s) in r run.0 run.1
+    let run = run_of_status e (subst (λ n. is_run_status n ≡ true) t.0 s) in r run.0 run.1 run.2
 told_run call text e (inr t) r s = absurd (let ten = subst (λ n. is_run_status n ≡ true) t.0 s in cc)
 
 pub ran_by_status : (call : Call) → Headline call → is_run_status call.status ≡ true → AsksRun call.words

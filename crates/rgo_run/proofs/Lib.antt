@@ -5,3 +5,4 @@ pub mod HeadlineLemmas
 pub mod ProgramLemmas
 pub mod TextLemmas
 pub mod VerdictLemmas
+pub mod WorldLemmas

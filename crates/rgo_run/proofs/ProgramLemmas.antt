@@ -35,10 +35,12 @@ pub compiled : (text : List ℕ) (tac : Tac) (family : List Summary) (code : Cod
 compiled text tac family code is least same declared classes checked = record {
   program = is.program;
   is_program = is.is_program;
-  lowered = subst (IsLowered is.program) (sym same) is.lowered;
-  family = family;
-  least = subst (λ t. IsLeastFamily t family) (sym same) least;
-  classes = classes;
-  declared = declared;
-  checked = checked;
+  from = record {
+    lowered = subst (IsLowered is.program) (sym same) is.lowered;
+    family = family;
+    least = subst (λ t. IsLeastFamily t family) (sym same) least;
+    classes = classes;
+    declared = declared;
+    checked = checked;
+  };
 }

@@ -17,6 +17,7 @@ use Rattle.rgo_typing_rules.specs.declared.errors.TypeError.TheVariants as type
 use Rattle.rgo_typed.specs.Tree.{Typed}
 use Rattle.rgo_types.specs.Programs.{sites_of}
 use Rattle.rgo_memory.specs.Memory.{Memory}
+use Rattle.rgo_machine.specs.declared.turns.Shortage.{Shortage}
 use Rattle.rgo_machine.specs.Deadlocks.{IsDeadlock}
 use Rattle.rgo_machine.specs.Limits.{is_within}
 use Rattle.rgo_machine.specs.Machines.{start_of}
@@ -29,16 +30,27 @@ use Rattle.rgo_tac.specs.Frames.{called}
 use Rattle.rgo_tac.specs.Tac.{TacState, tac, main_frames, tac_start}
 use Rattle.rgo_lower.proofs.follows.Whole.{lowering_simulates}
 use Rattle.rgo_driver.specs.Rounds.{all_of}
-use Rattle.rgo_driver.specs.Runs.{Ends, Runs}
+use Rattle.rgo_driver.specs.Runs.{Ends, IsReady, Runs}
 use Rattle.rgo_driver.specs.declared.ends.RunEnd.{RunEnd}
-use Rattle.rgo_driver.specs.declared.ends.RunEnd.TheVariants.{Deadlock, WriteFault}
+use Rattle.rgo_driver.specs.declared.ends.RunEnd.TheVariants.{Deadlock, NoRoom, WriteFault}
+use Rattle.rgo_sound.proofs.Offers.{names_only_live}
+use Rattle.rgo_sound.proofs.Safe.{safety}
 use Rattle.rgo_command_line.specs.Commands.{command_of}
 use Rattle.rgo_command_line.specs.declared.commands.Command.{Command}
 use Rattle.rgo_command_line.specs.declared.commands.Command.TheVariants.{Check, Code, Emit, Run}
+use Rattle.rgo_command_line.specs.declared.limits.RunOptions.{RunOptions}
 use Rattle.rgo_command_line.specs.declared.commands.WordsError.{WordsError}
 use Rattle.rgo_command_line.specs.declared.commands.WordsError.TheVariants as words
 use Rattle.rgo_machine.specs.declared.limits.Limits.{Limits}
+use Rattle.rgo_machine.specs.declared.limits.Sizes.{Sizes}
+use Rattle.rgo_code.specs.Checked.{IsChecked}
 use Rattle.rgo_code.specs.Code as code
+use Rattle.rgo_code.specs.Erasure.{erased}
+use Rattle.rgo_code.specs.NameRules.{Ascends}
+use Rattle.rgo_region_machine.specs.Machine.{Event, region_run}
+use Rattle.rgo_region_machine.specs.States.{RegionState}
+use Rattle.rgo_world.specs.declared.tally.Tally.{Tally}
+use Rattle.rgo_world.specs.Worlds.{LacksIn, plain_at}
 use Rattle.rgo_code_printing.specs.Text.{text_of}
 use Rattle.rgo_code_text.specs.Walk.{Refuses as ReadFails}
 use Rattle.rgo_code_text.specs.declared.refusals.ReadError.{ReadError}
@@ -51,7 +63,7 @@ use Rattle.rgo_run.specs.declared.endings.Ending.TheVariants.{Ran, Usage}
 use Rattle.rgo_run.specs.Compiled.{IsCompiled, WritesCode}
 use Rattle.rgo_run.specs.Calls.{SourceUse, SourceFailed, SourceHeld, SinkUse, Failed, Held}
 use Rattle.rgo_run.specs.Errors.{command_error, read_error, too_long, lex_error, type_error, reading_error, check_error}
-use Rattle.rgo_run.specs.Runs.{IsCodeOf, SourceRun}
+use Rattle.rgo_run.specs.Runs.{RegionRun, SourceRun, stats_at}
 use Rattle.rgo_run.specs.CodeVerdicts.{IsTextOfCode, code_limit}
 use Rattle.rgo_run.specs.Texts.{IsTextOf, NotRead, ReadTooMuch, RefusedBy, Fails, ChecksCode, Performs, limit_of}
 use Rattle.rgo_run.specs.Verdicts.{IsTree, text_limit}
@@ -69,7 +81,7 @@ longer limit (Some text) rest gave = (text, refl, GivesTooMany-told limit (Some 
 -- such a text is refused
 too_long_refused : (command : Command) (text : List ℕ) → limit_of command < length text
     → RefusedBy command text (too_long command)
-too_long_refused (Run limits) text h = h
+too_long_refused (Run options) text h = h
 too_long_refused Check text h = h
 too_long_refused Emit text h = h
 too_long_refused Code text h = h
@@ -90,13 +102,13 @@ too_much command w source rest asked held gave =
 
 not_read : (command : Command) (w : List (List ℕ)) (source : SourceUse) → ReadTooMuch w source (too_long command)
     → NotRead w source (too_long command)
-not_read (Run limits) w source much = much
+not_read (Run options) w source much = much
 not_read Check w source much = much
 not_read Emit w source much = much
 not_read Code w source much = much
 
 pub limit_is_small : (command : Command) → limit_of command ≤ code_limit
-limit_is_small (Run limits) = omega arith
+limit_is_small (Run options) = omega arith
 limit_is_small Check = omega arith
 limit_is_small Emit = omega arith
 limit_is_small Code = omega arith
@@ -118,7 +130,7 @@ no_text command w source rest read.NoMemory asked fault long memory = memory ref
 
 pub no_usage : (command : Command) (end : ReadEnd) → read_error command end ≡ Usage → ⊥
 no_usage command read.Fault x = cc
-no_usage (Run limits) read.TooLong x = cc
+no_usage (Run options) read.TooLong x = cc
 no_usage Check read.TooLong x = cc
 no_usage Emit read.TooLong x = cc
 no_usage Code read.TooLong x = cc
@@ -155,9 +167,15 @@ one_main [] n = omega arith
 one_main (fn ∷ fns) n =
     one_or_more (bytes_eq fn.name (codes "main")) (called fn n []) (main_frames fns (suc n)) (one_main fns (suc n))
 
-pub starts_within : (limits : Limits) (code : Tac) → is_within limits (tac_start code) ≡ true
+starts_within : (limits : Limits) (code : Tac) → is_within limits (tac_start code) ≡ true
 starts_within limits code =
     within limits (opening code.variables) (main_frames code.functions 0) (one_main code.functions 0)
+
+pub starts_ready : (limits : Limits) (code : Tac) → IsReady limits (tac_start code)
+starts_ready limits code = record {
+  on = record { running = refl; within = starts_within limits code };
+  silent = refl;
+}
 
 of_deadlock : (code : Tac) (limits : Limits) (before steps : ℕ) (t : TacState) (end : RunEnd)
     → Ends (tac code) limits before steps t end → end ≡ Deadlock → IsDeadlock (tac code) t
@@ -177,23 +195,46 @@ followed limits program code before steps end t ends run = record {
       (dead, deadlocks_wait (source program) run.0 dead);
 }
 
-pub ran : (limits : Limits) (text : List ℕ) (code : Tac) (end : RunEnd) (out : SinkUse) → IsCodeOf text code
-    → Runs (tac code) limits (tac_start code) end out.old out.new → (end ≡ WriteFault → Failed out)
-    → ((end ≡ WriteFault → ⊥) → Held out) → Performs (Run limits) text (Ran end) out
-ran limits text code end out is_code runs failed held = inl (record {
+-- a run of the region machine, which is safe in each of its states
+abbrev pub region_run_of : (code : code.Code) (sizes : Sizes) (end : RunEnd) (t : TacState) (events : List Event) (state : RegionState)
+    → IsChecked code → Ascends code → region_run code sizes.page_words events ≡ Some state
+    → plain_at state t.printed ≡ t → state.plain.printed ≡ t.printed
+    → ((why : Shortage) → end ≡ NoRoom why → LacksIn code sizes why state) → RegionRun code sizes end t
+region_run_of code sizes end t events state checked ascends leads is printed lacks = record {
+  events = events;
+  state = state;
+  run = leads;
+  is = is;
+  printed = printed;
+  safe = λ before after s is run. (
+    safety code sizes.page_words before s checked ascends run,
+    λ g h r there names. names_only_live code sizes.page_words before s g h r checked ascends run there names,
+  );
+  lacks = lacks;
+}
+
+pub ran : (options : RunOptions) (text : List ℕ) (code : code.Code) (end : RunEnd) (stats : Option Tally) (out : SinkUse)
+    → IsCompiled text code → (runs : Runs (tac (erased code)) options.limits (tac_start (erased code)) end out.old out.new)
+    → (regions : RegionRun code options.sizes end runs.state) → stats ≡ stats_at options.stats end regions.state
+    → (end ≡ WriteFault → Failed out) → ((end ≡ WriteFault → ⊥) → Held out)
+    → Performs (Run options) text (Ran end stats) out
+ran options text code end stats out is_code runs regions stats_are failed held = inl (record {
   program = is_code.program;
   is_program = is_code.is_program;
   run_end = end;
+  stats = stats;
   is_end = refl;
   runs = record {
     code = code;
-    lowered = is_code.lowered;
+    compiled = is_code.from;
     runs = runs;
-    source = followed limits is_code.program code (length (all_of runs.rounds))
+    source = followed options.limits is_code.program (erased code) (length (all_of runs.rounds))
         (length (all_of runs.rounds ++ runs.last)) end runs.state runs.ends
-        ((lowering_simulates is_code.program code is_code.lowered).backward_within limits
+        ((lowering_simulates is_code.program (erased code) is_code.from.lowered).backward_within options.limits
         (all_of runs.rounds ++ runs.last) runs.state runs.ran);
+    regions = regions;
   };
+  stats_are = stats_are;
   failed = failed;
   held = held;
 })

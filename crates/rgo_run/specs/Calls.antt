@@ -4,7 +4,7 @@ use Rattle.std.specs.Io.KnownBytes.{Appends}
 use Rattle.rgo_outside.specs.Causes.{Rose}
 use Rattle.rgo_command_line.specs.declared.commands.Command.{Command}
 use Rattle.rgo_command_line.specs.declared.commands.Command.TheVariants.{Run, Check, Emit, Code}
-use Rattle.rgo_machine.specs.declared.limits.Limits.{Limits}
+use Rattle.rgo_command_line.specs.declared.limits.RunOptions.{RunOptions}
 use Rattle.rgo_command_line.specs.Commands.{command_of}
 
 -- what the source had left, where it reports it, and its count of faults before and after
@@ -40,16 +40,16 @@ pub record Call : Type 0 where
   pub err : SinkUse
   pub status : ℕ
 
--- the words ask for a run, within some limits
+-- the words ask for a run, with some options
 abbrev pub AsksRun : List (List ℕ) → Type 0
-AsksRun words = (limits : Limits) × (command_of words ≡ Some (Run limits))
+AsksRun words = (options : RunOptions) × (command_of words ≡ Some (Run options))
 
 -- the words ask for this
 abbrev pub Asks : Call → Command → Type 0
 Asks call command = command_of call.words ≡ Some command
 
-abbrev pub IsRun : Call → Limits → Type 0
-IsRun call limits = Asks call (Run limits)
+abbrev pub IsRun : Call → RunOptions → Type 0
+IsRun call options = Asks call (Run options)
 
 abbrev pub IsCheck : Call → Type 0
 IsCheck call = Asks call Check

@@ -17,15 +17,18 @@ use Rattle.rgo_run.specs.Verdicts.{IsProgram}
 
 -- The code keeps all rules. Without its regions it is the program's three-address code, and its classes are those that
 -- the functions have under the least summaries.
-pub record IsCompiled (text : List ℕ) (code : Code) : Type 0 where
-  pub program : Typed
-  pub is_program : IsProgram text program
+pub record IsCompiledFrom (program : Typed) (code : Code) : Type 0 where
   pub lowered : IsLowered program (erased code)
   pub family : List Summary
   pub least : IsLeastFamily (erased code) family
   pub classes : HasClasses family code
   pub declared : code.undeclared ≡ nothing_undeclared
   pub checked : IsChecked code
+
+pub record IsCompiled (text : List ℕ) (code : Code) : Type 0 where
+  pub program : Typed
+  pub is_program : IsProgram text program
+  pub from : IsCompiledFrom program code
 
 -- these bytes are the text of that code
 pub record IsCodeText (text bytes : List ℕ) : Type 0 where

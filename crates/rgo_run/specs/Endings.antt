@@ -1,21 +1,30 @@
 -- The status of each ending, and its line on `err`.
-use Rattle.std.specs.Prelude.{ℕ, Bool, ◌||◌, List, [], ◌++◌, codes, decimal, ◌==◌}
+use Rattle.std.specs.Prelude.{ℕ, Bool, ◌||◌, List, [], ◌++◌, Option, None, Some, codes, decimal, ◌==◌}
 use Rattle.rgo_lexer.specs.LexicalKinds as kinds
 use Rattle.rgo_typing_rules.specs.RuleNames as rules
 use Rattle.rgo_memory.specs.Traps as traps
 use Rattle.rgo_machine.specs.declared.picks.End.TheVariants as the_end
+use Rattle.rgo_machine.specs.declared.turns.Shortage.{Shortage}
+use Rattle.rgo_machine.specs.declared.turns.Shortage.TheVariants as shortage
 use Rattle.rgo_driver.specs.declared.ends.RunEnd.{RunEnd}
 use Rattle.rgo_driver.specs.declared.ends.RunEnd.TheVariants as run_end
 use Rattle.rgo_run.specs.declared.endings.Ending.{Ending}
 use Rattle.rgo_code.specs.Checked.{rule_number}
 use Rattle.rgo_run.specs.declared.endings.Ending.TheVariants.{Valid, Ran, Usage, ReadFault, TooLong, CodeTooLong}
 use Rattle.rgo_run.specs.declared.endings.Ending.TheVariants.{Lexical, Syntax, Nesting, Typing, NoForm, Breaks, WriteFault, NoMemory}
+use Rattle.rgo_world.specs.declared.tally.Tally.{Tally}
 use Rattle.rgo_run.specs.Positions.{position_of}
+
+abbrev pub status_of_shortage : Shortage → ℕ
+status_of_shortage shortage.Pages = 4
+status_of_shortage shortage.Regions = 5
+status_of_shortage shortage.ObjectSize = 6
 
 abbrev pub status_of_run : RunEnd → ℕ
 status_of_run (run_end.Ended the_end.Exit) = 0
 status_of_run (run_end.Ended (the_end.Trap trap at)) = 2
 status_of_run run_end.Deadlock = 3
+status_of_run (run_end.NoRoom short) = status_of_shortage short
 status_of_run run_end.CallsTooDeep = 7
 status_of_run run_end.StepsSpent = 8
 status_of_run run_end.GoroutinesSpent = 12
@@ -24,7 +33,7 @@ status_of_run run_end.NoMemory = 11
 
 abbrev pub status_of : Ending → ℕ
 status_of Valid = 0
-status_of (Ran end) = status_of_run end
+status_of (Ran end stats) = status_of_run end
 status_of Usage = 64
 status_of ReadFault = 9
 status_of TooLong = 1
@@ -40,7 +49,8 @@ status_of NoMemory = 11
 
 -- only a run ends with such a status
 abbrev pub is_run_status : ℕ → Bool
-is_run_status status = status == 2 || status == 3 || status == 7 || status == 8 || status == 12
+is_run_status status =
+    status == 2 || status == 3 || status == 4 || status == 5 || status == 6 || status == 7 || status == 8 || status == 12
 
 -- a read or a write failed
 abbrev pub is_fault_status : ℕ → Bool
@@ -60,22 +70,46 @@ numbered kind number name = kind ++ (codes " " ++ (decimal number ++ (codes " " 
 abbrev pub numbered_line : ℕ → List ℕ → List ℕ
 numbered_line line message = codes "rgo: line " ++ (decimal line ++ (codes ": " ++ message))
 
+abbrev pub line_of_shortage : Shortage → List ℕ
+line_of_shortage shortage.Pages = codes "rgo: pages spent\n"
+line_of_shortage shortage.Regions = codes "rgo: regions spent\n"
+line_of_shortage shortage.ObjectSize = codes "rgo: object larger than a page\n"
+
 -- one line, or nothing where `main` returned
 abbrev pub line_of_run : List ℕ → RunEnd → List ℕ
 line_of_run text (run_end.Ended the_end.Exit) = []
 line_of_run text (run_end.Ended (the_end.Trap trap at)) =
     positioned text at (numbered (codes "trap") (traps.number_of trap) (traps.name_of trap))
 line_of_run text run_end.Deadlock = codes "rgo: deadlock\n"
+line_of_run text (run_end.NoRoom short) = line_of_shortage short
 line_of_run text run_end.CallsTooDeep = codes "rgo: calls too deep\n"
 line_of_run text run_end.StepsSpent = codes "rgo: steps spent\n"
 line_of_run text run_end.GoroutinesSpent = codes "rgo: goroutines spent\n"
 line_of_run text run_end.WriteFault = codes "rgo: write failed\n"
 line_of_run text run_end.NoMemory = codes "rgo: out of memory\n"
 
--- one line, or nothing where `main` returned, or a text was checked or its code printed
+abbrev pub regions_made : Tally → List ℕ
+regions_made tally =
+    codes "regions " ++ (decimal tally.made ++ (codes " removed " ++ (decimal tally.removed
+    ++ (codes " pages " ++ (decimal tally.taken ++ (codes " returned " ++ (decimal tally.returned ++ codes " ")))))))
+
+abbrev pub others_made : Tally → List ℕ
+others_made tally =
+    codes "objects " ++ (decimal tally.objects ++ (codes " goroutines " ++ (decimal tally.goroutines ++ codes "\n")))
+
+-- what a run has made, and then these lines
+abbrev pub stats_lines : Tally → (lines : List ℕ) → List ℕ
+stats_lines tally lines = codes "rgo: " ++ (regions_made tally ++ (others_made tally ++ lines))
+
+abbrev pub lines_of_run : List ℕ → RunEnd → Option Tally → List ℕ
+lines_of_run text end None = line_of_run text end
+lines_of_run text end (Some tally) = stats_lines tally (line_of_run text end)
+
+-- one line, or nothing where `main` returned, or a text was checked or its code printed; before it, where that was asked
+-- for, what the run has made
 abbrev pub line_of : List ℕ → Ending → List ℕ
 line_of text Valid = []
-line_of text (Ran end) = line_of_run text end
+line_of text (Ran end stats) = lines_of_run text end stats
 line_of text Usage = codes "usage: rgo run [--steps N] [--pages N] [--page-words N] [--regions N] [--goroutines N] [--workers N] [--stats] | check | emit | code | big N\n"
 line_of text ReadFault = codes "rgo: read failed\n"
 line_of text TooLong = codes "rgo: text longer than 1048576 bytes\n"

@@ -1,5 +1,5 @@
 -- What a report leaves: the status, and the line on `err`.
-use Rattle.std.specs.Prelude.{◌≡◌, ℕ, ◌⊎◌, List, take}
+use Rattle.std.specs.Prelude.{◌≡◌, ℕ, ◌⊎◌, List, None, Some, take}
 use Rattle.rgo_machine.specs.declared.picks.End.TheVariants.{Trap}
 use Rattle.rgo_driver.specs.declared.ends.RunEnd.TheVariants.{Ended}
 use Rattle.rgo_run.specs.declared.endings.Ending.{Ending}
@@ -18,9 +18,10 @@ Writes line status answer err =
 abbrev pub Tells : List ℕ → Ending → ℕ → SinkUse → Type 0
 Tells text ending answer err = Writes (line_of text ending) (status_of ending) answer err
 
--- an ending whose line has numbers in it, and so needs memory
+-- an ending whose lines have numbers in them, and so need memory
 abbrev pub HasPlace : Ending → Type 0
-HasPlace (Ran (Ended (Trap trap at))) = Unit {0}
+HasPlace (Ran end (Some tally)) = Unit {0}
+HasPlace (Ran (Ended (Trap trap at)) None) = Unit {0}
 HasPlace (Lexical refusal) = Unit {0}
 HasPlace (Syntax at) = Unit {0}
 HasPlace (Nesting at) = Unit {0}

@@ -1,21 +1,35 @@
 -- The run of a text: the ending that reports its end, and what it leaves.
-use Rattle.std.specs.Prelude.{◌≡◌, ℕ, List, Some, slice_get}
+use Rattle.std.specs.Prelude.{◌≡◌, ℕ, Bool, true, false, List, ◌++◌, Option, Some, None, slice_get}
 use Rattle.rgo_typed.specs.Tree.{Typed}
 use Rattle.rgo_machine.specs.declared.limits.Limits.{Limits}
+use Rattle.rgo_machine.specs.declared.limits.Sizes.{Sizes}
 use Rattle.rgo_machine.specs.declared.picks.Pick.{Pick}
+use Rattle.rgo_machine.specs.declared.turns.Shortage.{Shortage}
 use Rattle.rgo_machine.specs.Deadlocks.{HasReturnedOrWaits, IsDeadlock}
 use Rattle.rgo_machine.specs.Limits.{LeadsWithin}
 use Rattle.rgo_machine.specs.Machines.{Machine, State}
 use Rattle.rgo_meaning.specs.Source.{SourceState, source, source_start}
 use Rattle.rgo_tac.specs.Code.{Tac}
 use Rattle.rgo_tac.specs.Tac.{TacState, tac, tac_start}
+use Rattle.rgo_code.specs.Code.{Code}
+use Rattle.rgo_code.specs.Erasure.{erased}
 use Rattle.rgo_lower.specs.Lowered.{IsLowered}
+use Rattle.rgo_region_machine.specs.Counts.{counts_of}
+use Rattle.rgo_region_machine.specs.Machine.{Event, region_run}
+use Rattle.rgo_region_machine.specs.declared.regions.Region.{Region}
+use Rattle.rgo_region_machine.specs.States.{Holder, RegionState}
+use Rattle.rgo_sound.specs.NextNames.{HasStake, NextNames}
+use Rattle.rgo_sound.specs.Safety.{IsSafe}
+use Rattle.rgo_world.specs.declared.tally.Tally.{Tally}
+use Rattle.rgo_world.specs.Worlds.{LacksIn, plain_at, tally_of}
 use Rattle.rgo_driver.specs.declared.ends.RunEnd.{RunEnd}
-use Rattle.rgo_driver.specs.declared.ends.RunEnd.TheVariants.{Deadlock, WriteFault}
+use Rattle.rgo_driver.specs.declared.ends.RunEnd.TheVariants.{Deadlock, NoMemory, NoRoom, WriteFault}
 use Rattle.rgo_driver.specs.Runs.{Runs}
+use Rattle.rgo_command_line.specs.declared.limits.RunOptions.{RunOptions}
 use Rattle.rgo_run.specs.declared.endings.Ending.{Ending}
 use Rattle.rgo_run.specs.declared.endings.Ending.TheVariants.{Ran}
 use Rattle.rgo_run.specs.Calls.{SinkUse, Failed, Held}
+use Rattle.rgo_run.specs.Compiled.{IsCompiledFrom}
 use Rattle.rgo_run.specs.Verdicts.{IsProgram}
 
 -- every goroutine has returned or waits at a channel
@@ -33,26 +47,57 @@ pub record SourceRun (limits : Limits) (program : Typed) (end : RunEnd) (t : Tac
   pub ended : state.ended ≡ t.ended
   pub deadlock : end ≡ Deadlock → IsDeadlock (source program) state × AllWait (source program) state
 
--- the code of a text's program
+-- the three-address code of a text's program
 pub record IsCodeOf (text : List ℕ) (code : Tac) : Type 0 where
   pub program : Typed
   pub is_program : IsProgram text program
   pub lowered : IsLowered program code
 
--- Some run of the program's code, in rounds, ends so and gives out what `out` took. It is why the end is what it is, and
--- it does what some run of the program does.
-pub record ProgramRuns (program : Typed) (limits : Limits) (end : RunEnd) (out : SinkUse) : Type 0 where
-  pub code : Tac
-  pub lowered : IsLowered program code
-  pub runs : Runs (tac code) limits (tac_start code) end out.old out.new
-  pub source : SourceRun limits program end runs.state
+-- each region that a goroutine names next is Global, or live with a stake of the goroutine
+abbrev pub NamesLive : Code → RegionState → Type 0
+NamesLive code s =
+    (g : ℕ) (h : Holder) (r : Region) → slice_get s.holders g ≡ Some h → NextNames code s g h h.duties h.offer r
+    → HasStake s h r
+
+-- A run of the code with its regions, in pages of this size, that has come to this state of the three-address code. Its
+-- steps are those of the region machine, none of which touches or removes a region that was removed, or removes Global.
+pub record RegionRun (code : Code) (sizes : Sizes) (end : RunEnd) (t : TacState) : Type 0 where
+  pub events : List Event
+  pub state : RegionState
+  pub run : region_run code sizes.page_words events ≡ Some state
+  -- it has made and printed the same, and ended so
+  pub is : plain_at state t.printed ≡ t
+  pub printed : state.plain.printed ≡ t.printed
+  -- in each state that it went through, stakes are counted, and what any goroutine names next is live
+  pub safe : (before after : List Event) (s : RegionState) → events ≡ before ++ after
+      → region_run code sizes.page_words before ≡ Some s → IsSafe code s × NamesLive code s
+  -- why there was no room
+  pub lacks : (why : Shortage) → end ≡ NoRoom why → LacksIn code sizes why state
+
+-- Some run of the program's code, in rounds, ends so and gives out what `out` took. It is why the end is what it is, it
+-- does what some run of the program does, and it is a run with regions.
+pub record ProgramRuns (program : Typed) (options : RunOptions) (end : RunEnd) (out : SinkUse) : Type 0 where
+  pub code : Code
+  pub compiled : IsCompiledFrom program code
+  pub runs : Runs (tac (erased code)) options.limits (tac_start (erased code)) end out.old out.new
+  pub source : SourceRun options.limits program end runs.state
+  pub regions : RegionRun code options.sizes end runs.state
+
+-- what is said of a run that has ended so, if it was asked for: nothing where memory ran out or a write failed
+abbrev pub stats_at : (asked : Bool) → RunEnd → RegionState → Option Tally
+stats_at asked NoMemory s = None
+stats_at asked WriteFault s = None
+stats_at true _ s = Some (tally_of (counts_of s))
+stats_at false _ s = None
 
 -- some run of the text's program, whose end the ending reports, gave out what `out` took
-pub record RunsTo (limits : Limits) (text : List ℕ) (ending : Ending) (out : SinkUse) : Type 0 where
+pub record RunsTo (options : RunOptions) (text : List ℕ) (ending : Ending) (out : SinkUse) : Type 0 where
   pub program : Typed
   pub is_program : IsProgram text program
   pub run_end : RunEnd
-  pub is_end : ending ≡ Ran run_end
-  pub runs : ProgramRuns program limits run_end out
+  pub stats : Option Tally
+  pub is_end : ending ≡ Ran run_end stats
+  pub runs : ProgramRuns program options run_end out
+  pub stats_are : stats ≡ stats_at options.stats run_end runs.regions.state
   pub failed : run_end ≡ WriteFault → Failed out
   pub held : (run_end ≡ WriteFault → ⊥) → Held out

@@ -38,7 +38,7 @@ RefusedBy _ text ending = Refused text ending
 
 -- the command accepts the text without running it
 abbrev pub AcceptedBy : Command → List ℕ → Type 0
-AcceptedBy (Run limits) text = ⊥
+AcceptedBy (Run options) text = ⊥
 AcceptedBy Code text = CodePasses text
 AcceptedBy _ text = Passes text
 
@@ -79,6 +79,6 @@ ChecksCode text ending = CodeRefused text ending
 -- what a command leaves of a text
 abbrev pub Performs : Command → List ℕ → Ending → SinkUse → Type 0
 Performs Check text ending out = Checks text ending × IsUntouched out
-Performs (Run limits) text ending out = RunsTo limits text ending out ⊎ (Fails text ending × IsUntouched out)
+Performs (Run options) text ending out = RunsTo options text ending out ⊎ (Fails text ending × IsUntouched out)
 Performs Emit text ending out = Emits text ending out ⊎ (Fails text ending × IsUntouched out)
 Performs Code text ending out = ChecksCode text ending × IsUntouched out

@@ -6,20 +6,21 @@ ghost use Rattle.rgo_run.specs.Calls.{sink_use};
 ghost use Rattle.rgo_run.specs.CodeVerdicts.{IsTextOfCode};
 ghost use Rattle.rgo_run.specs.Compiled.{IsCompiled, WritesCode};
 ghost use Rattle.rgo_run.specs.Endings.{status_of};
-ghost use Rattle.rgo_run.specs.Runs.{IsCodeOf};
+ghost use Rattle.rgo_run.specs.Runs.{stats_at};
+ghost use Rattle.rgo_region_machine.specs.States.{RegionState};
+ghost use Rattle.rgo_world.specs.Worlds.{Shown};
 ghost use Rattle.rgo_run.specs.Texts.{Checks, ChecksCode, Performs, limit_of};
 
 use crate::endings::Ending;
-use crate::pipeline::{TEXT_LIMIT, check_text, compile, lower_text};
+use crate::pipeline::{TEXT_LIMIT, check_text, compile};
 use rgo_checker::check_code;
 use rgo_code::{Checked, Code};
 use rgo_code_printing::print_code;
 use rgo_code_text::read_code;
-use rgo_command_line::Command;
-use rgo_driver::run;
-use rgo_machine::Limits;
+use rgo_command_line::{Command, RunOptions};
+use rgo_driver::{RunEnd, run};
 use rgo_outside::{Sink, write_all};
-use rgo_tac::{Tac, TacMachine, start};
+use rgo_world::{Tally, World};
 use std::alloc::Global;
 
 /// The most bytes of a code text.
@@ -45,30 +46,45 @@ fn check_only(alloc: Global, text: &[u8]) -> Ending
     }
 }
 
-// Runs code.
-fn run_code<K: Sink>(alloc: Global, limits: Limits, code: &Tac, out: &mut K) -> Ending
-    ensures performs { (text : List ℕ) → IsCodeOf text code.now
-        → Performs (Run limits) text result (sink_use (K.contents out.old) (K.contents out.new)
+// What is said of a run that has ended so. Where memory ran out or a write failed, that is nothing.
+fn stats_of(options: RunOptions, end: RunEnd, world: &World<'_>) -> Option<Tally>
+    ensures { (s : RegionState) → ((end ≡ RunEnd.NoMemory → ⊥) → (end ≡ RunEnd.WriteFault → ⊥) → Shown world.now s)
+        → result ≡ stats_at options.stats end s }
+{
+    match end {
+        RunEnd::NoMemory | RunEnd::WriteFault => None,
+        _ if options.stats => Some(world.tally()),
+        _ => None,
+    }
+}
+
+// Runs code with its regions.
+fn run_code<K: Sink>(alloc: Global, options: RunOptions, code: &Checked, out: &mut K) -> Ending
+    ensures performs { (text : List ℕ) → IsCompiled text code.now
+        → Performs (Run options) text result (sink_use (K.contents out.old) (K.contents out.new)
         (K.faults out.old) (K.faults out.new) (K.broken out.new)) }
     ensures refused { status_of result ≡ 1 → out.new ≡ out.old }
 {
-    match start(alloc, code) {
-        Ok(state) => {
-            let machine = TacMachine::new(code);
-            Ending::Ran(run(alloc, &machine, state, limits, out))
+    match World::new(alloc, code, options.sizes) {
+        Ok(mut world) => {
+            let end = run(alloc, &mut world, options.limits, out);
+            Ending::Ran {
+                end,
+                stats: stats_of(options, end, &world),
+            }
         }
         Err(_) => Ending::NoMemory,
     }
 }
 
 // Runs a text.
-fn run_text<K: Sink>(alloc: Global, limits: Limits, text: &[u8], out: &mut K) -> Ending
-    ensures performs { Performs (Run limits) text.now result (sink_use (K.contents out.old)
+fn run_text<K: Sink>(alloc: Global, options: RunOptions, text: &[u8], out: &mut K) -> Ending
+    ensures performs { Performs (Run options) text.now result (sink_use (K.contents out.old)
         (K.contents out.new) (K.faults out.old) (K.faults out.new) (K.broken out.new)) }
     ensures refused { status_of result ≡ 1 → out.new ≡ out.old }
 {
-    match lower_text(alloc, text) {
-        Ok(code) => run_code(alloc, limits, &code, out),
+    match compile(alloc, text) {
+        Ok(code) => run_code(alloc, options, &code, out),
         Err(why) => why,
     }
 }
@@ -140,7 +156,7 @@ pub(crate) fn perform<K: Sink>(alloc: Global, command: Command, text: &[u8], out
     ensures refused { status_of result ≡ 1 → out.new ≡ out.old }
 {
     match command {
-        Command::Run(limits) => run_text(alloc, limits, text, out),
+        Command::Run(options) => run_text(alloc, options, text, out),
         Command::Check => check_only(alloc, text),
         Command::Emit => emit_text(alloc, text, out),
         Command::Code => check_code_text(alloc, text),

@@ -11,6 +11,7 @@ use rgo_command_line::WordsError;
 use rgo_driver::RunEnd;
 use rgo_lexer::{LexError, LexRefusal};
 use rgo_typing_rules::{TypeError, TypeRefusal};
+use rgo_world::Tally;
 use std::alloc::AllocError;
 
 /// How a call ended, which determines its status and its line on `err`. Places are those of the
@@ -19,8 +20,8 @@ use std::alloc::AllocError;
 pub enum Ending {
     /// The text was to be checked, or its code to be printed: it is valid, and that is done.
     Valid,
-    /// The text's program was run, and its run ended so.
-    Ran(RunEnd),
+    /// The text's program was run: how its run ended, and what it has made, where that was asked for.
+    Ran { end: RunEnd, stats: Option<Tally> },
     /// The words name no command.
     Usage,
     /// A read of the source failed.

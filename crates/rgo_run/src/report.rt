@@ -1,18 +1,20 @@
 //! The report of an ending: its line on `err`, and its status.
 
-ghost use Rattle.std.specs.Prelude.{◌≡◌, ◌<◌, ◌^◌, ◌++◌, [], codes, length, IfOk, MatchResult, string_bytes};
+ghost use Rattle.std.specs.Prelude.{◌≡◌, ◌<◌, ◌^◌, ◌++◌, [], None, codes, length, IfOk, MatchResult, string_bytes};
 ghost use Rattle.rgo_run.specs.Calls.{sink_use};
-ghost use Rattle.rgo_run.specs.Endings.{line_of, numbered, numbered_line, positioned};
+ghost use Rattle.rgo_run.specs.Endings.{line_of, line_of_run, line_of_shortage, numbered, numbered_line, positioned};
+ghost use Rattle.rgo_run.specs.Endings.{others_made, regions_made, stats_lines, status_of_run, status_of_shortage};
 ghost use Rattle.rgo_run.specs.Reports.{Reports, Writes};
-ghost use Rattle.rgo_run.specs.declared.endings.Ending.TheVariants.{Breaks};
+ghost use Rattle.rgo_run.specs.declared.endings.Ending.TheVariants.{Breaks, Ran};
 
 use crate::endings::Ending;
 use crate::positions::position_of;
 use rgo_ast::Place;
 use rgo_code::CodeRefusal;
 use rgo_driver::RunEnd;
-use rgo_machine::End;
+use rgo_machine::{End, Shortage};
 use rgo_outside::{Sink, write_all};
+use rgo_world::Tally;
 use std::alloc::{AllocError, Global};
 
 const USAGE: &[u8] =
@@ -99,9 +101,22 @@ fn write_or_no_memory<E: Sink>(err: &mut E, line: Result<String, AllocError>, st
     }
 }
 
-fn report_run<E: Sink>(alloc: Global, text: &[u8], end: RunEnd, err: &mut E) -> u8
+// Writes what there was no room for.
+fn write_shortage<E: Sink>(err: &mut E, shortage: Shortage) -> u8
+    ensures { Writes (line_of_shortage shortage) (status_of_shortage shortage) result (sink_use (E.contents err.old)
+        (E.contents err.new) (E.faults err.old) (E.faults err.new) (E.broken err.new)) }
+{
+    match shortage {
+        Shortage::Pages => write(err, b"rgo: pages spent\n", 4),
+        Shortage::Regions => write(err, b"rgo: regions spent\n", 5),
+        Shortage::ObjectSize => write(err, b"rgo: object larger than a page\n", 6),
+    }
+}
+
+// Writes how a run ended.
+fn report_end<E: Sink>(alloc: Global, text: &[u8], end: RunEnd, err: &mut E) -> u8
     requires { length text.now < 2 ^ 63 }
-    ensures { Reports text.now (Ending.Ran end) result (sink_use (E.contents err.old)
+    ensures { Reports text.now (Ran end None) result (sink_use (E.contents err.old)
         (E.contents err.new) (E.faults err.old) (E.faults err.new) (E.broken err.new)) }
 {
     match end {
@@ -111,11 +126,106 @@ fn report_run<E: Sink>(alloc: Global, text: &[u8], end: RunEnd, err: &mut E) -> 
             write_or_no_memory(err, line, 2)
         }
         RunEnd::Deadlock => write(err, b"rgo: deadlock\n", 3),
+        RunEnd::NoRoom(shortage) => write_shortage(err, shortage),
         RunEnd::CallsTooDeep => write(err, b"rgo: calls too deep\n", 7),
         RunEnd::StepsSpent => write(err, b"rgo: steps spent\n", 8),
         RunEnd::GoroutinesSpent => write(err, b"rgo: goroutines spent\n", 12),
         RunEnd::WriteFault => write(err, b"rgo: write failed\n", 10),
         RunEnd::NoMemory => write_no_memory(err),
+    }
+}
+
+// The line of a run's end; nothing where `main` returned.
+fn end_line(alloc: Global, text: &[u8], end: RunEnd) -> Result<String, AllocError>
+    requires { length text.now < 2 ^ 63 }
+    ensures { IfOk result (λ line. string_bytes line ≡ line_of_run text.now end) }
+{
+    match end {
+        RunEnd::Ended(End::Exit) => String::from_str(alloc, ""),
+        RunEnd::Ended(End::Trap(trap, at)) => {
+            numbered_line_at(alloc, text, at, "trap", trap.number(), trap.name())
+        }
+        RunEnd::Deadlock => String::from_str(alloc, "rgo: deadlock\n"),
+        RunEnd::NoRoom(Shortage::Pages) => String::from_str(alloc, "rgo: pages spent\n"),
+        RunEnd::NoRoom(Shortage::Regions) => String::from_str(alloc, "rgo: regions spent\n"),
+        RunEnd::NoRoom(Shortage::ObjectSize) => {
+            String::from_str(alloc, "rgo: object larger than a page\n")
+        }
+        RunEnd::CallsTooDeep => String::from_str(alloc, "rgo: calls too deep\n"),
+        RunEnd::StepsSpent => String::from_str(alloc, "rgo: steps spent\n"),
+        RunEnd::GoroutinesSpent => String::from_str(alloc, "rgo: goroutines spent\n"),
+        RunEnd::WriteFault => String::from_str(alloc, "rgo: write failed\n"),
+        RunEnd::NoMemory => String::from_str(alloc, "rgo: out of memory\n"),
+    }
+}
+
+fn status_of(end: RunEnd) -> u8
+    ensures { result ≡ status_of_run end }
+{
+    match end {
+        RunEnd::Ended(End::Exit) => 0,
+        RunEnd::Ended(End::Trap(_, _)) => 2,
+        RunEnd::Deadlock => 3,
+        RunEnd::NoRoom(Shortage::Pages) => 4,
+        RunEnd::NoRoom(Shortage::Regions) => 5,
+        RunEnd::NoRoom(Shortage::ObjectSize) => 6,
+        RunEnd::CallsTooDeep => 7,
+        RunEnd::StepsSpent => 8,
+        RunEnd::GoroutinesSpent => 12,
+        RunEnd::WriteFault => 10,
+        RunEnd::NoMemory => 11,
+    }
+}
+
+// The regions and pages of a run.
+fn regions_made(alloc: Global, tally: Tally) -> Result<String, AllocError>
+    ensures { IfOk result (λ text. string_bytes text ≡ regions_made tally) }
+{
+    let made = tally.made;
+    let removed = tally.removed;
+    let taken = tally.taken;
+    let returned = tally.returned;
+    format!(in alloc; "regions {made} removed {removed} pages {taken} returned {returned} ")
+}
+
+// What else it has made.
+fn others_made(alloc: Global, tally: Tally) -> Result<String, AllocError>
+    ensures { IfOk result (λ text. string_bytes text ≡ others_made tally) }
+{
+    let objects = tally.objects;
+    let goroutines = tally.goroutines;
+    format!(in alloc; "objects {objects} goroutines {goroutines}\n")
+}
+
+// What a run has made, and below it how the run ended.
+fn stats_lines(alloc: Global, text: &[u8], end: RunEnd, tally: Tally) -> Result<String, AllocError>
+    requires { length text.now < 2 ^ 63 }
+    ensures { IfOk result (λ lines. string_bytes lines ≡ stats_lines tally (line_of_run text.now end)) }
+{
+    let regions = regions_made(alloc, tally)?;
+    let others = others_made(alloc, tally)?;
+    let line = end_line(alloc, text, end)?;
+    format!(in alloc; "rgo: {regions}{others}{line}")
+}
+
+// Writes how a run ended, and before it what it has made, if that was asked for.
+fn report_run<E: Sink>(
+    alloc: Global,
+    text: &[u8],
+    end: RunEnd,
+    stats: Option<Tally>,
+    err: &mut E,
+) -> u8
+    requires { length text.now < 2 ^ 63 }
+    ensures { Reports text.now (Ran end stats) result (sink_use (E.contents err.old)
+        (E.contents err.new) (E.faults err.old) (E.faults err.new) (E.broken err.new)) }
+{
+    match stats {
+        Some(tally) => {
+            let lines = stats_lines(alloc, text, end, tally);
+            write_or_no_memory(err, lines, status_of(end))
+        }
+        None => report_end(alloc, text, end, err),
     }
 }
 
@@ -128,7 +238,7 @@ pub(crate) fn report<E: Sink>(alloc: Global, text: &[u8], ending: Ending, err: &
 {
     match ending {
         Ending::Valid => 0,
-        Ending::Ran(end) => report_run(alloc, text, end, err),
+        Ending::Ran { end, stats } => report_run(alloc, text, end, stats, err),
         Ending::Usage => write(err, USAGE, 64),
         Ending::ReadFault => write(err, b"rgo: read failed\n", 9),
         Ending::TooLong => write(err, b"rgo: text longer than 1048576 bytes\n", 1),

@@ -7,6 +7,7 @@ mod ends;
 mod examples;
 mod faults;
 mod refusals;
+mod regions;
 mod rule_texts;
 mod running;
 mod usage;
@@ -27,6 +28,23 @@ fn texts_run_or_are_refused_at_the_first_place(rt: HostRuntime) -> Result<(), Fa
     for (text, print, report, status) in &refusals::WHOLE {
         let text = text.as_bytes().to_vec(rt.alloc())?;
         runs(&rt, text, (print, report, *status))?;
+    }
+    Ok(())
+}
+
+#[test]
+fn runs_have_room_for_regions_and_say_what_they_made(rt: HostRuntime) -> Result<(), Fail> {
+    for (options, line, wanted) in &regions::ROWS {
+        let words = format!(in rt.alloc(); "rgo run {options}")?;
+        let text = with_head(rt.alloc(), line)?;
+        expect(&rt, &words, text, SOUND, *wanted)?;
+    }
+    for (options, line, wanted) in &regions::LIST_ROWS {
+        let words = format!(in rt.alloc(); "rgo run {options}")?;
+        let lists = regions::LISTS;
+        let lines = format!(in rt.alloc(); "{lists}{line}")?;
+        let text = with_head(rt.alloc(), &lines)?;
+        expect(&rt, &words, text, SOUND, *wanted)?;
     }
     Ok(())
 }

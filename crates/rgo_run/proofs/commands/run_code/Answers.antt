@@ -1,11 +1,39 @@
-use Rattle.rgo_run.proofs.TextLemmas.{ran, starts_within}
+use Rattle.std.proofs.Common.{[], ◌∙◌, subst}
+use Rattle.rgo_code.specs.Erasure.{erased}
+use Rattle.rgo_tac.specs.Tac.{tac_start}
+use Rattle.rgo_world.proofs.Standing.{starts_stand}
+use Rattle.rgo_run.proofs.TextLemmas.{ran, starts_ready}
+use Rattle.rgo_run.proofs.WorldLemmas.{Went, ended_so, region_run}
 use Rattle.rgo_run.proofs.commands.run_code.Goals as goal
 
-pub run-requires-clause-within : goal.run-requires-clause-within
-run-requires-clause-within g c = rw c.in-Ok.ensures (starts_within c.args.limits c.args.code.now)
+pub run-end-requires : goal.run-end-requires
+run-end-requires g c = record {
+  given = [];
+  state = tac_start (erased c.args.code.now);
+  shown = starts_stand c.args.code.now c.args.options.sizes c.in-Ok.world c.in-Ok.ensures.starts;
+  ready = starts_ready c.args.options.limits (erased c.args.code.now);
+}
 
 pub returns-in-Ok-clause-performs : goal.returns-in-Ok-clause-performs
 returns-in-Ok-clause-performs g c = λ text is_code.
-    ran c.args.limits text c.args.code.now c.run.result _ is_code
-    (rw (c.in-Ok.ensures, c.new-machine.ensures) at c.run.ensures.runs)
-    (λ e. record { counted = c.run.ensures.fault e; broken = c.run.ensures.broken e }) c.run.ensures.kept
+    let code = c.args.code.now in
+    let options = c.args.options in
+    let start = tac_start (erased code) in
+    let starts = c.in-Ok.ensures.starts in
+    let world = c.run-end.new.run in
+    let end = c.run-end.result in
+    let done = c.run-end.ensures.runs [] start (starts_stand code options.sizes c.in-Ok.world starts)
+    (starts_ready options.limits (erased code)) in
+    let went = subst (Went options.limits start end (g.K.Sink.contents c.args.out.now) (g.K.Sink.contents c.run-end.new.out) world)
+    starts.code_is (record {
+      runs = done.runs;
+      before = done.before;
+      whole = done.whole;
+      ended = ended_so world done.before (record done.runs.state { printed = world.state.printed }) end done.left.leaves
+          done.left.shows done.left.lacks;
+    }) in
+    let tallied = region_run code options.sizes world went.before went.runs.state end options.stats c.stats_of.result
+    (c.run-end.ensures.fixed ∙ (λ i. (starts.code_is i, starts.sizes_are i))) went.whole went.ended
+    (c.stats_of.ensures went.ended.reaches.state went.ended.shown) in
+    ran options text code end c.stats_of.result _ is_code went.runs tallied.0 tallied.1
+    (λ e. record { counted = c.run-end.ensures.fault e; broken = c.run-end.ensures.broken e }) c.run-end.ensures.kept

@@ -1,17 +1,8 @@
-use Rattle.std.proofs.Common.{inl}
+use Rattle.std.proofs.Common.{string_bytes}
+use Rattle.rgo_run.proofs.EndingLemmas.{stats_reported}
 use Rattle.rgo_run.proofs.report.report_run.Goals as goal
 
-pub returns-in-Deadlock : goal.returns-in-Deadlock
-returns-in-Deadlock g c = rw c.in-Deadlock.is (inl c.write.ensures)
-
-pub returns-in-CallsTooDeep : goal.returns-in-CallsTooDeep
-returns-in-CallsTooDeep g c = rw c.in-CallsTooDeep.is (inl c.write-in-CallsTooDeep.ensures)
-
-pub returns-in-StepsSpent : goal.returns-in-StepsSpent
-returns-in-StepsSpent g c = rw c.in-StepsSpent.is (inl c.write-in-StepsSpent.ensures)
-
-pub returns-in-GoroutinesSpent : goal.returns-in-GoroutinesSpent
-returns-in-GoroutinesSpent g c = rw c.in-GoroutinesSpent.is (inl c.write-in-GoroutinesSpent.ensures)
-
-pub returns-in-WriteFault : goal.returns-in-WriteFault
-returns-in-WriteFault g c = rw c.in-WriteFault.is (inl c.write-in-WriteFault.ensures)
+pub returns-in-Some : goal.returns-in-Some
+returns-in-Some g c = rw c.in-Some.is
+    (stats_reported string_bytes c.args.text.now c.args.end c.in-Some.tally c.stats_lines-lines.result c.status_of.result _ _
+    c.status_of.ensures c.stats_lines-lines.ensures c.write_or_no_memory.ensures)
