@@ -1,9 +1,9 @@
-// Slices and calls: sorts pseudo-random numbers.
+// Slices and calls: sorts 4,000 pseudo-random numbers, again and again.
 package main
 
 import "fmt"
 
-func size() int { return 200 } // 200 30000 200000
+func size() int { return 1 } // 1 8 50
 
 func sort(s []int, low, high int) {
 	if low >= high {
@@ -31,10 +31,10 @@ func sort(s []int, low, high int) {
 	sort(s, i, high)
 }
 
-func main() {
-	n := size()
+// Sorts n numbers, which follow the seed, and returns the last of them as the next seed.
+func round(n, seed int) int {
 	s := make([]int, n)
-	x := 1
+	x := seed
 	for i := 0; i < n; i++ {
 		x = (x*1103515245 + 12345) % 2147483648
 		s[i] = x
@@ -46,4 +46,12 @@ func main() {
 		}
 	}
 	fmt.Println(s[0], s[n/2], s[n-1])
+	return x
+}
+
+func main() {
+	seed := 1
+	for i := 0; i < size(); i++ {
+		seed = round(4000, seed)
+	}
 }

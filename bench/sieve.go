@@ -1,12 +1,11 @@
-// Slices: the number of primes below a bound, by the sieve of Eratosthenes.
+// Slices: the number of primes below 4,000, by the sieve of Eratosthenes, found again and again.
 package main
 
 import "fmt"
 
-func size() int { return 1000 } // 1000 300000 3000000
+func size() int { return 1 } // 1 200 2000
 
-func main() {
-	n := size()
+func primes(n int) int {
 	composite := make([]bool, n)
 	count := 0
 	for i := 2; i < n; i++ {
@@ -16,6 +15,14 @@ func main() {
 				composite[k] = true
 			}
 		}
+	}
+	return count
+}
+
+func main() {
+	count := 0
+	for i := 0; i < size(); i++ {
+		count += primes(4000)
 	}
 	fmt.Println(count)
 }

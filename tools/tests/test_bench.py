@@ -35,7 +35,8 @@ class Programs(unittest.TestCase):
         self.assertEqual(12, len(sources))
         for source in sources:
             with self.subTest(source.name), open(source, "rb") as text:
-                ran = subprocess.run([error_pages.program(), "run"], stdin=text, capture_output=True, timeout=300, check=False)
+                command = [error_pages.program(), "run", "--page-words", "4096"]
+                ran = subprocess.run(command, stdin=text, capture_output=True, timeout=300, check=False)
                 self.assertEqual((0, source.with_suffix(".out").read_bytes(), b""), (ran.returncode, ran.stdout, ran.stderr))
 
     def test_each_has_three_sizes_of_which_the_first_is_in_its_text(self):
@@ -83,7 +84,7 @@ class Script(unittest.TestCase):
         self.assertIn("- Go: not installed\n- yaegi: not installed\n", ran.stdout)
         self.assertIn("- Beside it: a test.", ran.stdout)
         rows = self.rows(ran)
-        self.assertEqual([["fibonacci", "16"], ["sieve", "1000"]], [row[:2] for row in rows])
+        self.assertEqual([["fibonacci", "16"], ["sieve", "1"]], [row[:2] for row in rows])
         for row in rows:
             self.assertRegex(row[2], r"^\d+\.\d{3}$")
             self.assertGreater(float(row[7]), 0.1)
@@ -118,16 +119,16 @@ class Script(unittest.TestCase):
 
     def test_a_program_that_fails_stops_it(self):
         ran = self.bench("--rgo", self.write("rgo", "#!/bin/sh\nexit 9\n"), "sieve")
-        self.assertEqual((1, "bench/run: sieve at size 1000: rgo fails with 9\n"), (ran.returncode, ran.stderr))
+        self.assertEqual((1, "bench/run: sieve at size 1: rgo fails with 9\n"), (ran.returncode, ran.stderr))
 
     def test_different_prints_stop_it(self):
         fake = self.write("rgo", FAKE.format(bench=BENCH, status=9))
         self.write("bin/yaegi", "#!/bin/sh\necho other\n")
         ran = self.bench("--rgo", fake, "sieve")
         self.assertEqual(1, ran.returncode)
-        self.assertIn("sieve at size 1000 prints different things", ran.stderr)
+        self.assertIn("sieve at size 1 prints different things", ran.stderr)
 
     def test_a_run_that_takes_too_long(self):
         fake = self.write("rgo", "#!/bin/sh\nwhile :; do :; done\n")
         ran = self.bench("--rgo", fake, "--seconds", "1", "sieve")
-        self.assertEqual((0, ["sieve", "1000", "over 1 s"]), (ran.returncode, self.rows(ran)[0][:3]))
+        self.assertEqual((0, ["sieve", "1", "over 1 s"]), (ran.returncode, self.rows(ran)[0][:3]))

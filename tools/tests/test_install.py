@@ -15,7 +15,8 @@ import unittest
 import code_vectors
 from error_pages import TOP
 
-OPTIONS = ["--goroutines", "--steps"]
+NUMBERS = ["--goroutines", "--page-words", "--pages", "--regions", "--steps"]
+OPTIONS = sorted([*NUMBERS, "--stats"])
 COMMANDS = ["check", "code", "emit", "run"]
 FAKE = '#!/bin/sh\necho "$@"\ncat >/dev/null\necho "rgo: 2:15: type 4 NoSuchName" >&2\nexit 1\n'
 TEXT = "package main\nfunc main() { zz() }\n"
@@ -115,10 +116,13 @@ class Manual(Case):
         self.assertEqual(wanted, found)
 
     def test_options_are_those_of_the_readme(self):
-        found = re.findall(r"^\.It Fl -(\w+) Ar N\n(?:.*\n)*?.*from (\d+) to (\d+), by default (\d+)\.$", self.page, re.MULTILINE)
-        wanted = [tuple([row[0].split()[0].strip("`-"), *row[1:]]) for row in readme_rows("| option of `run` | least | most | default |\n")]
+        found = re.findall(r"^\.It Fl -([\w-]+) Ar N\n(?:.*\n)*?.*from (\d+) to (\d+), by default (\d+)\.$", self.page, re.MULTILINE)
+        rows = readme_rows("| option of `run` | least | most | default |\n")
+        wanted = [tuple([row[0].split()[0].strip("`-"), *row[1:]]) for row in rows if row[1]]
         self.assertEqual(wanted, found)
-        self.assertEqual([option.strip("-") for option in OPTIONS], sorted(name for name, *_ in found))
+        self.assertEqual([option.strip("-") for option in NUMBERS], sorted(name for name, *_ in found))
+        self.assertEqual(["`--stats`:"], [row[0].split()[0] for row in rows if not row[1]])
+        self.assertIn("\n.It Fl -stats\n", self.page)
 
     @needs("man")
     def test_it_is_formatted_without_warnings(self):
@@ -137,14 +141,16 @@ class Completions(Case):
         ("rgo c", ["check", "code"]),
         ("rgo run", ["run"]),
         ("rgo run --", OPTIONS),
-        ("rgo run --s", ["--steps"]),
+        ("rgo run --s", ["--stats", "--steps"]),
         ("rgo run --steps ", []),
-        ("rgo run --steps 5 --", ["--goroutines"]),
+        ("rgo run --pages ", []),
+        ("rgo run --steps 5 --", [option for option in OPTIONS if option != "--steps"]),
+        ("rgo run --stats --", NUMBERS),
         ("rgo check --", []),
         ("rgo code --", []),
         ("rgor --", ["--check"]),
         ("rgor a.go --", OPTIONS),
-        ("rgor a.go --goroutines 5 --", ["--steps"]),
+        ("rgor a.go --goroutines 5 --", [option for option in OPTIONS if option != "--goroutines"]),
         ("rgo-regions --", ["--function", "--list"]),
         ("rgo-regions --l", ["--list"]),
         ("rgo-regions --list --", ["--function"]),

@@ -169,7 +169,7 @@ class WithTheProgram(unittest.TestCase):
             capture_output=True,
             cwd=self.room,
             env={**os.environ, "PATH": f"{self.room}/bin:{os.environ['PATH']}"},
-            preexec_fn=lambda: resource.setrlimit(resource.RLIMIT_AS, (2**32, 2**32)),
+            preexec_fn=lambda: resource.setrlimit(resource.RLIMIT_AS, (2**30, 2**30)),
             timeout=300,
             check=False,
         )
