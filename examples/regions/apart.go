@@ -11,8 +11,8 @@ func push(l *Node, value int) *Node {
 	return &Node{value, l}
 }
 
-// Two lists that never meet are in two regions: that of `a` is removed before the list `b` is made, so one page serves
-// both.
+// Two lists that never meet are in two regions: that of `a` is removed
+// before the list `b` is made, so one page serves both.
 func main() {
 	a := push(push(nil, 1), 2)
 	fmt.Println(a.value, a.next.value)

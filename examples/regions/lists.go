@@ -24,7 +24,8 @@ func sum(l *Node) int {
 	return s
 }
 
-// A thousand lists, each in a region of its own, which is removed when `sum` has read the last node.
+// A thousand lists, each in a region of its own, which is removed when
+// `sum` has read the last node.
 func main() {
 	total := 0
 	for i := 0; i < 1000; i++ {

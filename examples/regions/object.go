@@ -7,7 +7,8 @@ type Point struct {
 	y int
 }
 
-// One object: its region is removed after its last field was read, and before the print.
+// One object: its region is removed after its last field was read, and
+// before the print.
 func main() {
 	p := &Point{3, 4}
 	fmt.Println(p.x*p.x + p.y*p.y)

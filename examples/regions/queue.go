@@ -28,7 +28,8 @@ func take(q *Queue) int {
 	return n.value
 }
 
-// A container keeps what has left it: the queue never has more than one value, but all its nodes are in its region.
+// A container keeps what has left it: the queue never has more than one
+// value, but all its nodes are in its region.
 func main() {
 	q := &Queue{nil, nil}
 	s := 0

@@ -37,7 +37,8 @@ func renewed(old *Queue) *Queue {
 	return q
 }
 
-// The way out: now and then what is left moves to a new container, and the old region is removed.
+// The way out: now and then what is left moves to a new container, and the
+// old region is removed.
 func work(q *Queue, from, to int) int {
 	s := 0
 	for i := from; i < to; i++ {

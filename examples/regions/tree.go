@@ -21,7 +21,8 @@ func count(t *Tree) int {
 	return 1 + count(t.left) + count(t.right)
 }
 
-// All nodes of a tree share its region: 1,023 nodes of two words in eight pages of 256 words.
+// All nodes of a tree share its region: 1,023 nodes of two words in eight
+// pages of 256 words.
 func main() {
 	fmt.Println(count(grow(10)))
 }

@@ -11,7 +11,8 @@ func add(a, b *Box) int {
 	return s + b.value
 }
 
-// `add` is done with the region of `a` before it reads `b`, but both are one region here: the call protects it.
+// `add` is done with the region of `a` before it reads `b`, but both are
+// one region here: the call protects it.
 func main() {
 	x := &Box{21}
 	fmt.Println(add(x, x))

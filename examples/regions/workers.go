@@ -11,8 +11,8 @@ func square(j *Job) {
 	j.answer <- j.n * j.n
 }
 
-// Each job is in a region of its own with its channel, and has a stake of each of its two goroutines. The last of the two
-// removes it.
+// Each job is in a region of its own with its channel, and has a stake of
+// each of its two goroutines. The last of the two removes it.
 func main() {
 	sum := 0
 	for i := 1; i <= 5; i++ {
