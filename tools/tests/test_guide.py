@@ -21,8 +21,10 @@ COUNTS = re.compile(r"^rgo: regions (\d+) removed \d+ pages (\d+) returned \d+ o
 MARGIN = re.compile(r"^tools/regions (?:--list )?(?:--function \w+ )?(\S+)$")
 RUN = re.compile(r"^\./rgo run --stats < (\S+)$")
 # What the text says of other parts of the page, of statuses, and of arithmetic.
-REFERENCE = re.compile(r"\b(program|pitfall|line)s? (\d+(?:(?:, | and | to |, and )\d+)*)")
-STATUS = re.compile(r"\b[Ss]tatus(?:es)? (\d+(?:(?:, | and )\d+)*)")
+REFERENCE = re.compile(r"\[(program|pitfall) (\d+)\]\(#(\d+)-[\w-]+\)")
+LINE = re.compile(r"\bline (\d+)")
+COUNTED = re.compile(r"\b(\d+) (region|page|object|goroutine)s?\b")
+STATUS = re.compile(r"\b[Ss]tatus(?:es)? (\d+(?:(?:, | and | or )\d+)*)")
 ARITHMETIC = re.compile(r"`(\d+) ([-+*/]) (\d+) = (\d+)`")
 OPERATORS = {"+": operator.add, "-": operator.sub, "*": operator.mul, "/": operator.floordiv}
 NUMBER = re.compile(r"(?<![\w.@/])\d+(?:,\d{3})*(?![\w.]\w)")
@@ -135,26 +137,36 @@ class Text(unittest.TestCase):
 
     def check_numbers(self, section, known):
         """Checks that each number in the text of a section is a limit, or appears in what the section shows."""
-        shown, listed = set(), set()
+        shown, listed, counted = set(), set(), set()
         for command, printed in sessions(section):
             is_margin = command.startswith("tools/regions") and "--list" not in command
             lines = map(of_a_margin, printed.splitlines()) if is_margin else [printed]
             shown |= numbers(command).union(*map(numbers, lines))
             listed |= {int(line) for line in re.findall(r"^(\d+):", printed, re.MULTILINE)}
+            counted |= set(re.findall(r"\b(region|page|object|goroutine)s (\d+)", f"{command}\n{printed}"))
         prose = " ".join(re.sub(r"^\|.*$|^\d+\. ", "", error_pages.BLOCK.sub("", section), flags=re.MULTILINE).split())
         self.assertIsNone(WORDS.search(prose))
-        existing = {"line": listed, "program": set(range(1, 11)), "pitfall": set(range(1, 7))}
-        for kind, found in REFERENCE.findall(prose):
-            self.assertLessEqual(numbers(found), existing[kind])
+        for _, number, heading in REFERENCE.findall(prose):
+            self.assertEqual(number, heading)
         for found in STATUS.findall(prose):
             self.assertLessEqual(numbers(found), statuses())
-        prose = STATUS.sub("", REFERENCE.sub("", prose))
+        self.assertLessEqual(set(map(int, LINE.findall(prose))), listed)
+        self.assertLessEqual({(what, number) for number, what in COUNTED.findall(prose)}, counted)
+        prose = LINE.sub("", STATUS.sub("", REFERENCE.sub("", prose)))
+        self.assertNotRegex(prose, r"\b(program|pitfall)s? \d")
         for left, sign, right, result in ARITHMETIC.findall(prose):
             self.assertEqual(int(result), OPERATORS[sign](int(left), int(right)))
             shown.add(int(result))
         # A count of one digit by which another number is changed, such as the words of a struct, need not be shown.
         prose = ARITHMETIC.sub(lambda found: f"{found[1]} {found[3] if len(found[3]) > 1 else ''} {found[4]}", prose)
         self.assertLessEqual(numbers(prose), shown | known)
+
+    def test_statuses_are_those_of_their_pages(self):
+        named = re.findall(r"^\*\*Status (\d+)\*\*, \[(.+?)\]\(errors/(.+?)\):$", self.text, re.MULTILINE)
+        self.assertEqual(["4", "5", "6"], [status for status, _, _ in named])
+        for status, title, name in named:
+            page = error_pages.read_page(error_pages.titles()[title])
+            self.assertEqual((int(status), name), (page.status, page.path.name))
 
     def test_lines_are_not_too_long(self):
         self.assertEqual([], [line for line in self.text.splitlines() if len(line) > 120])
