@@ -11,11 +11,22 @@ _rgo_words() {
     done
 }
 
-# Offers Go files and folders.
+# Offers folders and the files with an ending, or Go files.
 _rgo_files() {
     compopt -o filenames 2>/dev/null
     local IFS=$'\n'
-    COMPREPLY=($(compgen -f -X '!*.go' -- "${COMP_WORDS[COMP_CWORD]}") $(compgen -d -- "${COMP_WORDS[COMP_CWORD]}"))
+    COMPREPLY=($(compgen -f -X "!*.${1:-go}" -- "${COMP_WORDS[COMP_CWORD]}") $(compgen -d -- "${COMP_WORDS[COMP_CWORD]}"))
+}
+
+# Whether another word of the line is one of these.
+_rgo_has() {
+    local word k
+    for word in "$@"; do
+        for k in "${!COMP_WORDS[@]}"; do
+            ((k != COMP_CWORD)) && [[ ${COMP_WORDS[k]} == "$word" ]] && return 0
+        done
+    done
+    return 1
 }
 
 # Offers the options of a run, but not where the number of one is expected.
@@ -50,9 +61,18 @@ _rgor() {
 
 _rgo-regions() {
     COMPREPLY=()
+    local last=${COMP_WORDS[COMP_CWORD - 1]}
     if [[ ${COMP_WORDS[COMP_CWORD]} == -* ]]; then
-        _rgo_words --list --function
-    elif [[ ${COMP_WORDS[COMP_CWORD - 1]} != --function ]]; then
+        if _rgo_has --picture; then
+            _rgo_words --steps --goroutines --pages --page-words --regions
+        elif _rgo_has --list --function; then
+            _rgo_words --list --function
+        else
+            _rgo_words --list --function --picture
+        fi
+    elif [[ $last == --picture ]]; then
+        _rgo_files svg
+    elif [[ $last != --* || $last == --list ]]; then
         _rgo_files
     fi
 }

@@ -151,12 +151,18 @@ class Completions(Case):
         ("rgor --", ["--check"]),
         ("rgor a.go --", OPTIONS),
         ("rgor a.go --goroutines 5 --", [option for option in OPTIONS if option != "--goroutines"]),
-        ("rgo-regions --", ["--function", "--list"]),
+        ("rgo-regions --", ["--function", "--list", "--picture"]),
         ("rgo-regions --l", ["--list"]),
         ("rgo-regions --list --", ["--function"]),
         ("rgo-regions --function ", []),
         ("rgo-regions a.go --function main --", ["--list"]),
+        ("rgo-regions --picture a.svg --", NUMBERS),
+        ("rgo-regions --picture a.svg a.go --pages 5 --", [option for option in NUMBERS if option != "--pages"]),
+        ("rgo-regions --picture a.svg --pages ", []),
     ]
+
+    # Lines after which a Go file may follow.
+    FILES = ["rgor ", "rgor --check ", "rgo-regions ", "rgo-regions --list ", "rgo-regions --picture a.svg "]
 
     def offers(self, line, words):
         raise NotImplementedError
@@ -166,7 +172,7 @@ class Completions(Case):
         self.room.joinpath("b.txt").touch()
         self.file.unlink()
         self.fake.unlink()
-        files = [(line, ["a.go"]) for line in ["rgor ", "rgor --check ", "rgo-regions ", "rgo-regions --list "]]
+        files = [(line, ["a.go"]) for line in self.FILES]
         for line, wanted in [*self.LINES, *files]:
             with self.subTest(line):
                 self.assertEqual(wanted, sorted(offered(line)))
