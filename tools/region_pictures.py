@@ -1,9 +1,9 @@
 """Draws runs with regions as SVG: what tools/regions --picture writes.
 
-`picture` draws a run of `region_runs`. Time goes to the right, in steps. Each region is a bar as high as its pages, from its
-first page to its removal. The bars are stacked, those of one place on each other, so that the height of all is the pages
-in use. The width is divided into columns. A column has one step if there are few, and otherwise what is in it is shown at
-the step at which most pages are in use. Regions that are too small to be seen are drawn together.
+`picture` draws a run of `region_runs`. Time goes to the right, in steps. Each region is a bar as high as its pages,
+from its first page to its removal. The bars are stacked, those of one place on each other, so that the height of all
+is the pages in use. The width is divided into columns. A column is one step if there are few. Otherwise it shows the
+regions at that of its steps at which most pages are in use. Regions that are too small to be seen are drawn together.
 """
 
 import bisect
@@ -159,8 +159,8 @@ def bars_of(regions, columns, page):
 
 
 def parts_of(bar, bases, count):
-    """The parts of a bar without a gap: each the columns in which its base or its top changes, with both, and the column
-    where it ends. `bases` has the height on which the bar lies in each column, and then the one on which the next one lies."""
+    """The parts of a bar without a gap: each the columns in which its base or its top changes, with both, and the
+    column where it ends. `bases` has the pages below the bar in each column, to which those of the bar are added."""
     part, found = [], list(heights(bar, count))
     for (column, pages), (end, _) in zip(found, [*found[1:], (count, 0)]):
         if pages:
@@ -338,7 +338,8 @@ class Picture:
     def lines(self):
         legend = self.legend()
         width, height = LEFT + WIDTH + RIGHT, self.bottom + (len(legend) + 4) * LINE
-        yield f'<svg xmlns="http://www.w3.org/2000/svg" width="{width}" height="{height}" viewBox="0 0 {width} {height}">'
+        size = f'width="{width}" height="{height}" viewBox="0 0 {width} {height}"'
+        yield f'<svg xmlns="http://www.w3.org/2000/svg" {size}>'
         yield f"<title>Regions of {escaped(self.name)}</title>"
         yield f"<style>{STYLE}</style>"
         yield f'<rect width="{width}" height="{height}" fill="#ffffff"/>'

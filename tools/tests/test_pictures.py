@@ -38,15 +38,20 @@ func f(n int) int { return f(n + 1) }; func main() { fmt.Println(f(0)) }
 func main() { for { } }
 func f() { go f(); go f() }; func main() { f(); for { } }
 func main() { a := 0 - 9223372036854775807; a--; fmt.Println(a, -a, a / -1, a % -1, a - 1, -7 / 2, -7 % 2, a * 3) }
-func main() { n := 254; s := make([]bool, n); fmt.Println(len(s), s[0]); n++; c := make(chan bool, n); close(c); fmt.Println(<-c) }
+func main() { n := 254; s := make([]bool, n); fmt.Println(len(s), s[0]);
+  n++; c := make(chan bool, n); close(c); fmt.Println(<-c) }
 func main() { n := 256; s := make([]bool, n); fmt.Println(len(s), s[0]) }
-func f(a, b *N, c chan int) { c <- a.v + b.v; c <- 1 }; func main() { x := &N{21, nil}; c := make(chan int); go f(x, x, c); fmt.Println(<-c) }
+func f(a, b *N, c chan int) { c <- a.v + b.v; c <- 1 }
+  func main() { x := &N{21, nil}; c := make(chan int); go f(x, x, c); fmt.Println(<-c) }
 func f(c, d chan int, n int) { for i := 0; i < n; i++ { c <- i + <-d }; close(c) }
-  func main() { c := make(chan int); d := make(chan int, 3); go f(c, d, 600); for i := 0; i < 600; i++ { d <- i; fmt.Println(<-c) }; fmt.Println(<-c) }
+  func main() { c := make(chan int); d := make(chan int, 3); go f(c, d, 600);
+  for i := 0; i < 600; i++ { d <- i; fmt.Println(<-c) }; fmt.Println(<-c) }
 func f(c chan *N, n int) { c <- &N{n, nil} }
-  func main() { c := make(chan *N); for i := 0; i < 9; i++ { go f(c, i) }; for i := 0; i < 9; i++ { x := <-c; fmt.Println(x.v) } }
+  func main() { c := make(chan *N); for i := 0; i < 9; i++ { go f(c, i) };
+  for i := 0; i < 9; i++ { x := <-c; fmt.Println(x.v) } }
 func f(c chan *N, d chan int) { x := <-c; d <- x.v }
-  func main() { c := make(chan *N); d := make(chan int); for i := 0; i < 9; i++ { go f(c, d) }; for i := 0; i < 9; i++ { c <- &N{i, nil}; fmt.Println(<-d) } }
+  func main() { c := make(chan *N); d := make(chan int); for i := 0; i < 9; i++ { go f(c, d) };
+  for i := 0; i < 9; i++ { c <- &N{i, nil}; fmt.Println(<-d) } }
 """
 
 
@@ -112,7 +117,9 @@ class ByHand(unittest.TestCase):
         self.assertEqual(region_runs.Limits(), region_runs.limits_of({}))
         found = region_runs.limits_of({"--pages": "0065536", "--page-words": "256", "--steps": "1", "--regions": "2"})
         self.assertEqual(region_runs.Limits(steps=1, pages=65536, page_words=256, regions=2), found)
-        for words in ["pages 0", "pages 65537", "page-words 15", "page-words 4097", "steps -1", "regions +1", "steps ²", "pages "]:
+        wrong = ["pages 0", "pages 65537", "pages ", "page-words 15", "page-words 4097"]
+        wrong += ["steps -1", "regions +1", "steps ²"]
+        for words in wrong:
             option, word = words.split(" ")
             with self.subTest(words):
                 self.assertIsNone(region_runs.limits_of({f"--{option}": word}))
@@ -169,7 +176,7 @@ def said(end, source):
 
 class BesideTheProgram(Case):
     def test_examples(self):
-        paths = [path for folder in ("examples", "examples/regions", "examples/failing") for path in TOP.glob(f"{folder}/*.go")]
+        paths = list(TOP.glob("examples/**/*.go"))
         self.assertGreater(len(paths), 20)
         for path in sorted(paths):
             with self.subTest(path.name):
@@ -198,7 +205,8 @@ class BesideTheProgram(Case):
         for text in texts:
             with self.subTest(text):
                 self.assertEqual(0, self.rgo(text.encode(), "check").returncode)
-                self.check_runs(text.encode(), {"steps": 500000, "goroutines": 500}, {"steps": 3000, "pages": 1, "page_words": 16})
+                limits = [{"steps": 500000, "goroutines": 500}, {"steps": 3000, "pages": 1, "page_words": 16}]
+                self.check_runs(text.encode(), *limits)
         self.assertEqual({0, 2, 3, 4, 6, 7, 8, 12}, self.statuses)
 
 
@@ -255,7 +263,8 @@ class Pictures(unittest.TestCase):
         picture = region_pictures.picture("field.go", ran, source)
         what = "5:7 main r0: created after step 0, removed after step 3, 1 page, 1 object"
         self.assertEqual([(what, "M64 136V96H640V136H64Z")], steps_of(picture))
-        self.assertEqual(["field.go", "main returned after 5 steps; a page has 256 words", ran.counts()], texts_in(picture)[:3])
+        wanted = ["field.go", "main returned after 5 steps; a page has 256 words", ran.counts()]
+        self.assertEqual(wanted, texts_in(picture)[:3])
         self.assertEqual(["0", "1", "0", "1", "2", "3", "4", "5", "pages", "steps"], texts_in(picture)[3:-1])
         self.assertEqual("5:7 main r0: 1 region, 1 page, 1 object", texts_in(picture)[-1])
 
@@ -263,9 +272,11 @@ class Pictures(unittest.TestCase):
         # The second region is of another place. It moves down when the first one goes, and grows.
         regions = [region(0, [0, 1], 4), region(2, [2, 6], None, 3), region(3, [], None), region(3, [3], 5)]
         found = dict(steps_of(drawn(regions, 8, package=[7])))
-        names = {"package": "M904 256V216H1024V256H904Z", "main r0: created after step 0": "M64 256V216H184V176H544V256H64Z"}
+        names = {"package": "M904 256V216H1024V256H904Z"}
+        names["main r0: created after step 0"] = "M64 256V216H184V176H544V256H64Z"
         names["main r0: created after step 3"] = "M424 176V136H544V216H664V256H544V176H424Z"
-        names["1:4 main r0"] = "M304 176V136H424V96H544V176H664V216H784V176H904V136H1024V216H904V256H664V216H544V136H424V176H304Z"
+        tops, bases = "M304 176V136H424V96H544V176H664V216H784V176H904V136", "V216H904V256H664V216H544V136H424V176H304Z"
+        names["1:4 main r0"] = f"{tops}H1024{bases}"
         self.assertEqual(len(names), len(found))
         for start, path in names.items():
             with self.subTest(start):
@@ -290,16 +301,19 @@ class Pictures(unittest.TestCase):
                 self.check_heights(drawn(regions, steps), regions, steps)
 
     def check_heights(self, picture, regions, steps):
-        """In some columns, no bar is on another, and all are as high as the most pages in use at a step of the column."""
+        """In some columns no bar covers another, and all are as high as the most pages in use at a step of the
+        column."""
         columns = region_pictures.Columns(regions, steps)
         pixels = min(region_pictures.HEIGHT / max(1, *columns.pages), region_pictures.PAGE)
         for column in range(0, columns.count, 1 + columns.count // 40):
-            in_use = lambda step: sum(sum(page <= step for page in r.pages) for r in regions if r.removed is None or step < r.removed)
+            is_there = lambda r, step: r.removed is None or step < r.removed
+            in_use = lambda step: sum(page <= step for r in regions if is_there(r, step) for page in r.pages)
             changes = {step for step in columns.changed if columns.first(column) < step < columns.first(column + 1)}
             most = max(map(in_use, {columns.first(column), *changes}))
             middle = columns.pixel(column + 0.5)
             parts = sorted(part for bar in bars_in(picture) for part in crossed(bar.get("d"), middle))
-            self.assertAlmostEqual(most * pixels, sum(last - first for first, last in parts), delta=0.2 + 0.2 * len(parts))
+            found = sum(last - first for first, last in parts)
+            self.assertAlmostEqual(most * pixels, found, delta=0.2 + 0.2 * len(parts))
             self.assertTrue(all(one[1] <= other[0] + 0.11 for one, other in zip(parts, parts[1:])))
 
     def test_many_regions(self):
