@@ -20,9 +20,10 @@ LEFT, TOP, RIGHT, LINE = 64, 96, 40, 18
 VISIBLE = 2
 # The most bars that are drawn apart.
 MOST_BARS = 1500
-# Colours that differ also for those who see few. They are given to the places with the most pages.
+# Colours that differ also for those who see few. They are given to the places with the most pages. Every second bar of
+# a colour is lighter, so that bars beside each other can be told apart.
 COLOURS = "#4477aa #ee6677 #228833 #ccbb44 #66ccee #aa3377 #ee8866 #44bb99 #99ddff #bbcc33 #aa4499 #ddaa77".split()
-PACKAGE_COLOUR, OTHER_COLOUR = "#777777", "#cccccc"
+PACKAGE_COLOUR, OTHER_COLOUR = "#777777", "#aaaaaa"
 
 
 def number(count):
@@ -272,6 +273,10 @@ def colours_of(regions):
     return found
 
 
+def lighter(colour):
+    return "#" + "".join(f"{(int(colour[at : at + 2], 16) * 2 + 255) // 3:02x}" for at in (1, 3, 5))
+
+
 class Picture:
     """A picture of a run of the program in a file."""
 
@@ -309,13 +314,17 @@ class Picture:
         yield text(LEFT + WIDTH, self.bottom + 2 * LINE, "steps", ' class="e"')
 
     def bars(self):
-        bases = [0] * self.columns.count
+        bases, drawn = [0] * self.columns.count, collections.Counter()
         for bar in bars_of(self.regions, self.columns, self.height / self.most):
             parts = list(parts_of(bar, bases, self.columns.count))
             if parts:
-                path = "".join(outline(part, end, self.columns, self.y) for part, end in parts)
-                said = escaped(tooltip(bar, self.source))
-                yield f'<path fill="{self.colour(bar.regions[0])}" d="{path}"><title>{said}</title></path>'
+                colour = self.colour(bar.regions[0])
+                drawn[colour] += 1
+                yield self.bar(bar, parts, colour if drawn[colour] % 2 else lighter(colour))
+
+    def bar(self, bar, parts, colour):
+        path = "".join(outline(part, end, self.columns, self.y) for part, end in parts)
+        return f'<path fill="{colour}" d="{path}"><title>{escaped(tooltip(bar, self.source))}</title></path>'
 
     def legend(self):
         """A line for each colour: its place, and what there was of it in all."""

@@ -334,6 +334,11 @@ class Pictures(unittest.TestCase):
         self.assertLess(len(picture), 600000)
         self.assertIn("1,988 other places: 1,988 regions, 1,988 pages, 1,988 objects", texts_in(picture))
 
+    def test_bars_beside_each_other_differ(self):
+        regions = [region(n, [n], n + 1, n // 3) for n in range(6)]
+        first, second, third, fourth, *_ = [bar.get("fill") for bar in bars_in(drawn(regions, 6))]
+        self.assertEqual(("#4477aa", "#82a4c6", "#4477aa", "#ee6677"), (first, second, third, fourth))
+
     def test_how_a_run_ended(self):
         trap = region_runs.End(2, "trap 2 IndexRange", 5)
         for end, words in [
