@@ -8,7 +8,6 @@ regions at that of its steps at which most pages are in use. Regions that are to
 
 import bisect
 import collections
-import dataclasses
 import html
 
 from error_pages import shown
@@ -76,63 +75,51 @@ class Columns:
 
 def pages_in_use(regions):
     """After how many steps the pages in use change, each with the pages from then on."""
-    changes = collections.Counter()
-    for region in regions:
-        changes.update(region.pages)
-        if region.removed is not None:
-            changes[region.removed] -= len(region.pages)
     pages = 0
-    for step in sorted(changes):
-        pages += changes[step]
+    for step, change in sorted(changes_of(regions, lambda step: step).items()):
+        pages += change
         yield step, pages
 
 
-# ---- bars
+def changes_of(regions, time):
+    """By how much the pages of some regions change, at which times. `time` is the time of a step."""
+    changes = collections.defaultdict(int)
+    for region in regions:
+        for step in region.pages:
+            changes[time(step)] += 1
+        if region.removed is not None:
+            changes[time(region.removed)] -= len(region.pages)
+    return changes
 
 
-@dataclasses.dataclass
-class Bar:
-    """A region, or several of one place that are drawn together, and by how much its pages change in which columns."""
-
-    regions: list
-    changes: collections.Counter
+# ---- bars. A bar is a list of regions: one, or several of one place that are drawn together.
 
 
-def bar_of(region, columns):
-    changes = collections.Counter(map(columns.column, region.pages))
-    if region.removed is not None:
-        changes[columns.column(region.removed)] -= len(region.pages)
-    return Bar([region], changes)
-
-
-def heights(bar, count):
-    """The columns in which a bar has pages, in which their number changes: each with the number from there on."""
+def heights(bar, columns):
+    """The columns in which the pages of a bar change: each with the pages from there on."""
     pages = 0
-    for column in sorted(bar.changes):
-        if column < count and bar.changes[column]:
-            pages += bar.changes[column]
+    for column, change in sorted(changes_of(bar, columns.column).items()):
+        if column < columns.count and change:
+            pages += change
             yield column, pages
 
 
-def is_small(bar, columns, page, least):
-    """Whether a bar has too few pixels, in one direction or in all."""
-    region = bar.regions[0]
+def size_of(region, columns, page):
+    """The width and the height of a region, in pixels. A page has so many."""
     end = columns.count if region.removed is None else columns.column(region.removed)
-    width = (end - columns.column(region.pages[0])) * WIDTH / columns.count
-    height = len(region.pages) * page
-    return min(width, height) < VISIBLE or width * height < least
+    return (end - columns.column(region.pages[0])) * WIDTH / columns.count, len(region.pages) * page
 
 
-def together(bars, columns, page, least):
-    """The bars of one place, where small ones that follow each other are one."""
+def together(regions, sizes, least):
+    """The bars of one place. Regions that have too few pixels, in one direction or in all, and follow each other, are
+    one."""
     found, was_small = [], False
-    for bar in bars:
-        small = is_small(bar, columns, page, least)
+    for region, (width, height) in zip(regions, sizes):
+        small = min(width, height) < VISIBLE or width * height < least
         if small and was_small:
-            found[-1].regions += bar.regions
-            found[-1].changes.update(bar.changes)
+            found[-1].append(region)
         else:
-            found.append(Bar(list(bar.regions), bar.changes.copy()))
+            found.append([region])
         was_small = small
     return found
 
@@ -147,11 +134,12 @@ def bars_of(regions, columns, page):
     by_place = collections.defaultdict(list)
     for region in regions:
         if region.pages:
-            by_place[place_of(region)].append(bar_of(region, columns))
+            by_place[place_of(region)].append(region)
+    places = [(some, [size_of(region, columns, page) for region in some]) for some in by_place.values()]
     least = VISIBLE * VISIBLE
     while True:
-        found = [bar for bars in by_place.values() for bar in together(bars, columns, page, least)]
-        if len(found) <= max(MOST_BARS, len(by_place)):
+        found = [bar for some, sizes in places for bar in together(some, sizes, least)]
+        if len(found) <= max(MOST_BARS, len(places)):
             return found
         least *= 2
 
@@ -159,18 +147,18 @@ def bars_of(regions, columns, page):
 # ---- outlines
 
 
-def parts_of(bar, bases, count):
+def parts_of(bar, bases, columns):
     """The parts of a bar without a gap: each the columns in which its base or its top changes, with both, and the
     column where it ends. `bases` has the pages below the bar in each column, to which those of the bar are added."""
-    part, found = [], list(heights(bar, count))
-    for (column, pages), (end, _) in zip(found, [*found[1:], (count, 0)]):
+    part, found = [], list(heights(bar, columns))
+    for (column, pages), (end, _) in zip(found, [*found[1:], (columns.count, 0)]):
         if pages:
             part += lifted(column, end, pages, bases)
         elif part:
             yield part, column
             part = []
     if part:
-        yield part, count
+        yield part, columns.count
 
 
 def lifted(column, end, pages, bases):
@@ -220,17 +208,17 @@ def pages_and_objects(regions):
 
 
 def tooltip(bar, source):
-    first, *others = bar.regions
-    what = pages_and_objects(bar.regions)
+    first, *others = bar
+    what = pages_and_objects(bar)
     if first.place is None:
         return f"{name_of(first, source)}: {what}, never removed"
     if not others:
         end = "not removed" if first.removed is None else f"removed after step {number(first.removed)}"
         return f"{name_of(first, source)}: created after step {number(first.created)}, {end}, {what}"
-    removed = sum(region.removed is not None for region in bar.regions)
+    removed = sum(region.removed is not None for region in bar)
     steps = f"{number(first.created)} to {number(others[-1].created)}"
     return (
-        f"{name_of(first, source)}: {counted(len(bar.regions), 'region')}, created after steps {steps}, "
+        f"{name_of(first, source)}: {counted(len(bar), 'region')}, created after steps {steps}, "
         f"{number(removed)} of them removed, {what}"
     )
 
@@ -316,9 +304,9 @@ class Picture:
     def bars(self):
         bases, drawn = [0] * self.columns.count, collections.Counter()
         for bar in bars_of(self.regions, self.columns, self.height / self.most):
-            parts = list(parts_of(bar, bases, self.columns.count))
+            parts = list(parts_of(bar, bases, self.columns))
             if parts:
-                colour = self.colour(bar.regions[0])
+                colour = self.colour(bar[0])
                 drawn[colour] += 1
                 yield self.bar(bar, parts, colour if drawn[colour] % 2 else lighter(colour))
 
