@@ -88,7 +88,7 @@ class Script(unittest.TestCase):
         for row in rows:
             self.assertRegex(row[2], r"^\d+\.\d{3}$")
             self.assertGreater(float(row[7]), 0.1)
-            self.assertEqual([""] * 9, row[3:7] + row[8:])
+            self.assertEqual([""] * 11, row[3:7] + row[8:])
 
     def test_peers(self):
         fake = self.write("rgo", FAKE.format(bench=BENCH, status=9))
@@ -104,7 +104,7 @@ class Script(unittest.TestCase):
         self.assertGreater(float(row[3]), 0.2)
         self.assertEqual("fails with 3", row[4])
         self.assertAlmostEqual(float(row[2]) / float(row[3]) / float(row[5]), 1, delta=0.1)
-        self.assertEqual(["", "0.50", "0.75", "1"], [row[6], *row[10:]])
+        self.assertEqual(["", "0.50", "0.75", "1", "", ""], [row[6], *row[10:]])
 
     def test_processor_time_is_not_that_of_waiting(self):
         fake = self.write("rgo", "#!/bin/sh\ncat >/dev/null\nsleep 2\n")
@@ -116,6 +116,11 @@ class Script(unittest.TestCase):
         # A program that has less memory than the script, and more than a shell.
         fake = self.write("rgo", "#!/bin/sh\nread -r line\n[ \"$line\" ] && exec python3 -I -S -c 'print(168)'\n")
         self.assertGreater(float(self.rows(self.bench("--rgo", fake, "sieve"))[0][7]), 4)
+
+    def test_regions_and_pages_are_those_of_the_statistics(self):
+        made = "rgo: regions 3 removed 2 pages 7 returned 5 objects 9 goroutines 1"
+        fake = self.write("rgo", f"#!/bin/sh\ncat >/dev/null\n[ \"$4\" = --stats ] && echo '{made}' >&2\nexit 0\n")
+        self.assertEqual(["3", "7"], self.rows(self.bench("--rgo", fake, "sieve"))[0][13:])
 
     def test_a_program_that_fails_stops_it(self):
         ran = self.bench("--rgo", self.write("rgo", "#!/bin/sh\nexit 9\n"), "sieve")
