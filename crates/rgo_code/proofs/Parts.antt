@@ -6,7 +6,8 @@ use Rattle.rgo_typed.specs.declared.types.Type.{«Type»}
 use Rattle.rgo_tac.specs.declared.regions.Class.{Class}
 use Rattle.rgo_tac.specs.declared.regions.Class.TheVariants as class
 use Rattle.rgo_tac.specs.Code.{Op, Instr, TacFn, Do, Call, Go, Print, Jump, Branch, Return}
-use Rattle.rgo_tac.specs.Ops.{op_in}
+use Rattle.rgo_tac.specs.declared.ops.Kind.{Kind}
+use Rattle.rgo_tac.specs.Ops.{kind_of, op_in}
 use Rattle.rgo_code.specs.declared.notes.Note.{Note}
 use Rattle.rgo_code.specs.declared.notes.Regions.{Regions}
 use Rattle.rgo_code.specs.Names.{slot_class}
@@ -71,19 +72,16 @@ module _ (fs : List TacFn) (regions : List Regions) (n : ℕ) where
   no_region none long = no_function (slice_get_beyond fs n (subst (λ l. l ≤ n) long (slice_get_none regions n none)))
 
 module _ (is : List Instr) (notes : List Note) (n : ℕ) where
-  noted_by : (i : Option Instr) (op : Op) (note : Note) → op_in i ≡ Some op → get_or notes n no_note ≡ note
-      → IsNoted (option_map (λ j. code_instr j (get_or notes n no_note)) i) op note
-  noted_by None op note is_op is_note = cc
-  noted_by (Some i) op note is_op is_note = (
-    i.place,
-    ap (λ o. Some (noted o (get_or notes n no_note) i.place)) (same_Some i.op op is_op)
-        ∙ ap (λ m. Some (noted op m i.place)) is_note,
-  )
+  noted_by : (i : Option Instr) (kind : Kind) (note : Note) → option_map kind_of (op_in i) ≡ Some kind
+      → get_or notes n no_note ≡ note → IsNoted (option_map (λ j. code_instr j (get_or notes n no_note)) i) kind note
+  noted_by None kind note is_kind is_note = cc
+  noted_by (Some i) kind note is_kind is_note =
+      (i.op, i.place, same_Some (kind_of i.op) kind is_kind, ap (λ m. Some (noted i.op m i.place)) is_note)
 
-  pub note_found : (op : Op) (note : Note) → op_in (slice_get is n) ≡ Some op → get_or notes n no_note ≡ note
-      → IsNoted (slice_get (code_body is notes) n) op note
-  note_found op note is_op is_note =
-      subst (λ o. IsNoted o op note) (sym (instr_at is notes n)) (noted_by (slice_get is n) op note is_op is_note)
+  pub note_found : (kind : Kind) (note : Note) → option_map kind_of (op_in (slice_get is n)) ≡ Some kind
+      → get_or notes n no_note ≡ note → IsNoted (slice_get (code_body is notes) n) kind note
+  note_found kind note is_kind is_note =
+      subst (λ o. IsNoted o kind note) (sym (instr_at is notes n)) (noted_by (slice_get is n) kind note is_kind is_note)
 
   silent_op : (op : Op) (place : ℕ) → SaysNothing (Some (noted op no_note place))
   silent_op (Do to action from) place = record {
@@ -147,11 +145,11 @@ module _ (is : List Instr) (notes : List Note) (n : ℕ) where
       subst SaysNothing (sym (instr_at is notes n ∙ ap (λ m. option_map (λ j. code_instr j m) (slice_get is n)) none))
       (silent_by (slice_get is n))
 
-  none_by : (i : Option Instr) → op_in i ≡ None → i ≡ None
+  none_by : (i : Option Instr) → option_map kind_of (op_in i) ≡ None → i ≡ None
   none_by None e = refl
   none_by (Some i) e = cc
 
-  pub no_instr_found : op_in (slice_get is n) ≡ None → SaysNothing (slice_get (code_body is notes) n)
+  pub no_instr_found : option_map kind_of (op_in (slice_get is n)) ≡ None → SaysNothing (slice_get (code_body is notes) n)
   no_instr_found none =
       subst SaysNothing (sym (instr_at is notes n
       ∙ ap (option_map (λ j. code_instr j (get_or notes n no_note))) (none_by (slice_get is n) none)))

@@ -2,7 +2,8 @@
 
 ghost use Rattle.std.specs.Prelude.{◌≡◌, Some, None, get_or, slice_get, MatchOption};
 ghost use Rattle.rgo_tac.specs.declared.regions.Class.TheVariants.{NoClass};
-ghost use Rattle.rgo_tac.specs.Ops.{operation_of};
+ghost use Rattle.rgo_tac.specs.Code.{Op};
+ghost use Rattle.rgo_tac.specs.Ops.{kind_of};
 ghost use Rattle.rgo_code.specs.Erasure.{erased_fn};
 ghost use Rattle.rgo_code.specs.Lists.{creates_in, passes_in, protects_in, removes_in, otherwise_in, passes_of, protects_of, removes_of, otherwise_of};
 ghost use Rattle.rgo_code.specs.Noted.{IsNoted, SaysNothing};
@@ -10,13 +11,13 @@ ghost use Rattle.rgo_code.specs.Views.{code_fn, code_op, no_note};
 ghost use Rattle.rgo_code.specs.Names as names;
 
 use crate::notes::{Note, Regions};
-use rgo_tac::{Class, Op, TacFn};
+use rgo_tac::{Class, Kind, TacFn};
 use std::marker::Model;
 
-/// An instruction and its note.
+/// The kind of an instruction, and its note.
 #[derive(Clone, Copy)]
 struct Noted<'a> {
-    op: Op<'a>,
+    kind: Kind,
     note: &'a Note,
 }
 
@@ -46,38 +47,38 @@ fn class_at(classes: &[Class], n: usize) -> Class
     classes.get(n).copied().unwrap_or(Class::NoClass)
 }
 
-fn passes_by<'a>(op: Op<'_>, note: &'a Note) -> &'a [Class]
-    ensures { result.now ≡ passes_of (code_op (operation_of op.entry) note.now) }
+fn passes_by<'a>(kind: Kind, note: &'a Note) -> &'a [Class]
+    ensures { (op : Op) → kind_of op ≡ kind → result.now ≡ passes_of (code_op op note.now) }
 {
-    match op {
-        Op::Call { .. } | Op::Go { .. } => note.passes.items(),
+    match kind {
+        Kind::Call | Kind::Go => note.passes.items(),
         _ => &[],
     }
 }
 
-fn protects_by<'a>(op: Op<'_>, note: &'a Note) -> &'a [u32]
-    ensures { result.now ≡ protects_of (code_op (operation_of op.entry) note.now) }
+fn protects_by<'a>(kind: Kind, note: &'a Note) -> &'a [u32]
+    ensures { (op : Op) → kind_of op ≡ kind → result.now ≡ protects_of (code_op op note.now) }
 {
-    match op {
-        Op::Call { .. } => note.protects.items(),
+    match kind {
+        Kind::Call => note.protects.items(),
         _ => &[],
     }
 }
 
-fn removes_by<'a>(op: Op<'_>, note: &'a Note) -> &'a [u32]
-    ensures { result.now ≡ removes_of (code_op (operation_of op.entry) note.now) }
+fn removes_by<'a>(kind: Kind, note: &'a Note) -> &'a [u32]
+    ensures { (op : Op) → kind_of op ≡ kind → result.now ≡ removes_of (code_op op note.now) }
 {
-    match op {
-        Op::Return(_) => &[],
+    match kind {
+        Kind::Return => &[],
         _ => note.removes.items(),
     }
 }
 
-fn otherwise_by<'a>(op: Op<'_>, note: &'a Note) -> &'a [u32]
-    ensures { result.now ≡ otherwise_of (code_op (operation_of op.entry) note.now) }
+fn otherwise_by<'a>(kind: Kind, note: &'a Note) -> &'a [u32]
+    ensures { (op : Op) → kind_of op ≡ kind → result.now ≡ otherwise_of (code_op op note.now) }
 {
-    match op {
-        Op::Branch { .. } => note.otherwise.items(),
+    match kind {
+        Kind::Branch => note.otherwise.items(),
         _ => &[],
     }
 }
@@ -140,14 +141,14 @@ impl<'a> CodeFn<'a> {
         self.regions.entry.items()
     }
 
-    /// The instruction of this number, with its note.
+    /// The kind of the instruction of this number, with its note.
     fn noted(&self, at: usize) -> Option<Noted<'a>>
         ensures { MatchOption result (SaysNothing (slice_get self.now.body at))
-            (λ n. IsNoted (slice_get self.now.body at) (operation_of n.op) n.note.now) }
+            (λ n. IsNoted (slice_get self.now.body at) n.kind n.note.now) }
     {
-        match self.tac.op(at) {
-            Some(op) => match note_at(self.regions.notes.items(), at) {
-                Some(note) => Some(Noted { op, note }),
+        match self.tac.kind(at) {
+            Some(kind) => match note_at(self.regions.notes.items(), at) {
+                Some(note) => Some(Noted { kind, note }),
                 None => None,
             },
             None => None,
@@ -170,7 +171,7 @@ impl<'a> CodeFn<'a> {
         ensures { result.now ≡ passes_in (slice_get self.now.body at) }
     {
         match self.noted(at) {
-            Some(noted) => passes_by(noted.op, noted.note),
+            Some(noted) => passes_by(noted.kind, noted.note),
             None => &[],
         }
     }
@@ -180,7 +181,7 @@ impl<'a> CodeFn<'a> {
         ensures { result.now ≡ protects_in (slice_get self.now.body at) }
     {
         match self.noted(at) {
-            Some(noted) => protects_by(noted.op, noted.note),
+            Some(noted) => protects_by(noted.kind, noted.note),
             None => &[],
         }
     }
@@ -190,7 +191,7 @@ impl<'a> CodeFn<'a> {
         ensures { result.now ≡ removes_in (slice_get self.now.body at) }
     {
         match self.noted(at) {
-            Some(noted) => removes_by(noted.op, noted.note),
+            Some(noted) => removes_by(noted.kind, noted.note),
             None => &[],
         }
     }
@@ -200,7 +201,7 @@ impl<'a> CodeFn<'a> {
         ensures { result.now ≡ otherwise_in (slice_get self.now.body at) }
     {
         match self.noted(at) {
-            Some(noted) => otherwise_by(noted.op, noted.note),
+            Some(noted) => otherwise_by(noted.kind, noted.note),
             None => &[],
         }
     }

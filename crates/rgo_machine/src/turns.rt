@@ -105,8 +105,8 @@ fn turn_of(happened: Happened) -> Turned
     }
 }
 
-/// A turn of at most one step.
-fn advance<M: Machine>(
+/// A turn of at most one step, as `turn` with 1 gives: quicker where the machine does not take the step at once.
+pub fn turn_once<M: Machine>(
     alloc: Global,
     machine: &M,
     state: &mut State<M::Frame>,
@@ -177,7 +177,7 @@ fn proceed<M: Machine>(
             stop: Stop::Spent,
         };
     }
-    let done = advance(alloc, machine, state, limits, g);
+    let done = turn_once(alloc, machine, state, limits, g);
     Turned {
         steps: steps + done.steps,
         stop: done.stop,

@@ -3,11 +3,11 @@
 ghost use Rattle.std.specs.Prelude.{◌≡◌, map, length, get_or, slice_get, ◌<◌, ◌^◌, IfOk, IfSome};
 ghost use Rattle.std.specs.Option.{option_map};
 ghost use Rattle.rgo_memory.specs.Values.{zero_of};
-ghost use Rattle.rgo_tac.specs.Ops.{operation_of, op_in, place_in};
+ghost use Rattle.rgo_tac.specs.Ops.{kind_of, operation_of, op_in, place_in};
 ghost use Rattle.rgo_tac.specs.Views.{body_of};
 
 use crate::code::{Body, Instr};
-use crate::ops::{Op, decode};
+use crate::ops::{Kind, Op, decode, instr_kind};
 use crate::widths::width_of_all;
 use rgo_ast::{Name, Place};
 use rgo_memory::{Value, zero};
@@ -147,6 +147,16 @@ impl TacFn {
     {
         match instr_at(self.body.instrs.items(), n) {
             Some(instr) => Some(decode(&self.body, instr)),
+            None => None,
+        }
+    }
+
+    /// The kind of the instruction of this number; `None` where there is none.
+    pub fn kind(&self, n: usize) -> Option<Kind>
+        ensures { result ≡ option_map kind_of (op_in (slice_get self.now.body n)) }
+    {
+        match instr_at(self.body.instrs.items(), n) {
+            Some(instr) => Some(instr_kind(instr)),
             None => None,
         }
     }

@@ -29,7 +29,7 @@ pub use flow::{ReadVariables, Targets, leads_to, reads, writes};
 pub use frames::Frame;
 pub use functions::TacFn;
 pub use machine::{TacMachine, start};
-pub use ops::{Op, Operands};
+pub use ops::{Kind, Op, Operands};
 pub use programs::Tac;
 pub use regions::{Class, Member, is_pointer_like, joins};
 pub use states::{TacState, tac_printed, tac_start, tac_step, tac_stuck};

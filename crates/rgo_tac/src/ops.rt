@@ -1,8 +1,9 @@
 //! Instructions by what they do: the compact ones, decoded.
 
-ghost use Rattle.std.specs.Prelude.{◌≡◌, [], length, get_or, slice_get, Some, None};
+ghost use Rattle.std.specs.Prelude.{◌≡◌, ℕ, List, [], length, get_or, slice_get, Some, None};
+ghost use Rattle.rgo_typed.specs.declared.statements.Piece as piece;
 ghost use Rattle.rgo_tac.specs.Code.{Do, Call};
-ghost use Rattle.rgo_tac.specs.Ops.{numbers_of, operation_of};
+ghost use Rattle.rgo_tac.specs.Ops.{kind_of, numbers_of, operation_of};
 ghost use Rattle.rgo_tac.specs.Views.{op_of, computing};
 
 use crate::code::{Body, Instr};
@@ -48,6 +49,16 @@ pub enum Op<'a> {
         other: u32,
     },
     Return(Option<u32>),
+}
+
+/// Instructions by what regions have to do with them.
+#[derive(Clone, Copy, Debug, PartialEq, Eq)]
+pub enum Kind {
+    Call,
+    Go,
+    Branch,
+    Return,
+    Other,
 }
 
 impl Operands {
@@ -181,5 +192,18 @@ pub fn decode(body: &Body, instr: Instr) -> Op<'_>
         },
         Instr::Return(a) => Op::Return(Some(a)),
         Instr::Leave => Op::Return(None),
+    }
+}
+
+/// The kind of an instruction, which its lists do not matter for.
+pub(crate) fn instr_kind(instr: Instr) -> Kind
+    ensures { (lists : List (List ℕ)) (pieces : List (List piece.Piece)) → result ≡ kind_of (op_of lists pieces instr) }
+{
+    match instr {
+        Instr::Call(_, _, _) | Instr::Invoke(_, _) => Kind::Call,
+        Instr::Go(_, _) => Kind::Go,
+        Instr::Branch(_, _, _) => Kind::Branch,
+        Instr::Return(_) | Instr::Leave => Kind::Return,
+        _ => Kind::Other,
     }
 }

@@ -13,7 +13,7 @@ ghost use Rattle.rgo_world.specs.Worlds.{plain_at};
 
 use crate::objects::{Making, next_object};
 use crate::worlds::{Next, World};
-use rgo_machine::{Limits, Stop, Turned, is_true, turn};
+use rgo_machine::{Limits, Stop, Turned, is_true, turn, turn_once};
 use rgo_tac::{Frame, Op};
 use std::alloc::{AllocError, Global};
 
@@ -61,14 +61,29 @@ fn without_regions(stop: Stop) -> Stop
 }
 
 impl<'a> World<'a> {
-    /// A goroutine does its next instruction on the three-address machine.
-    fn plain(&mut self, alloc: Global, limits: Limits, g: usize) -> Turned
+    /// A goroutine calls a function or returns, on the three-address machine, which takes such steps at once.
+    fn transfer(&mut self, alloc: Global, limits: Limits, g: usize) -> Turned
         requires running { self.old.state.ended ≡ None }
         requires within { is_within limits self.old.state ≡ true }
         ensures { TakesTurn self.old self.new limits g result }
     {
         let machine = self.machine();
         let turned = turn(alloc, &machine, &mut self.state, limits, g, 1);
+        self.steps = self.steps.saturating_add(turned.steps);
+        Turned {
+            steps: turned.steps,
+            stop: without_regions(turned.stop),
+        }
+    }
+
+    /// A goroutine does any other instruction on the three-address machine.
+    fn plain(&mut self, alloc: Global, limits: Limits, g: usize) -> Turned
+        requires running { self.old.state.ended ≡ None }
+        requires within { is_within limits self.old.state ≡ true }
+        ensures { TakesTurn self.old self.new limits g result }
+    {
+        let machine = self.machine();
+        let turned = turn_once(alloc, &machine, &mut self.state, limits, g);
         self.steps = self.steps.saturating_add(turned.steps);
         Turned {
             steps: turned.steps,
@@ -212,7 +227,7 @@ impl<'a> World<'a> {
         ensures takes { (s : RegionState) → Ready self.old s g → is_within limits (plain_at s self.old.state.printed) ≡ true
             → TakesStep self.old self.new limits s g 1 result }
     {
-        let turned = self.plain(alloc, limits, g);
+        let turned = self.transfer(alloc, limits, g);
         if !goes_on(turned) {
             return turned;
         }
@@ -273,7 +288,7 @@ impl<'a> World<'a> {
             → TakesStep self.old self.new limits s g 1 result }
     {
         let call = self.call_below(g);
-        let turned = self.plain(alloc, limits, g);
+        let turned = self.transfer(alloc, limits, g);
         if goes_on(turned) {
             self.come_back(g);
             match call {

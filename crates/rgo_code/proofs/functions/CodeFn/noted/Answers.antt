@@ -1,5 +1,4 @@
 use Rattle.std.proofs.Common.{◌∙◌, ap, sym, subst, get_or, slice_get}
-use Rattle.rgo_tac.specs.Ops.{operation_of}
 use Rattle.rgo_code.specs.Noted.{IsNoted, SaysNothing}
 use Rattle.rgo_code.specs.Views.{no_note}
 use Rattle.rgo_code.proofs.Parts.{note_found, no_note_found, no_instr_found}
@@ -8,10 +7,10 @@ use Rattle.rgo_code.proofs.functions.CodeFn.noted.Goals as goal
 pub returns-in-Some-note_at : goal.returns-in-Some-note_at
 returns-in-Some-note_at c =
     let own = c.self.inside in
-    let op = operation_of c.in-Some.op in
-    subst (λ f. IsNoted (slice_get f.body c.args.at) op c.in-Some-note_at.note.now) c.self.view_is
-    (note_found own.tac.now.body own.regions.now.notes c.args.at op c.in-Some-note_at.note.now
-    (sym c.in-Some.ensures.op)
+    let kind = c.in-Some.kind in
+    let note = c.in-Some-note_at.note.now in
+    subst (λ f. IsNoted (slice_get f.body c.args.at) kind note) c.self.view_is
+    (note_found own.tac.now.body own.regions.now.notes c.args.at kind note (sym c.in-Some.ensures)
     (ap (λ l. get_or l c.args.at no_note) (sym c.items.ensures) ∙ c.in-Some-note_at.ensures))
 
 pub returns-in-None-note_at : goal.returns-in-None-note_at
@@ -25,4 +24,4 @@ pub returns-in-None : goal.returns-in-None
 returns-in-None c =
     let own = c.self.inside in
     subst (λ f. SaysNothing (slice_get f.body c.args.at)) c.self.view_is
-    (no_instr_found own.tac.now.body own.regions.now.notes c.args.at (sym c.in-None.ensures.op))
+    (no_instr_found own.tac.now.body own.regions.now.notes c.args.at (sym c.in-None.ensures))

@@ -8,11 +8,11 @@ use Rattle.rgo_world.proofs.worlds.World.call.Goals as goal
 pub enter-requires : goal.enter-requires
 enter-requires c =
     let w = c.args.self.now in
-    let v = c.plain-turned.new.self in
+    let v = c.transfer-turned.new.self in
     record {
-      next = next_kept w v c.args.limits c.args.g c.plain-turned.result c.plain-turned.ensures c.args.next.now
+      next = next_kept w v c.args.limits c.args.g c.transfer-turned.result c.transfer-turned.ensures c.args.next.now
           c.requires.next;
-      prepared = prepared_kept w v c.args.limits c.args.g c.plain-turned.result c.plain-turned.ensures
+      prepared = prepared_kept w v c.args.limits c.args.g c.transfer-turned.result c.transfer-turned.ensures
           c.requires.ready.ready.works.prepared;
     }
 
@@ -23,8 +23,8 @@ returns-then-not-goes_on c =
     let next = c.args.next.now in
     record {
       takes = λ s ready within.
-          only_stays w c.plain-turned.new.self s c.args.limits g next c.plain-turned.result ready
-          (call_makes w g next c.args.callee c.requires.next c.requires.calls) c.plain-turned.ensures
+          only_stays w c.transfer-turned.new.self s c.args.limits g next c.transfer-turned.result ready
+          (call_makes w g next c.args.callee c.requires.next c.requires.calls) c.transfer-turned.ensures
           (sym c.goes_on.ensures ∙ c.if-not-goes_on.true);
     }
 
@@ -36,8 +36,8 @@ returns-in-Err c =
     record {
       takes = λ s ready within.
           subst (λ turned. TakesStep w c.enter.new.self c.args.limits s g 1 turned) (sym c.unless_failed.ensures)
-          (calling_fails w c.plain-turned.new.self s c.args.limits g next c.plain-turned.result ready
-          (call_makes w g next c.args.callee c.requires.next c.requires.calls) c.plain-turned.ensures
+          (calling_fails w c.transfer-turned.new.self s c.args.limits g next c.transfer-turned.result ready
+          (call_makes w g next c.args.callee c.requires.next c.requires.calls) c.transfer-turned.ensures
           (sym c.goes_on.ensures ∙ c.if-not-goes_on.false) c.args.callee c.requires.calls c.enter.new.self
           c.enter.ensures.same);
     }
@@ -49,8 +49,8 @@ returns c =
     let next = c.args.next.now in
     record {
       takes = λ s ready within.
-          calling_goes w c.plain-turned.new.self s c.args.limits g next c.plain-turned.result ready
-          (call_makes w g next c.args.callee c.requires.next c.requires.calls) c.plain-turned.ensures
+          calling_goes w c.transfer-turned.new.self s c.args.limits g next c.transfer-turned.result ready
+          (call_makes w g next c.args.callee c.requires.next c.requires.calls) c.transfer-turned.ensures
           (sym c.goes_on.ensures ∙ c.if-not-goes_on.false) c.args.callee c.requires.calls c.enter.new.self
           c.settle.new.self c.entry.result.now c.in-Ok.ensures.entered c.entry.ensures c.settle.ensures.settled;
     }

@@ -1,6 +1,6 @@
 use Rattle.std.proofs.Common.{◌∙◌, sym}
 use Rattle.rgo_machine.proofs.Advancing.{at_limit, stepped_so}
-use Rattle.rgo_machine.proofs.turns.advance.Goals as goal
+use Rattle.rgo_machine.proofs.turns.turn_once.Goals as goal
 
 pub returns-in-Some-limit_at : goal.returns-in-Some-limit_at
 returns-in-Some-limit_at g c =
