@@ -1,94 +1,175 @@
 -- The heap that contracts see, by the entries that it is made of.
 use Rattle.std.specs.Prelude.{Option, Some, None, slice_set, nat_eq, IsSome}
 use Rattle.std.specs.Borrow.{MutBor}
-use Rattle.std.specs.HashMap.{Updates, WritesThrough, get}
+use Rattle.std.specs.HashMap.{Updates, WritesThrough}
 use Rattle.std.specs.List.{range_with_len}
-use Rattle.std.specs.Option.{OnSome, option_copied_mut}
-use Rattle.std.proofs.Common.{◌≡◌, ℕ, ◌+◌, ◌<◌, ◌≤◌, ◌⊎◌, inl, inr, List, [], ◌∷◌, ◌++◌, map, length, get_or, refl, ap, sym, ◌∙◌, subst, arith}
+use Rattle.std.specs.Option.{OnSome}
+use Rattle.std.proofs.Common.{◌≡◌, ℕ, ◌+◌, ◌/◌, ◌%◌, ◌<◌, ◌≤◌, false, ◌⊎◌, inl, inr, List, [], ◌∷◌, ◌++◌, map, length, get_or, refl, ap, sym, ◌∙◌, subst, arith}
 use Rattle.std.proofs.lemmas.Bool.{cases_eq, ne_eqb}
 use Rattle.std.proofs.lemmas.List.{get_or-set_other, get_or_past, length-set, set_past}
 use Rattle.std.proofs.lemmas.Grind.{get_or-set_at}
 use Rattle.std.proofs.lemmas.List.FromFn.{length-map-range_with_len, get_or-map-range_with_len, map-range_with_len_more, fill_by_all}
 use Rattle.rgo_memory.specs.declared.objects.Object.{Object as CodeObject}
+use Rattle.rgo_memory.specs.declared.blocks.Block.{Block}
 use Rattle.rgo_memory.specs.declared.memory.Memory.{Memory as CodeMemory}
 use Rattle.rgo_memory.specs.declared.values.Value.TheVariants as value
 use Rattle.rgo_memory.specs.Effects.{Effect, Does}
 use Rattle.rgo_memory.specs.Making.{made}
-use Rattle.rgo_memory.specs.Memory.{Object, StructObject, with_object, object_at}
-use Rattle.rgo_memory.specs.Views.{object_of, object_in, entry_of, memory_of}
+use Rattle.rgo_memory.specs.Memory.{Object, StructObject, Memory, with_object, object_at, emptied}
+use Rattle.rgo_memory.specs.Blocks.{slot_of, slot_in, Puts, PutsIn}
+use Rattle.rgo_memory.specs.Views.{object_of, object_in, block_of, entry_of, memory_of}
 
 -- ---- lists by a function of the index
 
-module _ {X : Type 0} (f g : ℕ → X) (n k : ℕ) (x : X) (here : g k ≡ x)
-    (others : (q : ℕ) → (q ≡ k → ⊥) → g q ≡ f q) where
+module _ {X : Type 0} (f g : ℕ → X) (n : ℕ) where
   abbrev old_list : List X
   old_list = map f (range_with_len 0 n)
 
   length_old : length old_list ≡ n
   length_old = length-map-range_with_len f 0 n
 
-  is_set : (q : ℕ) → q < n → (q ≡ k) ⊎ (q ≡ k → ⊥) → get_or (slice_set old_list k x) q x ≡ g q
-  is_set q lt (inl e) = get_or-set_at old_list k q x x e (rw (length_old, sym e) lt) ∙ sym here ∙ ap g (sym e)
-  is_set q lt (inr differ) =
-      get_or-set_other old_list k q x x differ
-      ∙ get_or-map-range_with_len f 0 n q q x lt (omega arith)
-      ∙ sym (others q differ)
+  module _ (k : ℕ) (x : X) (here : g k ≡ x) (others : (q : ℕ) → q < n → (q ≡ k → ⊥) → g q ≡ f q) where
+    is_set : (q : ℕ) → q < n → (q ≡ k) ⊎ (q ≡ k → ⊥) → get_or (slice_set old_list k x) q x ≡ g q
+    is_set q lt (inl e) = get_or-set_at old_list k q x x e (rw (length_old, sym e) lt) ∙ sym here ∙ ap g (sym e)
+    is_set q lt (inr differ) =
+        get_or-set_other old_list k q x x differ
+        ∙ get_or-map-range_with_len f 0 n q q x lt (omega arith)
+        ∙ sym (others q lt differ)
 
-  -- with another value at one index
-  pub set_one : map g (range_with_len 0 n) ≡ slice_set old_list k x
-  set_one = sym (fill_by_all g (slice_set old_list k x) n x
-      (length-set old_list k x ∙ length_old)
-      (λ q lt. is_set q lt (cases_eq q k)))
+    -- with another value at one index
+    pub set_one : map g (range_with_len 0 n) ≡ slice_set old_list k x
+    set_one = sym (fill_by_all g (slice_set old_list k x) n x
+        (length-set old_list k x ∙ length_old)
+        (λ q lt. is_set q lt (cases_eq q k)))
 
-  -- with one value more
-  pub one_more : k ≡ n → map g (range_with_len 0 (n + 1)) ≡ old_list ++ x ∷ []
-  one_more last =
-      map-range_with_len_more g 0 n n (omega arith)
-      ∙ ap (λ l. l ++ g n ∷ []) (set_one ∙ set_past old_list k x (rw length_old (omega (arith, last))))
-      ∙ ap (λ y. old_list ++ y ∷ []) (ap g (sym last) ∙ here)
+  module _ (same : (q : ℕ) → q < n → g q ≡ f q) where
+    -- with the same values
+    pub all_same : map g (range_with_len 0 n) ≡ old_list
+    all_same =
+        set_one n (g n) refl (λ q lt differ. same q lt) ∙ set_past old_list n (g n) (rw length_old (omega arith))
+
+    -- with one value more
+    pub one_more : map g (range_with_len 0 (n + 1)) ≡ old_list ++ g n ∷ []
+    one_more = map-range_with_len_more g 0 n n (omega arith) ∙ ap (λ l. l ++ g n ∷ []) all_same
 
 -- ---- the heap
 
 pub length_of_heap : (m : CodeMemory) → length (memory_of m).heap ≡ m.made
 length_of_heap m = length-map-range_with_len (entry_of m) 0 m.made
 
-pub read_entry : (m : CodeMemory) (n : ℕ) → n < m.made → object_at (memory_of m) n ≡ entry_of m n
+read_entry : (m : CodeMemory) (n : ℕ) → n < m.made → object_at (memory_of m) n ≡ entry_of m n
 read_entry m n within =
     get_or-map-range_with_len (entry_of m) 0 m.made n n (StructObject []) within (omega arith)
+
+pub read_slot : (m : CodeMemory) (n : ℕ) (found : Option Block) → found ≡ block_of m (n / 64) → n < m.made
+    → object_at (memory_of m) n ≡ object_in (slot_in found (n % 64))
+read_slot m n found is within = read_entry m n within ∙ ap (λ b. object_in (slot_in b (n % 64))) (sym is)
 
 pub read_past : (m : CodeMemory) (n : ℕ) → m.made ≤ n → object_at (memory_of m) n ≡ StructObject []
 read_past m n past = get_or_past (memory_of m).heap n (StructObject []) (rw (length_of_heap m) past)
 
--- an entry is another one, or none
-module _ (m : CodeMemory) (objects : _) (k : ℕ) (w : Option CodeObject)
-    (updates : Updates nat_eq m.objects objects k w) where
-  abbrev new : CodeMemory
-  new = record m { objects = objects }
+module _ (m new : CodeMemory) (variables : new.variables ≡ m.variables) where
+  shown : {n : ℕ} {heap : List Object} → new.made ≡ n → map (entry_of new) (range_with_len 0 n) ≡ heap
+      → memory_of new ≡ record (memory_of m) { heap = heap }
+  shown {heap = heap} made same =
+      ap (λ n. record (memory_of new) { heap = map (entry_of new) (range_with_len 0 n) }) made
+      ∙ ap (λ l. record (memory_of new) { heap = l }) same
+      ∙ ap (λ (v : _). record (memory_of m) { heap = heap; variables = v.items }) variables
 
-  here : entry_of new k ≡ object_in w
-  here = ap object_in updates.1
+  -- the objects that were there are the same
+  module _ (kept : (q : ℕ) → q < m.made → entry_of new q ≡ entry_of m q) where
+    pub unchanged : new.made ≡ m.made → memory_of new ≡ memory_of m
+    unchanged made = shown made (all_same (entry_of m) (entry_of new) m.made kept)
 
-  others : (q : ℕ) → (q ≡ k → ⊥) → entry_of new q ≡ entry_of m q
-  others q differ = ap object_in (updates.2 q (ne_eqb k q (λ e. differ (sym e))))
+    -- and there is one more
+    pub grown : new.made ≡ m.made + 1 → (object : CodeObject) → entry_of new m.made ≡ object_of object
+        → made (memory_of m) (object_of object) ≡ Does (memory_of new) (value.Object m.made)
+    grown more object here =
+        let effect : Memory → ℕ → Effect = λ memory n. Does memory (value.Object n) in
+        ap (effect _) (length_of_heap m)
+        ∙ ap (λ memory. effect memory m.made) (sym (shown more
+        (one_more (entry_of m) (entry_of new) m.made kept ∙ ap (λ y. (memory_of m).heap ++ y ∷ []) here)))
 
-  pub written : memory_of new ≡ with_object (memory_of m) k (object_in w)
-  written = ap (λ heap. record { heap = heap; variables = m.variables.items })
-      (set_one (entry_of m) (entry_of new) m.made k (object_in w) here others)
+-- ---- blocks
 
-  -- there is one more object
-  pub grown : (more : ℕ) → k ≡ m.made → more ≡ m.made + 1
-      → made (memory_of m) (object_in w) ≡ Does (memory_of (record new { made = more })) (value.Object m.made)
-  grown more last is =
-      let effect : List Object → ℕ → Effect =
-      λ heap n. Does (record { heap = heap; variables = m.variables.items }) (value.Object n) in
-      ap (effect _) (length_of_heap m)
-      ∙ ap (λ heap. effect heap m.made)
-      (sym (one_more (entry_of m) (entry_of new) m.made k (object_in w) here others last)
-      ∙ ap (λ n. map (entry_of new) (range_with_len 0 n)) (sym is))
+-- the numbers of one slot of one block are one
+same_number : (n q : ℕ) → q / 64 ≡ n / 64 → q % 64 ≡ n % 64 → q ≡ n
+same_number n q block slot = omega arith
 
--- an entry was lent to be changed
-pub lent : (found : Option (MutBor CodeObject)) (m : CodeMemory) (objects : _) (k : ℕ) (w : CodeObject)
-    → option_copied_mut found ≡ get nat_eq m.objects k → WritesThrough nat_eq (nat_eq k) m.objects w objects
-    → OnSome found (memory_of (record m { objects = objects }) ≡ with_object (memory_of m) k (object_of w))
-lent None m objects k w is writes = tt
-lent (Some r) m objects k w is writes = written m objects k (Some w) (writes.3 (subst IsSome is refl))
+before_it : (n q : ℕ) → q < n → q / 64 ≡ n / 64 → q % 64 < n % 64
+before_it n q before block = omega arith
+
+-- the block of a number is another one, or none; the other blocks are what they were
+module _ (m new : CodeMemory) (made : new.made ≡ m.made) (variables : new.variables ≡ m.variables) (n : ℕ)
+    (found after : Option Block) (was : block_of m (n / 64) ≡ found) (is : block_of new (n / 64) ≡ after)
+    (others : (b : ℕ) → nat_eq (n / 64) b ≡ false → block_of new b ≡ block_of m b) where
+  in_block : (q : ℕ) → q / 64 ≡ n / 64 → entry_of new q ≡ object_in (slot_in after (q % 64))
+  in_block q e = ap (λ b. object_in (slot_in b (q % 64))) (ap (block_of new) e ∙ is)
+
+  was_in_block : (q : ℕ) → q / 64 ≡ n / 64 → entry_of m q ≡ object_in (slot_in found (q % 64))
+  was_in_block q e = ap (λ b. object_in (slot_in b (q % 64))) (ap (block_of m) e ∙ was)
+
+  elsewhere : (q : ℕ) → (q / 64 ≡ n / 64 → ⊥) → entry_of new q ≡ entry_of m q
+  elsewhere q differ =
+      ap (λ b. object_in (slot_in b (q % 64))) (others (q / 64) (ne_eqb (n / 64) (q / 64) (λ e. differ (sym e))))
+
+  same_entry : (q : ℕ) → (q / 64 ≡ n / 64) ⊎ (q / 64 ≡ n / 64 → ⊥)
+      → (q / 64 ≡ n / 64 → slot_in after (q % 64) ≡ slot_in found (q % 64)) → entry_of new q ≡ entry_of m q
+  same_entry q (inl e) slot = in_block q e ∙ ap object_in (slot e) ∙ sym (was_in_block q e)
+  same_entry q (inr differ) slot = elsewhere q differ
+
+  entry_by : (q : ℕ) → (q / 64 ≡ n / 64 → slot_in after (q % 64) ≡ slot_in found (q % 64)) → entry_of new q ≡ entry_of m q
+  entry_by q = same_entry q (cases_eq (q / 64) (n / 64))
+
+  -- the slots before that of the number are what they were
+  pub kept_before : ((k : ℕ) → k < n % 64 → slot_in after k ≡ slot_in found k)
+      → (q : ℕ) → q < n → entry_of new q ≡ entry_of m q
+  kept_before slots q before = entry_by q (λ e. slots (q % 64) (before_it n q before e))
+
+  -- all slots are what they were
+  all_kept : ((k : ℕ) → slot_in after k ≡ slot_in found k) → memory_of new ≡ memory_of m
+  all_kept slots = unchanged m new variables (λ q within. entry_by q (λ e. slots (q % 64))) made
+
+  -- all other slots are what they were
+  written : (w : Option CodeObject) → PutsIn found (n % 64) w after
+      → memory_of new ≡ with_object (memory_of m) n (object_in w)
+  written w puts =
+      shown m new variables made
+      (set_one (entry_of m) (entry_of new) m.made n (object_in w) (in_block n refl ∙ ap object_in puts.0)
+      (λ q within differ. entry_by q (λ e. puts.1 (q % 64) (λ slot. differ (same_number n q e slot)))))
+
+-- the block of that number was lent to be changed
+module _ (m : CodeMemory) (blocks : _) (n : ℕ) (block after : Block) (was : Some block ≡ block_of m (n / 64))
+    (writes : WritesThrough nat_eq (nat_eq (n / 64)) m.blocks after blocks) where
+  updates : Updates nat_eq m.blocks blocks (n / 64) (Some after)
+  updates = writes.3 (subst IsSome was refl)
+
+  abbrev changed : CodeMemory
+  changed = record m { blocks = blocks }
+
+  -- and of it the object of that slot
+  pub lent : (found : Option (MutBor CodeObject)) (w : CodeObject) → OnSome found (Puts block (n % 64) (Some w) after)
+      → OnSome found (memory_of changed ≡ with_object (memory_of m) n (object_of w))
+  lent None w puts = tt
+  lent (Some r) w puts = written m changed refl refl n (Some block) (Some after) (sym was) updates.1 updates.2 (Some w) puts
+
+  -- and none of its objects
+  pub not_lent : after.slots.items ≡ block.slots.items → memory_of changed ≡ memory_of m
+  not_lent same =
+      all_kept m changed refl refl n (Some block) (Some after) (sym was) updates.1 updates.2
+      (λ k. ap (λ slots. get_or slots k None) same)
+
+  -- and the object of that slot was taken away
+  pub cleared : Puts block (n % 64) None after → memory_of changed ≡ emptied (memory_of m) n
+  cleared puts = written m changed refl refl n (Some block) (Some after) (sym was) updates.1 updates.2 None puts
+
+  -- the same where no object was left in the block, and it was removed
+  pub removed : (rest : _) → Updates nat_eq blocks rest (n / 64) None → ((k : ℕ) → slot_of after k ≡ None)
+      → Puts block (n % 64) None after → memory_of (record m { blocks = rest }) ≡ emptied (memory_of m) n
+  removed rest removes empty puts =
+      written m (record m { blocks = rest }) refl refl n (Some block) None (sym was) removes.1 (λ b differ. removes.2 b differ ∙ updates.2 b differ)
+      None (refl, λ k differ. sym (empty k) ∙ puts.1 k differ)
+
+pub nothing_there : (m : CodeMemory) (n : ℕ) → None ≡ block_of m (n / 64) → memory_of m ≡ emptied (memory_of m) n
+nothing_there m n was =
+    written m m refl refl n None None (sym was) (sym was) (λ b differ. refl) None (refl, λ k differ. refl)

@@ -1,10 +1,13 @@
--- What becomes of the memory when one of its objects is lent to be changed.
-use Rattle.std.specs.Prelude.{◌≡◌, ℕ, Option, OnSome}
+-- What becomes of the memory, or of a block of it, when one of its objects is lent to be changed.
+use Rattle.std.specs.Prelude.{◌≡◌, ℕ, Option, Some, OnSome}
 use Rattle.std.specs.Borrow.{Fml, MutBor, LendsSo}
+use Rattle.rgo_memory.specs.declared.blocks.Block.{Block}
 use Rattle.rgo_memory.specs.declared.memory.Memory.{Memory}
 use Rattle.rgo_memory.specs.declared.objects.Object.{Object}
+use Rattle.rgo_memory.specs.contracts.blocks.Block as block
 use Rattle.rgo_memory.specs.contracts.memory.Memory as memory
 use Rattle.rgo_memory.specs.contracts.objects.Object as object
+use Rattle.rgo_memory.specs.Blocks.{Puts}
 use Rattle.rgo_memory.specs.Memory.{with_object}
 use Rattle.rgo_memory.specs.Views.{object_of, memory_of}
 
@@ -13,3 +16,9 @@ abbrev pub LendsObject : MutBor Memory → ℕ → Option (MutBor Object) → Fm
 LendsObject m n lent = LendsSo memory.the_row object.the_row m lent
     (λ after object. OnSome lent (memory_of after ≡ with_object (memory_of m.now) n (object_of object)))
     (λ after. memory_of after ≡ memory_of m.now)
+
+-- the block ends with the object that was written last in that slot; unchanged where none was lent
+abbrev pub LendsSlot : MutBor Block → ℕ → Option (MutBor Object) → Fml
+LendsSlot b slot lent = LendsSo block.the_row object.the_row b lent
+    (λ after object. OnSome lent (Puts b.now slot (Some object) after))
+    (λ after. after.slots.items ≡ b.now.slots.items)

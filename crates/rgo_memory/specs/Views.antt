@@ -1,6 +1,6 @@
 -- The views: of the code's objects and memory, the plain data that contracts say of them, and what an answer
 -- of the code says of a definition's.
-use Rattle.std.specs.Prelude.{◌≡◌, ℕ, [], map, Option, Some, None, Result, Ok, Err, nat_eq}
+use Rattle.std.specs.Prelude.{◌≡◌, ℕ, ◌/◌, ◌%◌, [], map, Option, Some, None, Result, Ok, Err, nat_eq}
 use Rattle.std.specs.HashMap.{get}
 use Rattle.std.specs.List.{range_with_len}
 use Rattle.std.specs.declared.alloc.AllocError.{AllocError}
@@ -8,9 +8,11 @@ use Rattle.rgo_memory.specs.declared.values.Value.{Value}
 use Rattle.rgo_memory.specs.declared.traps.Trap.{Trap}
 use Rattle.rgo_memory.specs.declared.objects.Object.{Object as CodeObject}
 use Rattle.rgo_memory.specs.declared.objects.Object.TheVariants as code
+use Rattle.rgo_memory.specs.declared.blocks.Block.{Block}
 use Rattle.rgo_memory.specs.declared.memory.Memory.{Memory as CodeMemory}
 use Rattle.rgo_memory.specs.declared.effects.Effect.{Effect as CodeEffect}
 use Rattle.rgo_memory.specs.declared.effects.Effect.TheVariants as effect
+use Rattle.rgo_memory.specs.Blocks.{slot_in}
 use Rattle.rgo_memory.specs.Memory.{Object, StructObject, SliceObject, Channel, Memory}
 use Rattle.rgo_memory.specs.Effects.{Outcome, Does, Traps}
 
@@ -24,9 +26,13 @@ abbrev pub object_in : Option CodeObject → Object
 object_in (Some object) = object_of object
 object_in None = StructObject []
 
--- the entry of that number, as an object
+-- the block of that number
+abbrev pub block_of : CodeMemory → ℕ → Option Block
+block_of m b = get nat_eq m.blocks b
+
+-- the entry of that number, as an object: a slot of its block
 abbrev pub entry_of : CodeMemory → ℕ → Object
-entry_of m n = object_in (get nat_eq m.objects n)
+entry_of m n = object_in (slot_in (block_of m (n / 64)) (n % 64))
 
 -- the objects that were made, in the order of making; entries of other numbers are not seen
 abbrev pub memory_of : CodeMemory → Memory

@@ -2,6 +2,7 @@
 #![tactic(auto)]
 
 mod actions;
+mod blocks;
 mod channels;
 mod effects;
 mod elements;

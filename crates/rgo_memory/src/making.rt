@@ -1,11 +1,12 @@
 //! New objects (The Go Programming Language Specification, "Composite literals", "Making slices,
 //! maps and channels").
 
-ghost use Rattle.std.specs.Prelude.{◌≡◌, map, IfOk};
+ghost use Rattle.std.specs.Prelude.{◌≡◌, ◌<◌, ℕ, map, IfOk, OnOk};
 ghost use Rattle.rgo_memory.specs.Values.{zero_of};
 ghost use Rattle.rgo_memory.specs.Making.{made, new_struct, new_slice, new_channel};
-ghost use Rattle.rgo_memory.specs.Views.{Performs, object_of, memory_of};
+ghost use Rattle.rgo_memory.specs.Views.{Performs, object_of, entry_of, memory_of};
 
+use crate::blocks::{Block, SLOTS};
 use crate::effects::Effect;
 use crate::memory::Memory;
 use crate::objects::{Channel, Object};
@@ -15,7 +16,29 @@ use rgo_typed::{Struct, Type};
 use std::alloc::{AllocError, Global};
 use std::collections::VecDeque;
 
-fn make(memory: &mut Memory, object: Object) -> Result<Effect, AllocError>
+/// An object in the slot of the next number.
+fn put(alloc: Global, memory: &mut Memory, object: Object) -> Result<(), AllocError>
+    ensures put { OnOk result (entry_of memory.new memory.old.made ≡ object_of object) }
+    ensures kept { (n : ℕ) → n < memory.old.made → entry_of memory.new n ≡ entry_of memory.old n }
+    ensures made { memory.new.made ≡ memory.old.made }
+    ensures variables { memory.new.variables ≡ memory.old.variables }
+{
+    let number = memory.made / SLOTS;
+    let slot = memory.made % SLOTS;
+    match memory.blocks.get_mut(&number) {
+        Some(block) => block.put(slot, object),
+        None => {
+            let mut block = Block::new(alloc)?;
+            block.put(slot, object)?;
+            match memory.blocks.insert(number, block) {
+                Ok(_) => Ok(()),
+                Err(_) => Err(AllocError),
+            }
+        }
+    }
+}
+
+fn make(alloc: Global, memory: &mut Memory, object: Object) -> Result<Effect, AllocError>
     ensures { Performs result (memory_of memory.old) (memory_of memory.new)
         (made (memory_of memory.old) (object_of object)) }
 {
@@ -23,13 +46,9 @@ fn make(memory: &mut Memory, object: Object) -> Result<Effect, AllocError>
     let Some(more) = number.checked_add(1) else {
         return Err(AllocError);
     };
-    match memory.objects.insert(number, object) {
-        Ok(_) => {
-            memory.made = more;
-            Ok(Effect::Gives(Value::Object(number)))
-        }
-        Err(_) => Err(AllocError),
-    }
+    put(alloc, memory, object)?;
+    memory.made = more;
+    Ok(Effect::Gives(Value::Object(number)))
 }
 
 fn zero_fields(alloc: Global, types: &[Type]) -> Result<Vec<Value>, AllocError>
@@ -52,7 +71,7 @@ pub(crate) fn new_struct(
         return Ok(Effect::Gives(Value::Nil));
     };
     let cells = zero_fields(alloc, of.fields.items())?;
-    make(memory, Object::Struct(cells))
+    make(alloc, memory, Object::Struct(cells))
 }
 
 /// A slice of this length, each element at its zero.
@@ -72,7 +91,7 @@ pub(crate) fn new_slice(
         return Ok(Effect::Traps(Trap::BadSize));
     }
     let cells = vec![in alloc; element_zero(ty); len as usize]?;
-    make(memory, Object::Slice(cells))
+    make(alloc, memory, Object::Slice(cells))
 }
 
 /// A channel of this capacity. Memory for what is sent is taken as it is sent.
@@ -95,5 +114,5 @@ pub(crate) fn new_channel(
         queue: VecDeque::new(alloc),
         closed: false,
     };
-    make(memory, Object::Channel(channel))
+    make(alloc, memory, Object::Channel(channel))
 }

@@ -9,6 +9,7 @@ ghost use Rattle.rgo_memory.specs.Memory.{emptied, object_at};
 ghost use Rattle.rgo_memory.specs.Lending.{LendsObject};
 ghost use Rattle.rgo_memory.specs.Views.{memory_of, object_in};
 
+use crate::blocks::{Block, SLOTS};
 use crate::objects::Object;
 use crate::values::{Value, zero};
 use rgo_typed::Variable;
@@ -16,13 +17,17 @@ use std::alloc::{AllocError, Global};
 use std::collections::HashMap;
 
 /// The objects that were made, each by its number in the order of making, and the package
-/// variables. An object can be taken away: then it takes no memory, and reads as a struct without
-/// fields.
+/// variables. An object can be taken away: then what it held is given back, and it reads as a struct
+/// without fields.
 #[derive(Drop)]
 pub struct Memory {
-    pub(crate) objects: HashMap<usize, Object>,
+    /// The objects, by blocks of consecutive numbers. A block without objects is not kept.
+    pub(crate) blocks: HashMap<usize, Block>,
     pub(crate) made: usize,
     pub variables: Vec<Value>,
+    /// Lists that frames no longer need: new frames take their variables from here, so that a call
+    /// allocates nothing. What they hold is not part of the memory.
+    pub spare: Vec<Vec<Value>>,
 }
 
 fn zero_variables(alloc: Global, variables: &[Variable]) -> Result<Vec<Value>, AllocError>
@@ -42,9 +47,10 @@ impl Memory {
         ensures { IfOk result (λ memory. memory_of memory ≡ opening variables.now) }
     {
         Ok(Memory {
-            objects: HashMap::new(alloc),
+            blocks: HashMap::new(alloc),
             made: 0,
             variables: zero_variables(alloc, variables)?,
+            spare: Vec::new(alloc),
         })
     }
 
@@ -61,7 +67,14 @@ impl Memory {
     pub fn take_away(&mut self, n: usize)
         ensures { memory_of self.new ≡ emptied (memory_of self.old) n }
     {
-        self.objects.remove(&n);
+        let number = n / SLOTS;
+        let Some(block) = self.blocks.get_mut(&number) else {
+            return;
+        };
+        block.clear(n % SLOTS);
+        if block.is_empty() {
+            self.blocks.remove(&number);
+        }
     }
 
     /// The object of a number, `None` where it was taken away or never made.
@@ -70,7 +83,10 @@ impl Memory {
         ensures { object_at (memory_of self.now) n ≡ object_in (option_copied result) }
     {
         if n < self.made {
-            self.objects.get(&n)
+            match self.blocks.get(&(n / SLOTS)) {
+                Some(block) => block.get(n % SLOTS),
+                None => None,
+            }
         } else {
             None
         }
@@ -83,7 +99,10 @@ impl Memory {
         ensures value { object_at (memory_of self.old) n ≡ object_in (option_copied_mut result) }
     {
         if n < self.made {
-            self.objects.get_mut(&n)
+            match self.blocks.get_mut(&(n / SLOTS)) {
+                Some(block) => block.get_mut(n % SLOTS),
+                None => None,
+            }
         } else {
             None
         }

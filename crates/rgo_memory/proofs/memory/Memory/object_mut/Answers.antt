@@ -1,21 +1,29 @@
 use Rattle.std.proofs.Common.{refl, ap, sym, ◌∙◌}
 use Rattle.rgo_memory.specs.Views.{object_in, memory_of}
-use Rattle.rgo_memory.proofs.Heap.{read_entry, read_past, lent}
+use Rattle.rgo_memory.proofs.Heap.{read_slot, read_past, lent, not_lent}
 use Rattle.rgo_memory.proofs.memory.Memory.object_mut.Goals as goal
 
-pub returns-then-n-self : goal.returns-then-n-self
-returns-then-n-self c =
+pub returns-in-Some : goal.returns-in-Some
+returns-in-Some c =
     let m = c.args.self.now in
-    let found = c.get_mut.ensures.value in (
+    let found = c.in-Some.ensures.value in
+    let block = c.get_mut-in-Some in (
       (
         refl,
-        λ w. lent c.get_mut.result m _ c.args.n w found (c.get_mut.follows.holds w),
-        ap (λ objects. memory_of (record m { objects = objects })) c.get_mut.follows.holds-at-none,
+        λ w. lent m _ c.args.n _ _ found (c.get_mut.follows.holds (block.follows.lender w)) block.result w (block.follows.holds w),
+        not_lent m _ c.args.n _ _ found (c.get_mut.follows.holds block.follows.lender-at-none) block.follows.holds-at-none,
       ),
       record {
         writes_back = tt;
-        value = read_entry m c.args.n c.if-n-self.true ∙ ap object_in (sym found);
+        value = read_slot m c.args.n _ found c.if-n-self.true ∙ ap object_in (sym block.ensures.value);
       },
+    )
+
+pub returns-in-None : goal.returns-in-None
+returns-in-None c =
+    let m = c.args.self.now in (
+      (refl, λ w. tt, ap (λ blocks. memory_of (record m { blocks = blocks })) c.get_mut.follows.holds-at-none),
+      record { writes_back = tt; value = read_slot m c.args.n _ c.in-None.ensures.value c.if-n-self.true },
     )
 
 pub returns-else-n-self : goal.returns-else-n-self
