@@ -61,9 +61,9 @@ read_entry : (m : CodeMemory) (n : ℕ) → n < m.made → object_at (memory_of 
 read_entry m n within =
     get_or-map-range_with_len (entry_of m) 0 m.made n n (StructObject []) within (omega arith)
 
-pub read_slot : (m : CodeMemory) (n : ℕ) (found : Option Block) → found ≡ block_of m (n / 64) → n < m.made
-    → object_at (memory_of m) n ≡ object_in (slot_in found (n % 64))
-read_slot m n found is within = read_entry m n within ∙ ap (λ b. object_in (slot_in b (n % 64))) (sym is)
+pub read_slot : (m : CodeMemory) (n : ℕ) (found : Option Block) → found ≡ block_of m (n / 16) → n < m.made
+    → object_at (memory_of m) n ≡ object_in (slot_in found (n % 16))
+read_slot m n found is within = read_entry m n within ∙ ap (λ b. object_in (slot_in b (n % 16))) (sym is)
 
 pub read_past : (m : CodeMemory) (n : ℕ) → m.made ≤ n → object_at (memory_of m) n ≡ StructObject []
 read_past m n past = get_or_past (memory_of m).heap n (StructObject []) (rw (length_of_heap m) past)
@@ -93,62 +93,62 @@ module _ (m new : CodeMemory) (variables : new.variables ≡ m.variables) where
 -- ---- blocks
 
 -- the numbers of one slot of one block are one
-same_number : (n q : ℕ) → q / 64 ≡ n / 64 → q % 64 ≡ n % 64 → q ≡ n
+same_number : (n q : ℕ) → q / 16 ≡ n / 16 → q % 16 ≡ n % 16 → q ≡ n
 same_number n q block slot = omega arith
 
-before_it : (n q : ℕ) → q < n → q / 64 ≡ n / 64 → q % 64 < n % 64
+before_it : (n q : ℕ) → q < n → q / 16 ≡ n / 16 → q % 16 < n % 16
 before_it n q before block = omega arith
 
 -- the block of a number is another one, or none; the other blocks are what they were
 module _ (m new : CodeMemory) (made : new.made ≡ m.made) (variables : new.variables ≡ m.variables) (n : ℕ)
-    (found after : Option Block) (was : block_of m (n / 64) ≡ found) (is : block_of new (n / 64) ≡ after)
-    (others : (b : ℕ) → nat_eq (n / 64) b ≡ false → block_of new b ≡ block_of m b) where
-  in_block : (q : ℕ) → q / 64 ≡ n / 64 → entry_of new q ≡ object_in (slot_in after (q % 64))
-  in_block q e = ap (λ b. object_in (slot_in b (q % 64))) (ap (block_of new) e ∙ is)
+    (found after : Option Block) (was : block_of m (n / 16) ≡ found) (is : block_of new (n / 16) ≡ after)
+    (others : (b : ℕ) → nat_eq (n / 16) b ≡ false → block_of new b ≡ block_of m b) where
+  in_block : (q : ℕ) → q / 16 ≡ n / 16 → entry_of new q ≡ object_in (slot_in after (q % 16))
+  in_block q e = ap (λ b. object_in (slot_in b (q % 16))) (ap (block_of new) e ∙ is)
 
-  was_in_block : (q : ℕ) → q / 64 ≡ n / 64 → entry_of m q ≡ object_in (slot_in found (q % 64))
-  was_in_block q e = ap (λ b. object_in (slot_in b (q % 64))) (ap (block_of m) e ∙ was)
+  was_in_block : (q : ℕ) → q / 16 ≡ n / 16 → entry_of m q ≡ object_in (slot_in found (q % 16))
+  was_in_block q e = ap (λ b. object_in (slot_in b (q % 16))) (ap (block_of m) e ∙ was)
 
-  elsewhere : (q : ℕ) → (q / 64 ≡ n / 64 → ⊥) → entry_of new q ≡ entry_of m q
+  elsewhere : (q : ℕ) → (q / 16 ≡ n / 16 → ⊥) → entry_of new q ≡ entry_of m q
   elsewhere q differ =
-      ap (λ b. object_in (slot_in b (q % 64))) (others (q / 64) (ne_eqb (n / 64) (q / 64) (λ e. differ (sym e))))
+      ap (λ b. object_in (slot_in b (q % 16))) (others (q / 16) (ne_eqb (n / 16) (q / 16) (λ e. differ (sym e))))
 
-  same_entry : (q : ℕ) → (q / 64 ≡ n / 64) ⊎ (q / 64 ≡ n / 64 → ⊥)
-      → (q / 64 ≡ n / 64 → slot_in after (q % 64) ≡ slot_in found (q % 64)) → entry_of new q ≡ entry_of m q
+  same_entry : (q : ℕ) → (q / 16 ≡ n / 16) ⊎ (q / 16 ≡ n / 16 → ⊥)
+      → (q / 16 ≡ n / 16 → slot_in after (q % 16) ≡ slot_in found (q % 16)) → entry_of new q ≡ entry_of m q
   same_entry q (inl e) slot = in_block q e ∙ ap object_in (slot e) ∙ sym (was_in_block q e)
   same_entry q (inr differ) slot = elsewhere q differ
 
-  entry_by : (q : ℕ) → (q / 64 ≡ n / 64 → slot_in after (q % 64) ≡ slot_in found (q % 64)) → entry_of new q ≡ entry_of m q
-  entry_by q = same_entry q (cases_eq (q / 64) (n / 64))
+  entry_by : (q : ℕ) → (q / 16 ≡ n / 16 → slot_in after (q % 16) ≡ slot_in found (q % 16)) → entry_of new q ≡ entry_of m q
+  entry_by q = same_entry q (cases_eq (q / 16) (n / 16))
 
   -- the slots before that of the number are what they were
-  pub kept_before : ((k : ℕ) → k < n % 64 → slot_in after k ≡ slot_in found k)
+  pub kept_before : ((k : ℕ) → k < n % 16 → slot_in after k ≡ slot_in found k)
       → (q : ℕ) → q < n → entry_of new q ≡ entry_of m q
-  kept_before slots q before = entry_by q (λ e. slots (q % 64) (before_it n q before e))
+  kept_before slots q before = entry_by q (λ e. slots (q % 16) (before_it n q before e))
 
   -- all slots are what they were
   all_kept : ((k : ℕ) → slot_in after k ≡ slot_in found k) → memory_of new ≡ memory_of m
-  all_kept slots = unchanged m new variables (λ q within. entry_by q (λ e. slots (q % 64))) made
+  all_kept slots = unchanged m new variables (λ q within. entry_by q (λ e. slots (q % 16))) made
 
   -- all other slots are what they were
-  written : (w : Option CodeObject) → PutsIn found (n % 64) w after
+  written : (w : Option CodeObject) → PutsIn found (n % 16) w after
       → memory_of new ≡ with_object (memory_of m) n (object_in w)
   written w puts =
       shown m new variables made
       (set_one (entry_of m) (entry_of new) m.made n (object_in w) (in_block n refl ∙ ap object_in puts.0)
-      (λ q within differ. entry_by q (λ e. puts.1 (q % 64) (λ slot. differ (same_number n q e slot)))))
+      (λ q within differ. entry_by q (λ e. puts.1 (q % 16) (λ slot. differ (same_number n q e slot)))))
 
 -- the block of that number was lent to be changed
-module _ (m : CodeMemory) (blocks : _) (n : ℕ) (block after : Block) (was : Some block ≡ block_of m (n / 64))
-    (writes : WritesThrough nat_eq (nat_eq (n / 64)) m.blocks after blocks) where
-  updates : Updates nat_eq m.blocks blocks (n / 64) (Some after)
+module _ (m : CodeMemory) (blocks : _) (n : ℕ) (block after : Block) (was : Some block ≡ block_of m (n / 16))
+    (writes : WritesThrough nat_eq (nat_eq (n / 16)) m.blocks after blocks) where
+  updates : Updates nat_eq m.blocks blocks (n / 16) (Some after)
   updates = writes.3 (subst IsSome was refl)
 
   abbrev changed : CodeMemory
   changed = record m { blocks = blocks }
 
   -- and of it the object of that slot
-  pub lent : (found : Option (MutBor CodeObject)) (w : CodeObject) → OnSome found (Puts block (n % 64) (Some w) after)
+  pub lent : (found : Option (MutBor CodeObject)) (w : CodeObject) → OnSome found (Puts block (n % 16) (Some w) after)
       → OnSome found (memory_of changed ≡ with_object (memory_of m) n (object_of w))
   lent None w puts = tt
   lent (Some r) w puts = written m changed refl refl n (Some block) (Some after) (sym was) updates.1 updates.2 (Some w) puts
@@ -160,16 +160,16 @@ module _ (m : CodeMemory) (blocks : _) (n : ℕ) (block after : Block) (was : So
       (λ k. ap (λ slots. get_or slots k None) same)
 
   -- and the object of that slot was taken away
-  pub cleared : Puts block (n % 64) None after → memory_of changed ≡ emptied (memory_of m) n
+  pub cleared : Puts block (n % 16) None after → memory_of changed ≡ emptied (memory_of m) n
   cleared puts = written m changed refl refl n (Some block) (Some after) (sym was) updates.1 updates.2 None puts
 
   -- the same where no object was left in the block, and it was removed
-  pub removed : (rest : _) → Updates nat_eq blocks rest (n / 64) None → ((k : ℕ) → slot_of after k ≡ None)
-      → Puts block (n % 64) None after → memory_of (record m { blocks = rest }) ≡ emptied (memory_of m) n
+  pub removed : (rest : _) → Updates nat_eq blocks rest (n / 16) None → ((k : ℕ) → slot_of after k ≡ None)
+      → Puts block (n % 16) None after → memory_of (record m { blocks = rest }) ≡ emptied (memory_of m) n
   removed rest removes empty puts =
       written m (record m { blocks = rest }) refl refl n (Some block) None (sym was) removes.1 (λ b differ. removes.2 b differ ∙ updates.2 b differ)
       None (refl, λ k differ. sym (empty k) ∙ puts.1 k differ)
 
-pub nothing_there : (m : CodeMemory) (n : ℕ) → None ≡ block_of m (n / 64) → memory_of m ≡ emptied (memory_of m) n
+pub nothing_there : (m : CodeMemory) (n : ℕ) → None ≡ block_of m (n / 16) → memory_of m ≡ emptied (memory_of m) n
 nothing_there m n was =
     written m m refl refl n None None (sym was) (sym was) (λ b differ. refl) None (refl, λ k differ. refl)

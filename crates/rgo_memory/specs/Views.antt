@@ -6,6 +6,7 @@ use Rattle.std.specs.List.{range_with_len}
 use Rattle.std.specs.declared.alloc.AllocError.{AllocError}
 use Rattle.rgo_memory.specs.declared.values.Value.{Value}
 use Rattle.rgo_memory.specs.declared.traps.Trap.{Trap}
+use Rattle.rgo_memory.specs.declared.objects.Channel.{Channel as CodeChannel}
 use Rattle.rgo_memory.specs.declared.objects.Object.{Object as CodeObject}
 use Rattle.rgo_memory.specs.declared.objects.Object.TheVariants as code
 use Rattle.rgo_memory.specs.declared.blocks.Block.{Block}
@@ -16,10 +17,13 @@ use Rattle.rgo_memory.specs.Blocks.{slot_in}
 use Rattle.rgo_memory.specs.Memory.{Object, StructObject, SliceObject, Channel, Memory}
 use Rattle.rgo_memory.specs.Effects.{Outcome, Does, Traps}
 
+abbrev pub channel_of : CodeChannel → Object
+channel_of c = Channel c.capacity c.queue.items c.closed
+
 abbrev pub object_of : CodeObject → Object
 object_of (code.Struct cells) = StructObject cells.items
 object_of (code.Slice cells) = SliceObject cells.items
-object_of (code.Channel c) = Channel c.capacity c.queue.items c.closed
+object_of (code.Channel c) = channel_of c.value
 
 -- an entry as an object: a struct without fields where there is none
 abbrev pub object_in : Option CodeObject → Object
@@ -32,7 +36,7 @@ block_of m b = get nat_eq m.blocks b
 
 -- the entry of that number, as an object: a slot of its block
 abbrev pub entry_of : CodeMemory → ℕ → Object
-entry_of m n = object_in (slot_in (block_of m (n / 64)) (n % 64))
+entry_of m n = object_in (slot_in (block_of m (n / 16)) (n % 16))
 
 -- the objects that were made, in the order of making; entries of other numbers are not seen
 abbrev pub memory_of : CodeMemory → Memory

@@ -10,7 +10,7 @@ use crate::objects::Object;
 use std::alloc::{AllocError, Global};
 
 /// How many numbers share a block.
-pub(crate) const SLOTS: usize = 64;
+pub(crate) const SLOTS: usize = 16;
 
 /// The objects of consecutive numbers, by slots. There may be fewer slots than numbers: the others have no object.
 #[derive(Drop)]

@@ -5,11 +5,11 @@ ghost use Rattle.std.specs.Prelude.{◌≡◌};
 ghost use Rattle.std.specs.Option.{is_some};
 ghost use Rattle.rgo_memory.specs.Channels.{received, receive, sent, send, shut, close};
 ghost use Rattle.rgo_memory.specs.Channels.{is_meeting_place, meets_at};
-ghost use Rattle.rgo_memory.specs.Views.{Leaves, LeavesIfReady, PerformsIfReady, object_of, memory_of};
+ghost use Rattle.rgo_memory.specs.Views.{Leaves, LeavesIfReady, PerformsIfReady, channel_of, object_of, memory_of};
 
 use crate::effects::Effect;
 use crate::memory::Memory;
-use crate::objects::Object;
+use crate::objects::{Channel, Object};
 use crate::traps::Trap;
 use crate::values::Value;
 use std::alloc::AllocError;
@@ -68,13 +68,10 @@ pub fn can_receive(memory: &Memory, channel: Value) -> bool
     }
 }
 
-fn send_to(object: &mut Object, value: Value) -> Result<Option<Effect>, AllocError>
-    ensures { PerformsIfReady result (object_of object.old) (object_of object.new)
-        (sent value (object_of object.old)) }
+fn send_over(channel: &mut Channel, value: Value) -> Result<Option<Effect>, AllocError>
+    ensures { PerformsIfReady result (channel_of channel.old) (channel_of channel.new)
+        (sent value (channel_of channel.old)) }
 {
-    let Object::Channel(channel) = object else {
-        return Ok(Some(Effect::Gives(Value::Nil)));
-    };
     if channel.closed {
         return Ok(Some(Effect::Traps(Trap::SendClosed)));
     }
@@ -83,6 +80,16 @@ fn send_to(object: &mut Object, value: Value) -> Result<Option<Effect>, AllocErr
     }
     channel.queue.push_back(value)?;
     Ok(Some(Effect::Gives(Value::Nil)))
+}
+
+fn send_to(object: &mut Object, value: Value) -> Result<Option<Effect>, AllocError>
+    ensures { PerformsIfReady result (object_of object.old) (object_of object.new)
+        (sent value (object_of object.old)) }
+{
+    match object {
+        Object::Channel(channel) => send_over(channel, value),
+        _ => Ok(Some(Effect::Gives(Value::Nil))),
+    }
 }
 
 /// A send to the buffer: `None` where it is full, or the channel is nil, so that the sender has to wait. A send to a

@@ -114,5 +114,6 @@ pub(crate) fn new_channel(
         queue: VecDeque::new(alloc),
         closed: false,
     };
+    let channel = Box::new(alloc, channel)?;
     make(alloc, memory, Object::Channel(channel))
 }

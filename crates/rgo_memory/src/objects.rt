@@ -18,5 +18,6 @@ pub enum Object {
     Struct(Vec<Value>),
     /// The elements of a slice.
     Slice(Vec<Value>),
-    Channel(Channel),
+    /// A channel, in a box, so that other objects take less.
+    Channel(Box<Channel>),
 }
