@@ -1,5 +1,5 @@
 -- Rounds, built up turn by turn and share by share.
-use Rattle.std.proofs.Common.{◌≡◌, ℕ, zero, suc, ◌+◌, ◌<◌, ◌≤◌, Bool, false, ◌||◌, List, [], ◌∷◌, ◌++◌, length, set, get_or, refl, sym, subst, ◌∙◌, ap₂, arith}
+use Rattle.std.proofs.Common.{◌≡◌, ℕ, zero, suc, ◌+◌, ◌<◌, ◌≤◌, Bool, false, ◌||◌, List, [], ◌∷◌, ◌++◌, length, set, get_or, refl, sym, subst, ◌∙◌, ap, ap₂, arith}
 use Rattle.std.proofs.Math.Bool.{or-false}
 use Rattle.std.proofs.lemmas.List.Folds.{list_any-append}
 use Rattle.std.specs.List.{list_any}
@@ -29,7 +29,7 @@ module _ {A : Type 0} (goes : A → A → Bool → Type 0) where
       → EachTurned goes xs ys bs
   turned_all zero [] [] [] end turned = tt
   turned_all zero [] [] (b ∷ bs) end turned = absurd turned
-  turned_all zero [] (y ∷ ys) [] end turned = absurd (nil≢cons turned)
+  turned_all zero [] (y ∷ ys) [] end turned = let short : 0 ≡ suc (length ys) = ap length turned in absurd (omega arith)
   turned_all zero [] (y ∷ ys) (b ∷ bs) end turned = absurd turned
   turned_all zero (x ∷ xs) ys bs end turned = absurd (omega arith)
   turned_all (suc i) [] ys bs end turned = absurd turned
@@ -59,9 +59,9 @@ module _ {A : Type 0} (goes : A → A → Bool → Type 0) where
 
   pub round_goes_on : (i : ℕ) (xs ys : List A) (went : Bool) (d y : A) (b : Bool) → i < length ys → goes (get_or ys i d) y b
       → RoundBelow i xs ys went → RoundBelow (i + 1) xs (set ys i y) (went || b)
-  round_goes_on i xs ys went d y b below turn so_far = record {
+  round_goes_on i xs ys went d y b below turn so_far = let next : suc i ≡ i + 1 = omega arith in record {
     answers = so_far.answers ++ b ∷ [];
-    turned = subst (λ k. TurnedBelow k xs (set ys i y) (so_far.answers ++ b ∷ [])) (omega arith)
+    turned = subst (λ k. TurnedBelow k xs (set ys i y) (so_far.answers ++ b ∷ [])) next
         (turned_next i xs ys so_far.answers d y b below turn so_far.turned);
     any = ap₂ ◌||◌ so_far.any (sym (or-false b)) ∙ sym (list_any-append (λ c. c) so_far.answers (b ∷ []));
   }
@@ -74,10 +74,12 @@ module _ {A : Type 0} (goes : A → A → Bool → Type 0) where
     any = all.any;
   }
 
-  pub round_of_both : (xs ys us vs : List A) (went others : Bool) → RoundOf goes xs ys went → RoundOf goes us vs others
-      → RoundOf goes (xs ++ us) (ys ++ vs) (went || others)
-  round_of_both xs ys us vs went others front back = record {
+  -- the round of one share beside that of the next
+  pub round_of_both : (before xs ys us vs : List A) (went others : Bool) → before ≡ xs ++ us → RoundOf goes xs ys went
+      → RoundOf goes us vs others → RoundOf goes before (ys ++ vs) (went || others)
+  round_of_both before xs ys us vs went others cut front back = record {
     answers = front.answers ++ back.answers;
-    turned = turned_both xs ys front.answers us vs back.answers front.turned back.turned;
+    turned = subst (λ zs. EachTurned goes zs (ys ++ vs) (front.answers ++ back.answers)) (sym cut)
+        (turned_both xs ys front.answers us vs back.answers front.turned back.turned);
     any = ap₂ ◌||◌ front.any back.any ∙ sym (list_any-append (λ b. b) front.answers back.answers);
   }

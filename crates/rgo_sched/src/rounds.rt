@@ -47,7 +47,8 @@ fn turn_beside<R: Threads + Sync, T: Task + Send, G: Gate + Sync>(
     let low = workers / 2;
     let mid = share(tasks.len(), workers, low);
     let (front, back) = tasks.split_at_mut(mid);
-    turn_both(rt, gate, number, first, low, front, first + low, workers - low, back)
+    let (own, others) = turn_both(rt, gate, number, first, low, front, first + low, workers - low, back);
+    own | others
 }
 
 // A separate function from `turn_beside`, so that what the closures require is what this function is given.
@@ -62,10 +63,11 @@ fn turn_both<R: Threads + Sync, T: Task + Send, G: Gate + Sync>(
     up: u32,
     high: u32,
     back: &mut [T],
-) -> bool
+) -> (bool, bool)
     requires low { (0 < low) × (first + low < 2 ^ 32) }
     requires high { (0 < high) × (up + high < 2 ^ 32) }
-    ensures { RoundOf T.goes (front.old ++ back.old) (front.new ++ back.new) result }
+    ensures front { RoundOf T.goes front.old front.new result.0 }
+    ensures back { RoundOf T.goes back.old back.new result.1 }
 {
     let (others, own) = join_mut(
         rt,
@@ -78,7 +80,7 @@ fn turn_both<R: Threads + Sync, T: Task + Send, G: Gate + Sync>(
             ensures { RoundOf T.goes front.entry.now front.exit.now result }
         { turn_beside(rt, gate, number, first, low, front) },
     );
-    own || others
+    (own, others)
 }
 
 /// How many of `count` tasks the first `low` of `workers` take, so that no share is larger than another by more than one task.
