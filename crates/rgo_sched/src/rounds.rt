@@ -1,5 +1,5 @@
-//! A round: the tasks in contiguous shares, one for each worker, which all work at once.
-ghost use Rattle.std.specs.Prelude.{◌≡◌, ℕ, ◌+◌, ◌^◌, ◌<◌, ◌≤◌, ◌++◌, length, IfOk, IfErr};
+//! A round: the tasks are cut into contiguous shares, one for each worker, and all workers run at once.
+ghost use Rattle.std.specs.Prelude.{◌≡◌, ◌+◌, ◌<◌, ◌≤◌, ◌^◌, length, IfOk, IfErr};
 ghost use denote.Param.Send.{IsSend, IsSync};
 ghost use Rattle.rgo_sched.specs.Rounds.{RoundOf};
 
@@ -9,6 +9,9 @@ use std::alloc::AllocError;
 use std::thread::{Threads, join_mut};
 
 /// Gives each task one turn, and says whether any went on.
+///
+/// Each worker has turns in a thread of its own, the first one in the caller's, and tells the gate the number of the
+/// round before its first turn. There are no more workers than tasks. If memory is refused, no task has had a turn.
 pub fn round<R: Threads + Sync, T: Task + Send, G: Gate + Sync>(
     rt: &R,
     tasks: &mut Vec<T>,
@@ -20,16 +23,16 @@ pub fn round<R: Threads + Sync, T: Task + Send, G: Gate + Sync>(
     ensures ok { IfOk result (λ went. RoundOf T.goes tasks.old.items tasks.new.items went) }
     ensures err { IfErr result (λ _. tasks.new ≡ tasks.old) }
 {
-    let busy = tasks.len().min(workers as usize) as u32;
-    if busy == 0 {
+    let count = tasks.len().min(workers as usize) as u32;
+    if count == 0 {
         return Ok(false);
     }
-    Ok(turn_beside(rt, gate, number, 0, busy, tasks.as_mut_slice()))
+    Ok(turn_at_once(rt, gate, number, 0, count, tasks.as_mut_slice()))
 }
 
-/// The turns of `tasks`, by the workers numbered from `first` on.
+/// The turns of so many workers, numbered from `first` on, which run beside each other.
 #[cycle(halves)]
-fn turn_beside<R: Threads + Sync, T: Task + Send, G: Gate + Sync>(
+fn turn_at_once<R: Threads + Sync, T: Task + Send, G: Gate + Sync>(
     rt: &R,
     gate: &G,
     number: u64,
@@ -45,15 +48,25 @@ fn turn_beside<R: Threads + Sync, T: Task + Send, G: Gate + Sync>(
         return turn_in_order(gate, number, first, tasks);
     }
     let low = workers / 2;
-    let mid = share(tasks.len(), workers, low);
-    let (front, back) = tasks.split_at_mut(mid);
-    let (own, others) = turn_both(rt, gate, number, first, low, front, first + low, workers - low, back);
+    let (front, back) = tasks.split_at_mut(share(tasks.len(), workers, low));
+    let (own, others) = turn_halves(
+        rt,
+        gate,
+        number,
+        first,
+        low,
+        front,
+        first + low,
+        workers - low,
+        back,
+    );
     own | others
 }
 
-// A separate function from `turn_beside`, so that what the closures require is what this function is given.
+/// The turns of the first `low` workers in this thread, those of the next `high` in a new one. This stands apart from
+/// `turn_at_once` since a closure may ask only for what its function is given.
 #[cycle(halves)]
-fn turn_both<R: Threads + Sync, T: Task + Send, G: Gate + Sync>(
+fn turn_halves<R: Threads + Sync, T: Task + Send, G: Gate + Sync>(
     rt: &R,
     gate: &G,
     number: u64,
@@ -74,26 +87,26 @@ fn turn_both<R: Threads + Sync, T: Task + Send, G: Gate + Sync>(
         &mut || -> bool
             requires { IsSync R.row × IsSync G.row × IsSend T.row × (0 < high) × (up + high < 2 ^ 32) }
             ensures { RoundOf T.goes back.entry.now back.exit.now result }
-        { turn_beside(rt, gate, number, up, high, back) },
+        { turn_at_once(rt, gate, number, up, high, back) },
         &mut || -> bool
             requires { IsSync R.row × IsSync G.row × IsSend T.row × (0 < low) × (first + low < 2 ^ 32) }
             ensures { RoundOf T.goes front.entry.now front.exit.now result }
-        { turn_beside(rt, gate, number, first, low, front) },
+        { turn_at_once(rt, gate, number, first, low, front) },
     );
     (own, others)
 }
 
-/// How many of `count` tasks the first `low` of `workers` take, so that no share is larger than another by more than one task.
-fn share(count: usize, workers: u32, low: u32) -> usize
-    requires { (low < workers) }
-    ensures { result ≤ count }
+/// How many of so many tasks the first `low` workers have. No worker has more than one task more than another.
+fn share(tasks: usize, workers: u32, low: u32) -> usize
+    requires { low < workers }
+    ensures { result ≤ tasks }
 {
     let workers = workers as usize;
     let low = low as usize;
-    count / workers * low + (count % workers).min(low)
+    tasks / workers * low + (tasks % workers).min(low)
 }
 
-/// Worker `worker` on its own share.
+/// The turns of one worker, with what it has.
 fn turn_in_order<T: Task, G: Gate>(gate: &G, number: u64, worker: u32, tasks: &mut [T]) -> bool
     ensures { RoundOf T.goes tasks.old tasks.new result }
 {

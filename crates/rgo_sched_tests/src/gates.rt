@@ -1,5 +1,5 @@
 //! Each worker with a share arrives once in each round, before its first turn.
-ghost use Rattle.std.specs.Prelude.{⊤};
+ghost use Rattle.std.specs.Prelude.{⊤, ◌≤◌};
 
 use crate::meetings::Meeting;
 use rgo_outside::Gate;
