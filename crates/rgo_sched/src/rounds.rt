@@ -8,10 +8,13 @@ use rgo_outside::Gate;
 use std::alloc::AllocError;
 use std::thread::{Threads, join_mut};
 
-/// Gives each task one turn, and says whether any went on.
+/// Gives each task one turn, and says whether any went on. The tasks keep their positions.
 ///
-/// Each worker has turns in a thread of its own, the first one in the caller's, and tells the gate the number of the
-/// round before its first turn. There are no more workers than tasks. If memory is refused, no task has had a turn.
+/// There are at most `workers` workers, each with at least one task and none with two more than another. The first runs
+/// in the caller's thread and each other one in a thread of its own, all at once; where the system makes no thread, they
+/// run one after the other. Before its first turn each arrives at the gate, in round `number`.
+///
+/// If memory is refused, that is before any turn.
 pub fn round<R: Threads + Sync, T: Task + Send, G: Gate + Sync>(
     rt: &R,
     tasks: &mut Vec<T>,

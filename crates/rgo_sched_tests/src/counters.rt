@@ -51,11 +51,27 @@ fn has_rounds<R: Threads + Abort + AllocGlobal + Sync>(
     let mut tasks = counters(rt.alloc(), count, longest)?;
     for number in 1..=4u32 {
         let went = round(rt, &mut tasks, workers, u64::from(number), &NoGate)?;
-        assert_eq!(rt; went, longest < count && number < 3, "{count} tasks, {workers} workers, {longest}, {number}");
-        assert_eq!(rt; tasks.len(), count as usize, "{count} tasks, {workers} workers");
+        assert_eq!(rt;
+            went,
+            longest < count && number < 3,
+            "{count} tasks, {workers} workers, {longest}, {number}"
+        );
+        assert_eq!(rt;
+            tasks.len(),
+            count as usize,
+            "{count} tasks, {workers} workers"
+        );
         for (at, task) in tasks.iter().enumerate() {
-            assert_eq!(rt; task.number as usize, at, "{count} tasks, {workers} workers");
-            assert_eq!(rt; task.turns, number, "{count} tasks, {workers} workers, at {at}");
+            assert_eq!(rt;
+                task.number as usize,
+                at,
+                "{count} tasks, {workers} workers"
+            );
+            assert_eq!(rt;
+                task.turns,
+                number,
+                "{count} tasks, {workers} workers, at {at}"
+            );
         }
     }
     Ok(())
