@@ -17,6 +17,7 @@ use Rattle.rgo_memory.specs.Blocks.{slot_in}
 use Rattle.rgo_memory.specs.Memory.{Object, StructObject, SliceObject, Channel, Memory}
 use Rattle.rgo_memory.specs.Effects.{Outcome, Does, Traps}
 
+-- a channel, as an object
 abbrev pub channel_of : CodeChannel → Object
 channel_of c = Channel c.capacity c.queue.items c.closed
 

@@ -68,7 +68,7 @@ pub fn can_receive(memory: &Memory, channel: Value) -> bool
     }
 }
 
-fn send_over(channel: &mut Channel, value: Value) -> Result<Option<Effect>, AllocError>
+fn send_in(channel: &mut Channel, value: Value) -> Result<Option<Effect>, AllocError>
     ensures { PerformsIfReady result (channel_of channel.old) (channel_of channel.new)
         (sent value (channel_of channel.old)) }
 {
@@ -87,7 +87,7 @@ fn send_to(object: &mut Object, value: Value) -> Result<Option<Effect>, AllocErr
         (sent value (object_of object.old)) }
 {
     match object {
-        Object::Channel(channel) => send_over(channel, value),
+        Object::Channel(channel) => send_in(channel, value),
         _ => Ok(Some(Effect::Gives(Value::Nil))),
     }
 }

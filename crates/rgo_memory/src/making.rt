@@ -28,6 +28,8 @@ fn put(alloc: Global, memory: &mut Memory, object: Object) -> Result<(), AllocEr
     match memory.blocks.get_mut(&number) {
         Some(block) => block.put(slot, object),
         None => {
+            // The block before is no longer the newest one.
+            memory.drop_if_empty(number.saturating_sub(1));
             let mut block = Block::new(alloc)?;
             block.put(slot, object)?;
             match memory.blocks.insert(number, block) {
@@ -114,6 +116,5 @@ pub(crate) fn new_channel(
         queue: VecDeque::new(alloc),
         closed: false,
     };
-    let channel = Box::new(alloc, channel)?;
-    make(alloc, memory, Object::Channel(channel))
+    make(alloc, memory, Object::Channel(Box::new(alloc, channel)?))
 }

@@ -1,13 +1,14 @@
 //! The memory of a running program.
 
-ghost use Rattle.std.specs.Prelude.{◌≡◌, map, length, IfOk};
+ghost use Rattle.std.specs.Prelude.{◌≡◌, ℕ, map, length, IfOk};
 ghost use Rattle.std.specs.Borrow.{sem};
 ghost use Rattle.std.specs.Option.{option_copied, option_copied_mut};
 ghost use Rattle.rgo_memory.specs.Values.{zero_of};
 ghost use Rattle.rgo_memory.specs.Opening.{opening};
+ghost use Rattle.rgo_memory.specs.Blocks.{slot_in};
 ghost use Rattle.rgo_memory.specs.Memory.{emptied, object_at};
 ghost use Rattle.rgo_memory.specs.Lending.{LendsObject};
-ghost use Rattle.rgo_memory.specs.Views.{memory_of, object_in};
+ghost use Rattle.rgo_memory.specs.Views.{memory_of, object_in, block_of};
 
 use crate::blocks::{Block, SLOTS};
 use crate::objects::Object;
@@ -21,7 +22,7 @@ use std::collections::HashMap;
 /// without fields.
 #[derive(Drop)]
 pub struct Memory {
-    /// The objects, by blocks of consecutive numbers. A block without objects is not kept.
+    /// The objects, by blocks of consecutive numbers. A block without objects is not kept, unless it is the newest one.
     pub(crate) blocks: HashMap<usize, Block>,
     pub(crate) made: usize,
     pub variables: Vec<Value>,
@@ -72,6 +73,24 @@ impl Memory {
             return;
         };
         block.clear(n % SLOTS);
+        // The newest block stays, since the next object comes into it.
+        if number == self.made / SLOTS {
+            return;
+        }
+        if block.is_empty() {
+            self.blocks.remove(&number);
+        }
+    }
+
+    /// Drops the block of this number, if it has no object.
+    pub(crate) fn drop_if_empty(&mut self, number: usize)
+        ensures slots { (b k : ℕ) → slot_in (block_of self.new b) k ≡ slot_in (block_of self.old b) k }
+        ensures made { self.new.made ≡ self.old.made }
+        ensures variables { self.new.variables ≡ self.old.variables }
+    {
+        let Some(block) = self.blocks.get(&number) else {
+            return;
+        };
         if block.is_empty() {
             self.blocks.remove(&number);
         }

@@ -18,6 +18,6 @@ pub enum Object {
     Struct(Vec<Value>),
     /// The elements of a slice.
     Slice(Vec<Value>),
-    /// A channel, in a box, so that other objects take less.
+    /// In a box, since it is larger than the others.
     Channel(Box<Channel>),
 }

@@ -14,6 +14,11 @@ returns-then-is_empty c =
     removed c.args.self.now _ c.args.n _ _ c.in-Some.ensures.value (c.get_mut.follows.holds c.clear.new.self)
     c.remove.new.self c.remove.ensures.updates (c.if-is_empty.ensures refl) c.clear.ensures
 
+pub returns-then-number-self : goal.returns-then-number-self
+returns-then-number-self c =
+    cleared c.args.self.now _ c.args.n _ _ c.in-Some.ensures.value (c.get_mut.follows.holds c.clear.new.self)
+    c.clear.ensures
+
 pub returns-else-is_empty : goal.returns-else-is_empty
 returns-else-is_empty c =
     cleared c.args.self.now _ c.args.n _ _ c.in-Some.ensures.value (c.get_mut.follows.holds c.clear.new.self)
