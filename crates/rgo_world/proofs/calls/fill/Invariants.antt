@@ -9,5 +9,5 @@ use Rattle.rgo_world.proofs.calls.fill.Given as goal
 abbrev pub invariant-loop-i : goal.invariant-loop-i
 invariant-loop-i l =
     (k : ℕ) → or_else (bound_in l.names.items k)
-        (bound (passed (drop l.i l.formals) (drop l.i (map (class_in l.callers) l.passes))) k)
+    (bound (passed (drop l.i l.formals) (drop l.i (map (class_in l.callers) l.passes))) k)
     ≡ bound (passed l.formals (map (class_in l.callers) l.passes)) k
