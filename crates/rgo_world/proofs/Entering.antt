@@ -9,7 +9,6 @@ use Rattle.rgo_code.specs.Code.{Branch, Call, CodeFn, CodeInstr, CodeOp, Do, Go,
 use Rattle.rgo_code.specs.Lists.{passes_in, protects_in, protects_of}
 use Rattle.rgo_code.specs.NameRules.{protected_names}
 use Rattle.rgo_code.specs.Names.{region_parameters}
-use Rattle.rgo_region_machine.specs.declared.regions.Region.{Region}
 use Rattle.rgo_region_machine.specs.Owed.{formals_of, function_of, given_names, passed, passed_regions, result_of}
 use Rattle.rgo_region_machine.specs.Regions.{Bindings}
 use Rattle.rgo_world.specs.declared.holders.Holder.{Holder}

@@ -1,9 +1,9 @@
-use Rattle.std.proofs.Common.{◌∙◌, ◌<◌, ◌+◌, ap, sym, drop, length, map, arith, Option, is_some, subst, Vec}
+use Rattle.std.proofs.Common.{◌∙◌, ◌<◌, ◌+◌, ap, sym, drop, length, map, arith, Option, is_some, Vec}
 use Rattle.std.proofs.lemmas.List.{length-map}
 use Rattle.rgo_region_machine.specs.Owed.{passed}
 use Rattle.rgo_region_machine.specs.declared.regions.Region.{Region}
 use Rattle.rgo_region_machine.specs.Regions.{Bindings, bound}
-use Rattle.rgo_world.specs.Calls.{StandFor, class_in}
+use Rattle.rgo_world.specs.Calls.{class_in}
 use Rattle.rgo_world.specs.Holders.{bound_in}
 use Rattle.rgo_world.proofs.CallsPassing.{or_else, or_none_same, none_from, none_unless, passed_end, region_at, region_within, regions_same, step_kept, step_new, step_none, step_other}
 use Rattle.rgo_world.proofs.calls.fill.Goals as goal
