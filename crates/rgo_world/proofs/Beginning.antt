@@ -36,7 +36,9 @@ pub begun_with : (w p : World) (g callee : ℕ) (instr : Option CodeInstr) (c d 
     → p ≡ record w { holders = p.holders } → p.holders.items ≡ w.holders.items ++ d ∷ [] → Begins d names base
     → formals ≡ or_nothing (slice_get (map (λ v. v.items) w.formals.items) callee) → passes ≡ passes_in instr
     → ((bindings : Bindings) → StandFor (newest (frames_of c)) bindings → regions ≡ passed_regions bindings passes)
-    → StandFor names (passed formals regions) → map Numbered base ≡ twice regions
+    → ((bindings : Bindings) → StandFor (newest (frames_of c)) bindings
+    → StandFor names (passed formals (passed_regions bindings passes)))
+    → map Numbered base ≡ twice regions
     → BeginsOther w p g (function_of w.code.now callee) instr
 begun_with w p g callee instr c d names base formals passes regions prepared there same holders begins formals_are
     passes_are regions_are stand twice_are = record {
@@ -62,8 +64,8 @@ begun_with w p g callee instr c d names base formals passes regions prepared the
       base = base;
       begins = begins;
       stand = λ bindings same. (
-        subst (λ (z : List Class × List (Option Region)). StandFor names (passed z.0 z.1))
-            (λ i. (known i, fits bindings same i)) stand,
+        subst (λ (z : List Class × List Class). StandFor names (passed z.0 (passed_regions bindings z.1)))
+            (λ i. (known i, passes_are i)) (stand bindings same),
         twice_are ∙ ap twice (fits bindings same),
       );
     }

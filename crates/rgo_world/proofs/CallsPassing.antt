@@ -2,7 +2,7 @@
 use Rattle.std.proofs.Common.{◌≡◌, ℕ, zero, suc, ◌+◌, ◌<◌, ◌≤◌, Bool, true, false, not, ◌&&◌, ◌||◌, List, [], ◌∷◌, ⊎_elim, length, drop, map}
 use Rattle.std.proofs.Common.{Option, Some, None, refl, sym, ap, ◌∙◌, arith, nat_eq, if◌then◌else◌}
 use Rattle.std.proofs.Common.{get_or, is_some, subst, ◌-◌}
-use Rattle.std.proofs.lemmas.List.{at_drop_more}
+use Rattle.std.proofs.lemmas.List.{at_drop_more, get_or-map, length-map}
 use Rattle.std.proofs.lemmas.Bool.{false_from_ne_true, true≢false, or_left, or_right, or_from, eqb-true, eq-eqb, ne_eqb, cases_eq}
 use Rattle.std.specs.List.{list_any}
 use Rattle.std.proofs.Common.{Result, Ok, Err, is_err, OnOk}
@@ -19,7 +19,7 @@ use Rattle.rgo_region_machine.specs.Owed.{passed, passed_regions, given_names, s
 use Rattle.rgo_region_machine.specs.Regions.{Bindings, bound, class_region, same_region}
 use Rattle.rgo_world.specs.declared.holders.Holder.{Holder}
 use Rattle.rgo_world.specs.Calls.{StandFor, UnbindsAll, class_in, bound_except}
-use Rattle.rgo_world.specs.Holders.{Names, SameElse, Unbinds, bound_in, bound_with, bound_without}
+use Rattle.rgo_world.specs.Holders.{Names, Same, SameElse, Unbinds, bound_in, bound_with, bound_without}
 
 -- ---- the regions that are passed
 
@@ -35,6 +35,14 @@ regions_same names bindings same [] = refl
 regions_same names bindings same (c ∷ cs) =
     ap (λ r. r ∷ map (class_in names) cs) (class_same names bindings same c)
     ∙ ap (λ rs. class_region bindings c ∷ rs) (regions_same names bindings same cs)
+
+-- the region that is passed at a place
+pub region_at : (names : Names) (cs : List Class) (i : ℕ) → i < length cs
+    → get_or (map (class_in names) cs) i None ≡ class_in names (get_or cs i NoClass)
+region_at names cs i h = get_or-map (class_in names) cs i NoClass None h
+
+pub region_within : (names : Names) (cs : List Class) (i : ℕ) → i < length cs → i < length (map (class_in names) cs)
+region_within names cs i h = rw length-map h
 
 -- ---- the names that are given
 
@@ -418,6 +426,13 @@ any_in k xs (Err i) is rises =
     (λ below. omega (arith, s.1 j below, e))
     (λ above. omega (arith, s.2 j above l, e))
     (cases_lt j i)))
+
+pub unbinds_since : (a b d : Holder) (given : List ℕ) → Same a b → UnbindsAll b d given → UnbindsAll a d given
+unbinds_since a b d given same h =
+    record {
+      renamed = λ names frames is. h.renamed names frames (same.0 ∙ is);
+      kept = same_else_more a b d same.1 h.kept;
+    }
 
 pub unbinds_from : (a b d : Holder) (given : List ℕ) → a ≡ b → UnbindsAll a d given → UnbindsAll b d given
 unbinds_from a b d given e h = subst (λ x. UnbindsAll x d given) e h

@@ -9,7 +9,6 @@ use Rattle.rgo_code.specs.Code.{Branch, Call, CodeFn, CodeInstr, CodeOp, Do, Go,
 use Rattle.rgo_code.specs.Lists.{passes_in, protects_in, protects_of}
 use Rattle.rgo_code.specs.NameRules.{protected_names}
 use Rattle.rgo_code.specs.Names.{region_parameters}
-use Rattle.rgo_region_machine.specs.declared.regions.Region.{Region}
 use Rattle.rgo_region_machine.specs.Owed.{formals_of, function_of, given_names, passed, passed_regions, result_of}
 use Rattle.rgo_region_machine.specs.Regions.{Bindings}
 use Rattle.rgo_world.specs.declared.holders.Holder.{Holder}
@@ -56,34 +55,35 @@ protects_rise w next prepared some =
 
 -- ---- what is passed
 
--- names stand for the regions that are passed, as the code computed them
-pub passed_stand : (c : Holder) (read names : Names) (formals others passes : List Class)
-    (regions : List (Option Region)) → formals ≡ others → read ≡ newest (frames_of c)
-    → ((bindings : Bindings) → StandFor read bindings → regions ≡ passed_regions bindings passes)
-    → StandFor names (passed formals regions) → (bindings : Bindings) → StandFor (newest (frames_of c)) bindings
-    → StandFor names (passed others (passed_regions bindings passes))
-passed_stand c read names formals others passes regions same is computed stand bindings by =
-    subst (StandFor names)
-    (λ i. passed (same i) (computed bindings (subst (λ l. StandFor l bindings) (sym is) by) i)) stand
+-- names stand for the regions that are passed, by the lists that the code has
+pub passed_stand : (c : Holder) (read names : Names) (formals parameters passes classes : List Class)
+    → formals ≡ parameters → passes ≡ classes → read ≡ newest (frames_of c)
+    → ((bindings : Bindings) → StandFor read bindings
+    → StandFor names (passed formals (passed_regions bindings passes)))
+    → (bindings : Bindings) → StandFor (newest (frames_of c)) bindings
+    → StandFor names (passed parameters (passed_regions bindings classes))
+passed_stand c read names formals parameters passes classes formals_are passes_are is stand bindings by =
+    subst (StandFor names) (λ i. passed (formals_are i) (passed_regions bindings (passes_are i)))
+    (stand bindings (subst (λ l. StandFor l bindings) (sym is) by))
 
 -- ---- the call
 
 module _ (c caller d : Holder) (function : Option CodeFn) (instr : Option CodeInstr) (read names : Names) (lent : Class)
-    (formals passes : List Class) (protects : List ℕ) (regions : List (Option Region))
-    (formals_are : formals ≡ formals_of function) (lent_is : lent ≡ result_of function)
+    (formals passes : List Class) (protects : List ℕ) (formals_are : formals ≡ formals_of function) (lent_is : lent ≡ result_of function)
     (passes_are : passes ≡ passes_in instr) (protects_are : protects ≡ protects_in instr)
     (read_is : read ≡ newest (frames_of c)) where
   pub called_so : UnbindsAll c caller (given_names lent formals passes protects) → Enters caller d names
-      → ((bindings : Bindings) → StandFor read bindings → regions ≡ passed_regions bindings passes)
-      → StandFor names (passed formals regions) → Called c d function (passes_in instr) (protects_in instr)
-  called_so leaves enters computed stand = record {
+      → ((bindings : Bindings) → StandFor read bindings
+      → StandFor names (passed formals (passed_regions bindings passes)))
+      → Called c d function (passes_in instr) (protects_in instr)
+  called_so leaves enters stand = record {
     caller = caller;
     leaves = subst (UnbindsAll c caller)
         (λ i. given_names (lent_is i) (formals_are i) (passes_are i) (protects_are i)) leaves;
     names = names;
     enters = enters;
-    stand = passed_stand c read names formals (formals_of function) (passes_in instr) regions formals_are read_is
-        (λ bindings by. computed bindings by ∙ ap (passed_regions bindings) passes_are) stand;
+    stand = passed_stand c read names formals (formals_of function) passes (passes_in instr) formals_are passes_are
+        read_is stand;
   }
 
 pub entered_at : (w v : World) (g : ℕ) (function : Option CodeFn) (instr : Option CodeInstr) (c d : Holder)

@@ -1,6 +1,6 @@
 //! Calls, starts and returns, as far as regions go.
 
-ghost use Rattle.std.specs.Prelude.{◌≡◌, List, IfOk, OnOk, map, slice_get};
+ghost use Rattle.std.specs.Prelude.{◌≡◌, [], List, IfOk, OnOk, map, slice_get};
 ghost use Rattle.std.specs.List.Sorted.{IsStrictlyIncreasing};
 ghost use Rattle.rgo_region_machine.specs.Owed as owed;
 ghost use Rattle.rgo_region_machine.specs.Regions.{Bindings, bound};
@@ -18,6 +18,17 @@ use rgo_tac::Class;
 use std::alloc::{AllocError, Global};
 use std::collections::HashMap;
 
+/// The region of a class, by these names.
+fn region_by(names: &[Option<Region>], class: Class) -> Option<Region>
+    ensures { result ≡ spec.class_in names.now class }
+{
+    match class {
+        Class::NoClass => None,
+        Class::Global => Some(Region::Global),
+        Class::Name(name) => region_of(names, name),
+    }
+}
+
 /// The regions that a call passes, by the names of the caller.
 fn passed_regions(
     alloc: Global,
@@ -29,32 +40,37 @@ fn passed_regions(
 {
     let mut regions = Vec::with_capacity(alloc, passes.len())?;
     for class in passes {
-        let region = match class {
-            Class::NoClass => None,
-            Class::Global => Some(Region::Global),
-            Class::Name(name) => region_of(names, *name),
-        };
-        regions.push_reserved(region);
+        regions.push_reserved(region_by(names, *class));
     }
     Ok(regions)
 }
 
-/// The names of a called function, which stand for the regions that were passed.
-fn given(alloc: Global, formals: &[Class], regions: &[Option<Region>]) -> Result<Names, AllocError>
-    ensures { IfOk result (λ names. spec.StandFor names.items (owed.passed formals.now regions.now)) }
+/// The names of a called function stand for the regions that are passed by the names of the caller.
+///
+/// # Errors
+///
+/// On allocation failure.
+fn fill(
+    names: &mut Names,
+    formals: &[Class],
+    passes: &[Class],
+    callers: &[Option<Region>],
+) -> Result<(), AllocError>
+    requires empty { names.old.items ≡ [] }
+    ensures { OnOk result ((bindings : Bindings) → spec.StandFor callers.now bindings
+        → spec.StandFor names.new.items (owed.passed formals.now (owed.passed_regions bindings passes.now))) }
 {
-    let mut names = Vec::new(alloc);
-    for i in 0..formals.len().min(regions.len()) {
+    for i in 0..formals.len().min(passes.len()) {
         if let Class::Name(name) = formals[i] {
-            if let Some(region) = regions[i] {
+            if let Some(region) = region_by(callers, passes[i]) {
                 // The first of two equal names counts.
-                if region_of(&names, name).is_none() {
-                    bind(&mut names, name, region)?;
+                if region_of(names, name).is_none() {
+                    bind(names, name, region)?;
                 }
             }
         }
     }
-    Ok(names)
+    Ok(())
 }
 
 /// The regions that stand at two positions, each once, in the order in which they end.
@@ -185,8 +201,8 @@ impl<'a> World<'a> {
             return Ok(());
         };
         let passes = next.function.passes(next.at);
-        let regions = passed_regions(alloc, holder.names(), passes)?;
-        let names = given(alloc, formals, &regions)?;
+        let mut names = holder.take_spare(alloc);
+        fill(&mut names, formals, passes, holder.names())?;
         leave_given(
             holder,
             result_class(self.code, callee),
@@ -219,8 +235,11 @@ impl<'a> World<'a> {
         let Some(holder) = self.holders.get(g) else {
             return Ok(());
         };
-        let regions = passed_regions(alloc, holder.names(), next.function.passes(next.at))?;
-        let names = given(alloc, formals, &regions)?;
+        let passes = next.function.passes(next.at);
+        let callers = holder.names();
+        let mut names = Vec::new(alloc);
+        fill(&mut names, formals, passes, callers)?;
+        let regions = passed_regions(alloc, callers, passes)?;
         let base = twice(alloc, &regions)?;
         self.holders.push(Holder::new(alloc, names, base)?)?;
         Ok(())

@@ -18,6 +18,8 @@ pub(crate) type Names = Vec<Option<Region>>;
 pub(crate) struct Holder {
     /// What the names of each frame stand for, the newest frame last.
     pub(crate) frames: Vec<Names>,
+    /// Lists of names that frames which have returned no longer need, for those to come.
+    spare: Vec<Names>,
     /// How many protections each region has, in its frames and by its base.
     pub(crate) protections: HashMap<usize, usize>,
     /// The regions that were given at two positions when it started, in the order in which they end.
@@ -85,6 +87,7 @@ impl Holder {
         frames.push(names)?;
         Ok(Holder {
             frames,
+            spare: Vec::new(alloc),
             protections,
             base,
             fills: HashMap::new(alloc),
@@ -136,6 +139,20 @@ impl Holder {
         }
     }
 
+    /// A list without names for a function that is called, from those that are spare.
+    pub(crate) fn take_spare(&mut self, alloc: Global) -> Names
+        ensures empty { result.items ≡ [] }
+        ensures kept { spec.Same self.old self.new }
+    {
+        match self.spare.pop() {
+            Some(mut names) => {
+                names.clear();
+                names
+            }
+            None => Vec::new(alloc),
+        }
+    }
+
     /// A function is called, with what its names stand for.
     ///
     /// # Errors
@@ -149,11 +166,19 @@ impl Holder {
         Ok(())
     }
 
-    /// The newest function returns.
+    /// The newest function returns. Its list of names is spare; without memory to keep it, it is dropped.
     pub(crate) fn come_back(&mut self)
         ensures { spec.ComesBack self.old self.new }
     {
-        self.frames.pop();
+        let Some(names) = self.frames.pop() else {
+            return;
+        };
+        if self.frames.is_empty() {
+            // The goroutine has ended, so it enters no other function.
+            self.spare.clear();
+        } else {
+            let _ = self.spare.push(names);
+        }
     }
 
     /// One more protection of a region.
@@ -168,17 +193,12 @@ impl Holder {
         let Region::Numbered(r) = region else {
             return Ok(());
         };
-        let count = match self.protections.get(&r) {
-            Some(count) => *count,
-            None => 0,
-        };
+        let count = self.protections.entry(r)?.or_insert(0);
         let Some(more) = count.checked_add(1) else {
             return Err(AllocError);
         };
-        match self.protections.insert(r, more) {
-            Ok(_) => Ok(()),
-            Err(_) => Err(AllocError),
-        }
+        *count = more;
+        Ok(())
     }
 
     /// One protection of a region ends.

@@ -29,7 +29,7 @@ returns c = record {
       (omega (arith, ap length c.deref-r-items.ensures.value)));
   base_is = refl;
   fills =
-      let none : (r : ℕ) → get nat_eq c.new.result r ≡ None = λ r. search rules in
+      let none : (r : ℕ) → get nat_eq c.new-2.result r ≡ None = λ r. search rules in
       each_region _ refl none;
   done = refl;
 }
