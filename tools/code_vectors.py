@@ -380,8 +380,9 @@ def tables():
 
 def rows_of(file):
     """The rows of each table of a file, by the table's name, as the file has them."""
-    found = re.findall(r"^pub\(crate\) static (\w+): \[.*?\] = (\[.*?^\]);$", (TABLES / file).read_text(encoding="utf-8"), re.MULTILINE | re.DOTALL)
-    # In these files a string is written as it would be in Python.
+    text = (TABLES / file).read_text(encoding="utf-8")
+    found = re.findall(r"^pub\(crate\) static (\w+): .* = (\[\n(?:    .*\n)*\]);$", text, re.MULTILINE)
+    # A table is written as a list would be in Python.
     return {name: ast.literal_eval(rows) for name, rows in found}
 
 
