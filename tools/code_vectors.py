@@ -14,6 +14,7 @@ be reported comes from tools/code_text.py. Each table is made from texts in tool
   is replaced by `x`.
 """
 
+import ast
 import collections
 import pathlib
 import re
@@ -375,6 +376,14 @@ def tables():
     types = "usize, usize, &str, u8, u32"
     found = [table(doc.format(name.upper()), name.upper(), types, with_bytes(lines_of(name))) for name in NAMES]
     yield "bytes.rt", file_of("Code texts with another byte", *found)
+
+
+def rows_of(file):
+    """The rows of each table of a file, by the table's name, as the file has them."""
+    text = (TABLES / file).read_text(encoding="utf-8")
+    found = re.findall(r"^pub\(crate\) static (\w+): .* = (\[\n(?:    .*\n)*\]);$", text, re.MULTILINE)
+    # A table is written as a list would be in Python.
+    return {name: ast.literal_eval(rows) for name, rows in found}
 
 
 def is_written(name, text):

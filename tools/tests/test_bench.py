@@ -107,10 +107,10 @@ class Script(unittest.TestCase):
         self.assertEqual(["", "0.50", "0.75", "1", "", ""], [row[6], *row[10:]])
 
     def test_processor_time_is_not_that_of_waiting(self):
-        fake = self.write("rgo", "#!/bin/sh\ncat >/dev/null\nsleep 2\n")
+        fake = self.write("rgo", "#!/bin/sh\ncat >/dev/null\n[ \"$4\" = --stats ] || sleep 0.5\n")
         seconds = [float(self.rows(self.bench("--rgo", fake, "--clock", clock, "sieve"))[0][2]) for clock in ("wall", "processor")]
-        self.assertGreaterEqual(seconds[0], 2)
-        self.assertLess(seconds[1], 1)
+        self.assertGreaterEqual(seconds[0], 0.5)
+        self.assertLess(seconds[1], 0.25)
 
     def test_memory_is_that_of_a_run_with_the_text(self):
         # A program that has less memory than the script, and more than a shell.

@@ -65,7 +65,8 @@ class Case(unittest.TestCase):
         self.file = self.room / "a file.go"
 
     def tool(self, *words, said=b"", cwd=TOP, **variables):
-        command = [sys.executable, TOP / "tools" / words[0], *words[1:]]
+        # Without the packages of the site, which no tool needs, it starts in half the time.
+        command = [sys.executable, "-S", TOP / "tools" / words[0], *words[1:]]
         env = {**os.environ, **variables}
         ran = subprocess.run(command, input=said, capture_output=True, cwd=cwd, env=env, timeout=300, check=False)
         return ran.returncode, ran.stdout.decode(), ran.stderr.decode()

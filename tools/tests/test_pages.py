@@ -1,5 +1,6 @@
 """Tests the pages of docs/errors: that each message has one, and that the program does what the page says."""
 
+import functools
 import os
 import pathlib
 import re
@@ -70,10 +71,15 @@ def file_name(title, status):
     return words if is_named else rf"status-{status}-[a-z-]+"
 
 
+@functools.cache
+def all_pages():
+    """All pages. They are read once, since commands on them make long texts."""
+    return list(map(error_pages.read_page, error_pages.page_paths()))
+
+
 def pages(of_code):
     """All pages about code texts, or all others."""
-    every = map(error_pages.read_page, error_pages.page_paths())
-    return [page for page in every if error_pages.is_of_code(page) == of_code]
+    return [page for page in all_pages() if error_pages.is_of_code(page) == of_code]
 
 
 def anchors(path):
@@ -87,7 +93,7 @@ class Form(unittest.TestCase):
 
     def test_each_message_has_a_page(self):
         wanted = {title: status for title, status, _ in messages()}
-        found = {page.title: page for page in map(error_pages.read_page, error_pages.page_paths())}
+        found = {page.title: page for page in all_pages()}
         self.assertEqual(sorted(wanted), sorted(found))
         for title, status in wanted.items():
             with self.subTest(title):
