@@ -292,8 +292,8 @@ class WithTheProgram(unittest.TestCase):
         self.check_texts(BY_HAND)
 
     def test_texts_of_the_tables(self):
-        """Every fiftieth text: the tests of crates/rgo_code_text_tests check all of them, and each call takes a while here."""
-        self.check_texts(itertools.islice(table_texts(), 0, None, 50))
+        """Every tenth text: the tests of crates/rgo_code_text_tests check all of them, and each call takes a while here."""
+        self.check_texts(itertools.islice(table_texts(), 0, None, 10))
 
     def test_programs_have_their_code_texts(self):
         self.need("emit", (TEXTS / "field.go").read_bytes())
