@@ -40,7 +40,7 @@ _rgo_run_options() {
 _rgo() {
     COMPREPLY=()
     if ((COMP_CWORD == 1)); then
-        _rgo_words run check emit code
+        _rgo_words run check emit code big
     elif [[ ${COMP_WORDS[1]} == run ]]; then
         _rgo_run_options
     fi

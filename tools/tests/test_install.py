@@ -17,7 +17,7 @@ from error_pages import TOP
 
 NUMBERS = ["--goroutines", "--page-words", "--pages", "--regions", "--steps"]
 OPTIONS = sorted([*NUMBERS, "--stats"])
-COMMANDS = ["check", "code", "emit", "run"]
+COMMANDS = ["big", "check", "code", "emit", "run"]
 FAKE = '#!/bin/sh\necho "$@"\ncat >/dev/null\necho "rgo: 2:15: type 4 NoSuchName" >&2\nexit 1\n'
 TEXT = "package main\nfunc main() { zz() }\n"
 
@@ -130,6 +130,7 @@ class Manual(Case):
         self.assertEqual((0, ""), (status, err))
         for command in ["check", "emit", "code"]:
             self.assertIn(f"rgo {command} [--]", out)
+        self.assertIn("rgo big N [--]", out)
 
 
 class Completions(Case):
@@ -148,6 +149,9 @@ class Completions(Case):
         ("rgo run --stats --", NUMBERS),
         ("rgo check --", []),
         ("rgo code --", []),
+        ("rgo b", ["big"]),
+        ("rgo big ", []),
+        ("rgo big --", []),
         ("rgor --", ["--check"]),
         ("rgor a.go --", OPTIONS),
         ("rgor a.go --goroutines 5 --", [option for option in OPTIONS if option != "--goroutines"]),

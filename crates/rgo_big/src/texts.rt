@@ -1,6 +1,6 @@
 //! The large text, line by line.
 
-ghost use Rattle.std.specs.Prelude.{◌≡◌, ◌++◌, IfOk, OnOk, decimal};
+ghost use Rattle.std.specs.Prelude.{◌≡◌, ◌++◌, ◌+◌, ◌*◌, ◌≤◌, IfOk, OnOk, decimal, length};
 ghost use Rattle.rgo_big.specs.Big.{big_text, main_text, numbered, starter, starters, summer, summers, sums};
 
 use itoa::Buffer;
@@ -95,9 +95,10 @@ fn write_main(text: &mut Vec<u8>, n: u32) -> Result<(), AllocError>
 ///
 /// # Errors
 ///
-/// On allocation failure. The text has about 60 bytes for each goroutine.
+/// On allocation failure. The text has at most 71 bytes for each goroutine, and 364 more.
 pub fn big_source(alloc: Global, n: u32) -> Result<Vec<u8>, AllocError>
-    ensures { IfOk result (λ text. text.items ≡ big_text n) }
+    ensures text { IfOk result (λ text. text.items ≡ big_text n) }
+    ensures length { IfOk result (λ text. length text.items ≤ 71 * n + 364) }
 {
     let mut text = Vec::new(alloc);
     write(&mut text, LISTS)?;

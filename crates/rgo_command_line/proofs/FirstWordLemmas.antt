@@ -19,9 +19,10 @@ pub record IsNoName (w : Text) : Type 0 where
   pub check : bytes_eq (codes "check") w ≡ false
   pub emit : bytes_eq (codes "emit") w ≡ false
   pub code : bytes_eq (codes "code") w ≡ false
+  pub big : bytes_eq (codes "big") w ≡ false
 
 no_name : (w : Text) → IsNoName w → find (answers_to w) names ≡ None
-no_name w is = rw (is.run, is.check, is.emit, is.code) refl
+no_name w is = rw (is.run, is.check, is.emit, is.code, is.big) refl
 
 pub other_word : (program w : Text) (rest : List Text) → IsNoName w → command_of (program ∷ w ∷ rest) ≡ None
 unfolding clap_on_literals

@@ -11,15 +11,16 @@ use Rattle.std.proofs.lemmas.Slice.Eq.{bytes_eq-Decides}
 use Rattle.clap.specs.Words.{Text}
 use Rattle.rgo_command_line.specs.Commands.{command_of}
 use Rattle.rgo_command_line.specs.Laws.{ArePlain, AreWordsOf, AskExactly, IsEnd, SetFlag, SetOptions}
-use Rattle.rgo_command_line.specs.Laws.{joined}
-use Rattle.rgo_command_line.specs.Limits.{Fits, goroutine_bounds, limit_by, most_words, page_bounds, page_word_bounds}
+use Rattle.rgo_command_line.specs.Laws.{HoldNumber, joined}
+use Rattle.rgo_command_line.specs.Limits.{Fits, big_by, goroutine_bounds, limit_by, most_words, page_bounds, page_word_bounds}
 use Rattle.rgo_command_line.specs.Limits.{region_bounds, step_bounds}
 use Rattle.rgo_command_line.specs.Numbers.{is_numeral, within}
 use Rattle.rgo_command_line.specs.declared.commands.Command.{Command}
-use Rattle.rgo_command_line.specs.declared.commands.Command.TheVariants.{Run, Check, Emit, Code}
+use Rattle.rgo_command_line.specs.declared.commands.Command.TheVariants.{Run, Check, Emit, Code, Big}
 use Rattle.rgo_command_line.specs.declared.limits.Bounds.{Bounds}
 use Rattle.rgo_command_line.specs.declared.limits.RunOptions.{RunOptions}
 use Rattle.rgo_machine.specs.declared.limits.Sizes.{Sizes}
+use Rattle.rgo_command_line.proofs.BigLemmas as big
 use Rattle.rgo_command_line.proofs.FirstWordLemmas.{other_word}
 use Rattle.rgo_command_line.proofs.OptionLemmas.{AreOptions, Gives, IsNumeral, MetOptions, asks, met_options}
 use Rattle.rgo_command_line.proofs.OrderLemmas.{names, names_in_order}
@@ -296,11 +297,47 @@ at_plain : (p : Plain) (program w : Text) (rest : List Text)
 at_plain p program w rest e =
     subst (λ w. Tells (program ∷ w ∷ rest)) ((bytes_eq-Decides (name_of p) w).0 e) (after_plain p program rest)
 
+-- ---- the number of `big`
+
+after_big : (program : Text) (rest : List Text) → Tells (program ∷ codes "big" ∷ rest)
+after_big program rest command e = by_found (big.found rest)
+  where
+    words : List Text
+    words = program ∷ codes "big" ∷ rest
+
+    -- what a number gives is asked for
+    by_number : (x : Text) → HoldNumber x rest
+        → (n : Option ℕ) → big_by x ≡ n
+        → option_map Big n ≡ Some command
+        → AreWordsOf command words
+    by_number x holds None is given = cc
+    by_number x holds (Some n) is given =
+        let same : Big n ≡ command = cc in
+        subst (λ c. AreWordsOf c words) same (program, x, rest, is, holds, refl)
+
+    by_found : big.Found rest → AreWordsOf command words
+    by_found (inl none) = tells_nothing words (big.at_first program rest ∙ none) command e
+    by_found (inr (x, holds, is)) =
+        by_number x holds (big_by x) refl (sym is ∙ sym (big.at_first program rest) ∙ e)
+
 tells : (words : List Text) → Tells words
 tells [] = tells_nothing [] nothing.no_words
 tells (program ∷ []) = tells_nothing (program ∷ []) (nothing.no_command program)
 tells (program ∷ w ∷ rest) = by_run (bytes_eq (codes "run") w) refl
   where
+    by_big : (b : Bool)
+        → bytes_eq (codes "run") w ≡ false
+        → bytes_eq (codes "check") w ≡ false
+        → bytes_eq (codes "emit") w ≡ false
+        → bytes_eq (codes "code") w ≡ false
+        → bytes_eq (codes "big") w ≡ b
+        → Tells (program ∷ w ∷ rest)
+    by_big true r c e o is =
+        subst (λ w. Tells (program ∷ w ∷ rest)) ((bytes_eq-Decides (codes "big") w).0 is) (after_big program rest)
+    by_big false r c e o is =
+        tells_nothing (program ∷ w ∷ rest)
+        (other_word program w rest (record { run = r; check = c; emit = e; code = o; big = is }))
+
     by_code : (b : Bool)
         → bytes_eq (codes "run") w ≡ false
         → bytes_eq (codes "check") w ≡ false
@@ -308,9 +345,7 @@ tells (program ∷ w ∷ rest) = by_run (bytes_eq (codes "run") w) refl
         → bytes_eq (codes "code") w ≡ b
         → Tells (program ∷ w ∷ rest)
     by_code true r c e is = at_plain code program w rest is
-    by_code false r c e is =
-        tells_nothing (program ∷ w ∷ rest)
-        (other_word program w rest (record { run = r; check = c; emit = e; code = is }))
+    by_code false r c e is = by_big (bytes_eq (codes "big") w) r c e is refl
 
     by_emit : (b : Bool)
         → bytes_eq (codes "run") w ≡ false
@@ -344,6 +379,8 @@ ask words (Run options) (program, set, ending, sets, ends, is) =
 ask words Check are = ask_plain check words are
 ask words Emit are = ask_plain emit words are
 ask words Code are = ask_plain code words are
+ask words (Big n) (program, x, held, given, holds, is) =
+    ap command_of is ∙ big.at_first program held ∙ big.asks x n held given holds
 
 pub exactly : AskExactly
 exactly words command = (tells words command, ask words command)

@@ -10,5 +10,6 @@ pub mod RunLemmas
 pub mod StatusLemmas
 pub mod OrderLemmas
 pub mod OptionLemmas
+pub mod BigLemmas
 pub mod LiteralLemmas
 pub mod LawLemmas

@@ -25,6 +25,12 @@ commands = record {
   emit_ended = λ program. refl;
   code = λ program. refl;
   code_ended = λ program. refl;
+  big = λ program. refl;
+  big_ended = λ program. refl;
+  big_behind = λ program. refl;
+  big_zeros = λ program. refl;
+  least_big = λ program. refl;
+  most_big = λ program. refl;
 }
 
 pub nothing : AskForNothing
@@ -59,4 +65,16 @@ nothing = record {
   stats_value = λ program. refl;
   stats_apart = λ program. refl;
   stats_twice = λ program. refl;
+  big_alone = λ program. refl;
+  big_without = λ program. refl;
+  big_none = λ program. refl;
+  too_big = λ program. refl;
+  no_word_holds_big = λ program. refl;
+  big_signed = λ program. refl;
+  big_below = λ program. refl;
+  big_empty = λ program. refl;
+  big_twice = λ program. refl;
+  big_twice_apart = λ program. refl;
+  big_option = λ program. refl;
+  big_option_after = λ program. refl;
 }

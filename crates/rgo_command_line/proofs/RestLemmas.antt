@@ -13,10 +13,10 @@ use Rattle.clap.specs.Faults.{check_fault, defaults_fault, entered_fault, level_
 use Rattle.clap.specs.Faults.{settle_fault, walk_fault}
 use Rattle.clap.proofs.OnLiterals.{clap_on_literals}
 use Rattle.rgo_command_line.specs.Commands.{command_met, command_of, has_fault}
-use Rattle.rgo_command_line.specs.Limits.{options_of}
-use Rattle.rgo_command_line.specs.Parser.{bare_parser, parser, run_parser}
+use Rattle.rgo_command_line.specs.Limits.{big_of, options_of}
+use Rattle.rgo_command_line.specs.Parser.{bare_parser, big_parser, parser, run_parser}
 use Rattle.rgo_command_line.specs.declared.commands.Command.{Command}
-use Rattle.rgo_command_line.specs.declared.commands.Command.TheVariants.{Run, Check, Emit, Code}
+use Rattle.rgo_command_line.specs.declared.commands.Command.TheVariants.{Run, Check, Emit, Code, Big}
 use Rattle.rgo_command_line.proofs.StrayLemmas.{stray, with_first}
 
 abbrev app : App
@@ -31,6 +31,9 @@ names = names_of app
 -- the commands, as they are built
 abbrev pub run_leaf : Shape
 run_leaf = built_leaf (inherited bare_parser.top run_parser.top)
+
+abbrev pub big_leaf : Shape
+big_leaf = built_leaf (inherited bare_parser.top big_parser.top)
 
 -- the commands without options
 pub data Plain : Type 0 where
@@ -98,6 +101,18 @@ unfolding clap_on_literals
 after_run program rest =
     ap₂ whole (stays (codes "run") [] rest) (no_fault (codes "run") [] rest)
     ∙ ap (λ b. cond b None (run_met (rows_after run_leaf.rules [] rest))) (just_one (rest_fault run_leaf rest))
+
+-- what the words after `big` ask for, where nothing is wrong with them
+abbrev pub big_met : List Row → Option Command
+big_met rows = option_map Big (big_of rows)
+
+pub after_big : (program : Text) (rest : List Text)
+    → command_of (program ∷ codes "big" ∷ rest)
+    ≡ cond (has_fault (rest_fault big_leaf rest)) None (big_met (rows_after big_leaf.rules [] rest))
+unfolding clap_on_literals
+after_big program rest =
+    ap₂ whole (stays (codes "big") [] rest) (no_fault (codes "big") [] rest)
+    ∙ ap (λ b. cond b None (big_met (rows_after big_leaf.rules [] rest))) (just_one (rest_fault big_leaf rest))
 
 after_plain : (p : Plain) (program : Text) (rest : List Text)
     → command_of (program ∷ name_of p ∷ rest)

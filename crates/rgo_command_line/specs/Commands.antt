@@ -3,10 +3,10 @@ use Rattle.std.specs.Prelude.{⊤, ◌≡◌, Bool, true, false, List, [], ◌�
 use Rattle.std.specs.Prelude.{if◌then◌else◌, option_and_then, option_map}
 use Rattle.std.specs.Str.{bytes_eq}
 use Rattle.clap.specs.Words.{Kinds, Row, Text, fault_of, subcommand_of}
-use Rattle.rgo_command_line.specs.Limits.{LieInBounds, options_of}
+use Rattle.rgo_command_line.specs.Limits.{IsBig, LieInBounds, big_of, options_of}
 use Rattle.rgo_command_line.specs.Parser.{parser}
 use Rattle.rgo_command_line.specs.declared.commands.Command.{Command}
-use Rattle.rgo_command_line.specs.declared.commands.Command.TheVariants.{Run, Check, Emit, Code}
+use Rattle.rgo_command_line.specs.declared.commands.Command.TheVariants.{Run, Check, Emit, Code, Big}
 use Rattle.rgo_command_line.specs.declared.commands.WordsError.{WordsError}
 use Rattle.rgo_command_line.specs.declared.commands.WordsError.TheVariants.{Usage}
 
@@ -16,7 +16,8 @@ command_named name rows =
     if bytes_eq name (codes "run") then option_map Run (options_of rows)
     else (if bytes_eq name (codes "check") then Some Check
     else (if bytes_eq name (codes "emit") then Some Emit
-    else (if bytes_eq name (codes "code") then Some Code else None)))
+    else (if bytes_eq name (codes "code") then Some Code
+    else (if bytes_eq name (codes "big") then option_map Big (big_of rows) else None))))
 
 -- the command of the subcommand that was met, if any
 abbrev pub command_met : Option (Text × List Row) → Option Command
@@ -44,4 +45,5 @@ Reads words answer = MatchResult answer
 -- the numbers of a command lie in their bounds
 abbrev pub KeepsBounds : Command → Type 0
 KeepsBounds (Run options) = LieInBounds options
+KeepsBounds (Big n) = IsBig n
 KeepsBounds _ = ⊤

@@ -3,10 +3,10 @@ use Rattle.std.specs.Prelude.{◌≡◌, ◌⊎◌, ◌↔◌, ℕ, Bool, true, 
 use Rattle.std.specs.Prelude.{IsPermutation}
 use Rattle.clap.specs.Words.{Text}
 use Rattle.rgo_command_line.specs.Commands.{command_of}
-use Rattle.rgo_command_line.specs.Limits.{Fits, goroutine_bounds, limit_by, page_bounds, page_word_bounds}
+use Rattle.rgo_command_line.specs.Limits.{Fits, big_by, default_options, goroutine_bounds, limit_by, page_bounds, page_word_bounds}
 use Rattle.rgo_command_line.specs.Limits.{region_bounds, step_bounds}
 use Rattle.rgo_command_line.specs.declared.commands.Command.{Command}
-use Rattle.rgo_command_line.specs.declared.commands.Command.TheVariants.{Run, Check, Emit, Code}
+use Rattle.rgo_command_line.specs.declared.commands.Command.TheVariants.{Run, Check, Emit, Code, Big}
 use Rattle.rgo_command_line.specs.declared.limits.Bounds.{Bounds}
 use Rattle.rgo_command_line.specs.declared.limits.RunOptions.{RunOptions}
 use Rattle.rgo_machine.specs.declared.limits.Limits.{Limits}
@@ -62,7 +62,13 @@ IsEnd words = (words ≡ []) ⊎ (words ≡ codes "--" ∷ [])
 abbrev pub ArePlain : Text → List Text → Type 0
 ArePlain name words = (program : Text) × (ending : List Text) × IsEnd ending × (words ≡ program ∷ name ∷ ending)
 
--- the same, for `run` with its options
+-- the words hold this number: alone, with a `--` after it, or with a `--` before it
+abbrev pub HoldNumber : Text → List Text → Type 0
+HoldNumber number words =
+    (words ≡ number ∷ [])
+    ⊎ ((words ≡ number ∷ codes "--" ∷ []) ⊎ (words ≡ codes "--" ∷ number ∷ []))
+
+-- any name of the program, the command's name, and what the command takes: nothing, its options or its number
 abbrev pub AreWordsOf : Command → List Text → Type 0
 AreWordsOf (Run options) words = (program : Text) × (set ending : List Text)
     × SetOptions options set × IsEnd ending
@@ -70,6 +76,9 @@ AreWordsOf (Run options) words = (program : Text) × (set ending : List Text)
 AreWordsOf Check words = ArePlain (codes "check") words
 AreWordsOf Emit words = ArePlain (codes "emit") words
 AreWordsOf Code words = ArePlain (codes "code") words
+AreWordsOf (Big n) words = (program number : Text) × (held : List Text)
+    × (big_by number ≡ Some n) × HoldNumber number held
+    × (words ≡ program ∷ codes "big" ∷ held)
 
 -- these words ask for the command, and no others
 abbrev pub AskExactly : Type 0
@@ -83,13 +92,6 @@ Ask words wanted = (program : Text) → command_of (program ∷ words) ≡ wante
 -- after any name of the program these words ask for a run with these options
 abbrev pub AskForRun : List Text → RunOptions → Type 0
 AskForRun words options = Ask (codes "run" ∷ words) (Some (Run options))
-
-abbrev default_options : RunOptions
-default_options = record {
-  limits = record { steps = 4398046511104; goroutines = 100000 };
-  sizes = record { page_words = 256; pages = 4096; regions = 65536 };
-  stats = false;
-}
 
 abbrev with_limits : Limits → RunOptions
 with_limits limits = record default_options { limits = limits }
@@ -131,6 +133,12 @@ pub record AskForCommands : Type 0 where
   pub emit_ended : Ask (codes "emit" ∷ codes "--" ∷ []) (Some Emit)
   pub code : Ask (codes "code" ∷ []) (Some Code)
   pub code_ended : Ask (codes "code" ∷ codes "--" ∷ []) (Some Code)
+  pub big : Ask (codes "big" ∷ codes "10" ∷ []) (Some (Big 10))
+  pub big_ended : Ask (codes "big" ∷ codes "10" ∷ codes "--" ∷ []) (Some (Big 10))
+  pub big_behind : Ask (codes "big" ∷ codes "--" ∷ codes "10" ∷ []) (Some (Big 10))
+  pub big_zeros : Ask (codes "big" ∷ codes "007" ∷ []) (Some (Big 7))
+  pub least_big : Ask (codes "big" ∷ codes "1" ∷ []) (Some (Big 1))
+  pub most_big : Ask (codes "big" ∷ codes "10000" ∷ []) (Some (Big 10000))
 
 -- some of the words that ask for nothing
 pub record AskForNothing : Type 0 where
@@ -163,3 +171,15 @@ pub record AskForNothing : Type 0 where
   pub stats_value : Ask (codes "run" ∷ codes "--stats=true" ∷ []) None
   pub stats_apart : Ask (codes "run" ∷ codes "--stats" ∷ codes "true" ∷ []) None
   pub stats_twice : Ask (codes "run" ∷ codes "--stats" ∷ codes "--stats" ∷ []) None
+  pub big_alone : Ask (codes "big" ∷ []) None
+  pub big_without : Ask (codes "big" ∷ codes "--" ∷ []) None
+  pub big_none : Ask (codes "big" ∷ codes "0" ∷ []) None
+  pub too_big : Ask (codes "big" ∷ codes "10001" ∷ []) None
+  pub no_word_holds_big : Ask (codes "big" ∷ codes "18446744073709551617" ∷ []) None
+  pub big_signed : Ask (codes "big" ∷ codes "+5" ∷ []) None
+  pub big_below : Ask (codes "big" ∷ codes "--" ∷ codes "-5" ∷ []) None
+  pub big_empty : Ask (codes "big" ∷ [] ∷ []) None
+  pub big_twice : Ask (codes "big" ∷ codes "5" ∷ codes "5" ∷ []) None
+  pub big_twice_apart : Ask (codes "big" ∷ codes "5" ∷ codes "--" ∷ codes "5" ∷ []) None
+  pub big_option : Ask (codes "big" ∷ codes "--steps=5" ∷ codes "5" ∷ []) None
+  pub big_option_after : Ask (codes "big" ∷ codes "5" ∷ codes "--stats" ∷ []) None

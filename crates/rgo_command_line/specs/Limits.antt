@@ -25,6 +25,14 @@ page_word_bounds = record { least = 16; most = 4096; default = 256 }
 abbrev pub region_bounds : Bounds
 region_bounds = record { least = 1; most = 65536; default = 65536 }
 
+-- the most goroutines of `big`
+abbrev pub most_big : ℕ
+most_big = 10000
+
+-- a number of goroutines that `big` takes
+abbrev pub IsBig : ℕ → Type 0
+IsBig n = (1 ≤ n) × (n ≤ most_big)
+
 -- the most words of all pages together
 abbrev pub most_words : ℕ
 most_words = 16777216
@@ -99,3 +107,19 @@ options_of rows =
       stats = is_given (codes "stats") rows;
     }) (sizes_of rows))
     (limits_of rows)
+
+-- what `run` sets without options
+abbrev pub default_options : RunOptions
+default_options = record {
+  limits = record { steps = 4398046511104; goroutines = 100000 };
+  sizes = record { page_words = 256; pages = 4096; regions = 65536 };
+  stats = false;
+}
+
+-- the number of goroutines that this word gives `big`, if it is one that it takes
+abbrev pub big_by : Text → Option ℕ
+big_by text = within 1 most_big (number_of text)
+
+-- the same, by what was found for the word
+abbrev pub big_of : List Row → Option ℕ
+big_of rows = option_and_then big_by (first_of (codes "goroutines") rows)

@@ -11,11 +11,19 @@ number_option name = record (new_rule name) { long = Some name; action = Some Se
 abbrev pub flag_option : Text → Rule
 flag_option name = record (new_rule name) { long = Some name; action = Some SetTrue }
 
+-- a word that has to be there, and is no option
+abbrev pub required_word : Text → Rule
+required_word name = record (new_rule name) { action = Some Set; required = true }
+
 -- `run`, with its options
 abbrev pub run_parser : App
 run_parser = with_rule (with_rule (with_rule (with_rule (with_rule (with_rule (new_app (codes "run"))
     (number_option (codes "steps"))) (number_option (codes "goroutines"))) (number_option (codes "pages")))
     (number_option (codes "page-words"))) (number_option (codes "regions"))) (flag_option (codes "stats"))
+
+-- `big`, with its number of goroutines
+abbrev pub big_parser : App
+big_parser = with_rule (new_app (codes "big")) (required_word (codes "goroutines"))
 
 -- the program, with no help and no version of its own
 abbrev pub bare_parser : App
@@ -31,7 +39,7 @@ bare_parser = record (new_app (codes "rgo")) {
 abbrev pub with_plain : App → Text → App
 with_plain app name = with_subcommand app (new_app name).top
 
--- one level of subcommands, of which `run` has options
+-- one level of subcommands, of which `run` has options, and `big` has a number
 abbrev pub parser : App
-parser = with_plain (with_plain (with_plain (with_subcommand bare_parser run_parser.top) (codes "check"))
-    (codes "emit")) (codes "code")
+parser = with_subcommand (with_plain (with_plain (with_plain (with_subcommand bare_parser run_parser.top)
+    (codes "check")) (codes "emit")) (codes "code")) big_parser.top

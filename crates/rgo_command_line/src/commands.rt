@@ -5,7 +5,7 @@ ghost use Rattle.clap.specs.Words.{found_of, rows_of, subcommand_rows_of};
 ghost use Rattle.rgo_command_line.specs.Commands.{KeepsBounds, Reads, command_met, command_named};
 ghost use Rattle.rgo_command_line.specs.declared.commands.WordsError.TheVariants.{NoMemory};
 
-use crate::limits::{RunOptions, options_of};
+use crate::limits::{RunOptions, big_of, options_of};
 use crate::parser::parser;
 use clap::ArgMatches;
 use clap::error::ErrorKind;
@@ -23,6 +23,8 @@ pub enum Command {
     Emit,
     /// `code`: reads a code text and checks it.
     Code,
+    /// `big N`: runs a large program that starts this many goroutines, without reading a text.
+    Big(u32),
 }
 
 /// Why the words are no command.
@@ -54,6 +56,7 @@ fn command_named(name: &str, matches: &ArgMatches<'_>) -> Option<Command>
         "check" => Some(Command::Check),
         "emit" => Some(Command::Emit),
         "code" => Some(Command::Code),
+        "big" => Some(Command::Big(big_of(matches)?)),
         _ => None,
     }
 }
@@ -80,6 +83,9 @@ fn command_met(matches: &ArgMatches<'_>) -> Option<Command>
 ///
 /// Pages times words of a page is at most 16,777,216. `check`, `emit` and `code` take no option. A
 /// `--` may end the words.
+///
+/// `big` takes a number of goroutines and no option: one or more decimal digits, from 1 to 10,000.
+/// A `--` may stand after the number or before it.
 ///
 /// `Usage` is returned only where they ask for nothing; `NoMemory` may be returned for any words.
 pub fn read_words(alloc: Global, words: &[String]) -> Result<Command, WordsError>

@@ -2,8 +2,8 @@
 
 ghost use Rattle.std.specs.Prelude.{◌≡◌, IfSome};
 ghost use Rattle.clap.specs.Words.{found_of, rows_of};
-ghost use Rattle.rgo_command_line.specs.Limits.{Fits, LieInBounds, LiesIn, LimitsLieInBounds, SizesLieInBounds};
-ghost use Rattle.rgo_command_line.specs.Limits.{fitting, is_given, limit_of, limits_of, options_of, sizes_of};
+ghost use Rattle.rgo_command_line.specs.Limits.{Fits, IsBig, LieInBounds, LiesIn, LimitsLieInBounds, SizesLieInBounds};
+ghost use Rattle.rgo_command_line.specs.Limits.{big_of, fitting, is_given, limit_of, limits_of, options_of, sizes_of};
 
 use crate::numbers::number_within;
 use clap::ArgMatches;
@@ -23,6 +23,28 @@ pub struct RunOptions {
     /// `--stats`: whether one line on standard error, after the run, counts its regions, pages, objects
     /// and goroutines.
     pub stats: bool,
+}
+
+impl Default for RunOptions {
+    ghost use Rattle.rgo_command_line.specs.Limits.{default_options};
+
+    ghost is_default = { λ options. options ≡ default_options };
+
+    /// What `run` sets without options.
+    fn default() -> RunOptions {
+        RunOptions {
+            limits: Limits {
+                steps: STEPS.default,
+                goroutines: GOROUTINES.default as usize,
+            },
+            sizes: Sizes {
+                page_words: PAGE_WORDS.default as usize,
+                pages: PAGES.default as usize,
+                regions: REGIONS.default as usize,
+            },
+            stats: false,
+        }
+    }
 }
 
 /// The numbers that an option takes, and its default.
@@ -67,6 +89,9 @@ const REGIONS: Bounds = Bounds {
     most: 65_536,
     default: 65_536,
 };
+
+/// The most goroutines that `big` starts; the least is one.
+const MOST_BIG: u64 = 10_000;
 
 /// The most words of all pages together.
 const MOST_WORDS: usize = 16_777_216;
@@ -137,4 +162,14 @@ pub(crate) fn options_of(matches: &ArgMatches<'_>) -> Option<RunOptions>
         sizes: sizes_of(matches)?,
         stats: is_given(matches, "stats"),
     })
+}
+
+/// How many goroutines `big` starts, if that is a number from 1 to `MOST_BIG`.
+#[tactic(auto, using(crate::proofs::RowLemmas::first_value_rows))]
+pub(crate) fn big_of(matches: &ArgMatches<'_>) -> Option<u32>
+    ensures value { result ≡ big_of (rows_of (found_of matches.now)) }
+    ensures range { IfSome result IsBig }
+{
+    let number = number_within(matches.get_str("goroutines")?, 1, MOST_BIG)?;
+    Some(number as u32)
 }

@@ -3,7 +3,7 @@
 ghost use Rattle.std.specs.Prelude.{◌≡◌, IfOk, false};
 ghost use Rattle.clap.specs.Words.{app_of, rule_of};
 ghost use Rattle.clap.specs.declared.builder.command.Command.TheViews.{out-Command};
-ghost use Rattle.rgo_command_line.specs.Parser.{flag_option, number_option, parser, run_parser};
+ghost use Rattle.rgo_command_line.specs.Parser.{big_parser, flag_option, number_option, parser, required_word, run_parser};
 
 use clap::{Arg, ArgAction, Command};
 use std::alloc::{AllocError, Global};
@@ -24,6 +24,14 @@ fn flag_option<'a>(alloc: Global, name: &'a str) -> Arg<'a>
     Arg::new(alloc, name).long(name).action(ArgAction::SetTrue)
 }
 
+// A word that has to be there, and is no option.
+fn required_word<'a>(alloc: Global, name: &'a str) -> Arg<'a>
+    ensures rule { rule_of result ≡ required_word name.entry.now }
+    ensures local { result.global ≡ false }
+{
+    Arg::new(alloc, name).required(true).action(ArgAction::Set)
+}
+
 fn run_parser<'a>(alloc: Global) -> Result<Command<'a>, AllocError>
     ensures app { IfOk result (λ command. app_of command ≡ run_parser) }
     ensures local { IfOk result (λ command. (out-Command command).has_globals ≡ false) }
@@ -37,11 +45,19 @@ fn run_parser<'a>(alloc: Global) -> Result<Command<'a>, AllocError>
         .arg(flag_option(alloc, "stats"))
 }
 
+fn big_parser<'a>(alloc: Global) -> Result<Command<'a>, AllocError>
+    ensures app { IfOk result (λ command. app_of command ≡ big_parser) }
+    ensures local { IfOk result (λ command. (out-Command command).has_globals ≡ false) }
+{
+    Command::new(alloc, "big").arg(required_word(alloc, "goroutines"))
+}
+
 /// One level of subcommands. Help and versions are off, since none of `clap`'s texts is printed.
 pub(crate) fn parser<'a>(alloc: Global) -> Result<Command<'a>, AllocError>
     ensures { IfOk result (λ command. app_of command ≡ parser) }
 {
     let run = run_parser(alloc)?;
+    let big = big_parser(alloc)?;
     Command::new(alloc, "rgo")
         .disable_help_flag(true)
         .disable_version_flag(true)
@@ -49,5 +65,6 @@ pub(crate) fn parser<'a>(alloc: Global) -> Result<Command<'a>, AllocError>
         .subcommand(run)?
         .subcommand(Command::new(alloc, "check"))?
         .subcommand(Command::new(alloc, "emit"))?
-        .subcommand(Command::new(alloc, "code"))
+        .subcommand(Command::new(alloc, "code"))?
+        .subcommand(big)
 }

@@ -1,3 +1,5 @@
+pub mod AnyOrder
+pub mod Attending
 pub mod Composed
 pub mod Found
 pub mod Given

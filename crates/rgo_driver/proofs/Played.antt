@@ -123,12 +123,18 @@ module _ {F : Type 0} (machine : Machine F) (limits : Limits) where
   printed_before s before silent = ap (λ l. with_print s (before ++ l)) silent
       ∙ ap (λ l. with_print s l) (append-nil before)
 
+  pub leads_after : (s t : State F) (picks : List Pick) (before : List ℕ) → s.printed ≡ []
+      → LeadsWithin machine limits s picks t
+      → LeadsWithin machine limits (with_print s before) picks (with_print t (before ++ t.printed))
+  leads_after s t picks before silent leads =
+      subst (λ v. LeadsWithin machine limits v picks (with_before before t)) (printed_before s before silent)
+      (prefixed machine limits before s t picks leads)
+
   pub fits_after : (s t : State F) (g : ℕ) (picks : List Pick) (before : List ℕ) → s.printed ≡ []
       → FitsTurn machine limits s g picks t
       → FitsTurn machine limits (with_print s before) g picks (with_print t (before ++ t.printed))
   fits_after s t g picks before silent h = record {
-    leads = subst (λ v. LeadsWithin machine limits v picks (with_before before t)) (printed_before s before silent)
-        (prefixed machine limits before s t picks h.leads);
+    leads = leads_after s t picks before silent h.leads;
     short = h.short;
     own = h.own;
   }

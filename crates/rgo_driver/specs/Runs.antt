@@ -49,6 +49,19 @@ pub record Runs
   pub ends : Ends machine limits (length (all_of rounds)) (length (all_of rounds ++ last)) state end
   pub gives : Gives end state.printed old new
 
+-- Some run from a state ends so, within the limits, and its print was given out; its goroutines have stepped in any
+-- order. Whether the limit of steps is reached was last tested after `tested` steps.
+pub record RunsFreely
+    {F : Type 0} (machine : Machine F) (limits : Limits) (start : State F) (end : RunEnd) (old new : Option (List ℕ))
+    : Type 0 where
+  pub picks : List Pick
+  pub tested : ℕ
+  pub state : State F
+  pub ran : LeadsWithin machine limits start picks state
+  pub early : tested ≤ length picks
+  pub ends : Ends machine limits tested (length picks) state end
+  pub gives : Gives end state.printed old new
+
 -- a state in which a run may begin, and between turns: the run continues, and all that was printed was given out
 pub record IsReady {F : Type 0} (limits : Limits) (s : State F) : Type 0 where
   pub on : GoesOn limits s
@@ -77,6 +90,16 @@ module _ {F C : Type 0} where
       (old new : Option (List ℕ))
       : Type 0 where
     pub runs : Runs machine limits start end old new
+    pub before : List ℕ
+    pub whole : given ++ runs.state.printed ≡ before ++ run.print
+    pub left : IsLeft run machine before (record runs.state { printed = run.print }) end
+
+  -- the same of a run whose goroutines have stepped in any order
+  pub record RunsFreelyTo
+      (run : View F C) (machine : Machine F) (limits : Limits) (given : List ℕ) (start : State F) (end : RunEnd)
+      (old new : Option (List ℕ))
+      : Type 0 where
+    pub runs : RunsFreely machine limits start end old new
     pub before : List ℕ
     pub whole : given ++ runs.state.printed ≡ before ++ run.print
     pub left : IsLeft run machine before (record runs.state { printed = run.print }) end

@@ -14,7 +14,7 @@ pub trait Running {
     ghost use Rattle.rgo_driver.specs.Running.{View, GoesOn, IsRunning, IsOn, TakesTurn, TriesMeeting, Clears};
 
     /// A function that was called, as the definition of the machine knows it.
-    type Frame: Drop;
+    type Frame;
 
     /// What no call changes, as the definitions know it.
     type Fixed;

@@ -1,10 +1,13 @@
 //! Runs, round by round.
 
-ghost use Rattle.std.specs.Prelude.{◌≡◌, ℕ, List, true};
+ghost use Rattle.std.specs.Prelude.{◌≡◌, ℕ, List, true, Option, IfOk, IfErr};
 ghost use Rattle.rgo_outside.specs.Causes.{Rose};
 ghost use Rattle.rgo_outside.specs.Pieces.{AddsOnly};
+ghost use Rattle.rgo_machine.specs.declared.limits.Limits as declared;
 ghost use Rattle.rgo_machine.specs.Machines as spec;
 ghost use Rattle.rgo_driver.specs.Lines.{IsLineEnd};
+ghost use Rattle.rgo_driver.specs.Playing.{IsBetween};
+ghost use Rattle.rgo_driver.specs.Points.{point_of};
 ghost use Rattle.rgo_driver.specs.Runs.{IsReady, CanBegin, RunsTo};
 
 use crate::drivers::Driver;
@@ -16,6 +19,33 @@ use rgo_machine::Limits;
 use rgo_outside::Sink;
 use std::alloc::Global;
 use std::collections::HashMap;
+
+/// The driver of a run that begins: every goroutine is ready.
+///
+/// # Errors
+///
+/// The end of the run, where there is no memory to begin.
+pub(crate) fn first_driver<R: Running>(alloc: Global, run: &R) -> Result<Driver, RunEnd>
+    ensures begins { IfOk result (λ driver. (driver.steps ≡ 0)
+        × ((limits : declared.Limits) (given : List ℕ) (s : spec.State R.Frame) → (R.view run.now).shows given s
+        → IsReady limits s → IsBetween (R.view run.now).machine limits (point_of s driver))) }
+    ensures ends { IfErr result (λ end. (end ≡ RunEnd.NoMemory)
+        × ((limits : declared.Limits) (given : List ℕ) (s : spec.State R.Frame) (out : Option (List ℕ))
+        → (R.view run.now).shows given s → IsReady limits s
+        → RunsTo (R.view run.now) (R.view run.now).machine limits given s end out out)) }
+{
+    let mut ready = Vec::new(alloc);
+    let count = run.goroutines();
+    match admit(&mut ready, 0, count) {
+        Ok(()) => {}
+        Err(_) => return Err(RunEnd::NoMemory),
+    }
+    Ok(Driver {
+        steps: 0,
+        ready,
+        waiting: HashMap::new(alloc),
+    })
+}
 
 /// Drives a run from the state that it is at, in rounds: in each, every goroutine that can step has a turn of up to
 /// 1,000 steps. What a goroutine printed goes out after its turn, each line in one piece. After a failed write nothing
@@ -34,16 +64,9 @@ pub fn run<R: Running, K: Sink>(alloc: Global, run: &mut R, limits: Limits, out:
     ensures kept { (result ≡ RunEnd.WriteFault → ⊥) → K.faults out.new ≡ K.faults out.old }
     ensures lines { AddsOnly IsLineEnd (K.pieces out.old) (K.pieces out.new) }
 {
-    let mut ready = Vec::new(alloc);
-    let count = run.goroutines();
-    match admit(&mut ready, 0, count) {
-        Ok(()) => {}
-        Err(_) => return RunEnd::NoMemory,
-    }
-    let mut driver = Driver {
-        steps: 0,
-        ready,
-        waiting: HashMap::new(alloc),
+    let mut driver = match first_driver(alloc, run) {
+        Ok(driver) => driver,
+        Err(end) => return end,
     };
     drive(alloc, run, &mut driver, limits, out)
 }

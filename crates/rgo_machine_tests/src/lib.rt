@@ -10,3 +10,5 @@ mod driver;
 mod meaning;
 #[cfg(test)]
 mod texts;
+#[cfg(test)]
+mod workers;

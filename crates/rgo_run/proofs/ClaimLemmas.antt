@@ -1,5 +1,5 @@
 -- Each claim of the headline by itself, from how a call ended that read its text.
-use Rattle.std.proofs.Common.{◌≡◌, true, false, ℕ, ◌⊎◌, inl, inr, List, ◌++◌, length, None, Option, refl, sym, ◌∙◌, ap, subst}
+use Rattle.std.proofs.Common.{◌≡◌, true, false, ℕ, ◌⊎◌, inl, inr, List, ◌++◌, length, None, Some, Option, option_and_then, refl, sym, ◌∙◌, ap, subst}
 use Rattle.rgo_typed.specs.Tree.{Typed}
 use Rattle.rgo_machine.specs.declared.turns.Shortage.{Shortage}
 use Rattle.rgo_machine.specs.declared.turns.Shortage.TheVariants as shortage
@@ -14,15 +14,15 @@ use Rattle.rgo_run.specs.declared.endings.Ending.{Ending}
 use Rattle.rgo_run.specs.declared.endings.Ending.TheVariants.{Valid, Ran, Usage, ReadFault}
 use Rattle.rgo_run.specs.declared.endings.Ending.TheVariants.{WriteFault, NoMemory}
 use Rattle.rgo_command_line.specs.declared.commands.Command.{Command}
-use Rattle.rgo_command_line.specs.declared.commands.Command.TheVariants.{Run, Check, Emit, Code}
+use Rattle.rgo_command_line.specs.declared.commands.Command.TheVariants.{Run, Check, Emit, Code, Big}
 use Rattle.rgo_run.specs.Calls.{Call, Asks, IsRun, IsEmit, AsksRun, SinkUse, SourceHeld, Failed, Held, Grew}
-use Rattle.rgo_run.specs.Calls.{IsUntouched}
+use Rattle.rgo_run.specs.Calls.{IsUntouched, run_options}
 use Rattle.rgo_run.specs.Compiled.{Emits, IsCodeText, WritesCode}
 use Rattle.rgo_run.specs.Endings.{status_of, status_of_run, is_fault_status, line_of}
 use Rattle.rgo_run.specs.Reports.{Tells}
 use Rattle.rgo_run.specs.Runs.{ProgramRuns, RunsTo, stats_at}
 use Rattle.rgo_run.specs.Texts.{IsTextOf, AskSome, RefusedBy, AcceptedBy}
-use Rattle.rgo_run.specs.Verdicts.{Passes, IsProgram}
+use Rattle.rgo_run.specs.Verdicts.{Passes, IsProgram, Refused}
 use Rattle.rgo_run.specs.Headline.{AlwaysHas, EndsRun, EndsEmit, IsOwnEnd, IsWriteFault, MayRun, MayEmit, NeverEnds, Print, Faults}
 use Rattle.rgo_run.specs.Headline.{Suffices, RunsWhole, MustRunWhole, IsSilent, EmitsWhole}
 use Rattle.rgo_run.proofs.EndingLemmas.{refused_status, not_one, one_is_no_run, one_is_no_emit, not_status_1, read_fault, write_fault}
@@ -45,7 +45,7 @@ pub data Outcome (call : Call) (text : List ℕ) (e : Ending) : Type 0 where
   no_memory : e ≡ NoMemory → IsUntouched call.out → Outcome call text e
 
 pub record Went (call : Call) (text : List ℕ) (e : Ending) : Type 0 where
-  pub is_text : IsTextOf call.source.left text
+  pub is_text : IsTextOf (command_of call.words) call.source.left text
   pub held : SourceHeld call.source
   pub asks : AskSome call.words ⊎ (e ≡ NoMemory)
   pub outcome : Outcome call text e
@@ -64,14 +64,38 @@ same_options call a b c d = cc
 same_command : (call : Call) (a b : Command) → Asks call a → Asks call b → a ≡ b
 same_command call a b c d = cc
 
+-- the command that is asked for runs with these options
+pub runs_with : (call : Call) (command : Command) (options : RunOptions) → Asks call command → IsRun call options
+    → run_options command ≡ Some options
+runs_with call command options c r = sym (ap (option_and_then run_options) c) ∙ r
+
 no_run : (call : Call) (command : Command) (options : RunOptions) → Asks call command → OnlyChecks command → IsRun call options → ⊥
-no_run call command options c k r = subst OnlyChecks (same_command call command (Run options) c r) k
+no_run call command options c k r = by_command command k (runs_with call command options c r)
+  where
+    by_command : (command : Command) → OnlyChecks command → run_options command ≡ Some options → ⊥
+    by_command Check k r = cc
+    by_command Code k r = cc
+    by_command (Run _) k r = k
+    by_command Emit k r = k
+    by_command (Big n) k r = k
 
 no_emit : (call : Call) (command : Command) → Asks call command → OnlyChecks command → IsEmit call → ⊥
 no_emit call command c k d = subst OnlyChecks (same_command call command Emit c d) k
 
 run_or_emit : (call : Call) (options : RunOptions) → IsEmit call → IsRun call options → ⊥
-run_or_emit call options c d = let same = same_command call Emit (Run options) c d in cc
+run_or_emit call options c d = let none = runs_with call Emit options c d in cc
+
+-- a refusal by a command that runs is that of a program
+run_refused : (call : Call) (command : Command) (options : RunOptions) (text : List ℕ) (e : Ending) → Asks call command
+    → IsRun call options → RefusedBy command text e → Refused text e
+run_refused call command options text e c r = by_command command (runs_with call command options c r)
+  where
+    by_command : (command : Command) → run_options command ≡ Some options → RefusedBy command text e → Refused text e
+    by_command (Run _) r f = f
+    by_command (Big n) r f = f
+    by_command Check r f = f
+    by_command Emit r f = f
+    by_command Code r f = absurd (let none : None ≡ Some options = r in cc)
 
 -- ---- verdicts by commands
 
@@ -80,9 +104,11 @@ one_refusal (Run options) text a b r s = verdicts.one_refusal text a b r s
 one_refusal Check text a b r s = verdicts.one_refusal text a b r s
 one_refusal Emit text a b r s = verdicts.one_refusal text a b r s
 one_refusal Code text a b r s = codes.one_refusal text a b r s
+one_refusal (Big n) text a b r s = verdicts.one_refusal text a b r s
 
 never_both : (command : Command) (text : List ℕ) (why : Ending) → AcceptedBy command text → RefusedBy command text why → ⊥
 never_both (Run options) text why p r = p
+never_both (Big n) text why p r = p
 never_both Check text why p r = verdicts.never_both text why p r
 never_both Emit text why p r = verdicts.never_both text why p r
 never_both Code text why p r = codes.never_both text why p r
@@ -161,7 +187,7 @@ first call text e (accepted is other c k p o) command d why w =
     absurd (never_both other text why p (program_refused call text command other why d c w))
 first call text e (ran options c r) command d why w =
     absurd (verdicts.never_both text why (passes text r.program r.is_program)
-    (program_refused call text command (Run options) why d c w))
+    (run_refused call command options text why d c w))
 first call text e (emitted c em) command d why w =
     absurd (verdicts.never_both text why (compiled_passes text em.0 em.1) (program_refused call text command Emit why d c w))
 first call text e (refused other c f o) command d why w =
@@ -362,7 +388,7 @@ complete_run call text e (ran l c r) t options d w n program p s =
     (λ f. w (r.failed f))
 complete_run call text e (emitted c em) t options d w n program p s = absurd (run_or_emit call options c d)
 complete_run call text e (refused command c f o) t options d w n program p s =
-    absurd (verdicts.never_both text e (passes text program p) (program_refused call text command (Run options) e c d f))
+    absurd (verdicts.never_both text e (passes text program p) (run_refused call command options text e c d f))
 complete_run call text e (no_memory is o) t options d w n program p s = inr (memory_status call text e is t n)
 
 -- a text that is only checked, and that the command accepts

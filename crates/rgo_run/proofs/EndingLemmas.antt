@@ -6,7 +6,7 @@ use Rattle.rgo_machine.specs.declared.turns.Shortage.TheVariants as shortage
 use Rattle.rgo_driver.specs.declared.ends.RunEnd.{RunEnd}
 use Rattle.rgo_driver.specs.declared.ends.RunEnd.TheVariants as run_end
 use Rattle.rgo_command_line.specs.declared.commands.Command.{Command}
-use Rattle.rgo_command_line.specs.declared.commands.Command.TheVariants.{Run, Check, Emit, Code}
+use Rattle.rgo_command_line.specs.declared.commands.Command.TheVariants.{Run, Check, Emit, Code, Big}
 use Rattle.rgo_run.specs.declared.endings.Ending.{Ending}
 use Rattle.rgo_run.specs.declared.endings.Ending.TheVariants.{Valid, Ran, Usage, ReadFault, TooLong, CodeTooLong}
 use Rattle.rgo_run.specs.declared.endings.Ending.TheVariants.{Lexical, Syntax, Nesting, Typing, NoForm, Breaks, WriteFault, NoMemory}
@@ -39,6 +39,7 @@ refused_status (Run options) text e r = text_refused text e r
 refused_status Check text e r = text_refused text e r
 refused_status Emit text e r = text_refused text e r
 refused_status Code text e r = code_refused text e r
+refused_status (Big n) text e r = text_refused text e r
 
 -- the status of a run is none of a refusal or of a failed read
 pub not_status_1 : (end : RunEnd) → status_of_run end ≡ 1 → ⊥

@@ -1,6 +1,6 @@
 -- The claims of the whole, from what its parts leave: the text that was read and checked or run, and the report of the
 -- ending.
-use Rattle.std.proofs.Common.{◌≡◌, Bool, true, false, ℕ, ◌⊎◌, inl, inr, List, [], Option, None, Some, refl, ap, ◌∙◌, subst}
+use Rattle.std.proofs.Common.{◌≡◌, Bool, true, false, ℕ, ◌⊎◌, inl, inr, List, [], Option, None, Some, IfSome, option_and_then, refl, sym, ap, ◌∙◌, subst}
 use Rattle.std.specs.Io.KnownBytes.{Appends}
 use Rattle.rgo_region_machine.specs.States.{RegionState}
 use Rattle.rgo_world.specs.declared.tally.Tally.{Tally}
@@ -8,13 +8,15 @@ use Rattle.rgo_driver.specs.Runs.{Gives}
 use Rattle.rgo_driver.specs.declared.ends.RunEnd.{RunEnd}
 use Rattle.rgo_driver.specs.declared.ends.RunEnd.TheVariants as run_end
 use Rattle.rgo_command_line.specs.declared.commands.Command.{Command}
-use Rattle.rgo_command_line.specs.declared.commands.Command.TheVariants.{Run, Check, Emit, Code}
+use Rattle.rgo_command_line.specs.declared.commands.Command.TheVariants.{Run, Check, Emit, Code, Big}
 use Rattle.rgo_command_line.specs.declared.limits.RunOptions.{RunOptions}
 use Rattle.rgo_command_line.specs.Commands.{command_of}
+use Rattle.rgo_command_line.specs.Limits.{default_options}
+use Rattle.rgo_big.specs.Big.{big_text}
 use Rattle.rgo_run.specs.declared.endings.Ending.{Ending}
 use Rattle.rgo_run.specs.declared.endings.Ending.TheVariants.{Valid, Ran, Usage, ReadFault, TooLong, CodeTooLong}
 use Rattle.rgo_run.specs.declared.endings.Ending.TheVariants.{WriteFault, NoMemory}
-use Rattle.rgo_run.specs.Calls.{AsksRun, Call, Asks, SourceFailed, SourceHeld, IsUntouched}
+use Rattle.rgo_run.specs.Calls.{AsksRun, Call, Asks, IsRun, SourceFailed, SourceHeld, IsUntouched, run_options}
 use Rattle.rgo_run.specs.Endings.{status_of, is_run_status, is_fault_status}
 use Rattle.rgo_run.specs.Reports.{Tells, HasPlace, Reports}
 use Rattle.rgo_run.specs.Runs.{RunsTo, stats_at}
@@ -131,6 +133,15 @@ no_place Valid ends h = h
 no_place WriteFault ends h = h
 no_place _ ends h = ends
 
+-- words that ask for a run ask for something
+run_asks : (call : Call) (options : RunOptions) → IsRun call options → AskSome call.words
+run_asks call options r = by_command (command_of call.words) refl r
+  where
+    by_command : (asked : Option Command) → command_of call.words ≡ asked
+        → option_and_then run_options asked ≡ Some options → AskSome call.words
+    by_command (Some command) is r = (command, is)
+    by_command None is r = cc
+
 no_line : (call : Call) (text : List ℕ) (e : Ending) → Went call text e → Outcome call text e → HasPlace e
     → Tells text NoMemory call.status call.err → Headline call
 no_line call text e went (accepted is command c k p o) h t = absurd (subst HasPlace is h)
@@ -138,7 +149,7 @@ no_line call text e went (ran options c r) h t =
     headline_told call text (Ran run_end.NoMemory None) (record {
       is_text = went.is_text;
       held = went.held;
-      asks = inl (Run options, c);
+      asks = inl (run_asks call options c);
       outcome = ran options c (no_line_run options text call e r
           (no_fault_line r.run_end r.stats r.runs.regions.state options.stats r.stats_are (subst HasPlace r.is_end h)));
     }) t
@@ -177,8 +188,10 @@ code_outcome call text e c p u = refused Code c p u
 performed_outcome : (call : Call) (command : Command) (text : List ℕ) (e : Ending) → Asks call command
     → Performs command text e call.out → Outcome call text e
 performed_outcome call Check text e c p = checked_outcome call text e c p.0 p.1
-performed_outcome call (Run options) text e c (inl r) = ran options c r
+performed_outcome call (Run options) text e c (inl r) = ran options (ap (option_and_then run_options) c) r
 performed_outcome call (Run options) text e c (inr f) = failed_outcome call (Run options) text e c (λ why r. r) f.0 f.1
+performed_outcome call (Big n) text e c (inl r) = ran default_options (ap (option_and_then run_options) c) r
+performed_outcome call (Big n) text e c (inr f) = failed_outcome call (Big n) text e c (λ why r. r) f.0 f.1
 performed_outcome call Emit text e c (inl em) = emitted c em
 performed_outcome call Emit text e c (inr f) = failed_outcome call Emit text e c (λ why r. r) f.0 f.1
 performed_outcome call Code text e c p = code_outcome call text e c p.0 p.1
@@ -189,7 +202,7 @@ pub headline_of_text : (call : Call) (command : Command) (text : List ℕ) (e : 
     → Reports text e call.status call.err → Headline call
 headline_of_text call command text e read performs reports =
     headline_of call text e (record {
-      is_text = read.is_text;
+      is_text = subst (λ o. IsTextOf o call.source.left text) (sym read.asked) read.is_text;
       held = read.held;
       asks = inl (command, read.asked);
       outcome = performed_outcome call command text e read.asked performs;
@@ -197,14 +210,26 @@ headline_of_text call command text e read performs reports =
 
 -- ---- other calls
 
--- a text that is consistent with what the source reports
-abbrev some_text : Option (List ℕ) → List ℕ
-some_text None = []
-some_text (Some text) = text
+-- the large text, where it is asked for, or else a text that is consistent with what the source reports
+abbrev left_text : Option (List ℕ) → List ℕ
+left_text None = []
+left_text (Some text) = text
 
-is_some_text : (left : Option (List ℕ)) → IsTextOf left (some_text left)
-is_some_text None = tt
-is_some_text (Some text) = refl
+abbrev some_text : Option Command → Option (List ℕ) → List ℕ
+some_text (Some (Big n)) left = big_text n
+some_text _ left = left_text left
+
+is_left_text : (left : Option (List ℕ)) → IfSome left (λ bytes. left_text left ≡ bytes)
+is_left_text None = tt
+is_left_text (Some text) = refl
+
+is_some_text : (asked : Option Command) (left : Option (List ℕ)) → IsTextOf asked left (some_text asked left)
+is_some_text None left = is_left_text left
+is_some_text (Some (Run options)) left = is_left_text left
+is_some_text (Some Check) left = is_left_text left
+is_some_text (Some Emit) left = is_left_text left
+is_some_text (Some Code) left = is_left_text left
+is_some_text (Some (Big n)) left = refl
 
 -- an ending that has nothing to do with a text
 pub record IsOutside (e : Ending) : Type 0 where
@@ -216,7 +241,7 @@ pub record IsOutside (e : Ending) : Type 0 where
   pub not_ran : (end : RunEnd) (stats : Option Tally) → e ≡ Ran end stats → ⊥
 
 -- a call that did not read its text: its words ask for nothing, or a read failed
-headline_outside : (call : Call) (e : Ending) → IsOutside e → IsUntouched call.out → Tells (some_text call.source.left) e call.status call.err
+headline_outside : (call : Call) (e : Ending) → IsOutside e → IsUntouched call.out → Tells (some_text (command_of call.words) call.source.left) e call.status call.err
     → (e ≡ Usage → command_of call.words ≡ None)
     → (command_of call.words ≡ None → (e ≡ Usage) ⊎ (e ≡ NoMemory))
     → (e ≡ ReadFault → SourceFailed call.source)
@@ -224,8 +249,8 @@ headline_outside : (call : Call) (e : Ending) → IsOutside e → IsUntouched ca
     → ((command : Command) → Asks call command → (SourceFailed call.source → ⊥) → ⊥)
     → Headline call
 headline_outside call e outside u t of_usage to_usage of_fault kept only = record {
-  text = some_text call.source.left;
-  is_text = is_some_text call.source.left;
+  text = some_text (command_of call.words) call.source.left;
+  is_text = is_some_text (command_of call.words) call.source.left;
   ending = e;
   refusal = record {
     usage = of_usage;
@@ -249,7 +274,7 @@ headline_outside call e outside u t of_usage to_usage of_fault kept only = recor
     none = λ s. let h = err_held call _ e t s in (kept (subst (λ n. is_fault_status n ≡ false) h.1 s), u.1, h.0);
   };
   complete = record {
-    run = λ options c s o n. absurd (only (Run options) c s);
+    run = λ options c s o n. let some = run_asks call options c in absurd (only some.0 some.1 s);
     check = λ c s n. absurd (only Check c s);
     emit = λ c s o n. absurd (only Emit c s);
     code = λ c s n. absurd (only Code c s);
@@ -286,7 +311,7 @@ some_asked call some n = let c = some.1 in cc
 too_much : (call : Call) (e : Ending) → (n : ReadTooMuch call.words call.source e) → IsUntouched call.out
     → Went call n.text e
 too_much call e n u = record {
-  is_text = n.is_text;
+  is_text = subst (λ o. IsTextOf o call.source.left n.text) (sym n.asked) n.is_text;
   held = n.held;
   asks = inl (n.command, n.asked);
   outcome = refused n.command n.asked n.refused u;
@@ -304,8 +329,8 @@ headline_of_words call TooLong n u (inl t) = headline_told call n.text TooLong (
 headline_of_words call CodeTooLong n u (inl t) =
     headline_told call n.text CodeTooLong (too_much call CodeTooLong n u) t
 headline_of_words call NoMemory n u (inl t) =
-    headline_told call (some_text call.source.left) NoMemory (record {
-      is_text = is_some_text call.source.left;
+    headline_told call (some_text (command_of call.words) call.source.left) NoMemory (record {
+      is_text = is_some_text (command_of call.words) call.source.left;
       held = n;
       asks = inr refl;
       outcome = no_memory refl u;

@@ -1,5 +1,5 @@
 -- What the parts of the compiler say of a text, as the endings that report it.
-use Rattle.std.proofs.Common.{◌≡◌, ℕ, suc, ◌<◌, ◌≤◌, inl, Bool, true, false, List, [], ◌∷◌, ◌++◌, length, Option, None, Some, refl, arith, subst}
+use Rattle.std.proofs.Common.{◌≡◌, ℕ, suc, ◌+◌, ◌*◌, ◌<◌, ◌≤◌, inl, Bool, true, false, List, [], ◌∷◌, ◌++◌, length, Option, None, Some, IfSome, refl, arith, subst}
 use Rattle.std.specs.Prelude.{max, nat_le, codes, bytes_eq, if◌then◌else◌}
 use Rattle.std.proofs.lemmas.Bool.Decides.{nat_tests}
 use Rattle.rgo_outside.specs.Moves.{ReadsAll, GivesTooMany}
@@ -37,8 +37,10 @@ use Rattle.rgo_sound.proofs.Offers.{names_only_live}
 use Rattle.rgo_sound.proofs.Safe.{safety}
 use Rattle.rgo_command_line.specs.Commands.{command_of}
 use Rattle.rgo_command_line.specs.declared.commands.Command.{Command}
-use Rattle.rgo_command_line.specs.declared.commands.Command.TheVariants.{Check, Code, Emit, Run}
+use Rattle.rgo_command_line.specs.declared.commands.Command.TheVariants.{Big, Check, Code, Emit, Run}
+use Rattle.rgo_command_line.specs.Limits.{IsBig}
 use Rattle.rgo_command_line.specs.declared.limits.RunOptions.{RunOptions}
+use Rattle.rgo_big.specs.Big.{big_text}
 use Rattle.rgo_command_line.specs.declared.commands.WordsError.{WordsError}
 use Rattle.rgo_command_line.specs.declared.commands.WordsError.TheVariants as words
 use Rattle.rgo_machine.specs.declared.limits.Limits.{Limits}
@@ -65,16 +67,47 @@ use Rattle.rgo_run.specs.Calls.{SourceUse, SourceFailed, SourceHeld, SinkUse, Fa
 use Rattle.rgo_run.specs.Errors.{command_error, read_error, too_long, lex_error, type_error, reading_error, check_error}
 use Rattle.rgo_run.specs.Runs.{RegionRun, SourceRun, stats_at}
 use Rattle.rgo_run.specs.CodeVerdicts.{IsTextOfCode, code_limit}
-use Rattle.rgo_run.specs.Texts.{IsTextOf, NotRead, ReadTooMuch, RefusedBy, Fails, ChecksCode, Performs, limit_of}
+use Rattle.rgo_run.specs.Texts.{IsRead, IsTextOf, NotRead, ReadTooMuch, RefusedBy, Fails, ChecksCode, Performs, limit_of}
 use Rattle.rgo_run.specs.Verdicts.{IsTree, text_limit}
 
+-- the command reads its text
+abbrev pub Reads : Command → Type 0
+Reads command = (n : ℕ) → command ≡ Big n → ⊥
+
+-- what the source had left is the text of a command that reads it
+left_is_text : (command : Command) (left : Option (List ℕ)) (text : List ℕ) → Reads command
+    → IfSome left (λ bytes. text ≡ bytes) → IsTextOf (Some command) left text
+left_is_text (Run options) left text reads is = is
+left_is_text Check left text reads is = is
+left_is_text Emit left text reads is = is
+left_is_text Code left text reads is = is
+left_is_text (Big n) left text reads is = absurd (reads n refl)
+
 -- the bytes that were read to the end are the text
-pub is_text : (limit : ℕ) (left rest : Option (List ℕ)) (bytes : List ℕ) → ReadsAll limit left rest bytes → IsTextOf left bytes
-is_text limit left rest bytes read = ReadsAll-told limit left rest bytes (λ text. bytes ≡ text) read refl
+pub all_read : (command : Command) (w : List (List ℕ)) (source : SourceUse) (rest : Option (List ℕ)) (bytes : List ℕ)
+    → command_of w ≡ Some command → Reads command → ReadsAll (limit_of command) source.left rest bytes
+    → SourceHeld source → IsRead w source command bytes
+all_read command w source rest bytes asked reads read held = record {
+  asked = asked;
+  is_text = left_is_text command source.left bytes reads
+      (ReadsAll-told (limit_of command) source.left rest bytes (λ text. bytes ≡ text) read refl);
+  within = read.within;
+  held = held;
+}
+
+-- the large text is none too long
+pub big_read : (n : ℕ) (w : List (List ℕ)) (source : SourceUse) (text : List ℕ) → command_of w ≡ Some (Big n)
+    → IsBig n → text ≡ big_text n → length text ≤ 71 * n + 364 → SourceHeld source → IsRead w source (Big n) text
+big_read n w source text asked few is short held = record {
+  asked = asked;
+  is_text = is;
+  within = omega (arith, few.1, short);
+  held = held;
+}
 
 -- more bytes than the limit are the beginning of a text that is longer
 longer : (limit : ℕ) (left rest : Option (List ℕ)) → GivesTooMany limit left rest
-    → (text : List ℕ) × IsTextOf left text × (limit < length text)
+    → (text : List ℕ) × IfSome left (λ bytes. text ≡ bytes) × (limit < length text)
 longer limit None rest gave = (gave.0, tt, omega (arith, gave.1))
 longer limit (Some text) rest gave = (text, refl, GivesTooMany-told limit (Some text) rest gave)
 
@@ -85,18 +118,19 @@ too_long_refused (Run options) text h = h
 too_long_refused Check text h = h
 too_long_refused Emit text h = h
 too_long_refused Code text h = h
+too_long_refused (Big n) text h = h
 
 too_much : (command : Command) (w : List (List ℕ)) (source : SourceUse) (rest : Option (List ℕ))
-    → command_of w ≡ Some command → SourceHeld source → GivesTooMany (limit_of command) source.left rest
-    → ReadTooMuch w source (too_long command)
-too_much command w source rest asked held gave =
+    → command_of w ≡ Some command → Reads command → SourceHeld source
+    → GivesTooMany (limit_of command) source.left rest → ReadTooMuch w source (too_long command)
+too_much command w source rest asked reads held gave =
     let t = longer (limit_of command) source.left rest gave in
     record {
       command = command;
       asked = asked;
       held = held;
       text = t.0;
-      is_text = t.1;
+      is_text = left_is_text command source.left t.0 reads t.1;
       refused = too_long_refused command t.0 t.2;
     }
 
@@ -106,12 +140,14 @@ not_read (Run options) w source much = much
 not_read Check w source much = much
 not_read Emit w source much = much
 not_read Code w source much = much
+not_read (Big n) w source much = much
 
 pub limit_is_small : (command : Command) → limit_of command ≤ code_limit
 limit_is_small (Run options) = omega arith
 limit_is_small Check = omega arith
 limit_is_small Emit = omega arith
 limit_is_small Code = omega arith
+limit_is_small (Big n) = omega arith
 
 pub no_words : (w : List (List ℕ)) (source : SourceUse) (error : WordsError)
     → (error ≡ words.Usage → command_of w ≡ None) → SourceHeld source → NotRead w source (command_error error)
@@ -120,13 +156,14 @@ no_words w source words.NoMemory asked held = held
 
 pub no_text : (command : Command) (w : List (List ℕ)) (source : SourceUse) (rest : Option (List ℕ)) (end : ReadEnd)
     → command_of w ≡ Some command
+    → Reads command
     → (end ≡ read.Fault → SourceFailed source)
     → (end ≡ read.TooLong → SourceHeld source × GivesTooMany (limit_of command) source.left rest)
     → (end ≡ read.NoMemory → SourceHeld source) → NotRead w source (read_error command end)
-no_text command w source rest read.Fault asked fault long memory = ((command, asked), fault refl)
-no_text command w source rest read.TooLong asked fault long memory =
-    let h = long refl in not_read command w source (too_much command w source rest asked h.0 h.1)
-no_text command w source rest read.NoMemory asked fault long memory = memory refl
+no_text command w source rest read.Fault asked reads fault long memory = ((command, asked), fault refl)
+no_text command w source rest read.TooLong asked reads fault long memory =
+    let h = long refl in not_read command w source (too_much command w source rest asked reads h.0 h.1)
+no_text command w source rest read.NoMemory asked reads fault long memory = memory refl
 
 pub no_usage : (command : Command) (end : ReadEnd) → read_error command end ≡ Usage → ⊥
 no_usage command read.Fault x = cc
@@ -134,6 +171,7 @@ no_usage (Run options) read.TooLong x = cc
 no_usage Check read.TooLong x = cc
 no_usage Emit read.TooLong x = cc
 no_usage Code read.TooLong x = cc
+no_usage (Big n) read.TooLong x = cc
 no_usage command read.NoMemory x = cc
 
 pub lex_fails : (text : List ℕ) (error : LexError) → length text ≤ text_limit → LexFails text error

@@ -1,11 +1,12 @@
 -- One call of `rgo`, by what it was given and what it left.
-use Rattle.std.specs.Prelude.{◌≡◌, ℕ, Bool, true, List, [], Option, Some}
+use Rattle.std.specs.Prelude.{◌≡◌, ℕ, Bool, true, List, [], Option, Some, None, option_and_then}
 use Rattle.std.specs.Io.KnownBytes.{Appends}
 use Rattle.rgo_outside.specs.Causes.{Rose}
 use Rattle.rgo_command_line.specs.declared.commands.Command.{Command}
-use Rattle.rgo_command_line.specs.declared.commands.Command.TheVariants.{Run, Check, Emit, Code}
+use Rattle.rgo_command_line.specs.declared.commands.Command.TheVariants.{Run, Check, Emit, Code, Big}
 use Rattle.rgo_command_line.specs.declared.limits.RunOptions.{RunOptions}
 use Rattle.rgo_command_line.specs.Commands.{command_of}
+use Rattle.rgo_command_line.specs.Limits.{default_options}
 
 -- what the source had left, where it reports it, and its count of faults before and after
 pub record SourceUse : Type 0 where
@@ -40,16 +41,26 @@ pub record Call : Type 0 where
   pub err : SinkUse
   pub status : ℕ
 
+-- the options of a command that runs a program: those of `run`, and for `big` what `run` sets without options
+abbrev pub run_options : Command → Option RunOptions
+run_options (Run options) = Some options
+run_options (Big n) = Some default_options
+run_options _ = None
+
+-- the words ask for a run, with these options
+abbrev pub AsksRunWith : List (List ℕ) → RunOptions → Type 0
+AsksRunWith words options = option_and_then run_options (command_of words) ≡ Some options
+
 -- the words ask for a run, with some options
 abbrev pub AsksRun : List (List ℕ) → Type 0
-AsksRun words = (options : RunOptions) × (command_of words ≡ Some (Run options))
+AsksRun words = (options : RunOptions) × AsksRunWith words options
 
 -- the words ask for this
 abbrev pub Asks : Call → Command → Type 0
 Asks call command = command_of call.words ≡ Some command
 
 abbrev pub IsRun : Call → RunOptions → Type 0
-IsRun call options = Asks call (Run options)
+IsRun call options = AsksRunWith call.words options
 
 abbrev pub IsCheck : Call → Type 0
 IsCheck call = Asks call Check

@@ -166,10 +166,11 @@ pub record Complete (call : Call) (text : List ℕ) : Type 0 where
   pub code : IsCode call → (SourceFailed call.source → ⊥) → (Failed call.err → ⊥)
       → CodePasses text → IsSilent call ⊎ (call.status ≡ 11)
 
--- Some text that is consistent with what the source reports was checked, run or compiled as the words ask.
+-- The large text, where the words ask for it, or else some text that is consistent with what the source reports, was
+-- checked, run or compiled as the words ask.
 pub record Headline (call : Call) : Type 0 where
   pub text : List ℕ
-  pub is_text : IsTextOf call.source.left text
+  pub is_text : IsTextOf (command_of call.words) call.source.left text
   pub ending : Ending
   pub refusal : Refusal call text ending
   pub print : Print call text ending

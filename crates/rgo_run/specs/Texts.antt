@@ -1,8 +1,10 @@
 -- What reading, checking and running a text leave, by the ending, before it is reported.
 use Rattle.std.specs.Prelude.{◌≡◌, ◌⊎◌, ◌≤◌, List, ℕ, None, Some, Option, IfSome, length}
 use Rattle.rgo_command_line.specs.declared.commands.Command.{Command}
-use Rattle.rgo_command_line.specs.declared.commands.Command.TheVariants.{Run, Check, Emit, Code}
+use Rattle.rgo_command_line.specs.declared.commands.Command.TheVariants.{Run, Check, Emit, Code, Big}
 use Rattle.rgo_command_line.specs.Commands.{command_of}
+use Rattle.rgo_command_line.specs.Limits.{default_options}
+use Rattle.rgo_big.specs.Big.{big_text}
 use Rattle.rgo_run.specs.declared.endings.Ending.{Ending}
 use Rattle.rgo_run.specs.declared.endings.Ending.TheVariants.{Valid, Usage, ReadFault, TooLong, CodeTooLong, NoMemory}
 use Rattle.rgo_run.specs.Calls.{SourceUse, SourceFailed, SourceHeld, SinkUse, IsUntouched}
@@ -11,19 +13,21 @@ use Rattle.rgo_run.specs.Compiled.{Emits}
 use Rattle.rgo_run.specs.Runs.{RunsTo}
 use Rattle.rgo_run.specs.Verdicts.{Passes, Refused, text_limit}
 
--- the text is what the source had left, where it reports that
-abbrev pub IsTextOf : Option (List ℕ) → List ℕ → Type 0
-IsTextOf left text = IfSome left (λ bytes. text ≡ bytes)
+-- the text for what the words ask for, if anything: the large text for `big`, and otherwise what the source had left,
+-- where it reports that
+abbrev pub IsTextOf : Option Command → Option (List ℕ) → List ℕ → Type 0
+IsTextOf (Some (Big n)) left text = text ≡ big_text n
+IsTextOf _ left text = IfSome left (λ bytes. text ≡ bytes)
 
 -- the most bytes that a command reads
 abbrev pub limit_of : Command → ℕ
 limit_of Code = code_limit
 limit_of _ = text_limit
 
--- these words and this text were read
+-- these words were read, and this text was read for them, or written
 pub record IsRead (words : List (List ℕ)) (source : SourceUse) (command : Command) (text : List ℕ) : Type 0 where
   pub asked : command_of words ≡ Some command
-  pub is_text : IsTextOf source.left text
+  pub is_text : IsTextOf (Some command) source.left text
   pub within : length text ≤ limit_of command
   pub held : SourceHeld source
 
@@ -39,6 +43,7 @@ RefusedBy _ text ending = Refused text ending
 -- the command accepts the text without running it
 abbrev pub AcceptedBy : Command → List ℕ → Type 0
 AcceptedBy (Run options) text = ⊥
+AcceptedBy (Big n) text = ⊥
 AcceptedBy Code text = CodePasses text
 AcceptedBy _ text = Passes text
 
@@ -48,7 +53,7 @@ pub record ReadTooMuch (words : List (List ℕ)) (source : SourceUse) (ending : 
   pub asked : command_of words ≡ Some command
   pub held : SourceHeld source
   pub text : List ℕ
-  pub is_text : IsTextOf source.left text
+  pub is_text : IsTextOf (Some command) source.left text
   pub refused : RefusedBy command text ending
 
 -- why no text was read
@@ -80,5 +85,6 @@ ChecksCode text ending = CodeRefused text ending
 abbrev pub Performs : Command → List ℕ → Ending → SinkUse → Type 0
 Performs Check text ending out = Checks text ending × IsUntouched out
 Performs (Run options) text ending out = RunsTo options text ending out ⊎ (Fails text ending × IsUntouched out)
+Performs (Big n) text ending out = RunsTo default_options text ending out ⊎ (Fails text ending × IsUntouched out)
 Performs Emit text ending out = Emits text ending out ⊎ (Fails text ending × IsUntouched out)
 Performs Code text ending out = ChecksCode text ending × IsUntouched out

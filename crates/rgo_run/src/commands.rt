@@ -160,5 +160,6 @@ pub(crate) fn perform<K: Sink>(alloc: Global, command: Command, text: &[u8], out
         Command::Check => check_only(alloc, text),
         Command::Emit => emit_text(alloc, text, out),
         Command::Code => check_code_text(alloc, text),
+        Command::Big(_) => run_text(alloc, RunOptions::default(), text, out),
     }
 }

@@ -1,10 +1,10 @@
 //! The whole: the words, the text, what is done with it, and the report of the ending.
 
-ghost use Rattle.std.specs.Prelude.{◌≡◌, ◌⊎◌, true, false, map, string_bytes};
+ghost use Rattle.std.specs.Prelude.{◌≡◌, ◌⊎◌, ℕ, true, false, map, string_bytes};
 ghost use Rattle.std.specs.Prelude.{IfErr, IfOk, IsErrOf, Some, None};
 ghost use Rattle.rgo_outside.specs.Causes.{Rose};
 ghost use Rattle.rgo_command_line.specs.Commands.{command_of};
-ghost use Rattle.rgo_command_line.specs.declared.commands.Command.TheVariants.{Check};
+ghost use Rattle.rgo_command_line.specs.declared.commands.Command.TheVariants.{Big, Check};
 ghost use Rattle.rgo_run.specs.Errors.{read_error};
 ghost use Rattle.rgo_run.specs.Texts.{IsRead, NotRead};
 ghost use Rattle.rgo_run.specs.Calls.{AsksRun, sink_use, source_use};
@@ -14,6 +14,7 @@ ghost use Rattle.rgo_run.specs.Headline.{Headline};
 use crate::commands::{limit_of, perform};
 use crate::endings::Ending;
 use crate::report::report;
+use rgo_big::big_source;
 use rgo_command_line::{Command, read_words};
 use rgo_outside::{Gate, ReadEnd, Sink, Source, read_all};
 use std::alloc::Global;
@@ -32,7 +33,7 @@ fn read_ending(command: Command, end: ReadEnd) -> Ending
     }
 }
 
-// Reads the words and the text.
+// Reads the words, and the text that the command is about: what the source has left, or for `big` the large text.
 fn read<S: Source>(
     alloc: Global,
     words: &[String],
@@ -44,11 +45,15 @@ fn read<S: Source>(
     ensures err { IfErr result (NotRead (map string_bytes words.now)
         (source_use (S.left source.old) (S.faults source.old) (S.faults source.new))) }
     ensures usage { IsErrOf result Ending.Usage → source.new ≡ source.old }
+    ensures big { (n : ℕ) → command_of (map string_bytes words.now) ≡ Some (Big n) → source.new ≡ source.old }
 {
     let command = read_words(alloc, words)?;
-    match read_all(alloc, source, limit_of(command)) {
-        Ok(text) => Ok((command, text)),
-        Err(end) => Err(read_ending(command, end)),
+    match command {
+        Command::Big(n) => Ok((command, big_source(alloc, n)?)),
+        _ => match read_all(alloc, source, limit_of(command)) {
+            Ok(text) => Ok((command, text)),
+            Err(end) => Err(read_ending(command, end)),
+        },
     }
 }
 
@@ -56,11 +61,14 @@ fn read<S: Source>(
 /// returns the status.
 ///
 /// The words are the program's name, which is ignored, and `check`, `emit`, `code`, or `run` with its
-/// options `--steps N` and `--goroutines N`, followed by nothing or a `--`. The text is what the source
-/// has left, at most 1,048,576 bytes. `run` writes its print to `out`, line by line; `emit` writes the
-/// text of the code with regions; `check` leaves `out` as it was. `code` reads such a text of code, at
-/// most 67,108,864 bytes, checks it, and leaves `out` as it was. At most one line is written to `err`.
-/// After a failed write nothing more is written to that sink.
+/// options `--steps N`, `--goroutines N`, `--pages N`, `--page-words N`, `--regions N` and `--stats`,
+/// followed by nothing or a `--`; or `big` and a number, as `read_words` says. The text is what the
+/// source has left, at most 1,048,576 bytes. `run` writes its print to `out`, line by line; `emit`
+/// writes the text of the code with regions; `check` leaves `out` as it was. `code` reads such a text of
+/// code, at most 67,108,864 bytes, checks it, and leaves `out` as it was. `big N` leaves the source as
+/// it was, and does what `run` without options does with the large text of `rgo_big` that starts `N`
+/// goroutines. At most one line is written to `err`, and before it, with `--stats`, one that counts what
+/// the run has made. After a failed write nothing more is written to that sink.
 ///
 /// | status | where |
 /// |---|---|
@@ -68,6 +76,9 @@ fn read<S: Source>(
 /// | 1 | the text is too long, or breaks a rule: `err` says which, and at which line and column |
 /// | 2 | a goroutine trapped: `err` says why, and at which line and column |
 /// | 3 | no goroutine can step, alone or with another, and `main` has not returned |
+/// | 4 | a page is wanted, and all that `--pages` allows are in use |
+/// | 5 | as many regions are live as `--regions` allows, and one more is to be created |
+/// | 6 | an object is larger than a page |
 /// | 7 | a goroutine that has 100,000 calls open makes another |
 /// | 8 | as many steps were taken as `--steps` allows |
 /// | 9 | a read of the source failed |
@@ -96,6 +107,8 @@ pub fn rgo<S: Source, K: Sink, E: Sink, G: Gate + Sync>(
     // What follows of the status alone.
     ensures usage { result ≡ 64 → command_of (map string_bytes words.now) ≡ None }
     ensures not_read { result ≡ 64 → source.new ≡ source.old }
+    ensures unread_big { (n : ℕ) → command_of (map string_bytes words.now) ≡ Some (Big n)
+        → source.new ≡ source.old }
     ensures checked { command_of (map string_bytes words.now) ≡ Some Check → out.new ≡ out.old }
     ensures ran { is_run_status result ≡ true → AsksRun (map string_bytes words.now) }
     ensures not_run { result ≡ 64 → out.new ≡ out.old }

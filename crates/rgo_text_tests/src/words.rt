@@ -197,7 +197,26 @@ static EMITS: [&str; 3] = ["rgo|emit", "rgo|emit|--", "-|emit"];
 
 static CODES: [&str; 3] = ["rgo|code", "rgo|code|--", "-|code"];
 
-static REFUSED: [&str; 233] = [
+/// Command lines that ask for `big`, with its number.
+static BIGS: [(&str, u32); 13] = [
+    ("rgo|big|5", 5),
+    ("rgo|big|5|--", 5),
+    ("rgo|big|--|5", 5),
+    ("--steps=5|big|5", 5),
+    // The ends of the range.
+    ("rgo|big|1", 1),
+    ("rgo|big|2", 2),
+    ("rgo|big|9999", 9_999),
+    ("rgo|big|10000", 10_000),
+    ("rgo|big|--|10000", 10_000),
+    // Leading zeros.
+    ("rgo|big|007", 7),
+    ("rgo|big|--|0010", 10),
+    ("rgo|big|0010000|--", 10_000),
+    ("rgo|big|00000000000000000000000000000000000000009", 9),
+];
+
+static REFUSED: [&str; 288] = [
     "rgo",
     "",
     "run",
@@ -256,7 +275,6 @@ static REFUSED: [&str; 233] = [
     "rgo|code|x",
     "rgo|code|--|--",
     "rgo|code|--goroutines|5",
-    "rgo|big|5",
     // The number of an option is missing, or no number.
     "rgo|run|--steps",
     "rgo|run|--goroutines",
@@ -441,6 +459,63 @@ static REFUSED: [&str; 233] = [
     "rgo|check|--goroutines|5",
     "rgo|check|--goroutines=5",
     "rgo|check|--|--steps=5",
+    // `big`: no number, or one that it does not take, further words, and options.
+    "big",
+    "rgo|big",
+    "rgo|big|",
+    "rgo|big|-",
+    "rgo|big|--",
+    "rgo|big|--|",
+    "rgo|big|--|--",
+    "rgo|big|x",
+    "rgo|big|--|x",
+    "rgo|big|+5",
+    "rgo|big|-5",
+    "rgo|big|--|+5",
+    "rgo|big|--|-5",
+    "rgo|big| 5",
+    "rgo|big|5 ",
+    "rgo|big|5.0",
+    "rgo|big|1e3",
+    "rgo|big|0x5",
+    "rgo|big|5_000",
+    "rgo|big|10,000",
+    "rgo|big|٥",
+    "rgo|big|0",
+    "rgo|big|000",
+    "rgo|big|--|0",
+    "rgo|big|10001",
+    "rgo|big|--|10001",
+    "rgo|big|4294967297",
+    "rgo|big|18446744073709551617",
+    "rgo|big|5|5",
+    "rgo|big|5|6",
+    "rgo|big|--|5|5",
+    "rgo|big|5|--|5",
+    "rgo|big|5|--|--",
+    "rgo|big|--|5|--",
+    "rgo|big|5|",
+    "rgo|big|5|-",
+    "rgo|big|--steps=5|5",
+    "rgo|big|--steps|5",
+    "rgo|big|5|--steps=5",
+    "rgo|big|5|--stats",
+    "rgo|big|--stats|5",
+    "rgo|big|--|--steps=5",
+    "rgo|big|--help",
+    "rgo|big|-h",
+    "rgo|big|help",
+    "rgo|big|run",
+    "rgo|big|5|run",
+    "rgo|run|big",
+    "rgo|5|big",
+    "rgo|--|big|5",
+    "rgo|Big|5",
+    "rgo|bigs|5",
+    "rgo|--big|5",
+    "rgo|--big=5",
+    "rgo|big=5",
+    "rgo|big5",
 ];
 
 #[test]
@@ -483,6 +558,9 @@ fn words_ask_for_their_commands(rt: HostRuntime) -> Result<(), Fail> {
     }
     for line in &CODES {
         asks(&rt, line, Ok(Command::Code))?;
+    }
+    for (line, number) in &BIGS {
+        asks(&rt, line, Ok(Command::Big(*number)))?;
     }
     Ok(())
 }

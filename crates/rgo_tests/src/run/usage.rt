@@ -14,7 +14,7 @@ const USAGE: &str =
 
 static OTHER_WORDS: [&str; 12] = [
     "rgo",
-    "rgo big 5",
+    "rgo big 0",
     "rgo help",
     "rgo --help",
     "rgo run --steps",
@@ -51,6 +51,38 @@ fn usage_is_reported<R: Abort + AllocGlobal>(rt: &R, line: &str) -> Result<(), F
 fn other_words_have_the_usage_reported(rt: HostRuntime) -> Result<(), Fail> {
     for line in &OTHER_WORDS {
         usage_is_reported(&rt, line)?;
+    }
+    Ok(())
+}
+
+/// Calls of `big`, with what each prints.
+static BIG_WORDS: [(&str, &str); 5] = [
+    ("rgo big 1", "1 0\n"),
+    ("rgo big 2", "2 1\n"),
+    ("rgo big 10", "10 165\n"),
+    ("rgo big 25 --", "25 350\n"),
+    ("rgo big -- 040", "40 660\n"),
+];
+
+fn big_is_run<R: Abort + AllocGlobal>(rt: &R, line: &str, wanted: &str) -> Result<(), Fail> {
+    let alloc = rt.alloc();
+    let words = words_of(alloc, line, ' ')?;
+    let mut source = NoFaultSource::new(b"text".as_slice().to_vec(alloc)?);
+    let mut out = MemSink::new(alloc, 1000, Vec::new(alloc))?;
+    let mut err = MemSink::new(alloc, 1000, Vec::new(alloc))?;
+    let status = rgo(alloc, &words, &mut source, &mut out, &mut err, &NoGate);
+    same(rt, line, &status, &0);
+    same(rt, line, &out.bytes(), &wanted.as_bytes());
+    same(rt, line, &err.bytes().len(), &0);
+    let left = read_all(alloc, &mut source, 4)?;
+    same(rt, line, &left.as_slice(), &b"text".as_slice());
+    Ok(())
+}
+
+#[test]
+fn big_runs_its_own_text_and_reads_none(rt: HostRuntime) -> Result<(), Fail> {
+    for (line, wanted) in &BIG_WORDS {
+        big_is_run(&rt, line, wanted)?;
     }
     Ok(())
 }

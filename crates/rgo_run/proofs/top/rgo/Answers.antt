@@ -17,3 +17,6 @@ returns-in-Ok-clause-ran g c = ran_by_status _ (returns-in-Ok-clause-headline g 
 
 pub returns-in-Err-clause-ran : goal.returns-in-Err-clause-ran
 returns-in-Err-clause-ran g c = ran_by_status _ (returns-in-Err-clause-headline g c)
+
+pub returns-in-Ok-clause-held : goal.returns-in-Ok-clause-held
+returns-in-Ok-clause-held g c = (returns-in-Ok-clause-headline g c).faults.none

@@ -1,0 +1,154 @@
+//! What the workers of a round share under a lock, and the turns that they take.
+
+ghost use Rattle.std.specs.Prelude.{◌≡◌, ◌≤◌, ⊤, Option, Some, None};
+ghost use Rattle.rgo_driver.specs.OpenRounds.{Start, StandsIn};
+ghost use Rattle.rgo_driver.specs.Running.{IsOn};
+
+use crate::open_rounds::{Round, give_up, step};
+use crate::running::Running;
+use crate::turns::LONGEST_TURN;
+use rgo_outside::Gate;
+use rgo_sched::{Task, round};
+use std::alloc::{AllocError, Global};
+use std::marker::{Brand, Model, PhantomData};
+use std::sync::{Mutex, Wait};
+use std::thread::Threads;
+
+/// How a round began, as contracts know it.
+pub(crate) trait Begun<R> {
+    ghost begun: { Option (Start R) };
+}
+
+impl<R> Begun<R> for Brand {
+    ghost begun = { None };
+}
+
+/// A round that began so, and whose steps are those of its machine.
+pub(crate) struct Locked<R: Running, J: Begun<R>> {
+    round: Round<R>,
+    of: PhantomData<J>,
+}
+
+impl<R: Running, J: Begun<R>> Model for Locked<R, J> {
+    ghost Value = { ⊤ };
+
+    ghost view = { λ l. tt };
+
+    ghost invariant = { λ l. StandsIn R.view J.begun l.round.run l.round.driver l.round.limits l.round.pending.items
+        l.round.end };
+}
+
+impl<R: Running, J: Begun<R>> Locked<R, J> {
+    pub(crate) fn new(round: Round<R>) -> Locked<R, J>
+        requires { StandsIn R.view J.begun round.run round.driver round.limits round.pending.items round.end }
+    {
+        Locked {
+            round,
+            of: PhantomData,
+        }
+    }
+
+    pub(crate) fn into_round(self) -> Round<R>
+        ensures { StandsIn R.view J.begun result.run result.driver result.limits result.pending.items result.end }
+    {
+        let Locked { round, of: _ } = self;
+        round
+    }
+
+    /// The goroutine at a position takes a step. Returns whether its turn may continue.
+    fn step(&mut self, alloc: Global, position: usize) -> bool {
+        step(alloc, &mut self.round, position)
+    }
+}
+
+/// The turn of the goroutine at a position.
+#[derive(Drop)]
+pub(crate) struct Turn<'a, H, R: Running, J: Begun<R>> {
+    pub(crate) rt: &'a H,
+    pub(crate) alloc: Global,
+    pub(crate) round: &'a Mutex<Locked<R, J>>,
+    pub(crate) position: usize,
+}
+
+impl<'a, H: Wait, R: Running, J: Begun<R>> Task for Turn<'a, H, R, J> {
+    ghost goes = { λ before after went. ⊤ };
+
+    /// Steps, up to 1,000 of them, each under the lock. Other goroutines step in between.
+    fn turn(&mut self) -> bool {
+        for _ in 0..LONGEST_TURN {
+            if !self.round.lock(self.rt).step(self.alloc, self.position) {
+                return false;
+            }
+        }
+        true
+    }
+}
+
+/// The turns of a round, one for each position.
+fn make_turns<'a, H: Wait, R: Running, J: Begun<R>>(
+    rt: &'a H,
+    alloc: Global,
+    round: &'a Mutex<Locked<R, J>>,
+    positions: usize,
+) -> Result<Vec<Turn<'a, H, R, J>>, AllocError> {
+    let mut turns = Vec::new(alloc);
+    for position in 0..positions {
+        turns.push(Turn {
+            rt,
+            alloc,
+            round,
+            position,
+        })?;
+    }
+    Ok(turns)
+}
+
+/// Each goroutine whose turn is pending has its turn, on a worker.
+fn take_turns<
+    H: Threads + Wait + Sync,
+    R: Running + Send,
+    J: Begun<R> + Send + Sync,
+    G: Gate + Sync,
+>(
+    rt: &H,
+    alloc: Global,
+    positions: usize,
+    locked: &Mutex<Locked<R, J>>,
+    workers: u32,
+    number: u64,
+    gate: &G,
+) -> Result<(), AllocError>
+    requires { (1 ≤ workers) × (workers ≤ 64) }
+{
+    let mut turns = make_turns(rt, alloc, locked, positions)?;
+    round(rt, &mut turns, workers, number, gate)?;
+    Ok(())
+}
+
+/// The turns of a round, each step of which is taken under one lock.
+pub(crate) fn turn_locked<
+    H: Threads + Wait + Sync,
+    R: Running + Send,
+    J: Begun<R> + Send + Sync,
+    G: Gate + Sync,
+>(rt: &H, alloc: Global, round: Round<R>, workers: u32, number: u64, gate: &G) -> Round<R>
+    requires workers { (1 ≤ workers) × (workers ≤ 64) }
+    requires on { IsOn round.limits (R.view round.run) }
+    requires end { round.end ≡ None }
+    requires begun { J.begun ≡ Some (record {
+      run = round.run;
+      driver = round.driver;
+      limits = round.limits;
+      pending = round.pending.items;
+    }) }
+    ensures { StandsIn R.view J.begun result.run result.driver result.limits result.pending.items result.end }
+{
+    let positions = round.pending.len();
+    let locked: Mutex<Locked<R, J>> = Mutex::new(Locked::new(round));
+    let ran = take_turns(rt, alloc, positions, &locked, workers, number, gate);
+    let mut round = locked.into_inner().into_round();
+    if ran.is_err() {
+        give_up(&mut round);
+    }
+    round
+}
