@@ -24,7 +24,7 @@ use Rattle.rgo_world.specs.declared.tally.Tally.{Tally}
 use Rattle.rgo_world.specs.Worlds.{LacksIn, plain_at, tally_of}
 use Rattle.rgo_driver.specs.declared.ends.RunEnd.{RunEnd}
 use Rattle.rgo_driver.specs.declared.ends.RunEnd.TheVariants.{Deadlock, NoMemory, NoRoom, WriteFault}
-use Rattle.rgo_driver.specs.Runs.{Runs}
+use Rattle.rgo_driver.specs.Runs.{Runs, RunsFreely}
 use Rattle.rgo_command_line.specs.declared.limits.RunOptions.{RunOptions}
 use Rattle.rgo_run.specs.declared.endings.Ending.{Ending}
 use Rattle.rgo_run.specs.declared.endings.Ending.TheVariants.{Ran}
@@ -74,12 +74,19 @@ pub record RegionRun (code : Code) (sizes : Sizes) (end : RunEnd) (t : TacState)
   -- why there was no room
   pub lacks : (why : Shortage) → end ≡ NoRoom why → LacksIn code sizes why state
 
--- Some run of the program's code, in rounds, ends so and gives out what `out` took. It is why the end is what it is, it
--- does what some run of the program does, and it is a run with regions.
+-- some run of the code in rounds, in which goroutines have their turns one after the other, ends so in this state and
+-- gives out what `out` took
+pub record RunsInRounds (code : Tac) (limits : Limits) (end : RunEnd) (out : SinkUse) (t : TacState) : Type 0 where
+  pub runs : Runs (tac code) limits (tac_start code) end out.old out.new
+  pub is : runs.state ≡ t
+
+-- Some run of the program's code, its steps in any order, ends so and gives out what `out` took. It is why the end is
+-- what it is, it does what some run of the program does, and it is a run with regions.
 pub record ProgramRuns (program : Typed) (options : RunOptions) (end : RunEnd) (out : SinkUse) : Type 0 where
   pub code : Code
   pub compiled : IsCompiledFrom program code
-  pub runs : Runs (tac (erased code)) options.limits (tac_start (erased code)) end out.old out.new
+  pub runs : RunsFreely (tac (erased code)) options.limits (tac_start (erased code)) end out.old out.new
+  pub in_rounds : options.workers ≡ 1 → RunsInRounds (erased code) options.limits end out runs.state
   pub source : SourceRun options.limits program end runs.state
   pub regions : RegionRun code options.sizes end runs.state
 
