@@ -221,7 +221,11 @@ static WORKED: [(&str, u32, bool); 22] = [
     // Leading zeros.
     ("rgo|run|--workers|007", 7, false),
     ("rgo|run|--workers=0064", 64, false),
-    ("rgo|run|--workers|00000000000000000000000000000000000000009", 9, false),
+    (
+        "rgo|run|--workers|00000000000000000000000000000000000000009",
+        9,
+        false,
+    ),
 ];
 
 static CHECKS: [&str; 3] = ["rgo|check", "rgo|check|--", "-|check"];
