@@ -33,7 +33,7 @@ _rgo_has() {
 _rgo_run_options() {
     local last=${COMP_WORDS[COMP_CWORD - 1]}
     if [[ $last != --* || $last == --stats ]]; then
-        _rgo_words --steps --goroutines --pages --page-words --regions --stats
+        _rgo_words --steps --goroutines --pages --page-words --regions --workers --stats
     fi
 }
 

@@ -11,4 +11,5 @@ complete -c rgo -n '__fish_seen_subcommand_from run; and not __fish_contains_opt
 complete -c rgo -n '__fish_seen_subcommand_from run; and not __fish_contains_opt pages' -l pages -x -d 'How many pages may be in use (1-65536, default 4096)'
 complete -c rgo -n '__fish_seen_subcommand_from run; and not __fish_contains_opt page-words' -l page-words -x -d 'How many words a page has (16-4096, default 256)'
 complete -c rgo -n '__fish_seen_subcommand_from run; and not __fish_contains_opt regions' -l regions -x -d 'How many regions may be live (1-65536, default 65536)'
+complete -c rgo -n '__fish_seen_subcommand_from run; and not __fish_contains_opt workers' -l workers -x -d 'On how many threads goroutines run (1-64, default 4)'
 complete -c rgo -n '__fish_seen_subcommand_from run; and not __fish_contains_opt stats' -l stats -d 'Count regions, pages, objects and goroutines on standard error'

@@ -19,7 +19,7 @@ EXAMPLES = TOP / "examples" / "regions"
 COUNTS = re.compile(r"^rgo: regions (\d+) removed \d+ pages (\d+) returned \d+ objects (\d+) goroutines \d+\n", re.MULTILINE)
 # A program with its margin, and its run.
 MARGIN = re.compile(r"^tools/regions (?:--list )?(?:--function \w+ )?(\S+)$")
-RUN = re.compile(r"^\./rgo run --stats < (\S+)$")
+RUN = re.compile(r"^\./rgo run --stats (?:--workers 1 )?< (\S+)$")
 # What the text says of other parts of the page, of statuses, and of arithmetic.
 REFERENCE = re.compile(r"\[(program|pitfall) (\d+)\]\(#(\d+)-[\w-]+\)")
 LINE = re.compile(r"\bline (\d+)")

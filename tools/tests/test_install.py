@@ -15,7 +15,8 @@ import unittest
 import code_vectors
 from error_pages import TOP
 
-NUMBERS = ["--goroutines", "--page-words", "--pages", "--regions", "--steps"]
+LIMITS = ["--goroutines", "--page-words", "--pages", "--regions", "--steps"]
+NUMBERS = [*LIMITS, "--workers"]
 OPTIONS = sorted([*NUMBERS, "--stats"])
 COMMANDS = ["big", "check", "code", "emit", "run"]
 FAKE = '#!/bin/sh\necho "$@"\ncat >/dev/null\necho "rgo: 2:15: type 4 NoSuchName" >&2\nexit 1\n'
@@ -145,6 +146,8 @@ class Completions(Case):
         ("rgo run --s", ["--stats", "--steps"]),
         ("rgo run --steps ", []),
         ("rgo run --pages ", []),
+        ("rgo run --w", ["--workers"]),
+        ("rgo run --workers ", []),
         ("rgo run --steps 5 --", [option for option in OPTIONS if option != "--steps"]),
         ("rgo run --stats --", NUMBERS),
         ("rgo check --", []),
@@ -160,8 +163,8 @@ class Completions(Case):
         ("rgo-regions --list --", ["--function"]),
         ("rgo-regions --function ", []),
         ("rgo-regions a.go --function main --", ["--list"]),
-        ("rgo-regions --picture a.svg --", NUMBERS),
-        ("rgo-regions --picture a.svg a.go --pages 5 --", [option for option in NUMBERS if option != "--pages"]),
+        ("rgo-regions --picture a.svg --", LIMITS),
+        ("rgo-regions --picture a.svg a.go --pages 5 --", [option for option in LIMITS if option != "--pages"]),
         ("rgo-regions --picture a.svg --pages ", []),
     ]
 

@@ -154,7 +154,7 @@ class Case(unittest.TestCase):
         for limits in all_limits:
             with self.subTest(**limits):
                 words = [word for name, n in limits.items() for word in (f"--{name.replace('_', '-')}", str(n))]
-                wanted = self.rgo(text, "run", "--stats", *words)
+                wanted = self.rgo(text, "run", "--stats", "--workers", "1", *words)
                 lines = []
                 ran = region_runs.run(code, region_runs.Limits(**limits), lines.append)
                 report = f"rgo: {ran.counts()}\n" + (f"rgo: {said(ran.end, source)}\n" if ran.end.status else "")
@@ -407,7 +407,7 @@ class Command(test_explain.Case):
             self.assertEqual(said, texts_in(self.picture.read_text(encoding="utf-8"))[1])
 
     def test_wrong_words(self):
-        for words in ["--list", "--function main", "--pages 0", "--page-words 15", "--steps x", "--stats", "b.go"]:
+        for words in ["--list", "--function main", "--pages 0", "--page-words 15", "--steps x", "--stats", "--workers 1", "b.go"]:
             with self.subTest(words):
                 status, out, err = self.regions("--picture", self.picture, self.file, *words.split())
                 self.assertEqual((64, "", True), (status, out, "--picture OUT.svg FILE.go" in err))

@@ -1,7 +1,7 @@
 -- Which words ask for a command.
 use Rattle.std.proofs.Common.{◌≡◌, ◌∙◌, refl, sym, ap, subst, codes, cond, Bool, true, false, List, [], ◌∷◌, ◌++◌, map}
 use Rattle.std.proofs.Common.{Option, Some, None, inl, inr, ℕ, ◌*◌, ◌≤◌, nat_le, option_map, arith}
-use Rattle.std.specs.Prelude.{is_some}
+use Rattle.std.specs.Prelude.{is_some, option_and_then}
 use Rattle.std.specs.List.Sorted.{IsPermutation}
 use Rattle.std.specs.Str.{bytes_eq}
 use Rattle.std.specs.Str.Parse.{digits_value}
@@ -13,7 +13,7 @@ use Rattle.rgo_command_line.specs.Commands.{command_of}
 use Rattle.rgo_command_line.specs.Laws.{ArePlain, AreWordsOf, AskExactly, IsEnd, SetFlag, SetOptions}
 use Rattle.rgo_command_line.specs.Laws.{HoldNumber, joined}
 use Rattle.rgo_command_line.specs.Limits.{Fits, big_by, goroutine_bounds, limit_by, most_words, page_bounds, page_word_bounds}
-use Rattle.rgo_command_line.specs.Limits.{region_bounds, step_bounds}
+use Rattle.rgo_command_line.specs.Limits.{region_bounds, step_bounds, worker_bounds}
 use Rattle.rgo_command_line.specs.Numbers.{is_numeral, within}
 use Rattle.rgo_command_line.specs.declared.commands.Command.{Command}
 use Rattle.rgo_command_line.specs.declared.commands.Command.TheVariants.{Run, Check, Emit, Code, Big}
@@ -29,7 +29,7 @@ use Rattle.rgo_command_line.proofs.LiteralLemmas.{commands, nothing}
 use Rattle.rgo_command_line.proofs.RunLemmas.{at_first, between, from}
 use Rattle.rgo_command_line.proofs.StatusLemmas.{Values, options_from, run_by}
 use Rattle.rgo_command_line.proofs.WordLemmas.{Name, Number, goroutines, number, page_words, pages, regions}
-use Rattle.rgo_command_line.proofs.WordLemmas.{stats, steps}
+use Rattle.rgo_command_line.proofs.WordLemmas.{stats, steps, workers}
 
 -- the words are those of the command that they ask for
 abbrev Tells : List Text → Type 0
@@ -47,6 +47,7 @@ record Sets (v : Values) (options : RunOptions) : Type 0 where
   is_pages : limit_by page_bounds (v (number pages)) ≡ Some options.sizes.pages
   is_page_words : limit_by page_word_bounds (v (number page_words)) ≡ Some options.sizes.page_words
   is_regions : limit_by region_bounds (v (number regions)) ≡ Some options.sizes.regions
+  is_workers : limit_by worker_bounds (v (number workers)) ≡ Some options.workers
   is_stats : is_some (v stats) ≡ options.stats
   fits : Fits options.sizes
 
@@ -64,26 +65,30 @@ found : (v : Values) (command : Command) → run_by v ≡ Some command → Found
 found v command asked =
     by_numbers (limit_by step_bounds (v (number steps))) (limit_by goroutine_bounds (v (number goroutines)))
     (limit_by page_bounds (v (number pages))) (limit_by page_word_bounds (v (number page_words)))
-    (limit_by region_bounds (v (number regions))) refl refl refl refl refl asked
+    (limit_by region_bounds (v (number regions))) (limit_by worker_bounds (v (number workers)))
+    refl refl refl refl refl refl asked
   where
-    by_fit : (s g : ℕ) (sizes : Sizes) (b : Bool)
+    by_fit : (s g k : ℕ) (sizes : Sizes) (b : Bool)
         → nat_le (sizes.pages * sizes.page_words) most_words ≡ b
         → limit_by step_bounds (v (number steps)) ≡ Some s
         → limit_by goroutine_bounds (v (number goroutines)) ≡ Some g
         → limit_by page_bounds (v (number pages)) ≡ Some sizes.pages
         → limit_by page_word_bounds (v (number page_words)) ≡ Some sizes.page_words
         → limit_by region_bounds (v (number regions)) ≡ Some sizes.regions
-        → option_map Run (option_map (λ (z : Sizes). record {
+        → limit_by worker_bounds (v (number workers)) ≡ Some k
+        → option_map Run (option_and_then (λ (z : Sizes). Some (record {
           limits = record { steps = s; goroutines = g };
           sizes = z;
+          workers = k;
           stats = is_some (v stats);
-        }) (cond b (Some sizes) None)) ≡ Some command
+        })) (cond b (Some sizes) None)) ≡ Some command
         → Found v command
-    by_fit s g sizes false fit hs hg hp hw hr e = cc
-    by_fit s g sizes true fit hs hg hp hw hr e =
+    by_fit s g k sizes false fit hs hg hp hw hr hk e = cc
+    by_fit s g k sizes true fit hs hg hp hw hr hk e =
         let options : RunOptions = record {
           limits = record { steps = s; goroutines = g };
           sizes = sizes;
+          workers = k;
           stats = is_some (v stats);
         } in
         let is : Run options ≡ command = cc in (
@@ -94,28 +99,39 @@ found v command asked =
             is_pages = hp;
             is_page_words = hw;
             is_regions = hr;
+            is_workers = hk;
             is_stats = refl;
             fits = fits_by (sizes.pages * sizes.page_words) fit;
           },
           is,
         )
 
-    by_numbers : (s g p w r : Option ℕ)
+    -- where the number of workers is not one that its option takes, nothing is asked for
+    no_workers : (sizes : Sizes) (b : Bool)
+        → option_map Run (option_and_then (λ (z : Sizes). None) (cond b (Some sizes) None)) ≡ Some command
+        → Found v command
+    no_workers sizes false e = cc
+    no_workers sizes true e = cc
+
+    by_numbers : (s g p w r k : Option ℕ)
         → limit_by step_bounds (v (number steps)) ≡ s
         → limit_by goroutine_bounds (v (number goroutines)) ≡ g
         → limit_by page_bounds (v (number pages)) ≡ p
         → limit_by page_word_bounds (v (number page_words)) ≡ w
         → limit_by region_bounds (v (number regions)) ≡ r
-        → option_map Run (options_from s g p w r (is_some (v stats))) ≡ Some command
+        → limit_by worker_bounds (v (number workers)) ≡ k
+        → option_map Run (options_from s g p w r k (is_some (v stats))) ≡ Some command
         → Found v command
-    by_numbers None g p w r hs hg hp hw hr e = cc
-    by_numbers (Some s) None p w r hs hg hp hw hr e = cc
-    by_numbers (Some s) (Some g) p None r hs hg hp hw hr e = cc
-    by_numbers (Some s) (Some g) None (Some w) r hs hg hp hw hr e = cc
-    by_numbers (Some s) (Some g) (Some p) (Some w) None hs hg hp hw hr e = cc
-    by_numbers (Some s) (Some g) (Some p) (Some w) (Some r) hs hg hp hw hr e =
-        by_fit s g (record { page_words = w; pages = p; regions = r }) (nat_le (p * w) most_words) refl
-        hs hg hp hw hr e
+    by_numbers None g p w r k hs hg hp hw hr hk e = cc
+    by_numbers (Some s) None p w r k hs hg hp hw hr hk e = cc
+    by_numbers (Some s) (Some g) p None r k hs hg hp hw hr hk e = cc
+    by_numbers (Some s) (Some g) None (Some w) r k hs hg hp hw hr hk e = cc
+    by_numbers (Some s) (Some g) (Some p) (Some w) None k hs hg hp hw hr hk e = cc
+    by_numbers (Some s) (Some g) (Some p) (Some w) (Some r) None hs hg hp hw hr hk e =
+        no_workers (record { page_words = w; pages = p; regions = r }) (nat_le (p * w) most_words) e
+    by_numbers (Some s) (Some g) (Some p) (Some w) (Some r) (Some k) hs hg hp hw hr hk e =
+        by_fit s g k (record { page_words = w; pages = p; regions = r }) (nat_le (p * w) most_words) refl
+        hs hg hp hw hr hk e
 
 after_run : (program : Text) (rest : List Text) → Tells (program ∷ codes "run" ∷ rest)
 after_run program rest command e = by_met (met_options rest)
@@ -149,12 +165,14 @@ after_run program rest command e = by_met (met_options rest)
         pages = are.words (number pages);
         page_words = are.words (number page_words);
         regions = are.words (number regions);
+        workers = are.words (number workers);
         stats = are.words stats;
         set_steps = (v (number steps), sets.is_steps, are.gives (number steps));
         set_goroutines = (v (number goroutines), sets.is_goroutines, are.gives (number goroutines));
         set_pages = (v (number pages), sets.is_pages, are.gives (number pages));
         set_page_words = (v (number page_words), sets.is_page_words, are.gives (number page_words));
         set_regions = (v (number regions), sets.is_regions, are.gives (number regions));
+        set_workers = (v (number workers), sets.is_workers, are.gives (number workers));
         set_stats = flag (v stats) options.stats (are.words stats) sets.is_stats (are.gives stats);
         fits = sets.fits;
         order = map are.words are.order;
@@ -199,6 +217,7 @@ asks_set options set ending sets ends =
       sets.set_pages.1,
       sets.set_page_words.1,
       sets.set_regions.1,
+      sets.set_workers.1,
       test_fits (options.sizes.pages * options.sizes.page_words) sets.fits,
       flag_is options.stats,
     ) refl)
@@ -209,6 +228,7 @@ asks_set options set ending sets ends =
     values (number pages) = sets.set_pages.0
     values (number page_words) = sets.set_page_words.0
     values (number regions) = sets.set_regions.0
+    values (number workers) = sets.set_workers.0
     values stats = cond options.stats (Some (codes "true")) None
 
     words : Name → List Text
@@ -217,6 +237,7 @@ asks_set options set ending sets ends =
     words (number pages) = sets.pages
     words (number page_words) = sets.page_words
     words (number regions) = sets.regions
+    words (number workers) = sets.workers
     words stats = sets.stats
 
     flag_is : (b : Bool) → is_some (cond b (Some (codes "true")) None) ≡ b
@@ -235,6 +256,7 @@ asks_set options set ending sets ends =
     gives (number pages) = sets.set_pages.2
     gives (number page_words) = sets.set_page_words.2
     gives (number regions) = sets.set_regions.2
+    gives (number workers) = sets.set_workers.2
     gives stats = flag options.stats sets.stats sets.set_stats
 
     numerals : (name : Name) → IsNumeral name (values name)
@@ -243,6 +265,7 @@ asks_set options set ending sets ends =
     numerals (number pages) = sets_by_numeral page_bounds pages _ _ sets.set_pages.1
     numerals (number page_words) = sets_by_numeral page_word_bounds page_words _ _ sets.set_page_words.1
     numerals (number regions) = sets_by_numeral region_bounds regions _ _ sets.set_regions.1
+    numerals (number workers) = sets_by_numeral worker_bounds workers _ _ sets.set_workers.1
     numerals stats = tt
 
     places : (places : List Name) × IsPermutation names places × (sets.order ≡ map words places)

@@ -318,7 +318,7 @@ MetOptions rest = (from (between [] None) rest ≡ None)
 pub met_options : (rest : List Text) → MetOptions rest
 met_options rest =
     by_following
-    (met_after 7 [] (λ name. None) names rest (omega arith) names_distinct (λ name. refl) no_value all_left)
+    (met_after 8 [] (λ name. None) names rest (omega arith) names_distinct (λ name. refl) no_value all_left)
   where
     no_value : AreValues (λ name. None)
     no_value name value e = cc

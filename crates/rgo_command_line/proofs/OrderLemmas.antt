@@ -13,7 +13,7 @@ use Rattle.std.proofs.lemmas.Slice.Eq.{bytes_eq-Decides}
 use Rattle.clap.specs.Words.{Text}
 use Rattle.rgo_command_line.specs.Laws.{joined}
 use Rattle.rgo_command_line.proofs.WordLemmas.{Name, goroutines, number, page_words, pages, regions, stats, steps}
-use Rattle.rgo_command_line.proofs.WordLemmas.{text_of}
+use Rattle.rgo_command_line.proofs.WordLemmas.{text_of, workers}
 
 abbrev pub same : Name → Name → Bool
 same a b = bytes_eq (text_of a) (text_of b)
@@ -25,7 +25,8 @@ name_from text =
     (cond (bytes_eq (codes "goroutines") text) (number goroutines)
     (cond (bytes_eq (codes "pages") text) (number pages)
     (cond (bytes_eq (codes "page-words") text) (number page_words)
-    (cond (bytes_eq (codes "regions") text) (number regions) stats))))
+    (cond (bytes_eq (codes "regions") text) (number regions)
+    (cond (bytes_eq (codes "workers") text) (number workers) stats)))))
 
 from_text : (name : Name) → name_from (text_of name) ≡ name
 unfolding name_from
@@ -34,6 +35,7 @@ from_text (number goroutines) = refl
 from_text (number pages) = refl
 from_text (number page_words) = refl
 from_text (number regions) = refl
+from_text (number workers) = refl
 from_text stats = refl
 
 pub same_is : (a b : Name) → same a b ≡ true → a ≡ b
@@ -57,19 +59,23 @@ same_flips a b = by_both (same a b) (same b a) refl refl
 
 -- each option once
 abbrev pub names : List Name
-names = number steps ∷ number goroutines ∷ number pages ∷ number page_words ∷ number regions ∷ stats ∷ []
+names =
+    number steps ∷ number goroutines ∷ number pages ∷ number page_words ∷ number regions ∷ number workers ∷ stats ∷ []
 
 pub names_distinct : IsDistinct same names
 unfolding IsDistinct
 names_distinct = (
-  (refl, (refl, (refl, (refl, (refl, tt))))),
+  (refl, (refl, (refl, (refl, (refl, (refl, tt)))))),
   (
-    (refl, (refl, (refl, (refl, tt)))),
+    (refl, (refl, (refl, (refl, (refl, tt))))),
     (
-      (refl, (refl, (refl, tt))),
+      (refl, (refl, (refl, (refl, tt)))),
       (
-        (refl, (refl, tt)),
-        ((refl, tt), (tt, tt)),
+        (refl, (refl, (refl, tt))),
+        (
+          (refl, (refl, tt)),
+          ((refl, tt), (tt, tt)),
+        ),
       ),
     ),
   ),
@@ -81,6 +87,7 @@ is_name (number goroutines) = refl
 is_name (number pages) = refl
 is_name (number page_words) = refl
 is_name (number regions) = refl
+is_name (number workers) = refl
 is_name stats = refl
 
 none_of : (name : Name) (rest : List Name)

@@ -22,7 +22,7 @@ use Rattle.rgo_command_line.proofs.StrayLemmas.{with_first}
 use Rattle.rgo_command_line.proofs.WordLemmas.{Kind, Name, Number, IsPlain, dashed, dashes}
 use Rattle.rgo_command_line.proofs.WordLemmas.{goroutines, joined, kind_of_word, named}
 use Rattle.rgo_command_line.proofs.WordLemmas.{number, number_text, numeral_is_plain, other, page_words, pages}
-use Rattle.rgo_command_line.proofs.WordLemmas.{regions, stats, steps, text_of, valued}
+use Rattle.rgo_command_line.proofs.WordLemmas.{regions, stats, steps, text_of, valued, workers}
 
 -- what is wrong after the walk
 abbrev pub end_fault : Held → Kinds
@@ -161,6 +161,7 @@ leads_named goroutines rows pending = record { wrong = just_one (settling rows p
 leads_named pages rows pending = record { wrong = just_one (settling rows pending); walk = refl }
 leads_named page_words rows pending = record { wrong = just_one (settling rows pending); walk = refl }
 leads_named regions rows pending = record { wrong = just_one (settling rows pending); walk = refl }
+leads_named workers rows pending = record { wrong = just_one (settling rows pending); walk = refl }
 
 -- a whole option in one word
 abbrev LeadsWhole : Name → Text → Text → List Row → Option (Text × List Text) → Type 0
@@ -192,6 +193,10 @@ leads_joined page_words value rows pending = record {
 }
 leads_joined regions value rows pending = record {
   wrong = once_after (settling rows pending) (has_row (codes "regions") (settled_at rows pending));
+  walk = refl;
+}
+leads_joined workers value rows pending = record {
+  wrong = once_after (settling rows pending) (has_row (codes "workers") (settled_at rows pending));
   walk = refl;
 }
 
@@ -230,6 +235,7 @@ no_value goroutines rows = refl
 no_value pages rows = refl
 no_value page_words rows = refl
 no_value regions rows = refl
+no_value workers rows = refl
 
 pub at_no_value : (rows : List Row) (n : Number) → from (waiting rows n) [] ≡ None
 unfolding from clap_on_literals
@@ -308,6 +314,7 @@ is_settled goroutines value rows = record { wrong = once (has_row (codes "gorout
 is_settled pages value rows = record { wrong = once (has_row (codes "pages") rows); rows_are = refl }
 is_settled page_words value rows = record { wrong = once (has_row (codes "page-words") rows); rows_are = refl }
 is_settled regions value rows = record { wrong = once (has_row (codes "regions") rows); rows_are = refl }
+is_settled workers value rows = record { wrong = once (has_row (codes "workers") rows); rows_are = refl }
 
 settles_number : (rows : List Row) (n : Number) (value : Text) (rest : List Text)
     → from (between rows (Some (number_text n, value ∷ []))) rest ≡ after rows (number n) value rest
@@ -352,6 +359,10 @@ pushes_plain rows regions x plain = record {
   no_fault = rw (plain.no_dashes, plain.no_long, plain.no_short) refl;
   walk = rw (plain.no_dashes, plain.no_long, plain.no_short) refl;
 }
+pushes_plain rows workers x plain = record {
+  no_fault = rw (plain.no_dashes, plain.no_long, plain.no_short) refl;
+  walk = rw (plain.no_dashes, plain.no_long, plain.no_short) refl;
+}
 
 -- a numeral is the value
 pub at_numeral : (rows : List Row) (n : Number) (x : Text) (xs : List Text)
@@ -378,6 +389,7 @@ meets_named rows pending t (number goroutines) e = with_first _ _ e
 meets_named rows pending t (number pages) e = with_first _ _ e
 meets_named rows pending t (number page_words) e = with_first _ _ e
 meets_named rows pending t (number regions) e = with_first _ _ e
+meets_named rows pending t (number workers) e = with_first _ _ e
 meets_named rows pending t stats e = with_first _ _ (with_first _ _ e)
 
 meets_joined : (rows : List Row) (pending : Option (Text × List Text)) (t : Text) (name : Name) (value : Text)
@@ -389,6 +401,7 @@ meets_joined rows pending t (number goroutines) value e = with_first _ _ (with_f
 meets_joined rows pending t (number pages) value e = with_first _ _ (with_first _ _ e)
 meets_joined rows pending t (number page_words) value e = with_first _ _ (with_first _ _ e)
 meets_joined rows pending t (number regions) value e = with_first _ _ (with_first _ _ e)
+meets_joined rows pending t (number workers) value e = with_first _ _ (with_first _ _ e)
 meets_joined rows pending t stats value e = refl
 
 meets_unknown : (rows : List Row) (pending : Option (Text × List Text)) (t x : Text) (p : Text × Option Text)
@@ -398,7 +411,7 @@ meets_unknown : (rows : List Row) (pending : Option (Text × List Text)) (t x : 
     → has_fault (turn_fault run_leaf [] (standing rows pending (option t)) x) ≡ true
 unfolding clap_on_literals
 meets_unknown rows pending t x p d l none =
-    rw (d, l, none.steps, none.goroutines, none.pages, none.page_words, none.regions, none.stats) refl
+    rw (d, l, none.steps, none.goroutines, none.pages, none.page_words, none.regions, none.workers, none.stats) refl
 
 -- flags that begin with no character
 pushes_flags : (rows : List Row) (n : Number) (x flags : Text)
@@ -413,6 +426,7 @@ pushes_flags rows goroutines x [] d l s f = record { no_fault = rw (d, l, s) ref
 pushes_flags rows pages x [] d l s f = record { no_fault = rw (d, l, s) refl; walk = rw (d, l, s) refl }
 pushes_flags rows page_words x [] d l s f = record { no_fault = rw (d, l, s) refl; walk = rw (d, l, s) refl }
 pushes_flags rows regions x [] d l s f = record { no_fault = rw (d, l, s) refl; walk = rw (d, l, s) refl }
+pushes_flags rows workers x [] d l s f = record { no_fault = rw (d, l, s) refl; walk = rw (d, l, s) refl }
 pushes_flags rows steps x (c ∷ cs) d l s f =
     record { no_fault = rw (d, l, s, f) refl; walk = rw (d, l, s, f) refl }
 pushes_flags rows goroutines x (c ∷ cs) d l s f =
@@ -422,6 +436,8 @@ pushes_flags rows pages x (c ∷ cs) d l s f =
 pushes_flags rows page_words x (c ∷ cs) d l s f =
     record { no_fault = rw (d, l, s, f) refl; walk = rw (d, l, s, f) refl }
 pushes_flags rows regions x (c ∷ cs) d l s f =
+    record { no_fault = rw (d, l, s, f) refl; walk = rw (d, l, s, f) refl }
+pushes_flags rows workers x (c ∷ cs) d l s f =
     record { no_fault = rw (d, l, s, f) refl; walk = rw (d, l, s, f) refl }
 
 no_first : slice_get (chars []) 0 ≡ None

@@ -16,7 +16,7 @@ use Rattle.clap.specs.declared.parser.matches.ValueSource.TheVariants.{DefaultVa
 use Rattle.clap.proofs.OnLiterals.{clap_on_literals}
 use Rattle.rgo_command_line.specs.Commands.{has_fault}
 use Rattle.rgo_command_line.specs.Limits.{fitting, goroutine_bounds, is_given, limit_by, page_bounds}
-use Rattle.rgo_command_line.specs.Limits.{page_word_bounds, region_bounds, step_bounds}
+use Rattle.rgo_command_line.specs.Limits.{page_word_bounds, region_bounds, step_bounds, worker_bounds}
 use Rattle.rgo_command_line.specs.declared.commands.Command.{Command}
 use Rattle.rgo_command_line.specs.declared.commands.Command.TheVariants.{Run}
 use Rattle.rgo_command_line.specs.declared.limits.RunOptions.{RunOptions}
@@ -24,7 +24,7 @@ use Rattle.rgo_command_line.proofs.RestLemmas.{run_leaf, run_met}
 use Rattle.rgo_command_line.proofs.RunLemmas.{at_no_more, between, end_fault, from, given}
 use Rattle.rgo_command_line.proofs.StrayLemmas.{holding, option_of, stats_flag}
 use Rattle.rgo_command_line.proofs.WordLemmas.{Name, Number, goroutines, number, number_text, page_words, pages}
-use Rattle.rgo_command_line.proofs.WordLemmas.{regions, stats, steps, text_of}
+use Rattle.rgo_command_line.proofs.WordLemmas.{regions, stats, steps, text_of, workers}
 
 -- the first value in the row of this option, if there is one
 abbrev pub status : Text → List Row → Option (Option Text)
@@ -174,13 +174,14 @@ shows_row name rows values shows = has_status (text_of name) rows ∙ ap is_some
 -- ---- at the end of the words
 
 -- the options with these numbers and this flag, where all are there
-abbrev pub options_from : Option ℕ → Option ℕ → Option ℕ → Option ℕ → Option ℕ → Bool → Option RunOptions
-options_from s g p w r is_stats =
-    option_and_then (λ limits. option_map (λ sizes. record {
+abbrev pub options_from : Option ℕ → Option ℕ → Option ℕ → Option ℕ → Option ℕ → Option ℕ → Bool → Option RunOptions
+options_from s g p w r k is_stats =
+    option_and_then (λ limits. option_and_then (λ sizes. option_map (λ workers. record {
       limits = limits;
       sizes = sizes;
+      workers = workers;
       stats = is_stats;
-    }) (option_and_then (λ page_words. option_and_then (λ pages. option_and_then (λ regions. fitting (record {
+    }) k) (option_and_then (λ page_words. option_and_then (λ pages. option_and_then (λ regions. fitting (record {
       page_words = page_words;
       pages = pages;
       regions = regions;
@@ -191,16 +192,17 @@ options_from s g p w r is_stats =
     }) g) s)
 
 -- the options that these texts and this flag set
-abbrev pub options_by : Option Text → Option Text → Option Text → Option Text → Option Text → Bool → Option RunOptions
-options_by s g p w r is_stats =
+abbrev pub options_by : Option Text → Option Text → Option Text → Option Text → Option Text → Option Text → Bool
+    → Option RunOptions
+options_by s g p w r k is_stats =
     options_from (limit_by step_bounds s) (limit_by goroutine_bounds g) (limit_by page_bounds p)
-    (limit_by page_word_bounds w) (limit_by region_bounds r) is_stats
+    (limit_by page_word_bounds w) (limit_by region_bounds r) (limit_by worker_bounds k) is_stats
 
 -- what a run is asked for, by the values of its options
 abbrev pub run_by : Values → Option Command
 run_by v =
     option_map Run (options_by (v (number steps)) (v (number goroutines)) (v (number pages)) (v (number page_words))
-    (v (number regions)) (is_some (v stats)))
+    (v (number regions)) (v (number workers)) (is_some (v stats)))
 
 same_rows : (b : Bool) (rows : List Row) → cond b rows rows ≡ rows
 same_rows true rows = refl
@@ -210,8 +212,11 @@ same_rows false rows = refl
 abbrev from_stats : List Rule
 from_stats = stats_flag ∷ []
 
+abbrev from_workers : List Rule
+from_workers = option_of (codes "workers") ∷ from_stats
+
 abbrev from_regions : List Rule
-from_regions = option_of (codes "regions") ∷ from_stats
+from_regions = option_of (codes "regions") ∷ from_workers
 
 abbrev from_page_words : List Rule
 from_page_words = option_of (codes "page-words") ∷ from_regions
@@ -231,7 +236,7 @@ finished_rows : (rows : List Row) → finished run_leaf.rules (holding rows None
 finished_rows rows =
     skips (codes "steps") from_goroutines rows ∙ skips (codes "goroutines") from_pages rows
     ∙ skips (codes "pages") from_page_words rows ∙ skips (codes "page-words") from_regions rows
-    ∙ skips (codes "regions") from_stats rows
+    ∙ skips (codes "regions") from_workers rows ∙ skips (codes "workers") from_stats rows
 
 none_wrong : (b : Bool) (k : Kinds) → cond (b || true) [] k ≡ []
 none_wrong true k = refl
@@ -256,7 +261,8 @@ no_fault : (rows : List Row) → defaults_fault rows run_leaf.rules ≡ []
 no_fault rows =
     skips_fault (codes "steps") from_goroutines rows ∙ skips_fault (codes "goroutines") from_pages rows
     ∙ skips_fault (codes "pages") from_page_words rows ∙ skips_fault (codes "page-words") from_regions rows
-    ∙ skips_fault (codes "regions") from_stats rows ∙ stats_fault rows
+    ∙ skips_fault (codes "regions") from_workers rows ∙ skips_fault (codes "workers") from_stats rows
+    ∙ stats_fault rows
 
 no_end_fault : (rows : List Row) → has_fault (end_fault (holding rows None)) ≡ false
 no_end_fault rows = ap (λ k. has_fault (or_else k [])) (no_fault rows)
@@ -320,6 +326,7 @@ gives_all rows values shows are = by_row (has_row (codes "stats") rows) refl
         kept pages = has (codes "pages") ∙ or_none _ ∙ shows (number pages)
         kept page_words = has (codes "page-words") ∙ or_none _ ∙ shows (number page_words)
         kept regions = has (codes "regions") ∙ or_none _ ∙ shows (number regions)
+        kept workers = has (codes "workers") ∙ or_none _ ∙ shows (number workers)
 
         no_status : (o : Option (Option Text)) → is_some o ≡ false → o ≡ None
         no_status None e = refl
@@ -343,7 +350,7 @@ at_end rows values shows are =
     at_no_more rows
     ∙ ap₂ (λ (b : Bool) (r : List Row). cond b None (run_met r)) (no_end_fault rows) (finished_rows rows)
     ∙ (λ i. option_map Run (options_by (all.numbers steps i) (all.numbers goroutines i) (all.numbers pages i)
-    (all.numbers page_words i) (all.numbers regions i) (all.flag i)))
+    (all.numbers page_words i) (all.numbers regions i) (all.numbers workers i) (all.flag i)))
   where
     all : Gives (with_default rows stats_flag) values
     all = gives_all rows values shows are

@@ -32,7 +32,7 @@ stats_flag = filled (flag_option (codes "stats"))
 abbrev pub rules_of : Bool → List Rule
 rules_of true =
     option_of (codes "steps") ∷ option_of (codes "goroutines") ∷ option_of (codes "pages")
-    ∷ option_of (codes "page-words") ∷ option_of (codes "regions") ∷ stats_flag ∷ []
+    ∷ option_of (codes "page-words") ∷ option_of (codes "regions") ∷ option_of (codes "workers") ∷ stats_flag ∷ []
 rules_of false = []
 
 -- the command, with such options
@@ -50,6 +50,7 @@ pub record IsNoOption (text : Text) : Type 0 where
   pub pages : bytes_eq (codes "pages") text ≡ false
   pub page_words : bytes_eq (codes "page-words") text ≡ false
   pub regions : bytes_eq (codes "regions") text ≡ false
+  pub workers : bytes_eq (codes "workers") text ≡ false
   pub stats : bytes_eq (codes "stats") text ≡ false
 
 -- no option of these is called by what the word has after its dashes
@@ -101,7 +102,7 @@ module _ (s : Shape) (rows : List Row) (pending : Option (Text × List Text)) wh
       (met_fault r is_leaf (long_or_other (rules_of r) idle w long held))) ≡ true
   by_long true is_leaf (Some p) w e unknown =
       let none = unknown p e in
-      rw (none.steps, none.goroutines, none.pages, none.page_words, none.regions, none.stats) refl
+      rw (none.steps, none.goroutines, none.pages, none.page_words, none.regions, none.workers, none.stats) refl
   by_long false is_leaf (Some p) w e unknown = refl
   by_long r is_leaf None w e unknown = by_short r is_leaf (short_of w) w
 

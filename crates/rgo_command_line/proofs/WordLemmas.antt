@@ -22,6 +22,7 @@ pub data Number : Type 0 where
   pages : Number
   page_words : Number
   regions : Number
+  workers : Number
 
 -- the options of `run`
 pub data Name : Type 0 where
@@ -34,6 +35,7 @@ number_text goroutines = codes "goroutines"
 number_text pages = codes "pages"
 number_text page_words = codes "page-words"
 number_text regions = codes "regions"
+number_text workers = codes "workers"
 
 abbrev pub text_of : Name → Text
 text_of (number n) = number_text n
@@ -113,28 +115,38 @@ Named text = ((name : Name) × (text_of name ≡ text)) ⊎ IsNoOption text
 pub name_of_text : (text : Text) → Named text
 name_of_text text =
     by_names (bytes_eq (codes "steps") text) (bytes_eq (codes "goroutines") text) (bytes_eq (codes "pages") text)
-    (bytes_eq (codes "page-words") text) (bytes_eq (codes "regions") text) (bytes_eq (codes "stats") text)
-    refl refl refl refl refl refl
+    (bytes_eq (codes "page-words") text) (bytes_eq (codes "regions") text) (bytes_eq (codes "workers") text)
+    (bytes_eq (codes "stats") text) refl refl refl refl refl refl refl
   where
     is : (name : Name) → bytes_eq (text_of name) text ≡ true → Named text
     is name e = inl (name, (bytes_eq-Decides (text_of name) text).0 e)
 
-    by_names : (a b c d f g : Bool)
+    by_names : (a b c d f g h : Bool)
         → bytes_eq (codes "steps") text ≡ a
         → bytes_eq (codes "goroutines") text ≡ b
         → bytes_eq (codes "pages") text ≡ c
         → bytes_eq (codes "page-words") text ≡ d
         → bytes_eq (codes "regions") text ≡ f
-        → bytes_eq (codes "stats") text ≡ g
+        → bytes_eq (codes "workers") text ≡ g
+        → bytes_eq (codes "stats") text ≡ h
         → Named text
-    by_names true b c d f g ha hb hc hd hf hg = is (number steps) ha
-    by_names false true c d f g ha hb hc hd hf hg = is (number goroutines) hb
-    by_names false false true d f g ha hb hc hd hf hg = is (number pages) hc
-    by_names false false false true f g ha hb hc hd hf hg = is (number page_words) hd
-    by_names false false false false true g ha hb hc hd hf hg = is (number regions) hf
-    by_names false false false false false true ha hb hc hd hf hg = is stats hg
-    by_names false false false false false false ha hb hc hd hf hg =
-        inr (record { steps = ha; goroutines = hb; pages = hc; page_words = hd; regions = hf; stats = hg })
+    by_names true b c d f g h ha hb hc hd hf hg hh = is (number steps) ha
+    by_names false true c d f g h ha hb hc hd hf hg hh = is (number goroutines) hb
+    by_names false false true d f g h ha hb hc hd hf hg hh = is (number pages) hc
+    by_names false false false true f g h ha hb hc hd hf hg hh = is (number page_words) hd
+    by_names false false false false true g h ha hb hc hd hf hg hh = is (number regions) hf
+    by_names false false false false false true h ha hb hc hd hf hg hh = is (number workers) hg
+    by_names false false false false false false true ha hb hc hd hf hg hh = is stats hh
+    by_names false false false false false false false ha hb hc hd hf hg hh =
+        inr (record {
+          steps = ha;
+          goroutines = hb;
+          pages = hc;
+          page_words = hd;
+          regions = hf;
+          workers = hg;
+          stats = hh;
+        })
 
 -- the word is one of these
 pub kind_of_word : (x : Text) → Kind x

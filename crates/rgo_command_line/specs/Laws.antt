@@ -4,7 +4,7 @@ use Rattle.std.specs.Prelude.{IsPermutation}
 use Rattle.clap.specs.Words.{Text}
 use Rattle.rgo_command_line.specs.Commands.{command_of}
 use Rattle.rgo_command_line.specs.Limits.{Fits, big_by, default_options, goroutine_bounds, limit_by, page_bounds, page_word_bounds}
-use Rattle.rgo_command_line.specs.Limits.{region_bounds, step_bounds}
+use Rattle.rgo_command_line.specs.Limits.{region_bounds, step_bounds, worker_bounds}
 use Rattle.rgo_command_line.specs.declared.commands.Command.{Command}
 use Rattle.rgo_command_line.specs.declared.commands.Command.TheVariants.{Run, Check, Emit, Code, Big}
 use Rattle.rgo_command_line.specs.declared.limits.Bounds.{Bounds}
@@ -33,25 +33,27 @@ abbrev pub joined : List (List Text) → List Text
 joined [] = []
 joined (group ∷ rest) = group ++ joined rest
 
--- Words that set these options, each option at most once and in any order: each of the six options has
--- a group of words, which is empty if the option does not occur, and the words are a permutation of the
--- six groups, joined.
+-- Words that set these options, each option at most once and in any order: each of the seven options
+-- has a group of words, which is empty if the option does not occur, and the words are a permutation of
+-- the seven groups, joined.
 pub record SetOptions (options : RunOptions) (words : List Text) : Type 0 where
   pub steps : List Text
   pub goroutines : List Text
   pub pages : List Text
   pub page_words : List Text
   pub regions : List Text
+  pub workers : List Text
   pub stats : List Text
   pub set_steps : SetNumber (codes "steps") step_bounds options.limits.steps steps
   pub set_goroutines : SetNumber (codes "goroutines") goroutine_bounds options.limits.goroutines goroutines
   pub set_pages : SetNumber (codes "pages") page_bounds options.sizes.pages pages
   pub set_page_words : SetNumber (codes "page-words") page_word_bounds options.sizes.page_words page_words
   pub set_regions : SetNumber (codes "regions") region_bounds options.sizes.regions regions
+  pub set_workers : SetNumber (codes "workers") worker_bounds options.workers workers
   pub set_stats : SetFlag (codes "stats") options.stats stats
   pub fits : Fits options.sizes
   pub order : List (List Text)
-  pub permuted : IsPermutation (steps ∷ goroutines ∷ pages ∷ page_words ∷ regions ∷ stats ∷ []) order
+  pub permuted : IsPermutation (steps ∷ goroutines ∷ pages ∷ page_words ∷ regions ∷ workers ∷ stats ∷ []) order
   pub whole : words ≡ joined order
 
 -- nothing, or a `--`
@@ -99,6 +101,9 @@ with_limits limits = record default_options { limits = limits }
 abbrev with_sizes : Sizes → RunOptions
 with_sizes sizes = record default_options { sizes = sizes }
 
+abbrev with_workers : ℕ → RunOptions
+with_workers n = record default_options { workers = n }
+
 -- some of the words that ask for a command
 pub record AskForCommands : Type 0 where
   pub run : AskForRun [] default_options
@@ -120,11 +125,17 @@ pub record AskForCommands : Type 0 where
       (with_sizes (record { page_words = 4096; pages = 4096; regions = 65536 }))
   pub most_words : AskForRun (codes "--pages=65536" ∷ codes "--page-words=256" ∷ [])
       (with_sizes (record { page_words = 256; pages = 65536; regions = 65536 }))
+  pub workers : AskForRun (codes "--workers" ∷ codes "2" ∷ []) (with_workers 2)
+  pub workers_joined : AskForRun (codes "--workers=2" ∷ []) (with_workers 2)
+  pub least_workers : AskForRun (codes "--workers" ∷ codes "1" ∷ []) (with_workers 1)
+  pub most_workers : AskForRun (codes "--workers=64" ∷ []) (with_workers 64)
   pub all : AskForRun (codes "--stats" ∷ codes "--regions" ∷ codes "3" ∷ codes "--page-words=64"
-      ∷ codes "--goroutines=2" ∷ codes "--pages" ∷ codes "5" ∷ codes "--steps=9" ∷ codes "--" ∷ [])
+      ∷ codes "--goroutines=2" ∷ codes "--workers" ∷ codes "7" ∷ codes "--pages" ∷ codes "5"
+      ∷ codes "--steps=9" ∷ codes "--" ∷ [])
       (record {
         limits = record { steps = 9; goroutines = 2 };
         sizes = record { page_words = 64; pages = 5; regions = 3 };
+        workers = 7;
         stats = true;
       })
   pub check : Ask (codes "check" ∷ []) (Some Check)
@@ -151,6 +162,7 @@ pub record AskForNothing : Type 0 where
   pub twice : Ask (codes "run" ∷ codes "run" ∷ []) None
   pub before : Ask (codes "--steps=5" ∷ codes "run" ∷ []) None
   pub check_option : Ask (codes "check" ∷ codes "--steps=5" ∷ []) None
+  pub check_workers : Ask (codes "check" ∷ codes "--workers=2" ∷ []) None
   pub emit_option : Ask (codes "emit" ∷ codes "--steps=5" ∷ []) None
   pub code_option : Ask (codes "code" ∷ codes "--steps=5" ∷ []) None
   pub two_commands : Ask (codes "emit" ∷ codes "code" ∷ []) None
@@ -167,6 +179,11 @@ pub record AskForNothing : Type 0 where
   pub large_page : Ask (codes "run" ∷ codes "--page-words=4097" ∷ []) None
   pub no_regions : Ask (codes "run" ∷ codes "--regions=0" ∷ []) None
   pub many_regions : Ask (codes "run" ∷ codes "--regions=65537" ∷ []) None
+  pub no_workers : Ask (codes "run" ∷ codes "--workers=0" ∷ []) None
+  pub many_workers : Ask (codes "run" ∷ codes "--workers=65" ∷ []) None
+  pub workers_empty : Ask (codes "run" ∷ codes "--workers=" ∷ []) None
+  pub workers_alone : Ask (codes "run" ∷ codes "--workers" ∷ []) None
+  pub workers_twice : Ask (codes "run" ∷ codes "--workers=2" ∷ codes "--workers" ∷ codes "2" ∷ []) None
   pub many_words : Ask (codes "run" ∷ codes "--pages=65536" ∷ codes "--page-words=257" ∷ []) None
   pub stats_value : Ask (codes "run" ∷ codes "--stats=true" ∷ []) None
   pub stats_apart : Ask (codes "run" ∷ codes "--stats" ∷ codes "true" ∷ []) None
@@ -183,3 +200,4 @@ pub record AskForNothing : Type 0 where
   pub big_twice_apart : Ask (codes "big" ∷ codes "5" ∷ codes "--" ∷ codes "5" ∷ []) None
   pub big_option : Ask (codes "big" ∷ codes "--steps=5" ∷ codes "5" ∷ []) None
   pub big_option_after : Ask (codes "big" ∷ codes "5" ∷ codes "--stats" ∷ []) None
+  pub big_workers : Ask (codes "big" ∷ codes "5" ∷ codes "--workers=2" ∷ []) None

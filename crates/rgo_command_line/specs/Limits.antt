@@ -25,6 +25,9 @@ page_word_bounds = record { least = 16; most = 4096; default = 256 }
 abbrev pub region_bounds : Bounds
 region_bounds = record { least = 1; most = 65536; default = 65536 }
 
+abbrev pub worker_bounds : Bounds
+worker_bounds = record { least = 1; most = 64; default = 4 }
+
 -- the most goroutines of `big`
 abbrev pub most_big : ℕ
 most_big = 10000
@@ -59,6 +62,7 @@ Fits sizes = sizes.pages * sizes.page_words ≤ most_words
 pub record LieInBounds (options : RunOptions) : Type 0 where
   pub limits : LimitsLieInBounds options.limits
   pub sizes : SizesLieInBounds options.sizes
+  pub workers : LiesIn worker_bounds options.workers
   pub fits : Fits options.sizes
 
 -- the limit that an option sets by its value; the default without one
@@ -101,11 +105,13 @@ sizes_of rows =
 -- what the options of a run set
 abbrev pub options_of : List Row → Option RunOptions
 options_of rows =
-    option_and_then (λ limits. option_map (λ sizes. record {
+    option_and_then (λ limits. option_and_then (λ sizes. option_map (λ workers. record {
       limits = limits;
       sizes = sizes;
+      workers = workers;
       stats = is_given (codes "stats") rows;
-    }) (sizes_of rows))
+    }) (limit_of (codes "workers") worker_bounds rows))
+    (sizes_of rows))
     (limits_of rows)
 
 -- what `run` sets without options
@@ -113,6 +119,7 @@ abbrev pub default_options : RunOptions
 default_options = record {
   limits = record { steps = 4398046511104; goroutines = 100000 };
   sizes = record { page_words = 256; pages = 4096; regions = 65536 };
+  workers = 4;
   stats = false;
 }
 

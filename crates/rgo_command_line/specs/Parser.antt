@@ -17,9 +17,10 @@ required_word name = record (new_rule name) { action = Some Set; required = true
 
 -- `run`, with its options
 abbrev pub run_parser : App
-run_parser = with_rule (with_rule (with_rule (with_rule (with_rule (with_rule (new_app (codes "run"))
+run_parser = with_rule (with_rule (with_rule (with_rule (with_rule (with_rule (with_rule (new_app (codes "run"))
     (number_option (codes "steps"))) (number_option (codes "goroutines"))) (number_option (codes "pages")))
-    (number_option (codes "page-words"))) (number_option (codes "regions"))) (flag_option (codes "stats"))
+    (number_option (codes "page-words"))) (number_option (codes "regions"))) (number_option (codes "workers")))
+    (flag_option (codes "stats"))
 
 -- `big`, with its number of goroutines
 abbrev pub big_parser : App

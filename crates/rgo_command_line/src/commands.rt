@@ -72,14 +72,15 @@ fn command_met(matches: &ArgMatches<'_>) -> Option<Command>
 /// The command that the words ask for. The first word is the program's name, and is ignored.
 ///
 /// `run` takes the options `--steps N`, `--goroutines N`, `--pages N`, `--page-words N`,
-/// `--regions N` and `--stats`, each at most once and in any order. An option with a number may be
-/// written `--steps=N`; `--stats` has no value. `N` is one or more decimal digits:
+/// `--regions N`, `--workers N` and `--stats`, each at most once and in any order. An option with a
+/// number may be written `--steps=N`; `--stats` has no value. `N` is one or more decimal digits:
 ///
 /// - steps: 1 to 4,398,046,511,104, which is also the default;
 /// - goroutines: 1 to 1,000,000, by default 100,000;
 /// - pages: 1 to 65,536, by default 4,096;
 /// - words of a page: 16 to 4,096, by default 256;
-/// - regions: 1 to 65,536, which is also the default.
+/// - regions: 1 to 65,536, which is also the default;
+/// - workers: 1 to 64, by default 4.
 ///
 /// Pages times words of a page is at most 16,777,216. `check`, `emit` and `code` take no option. A
 /// `--` may end the words.

@@ -20,6 +20,8 @@ pub struct RunOptions {
     /// not counted. All pages together have at most 16,777,216 words. A word has one field of a
     /// structure or one element of a slice.
     pub sizes: Sizes,
+    /// `--workers`: on how many workers (threads) the goroutines run, from 1 to 64.
+    pub workers: u32,
     /// `--stats`: whether one line on standard error, after the run, counts its regions, pages, objects
     /// and goroutines.
     pub stats: bool,
@@ -42,6 +44,7 @@ impl Default for RunOptions {
                 pages: PAGES.default as usize,
                 regions: REGIONS.default as usize,
             },
+            workers: WORKERS.default as u32,
             stats: false,
         }
     }
@@ -88,6 +91,13 @@ const REGIONS: Bounds = Bounds {
     least: 1,
     most: 65_536,
     default: 65_536,
+};
+
+/// On how many workers the goroutines run.
+const WORKERS: Bounds = Bounds {
+    least: 1,
+    most: 64,
+    default: 4,
 };
 
 /// The most goroutines that `big` starts; the least is one.
@@ -160,6 +170,7 @@ pub(crate) fn options_of(matches: &ArgMatches<'_>) -> Option<RunOptions>
     Some(RunOptions {
         limits: limits_of(matches)?,
         sizes: sizes_of(matches)?,
+        workers: limit(matches, "workers", WORKERS)? as u32,
         stats: is_given(matches, "stats"),
     })
 }

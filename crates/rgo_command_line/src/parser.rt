@@ -42,6 +42,7 @@ fn run_parser<'a>(alloc: Global) -> Result<Command<'a>, AllocError>
         .arg(number_option(alloc, "pages"))?
         .arg(number_option(alloc, "page-words"))?
         .arg(number_option(alloc, "regions"))?
+        .arg(number_option(alloc, "workers"))?
         .arg(flag_option(alloc, "stats"))
 }
 

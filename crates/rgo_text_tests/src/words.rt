@@ -191,6 +191,43 @@ static SIZED: [(&str, usize, usize, usize, bool); 41] = [
     ),
 ];
 
+/// Command lines that ask for `run`, with its workers and whether it has `--stats`. The other options are the defaults.
+static WORKED: [(&str, u32, bool); 22] = [
+    ("rgo|run", 4, false),
+    ("rgo|run|--stats", 4, true),
+    ("rgo|run|--workers|2", 2, false),
+    ("rgo|run|--workers=2", 2, false),
+    ("rgo|run|--workers|2|--", 2, false),
+    ("rgo|run|--workers=2|--", 2, false),
+    // With other options, in any order.
+    ("rgo|run|--workers|2|--stats", 2, true),
+    ("rgo|run|--stats|--workers=2", 2, true),
+    ("rgo|run|--stats|--workers|2|--", 2, true),
+    ("rgo|run|--workers=2|--steps=4398046511104", 2, false),
+    (
+        "rgo|run|--regions=65536|--goroutines|100000|--workers|9|--pages=4096|--stats|--steps=4398046511104|--page-words|256",
+        9,
+        true,
+    ),
+    // The ends of the range.
+    ("rgo|run|--workers|1", 1, false),
+    ("rgo|run|--workers=1", 1, false),
+    ("rgo|run|--workers|3", 3, false),
+    ("rgo|run|--workers|4", 4, false),
+    ("rgo|run|--workers|5", 5, false),
+    ("rgo|run|--workers|63", 63, false),
+    ("rgo|run|--workers|64", 64, false),
+    ("rgo|run|--workers=64", 64, false),
+    // Leading zeros.
+    ("rgo|run|--workers|007", 7, false),
+    ("rgo|run|--workers=0064", 64, false),
+    (
+        "rgo|run|--workers|00000000000000000000000000000000000000009",
+        9,
+        false,
+    ),
+];
+
 static CHECKS: [&str; 3] = ["rgo|check", "rgo|check|--", "-|check"];
 
 static EMITS: [&str; 3] = ["rgo|emit", "rgo|emit|--", "-|emit"];
@@ -216,7 +253,7 @@ static BIGS: [(&str, u32); 13] = [
     ("rgo|big|00000000000000000000000000000000000000009", 9),
 ];
 
-static REFUSED: [&str; 288] = [
+static REFUSED: [&str; 326] = [
     "rgo",
     "",
     "run",
@@ -369,7 +406,6 @@ static REFUSED: [&str; 288] = [
     "rgo|run|---steps|5",
     "rgo|run|--=5",
     "rgo|run|--steps |5",
-    "rgo|run|--workers|4",
     "rgo|run|--steps|5|--help",
     "rgo|run|--steps=5|-h",
     "rgo|run|--steps=5|--version",
@@ -403,6 +439,46 @@ static REFUSED: [&str; 288] = [
     "rgo|run|--regions|65537",
     "rgo|run|--regions=65537",
     "rgo|run|--regions|18446744073709551617",
+    // `--workers`: no number, one that it does not take, twice, and in another place.
+    "rgo|run|--workers",
+    "rgo|run|--workers=",
+    "rgo|run|--workers|",
+    "rgo|run|--workers|--",
+    "rgo|run|--workers|--|4",
+    "rgo|run|--workers|--stats",
+    "rgo|run|--workers|--steps=5",
+    "rgo|run|--workers|x",
+    "rgo|run|--workers=x",
+    "rgo|run|--workers|-1",
+    "rgo|run|--workers=-1",
+    "rgo|run|--workers|+4",
+    "rgo|run|--workers|4x",
+    "rgo|run|--workers|0",
+    "rgo|run|--workers=0",
+    "rgo|run|--workers|000",
+    "rgo|run|--workers|65",
+    "rgo|run|--workers=65",
+    "rgo|run|--workers|260",
+    "rgo|run|--workers|4294967300",
+    "rgo|run|--workers|18446744073709551620",
+    "rgo|run|--workers=4|--workers=4",
+    "rgo|run|--workers|2|--workers|3",
+    "rgo|run|--workers|2|--steps=5|--workers=3",
+    "rgo|run|--workers|2|3",
+    "rgo|run|--|--workers=2",
+    "rgo|run|--worker|2",
+    "rgo|run|--workerss=2",
+    "rgo|run|--Workers=2",
+    "rgo|run|-workers|2",
+    "rgo|run|-w|2",
+    "rgo|run|workers|2",
+    "rgo|--workers=2|run",
+    "rgo|check|--workers|2",
+    "rgo|emit|--workers=2",
+    "rgo|code|--workers=2",
+    "rgo|big|3|--workers|2",
+    "rgo|big|3|--workers=2",
+    "rgo|big|--workers=2|3",
     // All pages together have too many words.
     "rgo|run|--pages=65536|--page-words=257",
     "rgo|run|--page-words|257|--pages|65536",
@@ -531,6 +607,7 @@ fn words_ask_for_their_commands(rt: HostRuntime) -> Result<(), Fail> {
                 pages: 4_096,
                 regions: 65_536,
             },
+            workers: 4,
             stats: false,
         };
         asks(&rt, line, Ok(Command::Run(options)))?;
@@ -546,6 +623,23 @@ fn words_ask_for_their_commands(rt: HostRuntime) -> Result<(), Fail> {
                 pages: *pages,
                 regions: *regions,
             },
+            workers: 4,
+            stats: *stats,
+        };
+        asks(&rt, line, Ok(Command::Run(options)))?;
+    }
+    for (line, workers, stats) in &WORKED {
+        let options = RunOptions {
+            limits: Limits {
+                steps: MOST_STEPS,
+                goroutines: 100_000,
+            },
+            sizes: Sizes {
+                page_words: 256,
+                pages: 4_096,
+                regions: 65_536,
+            },
+            workers: *workers,
             stats: *stats,
         };
         asks(&rt, line, Ok(Command::Run(options)))?;

@@ -14,9 +14,11 @@ returns-clause-app c =
     pages c.number_option-4.ensures.rule in
     let regions = with_arg _ _ _ _ _ c.in_ok-arg-5.ensures c.number_option-5.ensures.local
     page_words c.number_option-5.ensures.rule in
-    IfOk-weaker c.arg-6.result _ _
-    (λ r adds. with_arg _ _ _ _ _ adds c.flag_option.ensures.local regions c.flag_option.ensures.rule)
-    c.arg-6.ensures
+    let workers = with_arg _ _ _ _ _ c.in_ok-arg-6.ensures c.number_option-6.ensures.local
+    regions c.number_option-6.ensures.rule in
+    IfOk-weaker c.arg-7.result _ _
+    (λ r adds. with_arg _ _ _ _ _ adds c.flag_option.ensures.local workers c.flag_option.ensures.rule)
+    c.arg-7.ensures
 
 pub returns-clause-local : goal.returns-clause-local
 returns-clause-local c =
@@ -25,5 +27,6 @@ returns-clause-local c =
     let pages = still_local _ _ _ c.in_ok-arg-3.ensures c.number_option-3.ensures.local goroutines in
     let page_words = still_local _ _ _ c.in_ok-arg-4.ensures c.number_option-4.ensures.local pages in
     let regions = still_local _ _ _ c.in_ok-arg-5.ensures c.number_option-5.ensures.local page_words in
-    IfOk-weaker c.arg-6.result _ _
-    (λ r adds. still_local _ _ _ adds c.flag_option.ensures.local regions) c.arg-6.ensures
+    let workers = still_local _ _ _ c.in_ok-arg-6.ensures c.number_option-6.ensures.local regions in
+    IfOk-weaker c.arg-7.result _ _
+    (λ r adds. still_local _ _ _ adds c.flag_option.ensures.local workers) c.arg-7.ensures
