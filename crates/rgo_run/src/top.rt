@@ -75,9 +75,10 @@ fn read<S: Source>(
 ///
 /// A run is in rounds, in which every goroutine that can step has a turn. With one worker the turns come
 /// one after the other, on the caller's thread. With more, `rt` starts threads: the goroutines of a
-/// round are dealt out to the workers, and their steps come in any order, each under one lock. Every
-/// worker arrives at the gate before its first turn of a round, with its number, from 0 on, and that of
-/// the round, from 1 on.
+/// round are dealt out to the workers, and their steps come in any order, each under one lock. A worker
+/// that has goroutines in a round arrives at the gate before the first turn of these, with its number,
+/// from 0 on, and that of the round, from 1 on. That a worker gets the lock for which it waits is not
+/// claimed.
 ///
 /// | status | where |
 /// |---|---|
