@@ -64,7 +64,10 @@ fn a_text_has_at_most_one_mebibyte(rt: HostRuntime) -> Result<(), Fail> {
     )
 }
 
-fn all_print<R: Threads + Wait + Abort + AllocGlobal + Sync>(rt: &R, rows: &[(&str, &str)]) -> Result<(), Fail> {
+fn all_print<R: Threads + Wait + Abort + AllocGlobal + Sync>(
+    rt: &R,
+    rows: &[(&str, &str)],
+) -> Result<(), Fail> {
     for (line, print) in rows {
         prints(rt, with_head(rt.alloc(), line)?, print)?;
     }
@@ -199,7 +202,10 @@ fn broken(alloc: Global, rule: u8, at: &str) -> Result<String, AllocError> {
     format!(in alloc; "rgo: {at}: type {rule} {name}\n")
 }
 
-fn all_break<R: Threads + Wait + Abort + AllocGlobal + Sync>(rt: &R, rows: &[(u8, &str, &str)]) -> Result<(), Fail> {
+fn all_break<R: Threads + Wait + Abort + AllocGlobal + Sync>(
+    rt: &R,
+    rows: &[(u8, &str, &str)],
+) -> Result<(), Fail> {
     for (rule, at, line) in rows {
         let report = broken(rt.alloc(), *rule, at)?;
         checks(rt, with_head(rt.alloc(), line)?, report.as_str())?;
@@ -207,7 +213,10 @@ fn all_break<R: Threads + Wait + Abort + AllocGlobal + Sync>(rt: &R, rows: &[(u8
     Ok(())
 }
 
-fn all_pass<R: Threads + Wait + Abort + AllocGlobal + Sync>(rt: &R, lines: &[&str]) -> Result<(), Fail> {
+fn all_pass<R: Threads + Wait + Abort + AllocGlobal + Sync>(
+    rt: &R,
+    lines: &[&str],
+) -> Result<(), Fail> {
     for line in lines {
         checks(rt, with_head(rt.alloc(), line)?, "")?;
     }

@@ -29,7 +29,10 @@ static OTHER_WORDS: [&str; 12] = [
     "rgo  run",
 ];
 
-fn usage_is_reported<R: Threads + Wait + Abort + AllocGlobal + Sync>(rt: &R, line: &str) -> Result<(), Fail> {
+fn usage_is_reported<R: Threads + Wait + Abort + AllocGlobal + Sync>(
+    rt: &R,
+    line: &str,
+) -> Result<(), Fail> {
     let alloc = rt.alloc();
     let words = words_of(alloc, line, ' ')?;
     let mut source = NoFaultSource::new(b"text".as_slice().to_vec(alloc)?);
@@ -67,7 +70,11 @@ static BIG_WORDS: [(&str, &str); 5] = [
     ("rgo big -- 040", "40 660\n"),
 ];
 
-fn big_is_run<R: Threads + Wait + Abort + AllocGlobal + Sync>(rt: &R, line: &str, wanted: &str) -> Result<(), Fail> {
+fn big_is_run<R: Threads + Wait + Abort + AllocGlobal + Sync>(
+    rt: &R,
+    line: &str,
+    wanted: &str,
+) -> Result<(), Fail> {
     let alloc = rt.alloc();
     let words = words_of(alloc, line, ' ')?;
     let mut source = NoFaultSource::new(b"text".as_slice().to_vec(alloc)?);

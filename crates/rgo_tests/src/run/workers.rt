@@ -57,7 +57,12 @@ fn workers_wait_for_one_another(rt: HostRuntime) -> Result<(), Fail> {
     for line in ["rgo run", "rgo run --workers 2", "rgo run --workers 7"] {
         same(&rt, line, &arrivals(&rt, line)?, &(2, false));
     }
-    same(&rt, "one", &arrivals(&rt, "rgo run --workers 1")?, &(0, false));
+    same(
+        &rt,
+        "one",
+        &arrivals(&rt, "rgo run --workers 1")?,
+        &(0, false),
+    );
     Ok(())
 }
 

@@ -28,9 +28,9 @@ returns-in-Ok-clause-performs g c = λ text is_code.
     let ready = starts_ready options.limits (erased code) in
     let stand = starts_stand code options.sizes c.in-Ok.world starts in
     let out = sink_use (g.K.Sink.contents c.args.out.now) (g.K.Sink.contents call.new.out) (g.K.Sink.faults c.args.out.now)
-        (g.K.Sink.faults call.new.out) (g.K.Sink.broken call.new.out) in
+    (g.K.Sink.faults call.new.out) (g.K.Sink.broken call.new.out) in
     let by = runs_by options.workers (view_of world) (erased code) options.limits [] end out
-        (call.ensures.runs [] start stand ready) (λ one. call.ensures.alone one [] start stand ready) in
+    (call.ensures.runs [] start stand ready) (λ one. call.ensures.alone one [] start stand ready) in
     let done = by.to in
     let went = subst (Went options.workers options.limits end out world) starts.code_is (record {
       runs = done.runs;
