@@ -4,7 +4,7 @@ use Rattle.std.proofs.Common.{◌≡◌, Bool, true, false, ℕ, ◌⊎◌, inl,
 use Rattle.std.specs.Io.KnownBytes.{Appends}
 use Rattle.rgo_machine.specs.declared.limits.Limits.{Limits}
 use Rattle.rgo_tac.specs.Code.{Tac}
-use Rattle.rgo_tac.specs.Tac.{TacState}
+use Rattle.rgo_tac.specs.Tac.{TacState, tac, tac_start}
 use Rattle.rgo_code.specs.Erasure.{erased}
 use Rattle.rgo_region_machine.specs.States.{RegionState}
 use Rattle.rgo_world.specs.declared.tally.Tally.{Tally}
@@ -20,7 +20,7 @@ use Rattle.rgo_big.specs.Big.{big_text}
 use Rattle.rgo_run.specs.declared.endings.Ending.{Ending}
 use Rattle.rgo_run.specs.declared.endings.Ending.TheVariants.{Valid, Ran, Usage, ReadFault, TooLong, CodeTooLong}
 use Rattle.rgo_run.specs.declared.endings.Ending.TheVariants.{WriteFault, NoMemory}
-use Rattle.rgo_run.specs.Calls.{AsksRun, Call, Asks, IsRun, SinkUse, SourceFailed, SourceHeld, IsUntouched, run_options}
+use Rattle.rgo_run.specs.Calls.{AsksRun, Call, Asks, IsRun, SourceFailed, SourceHeld, IsUntouched, run_options}
 use Rattle.rgo_run.specs.Endings.{status_of, is_run_status, is_fault_status}
 use Rattle.rgo_run.specs.Reports.{Tells, HasPlace, Reports}
 use Rattle.rgo_run.specs.Runs.{RunsInRounds, RunsTo, stats_at}
@@ -78,9 +78,10 @@ whole_print run_end.GoroutinesSpent print old new n g = g
 whole_print run_end.NoMemory print old new n g = g
 
 -- a run of which the lines had no memory counts as one that ran out of memory; the same of one in rounds
-no_line_in_rounds : (code : Tac) (limits : Limits) (end : RunEnd) (out : SinkUse) (t : TacState)
-    → (end ≡ run_end.WriteFault → ⊥) → RunsInRounds code limits end out t → RunsInRounds code limits run_end.NoMemory out t
-no_line_in_rounds code limits end out t no_fault r = record {
+no_line_in_rounds : (code : Tac) (limits : Limits) (end : RunEnd) (old new : Option (List ℕ)) (t : TacState)
+    → (end ≡ run_end.WriteFault → ⊥) → RunsInRounds (tac code) limits (tac_start code) end old new t
+    → RunsInRounds (tac code) limits (tac_start code) run_end.NoMemory old new t
+no_line_in_rounds code limits end old new t no_fault r = record {
   runs = record {
     rounds = r.runs.rounds;
     last = r.runs.last;
@@ -90,7 +91,7 @@ no_line_in_rounds code limits end out t no_fault r = record {
     goes = r.runs.goes;
     ran = r.runs.ran;
     ends = tt;
-    gives = whole_print end r.runs.state.printed out.old out.new no_fault r.runs.gives;
+    gives = whole_print end r.runs.state.printed old new no_fault r.runs.gives;
   };
   is = r.is;
 }
@@ -115,7 +116,8 @@ no_line_run options text call e r no_fault = record {
       ends = tt;
       gives = whole_print r.run_end r.runs.runs.state.printed call.out.old call.out.new no_fault r.runs.runs.gives;
     };
-    in_rounds = λ one. no_line_in_rounds (erased r.runs.code) options.limits r.run_end call.out r.runs.runs.state no_fault
+    in_rounds = λ one.
+        no_line_in_rounds (erased r.runs.code) options.limits r.run_end call.out.old call.out.new r.runs.runs.state no_fault
         (r.runs.in_rounds one);
     source = record {
       picks = r.runs.source.picks;

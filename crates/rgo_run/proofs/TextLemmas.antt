@@ -1,5 +1,5 @@
 -- What the parts of the compiler say of a text, as the endings that report it.
-use Rattle.std.proofs.Common.{◌≡◌, ℕ, suc, ◌+◌, ◌*◌, ◌<◌, ◌≤◌, inl, Bool, true, false, List, [], ◌∷◌, ◌++◌, length, Option, None, Some, IfSome, refl, arith, subst}
+use Rattle.std.proofs.Common.{◌≡◌, ℕ, suc, ◌+◌, ◌*◌, ◌<◌, ◌≤◌, inl, Bool, true, false, List, [], ◌∷◌, length, Option, None, Some, IfSome, refl, arith, subst}
 use Rattle.std.specs.Prelude.{max, nat_le, codes, bytes_eq, if◌then◌else◌}
 use Rattle.std.proofs.lemmas.Bool.Decides.{nat_tests}
 use Rattle.rgo_outside.specs.Moves.{ReadsAll, GivesTooMany}
@@ -253,7 +253,8 @@ region_run_of code sizes end t events state checked ascends leads is printed lac
 pub ran : (options : RunOptions) (text : List ℕ) (code : code.Code) (end : RunEnd) (stats : Option Tally) (out : SinkUse)
     → IsCompiled text code
     → (runs : RunsFreely (tac (erased code)) options.limits (tac_start (erased code)) end out.old out.new)
-    → (options.workers ≡ 1 → RunsInRounds (erased code) options.limits end out runs.state)
+    → (options.workers ≡ 1
+    → RunsInRounds (tac (erased code)) options.limits (tac_start (erased code)) end out.old out.new runs.state)
     → (regions : RegionRun code options.sizes end runs.state) → stats ≡ stats_at options.stats end regions.state
     → (end ≡ WriteFault → Failed out) → ((end ≡ WriteFault → ⊥) → Held out)
     → Performs (Run options) text (Ran end stats) out

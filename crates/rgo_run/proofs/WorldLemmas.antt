@@ -1,11 +1,11 @@
 -- A world in which a run has ended: the run of the region machine, and what is said of it.
-use Rattle.std.proofs.Common.{◌≡◌, ℕ, suc, Bool, List, ◌++◌, Option, refl, sym, ◌∙◌, subst}
+use Rattle.std.proofs.Common.{◌≡◌, ℕ, zero, suc, Bool, List, ◌++◌, length, length-append, Option, refl, sym, ◌∙◌, arith, subst}
 use Rattle.rgo_machine.specs.declared.limits.Sizes.{Sizes}
 use Rattle.rgo_machine.specs.declared.turns.Shortage.{Shortage}
 use Rattle.rgo_machine.specs.declared.limits.Limits.{Limits}
-use Rattle.rgo_tac.specs.Code.{Tac}
+use Rattle.rgo_machine.specs.Machines.{Machine}
 use Rattle.rgo_tac.specs.Frames.{Frame}
-use Rattle.rgo_tac.specs.Tac.{TacState, tac, tac_start}
+use Rattle.rgo_tac.specs.Tac.{TacState, tac}
 use Rattle.rgo_code.specs.Code.{Code}
 use Rattle.rgo_code.specs.Erasure.{erased}
 use Rattle.rgo_driver.specs.Runs.{RunsFreely, RunsFreelyTo, RunsTo}
@@ -14,9 +14,8 @@ use Rattle.rgo_driver.specs.declared.ends.RunEnd.TheVariants as run_end
 use Rattle.rgo_world.specs.declared.tally.Tally.{Tally}
 use Rattle.rgo_world.specs.declared.worlds.World.{World}
 use Rattle.rgo_world.specs.Worlds.{Lacks, LacksIn, Reaches, Shown, Stands}
-use Rattle.rgo_driver.proofs.AnyOrder.{freely}
+use Rattle.rgo_driver.specs.Rounds.{all_of}
 use Rattle.rgo_driver.specs.Running.{View}
-use Rattle.rgo_run.specs.Calls.{SinkUse}
 use Rattle.rgo_run.specs.Runs.{RegionRun, RunsInRounds, stats_at}
 use Rattle.rgo_run.proofs.TextLemmas.{region_run_of}
 
@@ -52,32 +51,47 @@ ended_so w before p run_end.GoroutinesSpent left stands lacks =
 
 -- ---- one worker or several
 
--- a run on so many workers has ended so: with one, it was in rounds
-pub record RunsBy (workers : ℕ) (run : View Frame (Code × Sizes)) (code : Tac) (limits : Limits) (given : List ℕ)
-    (end : RunEnd) (out : SinkUse)
-    : Type 0 where
-  pub to : RunsFreelyTo run (tac code) limits given (tac_start code) end out.old out.new
-  pub in_rounds : workers ≡ 1 → RunsInRounds code limits end out to.runs.state
+module _ (run : View Frame (Code × Sizes)) (machine : Machine Frame) (limits : Limits) (given : List ℕ) (start : TacState)
+    (end : RunEnd) (old new : Option (List ℕ)) where
+  -- a run on so many workers has ended so: with one, it was in rounds
+  pub record RunsBy (workers : ℕ) : Type 0 where
+    pub to : RunsFreelyTo run machine limits given start end old new
+    pub in_rounds : workers ≡ 1 → RunsInRounds machine limits start end old new to.runs.state
 
--- what is said of any number of workers, and of one
-pub runs_by : (workers : ℕ) (run : View Frame (Code × Sizes)) (code : Tac) (limits : Limits) (given : List ℕ) (end : RunEnd)
-    (out : SinkUse) → RunsFreelyTo run (tac code) limits given (tac_start code) end out.old out.new
-    → (workers ≡ 1 → RunsTo run (tac code) limits given (tac_start code) end out.old out.new)
-    → RunsBy workers run code limits given end out
-runs_by 0 run code limits given end out to alone = record { to = to; in_rounds = λ one. cc }
-runs_by 1 run code limits given end out to alone =
-    let r = alone refl in
-    record {
-      to = freely run (tac code) limits given (tac_start code) end out.old out.new r;
-      in_rounds = λ one. record { runs = r.runs; is = refl };
-    }
-runs_by (suc (suc n)) run code limits given end out to alone = record { to = to; in_rounds = λ one. cc }
+  -- a run in rounds has its steps in some order
+  in_some_order : RunsTo run machine limits given start end old new → RunsFreelyTo run machine limits given start end old new
+  in_some_order h =
+      let r = h.runs in
+      record {
+        runs = record {
+          picks = all_of r.rounds ++ r.last;
+          tested = length (all_of r.rounds);
+          state = r.state;
+          ran = r.ran;
+          early = omega (arith, length-append (all_of r.rounds) r.last);
+          ends = r.ends;
+          gives = r.gives;
+        };
+        before = h.before;
+        whole = h.whole;
+        left = h.left;
+      }
+
+  -- what is said of any number of workers, and of one
+  pub runs_by : (workers : ℕ) → RunsFreelyTo run machine limits given start end old new
+      → (workers ≡ 1 → RunsTo run machine limits given start end old new) → RunsBy workers
+  unfolding in_some_order
+  runs_by zero to alone = record { to = to; in_rounds = λ one. cc }
+  runs_by (suc zero) to alone =
+      let r = alone refl in record { to = in_some_order r; in_rounds = λ one. record { runs = r.runs; is = refl } }
+  runs_by (suc (suc n)) to alone = record { to = to; in_rounds = λ one. cc }
 
 -- a run of this code without its regions has ended so in a world
-pub record Went (workers : ℕ) (limits : Limits) (end : RunEnd) (out : SinkUse) (w : World) (code : Code)
+pub record Went (workers : ℕ) (limits : Limits) (start : TacState) (end : RunEnd) (old new : Option (List ℕ)) (w : World)
+    (code : Code)
     : Type 0 where
-  pub runs : RunsFreely (tac (erased code)) limits (tac_start (erased code)) end out.old out.new
-  pub in_rounds : workers ≡ 1 → RunsInRounds (erased code) limits end out runs.state
+  pub runs : RunsFreely (tac (erased code)) limits start end old new
+  pub in_rounds : workers ≡ 1 → RunsInRounds (tac (erased code)) limits start end old new runs.state
   pub before : List ℕ
   pub whole : runs.state.printed ≡ before ++ w.state.printed
   pub ended : Ended w before (record runs.state { printed = w.state.printed }) end

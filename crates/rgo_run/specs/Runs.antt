@@ -74,10 +74,13 @@ pub record RegionRun (code : Code) (sizes : Sizes) (end : RunEnd) (t : TacState)
   -- why there was no room
   pub lacks : (why : Shortage) → end ≡ NoRoom why → LacksIn code sizes why state
 
--- some run of the code in rounds, in which goroutines have their turns one after the other, ends so in this state and
--- gives out what `out` took
-pub record RunsInRounds (code : Tac) (limits : Limits) (end : RunEnd) (out : SinkUse) (t : TacState) : Type 0 where
-  pub runs : Runs (tac code) limits (tac_start code) end out.old out.new
+-- some run in rounds, in which goroutines have their turns one after the other, ends so in this state, and its print was
+-- given out
+pub record RunsInRounds
+    {F : Type 0} (machine : Machine F) (limits : Limits) (start : State F) (end : RunEnd) (old new : Option (List ℕ))
+    (t : State F)
+    : Type 0 where
+  pub runs : Runs machine limits start end old new
   pub is : runs.state ≡ t
 
 -- Some run of the program's code, its steps in any order, ends so and gives out what `out` took. It is why the end is
@@ -86,7 +89,9 @@ pub record ProgramRuns (program : Typed) (options : RunOptions) (end : RunEnd) (
   pub code : Code
   pub compiled : IsCompiledFrom program code
   pub runs : RunsFreely (tac (erased code)) options.limits (tac_start (erased code)) end out.old out.new
-  pub in_rounds : options.workers ≡ 1 → RunsInRounds (erased code) options.limits end out runs.state
+  -- with one worker, goroutines had their turns one after the other
+  pub in_rounds : options.workers ≡ 1
+      → RunsInRounds (tac (erased code)) options.limits (tac_start (erased code)) end out.old out.new runs.state
   pub source : SourceRun options.limits program end runs.state
   pub regions : RegionRun code options.sizes end runs.state
 

@@ -3,13 +3,12 @@ use Rattle.rgo_code.specs.Erasure.{erased}
 use Rattle.rgo_tac.specs.Tac.{tac_start}
 use Rattle.rgo_world.specs.Views.{view_of}
 use Rattle.rgo_world.proofs.Standing.{starts_stand}
-use Rattle.rgo_run.specs.Calls.{sink_use}
 use Rattle.rgo_run.proofs.TextLemmas.{ran, starts_ready}
 use Rattle.rgo_run.proofs.WorldLemmas.{Went, ended_so, region_run, runs_by}
 use Rattle.rgo_run.proofs.commands.run_code.Goals as goal
 
-pub run_with_workers-requires-clause-begins : goal.run_with_workers-requires-clause-begins
-run_with_workers-requires-clause-begins g c κs within = record {
+pub run_with_workers-world-requires-clause-begins : goal.run_with_workers-world-requires-clause-begins
+run_with_workers-world-requires-clause-begins g c κs within = record {
   given = [];
   state = tac_start (erased c.args.code.now);
   shown = starts_stand c.args.code.now c.args.options.sizes c.in-Ok.world c.in-Ok.ensures.starts;
@@ -22,17 +21,17 @@ returns-in-Ok-clause-performs g c = λ text is_code.
     let options = c.args.options in
     let start = tac_start (erased code) in
     let starts = c.in-Ok.ensures.starts in
-    let call = c.run_with_workers in
+    let call = c.run_with_workers-world in
     let world = call.result.0 in
     let end = call.result.1 in
     let ready = starts_ready options.limits (erased code) in
     let stand = starts_stand code options.sizes c.in-Ok.world starts in
-    let out = sink_use (g.K.Sink.contents c.args.out.now) (g.K.Sink.contents call.new.out) (g.K.Sink.faults c.args.out.now)
-    (g.K.Sink.faults call.new.out) (g.K.Sink.broken call.new.out) in
-    let by = runs_by options.workers (view_of world) (erased code) options.limits [] end out
+    let old = g.K.Sink.contents c.args.out.now in
+    let new = g.K.Sink.contents call.new.out in
+    let by = runs_by (view_of world) (view_of c.in-Ok.world).machine options.limits [] start end old new options.workers
     (call.ensures.runs [] start stand ready) (λ one. call.ensures.alone one [] start stand ready) in
     let done = by.to in
-    let went = subst (Went options.workers options.limits end out world) starts.code_is (record {
+    let went = subst (Went options.workers options.limits start end old new world) starts.code_is (record {
       runs = done.runs;
       in_rounds = by.in_rounds;
       before = done.before;
@@ -43,5 +42,5 @@ returns-in-Ok-clause-performs g c = λ text is_code.
     let tallied = region_run code options.sizes world went.before went.runs.state end options.stats c.stats_of.result
     (call.ensures.fixed ∙ (λ i. (starts.code_is i, starts.sizes_are i))) went.whole went.ended
     (c.stats_of.ensures went.ended.reaches.state went.ended.shown) in
-    ran options text code end c.stats_of.result out is_code went.runs went.in_rounds tallied.0 tallied.1
+    ran options text code end c.stats_of.result _ is_code went.runs went.in_rounds tallied.0 tallied.1
     (λ e. record { counted = call.ensures.fault e; broken = call.ensures.broken e }) call.ensures.kept
