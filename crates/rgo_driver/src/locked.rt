@@ -59,48 +59,90 @@ impl<R: Running, J: Begun<R>> Locked<R, J> {
     fn step(&mut self, alloc: Global, position: usize) -> bool {
         step(alloc, &mut self.round, position)
     }
-}
 
-/// The turn of the goroutine at a position.
-#[derive(Drop)]
-pub(crate) struct Turn<'a, H, R: Running, J: Begun<R>> {
-    pub(crate) rt: &'a H,
-    pub(crate) alloc: Global,
-    pub(crate) round: &'a Mutex<Locked<R, J>>,
-    pub(crate) position: usize,
-}
-
-impl<'a, H: Wait, R: Running, J: Begun<R>> Task for Turn<'a, H, R, J> {
-    ghost goes = { λ before after went. ⊤ };
-
-    /// Steps, up to 1,000 of them, each under the lock. Other goroutines step in between.
-    fn turn(&mut self) -> bool {
-        for _ in 0..LONGEST_TURN {
-            if !self.round.lock(self.rt).step(self.alloc, self.position) {
-                return false;
+    /// Of the goroutines at the positions from `from` on and before `to`, the first that can step takes a step; the turns
+    /// of those before it are over. Returns its position, or `to` if none can step.
+    fn step_first(&mut self, alloc: Global, from: usize, to: usize) -> usize
+        ensures { from ≤ to → (from ≤ result) × (result ≤ to) }
+    {
+        for position in from..to {
+            if self.step(alloc, position) {
+                return position;
             }
         }
-        true
+        to
     }
 }
 
-/// The turns of a round, one for each position.
-fn make_turns<'a, H: Wait, R: Running, J: Begun<R>>(
+/// The turns of one worker: those of the goroutines at the positions from `from` on and before `to`.
+#[derive(Drop)]
+pub(crate) struct Share<'a, H, R: Running, J: Begun<R>> {
+    pub(crate) rt: &'a H,
+    pub(crate) alloc: Global,
+    pub(crate) round: &'a Mutex<Locked<R, J>>,
+    pub(crate) from: usize,
+    pub(crate) to: usize,
+}
+
+impl<'a, H: Wait, R: Running, J: Begun<R>> Share<'a, H, R, J> {
+    /// The goroutine at a position takes the rest of its turn, up to 999 steps, each under the lock.
+    fn take_rest(&self, position: usize) {
+        for _ in 1..LONGEST_TURN {
+            if !self.round.lock(self.rt).step(self.alloc, position) {
+                return;
+            }
+        }
+    }
+}
+
+impl<'a, H: Wait, R: Running, J: Begun<R>> Task for Share<'a, H, R, J> {
+    ghost goes = { λ before after went. ⊤ };
+
+    /// Turns of up to 1,000 steps, one after the other, each step under the lock. Goroutines of other workers step in
+    /// between. Those that cannot step are passed over under one lock, since there may be many.
+    fn turn(&mut self) -> bool {
+        let mut went = false;
+        let mut from = self.from;
+        while from < self.to {
+            let position = self
+                .round
+                .lock(self.rt)
+                .step_first(self.alloc, from, self.to);
+            if position >= self.to {
+                return went;
+            }
+            self.take_rest(position);
+            went = true;
+            from = position + 1;
+        }
+        went
+    }
+}
+
+/// What each of up to so many workers has of a round: positions in a row, and none has two more than another.
+fn make_shares<'a, H: Wait, R: Running, J: Begun<R>>(
     rt: &'a H,
     alloc: Global,
     round: &'a Mutex<Locked<R, J>>,
     positions: usize,
-) -> Result<Vec<Turn<'a, H, R, J>>, AllocError> {
-    let mut turns = Vec::new(alloc);
-    for position in 0..positions {
-        turns.push(Turn {
+    workers: u32,
+) -> Result<Vec<Share<'a, H, R, J>>, AllocError> {
+    let workers = positions.min(workers as usize);
+    let mut shares = Vec::new(alloc);
+    let mut from = 0usize;
+    for k in 0..workers {
+        let more = if k < positions % workers { 1 } else { 0 };
+        let to = from.saturating_add(positions / workers + more);
+        shares.push(Share {
             rt,
             alloc,
             round,
-            position,
+            from,
+            to,
         })?;
+        from = to;
     }
-    Ok(turns)
+    Ok(shares)
 }
 
 /// Each goroutine whose turn is pending has its turn, on a worker.
@@ -120,8 +162,8 @@ fn take_turns<
 ) -> Result<(), AllocError>
     requires { (1 ≤ workers) × (workers ≤ 64) }
 {
-    let mut turns = make_turns(rt, alloc, locked, positions)?;
-    round(rt, &mut turns, workers, number, gate)?;
+    let mut shares = make_shares(rt, alloc, locked, positions, workers)?;
+    round(rt, &mut shares, workers, number, gate)?;
     Ok(())
 }
 
