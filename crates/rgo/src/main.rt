@@ -25,6 +25,7 @@ fn main(rt: HostRuntime) -> ExitCode {
     let mut out = StdSink::new(rt.stdout());
     let mut err = StdSink::new(rt.stderr());
     let status = rgo(
+        &rt,
         rt.alloc(),
         words.as_slice(),
         &mut source,

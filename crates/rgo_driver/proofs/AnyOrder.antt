@@ -1,6 +1,6 @@
 -- Steps in any order, with what went out, one after the other.
 use Rattle.std.proofs.Common.{◌≡◌, ◌<◌, ◌≤◌, ◌+◌, ◌-◌, ◌^◌, ℕ, List, [], ◌++◌, length, Option, Some, None}
-use Rattle.std.proofs.Common.{refl, ap, sym, subst, ◌∙◌, arith, append_assoc, length-append}
+use Rattle.std.proofs.Common.{refl, ap, sym, subst, ◌∙◌, arith, append_assoc, append-nil, length-append}
 use Rattle.std.proofs.KnownBytes.{Appends-nil, Appends-trans}
 use Rattle.std.specs.Io.KnownBytes.{Appends}
 use Rattle.rgo_machine.specs.declared.limits.Limits.{Limits}
@@ -13,15 +13,15 @@ use Rattle.rgo_driver.specs.declared.ends.RunEnd.TheVariants as run_end
 use Rattle.rgo_driver.specs.Freely.{Steps, Closes, Came, StepsOn, StepsOrCloses}
 use Rattle.rgo_driver.specs.OpenRounds.{Stands}
 use Rattle.rgo_driver.specs.Playing.{with_print, IsBetween, Finishes, PlaysRoundTo}
-use Rattle.rgo_driver.specs.Points.{Point, listed}
+use Rattle.rgo_driver.specs.Points.{Point, listed, point_of}
 use Rattle.rgo_driver.specs.Rounds.{all_of}
-use Rattle.rgo_driver.specs.Running.{View, Clears}
+use Rattle.rgo_driver.specs.Running.{View, Clears, IsAt}
 use Rattle.rgo_driver.specs.Runs.{Ends, AppendsSome, IsReady, RunsTo, RunsFreelyTo}
 use Rattle.rgo_driver.specs.Turning.{CountsUp}
 use Rattle.rgo_driver.proofs.Attending.{attends_last}
 use Rattle.rgo_driver.proofs.Composed.{counts_on}
 use Rattle.rgo_driver.proofs.Keepers.{watches_printed}
-use Rattle.rgo_driver.proofs.Left.{Lawful, left_at, left_printed, left_cleared, left_unwritten, all_given, at_later}
+use Rattle.rgo_driver.proofs.Left.{Lawful, at_given, left_at, left_printed, left_cleared, left_unwritten, all_given, at_later}
 use Rattle.rgo_driver.proofs.Played.{gives_whole, gives_behind, leads_after, ends_after, ready_after, turns_lead}
 use Rattle.rgo_driver.proofs.Played.{begun_leads}
 use Rattle.rgo_driver.proofs.Rounded.{none_counted}
@@ -137,7 +137,24 @@ module _ {F C : Type 0} (machine : Machine F) (limits : Limits) (given : List �
             (left_unwritten run machine given t end h.left);
       }
 
-  -- ---- after a round on workers
+  -- ---- before a round, and after a round on workers
+
+  -- no steps, and nothing went out
+  pub steps_none : (run : View F C) (d : Driver) (a : Option (List ℕ)) → IsAt run machine given s
+      → IsBetween machine limits (point_of s d) → d.steps ≡ m → StepsOn run machine limits given s m d a a
+  steps_none run d a at between same = record {
+    state = s;
+    bytes = [];
+    at = at_given run machine given s at;
+    ready = between.ready;
+    steps = record {
+      picks = [];
+      leads = λ before. ap (λ l. Some (with_print s l)) (sym (append-nil before));
+      counted = λ taken is. omega (arith, same, is);
+      gave = Appends-nil a;
+    };
+    watches = between.watches;
+  }
 
   -- steps, then a whole round
   pub steps_round : (old run : View F C) (d e : Driver) (a b c : Option (List ℕ))

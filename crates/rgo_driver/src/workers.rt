@@ -112,11 +112,19 @@ fn continue_after<R: Running, K: Sink>(
     }
 }
 
-/// A round on workers, and what it printed goes out.
+/// Where one goroutine alone is ready, worker 0 arrives, which is the caller's thread.
+fn arrive_alone<G: Gate>(ready: &[usize], number: u64, gate: &G) {
+    if !ready.is_empty() {
+        gate.arrive(0, number);
+    }
+}
+
+/// A round, and what it printed goes out. It is on workers where several goroutines are ready. One alone has its turn on
+/// the caller's thread, since no other could step beside it.
 fn pass_on_workers<H: Threads + Wait + Sync, R: Running + Send, K: Sink, G: Gate + Sync>(
     rt: &H,
     alloc: Global,
-    round: Round<R>,
+    mut round: Round<R>,
     workers: u32,
     number: u64,
     out: &mut K,
@@ -138,6 +146,11 @@ fn pass_on_workers<H: Threads + Wait + Sync, R: Running + Send, K: Sink, G: Gate
         (K.broken out.new) (K.pieces out.old) (K.pieces out.new) }
 {
     let before = round.driver.steps;
+    if round.driver.ready.len() < 2 {
+        arrive_alone(&round.driver.ready, number, gate);
+        continue_after(alloc, &mut round, before, out);
+        return round;
+    }
     let mut round = round_on_workers(rt, alloc, round, workers, number, gate);
     give_out(&mut round, out);
     if round.end.is_some() {
@@ -180,11 +193,12 @@ fn drive_on_workers<H: Threads + Wait + Sync, R: Running + Send, K: Sink, G: Gat
 
 /// Drives a run from the state that it is at, on up to `workers` workers, in rounds: in each, every goroutine that can
 /// step has a turn of up to 1,000 steps. The turns of a round run side by side, each step under one lock, so their steps
-/// come in any order. What a round printed goes out after it, each line in one piece. After a failed write nothing more
-/// is written.
+/// come in any order. A goroutine that is ready alone needs no lock: it has its turn on the caller's thread. What a round
+/// printed goes out after it, each line in one piece. After a failed write nothing more is written.
 ///
-/// With several workers, each arrives at the gate before its turns of a round; rounds are numbered from 1. With one,
-/// goroutines run in the caller's thread as [`run`] runs them, and nothing arrives at the gate.
+/// With several workers, each that has a goroutine in a round arrives at the gate before the first turn of its own;
+/// rounds are numbered from 1. With one, goroutines run in the caller's thread as [`run`] runs them, and nothing arrives
+/// at the gate.
 ///
 /// Returns the run and how it ended. Whether the limit of steps is reached is tested at the end of a round; the other
 /// limits are tested before each step. When memory runs out, what went out is the whole print of a shorter run.

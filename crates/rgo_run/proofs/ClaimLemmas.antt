@@ -1,11 +1,10 @@
 -- Each claim of the headline by itself, from how a call ended that read its text.
-use Rattle.std.proofs.Common.{◌≡◌, true, false, ℕ, ◌⊎◌, inl, inr, List, ◌++◌, length, None, Some, Option, option_and_then, refl, sym, ◌∙◌, ap, subst}
+use Rattle.std.proofs.Common.{◌≡◌, true, false, ℕ, ◌⊎◌, inl, inr, List, None, Some, Option, option_and_then, refl, sym, ◌∙◌, ap, subst}
 use Rattle.rgo_typed.specs.Tree.{Typed}
 use Rattle.rgo_machine.specs.declared.turns.Shortage.{Shortage}
 use Rattle.rgo_machine.specs.declared.turns.Shortage.TheVariants as shortage
 use Rattle.rgo_code.specs.Erasure.{erased}
 use Rattle.rgo_world.specs.declared.tally.Tally.{Tally}
-use Rattle.rgo_driver.specs.Rounds.{all_of}
 use Rattle.rgo_driver.specs.declared.ends.RunEnd.{RunEnd}
 use Rattle.rgo_driver.specs.declared.ends.RunEnd.TheVariants as run_end
 use Rattle.rgo_command_line.specs.declared.limits.RunOptions.{RunOptions}
@@ -352,8 +351,8 @@ module _ (options : RunOptions) (call : Call) (text : List ℕ) (program : Typed
       has r.0.code r.0.compiled r.0.regions.events r.0.regions.state r.0.regions.run (r.0.regions.lacks why refl)
 
   never : (end : RunEnd) → NeverEnds options.limits program end → RunsWith options program end stats call.out → ⊥
-  never end n r = n (erased r.0.code) r.0.compiled.lowered (length (all_of r.0.runs.rounds))
-      (all_of r.0.runs.rounds ++ r.0.runs.last) r.0.runs.state r.0.runs.ran r.0.runs.ends
+  never end n r = n (erased r.0.code) r.0.compiled.lowered r.0.runs.tested r.0.runs.picks r.0.runs.state r.0.runs.ran
+      r.0.runs.ends
 
   runs_whole : (end : RunEnd) → RunsWith options program end stats call.out
       → (call.status ≡ status_of_run end) × Grew call.err (line_of text (Ran end stats))

@@ -1,6 +1,8 @@
 //! What each command does with a text.
 
 ghost use Rattle.std.specs.Prelude.{◌≡◌, ℕ, List};
+ghost use Rattle.rgo_command_line.specs.Commands.{KeepsBounds};
+ghost use Rattle.rgo_command_line.specs.Limits.{LiesIn, worker_bounds};
 ghost use Rattle.rgo_command_line.specs.declared.commands.Command.TheVariants.{Check, Emit, Run};
 ghost use Rattle.rgo_run.specs.Calls.{sink_use};
 ghost use Rattle.rgo_run.specs.CodeVerdicts.{IsTextOfCode};
@@ -18,10 +20,12 @@ use rgo_code::{Checked, Code};
 use rgo_code_printing::print_code;
 use rgo_code_text::read_code;
 use rgo_command_line::{Command, RunOptions};
-use rgo_driver::{RunEnd, run};
-use rgo_outside::{Sink, write_all};
+use rgo_driver::{RunEnd, run_with_workers};
+use rgo_outside::{Gate, Sink, write_all};
 use rgo_world::{Tally, World};
 use std::alloc::Global;
+use std::sync::Wait;
+use std::thread::Threads;
 
 /// The most bytes of a code text.
 const CODE_LIMIT: usize = 67_108_864;
@@ -59,15 +63,31 @@ fn stats_of(options: RunOptions, end: RunEnd, world: &World<'_>) -> Option<Tally
 }
 
 // Runs code with its regions.
-fn run_code<K: Sink>(alloc: Global, options: RunOptions, code: &Checked, out: &mut K) -> Ending
+fn run_code<H: Threads + Wait + Sync, K: Sink, G: Gate + Sync>(
+    rt: &H,
+    alloc: Global,
+    options: RunOptions,
+    code: &Checked,
+    out: &mut K,
+    gate: &G,
+) -> Ending
+    requires { LiesIn worker_bounds options.workers }
     ensures performs { (text : List ℕ) → IsCompiled text code.now
         → Performs (Run options) text result (sink_use (K.contents out.old) (K.contents out.new)
         (K.faults out.old) (K.faults out.new) (K.broken out.new)) }
     ensures refused { status_of result ≡ 1 → out.new ≡ out.old }
 {
     match World::new(alloc, code, options.sizes) {
-        Ok(mut world) => {
-            let end = run(alloc, &mut world, options.limits, out);
+        Ok(world) => {
+            let (world, end) = run_with_workers(
+                rt,
+                alloc,
+                world,
+                options.workers,
+                options.limits,
+                out,
+                gate,
+            );
             Ending::Ran {
                 end,
                 stats: stats_of(options, end, &world),
@@ -78,13 +98,21 @@ fn run_code<K: Sink>(alloc: Global, options: RunOptions, code: &Checked, out: &m
 }
 
 // Runs a text.
-fn run_text<K: Sink>(alloc: Global, options: RunOptions, text: &[u8], out: &mut K) -> Ending
+fn run_text<H: Threads + Wait + Sync, K: Sink, G: Gate + Sync>(
+    rt: &H,
+    alloc: Global,
+    options: RunOptions,
+    text: &[u8],
+    out: &mut K,
+    gate: &G,
+) -> Ending
+    requires { LiesIn worker_bounds options.workers }
     ensures performs { Performs (Run options) text.now result (sink_use (K.contents out.old)
         (K.contents out.new) (K.faults out.old) (K.faults out.new) (K.broken out.new)) }
     ensures refused { status_of result ≡ 1 → out.new ≡ out.old }
 {
     match compile(alloc, text) {
-        Ok(code) => run_code(alloc, options, &code, out),
+        Ok(code) => run_code(rt, alloc, options, &code, out, gate),
         Err(why) => why,
     }
 }
@@ -149,17 +177,25 @@ fn check_code_text(alloc: Global, text: &[u8]) -> Ending
 }
 
 /// Does what the command says with a text: checks it, runs it, or prints its code.
-pub(crate) fn perform<K: Sink>(alloc: Global, command: Command, text: &[u8], out: &mut K) -> Ending
+pub(crate) fn perform<H: Threads + Wait + Sync, K: Sink, G: Gate + Sync>(
+    rt: &H,
+    alloc: Global,
+    command: Command,
+    text: &[u8],
+    out: &mut K,
+    gate: &G,
+) -> Ending
+    requires { KeepsBounds command }
     ensures performs { Performs command text.now result (sink_use (K.contents out.old)
         (K.contents out.new) (K.faults out.old) (K.faults out.new) (K.broken out.new)) }
     ensures checked { command ≡ Check → out.new ≡ out.old }
     ensures refused { status_of result ≡ 1 → out.new ≡ out.old }
 {
     match command {
-        Command::Run(options) => run_text(alloc, options, text, out),
+        Command::Run(options) => run_text(rt, alloc, options, text, out, gate),
         Command::Check => check_only(alloc, text),
         Command::Emit => emit_text(alloc, text, out),
         Command::Code => check_code_text(alloc, text),
-        Command::Big(_) => run_text(alloc, RunOptions::default(), text, out),
+        Command::Big(_) => run_text(rt, alloc, RunOptions::default(), text, out, gate),
     }
 }

@@ -3,7 +3,7 @@
 ghost use Rattle.std.specs.Prelude.{◌≡◌, ◌⊎◌, ℕ, true, false, map, string_bytes};
 ghost use Rattle.std.specs.Prelude.{IfErr, IfOk, IsErrOf, Some, None};
 ghost use Rattle.rgo_outside.specs.Causes.{Rose};
-ghost use Rattle.rgo_command_line.specs.Commands.{command_of};
+ghost use Rattle.rgo_command_line.specs.Commands.{KeepsBounds, command_of};
 ghost use Rattle.rgo_command_line.specs.declared.commands.Command.TheVariants.{Big, Check};
 ghost use Rattle.rgo_run.specs.Errors.{read_error};
 ghost use Rattle.rgo_run.specs.Texts.{IsRead, NotRead};
@@ -18,6 +18,8 @@ use rgo_big::big_source;
 use rgo_command_line::{Command, read_words};
 use rgo_outside::{Gate, ReadEnd, Sink, Source, read_all};
 use std::alloc::Global;
+use std::sync::Wait;
+use std::thread::Threads;
 
 // Why no text was read for the command.
 fn read_ending(command: Command, end: ReadEnd) -> Ending
@@ -46,6 +48,7 @@ fn read<S: Source>(
         (source_use (S.left source.old) (S.faults source.old) (S.faults source.new))) }
     ensures usage { IsErrOf result Ending.Usage → source.new ≡ source.old }
     ensures big { (n : ℕ) → command_of (map string_bytes words.now) ≡ Some (Big n) → source.new ≡ source.old }
+    ensures bounds { IfOk result (λ r. KeepsBounds r.0) }
 {
     let command = read_words(alloc, words)?;
     match command {
@@ -61,14 +64,21 @@ fn read<S: Source>(
 /// returns the status.
 ///
 /// The words are the program's name, which is ignored, and `check`, `emit`, `code`, or `run` with its
-/// options `--steps N`, `--goroutines N`, `--pages N`, `--page-words N`, `--regions N` and `--stats`,
-/// followed by nothing or a `--`; or `big` and a number, as `read_words` says. The text is what the
-/// source has left, at most 1,048,576 bytes. `run` writes its print to `out`, line by line; `emit`
+/// options `--steps N`, `--goroutines N`, `--pages N`, `--page-words N`, `--regions N`, `--workers N` and
+/// `--stats`, followed by nothing or a `--`; or `big` and a number, as `read_words` says. The text is what
+/// the source has left, at most 1,048,576 bytes. `run` writes its print to `out`, line by line; `emit`
 /// writes the text of the code with regions; `check` leaves `out` as it was. `code` reads such a text of
 /// code, at most 67,108,864 bytes, checks it, and leaves `out` as it was. `big N` leaves the source as
 /// it was, and does what `run` without options does with the large text of `rgo_big` that starts `N`
 /// goroutines. At most one line is written to `err`, and before it, with `--stats`, one that counts what
 /// the run has made. After a failed write nothing more is written to that sink.
+///
+/// A run is in rounds, in which every goroutine that can step has a turn. With one worker the turns come
+/// one after the other, on the caller's thread. With more, `rt` starts threads: the goroutines of a
+/// round are dealt out to the workers, and their steps come in any order, each under one lock. A worker
+/// that has goroutines in a round arrives at the gate before the first turn of these, with its number,
+/// from 0 on, and that of the round, from 1 on. That a worker gets the lock for which it waits is not
+/// claimed.
 ///
 /// | status | where |
 /// |---|---|
@@ -86,13 +96,14 @@ fn read<S: Source>(
 /// | 11 | memory ran out |
 /// | 12 | there are as many goroutines as `--goroutines` allows, and one starts another |
 /// | 64 | the words name no command; the source is not read |
-pub fn rgo<S: Source, K: Sink, E: Sink, G: Gate + Sync>(
+pub fn rgo<H: Threads + Wait + Sync, S: Source, K: Sink, E: Sink, G: Gate + Sync>(
+    rt: &H,
     alloc: Global,
     words: &[String],
     source: &mut S,
     out: &mut K,
     err: &mut E,
-    _gate: &G,
+    gate: &G,
 ) -> u8
     ensures headline { Headline (record {
       words = map string_bytes words.now;
@@ -123,7 +134,7 @@ pub fn rgo<S: Source, K: Sink, E: Sink, G: Gate + Sync>(
 {
     match read(alloc, words, source) {
         Ok((command, text)) => {
-            let ending = perform(alloc, command, &text, out);
+            let ending = perform(rt, alloc, command, &text, out, gate);
             report(alloc, &text, ending, err)
         }
         Err(ending) => report(alloc, &[], ending, err),

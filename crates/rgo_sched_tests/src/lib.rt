@@ -1,5 +1,5 @@
 //! The tests of rounds on worker threads: what the tasks are afterwards, when the workers arrive, that they run beside
-//! each other, and tasks that share a lock.
+//! each other, and tasks that share a lock. Tests of whole runs use [`Meeting`], too.
 #![tactic(auto)]
 
 #[cfg(test)]
@@ -10,5 +10,6 @@ mod counters;
 mod gates;
 #[cfg(test)]
 mod locked;
-#[cfg(test)]
 mod meetings;
+
+pub use meetings::Meeting;

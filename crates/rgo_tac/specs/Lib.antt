@@ -2,6 +2,7 @@ pub mod Code
 pub mod Flow
 pub mod Frames
 pub mod Joins
+pub mod Making
 pub mod Ops
 pub mod Quick
 pub mod Steps

@@ -43,7 +43,8 @@ fn type_of<'a>(code: &'a Tac, frame: &Frame, to: Option<u32>, none: &'a Type) ->
     }
 }
 
-fn operate(
+/// An action on variables, at a place of the text.
+pub(crate) fn operate(
     alloc: Global,
     code: &Tac,
     memory: &mut Memory,

@@ -58,6 +58,7 @@ fn zeros_of(alloc: Global, types: &[Type]) -> Result<Vec<Value>, AllocError>
 }
 
 /// The instruction of this number.
+#[inline(always)]
 pub(crate) fn instr_at(instrs: &[Instr], n: usize) -> Option<Instr>
     ensures instr { result ≡ slice_get instrs.now n }
     ensures below { IfSome result (λ instr. n < 2 ^ 63) }
@@ -141,6 +142,7 @@ impl TacFn {
     }
 
     /// What the instruction of this number does; `None` where there is none.
+    #[inline(always)]
     pub fn op(&self, n: usize) -> Option<Op<'_>>
         ensures op { option_map operation_of result ≡ op_in (slice_get self.now.body n) }
         ensures below { IfSome result (λ op. n < 2 ^ 63) }

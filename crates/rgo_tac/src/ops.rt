@@ -91,6 +91,7 @@ impl Operands {
 }
 
 /// The items of the list of this number; none where there is no such list.
+#[inline(always)]
 pub(crate) fn items_at<T>(lists: &[Row<T>], n: u32) -> &[T]
     ensures { result.now ≡ get_or lists.now n [] }
 {
@@ -101,6 +102,7 @@ pub(crate) fn items_at<T>(lists: &[Row<T>], n: u32) -> &[T]
 }
 
 /// An action that gives a value.
+#[inline(always)]
 fn give<'a>(to: u32, action: Action, from: Operands) -> Op<'a>
     ensures { operation_of result ≡ Do (Some to) action (numbers_of from) }
 {
@@ -112,6 +114,7 @@ fn give<'a>(to: u32, action: Action, from: Operands) -> Op<'a>
 }
 
 /// An action that gives none.
+#[inline(always)]
 fn affect<'a>(action: Action, from: Operands) -> Op<'a>
     ensures { operation_of result ≡ Do None action (numbers_of from) }
 {
@@ -123,6 +126,7 @@ fn affect<'a>(action: Action, from: Operands) -> Op<'a>
 }
 
 /// An operator on two variables.
+#[inline(always)]
 fn compute<'a>(to: u32, op: BinaryOp, a: u32, b: u32) -> Op<'a>
     ensures { operation_of result ≡ computing to op a b }
 {
@@ -130,13 +134,15 @@ fn compute<'a>(to: u32, op: BinaryOp, a: u32, b: u32) -> Op<'a>
 }
 
 /// A call.
+#[inline(always)]
 fn call(to: Option<u32>, function: u32, from: &[u32]) -> Op<'_>
     ensures { operation_of result ≡ Call to function from.now }
 {
     Op::Call { to, function, from }
 }
 
-/// What an instruction of this body does.
+/// What an instruction of this body does. It is inlined, so that a caller takes the parts of the result from registers.
+#[inline(always)]
 pub fn decode(body: &Body, instr: Instr) -> Op<'_>
     ensures { operation_of result ≡ op_of body.now.lists body.now.pieces instr }
 {

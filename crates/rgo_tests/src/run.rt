@@ -11,13 +11,16 @@ mod regions;
 mod rule_texts;
 mod running;
 mod usage;
+mod workers;
 
 use crate::checks::same;
 use crate::rule_names::NAMES;
 use calls::{SOUND, checks, expect, prints, runs, with_head};
 use std::alloc::{AllocError, Global};
 use std::process::Abort;
+use std::sync::Wait;
 use std::test::Fail;
+use std::thread::Threads;
 
 #[test]
 fn texts_run_or_are_refused_at_the_first_place(rt: HostRuntime) -> Result<(), Fail> {
@@ -61,7 +64,10 @@ fn a_text_has_at_most_one_mebibyte(rt: HostRuntime) -> Result<(), Fail> {
     )
 }
 
-fn all_print<R: Abort + AllocGlobal>(rt: &R, rows: &[(&str, &str)]) -> Result<(), Fail> {
+fn all_print<R: Threads + Wait + Abort + AllocGlobal + Sync>(
+    rt: &R,
+    rows: &[(&str, &str)],
+) -> Result<(), Fail> {
     for (line, print) in rows {
         prints(rt, with_head(rt.alloc(), line)?, print)?;
     }
@@ -153,7 +159,7 @@ static COMMANDS: [&str; 6] = [
     "rgo emit --",
 ];
 
-fn is_refused_by_all_commands<R: Abort + AllocGlobal>(
+fn is_refused_by_all_commands<R: Threads + Wait + Abort + AllocGlobal + Sync>(
     rt: &R,
     line: &str,
     report: &str,
@@ -196,7 +202,10 @@ fn broken(alloc: Global, rule: u8, at: &str) -> Result<String, AllocError> {
     format!(in alloc; "rgo: {at}: type {rule} {name}\n")
 }
 
-fn all_break<R: Abort + AllocGlobal>(rt: &R, rows: &[(u8, &str, &str)]) -> Result<(), Fail> {
+fn all_break<R: Threads + Wait + Abort + AllocGlobal + Sync>(
+    rt: &R,
+    rows: &[(u8, &str, &str)],
+) -> Result<(), Fail> {
     for (rule, at, line) in rows {
         let report = broken(rt.alloc(), *rule, at)?;
         checks(rt, with_head(rt.alloc(), line)?, report.as_str())?;
@@ -204,7 +213,10 @@ fn all_break<R: Abort + AllocGlobal>(rt: &R, rows: &[(u8, &str, &str)]) -> Resul
     Ok(())
 }
 
-fn all_pass<R: Abort + AllocGlobal>(rt: &R, lines: &[&str]) -> Result<(), Fail> {
+fn all_pass<R: Threads + Wait + Abort + AllocGlobal + Sync>(
+    rt: &R,
+    lines: &[&str],
+) -> Result<(), Fail> {
     for line in lines {
         checks(rt, with_head(rt.alloc(), line)?, "")?;
     }
@@ -290,7 +302,7 @@ fn a_text_is_refused_wherever_it_is_cut(rt: HostRuntime) -> Result<(), Fail> {
     same(&rt, "the length", &text.len(), &99);
     for k in 0..100 {
         let cut = text.as_slice().get(..k).unwrap_or(&[]);
-        let found = calls::answer(rt.alloc(), cut)?;
+        let found = calls::answer(&rt, cut)?;
         let wanted = if k < 98 { (1, 0) } else { (0, 10) };
         same(&rt, str::from_utf8(cut).unwrap_or("?"), &found, &wanted);
     }

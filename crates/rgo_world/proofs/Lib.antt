@@ -1,6 +1,7 @@
 pub mod ActParts
 pub mod ActTurns
 pub mod Acts
+pub mod AtOnce
 pub mod Attending
 pub mod Beginning
 pub mod Calling

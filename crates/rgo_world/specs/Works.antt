@@ -156,6 +156,13 @@ pub record TakesTurn (w v : World) (limits : Limits) (g : ℕ) (turned : Turned)
   pub same : v ≡ record w { state = v.state; steps = v.steps }
   pub no_region : (why : Shortage) → turned.stop ≡ stop.NoRoom why → ⊥
 
+-- goroutine g has taken a step on the three-address machine, wherever the limits allow one; or nothing changed
+abbrev pub MayStep : World → World → ℕ → Bool → Type 0
+MayStep w v g true =
+    (limits : Limits) → w.state.ended ≡ None → is_within limits w.state ≡ true
+    → TakesTurn w v limits g (record { steps = 1; stop = stop.Spent })
+MayStep w v g false = v ≡ w
+
 -- the run goes on after a turn of one step that was over so, if the step was done
 abbrev pub goes_by : Stop → (steps : ℕ) → Bool
 goes_by (stop.Ended e) steps = false

@@ -1,6 +1,6 @@
 //! What a goroutine has of the regions.
 
-ghost use Rattle.std.specs.Prelude.{◌≡◌, ◌<◌, ◌+◌, ◌-◌, ◌∷◌, [], ℕ, List, Bool, Option, Some, None, true, IfOk, OnOk, OnErr, length, nat_lt};
+ghost use Rattle.std.specs.Prelude.{◌≡◌, ◌<◌, ◌+◌, ◌-◌, ◌∷◌, [], ℕ, List, Bool, Option, Some, None, true, unwrap_or, IfOk, OnOk, OnErr, length, nat_lt};
 ghost use Rattle.rgo_region_machine.specs.Regions.{Bindings, bound, unbind};
 ghost use Rattle.rgo_region_machine.specs.declared.regions.Region.TheVariants.{Global as GlobalRegion, Numbered};
 ghost use Rattle.rgo_world.specs.Holders as spec;
@@ -268,6 +268,33 @@ impl Holder {
                 Ok(_) => Ok(()),
                 Err(_) => Err(AllocError),
             },
+        }
+    }
+
+    /// So many more words of that page are used.
+    ///
+    /// # Errors
+    ///
+    /// On allocation failure.
+    pub(crate) fn fill_more(&mut self, region: Region, words: usize) -> Result<(), AllocError>
+        ensures { OnOk result (spec.Fills self.old self.new region (unwrap_or (spec.fill_in self.old region) 0 + words)) }
+    {
+        match region {
+            Region::Global => {
+                let Some(used) = self.global_fill.unwrap_or(0).checked_add(words) else {
+                    return Err(AllocError);
+                };
+                self.global_fill = Some(used);
+                Ok(())
+            }
+            Region::Numbered(r) => {
+                let used = self.fills.entry(r)?.or_insert(0);
+                let Some(more) = used.checked_add(words) else {
+                    return Err(AllocError);
+                };
+                *used = more;
+                Ok(())
+            }
         }
     }
 

@@ -8,13 +8,13 @@ ghost use Rattle.rgo_region_machine.specs.States as region;
 ghost use Rattle.rgo_region_machine.specs.States.{EndBase, Remove, Unprotect, RegionState, frames_of};
 ghost use Rattle.rgo_world.specs.Objects.{IsRoomy, MakesNext, MakesNone, RemovesBehind};
 ghost use Rattle.rgo_world.specs.Works as works;
-ghost use Rattle.rgo_world.specs.Works.{Between, BothWork, Ready, IsOn, IsReady, IsNext, IsNextOf, ActsNext, CallsNext, StartsNext, ReturnsNext, OthersOwe, Settled, TakesTurn, TakesStep, Takes, Works};
+ghost use Rattle.rgo_world.specs.Works.{Between, BothWork, Ready, IsOn, IsReady, IsNext, IsNextOf, ActsNext, CallsNext, StartsNext, ReturnsNext, OthersOwe, Settled, MayStep, TakesTurn, TakesStep, Takes, Works};
 ghost use Rattle.rgo_world.specs.Worlds.{plain_at};
 
 use crate::objects::{Making, next_object};
 use crate::worlds::{Next, World};
-use rgo_machine::{Limits, Stop, Turned, is_true, turn, turn_once};
-use rgo_tac::{Frame, Op};
+use rgo_machine::{Limits, Stop, Turned, is_true, turn_once};
+use rgo_tac::{Frame, Op, call_or_return, make_object};
 use std::alloc::{AllocError, Global};
 
 /// The names that are removed on the way that a frame takes from its next instruction.
@@ -61,22 +61,7 @@ fn without_regions(stop: Stop) -> Stop
 }
 
 impl<'a> World<'a> {
-    /// A goroutine calls a function or returns, on the three-address machine, which takes such steps at once.
-    fn transfer(&mut self, alloc: Global, limits: Limits, g: usize) -> Turned
-        requires running { self.old.state.ended ≡ None }
-        requires within { is_within limits self.old.state ≡ true }
-        ensures { TakesTurn self.old self.new limits g result }
-    {
-        let machine = self.machine();
-        let turned = turn(alloc, &machine, &mut self.state, limits, g, 1);
-        self.steps = self.steps.saturating_add(turned.steps);
-        Turned {
-            steps: turned.steps,
-            stop: without_regions(turned.stop),
-        }
-    }
-
-    /// A goroutine does any other instruction on the three-address machine.
+    /// A goroutine does its next instruction on the three-address machine.
     fn plain(&mut self, alloc: Global, limits: Limits, g: usize) -> Turned
         requires running { self.old.state.ended ≡ None }
         requires within { is_within limits self.old.state ≡ true }
@@ -89,6 +74,74 @@ impl<'a> World<'a> {
             steps: turned.steps,
             stop: without_regions(turned.stop),
         }
+    }
+
+    /// A goroutine calls a function or returns to a caller, if it can at once. Returns whether it did; if not, nothing
+    /// changed.
+    fn transfer_at_once(&mut self, alloc: Global, g: usize) -> bool
+        ensures { MayStep self.old self.new g result }
+    {
+        let Some(goroutine) = self.state.goroutines.get_mut(g) else {
+            return false;
+        };
+        if !call_or_return(
+            alloc,
+            self.code.tac(),
+            &mut self.state.memory,
+            &mut goroutine.frames,
+        ) {
+            return false;
+        }
+        self.steps = self.steps.saturating_add(1);
+        true
+    }
+
+    /// A goroutine calls a function or returns, on the three-address machine.
+    fn transfer(&mut self, alloc: Global, limits: Limits, g: usize) -> Turned
+        requires running { self.old.state.ended ≡ None }
+        requires within { is_within limits self.old.state ≡ true }
+        ensures { TakesTurn self.old self.new limits g result }
+    {
+        if self.transfer_at_once(alloc, g) {
+            return Turned {
+                steps: 1,
+                stop: Stop::Spent,
+            };
+        }
+        self.plain(alloc, limits, g)
+    }
+
+    /// A goroutine makes the object of its next instruction, if it can at once. Returns whether it did; if not, nothing
+    /// changed.
+    fn make_at_once(&mut self, alloc: Global, g: usize) -> bool
+        ensures { MayStep self.old self.new g result }
+    {
+        let Some(goroutine) = self.state.goroutines.get_mut(g) else {
+            return false;
+        };
+        let Some(frame) = goroutine.frames.last_mut() else {
+            return false;
+        };
+        if !make_object(alloc, self.code.tac(), frame, &mut self.state.memory) {
+            return false;
+        }
+        self.steps = self.steps.saturating_add(1);
+        true
+    }
+
+    /// A goroutine makes an object by its next instruction, on the three-address machine.
+    fn make(&mut self, alloc: Global, limits: Limits, g: usize) -> Turned
+        requires running { self.old.state.ended ≡ None }
+        requires within { is_within limits self.old.state ≡ true }
+        ensures { TakesTurn self.old self.new limits g result }
+    {
+        if self.make_at_once(alloc, g) {
+            return Turned {
+                steps: 1,
+                stop: Stop::Spent,
+            };
+        }
+        self.plain(alloc, limits, g)
     }
 
     /// After an instruction: these names are removed, and the goroutine owes all that comes before its next one.
@@ -176,7 +229,7 @@ impl<'a> World<'a> {
             → TakesStep self.old self.new limits s g 1 result }
     {
         let object = self.state.memory.len();
-        let turned = self.plain(alloc, limits, g);
+        let turned = self.make(alloc, limits, g);
         if !goes_on(turned) {
             return turned;
         }

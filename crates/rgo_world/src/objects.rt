@@ -1,6 +1,6 @@
 //! New objects, and the pages in which they lie.
 
-ghost use Rattle.std.specs.Prelude.{◌≡◌, ◌≤◌, ◌+◌, ℕ, length, max, slice_get, Some, MatchResult, OnOk};
+ghost use Rattle.std.specs.Prelude.{◌≡◌, ◌≤◌, ◌+◌, ℕ, length, max, slice_get, unwrap_or, Some, MatchResult, OnOk};
 ghost use Rattle.rgo_tac.specs.Frames.{values_of};
 ghost use Rattle.rgo_tac.specs.Ops.{numbers_of, operation_of};
 ghost use Rattle.rgo_code.specs.Names as names;
@@ -150,6 +150,18 @@ impl<'a> World<'a> {
         Ok(())
     }
 
+    /// So many more words are used of that page.
+    fn fill_more(&mut self, g: usize, region: Region, words: usize) -> Result<(), AllocError>
+        ensures refills { OnOk result (Refills self.old self.new g region
+            (unwrap_or (spec.fill_for self.old g region) 0 + words)) }
+        ensures same { SameRun self.old self.new }
+    {
+        if let Some(holder) = self.holders.get_mut(g) {
+            holder.fill_more(region, words)?;
+        }
+        Ok(())
+    }
+
     /// A goroutine takes a page in a region.
     fn add_page(&mut self, g: usize, region: Region) -> Result<(), AllocError>
         ensures added { OnOk result (AddsPage self.old self.new g region) }
@@ -198,11 +210,7 @@ impl<'a> World<'a> {
         ensures placed { OnOk result (Places self.old self.new g region words object) }
         ensures same { SameRun self.old self.new }
     {
-        let used = self.fill(g, region).unwrap_or(0);
-        let Some(used) = used.checked_add(words) else {
-            return Err(AllocError);
-        };
-        self.refill(g, region, used)?;
+        self.fill_more(g, region, words)?;
         self.table.own(region, object)?;
         Ok(())
     }

@@ -73,13 +73,15 @@ pub(crate) struct Next<'a> {
 
 impl<'a> World<'a> {
     /// The newest frame of a goroutine; `None` where it has returned, or does not exist.
+    #[inline(always)]
     pub(crate) fn newest(&self, g: usize) -> Option<&Frame>
         ensures { MatchOption result (spec.newest_of self.now g ≡ None) (λ f. spec.newest_of self.now g ≡ Some f.now) }
     {
         self.state.goroutines.get(g)?.frames.last()
     }
 
-    /// The next instruction of a frame.
+    /// The next instruction of a frame. It is inlined, so that what is not asked of it is not decoded.
+    #[inline(always)]
     pub(crate) fn next_of(&self, frame: &Frame) -> Option<Next<'a>>
         ensures { MatchOption result (spec.instr_of self.now frame.now ≡ None) (IsNext self.now.code.now frame.now) }
     {
@@ -93,6 +95,7 @@ impl<'a> World<'a> {
     }
 
     /// The next instruction of a goroutine.
+    #[inline(always)]
     pub(crate) fn next(&self, g: usize) -> Option<Next<'a>>
         ensures { MatchOption result (spec.HasNoNext self.now g) (IsNextOf self.now g) }
     {

@@ -6,7 +6,9 @@ use rgo_outside::{MemSink, MemSource, NoGate};
 use rgo_run::rgo;
 use std::alloc::{AllocError, Global};
 use std::process::Abort;
+use std::sync::Wait;
 use std::test::Fail;
+use std::thread::Threads;
 
 /// The first three lines of most texts.
 const HEAD: &str = "package main\nimport \"fmt\"\ntype N struct { v int; p *N }\n";
@@ -39,7 +41,7 @@ fn sink(alloc: Global, failing: u64) -> Result<MemSink, AllocError> {
 }
 
 /// Calls `rgo` with a text, and compares what is printed and reported, and the status.
-pub(super) fn expect<R: Abort + AllocGlobal>(
+fn expect_of_words<R: Threads + Wait + Abort + AllocGlobal + Sync>(
     rt: &R,
     words: &str,
     text: Vec<u8>,
@@ -54,14 +56,34 @@ pub(super) fn expect<R: Abort + AllocGlobal>(
     let mut out = sink(alloc, out)?;
     let mut err = sink(alloc, err)?;
     let words = words_of(alloc, words, ' ')?;
-    let found = rgo(alloc, &words, &mut source, &mut out, &mut err, &NoGate);
+    let found = rgo(rt, alloc, &words, &mut source, &mut out, &mut err, &NoGate);
     same(rt, report, &out.bytes(), &print.as_bytes());
     same(rt, report, &err.bytes(), &report.as_bytes());
     same(rt, report, &found, &status);
     Ok(())
 }
 
-pub(super) fn runs<R: Abort + AllocGlobal>(
+/// The same. A run that names no number of workers is also called with 1, 2 and 7.
+pub(super) fn expect<R: Threads + Wait + Abort + AllocGlobal + Sync>(
+    rt: &R,
+    words: &str,
+    text: Vec<u8>,
+    outside: Outside,
+    wanted: Wanted<'_>,
+) -> Result<(), Fail> {
+    let alloc = rt.alloc();
+    if !words.contains("--workers") {
+        if let Some(rest) = words.strip_prefix("rgo run") {
+            for workers in [1u32, 2, 7] {
+                let words = format!(in alloc; "rgo run --workers {workers}{rest}")?;
+                expect_of_words(rt, &words, text.to_vec(alloc)?, outside, wanted)?;
+            }
+        }
+    }
+    expect_of_words(rt, words, text, outside, wanted)
+}
+
+pub(super) fn runs<R: Threads + Wait + Abort + AllocGlobal + Sync>(
     rt: &R,
     text: Vec<u8>,
     wanted: Wanted<'_>,
@@ -70,7 +92,7 @@ pub(super) fn runs<R: Abort + AllocGlobal>(
 }
 
 /// A run ends with 0 and prints this.
-pub(super) fn prints<R: Abort + AllocGlobal>(
+pub(super) fn prints<R: Threads + Wait + Abort + AllocGlobal + Sync>(
     rt: &R,
     text: Vec<u8>,
     print: &str,
@@ -79,7 +101,7 @@ pub(super) fn prints<R: Abort + AllocGlobal>(
 }
 
 /// A check reports this, or passes if it is empty.
-pub(super) fn checks<R: Abort + AllocGlobal>(
+pub(super) fn checks<R: Threads + Wait + Abort + AllocGlobal + Sync>(
     rt: &R,
     text: Vec<u8>,
     report: &str,
@@ -89,11 +111,15 @@ pub(super) fn checks<R: Abort + AllocGlobal>(
 }
 
 /// The status of a run of a text, and the number of bytes that it prints.
-pub(super) fn answer(alloc: Global, text: &[u8]) -> Result<(u8, usize), Fail> {
+pub(super) fn answer<R: Threads + Wait + AllocGlobal + Sync>(
+    rt: &R,
+    text: &[u8],
+) -> Result<(u8, usize), Fail> {
+    let alloc = rt.alloc();
     let words = words_of(alloc, "rgo run", ' ')?;
     let mut source = MemSource::new(text.to_vec(alloc)?, 1000, Vec::new(alloc));
     let mut out = sink(alloc, 0)?;
     let mut err = sink(alloc, 0)?;
-    let status = rgo(alloc, &words, &mut source, &mut out, &mut err, &NoGate);
+    let status = rgo(rt, alloc, &words, &mut source, &mut out, &mut err, &NoGate);
     Ok((status, out.bytes().len()))
 }

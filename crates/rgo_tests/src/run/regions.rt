@@ -1,5 +1,6 @@
 //! Lines after the head, run with options: what is printed, what is reported, and the status. With `--stats` the report
-//! begins with what the run has made. The numbers were worked out by hand from the rules on regions and pages.
+//! begins with what the run has made. The numbers were worked out by hand from the rules on regions and pages. What a run
+//! with several goroutines has made depends on the order of their steps, and is wanted of one worker.
 
 use super::calls::Wanted;
 
@@ -83,7 +84,7 @@ func main() { x := new(W); fmt.Println(x.a) }",
     ),
     // Goroutines that meet at channels without buffers.
     (
-        "--stats",
+        "--workers 1 --stats",
         "func echo(a, b chan int) { for i := 0; i < 5; i++ { b <- <-a + 1 } }
 func main() { a := make(chan int); b := make(chan int); go echo(a, b)
 for i := 0; i < 5; i++ { a <- i * 10; fmt.Println(<-b) } }",
@@ -95,7 +96,7 @@ for i := 0; i < 5; i++ { a <- i * 10; fmt.Println(<-b) } }",
     ),
     // A channel with a buffer.
     (
-        "--stats",
+        "--workers 1 --stats",
         "func prod(c chan int) { for i := 0; i < 100; i++ { c <- i }; close(c) }
 func main() { c := make(chan int, 2); go prod(c); s := 0
 for i := 0; i < 100; i++ { s += <-c }; fmt.Println(s) }",
@@ -107,7 +108,7 @@ for i := 0; i < 100; i++ { s += <-c }; fmt.Println(s) }",
     ),
     // A goroutine is given one region at two positions.
     (
-        "--stats",
+        "--workers 1 --stats",
         "func f(a, b *N, d chan int) { s := a.v; d <- s + b.v }
 func main() { x := &N{21, nil}; d := make(chan int); go f(x, x, d); fmt.Println(<-d) }",
         (
@@ -245,7 +246,7 @@ pub(super) static LIST_ROWS: [(&str, &str, Wanted<'static>); 4] = [
     ),
     // A list that a goroutine is given, which makes nothing itself.
     (
-        "--stats",
+        "--workers 1 --stats",
         "func child(l *N, d chan int) { fmt.Println(sum(l)); d <- 1 }
 func main() { d := make(chan int); l := list(4); go child(l, d); <-d }",
         (

@@ -7,7 +7,9 @@ use crate::slow_sinks::SlowSink;
 use rgo_outside::{MemSink, NoFaultSink, NoFaultSource, NoGate, StdSink, StdSource, read_all};
 use rgo_run::rgo;
 use std::process::Abort;
+use std::sync::Wait;
 use std::test::Fail;
+use std::thread::Threads;
 
 const USAGE: &str =
     "usage: rgo run [--steps N] [--pages N] [--page-words N] [--regions N] [--goroutines N] [--workers N] [--stats] | check | emit | code | big N\n";
@@ -27,12 +29,16 @@ static OTHER_WORDS: [&str; 12] = [
     "rgo  run",
 ];
 
-fn usage_is_reported<R: Abort + AllocGlobal>(rt: &R, line: &str) -> Result<(), Fail> {
+fn usage_is_reported<R: Threads + Wait + Abort + AllocGlobal + Sync>(
+    rt: &R,
+    line: &str,
+) -> Result<(), Fail> {
     let alloc = rt.alloc();
     let words = words_of(alloc, line, ' ')?;
     let mut source = NoFaultSource::new(b"text".as_slice().to_vec(alloc)?);
     let mut err = MemSink::new(alloc, 1000, Vec::new(alloc))?;
     let status = rgo(
+        rt,
         alloc,
         &words,
         &mut source,
@@ -64,13 +70,17 @@ static BIG_WORDS: [(&str, &str); 5] = [
     ("rgo big -- 040", "40 660\n"),
 ];
 
-fn big_is_run<R: Abort + AllocGlobal>(rt: &R, line: &str, wanted: &str) -> Result<(), Fail> {
+fn big_is_run<R: Threads + Wait + Abort + AllocGlobal + Sync>(
+    rt: &R,
+    line: &str,
+    wanted: &str,
+) -> Result<(), Fail> {
     let alloc = rt.alloc();
     let words = words_of(alloc, line, ' ')?;
     let mut source = NoFaultSource::new(b"text".as_slice().to_vec(alloc)?);
     let mut out = MemSink::new(alloc, 1000, Vec::new(alloc))?;
     let mut err = MemSink::new(alloc, 1000, Vec::new(alloc))?;
-    let status = rgo(alloc, &words, &mut source, &mut out, &mut err, &NoGate);
+    let status = rgo(rt, alloc, &words, &mut source, &mut out, &mut err, &NoGate);
     same(rt, line, &status, &0);
     same(rt, line, &out.bytes(), &wanted.as_bytes());
     same(rt, line, &err.bytes().len(), &0);
@@ -96,6 +106,7 @@ fn a_slow_sink_gets_every_byte(rt: HostRuntime) -> Result<(), Fail> {
     let mut source = StdSource::new(text.as_slice());
     let mut out = SlowSink::new(16);
     let status = rgo(
+        &rt,
         alloc,
         &words,
         &mut source,
@@ -118,7 +129,7 @@ fn streams_of_std_are_read_and_written(rt: HostRuntime) -> Result<(), Fail> {
     let mut reported: Vec<u8> = Vec::new(alloc);
     let mut out = StdSink::new(&mut printed);
     let mut err = StdSink::new(&mut reported);
-    let status = rgo(alloc, &words, &mut source, &mut out, &mut err, &NoGate);
+    let status = rgo(&rt, alloc, &words, &mut source, &mut out, &mut err, &NoGate);
     same(&rt, "status", &status, &1);
     same(&rt, "out", &printed.len(), &0);
     let wanted = b"rgo: 1:1: syntax\n".as_slice();

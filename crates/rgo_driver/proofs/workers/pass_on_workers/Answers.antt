@@ -1,12 +1,19 @@
-use Rattle.std.proofs.Common.{◌≡◌, ◌++◌, None, arith, subst, sym, ◌∙◌}
+use Rattle.std.proofs.Common.{◌≡◌, ◌++◌, None, arith, refl, subst, sym, ◌∙◌}
 use Rattle.rgo_driver.specs.Freely.{StepsOn}
 use Rattle.rgo_driver.specs.Playing.{IsBetween}
 use Rattle.rgo_driver.specs.Points.{point_of}
-use Rattle.rgo_driver.proofs.AnyOrder.{steps_of, gives_at, steps_at}
+use Rattle.rgo_driver.proofs.AnyOrder.{steps_none, steps_of, gives_at, steps_at}
 use Rattle.rgo_driver.proofs.Attending.{no_fault, faultless, none_of}
 use Rattle.rgo_driver.proofs.Given.{writes_on, writes_whole}
 use Rattle.rgo_driver.proofs.Left.{itself}
 use Rattle.rgo_driver.proofs.workers.pass_on_workers.Goals as goal
+
+pub returns-then-len-lt2-clause-steps : goal.returns-then-len-lt2-clause-steps
+returns-then-len-lt2-clause-steps g c = λ machine given s at between.
+    let round = c.args.round in
+    let old = g.K.Sink.contents c.args.out.now in
+    c.continue_after.ensures.steps machine given s old between.counting
+    (steps_none machine round.limits given s round.driver.steps (g.R.Running.view round.run) round.driver old at between refl)
 
 pub give_out-requires : goal.give_out-requires
 give_out-requires g c =
@@ -26,8 +33,8 @@ returns-then-is_some-clause-steps g c = λ machine given s at between.
     (view gone.run) turned.driver gone.driver old mid turned.end gone.end (c.give_out.ensures.steps machine given s m)
     between.ready (c.round_on_workers-round.ensures.stands machine given s at between)
 
-pub continue_after-requires-clause-between : goal.continue_after-requires-clause-between
-continue_after-requires-clause-between g c = λ same.
+pub continue_after-requires-2-clause-between : goal.continue_after-requires-2-clause-between
+continue_after-requires-2-clause-between g c = λ same.
     let round = c.args.round in
     let turned = c.round_on_workers-round.result in
     let gone = c.give_out.new.round in
@@ -58,8 +65,8 @@ continue_after-requires-clause-between g c = λ same.
           }));
     }
 
-pub continue_after-requires-clause-counted : goal.continue_after-requires-clause-counted
-continue_after-requires-clause-counted g c =
+pub continue_after-requires-2-clause-counted : goal.continue_after-requires-2-clause-counted
+continue_after-requires-2-clause-counted g c =
     let round = c.args.round in
     let turned = c.round_on_workers-round.result in
     let gone = c.give_out.new.round in
@@ -88,8 +95,8 @@ returns-clause-steps g c = λ machine given s at between.
     let view = g.R.Running.view in
     let old = g.K.Sink.contents c.args.out.now in
     let mid = g.K.Sink.contents c.give_out.new.out in
-    let last = c.continue_after.new.round in
-    let new = g.K.Sink.contents c.continue_after.new.out in
+    let last = c.continue_after-2.new.round in
+    let new = g.K.Sink.contents c.continue_after-2.new.out in
     let none = none_of gone.end (sym c.is_some.ensures ∙ c.if-is_some.false) in
     let on : StepsOn (view gone.run) machine round.limits given s m gone.driver old mid =
     steps_of machine round.limits given s m (view gone.run) gone.driver old mid gone.end none
@@ -98,7 +105,7 @@ returns-clause-steps g c = λ machine given s at between.
     between.ready (c.round_on_workers-round.ensures.stands machine given s at between)) in
     steps_at machine round.limits gone.limits (c.give_out.ensures.limits ∙ c.round_on_workers-round.ensures.limits)
     given s m (view gone.run) (view last.run) gone.driver last.driver old mid gone.end last.end new
-    (c.continue_after.ensures.steps machine given s old between.counting) on
+    (c.continue_after-2.ensures.steps machine given s old between.counting) on
 
 pub returns-clause-sink : goal.returns-clause-sink
 returns-clause-sink g c =
@@ -106,4 +113,4 @@ returns-clause-sink g c =
     let none : gone.end ≡ None = none_of gone.end (sym c.is_some.ensures ∙ c.if-is_some.false) in
     writes_on ⊥ _ _ _ _ _ _ _ _ _ (λ x. x)
     (writes_whole _ ⊥ _ _ _ _ _ (λ e. faultless gone.end none e) (λ x. x) c.give_out.ensures.sink)
-    c.continue_after.ensures.sink
+    c.continue_after-2.ensures.sink

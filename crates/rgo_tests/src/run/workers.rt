@@ -1,0 +1,81 @@
+//! Runs on several workers: that they run beside one another, and the large text.
+
+use super::calls::{SOUND, expect, with_head};
+use crate::checks::same;
+use crate::lines::words_of;
+use rgo_big::big_source;
+use rgo_outside::{Gate, MemSink, MemSource};
+use rgo_run::rgo;
+use rgo_sched_tests::Meeting;
+use std::process::Abort;
+use std::sync::Wait;
+use std::test::Fail;
+use std::thread::Threads;
+
+/// Both goroutines need several turns.
+const TWO: &str = "\
+func sum(n int) int { s := 0; for i := 0; i < n; i++ { s += i }; return s }
+func half(c chan int) { c <- sum(2000) }
+func main() { c := make(chan int); go half(c); s := sum(2000); fmt.Println(s + <-c) }";
+
+/// Holds workers 0 and 1 in round 2 until both have arrived in it.
+#[derive(Drop)]
+struct Holding {
+    round_2: Meeting,
+}
+
+impl Gate for Holding {
+    fn arrive(&self, worker: u32, round: u64) {
+        if worker < 2 && round == 2 {
+            self.round_2.wait();
+        }
+    }
+}
+
+/// Runs `TWO`, and returns how many workers have arrived in round 2, and whether one of them missed the other.
+fn arrivals<R: Threads + Wait + Abort + AllocGlobal + Sync>(
+    rt: &R,
+    line: &str,
+) -> Result<(u32, bool), Fail> {
+    let alloc = rt.alloc();
+    let words = words_of(alloc, line, ' ')?;
+    let mut source = MemSource::new(with_head(alloc, TWO)?, 1000, Vec::new(alloc));
+    let mut out = MemSink::new(alloc, 1000, Vec::new(alloc))?;
+    let mut err = MemSink::new(alloc, 1000, Vec::new(alloc))?;
+    let gate = Holding {
+        round_2: Meeting::new(2),
+    };
+    let status = rgo(rt, alloc, &words, &mut source, &mut out, &mut err, &gate);
+    same(rt, line, &status, &0);
+    same(rt, line, &out.bytes(), &b"3998000\n".as_slice());
+    same(rt, line, &err.bytes().len(), &0);
+    Ok((gate.round_2.arrived(), gate.round_2.missed()))
+}
+
+#[test]
+fn workers_wait_for_one_another(rt: HostRuntime) -> Result<(), Fail> {
+    for line in ["rgo run", "rgo run --workers 2", "rgo run --workers 7"] {
+        same(&rt, line, &arrivals(&rt, line)?, &(2, false));
+    }
+    same(
+        &rt,
+        "one",
+        &arrivals(&rt, "rgo run --workers 1")?,
+        &(0, false),
+    );
+    Ok(())
+}
+
+/// How many goroutines the large text starts, and what it prints.
+static LARGE: [(u32, &str); 3] = [(1, "1 0\n"), (20, "20 330\n"), (100, "100 1650\n")];
+
+#[test]
+fn the_large_text_runs_on_any_number_of_workers(rt: HostRuntime) -> Result<(), Fail> {
+    for (goroutines, print) in &LARGE {
+        for words in ["rgo run", "rgo run --workers 8", "rgo run --workers 64"] {
+            let text = big_source(rt.alloc(), *goroutines)?;
+            expect(&rt, words, text, SOUND, (print, "", 0))?;
+        }
+    }
+    Ok(())
+}
