@@ -1,4 +1,4 @@
--- The limits and sizes of a run, as the options of `run` set them.
+-- The limits, sizes and workers of a run, as the options of `run` set them.
 use Rattle.std.specs.Prelude.{◌*◌, ◌≤◌, Bool, false, List, Option, Some, None, ℕ, codes, nat_le, option_and_then}
 use Rattle.std.specs.Prelude.{if◌then◌else◌, option_map}
 use Rattle.std.specs.Option.{option_map_or}

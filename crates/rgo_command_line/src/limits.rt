@@ -1,4 +1,4 @@
-//! What limits a run, as the options of `run` set it.
+//! What limits a run, and on how many workers it is, as the options of `run` set it.
 
 ghost use Rattle.std.specs.Prelude.{◌≡◌, IfSome};
 ghost use Rattle.clap.specs.Words.{found_of, rows_of};
