@@ -182,8 +182,8 @@ class WithTheProgram(unittest.TestCase):
             raise AssertionError("no program is built at crates/rgo/out/rgo, and the variable RGO names none")
 
     def status(self, text, pages):
-        """The status of a run with this many pages at most."""
-        command = [self.program, "run", "--pages", str(pages)]
+        """The status of a run on one worker with this many pages at most."""
+        command = [self.program, "run", "--pages", str(pages), "--workers", "1"]
         return subprocess.run(command, input=text.encode(), capture_output=True, timeout=300, check=False).returncode
 
     def test_commands_print_what_is_shown(self):
