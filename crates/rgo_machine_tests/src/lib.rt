@@ -10,5 +10,3 @@ mod driver;
 mod meaning;
 #[cfg(test)]
 mod texts;
-#[cfg(test)]
-mod workers;
