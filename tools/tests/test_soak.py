@@ -33,7 +33,7 @@ class Soak(unittest.TestCase):
         return path
 
     def test_runs_that_are_alike_are_counted(self):
-        ran = self.soak(self.fake(ALIKE), "--seconds", "0.5", "--goroutines", "3")
+        ran = self.soak(self.fake(ALIKE), "--seconds", "0.1", "--goroutines", "3")
         self.assertEqual((0, ""), (ran.returncode, ran.stderr))
         self.assertRegex(ran.stdout, r"(?m)^random +[1-9][0-9]* as on one worker$")
 
@@ -50,12 +50,12 @@ class Soak(unittest.TestCase):
                 room.rmdir()
 
     def test_lines_of_several_goroutines_come_in_any_order(self):
-        ran = self.soak(self.fake(SHUFFLED_IF_PRINTING), "--seconds", "2", "--goroutines", "3")
+        ran = self.soak(self.fake(SHUFFLED_IF_PRINTING), "--seconds", "0.1", "--goroutines", "3")
         self.assertEqual((0, ""), (ran.returncode, ran.stderr))
         self.assertRegex(ran.stdout, r"(?m)^printing +[1-9][0-9]* as on one worker$")
 
     def test_the_program_passes(self):
-        ran = self.soak(error_pages.program(), "--seconds", "2", "--goroutines", "40", "--workers", "7")
+        ran = self.soak(error_pages.program(), "--seconds", "0.1", "--goroutines", "40", "--workers", "7")
         self.assertEqual((0, ""), (ran.returncode, ran.stderr), ran.stdout)
 
 
