@@ -1,34 +1,48 @@
-//! Stretches of instructions that are not marked.
+//! Stretches of instructions that are left by ways that are not marked.
 
 use crate::checks::same;
 use crate::lowering::code_of;
 use rgo_memory::{Memory, Value, zero};
-use rgo_tac::{Frame, Tac, stretch};
+use rgo_tac::{Frame, Mark, Tac, stretch};
 use std::alloc::Global;
 use std::process::Abort;
 use std::test::Fail;
 
-/// The instructions of `main` are: int, copy, int, bin, branch, int, bin, copy, return.
+/// The instructions of `main` are: int, copy, int, bin, branch, int, bin, copy, return. The branch leaves by its first way.
 const HALVED: &str = "func main() { x := 3; if x > 2 { x = x / 2 } }\n";
 
-/// Marks of these instructions, a limit, and how many of them follow one another from the first on.
-static ROWS: [(&[bool], usize, usize); 7] = [
-    (&[false; 9], 100, 8),
-    (&[false; 9], 8, 8),
-    (&[false; 9], 3, 3),
-    (&[false; 9], 0, 0),
-    (
-        &[false, false, false, false, false, false, true, false, false],
-        100,
-        6,
-    ),
-    (
-        &[true, false, false, false, false, false, false, false, false],
-        100,
-        0,
-    ),
-    (&[false; 4], 100, 4),
+/// The same, but the branch leaves by the other way, to the return.
+const KEPT: &str = "func main() { x := 2; if x > 2 { x = x / 2 } }\n";
+
+/// A text, how many instructions have marks, which of them has this one, and a limit; then how many instructions follow one
+/// another from the first on, and which is next. All other marks are `Neither`.
+static ROWS: [(&str, usize, usize, Mark, usize, (usize, usize)); 16] = [
+    (HALVED, 9, 0, Mark::Neither, 100, (8, 8)),
+    (HALVED, 9, 0, Mark::Neither, 8, (8, 8)),
+    (HALVED, 9, 0, Mark::Neither, 3, (3, 3)),
+    (HALVED, 9, 0, Mark::Neither, 0, (0, 0)),
+    (HALVED, 9, 0, Mark::First, 100, (0, 0)),
+    (HALVED, 9, 6, Mark::First, 100, (6, 6)),
+    (HALVED, 9, 6, Mark::Both, 100, (6, 6)),
+    (HALVED, 9, 6, Mark::Other, 100, (8, 8)),
+    (HALVED, 4, 0, Mark::Neither, 100, (4, 4)),
+    (HALVED, 0, 0, Mark::Neither, 100, (0, 0)),
+    (HALVED, 9, 4, Mark::First, 100, (4, 4)),
+    (HALVED, 9, 4, Mark::Other, 100, (8, 8)),
+    (HALVED, 9, 4, Mark::Both, 100, (4, 4)),
+    (KEPT, 9, 4, Mark::First, 100, (5, 8)),
+    (KEPT, 9, 4, Mark::Other, 100, (4, 4)),
+    (KEPT, 9, 4, Mark::Both, 100, (4, 4)),
 ];
+
+/// The marks of so many instructions, one of which has this one.
+fn marks_of(alloc: Global, len: usize, at: usize, mark: Mark) -> Result<Vec<Mark>, Fail> {
+    let mut marks = Vec::new(alloc);
+    for i in 0..len {
+        marks.push(if i == at { mark } else { Mark::Neither })?;
+    }
+    Ok(marks)
+}
 
 /// A frame of the first function, with its variables at zero.
 fn frame_of(alloc: Global, code: &Tac) -> Result<Frame, Fail> {
@@ -45,18 +59,18 @@ fn frame_of(alloc: Global, code: &Tac) -> Result<Frame, Fail> {
     })
 }
 
-/// A stretch ends at its limit, before a marked instruction and before one that it has no mark of, and before one that
-/// leaves the frame.
+/// A stretch ends at its limit, before an instruction that would be left by a marked way, before one that there is no mark
+/// of, and before one that leaves the frame.
 #[test]
-fn a_stretch_ends_at_the_first_mark(rt: HostRuntime) -> Result<(), Fail> {
+fn a_stretch_ends_before_a_marked_way(rt: HostRuntime) -> Result<(), Fail> {
     let alloc = rt.alloc();
-    let code = code_of(&rt, HALVED)?;
-    for (marks, at_most, wanted) in &ROWS {
+    for (text, len, at, mark, at_most, wanted) in &ROWS {
+        let code = code_of(&rt, text)?;
+        let marks = marks_of(alloc, *len, *at, *mark)?;
         let mut memory = Memory::new(alloc, code.variables())?;
         let mut frame = frame_of(alloc, &code)?;
-        let count = stretch(&code, marks, &mut frame, &mut memory, *at_most);
-        same(&rt, "the instructions", &count, wanted);
-        same(&rt, "the next one", &frame.next, wanted);
+        let count = stretch(&code, &marks, &mut frame, &mut memory, *at_most);
+        same(&rt, "count and next", &(count, frame.next), wanted);
     }
     Ok(())
 }
@@ -68,7 +82,7 @@ fn a_stretch_continues_where_the_last_one_ended(rt: HostRuntime) -> Result<(), F
     let code = code_of(&rt, HALVED)?;
     let mut memory = Memory::new(alloc, code.variables())?;
     let mut frame = frame_of(alloc, &code)?;
-    let marks = [false; 9];
+    let marks = [Mark::Neither; 9];
     let first = stretch(&code, &marks, &mut frame, &mut memory, 5);
     let second = stretch(&code, &marks, &mut frame, &mut memory, 5);
     same(&rt, "the instructions", &(first, second), &(5, 3));

@@ -1,11 +1,13 @@
 -- A run with its regions: which run of the region machine it is at.
 use Rattle.std.specs.Prelude.{◌≡◌, ◌≤◌, ◌<◌, ◌^◌, ◌-◌, ℕ, min, Bool, false, List, [], ◌∷◌, ◌++◌, drop, length, map, Option, Some, None}
-use Rattle.std.specs.Prelude.{IsSome, slice_get}
+use Rattle.std.specs.Prelude.{IsSome, if◌then◌else◌, slice_get}
 use Rattle.rgo_machine.specs.declared.picks.End.{End}
 use Rattle.rgo_machine.specs.declared.picks.Pick.TheVariants.{One}
 use Rattle.rgo_machine.specs.declared.turns.Shortage.{Shortage}
 use Rattle.rgo_machine.specs.declared.turns.Shortage.TheVariants as shortage
+use Rattle.rgo_tac.specs.declared.marks.Mark.{Mark as WayMark}
 use Rattle.rgo_tac.specs.Frames.{Frame}
+use Rattle.rgo_tac.specs.Stretches.{is_marked}
 use Rattle.rgo_tac.specs.Tac.{TacState}
 use Rattle.rgo_code.specs.Checked.{IsChecked}
 use Rattle.rgo_code.specs.Code.{CodeInstr, CodeFn, Code}
@@ -17,7 +19,7 @@ use Rattle.rgo_region_machine.specs.Machine.{Event, TakePage, plain_step, region
 use Rattle.rgo_region_machine.specs.declared.regions.Region.TheVariants.{Numbered}
 use Rattle.rgo_region_machine.specs.Objects.{fill_of}
 use Rattle.rgo_region_machine.specs.Owed.{current, next_duties}
-use Rattle.rgo_region_machine.specs.States.{Duty, Create, Mark, Ended, Stopped, RegionState, frames_of}
+use Rattle.rgo_region_machine.specs.States.{Duty, Create, Mark, Ended, RegionState, frames_of}
 use Rattle.rgo_region_machine.specs.States as spec
 use Rattle.rgo_sound.specs.Progress.{MakesTooLarge}
 use Rattle.rgo_world.specs.declared.holders.Holder.{Holder}
@@ -59,14 +61,22 @@ pub record Shown (w : World) (s : RegionState) : Type 0 where
 
 -- ---- what is known of the code
 
--- an instruction without a mark has nothing to do with regions
-abbrev pub IsPlain : Option CodeInstr → Type 0
-IsPlain instr = (creates_in instr ≡ []) × (removes_in instr ≡ []) × (otherwise_in instr ≡ [])
+-- an instruction that is left by its first way, or by the other, has nothing to do with regions
+abbrev pub IsPlain : (first : Bool) → Option CodeInstr → Type 0
+IsPlain first instr =
+    (creates_in instr ≡ []) × ((if first then removes_in instr else otherwise_in instr) ≡ [])
 
--- these are the marks of all functions' instructions
-abbrev pub AreMarks : Code → List (List Bool) → Type 0
-AreMarks code all = (n i : ℕ) (marks : List Bool) (f : CodeFn) → slice_get all n ≡ Some marks
-    → slice_get code.functions n ≡ Some f → slice_get marks i ≡ Some false → IsPlain (slice_get f.body i)
+-- so if that way is not marked
+abbrev pub Marks : WayMark → Option CodeInstr → Type 0
+Marks mark instr = (first : Bool) → is_marked mark first ≡ false → IsPlain first instr
+
+-- these are the marks of a function's instructions, and of all functions'
+abbrev pub MarksAll : List WayMark → CodeFn → Type 0
+MarksAll marks f = (i : ℕ) (mark : WayMark) → slice_get marks i ≡ Some mark → Marks mark (slice_get f.body i)
+
+abbrev pub AreMarks : Code → List (List WayMark) → Type 0
+AreMarks code all = (n : ℕ) (marks : List WayMark) (f : CodeFn) → slice_get all n ≡ Some marks
+    → slice_get code.functions n ≡ Some f → MarksAll marks f
 
 pub record Prepared (w : World) : Type 0 where
   pub checked : IsChecked w.code.now

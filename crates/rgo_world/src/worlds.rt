@@ -11,7 +11,7 @@ use crate::holders::Holder;
 use crate::tables::Table;
 use rgo_code::{Code, CodeFn};
 use rgo_machine::{Shortage, Sizes, State, Stop, Turned};
-use rgo_tac::{Class, Frame, Op, TacMachine};
+use rgo_tac::{Class, Frame, Mark, Op, TacMachine};
 use std::alloc::AllocError;
 
 /// A run of checked code with its regions.
@@ -21,8 +21,8 @@ use std::alloc::AllocError;
 pub struct World<'a> {
     pub(crate) code: &'a Code,
     pub(crate) sizes: Sizes,
-    /// For each function, whether an instruction has to do with regions.
-    pub(crate) marks: Vec<Vec<bool>>,
+    /// For each function, on which ways out of its instructions there is anything to do with regions.
+    pub(crate) marks: Vec<Vec<Mark>>,
     /// The region parameters of each function.
     pub(crate) formals: Vec<Vec<Class>>,
     pub(crate) state: State<Frame>,
