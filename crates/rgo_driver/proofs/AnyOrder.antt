@@ -27,7 +27,7 @@ use Rattle.rgo_driver.proofs.Played.{begun_leads}
 use Rattle.rgo_driver.proofs.Rounded.{none_counted}
 
 -- a run in rounds has steps in some order
-pub freely : {F C : Type 0} (run : View F C) (machine : Machine F) (limits : Limits) (given : List ℕ) (s : State F)
+abbrev pub freely : {F C : Type 0} (run : View F C) (machine : Machine F) (limits : Limits) (given : List ℕ) (s : State F)
     (end : RunEnd) (a b : Option (List ℕ))
     → RunsTo run machine limits given s end a b → RunsFreelyTo run machine limits given s end a b
 freely run machine limits given s end a b h =
@@ -310,6 +310,12 @@ module _
         subst (λ l. StepsOrCloses run machine l given s m e a b p) same
         (gives (subst (λ l. IsReady l s) (sym same) ready)
         (subst (λ l. Stands machine l given s m old d [] o) (sym same) stands))
+
+    -- and the run goes on
+    pub goes_on : p ≡ None → (IsReady more s → Stands machine more given s m old d [] o
+        → StepsOrCloses run machine more given s m e a b p)
+        → IsReady limits s → Stands machine limits given s m old d [] o → StepsOn run machine limits given s m e a b
+    goes_on none gives ready stands = steps_of machine limits given s m run e a b p none (gives_at gives ready stands)
 
     pub steps_at : (c : Option (List ℕ))
         → (StepsOn old machine more given s m d a b → StepsOrCloses run machine more given s m e a c p)

@@ -119,15 +119,18 @@ impl<'a, H: Wait, R: Running, J: Begun<R>> Task for Share<'a, H, R, J> {
     }
 }
 
-/// What each of up to so many workers has of a round: positions in a row, and none has two more than another.
+/// What each of up to so many workers has of a round: positions in a row, and none has two more than another. Two workers
+/// take part at least, if there are two.
 fn make_shares<'a, H: Wait, R: Running, J: Begun<R>>(
     rt: &'a H,
     alloc: Global,
     round: &'a Mutex<Locked<R, J>>,
     positions: usize,
     workers: u32,
-) -> Result<Vec<Share<'a, H, R, J>>, AllocError> {
-    let workers = positions.min(workers as usize);
+) -> Result<Vec<Share<'a, H, R, J>>, AllocError>
+    requires { 1 ≤ workers }
+{
+    let workers = positions.max(2).min(workers as usize);
     let mut shares = Vec::new(alloc);
     let mut from = 0usize;
     for k in 0..workers {

@@ -119,13 +119,23 @@ fn arrive_alone<G: Gate>(ready: &[usize], number: u64, gate: &G) {
     }
 }
 
-/// A round, and what it printed goes out. It is on workers where several goroutines are ready. One alone has its turn on
-/// the caller's thread, since no other could step beside it.
+/// Whether a round is on workers, by how many of the goroutines are ready: where several are, and where one alone is, unless
+/// that was so in the last round too.
+fn is_on_workers(ready: usize, goroutines: usize, was_lone: bool) -> bool {
+    match ready {
+        0 => false,
+        1 => goroutines > 1 && !was_lone,
+        _ => true,
+    }
+}
+
+/// A round, on workers or on the caller's thread, and what it printed goes out.
 fn pass_on_workers<H: Threads + Wait + Sync, R: Running + Send, K: Sink, G: Gate + Sync>(
     rt: &H,
     alloc: Global,
     mut round: Round<R>,
     workers: u32,
+    on_workers: bool,
     number: u64,
     out: &mut K,
     gate: &G,
@@ -146,7 +156,7 @@ fn pass_on_workers<H: Threads + Wait + Sync, R: Running + Send, K: Sink, G: Gate
         (K.broken out.new) (K.pieces out.old) (K.pieces out.new) }
 {
     let before = round.driver.steps;
-    if round.driver.ready.len() < 2 {
+    if !on_workers {
         arrive_alone(&round.driver.ready, number, gate);
         continue_after(alloc, &mut round, before, out);
         return round;
@@ -182,23 +192,30 @@ fn drive_on_workers<H: Threads + Wait + Sync, R: Running + Send, K: Sink, G: Gat
         (K.pieces out.old) (K.pieces out.new) }
 {
     let mut number = 1u64;
+    let mut was_lone = false;
     loop {
-        round = pass_on_workers(rt, alloc, round, workers, number, out, gate);
+        let ready = round.driver.ready.len();
+        let goroutines = round.run.goroutines();
+        let on_workers = is_on_workers(ready, goroutines, was_lone);
+        round = pass_on_workers(rt, alloc, round, workers, on_workers, number, out, gate);
         if let Some(end) = round.end {
             return (into_run(round), end);
         }
+        was_lone = ready < 2 && goroutines > 1;
         number = number.saturating_add(1);
     }
 }
 
 /// Drives a run from the state that it is at, on up to `workers` workers, in rounds: in each, every goroutine that can
 /// step has a turn of up to 1,000 steps. The turns of a round run side by side, each step under one lock, so their steps
-/// come in any order. A goroutine that is ready alone needs no lock: it has its turn on the caller's thread. What a round
-/// printed goes out after it, each line in one piece. After a failed write nothing more is written.
+/// come in any order. What a round printed goes out after it, each line in one piece. After a failed write nothing more
+/// is written.
 ///
-/// With several workers, each that has a goroutine in a round arrives at the gate before the first turn of its own;
-/// rounds are numbered from 1. With one, goroutines run in the caller's thread as [`run`] runs them, and nothing arrives
-/// at the gate.
+/// Where one of several goroutines is ready alone, two workers come to the round, and one of them has no turn. In the
+/// rounds after it the goroutine has its turns on the caller's thread and without the lock, until another is ready too.
+///
+/// With several workers, each that comes to a round arrives at the gate before its first turn there; rounds are numbered
+/// from 1. With one, goroutines run in the caller's thread as [`run`] runs them, and nothing arrives at the gate.
 ///
 /// Returns the run and how it ended. Whether the limit of steps is reached is tested at the end of a round; the other
 /// limits are tested before each step. When memory runs out, what went out is the whole print of a shorter run.

@@ -1,6 +1,8 @@
 //! Lines after the head whose runs end with a trap or otherwise, worked out from the words of the
 //! language.
 
+use super::running::ECHO;
+
 /// Lines that end with a trap: what is printed, and what is reported.
 pub(super) static TRAPS: [(&str, &str, &str); 17] = [
     (
@@ -92,10 +94,6 @@ func main() { c := make(chan int); go g(c); close(c); for {} }",
         "4:36: trap 7 CloseNil",
     ),
 ];
-
-const ECHO: &str = "func echo(a, b chan int) { for i := 0; i < 5; i++ { b <- <-a + 1 } }
-func main() { a := make(chan int); b := make(chan int); go echo(a, b)
-for i := 0; i < 5; i++ { a <- i * 10; fmt.Println(<-b) } }";
 
 /// Words and lines that end otherwise: what is printed and reported, and the status.
 pub(super) static ENDS: [(&str, &str, &str, &str, u8); 14] = [

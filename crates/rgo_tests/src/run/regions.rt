@@ -3,6 +3,7 @@
 //! with several goroutines has made depends on the order of their steps, and is wanted of one worker.
 
 use super::calls::Wanted;
+use super::running::ECHO;
 
 /// Makes a list of `n` nodes, and adds up one.
 pub(super) const LISTS: &str = "\
@@ -85,9 +86,7 @@ func main() { x := new(W); fmt.Println(x.a) }",
     // Goroutines that meet at channels without buffers.
     (
         "--workers 1 --stats",
-        "func echo(a, b chan int) { for i := 0; i < 5; i++ { b <- <-a + 1 } }
-func main() { a := make(chan int); b := make(chan int); go echo(a, b)
-for i := 0; i < 5; i++ { a <- i * 10; fmt.Println(<-b) } }",
+        ECHO,
         (
             "1\n11\n21\n31\n41\n",
             "rgo: regions 2 removed 0 pages 2 returned 0 objects 2 goroutines 2\n",

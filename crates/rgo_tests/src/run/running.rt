@@ -203,14 +203,15 @@ func main() { s := make([]int, 3); s[2] = 5; fmt.Println(find(s, 5), find(s, 0),
     ),
 ];
 
+/// Two goroutines that meet at channels without buffers, one of which can step alone at any time.
+pub(super) const ECHO: &str = "\
+func echo(a, b chan int) { for i := 0; i < 5; i++ { b <- <-a + 1 } }
+func main() { a := make(chan int); b := make(chan int); go echo(a, b)
+for i := 0; i < 5; i++ { a <- i * 10; fmt.Println(<-b) } }";
+
 /// Goroutines and channels.
 pub(super) static GOROUTINES: [(&str, &str); 8] = [
-    (
-        "func echo(a, b chan int) { for i := 0; i < 5; i++ { b <- <-a + 1 } }
-func main() { a := make(chan int); b := make(chan int); go echo(a, b)
-for i := 0; i < 5; i++ { a <- i * 10; fmt.Println(<-b) } }",
-        "1\n11\n21\n31\n41\n",
-    ),
+    (ECHO, "1\n11\n21\n31\n41\n"),
     (
         "func prod(c chan int) { for i := 0; i < 100; i++ { c <- i }; close(c) }
 func main() { c := make(chan int, 2); go prod(c)

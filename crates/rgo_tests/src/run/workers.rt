@@ -1,6 +1,7 @@
 //! Runs on several workers: that they run beside one another, and the large text.
 
 use super::calls::{SOUND, expect, with_head};
+use super::running::ECHO;
 use crate::checks::same;
 use crate::lines::words_of;
 use rgo_big::big_source;
@@ -18,6 +19,9 @@ func sum(n int) int { s := 0; for i := 0; i < n; i++ { s += i }; return s }
 func half(c chan int) { c <- sum(2000) }
 func main() { c := make(chan int); go half(c); s := sum(2000); fmt.Println(s + <-c) }";
 
+/// Texts, with what they print.
+static ROWS: [(&str, &str); 2] = [(TWO, "3998000\n"), (ECHO, "1\n11\n21\n31\n41\n")];
+
 /// Holds workers 0 and 1 in round 2 until both have arrived in it.
 #[derive(Drop)]
 struct Holding {
@@ -32,14 +36,16 @@ impl Gate for Holding {
     }
 }
 
-/// Runs `TWO`, and returns how many workers have arrived in round 2, and whether one of them missed the other.
+/// Runs a text, and returns how many workers have arrived in round 2, and whether one of them missed the other.
 fn arrivals<R: Threads + Wait + Abort + AllocGlobal + Sync>(
     rt: &R,
     line: &str,
+    text: &str,
+    print: &str,
 ) -> Result<(u32, bool), Fail> {
     let alloc = rt.alloc();
     let words = words_of(alloc, line, ' ')?;
-    let mut source = MemSource::new(with_head(alloc, TWO)?, 1000, Vec::new(alloc));
+    let mut source = MemSource::new(with_head(alloc, text)?, 1000, Vec::new(alloc));
     let mut out = MemSink::new(alloc, 1000, Vec::new(alloc))?;
     let mut err = MemSink::new(alloc, 1000, Vec::new(alloc))?;
     let gate = Holding {
@@ -47,22 +53,20 @@ fn arrivals<R: Threads + Wait + Abort + AllocGlobal + Sync>(
     };
     let status = rgo(rt, alloc, &words, &mut source, &mut out, &mut err, &gate);
     same(rt, line, &status, &0);
-    same(rt, line, &out.bytes(), &b"3998000\n".as_slice());
+    same(rt, line, &out.bytes(), &print.as_bytes());
     same(rt, line, &err.bytes().len(), &0);
     Ok((gate.round_2.arrived(), gate.round_2.missed()))
 }
 
 #[test]
 fn workers_wait_for_one_another(rt: HostRuntime) -> Result<(), Fail> {
-    for line in ["rgo run", "rgo run --workers 2", "rgo run --workers 7"] {
-        same(&rt, line, &arrivals(&rt, line)?, &(2, false));
+    for (text, print) in &ROWS {
+        for line in ["rgo run", "rgo run --workers 2", "rgo run --workers 7"] {
+            same(&rt, line, &arrivals(&rt, line, text, print)?, &(2, false));
+        }
+        let one = "rgo run --workers 1";
+        same(&rt, one, &arrivals(&rt, one, text, print)?, &(0, false));
     }
-    same(
-        &rt,
-        "one",
-        &arrivals(&rt, "rgo run --workers 1")?,
-        &(0, false),
-    );
     Ok(())
 }
 

@@ -1,15 +1,14 @@
 use Rattle.std.proofs.Common.{◌≡◌, ◌++◌, None, arith, refl, subst, sym, ◌∙◌}
-use Rattle.rgo_driver.specs.Freely.{StepsOn}
 use Rattle.rgo_driver.specs.Playing.{IsBetween}
 use Rattle.rgo_driver.specs.Points.{point_of}
-use Rattle.rgo_driver.proofs.AnyOrder.{steps_none, steps_of, gives_at, steps_at}
+use Rattle.rgo_driver.proofs.AnyOrder.{steps_none, gives_at, goes_on, steps_at}
 use Rattle.rgo_driver.proofs.Attending.{no_fault, faultless, none_of}
 use Rattle.rgo_driver.proofs.Given.{writes_on, writes_whole}
 use Rattle.rgo_driver.proofs.Left.{itself}
 use Rattle.rgo_driver.proofs.workers.pass_on_workers.Goals as goal
 
-pub returns-then-len-lt2-clause-steps : goal.returns-then-len-lt2-clause-steps
-returns-then-len-lt2-clause-steps g c = λ machine given s at between.
+pub returns-then-not-on_workers-clause-steps : goal.returns-then-not-on_workers-clause-steps
+returns-then-not-on_workers-clause-steps g c = λ machine given s at between.
     let round = c.args.round in
     let old = g.K.Sink.contents c.args.out.now in
     c.continue_after.ensures.steps machine given s old between.counting
@@ -46,11 +45,11 @@ continue_after-requires-2-clause-between g c = λ same.
     let machine = (view round.run).machine in
     let at = itself (view round.run) w.given w.state w.shown in
     let none = none_of gone.end (sym c.is_some.ensures ∙ c.if-is_some.false) in
-    let on : StepsOn (view gone.run) machine round.limits w.given w.state m gone.driver old mid =
-    steps_of machine round.limits w.given w.state m (view gone.run) gone.driver old mid gone.end none
-    (gives_at machine round.limits turned.limits c.round_on_workers-round.ensures.limits w.given w.state m (view turned.run)
-    (view gone.run) turned.driver gone.driver old mid turned.end gone.end (c.give_out.ensures.steps machine w.given w.state m)
-    w.between.ready (c.round_on_workers-round.ensures.stands machine w.given w.state at w.between)) in
+    let on =
+    goes_on machine round.limits turned.limits c.round_on_workers-round.ensures.limits w.given w.state m (view turned.run)
+    (view gone.run) turned.driver gone.driver old mid turned.end gone.end none
+    (c.give_out.ensures.steps machine w.given w.state m) w.between.ready
+    (c.round_on_workers-round.ensures.stands machine w.given w.state at w.between) in
     let limited = c.give_out.ensures.limits ∙ c.round_on_workers-round.ensures.limits in
     record {
       given = w.given ++ on.bytes;
@@ -78,11 +77,11 @@ continue_after-requires-2-clause-counted g c =
     let machine = (view round.run).machine in
     let at = itself (view round.run) w.given w.state w.shown in
     let none = none_of gone.end (sym c.is_some.ensures ∙ c.if-is_some.false) in
-    let on : StepsOn (view gone.run) machine round.limits w.given w.state m gone.driver old mid =
-    steps_of machine round.limits w.given w.state m (view gone.run) gone.driver old mid gone.end none
-    (gives_at machine round.limits turned.limits c.round_on_workers-round.ensures.limits w.given w.state m (view turned.run)
-    (view gone.run) turned.driver gone.driver old mid turned.end gone.end (c.give_out.ensures.steps machine w.given w.state m)
-    w.between.ready (c.round_on_workers-round.ensures.stands machine w.given w.state at w.between)) in
+    let on =
+    goes_on machine round.limits turned.limits c.round_on_workers-round.ensures.limits w.given w.state m (view turned.run)
+    (view gone.run) turned.driver gone.driver old mid turned.end gone.end none
+    (c.give_out.ensures.steps machine w.given w.state m) w.between.ready
+    (c.round_on_workers-round.ensures.stands machine w.given w.state at w.between) in
     let sum = on.steps.counted m (omega (arith, w.between.counting)) in
     omega (arith, sum, w.between.counting)
 
@@ -98,11 +97,11 @@ returns-clause-steps g c = λ machine given s at between.
     let last = c.continue_after-2.new.round in
     let new = g.K.Sink.contents c.continue_after-2.new.out in
     let none = none_of gone.end (sym c.is_some.ensures ∙ c.if-is_some.false) in
-    let on : StepsOn (view gone.run) machine round.limits given s m gone.driver old mid =
-    steps_of machine round.limits given s m (view gone.run) gone.driver old mid gone.end none
-    (gives_at machine round.limits turned.limits c.round_on_workers-round.ensures.limits given s m (view turned.run)
-    (view gone.run) turned.driver gone.driver old mid turned.end gone.end (c.give_out.ensures.steps machine given s m)
-    between.ready (c.round_on_workers-round.ensures.stands machine given s at between)) in
+    let on =
+    goes_on machine round.limits turned.limits c.round_on_workers-round.ensures.limits given s m (view turned.run)
+    (view gone.run) turned.driver gone.driver old mid turned.end gone.end none
+    (c.give_out.ensures.steps machine given s m) between.ready
+    (c.round_on_workers-round.ensures.stands machine given s at between) in
     steps_at machine round.limits gone.limits (c.give_out.ensures.limits ∙ c.round_on_workers-round.ensures.limits)
     given s m (view gone.run) (view last.run) gone.driver last.driver old mid gone.end last.end new
     (c.continue_after-2.ensures.steps machine given s old between.counting) on
