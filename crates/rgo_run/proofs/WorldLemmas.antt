@@ -1,5 +1,5 @@
 -- A world in which a run has ended: the run of the region machine, and what is said of it.
-use Rattle.std.proofs.Common.{◌≡◌, ℕ, zero, suc, Bool, List, ◌++◌, length, length-append, Option, refl, sym, ◌∙◌, arith, subst}
+use Rattle.std.proofs.Common.{◌≡◌, ℕ, zero, suc, Bool, List, ◌++◌, Option, refl, sym, ◌∙◌, subst}
 use Rattle.rgo_machine.specs.declared.limits.Sizes.{Sizes}
 use Rattle.rgo_machine.specs.declared.turns.Shortage.{Shortage}
 use Rattle.rgo_machine.specs.declared.limits.Limits.{Limits}
@@ -14,8 +14,8 @@ use Rattle.rgo_driver.specs.declared.ends.RunEnd.TheVariants as run_end
 use Rattle.rgo_world.specs.declared.tally.Tally.{Tally}
 use Rattle.rgo_world.specs.declared.worlds.World.{World}
 use Rattle.rgo_world.specs.Worlds.{Lacks, LacksIn, Reaches, Shown, Stands}
-use Rattle.rgo_driver.specs.Rounds.{all_of}
 use Rattle.rgo_driver.specs.Running.{View}
+use Rattle.rgo_driver.proofs.AnyOrder.{freely}
 use Rattle.rgo_run.specs.Runs.{RegionRun, RunsInRounds, stats_at}
 use Rattle.rgo_run.proofs.TextLemmas.{region_run_of}
 
@@ -58,32 +58,12 @@ module _ (run : View Frame (Code × Sizes)) (machine : Machine Frame) (limits : 
     pub to : RunsFreelyTo run machine limits given start end old new
     pub in_rounds : workers ≡ 1 → RunsInRounds machine limits start end old new to.runs.state
 
-  -- a run in rounds has its steps in some order
-  in_some_order : RunsTo run machine limits given start end old new → RunsFreelyTo run machine limits given start end old new
-  in_some_order h =
-      let r = h.runs in
-      record {
-        runs = record {
-          picks = all_of r.rounds ++ r.last;
-          tested = length (all_of r.rounds);
-          state = r.state;
-          ran = r.ran;
-          early = omega (arith, length-append (all_of r.rounds) r.last);
-          ends = r.ends;
-          gives = r.gives;
-        };
-        before = h.before;
-        whole = h.whole;
-        left = h.left;
-      }
-
   -- what is said of any number of workers, and of one
   pub runs_by : (workers : ℕ) → RunsFreelyTo run machine limits given start end old new
       → (workers ≡ 1 → RunsTo run machine limits given start end old new) → RunsBy workers
-  unfolding in_some_order
   runs_by zero to alone = record { to = to; in_rounds = λ one. cc }
   runs_by (suc zero) to alone =
-      let r = alone refl in record { to = in_some_order r; in_rounds = λ one. record { runs = r.runs; is = refl } }
+      let r = alone refl in record { to = freely run machine limits given start end old new r; in_rounds = λ one. record { runs = r.runs; is = refl } }
   runs_by (suc (suc n)) to alone = record { to = to; in_rounds = λ one. cc }
 
 -- a run of this code without its regions has ended so in a world

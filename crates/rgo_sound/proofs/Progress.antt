@@ -286,14 +286,14 @@ module _ (code : Code) (page_words : ℕ) (checked : IsChecked code) (written : 
 -- ---- where an object is made there is a region for it
 
 -- an instruction that makes an object has a target, whose type is pointer-like
-record HasTarget (f : TacFn) (to : Option ℕ) : Type 0 where
-  variable : ℕ
-  is : to ≡ Some variable
-  ty : «Type»
-  typed : HasType f variable ty
-  like : is_pointer_like ty ≡ true
+pub record HasTarget (f : TacFn) (to : Option ℕ) : Type 0 where
+  pub variable : ℕ
+  pub is : to ≡ Some variable
+  pub ty : «Type»
+  pub typed : HasType f variable ty
+  pub like : is_pointer_like ty ≡ true
 
-made_pointer : (code : Tac) (f : TacFn) (to : Option ℕ) (action : Action) (operands : List «Type»)
+pub made_pointer : (code : Tac) (f : TacFn) (to : Option ℕ) (action : Action) (operands : List «Type»)
     → DoFits code f to action operands → makes_object action ≡ true → HasTarget f to
 made_pointer code f to (Int k) operands t m = absurd (true≢false (sym m))
 made_pointer code f to (BoolConstant b) operands t m = absurd (true≢false (sym m))
@@ -324,7 +324,7 @@ made_pointer code f to (Get n) operands t m = absurd (true≢false (sym m))
 made_pointer code f to (Set n) operands t m = absurd (true≢false (sym m))
 
 -- the slot of a typed variable
-slot_of : (slots : List Slot) (d : ℕ) (ty : «Type») → slice_get (map (λ (s : Slot). s.ty) slots) d ≡ Some ty
+pub slot_of : (slots : List Slot) (d : ℕ) (ty : «Type») → slice_get (map (λ (s : Slot). s.ty) slots) d ≡ Some ty
     → (s : Slot) × (slice_get slots d ≡ Some s) × (s.ty ≡ ty)
 slot_of [] zero ty e = cc
 slot_of [] (suc d) ty e = cc

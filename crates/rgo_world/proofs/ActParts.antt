@@ -25,7 +25,7 @@ use Rattle.rgo_world.specs.Objects.{HasNoRoom, HasRoom, IsRoomy, MakesNext, Remo
 use Rattle.rgo_world.specs.Works.{IsNext, IsNextOf, IsReady, Ready, TakesStep, first_of, halted, newest_of}
 use Rattle.rgo_world.specs.Worlds.{LacksIn, end_in, plain_at}
 use Rattle.rgo_world.proofs.OneHolder.{the_same}
-use Rattle.rgo_world.proofs.Taking.{takes_after}
+use Rattle.rgo_world.proofs.Taking.{takes_after, takes_nothing}
 
 -- ---- the newest frame
 
@@ -65,28 +65,7 @@ made_next w g next at frame structs o is same made =
 -- for lack of memory or of room
 pub turn_halted : (why : Halt) (w v : World) (s : RegionState) (limits : Limits) (g : ℕ) → Ready w s g
     → HasNoRoom why w v g → TakesStep w v limits s g 1 (halted why)
-turn_halted halt.NoMemory w v s limits g ready same = record {
-  events = [];
-  state = s;
-  leads = refl;
-  turns = record {
-    leads = ap (λ print. Some (plain_at s print)) (sym same.print);
-    within = omega arith;
-    over = ap end_in ready.between.running;
-    channels = λ o channel e. e;
-    print = same.print;
-  };
-  code = same.code;
-  sizes = same.sizes;
-  shown = λ n. absurd (n refl);
-  between = λ n m. absurd (n refl);
-  lacks = λ why e. cc;
-  prints = record {
-    bytes = [];
-    whole = sym (append-nil s.plain.printed);
-    kept = same.print ∙ sym (append-nil w.state.printed);
-  };
-}
+turn_halted halt.NoMemory w v s limits g ready same = takes_nothing w v s limits g ready.between.running same
 turn_halted (halt.NoRoom why) w v s limits g ready (same, lacks) =
     subst (λ u. TakesStep w u limits s g 1 (halted (halt.NoRoom why))) (sym same) (record {
       events = [];

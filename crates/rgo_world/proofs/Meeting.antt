@@ -62,6 +62,7 @@ use Rattle.rgo_sound.proofs.Offers.{steps_keep_good}
 use Rattle.rgo_sound.proofs.OneStep.{OnFrom, ReceivesAt, SendsAt, StandsAt, gone_on, met_with, receive_goes}
 use Rattle.rgo_sound.proofs.OneStep.{send_goes, side_is, stands_at_channel}
 use Rattle.rgo_sound.proofs.Places.{contains_here, get_set_other, get_set_same, get_some, length_set}
+use Rattle.rgo_sound.proofs.Progress.{slot_of}
 use Rattle.rgo_sound.proofs.Tests.{eq_of, nat_eq_refl, nat_ne_sym, split}
 use Rattle.rgo_sound.proofs.TypedSteps.{here, one_object}
 use Rattle.rgo_sound.specs.Good.{AllGood}
@@ -80,7 +81,7 @@ use Rattle.rgo_world.proofs.LiftingGood.{state_shows}
 use Rattle.rgo_world.proofs.OneHolder.{differs, none_some, the_same}
 use Rattle.rgo_world.proofs.Orderly.{orderly_step}
 use Rattle.rgo_world.proofs.Taking.{plain_at_same}
-use Rattle.rgo_world.proofs.Targets.{next_live, slot_of}
+use Rattle.rgo_world.proofs.Targets.{next_live}
 
 -- ---- the step of the three-address machine
 

@@ -32,7 +32,7 @@ use Rattle.rgo_world.specs.Works.{ActsBy, Between, Falls, HasNoNext, IsNext, IsN
 use Rattle.rgo_world.specs.Works.{StopsShort, Takes, TakesStep, first_of, halted}
 use Rattle.rgo_world.specs.Worlds.{LacksIn, end_in, plain_at}
 use Rattle.rgo_world.proofs.OneHolder.{none_some}
-use Rattle.rgo_world.proofs.Taking.{plain_at_same, takes_after}
+use Rattle.rgo_world.proofs.Taking.{plain_at_same, takes_after, takes_nothing}
 
 no_channel_changed : (m : Memory) → SameChannels m m
 no_channel_changed m o channel e = e
@@ -90,28 +90,7 @@ takes_wait w limits g no_next s between within = record {
 -- what it owes before its next instruction was not all done
 pub takes_halt : (w v : World) (limits : Limits) (g : ℕ) (why : Halt) → Falls why w v g
     → Takes w v limits g 1 (halted why)
-takes_halt w v limits g halt.NoMemory same s between within = record {
-  events = [];
-  state = s;
-  leads = refl;
-  turns = record {
-    leads = ap (λ bytes. Some (plain_at s bytes)) (sym same.print);
-    within = omega arith;
-    over = ap end_in between.running;
-    channels = no_channel_changed s.plain.memory;
-    print = same.print;
-  };
-  code = same.code;
-  sizes = same.sizes;
-  shown = λ n. absurd (n refl);
-  between = λ n m. absurd (n refl);
-  lacks = λ why e. cc;
-  prints = record {
-    bytes = [];
-    whole = sym (append-nil s.plain.printed);
-    kept = same.print ∙ sym (append-nil w.state.printed);
-  };
-}
+takes_halt w v limits g halt.NoMemory same s between within = takes_nothing w v s limits g between.running same
 takes_halt w v limits g (halt.NoRoom why) stops s between within = record {
   events = x.events;
   state = x.state;

@@ -24,10 +24,11 @@ use Rattle.rgo_sound.proofs.Offers.{steps_keep_good}
 use Rattle.rgo_sound.specs.Good.{AllGood}
 use Rattle.rgo_world.specs.declared.holders.Holder.{Holder}
 use Rattle.rgo_machine.specs.declared.limits.Sizes.{Sizes}
+use Rattle.rgo_world.specs.declared.worlds.Halt.TheVariants as halt
 use Rattle.rgo_world.specs.declared.worlds.World.{World}
 use Rattle.rgo_world.specs.Orderly.{Orderly}
 use Rattle.rgo_world.specs.Works.{Attended, Between, KeepsOthers, OthersOwe, SamePrint, SameRun, Settled, TakesStep}
-use Rattle.rgo_world.specs.Works.{TakesTurn, done_in, done_of}
+use Rattle.rgo_world.specs.Works.{TakesTurn, done_in, done_of, halted}
 use Rattle.rgo_world.specs.Worlds.{LacksIn, OwesNext, Prepared, Shown, end_in, plain_at}
 use Rattle.rgo_world.proofs.Attending.{leads_append, same_then}
 use Rattle.rgo_world.proofs.LiftingGood.{StateShows, StepShows, plain_at_after, shown_after, state_shows}
@@ -44,6 +45,32 @@ plain_at_same s t old new plain running still print = λ i. record {
   goroutines = (plain i).goroutines;
   printed = print i;
   ended = (ap end_in still ∙ sym (ap end_in running)) i;
+}
+
+-- nothing was done for lack of memory
+pub takes_nothing : (w v : World) (s : RegionState) (limits : Limits) (g : ℕ) → s.mark ≡ None → SameRun w v
+    → TakesStep w v limits s g 1 (halted halt.NoMemory)
+takes_nothing w v s limits g running same = record {
+  events = [];
+  state = s;
+  leads = refl;
+  turns = record {
+    leads = ap (λ print. Some (plain_at s print)) (sym same.print);
+    within = omega arith;
+    over = ap end_in running;
+    channels = λ o channel e. e;
+    print = same.print;
+  };
+  code = same.code;
+  sizes = same.sizes;
+  shown = λ n. absurd (n refl);
+  between = λ n m. absurd (n refl);
+  lacks = λ why e. cc;
+  prints = record {
+    bytes = [];
+    whole = sym (append-nil s.plain.printed);
+    kept = same.print ∙ sym (append-nil w.state.printed);
+  };
 }
 
 -- the steps lead on over the same code, with pages of the same size

@@ -1,17 +1,12 @@
 -- What is known of a goroutine that is about to do an instruction, owes nothing, and has nothing to acknowledge: what it
 -- touches is live, and there is a region for the object that it makes.
-use Rattle.std.proofs.Common.{◌≡◌, ◌≢◌, ℕ, zero, suc, true, ◌&&◌, List, [], ◌∷◌, map, Option, Some, None}
+use Rattle.std.proofs.Common.{◌≡◌, ◌≢◌, ℕ, true, ◌&&◌, List, [], ◌∷◌, Option, Some, None}
 use Rattle.std.proofs.Common.{refl, sym, ap, ◌∙◌, subst, if◌then◌else◌, arith, true≢false, slice_get, inr}
 use Rattle.std.proofs.lemmas.Option.{slice_get_within}
 use Rattle.rgo_typed.specs.Types.{is_pointer_like}
 use Rattle.rgo_typed.specs.declared.actions.Action.{Action}
-use Rattle.rgo_typed.specs.declared.actions.Action.TheVariants.{At, Binary, Bool as BoolConstant, Chan, Close, Copy}
-use Rattle.rgo_typed.specs.declared.actions.Action.TheVariants.{Get, Int, IsNil, Len, Load, Neg, New, Nil, Not, Put}
-use Rattle.rgo_typed.specs.declared.actions.Action.TheVariants.{Recv, Send, Set, Slice, Store}
-use Rattle.rgo_typed.specs.declared.types.Type.{«Type»}
 use Rattle.rgo_tac.specs.declared.regions.Class.{Class}
 use Rattle.rgo_tac.specs.declared.regions.Class.TheVariants.{Global, Name, NoClass}
-use Rattle.rgo_tac.specs.Code.{Tac, TacFn}
 use Rattle.rgo_tac.specs.Flow.{writes}
 use Rattle.rgo_tac.specs.Frames.{Frame}
 use Rattle.rgo_code.specs.Checked.{IsChecked}
@@ -20,7 +15,7 @@ use Rattle.rgo_code.specs.Erasure.{erased, erased_fn, erased_op}
 use Rattle.rgo_code.specs.Exists.{Uses}
 use Rattle.rgo_code.specs.NameRules.{Ascends}
 use Rattle.rgo_code.specs.Names.{Names, class_of, slot_class}
-use Rattle.rgo_code.specs.Types.{DoFits, HasType, OpFits}
+use Rattle.rgo_code.specs.Types.{OpFits}
 use Rattle.rgo_code.specs.declared.rules.Line.TheVariants as line
 use Rattle.rgo_code.specs.declared.rules.Rule.TheVariants as rule
 use Rattle.rgo_region_machine.specs.declared.regions.Region.{Region}
@@ -33,6 +28,7 @@ use Rattle.rgo_region_machine.specs.Regions.{bound, class_region, is_live}
 use Rattle.rgo_region_machine.specs.States.{Holder, RegionState, frames_in, top_names}
 use Rattle.rgo_sound.proofs.Offers.{class_has_stake, makes_at, making_class, touched_home}
 use Rattle.rgo_sound.proofs.Places.{get_some}
+use Rattle.rgo_sound.proofs.Progress.{HasTarget, made_pointer, slot_of}
 use Rattle.rgo_sound.proofs.Static.{named_bound}
 use Rattle.rgo_sound.proofs.TypedSteps.{here}
 use Rattle.rgo_sound.proofs.ValueSteps.{Top, top_of}
@@ -63,52 +59,6 @@ next_live code s g checked all frame callers instr at cur = go (touched frame in
     go (Some o) q =
         let x = touched_home code s g h.0 frame callers instr top o checked all.good h.1 (ap frames_in at) cur q in
         ap (owner_live s) x.1 ∙ live_of s h.0 x.0 x.2
-
--- an instruction that makes an object has a target, whose type is pointer-like
-pub record HasTarget (f : TacFn) (to : Option ℕ) : Type 0 where
-  pub variable : ℕ
-  pub is : to ≡ Some variable
-  pub ty : «Type»
-  pub typed : HasType f variable ty
-  pub like : is_pointer_like ty ≡ true
-
-pub made_pointer : (code : Tac) (f : TacFn) (to : Option ℕ) (action : Action) (operands : List «Type»)
-    → DoFits code f to action operands → makes_object action ≡ true → HasTarget f to
-made_pointer code f to (Int k) operands t m = absurd (true≢false (sym m))
-made_pointer code f to (BoolConstant b) operands t m = absurd (true≢false (sym m))
-made_pointer code f to Nil operands t m = absurd (true≢false (sym m))
-made_pointer code f to Copy operands t m = absurd (true≢false (sym m))
-made_pointer code f to (Binary op) operands t m = absurd (true≢false (sym m))
-made_pointer code f to Neg operands t m = absurd (true≢false (sym m))
-made_pointer code f to Not operands t m = absurd (true≢false (sym m))
-made_pointer code f to IsNil operands t m = absurd (true≢false (sym m))
-made_pointer code f to Len operands t m = absurd (true≢false (sym m))
-made_pointer code f to (Load k) operands t m = absurd (true≢false (sym m))
-made_pointer code f to (Store k) operands t m = absurd (true≢false (sym m))
-made_pointer code f to At operands t m = absurd (true≢false (sym m))
-made_pointer code f to Put operands t m = absurd (true≢false (sym m))
-made_pointer code f None (New n) operands t m = absurd t
-made_pointer code f (Some d) (New n) operands (ty, typed, t) m =
-    record { variable = d; is = refl; ty = ty; typed = typed; like = ap is_pointer_like t.1 }
-made_pointer code f None Slice operands t m = absurd t
-made_pointer code f (Some d) Slice operands (ty, typed, t) m =
-    record { variable = d; is = refl; ty = ty; typed = typed; like = ap is_pointer_like t.2 }
-made_pointer code f None Chan operands t m = absurd t
-made_pointer code f (Some d) Chan operands (ty, typed, t) m =
-    record { variable = d; is = refl; ty = ty; typed = typed; like = ap is_pointer_like t.2 }
-made_pointer code f to Recv operands t m = absurd (true≢false (sym m))
-made_pointer code f to Send operands t m = absurd (true≢false (sym m))
-made_pointer code f to Close operands t m = absurd (true≢false (sym m))
-made_pointer code f to (Get n) operands t m = absurd (true≢false (sym m))
-made_pointer code f to (Set n) operands t m = absurd (true≢false (sym m))
-
--- the slot of a typed variable
-pub slot_of : (slots : List Slot) (d : ℕ) (ty : «Type») → slice_get (map (λ (s : Slot). s.ty) slots) d ≡ Some ty
-    → (s : Slot) × (slice_get slots d ≡ Some s) × (s.ty ≡ ty)
-slot_of [] zero ty e = cc
-slot_of [] (suc d) ty e = cc
-slot_of (s ∷ slots) zero ty e = (s, refl, cc)
-slot_of (s ∷ slots) (suc d) ty e = slot_of slots d ty e
 
 -- goroutine g is before this instruction, owes nothing, and has nothing to acknowledge
 pub record IsBefore
