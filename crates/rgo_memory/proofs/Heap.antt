@@ -1,10 +1,9 @@
 -- The heap that contracts see, by the entries that it is made of.
-use Rattle.std.specs.Prelude.{Option, Some, None, slice_set, nat_eq, IsSome}
+use Rattle.std.specs.Prelude.{Option, Some, None, slice_set, nat_eq}
 use Rattle.std.specs.Borrow.{MutBor}
-use Rattle.std.specs.HashMap.{Updates, WritesThrough}
 use Rattle.std.specs.List.{range_with_len}
 use Rattle.std.specs.Option.{OnSome}
-use Rattle.std.proofs.Common.{◌≡◌, ℕ, ◌+◌, ◌/◌, ◌%◌, ◌<◌, ◌≤◌, false, ◌⊎◌, inl, inr, List, [], ◌∷◌, ◌++◌, map, length, get_or, refl, ap, sym, ◌∙◌, subst, arith}
+use Rattle.std.proofs.Common.{◌≡◌, ℕ, ◌+◌, ◌/◌, ◌%◌, ◌<◌, ◌≤◌, false, ◌⊎◌, inl, inr, List, [], ◌∷◌, ◌++◌, map, length, get_or, refl, ap, sym, ◌∙◌, arith}
 use Rattle.std.proofs.lemmas.Bool.{cases_eq, ne_eqb}
 use Rattle.std.proofs.lemmas.List.{get_or-set_other, get_or_past, length-set, set_past}
 use Rattle.std.proofs.lemmas.Grind.{get_or-set_at}
@@ -16,7 +15,8 @@ use Rattle.rgo_memory.specs.declared.values.Value.TheVariants as value
 use Rattle.rgo_memory.specs.Effects.{Effect, Does}
 use Rattle.rgo_memory.specs.Making.{made}
 use Rattle.rgo_memory.specs.Memory.{Object, StructObject, Memory, with_object, object_at, emptied}
-use Rattle.rgo_memory.specs.Blocks.{slot_of, slot_in, Puts, PutsIn}
+use Rattle.rgo_memory.specs.Blocks.{slot_in, Puts, PutsIn}
+use Rattle.rgo_memory.specs.Lending.{HasBlock}
 use Rattle.rgo_memory.specs.Views.{object_of, object_in, block_of, entry_of, memory_of}
 
 -- ---- lists by a function of the index
@@ -139,36 +139,36 @@ module _ (m new : CodeMemory) (made : new.made ≡ m.made) (variables : new.vari
       (λ q within differ. entry_by q (λ e. puts.1 (q % 16) (λ slot. differ (same_number n q e slot)))))
 
 -- the block of that number was lent to be changed
-module _ (m : CodeMemory) (blocks : _) (n : ℕ) (block after : Block) (was : Some block ≡ block_of m (n / 16))
-    (writes : WritesThrough nat_eq (nat_eq (n / 16)) m.blocks after blocks) where
-  updates : Updates nat_eq m.blocks blocks (n / 16) (Some after)
-  updates = writes.3 (subst IsSome was refl)
+module _ (m changed : CodeMemory) (n : ℕ) (block after : Block) (was : Some block ≡ block_of m (n / 16))
+    (has : HasBlock m (n / 16) after changed) where
+  same_made : changed.made ≡ m.made
+  same_made = ap (λ m. m.made) has.0
 
-  abbrev changed : CodeMemory
-  changed = record m { blocks = blocks }
+  same_variables : changed.variables ≡ m.variables
+  same_variables = ap (λ m. m.variables) has.0
 
   -- and of it the object of that slot
   pub lent : (found : Option (MutBor CodeObject)) (w : CodeObject) → OnSome found (Puts block (n % 16) (Some w) after)
       → OnSome found (memory_of changed ≡ with_object (memory_of m) n (object_of w))
   lent None w puts = tt
-  lent (Some r) w puts = written m changed refl refl n (Some block) (Some after) (sym was) updates.1 updates.2 (Some w) puts
+  lent (Some r) w puts =
+      written m changed same_made same_variables n (Some block) (Some after) (sym was) has.1.1 has.1.2 (Some w) puts
 
   -- and none of its objects
   pub not_lent : after.slots.items ≡ block.slots.items → memory_of changed ≡ memory_of m
   not_lent same =
-      all_kept m changed refl refl n (Some block) (Some after) (sym was) updates.1 updates.2
+      all_kept m changed same_made same_variables n (Some block) (Some after) (sym was) has.1.1 has.1.2
       (λ k. ap (λ slots. get_or slots k None) same)
 
   -- and the object of that slot was taken away
   pub cleared : Puts block (n % 16) None after → memory_of changed ≡ emptied (memory_of m) n
-  cleared puts = written m changed refl refl n (Some block) (Some after) (sym was) updates.1 updates.2 None puts
+  cleared puts = written m changed same_made same_variables n (Some block) (Some after) (sym was) has.1.1 has.1.2 None puts
 
-  -- the same where no object was left in the block, and it was removed
-  pub removed : (rest : _) → Updates nat_eq blocks rest (n / 16) None → ((k : ℕ) → slot_of after k ≡ None)
-      → Puts block (n % 16) None after → memory_of (record m { blocks = rest }) ≡ emptied (memory_of m) n
-  removed rest removes empty puts =
-      written m (record m { blocks = rest }) refl refl n (Some block) None (sym was) removes.1 (λ b differ. removes.2 b differ ∙ updates.2 b differ)
-      None (refl, λ k differ. sym (empty k) ∙ puts.1 k differ)
+-- each slot is what it was
+pub same_slots : (m new : CodeMemory) → ((b k : ℕ) → slot_in (block_of new b) k ≡ slot_in (block_of m b) k)
+    → new.made ≡ m.made → new.variables ≡ m.variables → memory_of new ≡ memory_of m
+same_slots m new slots made variables =
+    unchanged m new variables (λ q within. ap object_in (slots (q / 16) (q % 16))) made
 
 pub nothing_there : (m : CodeMemory) (n : ℕ) → None ≡ block_of m (n / 16) → memory_of m ≡ emptied (memory_of m) n
 nothing_there m n was =

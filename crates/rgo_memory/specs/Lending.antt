@@ -1,6 +1,7 @@
 -- What becomes of the memory, or of a block of it, when one of its objects is lent to be changed.
-use Rattle.std.specs.Prelude.{◌≡◌, ℕ, Option, Some, OnSome}
+use Rattle.std.specs.Prelude.{◌≡◌, ℕ, Option, Some, OnSome, nat_eq}
 use Rattle.std.specs.Borrow.{Fml, MutBor, LendsSo}
+use Rattle.indexmap.specs.IndexMap.{Updates}
 use Rattle.rgo_memory.specs.declared.blocks.Block.{Block}
 use Rattle.rgo_memory.specs.declared.memory.Memory.{Memory}
 use Rattle.rgo_memory.specs.declared.objects.Object.{Object}
@@ -10,6 +11,17 @@ use Rattle.rgo_memory.specs.contracts.objects.Object as object
 use Rattle.rgo_memory.specs.Blocks.{Puts}
 use Rattle.rgo_memory.specs.Memory.{with_object}
 use Rattle.rgo_memory.specs.Views.{object_of, memory_of}
+
+-- the block of that number is now this one, and nothing else changed
+abbrev pub HasBlock : Memory → ℕ → Block → Memory → Type 0
+HasBlock before b block after =
+    (after ≡ record before { blocks = after.blocks }) × Updates nat_eq before.blocks after.blocks b (Some block)
+
+-- the memory ends with the block that was written last under that number; unchanged where none was lent
+abbrev pub LendsBlock : MutBor Memory → ℕ → Option (MutBor Block) → Fml
+LendsBlock m b lent = LendsSo memory.the_row block.the_row m lent
+    (λ after block. OnSome lent (HasBlock m.now b block after))
+    (λ after. after ≡ m.now)
 
 -- the memory ends with the object that was written last; unchanged where none was lent
 abbrev pub LendsObject : MutBor Memory → ℕ → Option (MutBor Object) → Fml

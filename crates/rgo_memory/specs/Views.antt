@@ -1,7 +1,7 @@
 -- The views: of the code's objects and memory, the plain data that contracts say of them, and what an answer
 -- of the code says of a definition's.
-use Rattle.std.specs.Prelude.{◌≡◌, ℕ, ◌/◌, ◌%◌, [], map, Option, Some, None, Result, Ok, Err, nat_eq}
-use Rattle.std.specs.HashMap.{get}
+use Rattle.std.specs.Prelude.{◌≡◌, ℕ, ◌/◌, ◌%◌, [], map, Option, Some, None, Result, Ok, Err, nat_eq, slice_get}
+use Rattle.indexmap.specs.IndexMap.{get}
 use Rattle.std.specs.List.{range_with_len}
 use Rattle.std.specs.declared.alloc.AllocError.{AllocError}
 use Rattle.rgo_memory.specs.declared.values.Value.{Value}
@@ -34,6 +34,10 @@ object_in None = StructObject []
 -- the block of that number
 abbrev pub block_of : CodeMemory → ℕ → Option Block
 block_of m b = get nat_eq m.blocks b
+
+-- that block is at this index of the blocks
+abbrev pub IsAt : CodeMemory → ℕ → ℕ → Type 0
+IsAt m index b = (block : Block) × (slice_get m.blocks.entries index ≡ Some (b, block))
 
 -- the entry of that number, as an object: a slot of its block
 abbrev pub entry_of : CodeMemory → ℕ → Object

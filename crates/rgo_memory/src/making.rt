@@ -9,10 +9,11 @@ ghost use Rattle.rgo_memory.specs.Views.{Performs, object_of, entry_of, memory_o
 use crate::blocks::{Block, SLOTS};
 use crate::effects::Effect;
 use crate::memory::Memory;
-use crate::objects::{Channel, Object};
+use crate::objects::{Channel, FIELDS, Object};
 use crate::traps::Trap;
 use crate::values::{Value, element_zero, zero};
 use rgo_typed::{Struct, Type};
+use smallvec::SmallVec;
 use std::alloc::{AllocError, Global};
 use std::collections::VecDeque;
 
@@ -25,7 +26,7 @@ fn put(alloc: Global, memory: &mut Memory, object: Object) -> Result<(), AllocEr
 {
     let number = memory.made / SLOTS;
     let slot = memory.made % SLOTS;
-    match memory.blocks.get_mut(&number) {
+    match memory.block_mut(number) {
         Some(block) => block.put(slot, object),
         None => {
             // The block before is no longer the newest one.
@@ -53,7 +54,7 @@ fn make(alloc: Global, memory: &mut Memory, object: Object) -> Result<Effect, Al
     Ok(Effect::Gives(Value::Object(number)))
 }
 
-fn zero_fields(alloc: Global, types: &[Type]) -> Result<Vec<Value>, AllocError>
+fn zero_fields(alloc: Global, types: &[Type]) -> Result<SmallVec<Value, FIELDS>, AllocError>
     ensures { IfOk result (λ values. values.items ≡ map zero_of types.now) }
 {
     types.iter().map(|ty| zero(ty)).collect(alloc)

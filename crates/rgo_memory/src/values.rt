@@ -6,10 +6,11 @@ ghost use Rattle.rgo_memory.specs.Values.{base_zero, zero_of, element_zero};
 use rgo_typed::{Base, Type};
 
 /// A value.
-#[derive(Clone, Copy, Debug, PartialEq, Eq)]
+#[derive(Clone, Copy, Debug, Default, PartialEq, Eq)]
 pub enum Value {
     Int(i64),
     Bool(bool),
+    #[default]
     Nil,
     /// A pointer, a slice or a channel, by the number of its object.
     Object(usize),

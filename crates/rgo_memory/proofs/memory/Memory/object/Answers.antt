@@ -5,10 +5,10 @@ use Rattle.rgo_memory.proofs.memory.Memory.object.Goals as goal
 
 pub returns-in-Some : goal.returns-in-Some
 returns-in-Some c =
-    read_slot c.args.self.now c.args.n _ c.in-Some.ensures.value c.if-n-self.true ∙ ap object_in (sym c.get-in-Some.ensures)
+    read_slot c.args.self.now c.args.n _ c.in-Some.ensures c.if-n-self.true ∙ ap object_in (sym c.get.ensures)
 
 pub returns-in-None : goal.returns-in-None
-returns-in-None c = read_slot c.args.self.now c.args.n _ c.in-None.ensures.value c.if-n-self.true
+returns-in-None c = read_slot c.args.self.now c.args.n _ c.in-None.ensures c.if-n-self.true
 
 pub returns-else-n-self : goal.returns-else-n-self
 returns-else-n-self c = read_past c.args.self.now c.args.n c.if-n-self.false

@@ -7,22 +7,24 @@ pub returns-in-Some : goal.returns-in-Some
 returns-in-Some c =
     let m = c.args.self.now in
     let found = c.in-Some.ensures.value in
-    let block = c.get_mut-in-Some in (
+    let object = c.get_mut in (
       (
         refl,
-        λ w. lent m _ c.args.n _ _ found (c.get_mut.follows.holds (block.follows.lender w)) block.result w (block.follows.holds w),
-        not_lent m _ c.args.n _ _ found (c.get_mut.follows.holds block.follows.lender-at-none) block.follows.holds-at-none,
+        λ w. lent m _ c.args.n _ _ found (rw c.in-Some.is at (c.block_mut.follows.holds (object.follows.lender w)))
+            object.result w (object.follows.holds w),
+        not_lent m _ c.args.n _ _ found (rw c.in-Some.is at (c.block_mut.follows.holds object.follows.lender-at-none))
+            object.follows.holds-at-none,
       ),
       record {
         writes_back = tt;
-        value = read_slot m c.args.n _ found c.if-n-self.true ∙ ap object_in (sym block.ensures.value);
+        value = read_slot m c.args.n _ found c.if-n-self.true ∙ ap object_in (sym object.ensures.value);
       },
     )
 
 pub returns-in-None : goal.returns-in-None
 returns-in-None c =
     let m = c.args.self.now in (
-      (refl, λ w. tt, ap (λ blocks. memory_of (record m { blocks = blocks })) c.get_mut.follows.holds-at-none),
+      (refl, λ w. tt, ap memory_of c.block_mut.follows.holds-at-none),
       record { writes_back = tt; value = read_slot m c.args.n _ c.in-None.ensures.value c.if-n-self.true },
     )
 

@@ -1,25 +1,21 @@
-use Rattle.std.proofs.Common.{refl, ap, ◌∙◌}
+use Rattle.std.proofs.Common.{ap, ◌∙◌}
 use Rattle.rgo_memory.specs.Views.{memory_of}
-use Rattle.rgo_memory.proofs.Heap.{cleared, removed, nothing_there}
+use Rattle.rgo_memory.proofs.Heap.{cleared, same_slots, nothing_there}
 use Rattle.rgo_memory.proofs.memory.Memory.take_away.Goals as goal
 
 pub returns-in_default : goal.returns-in_default
 returns-in_default c =
-    let m = c.args.self.now in
-    ap (λ blocks. memory_of (record m { blocks = blocks })) c.get_mut.follows.holds-at-none
-    ∙ nothing_there m c.args.n c.in_default.ensures.value
-
-pub returns-then-is_empty : goal.returns-then-is_empty
-returns-then-is_empty c =
-    removed c.args.self.now _ c.args.n _ _ c.in-Some.ensures.value (c.get_mut.follows.holds c.clear.new.self)
-    c.remove.new.self c.remove.ensures.updates (c.if-is_empty.ensures refl) c.clear.ensures
+    ap memory_of c.block_mut.follows.holds-at-none ∙ nothing_there c.args.self.now c.args.n c.in_default.ensures.value
 
 pub returns-then-number-self : goal.returns-then-number-self
 returns-then-number-self c =
-    cleared c.args.self.now _ c.args.n _ _ c.in-Some.ensures.value (c.get_mut.follows.holds c.clear.new.self)
-    c.clear.ensures
+    let without = c.block_mut.follows.lender c.clear.new.self in
+    let has = rw c.in-Some.is at (c.block_mut.follows.holds c.clear.new.self) in
+    let kept = c.drop_if_empty.ensures in
+    same_slots without c.drop_if_empty.new.self kept.slots kept.made kept.variables
+    ∙ cleared c.args.self.now without c.args.n _ _ c.in-Some.ensures.value has c.clear.ensures
 
-pub returns-else-is_empty : goal.returns-else-is_empty
-returns-else-is_empty c =
-    cleared c.args.self.now _ c.args.n _ _ c.in-Some.ensures.value (c.get_mut.follows.holds c.clear.new.self)
-    c.clear.ensures
+pub returns-else-number-self : goal.returns-else-number-self
+returns-else-number-self c =
+    cleared c.args.self.now _ c.args.n _ _ c.in-Some.ensures.value
+    (rw c.in-Some.is at (c.block_mut.follows.holds c.clear.new.self)) c.clear.ensures
