@@ -7,7 +7,7 @@ func sum(l *N) int { s := 0; for l != nil { s += l.v; l = l.p }; return s }
 ";
 
 /// Lines after `LISTS`, with what they print.
-pub(super) static OVER_LISTS: [(&str, &str); 2] = [
+pub(super) static OVER_LISTS: [(&str, &str); 3] = [
     (
         "func main() { s := 0; for i := 0; i < 1000; i++ { s += sum(list(10)) }; fmt.Println(s) }",
         "45000\n",
@@ -17,10 +17,16 @@ pub(super) static OVER_LISTS: [(&str, &str); 2] = [
 func main() { d := make(chan int); l := list(4); go child(l, d); <-d }",
         "6\n",
     ),
+    // Between the nodes that are kept many others come and go.
+    (
+        "func main() { kept := list(20); s := 0; for i := 0; i < 50; i++ { s += sum(list(100))
+kept = &N{i, kept}; s += sum(kept) }; fmt.Println(s, sum(kept)) }",
+        "277825 1415\n",
+    ),
 ];
 
 /// Values and operators, with what is printed.
-pub(super) static VALUES: [(&str, &str); 17] = [
+pub(super) static VALUES: [(&str, &str); 18] = [
     (
         "func main() { fmt.Println(\"hi\", 1, true) }",
         "hi 1 true\n",
@@ -69,6 +75,12 @@ fmt.Println(a == b, a == d, c == nil) }",
     (
         "func main() { x := new(N); x.v = 3; x.p = x; x.p.p.v++; fmt.Println(x.v, x.p == x) }",
         "4 true\n",
+    ),
+    (
+        "type W struct { a, b, c, d, e int; next *W }
+func main() { x := &W{1, 2, 3, 4, 5, nil}; y := new(W); y.e = 6; y.next = x; y.next.d += 7
+fmt.Println(x.a, x.b, x.c, x.d, x.e, y.a, y.e, y.next == x, x.next == nil) }",
+        "1 2 3 11 5 0 6 true true\n",
     ),
     (
         "func main() { s := make([][]int, 2); s[0] = make([]int, 3); s[0][2] = 7
