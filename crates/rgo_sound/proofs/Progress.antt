@@ -335,7 +335,7 @@ module _ (code : Code) (checked : IsChecked code) (s : RegionState) (g : ℕ) (h
     (callers : List Frame) (instr : CodeInstr) (all : AllGood code s) (e : slice_get s.holders g ≡ Some h)
     (at : slice_get s.plain.goroutines g ≡ Some (frame ∷ callers)) (cur : current code frame ≡ Some instr)
     (d : h.duties ≡ []) where
-  top : Top code h frame callers
+  pub top : Top code h frame callers
   top = top_of code h frame callers (subst (λ y. GoodHolder code y h) (ap frames_in at) (all.good.fine.each g h e))
 
   there : HasInstr top.stands.fn frame.next instr
@@ -367,20 +367,26 @@ module _ (code : Code) (checked : IsChecked code) (s : RegionState) (g : ℕ) (h
               settled.there settled.made settled.lent names z)
           some (Some r) z = (r, z)
 
-  region_there : makes_at instr.op ≡ true → (r : Region)
+  -- an instruction that makes an object gives a variable a pointer
+  pub target : (to : Option ℕ) (action : Action) (from removes : List ℕ) → instr.op ≡ Do to action from removes
+      → makes_object action ≡ true → HasTarget (erased_fn top.stands.fn) to
+  target to action from removes is m = made_pointer (erased code) (erased_fn top.stands.fn) to action t.0 t.2 m
+    where
+      t : OpFits (erased code) (erased_fn top.stands.fn) (erased_op (Do to action from removes))
+      t = subst (λ op. OpFits (erased code) (erased_fn top.stands.fn) (erased_op op)) is
+          (checked rule.Types (line.Instr frame.function frame.next) top.stands.fn instr top.stands.is_fn there)
+
+  -- and has a region for it
+  pub region_there : makes_at instr.op ≡ true → (r : Region)
       × (making_region (function_at code frame) (top_names h.environments) instr.op ≡ Some r)
   region_there m = by instr.op refl m
     where
       by : (op : CodeOp) → instr.op ≡ op → makes_at op ≡ true → (r : Region)
           × (making_region (function_at code frame) (top_names h.environments) instr.op ≡ Some r)
-      by (Do to action from removes) is m = (target.0, making)
+      by (Do to action from removes) is m = (region.0, making)
         where
-          t : OpFits (erased code) (erased_fn top.stands.fn) (erased_op (Do to action from removes))
-          t = subst (λ op. OpFits (erased code) (erased_fn top.stands.fn) (erased_op op)) is
-              (checked rule.Types (line.Instr frame.function frame.next) top.stands.fn instr top.stands.is_fn there)
-
           w : HasTarget (erased_fn top.stands.fn) to
-          w = made_pointer (erased code) (erased_fn top.stands.fn) to action t.0 t.2 m
+          w = target to action from removes is m
 
           slot : (s : Slot) × (slice_get top.stands.fn.variables w.variable ≡ Some s) × (s.ty ≡ w.ty)
           slot = slot_of top.stands.fn.variables w.variable w.ty w.typed
@@ -389,10 +395,10 @@ module _ (code : Code) (checked : IsChecked code) (s : RegionState) (g : ℕ) (h
           classed = λ n. (checked rule.Classes (line.Slot frame.function w.variable) top.stands.fn slot.0
               top.stands.is_fn slot.1).1 (ap is_pointer_like slot.2 ∙ w.like) (sym (ap slot_class slot.1) ∙ n)
 
-          target : (r : Region) × (class_region top.f.names (class_of top.stands.fn w.variable) ≡ Some r)
-          target = target_region to action from removes is w.variable w.is classed
+          region : (r : Region) × (class_region top.f.names (class_of top.stands.fn w.variable) ≡ Some r)
+          region = target_region to action from removes is w.variable w.is classed
 
-          making : making_region (function_at code frame) (top_names h.environments) instr.op ≡ Some target.0
+          making : making_region (function_at code frame) (top_names h.environments) instr.op ≡ Some region.0
           making =
               ap (making_region (function_at code frame) (top_names h.environments)) is
               ∙ ap (λ o. making_region o (top_names h.environments) (Do to action from removes)) top.stands.is_fn
@@ -400,7 +406,7 @@ module _ (code : Code) (checked : IsChecked code) (s : RegionState) (g : ℕ) (h
               top.environments
               ∙ ap (λ b. if b then class_region top.f.names (target_class (Some top.stands.fn) to) else None) m
               ∙ ap (λ o. class_region top.f.names (target_class (Some top.stands.fn) o)) w.is
-              ∙ target.1
+              ∙ region.1
       by (Call to n from passes protects removes) is m = absurd (true≢false (sym m))
       by (Go n from passes removes) is m = absurd (true≢false (sym m))
       by (Print pieces from removes) is m = absurd (true≢false (sym m))
@@ -408,7 +414,7 @@ module _ (code : Code) (checked : IsChecked code) (s : RegionState) (g : ℕ) (h
       by (Branch v j removes k others) is m = absurd (true≢false (sym m))
       by (Return value) is m = absurd (true≢false (sym m))
 
-  -- an instruction that makes an object has a region for it
+  -- where there is a new object, there is a region for it
   object_region : (a : Acted) → alone (erased code) s.plain.memory (frame ∷ callers) ≡ Some a → (object : Object)
       → slice_get a.memory.heap (length s.plain.memory.heap) ≡ Some object → (r : Region)
       × (making_region (function_at code frame) (top_names h.environments) instr.op ≡ Some r)
