@@ -119,9 +119,16 @@ fn arrive_alone<G: Gate>(ready: &[usize], number: u64, gate: &G) {
     }
 }
 
-/// Whether a round is on workers, by how many of the goroutines are ready: where several are, and where one alone is, unless
-/// that was so in the last round too.
-fn is_on_workers(ready: usize, goroutines: usize, was_lone: bool) -> bool {
+/// The last round that may be on workers. As each step takes the one lock, workers only cost time; these rounds are enough
+/// to run any program in another order now and then, and for a gate to hold workers in a round.
+const LAST_ON_WORKERS: u64 = 2;
+
+/// Whether the round of this number is on workers, by how many of the goroutines are ready: where several are, and where one
+/// alone is, unless that was so in the last round too.
+fn is_on_workers(number: u64, ready: usize, goroutines: usize, was_lone: bool) -> bool {
+    if number > LAST_ON_WORKERS {
+        return false;
+    }
     match ready {
         0 => false,
         1 => goroutines > 1 && !was_lone,
@@ -196,7 +203,7 @@ fn drive_on_workers<H: Threads + Wait + Sync, R: Running + Send, K: Sink, G: Gat
     loop {
         let ready = round.driver.ready.len();
         let goroutines = round.run.goroutines();
-        let on_workers = is_on_workers(ready, goroutines, was_lone);
+        let on_workers = is_on_workers(number, ready, goroutines, was_lone);
         round = pass_on_workers(rt, alloc, round, workers, on_workers, number, out, gate);
         if let Some(end) = round.end {
             return (into_run(round), end);
