@@ -112,28 +112,21 @@ fn continue_after<R: Running, K: Sink>(
     }
 }
 
-/// Where one goroutine alone is ready, worker 0 arrives, which is the caller's thread.
+/// Where a round is not on workers, worker 0 arrives, which is the caller's thread.
 fn arrive_alone<G: Gate>(ready: &[usize], number: u64, gate: &G) {
     if !ready.is_empty() {
         gate.arrive(0, number);
     }
 }
 
-/// The last round that may be on workers. As each step takes the one lock, workers only cost time; these rounds are enough
-/// to run any program in another order now and then, and for a gate to hold workers in a round.
+/// The last round that may be on workers. As each step takes the one lock, workers only cost time, and starting those of
+/// more rounds takes longer than a small program; in the second round a gate can hold them.
 const LAST_ON_WORKERS: u64 = 2;
 
-/// Whether the round of this number is on workers, by how many of the goroutines are ready: where several are, and where one
-/// alone is, unless that was so in the last round too.
-fn is_on_workers(number: u64, ready: usize, goroutines: usize, was_lone: bool) -> bool {
-    if number > LAST_ON_WORKERS {
-        return false;
-    }
-    match ready {
-        0 => false,
-        1 => goroutines > 1 && !was_lone,
-        _ => true,
-    }
+/// Whether the round of this number is on workers, by how many of the goroutines are ready: also where one of several is
+/// ready alone.
+fn is_on_workers(number: u64, ready: usize, goroutines: usize) -> bool {
+    number <= LAST_ON_WORKERS && ready > 0 && goroutines > 1
 }
 
 /// A round, on workers or on the caller's thread, and what it printed goes out.
@@ -199,30 +192,26 @@ fn drive_on_workers<H: Threads + Wait + Sync, R: Running + Send, K: Sink, G: Gat
         (K.pieces out.old) (K.pieces out.new) }
 {
     let mut number = 1u64;
-    let mut was_lone = false;
     loop {
-        let ready = round.driver.ready.len();
-        let goroutines = round.run.goroutines();
-        let on_workers = is_on_workers(number, ready, goroutines, was_lone);
+        let on_workers = is_on_workers(number, round.driver.ready.len(), round.run.goroutines());
         round = pass_on_workers(rt, alloc, round, workers, on_workers, number, out, gate);
         if let Some(end) = round.end {
             return (into_run(round), end);
         }
-        was_lone = ready < 2 && goroutines > 1;
         number = number.saturating_add(1);
     }
 }
 
 /// Drives a run from the state that it is at, on up to `workers` workers, in rounds: in each, every goroutine that can
-/// step has a turn of up to 1,000 steps. The turns of a round run side by side, each step under one lock, so their steps
-/// come in any order. What a round printed goes out after it, each line in one piece. After a failed write nothing more
-/// is written.
+/// step has a turn of up to 1,000 steps. The turns of the first two rounds run side by side, each step under one lock, so
+/// their steps come in any order; those of later rounds run on the caller's thread, one after the other. What a round
+/// printed goes out after it, each line in one piece. After a failed write nothing more is written.
 ///
-/// Where one of several goroutines is ready alone, two workers come to the round, and one of them has no turn. In the
-/// rounds after it the goroutine has its turns on the caller's thread and without the lock, until another is ready too.
+/// Where one of several goroutines is ready alone in a round on workers, two of them come to it, and one has no turn.
 ///
 /// With several workers, each that comes to a round arrives at the gate before its first turn there; rounds are numbered
-/// from 1. With one, goroutines run in the caller's thread as [`run`] runs them, and nothing arrives at the gate.
+/// from 1, and on the caller's thread worker 0 arrives. With one worker, goroutines run as [`run`] runs them, and nothing
+/// arrives at the gate.
 ///
 /// Returns the run and how it ended. Whether the limit of steps is reached is tested at the end of a round; the other
 /// limits are tested before each step. When memory runs out, what went out is the whole print of a shorter run.
