@@ -5,6 +5,7 @@ pub mod Found
 pub mod Given
 pub mod Keepers
 pub mod Left
+pub mod Once
 pub mod Others
 pub mod Played
 pub mod Printing

@@ -16,7 +16,14 @@ use Rattle.rgo_driver.specs.Runs.{Ends}
 -- the channel on which a turn has operated last
 abbrev pub operated : Stop → Option ℕ
 operated (stop.Operated channel) = Some channel
-operated _ = None
+operated stop.Spent = None
+operated stop.Waits = None
+operated stop.Printed = None
+operated (stop.Ended e) = None
+operated stop.TooDeep = None
+operated stop.Full = None
+operated (stop.NoRoom shortage) = None
+operated stop.NoMemory = None
 
 -- the end of the run that a turn has found
 abbrev pub end_of : Stop → Option RunEnd
@@ -25,7 +32,10 @@ end_of stop.TooDeep = Some run_end.CallsTooDeep
 end_of stop.Full = Some run_end.GoroutinesSpent
 end_of (stop.NoRoom shortage) = Some (run_end.NoRoom shortage)
 end_of stop.NoMemory = Some run_end.NoMemory
-end_of _ = None
+end_of stop.Spent = None
+end_of stop.Waits = None
+end_of stop.Printed = None
+end_of (stop.Operated channel) = None
 
 -- A count that stops at the end of a u64, before and after so many steps: how many they were in truth is added up.
 abbrev pub CountsUp : (m count n : ℕ) → Type 0

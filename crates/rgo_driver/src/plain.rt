@@ -1,11 +1,14 @@
 //! Runs of machines whose states are held in full.
 
-ghost use Rattle.std.specs.Prelude.{◌≡◌};
+ghost use Rattle.std.specs.Prelude.{◌≡◌, true, None};
+ghost use Rattle.rgo_machine.specs.Limits.{is_within};
+ghost use Rattle.rgo_machine.specs.Turns.{Turns};
 ghost use Rattle.rgo_driver.specs.Plain as plain;
 
 use crate::running::Running;
 use rgo_machine::{
-    Limits, Machine, Pick, Stand, State, Stepped, Stop, Turned, find_meeting, standing, step, turn,
+    Limits, Machine, Pick, Stand, State, Stepped, Stop, Turned, find_meeting, standing, step,
+    turn_once,
 };
 use std::alloc::{AllocError, Global};
 
@@ -33,6 +36,37 @@ fn without_regions(stop: Stop) -> Stop
     match stop {
         Stop::NoRoom(_) => Stop::NoMemory,
         _ => stop,
+    }
+}
+
+/// A goroutine steps alone, up to `at_most` times.
+fn turn<M: Machine>(
+    alloc: Global,
+    machine: &M,
+    state: &mut State<M::Frame>,
+    limits: Limits,
+    g: usize,
+    at_most: usize,
+) -> Turned
+    requires running { state.old.ended ≡ None }
+    requires within { is_within limits state.old ≡ true }
+    ensures { Turns (M.machine machine.now) limits state.old state.new g at_most result }
+{
+    for taken in 0..at_most {
+        let done = turn_once(alloc, machine, state, limits, g);
+        match done.stop {
+            Stop::Spent => {}
+            stop => {
+                return Turned {
+                    steps: taken + done.steps,
+                    stop,
+                };
+            }
+        }
+    }
+    Turned {
+        steps: at_most,
+        stop: Stop::Spent,
     }
 }
 

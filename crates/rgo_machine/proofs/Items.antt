@@ -1,5 +1,5 @@
 -- Lists of which one item is replaced.
-use Rattle.std.proofs.Common.{◌≡◌, ℕ, zero, suc, List, [], ◌∷◌, Some, slice_get, slice_set, refl, ap}
+use Rattle.std.proofs.Common.{◌≡◌, ℕ, zero, suc, List, [], ◌∷◌, slice_get, slice_set, refl, ap}
 
 -- another item stays
 pub other_item : {X : Type 0} (l : List X) (k n : ℕ) (x : X) → (n ≡ k → ⊥)
@@ -9,13 +9,6 @@ other_item (y ∷ l) zero zero x differ = absurd (differ refl)
 other_item (y ∷ l) zero (suc n) x differ = refl
 other_item (y ∷ l) (suc k) zero x differ = refl
 other_item (y ∷ l) (suc k) (suc n) x differ = other_item l k n x (λ e. differ (ap suc e))
-
--- the item itself
-pub get_set : {X : Type 0} (l : List X) (n : ℕ) (x y : X) → slice_get l n ≡ Some x
-    → slice_get (slice_set l n y) n ≡ Some y
-get_set [] n x y e = cc
-get_set (z ∷ l) zero x y e = refl
-get_set (z ∷ l) (suc n) x y e = get_set l n x y e
 
 -- replaced again
 pub set_twice : {X : Type 0} (l : List X) (n : ℕ) (x y : X) → slice_set (slice_set l n x) n y ≡ slice_set l n y

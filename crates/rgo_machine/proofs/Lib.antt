@@ -6,7 +6,6 @@ pub mod Limited
 pub mod Marked
 pub mod Meeting
 pub mod Newest
-pub mod Pacing
 pub mod Printing
 pub mod Runs
 pub mod Spaces

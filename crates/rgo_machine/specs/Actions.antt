@@ -2,7 +2,7 @@
 -- channel; and which way a branch goes.
 use Rattle.std.specs.Prelude.{ℕ, Bool, false, List, [], ◌∷◌}
 use Rattle.rgo_typed.specs.declared.actions.Action.{Action}
-use Rattle.rgo_typed.specs.declared.actions.Action.TheVariants.{Recv, Send, Close}
+use Rattle.rgo_typed.specs.declared.actions.Action.TheVariants as action
 use Rattle.rgo_typed.specs.declared.types.Base.TheVariants.{Int}
 use Rattle.rgo_typed.specs.declared.types.Type.{«Type»}
 use Rattle.rgo_memory.specs.declared.values.Value.{Value}
@@ -28,7 +28,27 @@ module _ {F : Type 0} where
 
   -- before an action on these values, where it is an operation on a channel
   abbrev pub at_channel : Action → (blank : Value) → (place : ℕ) → (Value → F) → List Value → Stand F
-  at_channel Recv blank place go_on (channel ∷ []) = AtReceive channel blank go_on
-  at_channel Send blank place go_on (channel ∷ v ∷ []) = AtSend channel v place (go_on value.Nil)
-  at_channel Close blank place go_on (channel ∷ []) = AtClose channel place (go_on value.Nil)
-  at_channel _ blank place go_on _ = Elsewhere
+  at_channel action.Recv blank place go_on (channel ∷ []) = AtReceive channel blank go_on
+  at_channel action.Send blank place go_on (channel ∷ v ∷ []) = AtSend channel v place (go_on value.Nil)
+  at_channel action.Close blank place go_on (channel ∷ []) = AtClose channel place (go_on value.Nil)
+  at_channel (action.Int k) blank place go_on values = Elsewhere
+  at_channel (action.Bool b) blank place go_on values = Elsewhere
+  at_channel action.Nil blank place go_on values = Elsewhere
+  at_channel action.Copy blank place go_on values = Elsewhere
+  at_channel (action.Binary op) blank place go_on values = Elsewhere
+  at_channel action.Neg blank place go_on values = Elsewhere
+  at_channel action.Not blank place go_on values = Elsewhere
+  at_channel action.IsNil blank place go_on values = Elsewhere
+  at_channel action.Len blank place go_on values = Elsewhere
+  at_channel (action.Load k) blank place go_on values = Elsewhere
+  at_channel (action.Store k) blank place go_on values = Elsewhere
+  at_channel action.At blank place go_on values = Elsewhere
+  at_channel action.Put blank place go_on values = Elsewhere
+  at_channel (action.New s) blank place go_on values = Elsewhere
+  at_channel action.Slice blank place go_on values = Elsewhere
+  at_channel action.Chan blank place go_on values = Elsewhere
+  at_channel action.Recv blank place go_on values = Elsewhere
+  at_channel action.Send blank place go_on values = Elsewhere
+  at_channel action.Close blank place go_on values = Elsewhere
+  at_channel (action.Get n) blank place go_on values = Elsewhere
+  at_channel (action.Set n) blank place go_on values = Elsewhere

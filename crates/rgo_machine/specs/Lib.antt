@@ -7,7 +7,6 @@ pub mod Limits
 pub mod Lines
 pub mod Machines
 pub mod Meetings
-pub mod Paces
 pub mod Runs
 pub mod Turning
 pub mod Turns

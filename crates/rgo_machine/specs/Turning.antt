@@ -1,5 +1,5 @@
 -- Where a turn meets a limit, and why it is over after a step.
-use Rattle.std.specs.Prelude.{◌≡◌, ℕ, true, nat_le, List, length, Option, Some, None, slice_get, if◌then◌else◌}
+use Rattle.std.specs.Prelude.{ℕ, nat_le, List, length, Option, Some, None, slice_get, if◌then◌else◌}
 use Rattle.rgo_machine.specs.declared.goroutines.Happened.{Happened}
 use Rattle.rgo_machine.specs.declared.goroutines.Happened.TheVariants as happened
 use Rattle.rgo_machine.specs.declared.limits.Limits.{Limits}
@@ -8,9 +8,8 @@ use Rattle.rgo_machine.specs.declared.machines.Stand.TheVariants as code
 use Rattle.rgo_machine.specs.declared.turns.Stop.{Stop}
 use Rattle.rgo_machine.specs.declared.turns.Stop.TheVariants as stop
 use Rattle.rgo_machine.specs.declared.turns.Turned.{Turned}
-use Rattle.rgo_machine.specs.Limits.{deepest, most_goroutines, is_within}
-use Rattle.rgo_machine.specs.Machines.{Machine, State}
-use Rattle.rgo_machine.specs.Turns.{Turns}
+use Rattle.rgo_machine.specs.Limits.{deepest, most_goroutines}
+use Rattle.rgo_machine.specs.Machines.{State}
 
 abbrev pub turn_of : Happened → Turned
 turn_of happened.Waits = record { steps = 0; stop = stop.Waits }
@@ -34,9 +33,3 @@ module _ {F : Type 0} where
   limit_at limits s g code.Start =
       if nat_le (most_goroutines limits) (length s.goroutines) then Some stop.Full else None
   limit_at limits s g _ = None
-
-  -- so many steps of a goroutine, within any limits within which the state is
-  abbrev pub Hurries : Machine F → (s t : State F) → (g steps : ℕ) → Type 0
-  Hurries machine s t g steps =
-      (limits : Limits) → is_within limits s ≡ true
-      → Turns machine limits s t g steps (record { steps = steps; stop = stop.Spent })

@@ -27,12 +27,26 @@ module _ {F : Type 0} where
 -- which channels a turn has changed: at most one, that which it tells of
 abbrev pub ChangesChannels : Stop → Memory → Memory → Type 0
 ChangesChannels (stop.Operated channel) before after = SameChannelsBut channel before after
-ChangesChannels _ before after = SameChannels before after
+ChangesChannels stop.Spent before after = SameChannels before after
+ChangesChannels stop.Waits before after = SameChannels before after
+ChangesChannels stop.Printed before after = SameChannels before after
+ChangesChannels (stop.Ended e) before after = SameChannels before after
+ChangesChannels stop.TooDeep before after = SameChannels before after
+ChangesChannels stop.Full before after = SameChannels before after
+ChangesChannels (stop.NoRoom shortage) before after = SameChannels before after
+ChangesChannels stop.NoMemory before after = SameChannels before after
 
 -- what a turn has printed: nothing, where it is not over by that
 abbrev pub ChangesPrint : Stop → (before after : List ℕ) → Type 0
 ChangesPrint stop.Printed before after = Unit {0}
-ChangesPrint _ before after = after ≡ before
+ChangesPrint stop.Spent before after = after ≡ before
+ChangesPrint stop.Waits before after = after ≡ before
+ChangesPrint (stop.Operated channel) before after = after ≡ before
+ChangesPrint (stop.Ended e) before after = after ≡ before
+ChangesPrint stop.TooDeep before after = after ≡ before
+ChangesPrint stop.Full before after = after ≡ before
+ChangesPrint (stop.NoRoom shortage) before after = after ≡ before
+ChangesPrint stop.NoMemory before after = after ≡ before
 
 -- a turn of a goroutine from one state to another
 pub record Turns

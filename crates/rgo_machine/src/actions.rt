@@ -52,7 +52,30 @@ pub fn at_channel<F>(action: Action, blank: Value, at: Place, values: &[Value]) 
             channel: *channel,
             place: at,
         },
-        _ => Stand::Elsewhere,
+        (
+            Action::Int(_)
+            | Action::Bool(_)
+            | Action::Nil
+            | Action::Copy
+            | Action::Binary(_)
+            | Action::Neg
+            | Action::Not
+            | Action::IsNil
+            | Action::Len
+            | Action::Load(_)
+            | Action::Store(_)
+            | Action::At
+            | Action::Put
+            | Action::New(_)
+            | Action::Slice
+            | Action::Chan
+            | Action::Recv
+            | Action::Send
+            | Action::Close
+            | Action::Get(_)
+            | Action::Set(_),
+            _,
+        ) => Stand::Elsewhere,
     }
 }
 
@@ -68,6 +91,29 @@ pub fn given<F>(action: Action, values: &[Value], value: Value) -> Option<Value>
         (Action::Recv, [_]) => Some(value),
         (Action::Send, [_, _]) => Some(Value::Nil),
         (Action::Close, [_]) => Some(Value::Nil),
-        _ => None,
+        (
+            Action::Int(_)
+            | Action::Bool(_)
+            | Action::Nil
+            | Action::Copy
+            | Action::Binary(_)
+            | Action::Neg
+            | Action::Not
+            | Action::IsNil
+            | Action::Len
+            | Action::Load(_)
+            | Action::Store(_)
+            | Action::At
+            | Action::Put
+            | Action::New(_)
+            | Action::Slice
+            | Action::Chan
+            | Action::Recv
+            | Action::Send
+            | Action::Close
+            | Action::Get(_)
+            | Action::Set(_),
+            _,
+        ) => None,
     }
 }

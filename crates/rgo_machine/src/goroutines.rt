@@ -1,13 +1,11 @@
 //! What one goroutine does by its frames, whatever the other goroutines are.
 
-ghost use Rattle.std.specs.Prelude.{◌≡◌, ◌≤◌, OnOk, OnErr, Some, false, reverse};
+ghost use Rattle.std.specs.Prelude.{◌≡◌, OnOk, OnErr, Some, false, reverse};
 ghost use Rattle.std.specs.Vec.{vec_len, vec_capacity};
-ghost use Rattle.rgo_memory.specs.Channels.{SameChannels};
 ghost use Rattle.rgo_memory.specs.Views.{memory_of};
 ghost use Rattle.rgo_machine.specs.Acting.{newest_stand};
 ghost use Rattle.rgo_machine.specs.Alone.{after_operation, after_effect, after_return, ended_by_return, happened_by};
 ghost use Rattle.rgo_machine.specs.Alone.{EntersNewest, Calls, Begins, Happens, ChangesAt, KeepsPrint, is_start};
-ghost use Rattle.rgo_machine.specs.Paces.{paces};
 ghost use Rattle.rgo_machine.specs.declared.machines.Stand.TheVariants as stand;
 
 use crate::machines::{Did, Machine, Stand};
@@ -38,22 +36,6 @@ pub(crate) fn pass<M: Machine>(machine: &M, goroutine: &mut Goroutine<M::Frame>,
     if let Some(frame) = goroutine.frames.last_mut() {
         machine.pass(frame, value);
     }
-}
-
-/// Up to `at_most` steps of a goroutine in a row, as many as the machine takes at once. Returns how many.
-pub(crate) fn pace<M: Machine>(
-    alloc: Global,
-    machine: &M,
-    memory: &mut Memory,
-    goroutine: &mut Goroutine<M::Frame>,
-    at_most: usize,
-) -> usize
-    ensures paces { paces (M.machine machine.now) result (memory_of memory.old) goroutine.old
-        ≡ Some (memory_of memory.new, goroutine.new) }
-    ensures within { result ≤ at_most }
-    ensures channels { SameChannels (memory_of memory.old) (memory_of memory.new) }
-{
-    machine.pace(alloc, memory, &mut goroutine.frames, at_most)
 }
 
 /// The newest frame continues after a call or a start. Returns the frame with which the function begins; `None` where

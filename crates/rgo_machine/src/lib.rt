@@ -25,4 +25,4 @@ pub use meetings::find_meeting;
 pub use picks::{End, Pick, Stepped};
 pub use states::{Goroutine, State, standing};
 pub use steps::step;
-pub use turns::{Shortage, Stop, Turned, turn, turn_once};
+pub use turns::{Shortage, Stop, Turned, turn_once};

@@ -46,12 +46,11 @@ pub enum Did {
 
 /// A machine: how one frame acts. How goroutines act on each other is the same for all machines, see `step`.
 pub trait Machine {
-    ghost use Rattle.std.specs.Prelude.{◌≡◌, ◌≤◌, OnOk, OnErr, Some, reverse};
+    ghost use Rattle.std.specs.Prelude.{◌≡◌, OnOk, OnErr};
     ghost use Rattle.rgo_memory.specs.Channels.{SameChannels};
     ghost use Rattle.rgo_memory.specs.Views.{memory_of};
     ghost use Rattle.rgo_machine.specs.Acting.{stand_of, passed, Enters, Acts};
     ghost use Rattle.rgo_machine.specs.Machines as spec;
-    ghost use Rattle.rgo_machine.specs.Paces.{paces};
 
     /// A function that was called, with what it has still to do.
     type Frame: Drop;
@@ -102,19 +101,4 @@ pub trait Machine {
     fn resume(&self, frame: &mut Self::Frame, value: Option<Value>) -> Result<(), AllocError>
         ensures resumes { OnOk result (frame.new ≡ (machine self.now).resume frame.old value) }
         ensures keeps { OnErr result (frame.new ≡ frame.old) };
-
-    /// Takes up to `at_most` steps of one goroutine in a row, given by its frames with the newest last, as long as each
-    /// is one in which the newest frame moves, calls a function or returns to a caller. Answers how many were taken. It
-    /// may always be fewer: the step that follows is then taken by the methods above.
-    fn pace(
-        &self,
-        alloc: Global,
-        memory: &mut Memory,
-        frames: &mut Vec<Self::Frame>,
-        at_most: usize,
-    ) -> usize
-        ensures paces { paces (machine self.now) result (memory_of memory.old) (reverse frames.old.items)
-            ≡ Some (memory_of memory.new, reverse frames.new.items) }
-        ensures within { result ≤ at_most }
-        ensures channels { SameChannels (memory_of memory.old) (memory_of memory.new) };
 }

@@ -1,13 +1,11 @@
-//! Turns: up to n steps of one goroutine in a row, which is how runs are driven.
+//! Turns: steps of one goroutine in a row, which is how runs are driven.
 
-ghost use Rattle.std.specs.Prelude.{◌≡◌, ◌≤◌, ◌<◌, true, None};
+ghost use Rattle.std.specs.Prelude.{◌≡◌, true, None};
 ghost use Rattle.rgo_machine.specs.Limits.{is_within};
 ghost use Rattle.rgo_machine.specs.Turning as turning;
-ghost use Rattle.rgo_machine.specs.Turning.{Hurries};
 ghost use Rattle.rgo_machine.specs.Turns.{Turns};
-ghost use Rattle.rgo_machine.specs.declared.turns.Stop.TheVariants as stop;
 
-use crate::goroutines::{Happened, pace};
+use crate::goroutines::Happened;
 use crate::limits::{DEEPEST, Limits};
 use crate::machines::{Machine, Stand};
 use crate::picks::End;
@@ -105,7 +103,8 @@ fn turn_of(happened: Happened) -> Turned
     }
 }
 
-/// A turn of at most one step, as `turn` with 1 gives: quicker where the machine does not take the step at once.
+/// A turn of at most one step: a goroutine steps alone, unless it has no step, meets a limit, or memory runs out. The
+/// state is then as it was.
 pub fn turn_once<M: Machine>(
     alloc: Global,
     machine: &M,
@@ -132,83 +131,5 @@ pub fn turn_once<M: Machine>(
             steps: 0,
             stop: Stop::NoMemory,
         },
-    }
-}
-
-/// Up to `at_most` steps of a goroutine in a row, as many as the machine takes at once. Returns how many.
-fn hurry<M: Machine>(
-    alloc: Global,
-    machine: &M,
-    state: &mut State<M::Frame>,
-    g: usize,
-    at_most: usize,
-) -> usize
-    requires { state.old.ended ≡ None }
-    ensures hurries { Hurries (M.machine machine.now) state.old state.new g result }
-    ensures within { result ≤ at_most }
-{
-    match state.goroutines.get_mut(g) {
-        Some(goroutine) => pace(alloc, machine, &mut state.memory, goroutine, at_most),
-        None => 0,
-    }
-}
-
-/// Part of a turn: the steps that the machine takes at once and one more, `at_most` in all. The turn continues after
-/// them where `Spent` is returned.
-fn proceed<M: Machine>(
-    alloc: Global,
-    machine: &M,
-    state: &mut State<M::Frame>,
-    limits: Limits,
-    g: usize,
-    at_most: usize,
-) -> Turned
-    requires running { state.old.ended ≡ None }
-    requires within { is_within limits state.old ≡ true }
-    requires some { 0 < at_most }
-    ensures turns { Turns (M.machine machine.now) limits state.old state.new g result.steps result }
-    ensures within { result.steps ≤ at_most }
-    ensures proceeds { result.stop ≡ stop.Spent → 0 < result.steps }
-{
-    let steps = hurry(alloc, machine, state, g, at_most);
-    if steps == at_most {
-        return Turned {
-            steps,
-            stop: Stop::Spent,
-        };
-    }
-    let done = turn_once(alloc, machine, state, limits, g);
-    Turned {
-        steps: steps + done.steps,
-        stop: done.stop,
-    }
-}
-
-/// A goroutine steps alone, up to `at_most` times. The turn is over early where it has no step, prints, operates on a
-/// channel, ends the run, meets a limit, or memory runs out; the state is then as the steps that were taken left it.
-pub fn turn<M: Machine>(
-    alloc: Global,
-    machine: &M,
-    state: &mut State<M::Frame>,
-    limits: Limits,
-    g: usize,
-    at_most: usize,
-) -> Turned
-    requires running { state.old.ended ≡ None }
-    requires within { is_within limits state.old ≡ true }
-    ensures { Turns (M.machine machine.now) limits state.old state.new g at_most result }
-{
-    let mut steps = 0;
-    while steps < at_most {
-        let done = proceed(alloc, machine, state, limits, g, at_most - steps);
-        steps += done.steps;
-        match done.stop {
-            Stop::Spent => {}
-            stop => return Turned { steps, stop },
-        }
-    }
-    Turned {
-        steps,
-        stop: Stop::Spent,
     }
 }

@@ -64,16 +64,6 @@ impl<'a> Machine for SourceMachine<'a> {
             None => Ok(()),
         }
     }
-
-    fn pace(
-        &self,
-        _alloc: Global,
-        _memory: &mut Memory,
-        _frames: &mut Vec<Frame<'a>>,
-        _at_most: usize,
-    ) -> usize {
-        0
-    }
 }
 
 /// The frame of `main`, the first function of that name.

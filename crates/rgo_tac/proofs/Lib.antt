@@ -1,7 +1,7 @@
 pub mod Bodies
+pub mod Executing
+pub mod Finding
 pub mod Fitting
-pub mod Hurrying
 pub mod Making
-pub mod Pacing
 pub mod Stretching
 pub mod Transferring

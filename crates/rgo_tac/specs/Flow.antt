@@ -21,14 +21,21 @@ reads (Return value) = option_to_list value
 abbrev pub writes : Op → Option ℕ
 writes (Do to action from) = to
 writes (Call to function from) = to
-writes _ = None
+writes (Go function from) = None
+writes (Print pieces from) = None
+writes (Jump target) = None
+writes (Branch test target other) = None
+writes (Return value) = None
 
 -- the instructions that may be next after the one of this number
 abbrev pub leads_to : Op → (at : ℕ) → List ℕ
 leads_to (Jump target) at = target ∷ []
 leads_to (Branch test target other) at = target ∷ other ∷ []
 leads_to (Return value) at = []
-leads_to _ at = (at + 1) ∷ []
+leads_to (Do to action from) at = (at + 1) ∷ []
+leads_to (Call to function from) at = (at + 1) ∷ []
+leads_to (Go function from) at = (at + 1) ∷ []
+leads_to (Print pieces from) at = (at + 1) ∷ []
 
 -- ---- what the code's results are
 

@@ -1,12 +1,12 @@
 -- Which variables instructions force into one region: what one of them points to may be reached from the other.
 use Rattle.std.specs.Prelude.{ℕ, Bool, true, false, ◌&&◌, List, [], ◌∷◌, Option, Some, None, slice_get, if◌then◌else◌}
 use Rattle.rgo_typed.specs.declared.actions.Action.{Action}
-use Rattle.rgo_typed.specs.declared.actions.Action.TheVariants.{Copy, Load, Store, At, Put, Recv, Send, Get, Set}
+use Rattle.rgo_typed.specs.declared.actions.Action.TheVariants as the_action
 use Rattle.rgo_typed.specs.declared.types.Type.{«Type»}
 use Rattle.rgo_typed.specs.Types.{is_pointer_like}
 use Rattle.rgo_tac.specs.declared.regions.Member.{Member}
 use Rattle.rgo_tac.specs.declared.regions.Member.TheVariants.{Variable, Result, Global}
-use Rattle.rgo_tac.specs.Code.{Op, Do, Return, TacFn}
+use Rattle.rgo_tac.specs.Code.{Op, Do, Call, Go, Print, Jump, Branch, Return, TacFn}
 
 abbrev pub is_pointer_like_type : Option «Type» → Bool
 is_pointer_like_type None = false
@@ -22,22 +22,47 @@ abbrev pub joined : (a b : ℕ) → Option (Member × Member)
 joined a b = Some (Variable a, Variable b)
 
 abbrev pub action_joins : Action → (to : Option ℕ) → (from : List ℕ) → Option (Member × Member)
-action_joins Copy (Some d) (a ∷ []) = joined d a
-action_joins (Load k) (Some d) (a ∷ []) = joined d a
-action_joins (Store k) to (a ∷ b ∷ []) = joined a b
-action_joins At (Some d) (a ∷ i ∷ []) = joined d a
-action_joins Put to (a ∷ i ∷ b ∷ []) = joined a b
-action_joins Recv (Some d) (c ∷ []) = joined d c
-action_joins Send to (c ∷ a ∷ []) = joined c a
-action_joins (Get g) (Some d) [] = Some (Variable d, Global)
-action_joins (Set g) to (a ∷ []) = Some (Variable a, Global)
-action_joins _ to from = None
+action_joins the_action.Copy (Some d) (a ∷ []) = joined d a
+action_joins (the_action.Load k) (Some d) (a ∷ []) = joined d a
+action_joins (the_action.Store k) to (a ∷ b ∷ []) = joined a b
+action_joins the_action.At (Some d) (a ∷ i ∷ []) = joined d a
+action_joins the_action.Put to (a ∷ i ∷ b ∷ []) = joined a b
+action_joins the_action.Recv (Some d) (c ∷ []) = joined d c
+action_joins the_action.Send to (c ∷ a ∷ []) = joined c a
+action_joins (the_action.Get g) (Some d) [] = Some (Variable d, Global)
+action_joins (the_action.Set g) to (a ∷ []) = Some (Variable a, Global)
+action_joins (the_action.Int k) to from = None
+action_joins (the_action.Bool b) to from = None
+action_joins the_action.Nil to from = None
+action_joins the_action.Copy to from = None
+action_joins (the_action.Binary op) to from = None
+action_joins the_action.Neg to from = None
+action_joins the_action.Not to from = None
+action_joins the_action.IsNil to from = None
+action_joins the_action.Len to from = None
+action_joins (the_action.Load k) to from = None
+action_joins (the_action.Store k) to from = None
+action_joins the_action.At to from = None
+action_joins the_action.Put to from = None
+action_joins (the_action.New s) to from = None
+action_joins the_action.Slice to from = None
+action_joins the_action.Chan to from = None
+action_joins the_action.Recv to from = None
+action_joins the_action.Send to from = None
+action_joins the_action.Close to from = None
+action_joins (the_action.Get n) to from = None
+action_joins (the_action.Set n) to from = None
 
 -- a call joins what the summary of its callee says, and none by itself
 abbrev pub op_joins : Op → Option (Member × Member)
 op_joins (Do to action from) = action_joins action to from
 op_joins (Return (Some a)) = Some (Variable a, Result)
-op_joins _ = None
+op_joins (Call to function from) = None
+op_joins (Go function from) = None
+op_joins (Print pieces from) = None
+op_joins (Jump target) = None
+op_joins (Branch test target other) = None
+op_joins (Return None) = None
 
 abbrev pub if_pointer_like : TacFn → Option (Member × Member) → Option (Member × Member)
 if_pointer_like f None = None

@@ -5,7 +5,7 @@ use rgo_typed::{Piece, Row};
 
 /// An instruction, by the numbers of its variables: first the one that is given a value, then the operands. It takes 16
 /// bytes; what does not fit stands in its function.
-#[derive(Clone, Copy, Debug, PartialEq, Eq)]
+#[derive(Clone, Copy)]
 pub enum Instr {
     Int(u32, i64),
     Bool(u32, bool),

@@ -90,7 +90,7 @@ pub fn writes(op: Op<'_>) -> Option<u32>
 {
     match op {
         Op::Do { to, .. } | Op::Call { to, .. } => to,
-        _ => None,
+        Op::Go { .. } | Op::Print { .. } | Op::Jump(_) | Op::Branch { .. } | Op::Return(_) => None,
     }
 }
 
@@ -103,6 +103,6 @@ pub fn leads_to(op: Op<'_>, at: usize) -> Targets
         Op::Jump(target) => Targets::One(target as usize),
         Op::Branch { target, other, .. } => Targets::Either(target as usize, other as usize),
         Op::Return(_) => Targets::Nowhere,
-        _ => Targets::One(at + 1),
+        Op::Do { .. } | Op::Call { .. } | Op::Go { .. } | Op::Print { .. } => Targets::One(at + 1),
     }
 }

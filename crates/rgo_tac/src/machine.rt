@@ -5,7 +5,6 @@ ghost use Rattle.rgo_tac.specs.Tac as spec;
 
 use crate::acts::{act, resume};
 use crate::frames::{Frame, called};
-use crate::paces::pace;
 use crate::programs::Tac;
 use crate::stands::{enter, pass, stand};
 use rgo_machine::{Did, Machine, Stand, State};
@@ -59,16 +58,6 @@ impl<'a> Machine for TacMachine<'a> {
     fn resume(&self, frame: &mut Frame, value: Option<Value>) -> Result<(), AllocError> {
         resume(self.code, frame, value);
         Ok(())
-    }
-
-    fn pace(
-        &self,
-        alloc: Global,
-        memory: &mut Memory,
-        frames: &mut Vec<Frame>,
-        at_most: usize,
-    ) -> usize {
-        pace(alloc, self.code, memory, frames, at_most)
     }
 }
 

@@ -11,7 +11,7 @@ use rgo_ast::BinaryOp;
 use rgo_typed::{Action, Piece, Row};
 
 /// The variables that an action reads, in order.
-#[derive(Clone, Copy, Debug, PartialEq, Eq)]
+#[derive(Clone, Copy)]
 pub enum Operands {
     Zero,
     One(u32),

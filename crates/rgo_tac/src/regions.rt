@@ -47,7 +47,31 @@ fn action_joins(action: Action, to: Option<u32>, from: Operands) -> Option<(Memb
         (Action::Send, _, Operands::Two(c, a)) => pair(c, a),
         (Action::Get(_), Some(d), Operands::Zero) => Some((Member::Variable(d), Member::Global)),
         (Action::Set(_), _, Operands::One(a)) => Some((Member::Variable(a), Member::Global)),
-        _ => None,
+        (
+            Action::Int(_)
+            | Action::Bool(_)
+            | Action::Nil
+            | Action::Copy
+            | Action::Binary(_)
+            | Action::Neg
+            | Action::Not
+            | Action::IsNil
+            | Action::Len
+            | Action::Load(_)
+            | Action::Store(_)
+            | Action::At
+            | Action::Put
+            | Action::New(_)
+            | Action::Slice
+            | Action::Chan
+            | Action::Recv
+            | Action::Send
+            | Action::Close
+            | Action::Get(_)
+            | Action::Set(_),
+            _,
+            _,
+        ) => None,
     }
 }
 
@@ -57,7 +81,12 @@ fn op_joins(op: Op<'_>) -> Option<(Member, Member)>
     match op {
         Op::Do { to, action, from } => action_joins(action, to, from),
         Op::Return(Some(a)) => Some((Member::Variable(a), Member::Result)),
-        _ => None,
+        Op::Call { .. }
+        | Op::Go { .. }
+        | Op::Print { .. }
+        | Op::Jump(_)
+        | Op::Branch { .. }
+        | Op::Return(None) => None,
     }
 }
 

@@ -88,7 +88,12 @@ fn stand_before(code: &Tac, frame: &Frame, op: Op<'_>, at: Place) -> Stand
         }
         Op::Call { function, .. } if (function as usize) < functions => Stand::Call,
         Op::Go { function, .. } if (function as usize) < functions => Stand::Start,
-        _ => Stand::Elsewhere,
+        Op::Call { .. }
+        | Op::Go { .. }
+        | Op::Print { .. }
+        | Op::Jump(_)
+        | Op::Branch { .. }
+        | Op::Return(_) => Stand::Elsewhere,
     }
 }
 
@@ -163,7 +168,9 @@ fn enter_before(
             }
             Ok(begun)
         }
-        _ => Ok(None),
+        Op::Do { .. } | Op::Print { .. } | Op::Jump(_) | Op::Branch { .. } | Op::Return(_) => {
+            Ok(None)
+        }
     }
 }
 

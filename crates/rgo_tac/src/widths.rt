@@ -33,7 +33,7 @@ fn width_of(op: Op<'_>) -> usize
     match op {
         Op::Do { to, from, .. } => width_of_target(to).max(width_of_operands(from)),
         Op::Branch { test, .. } => test as usize + 1,
-        _ => 0,
+        Op::Call { .. } | Op::Go { .. } | Op::Print { .. } | Op::Jump(_) | Op::Return(_) => 0,
     }
 }
 

@@ -2,7 +2,7 @@ use Rattle.std.proofs.Common.{◌≡◌, ◌∙◌, Some, None, ap, slice_get, s
 use Rattle.rgo_tac.specs.Ops.{op_in}
 use Rattle.rgo_tac.specs.Steps.{instr_of}
 use Rattle.rgo_tac.specs.Views.{op_of}
-use Rattle.rgo_tac.proofs.Pacing.{op_found, none_found}
+use Rattle.rgo_tac.proofs.Finding.{op_found, none_found}
 use Rattle.rgo_tac.proofs.stands.coded_next.Goals as goal
 
 pub returns-in-Some-clause-next : goal.returns-in-Some-clause-next

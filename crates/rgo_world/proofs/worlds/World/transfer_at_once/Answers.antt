@@ -1,8 +1,7 @@
 use Rattle.std.proofs.Common.{rules, ◌≡◌, true, Some, ap, refl, reverse, slice_get, sym, subst, ◌∙◌}
 use Rattle.std.proofs.lemmas.Option.{slice_get_read}
 use Rattle.rgo_memory.proofs.InPlace.{set_same}
-use Rattle.rgo_machine.specs.Paces.{pace}
-use Rattle.rgo_tac.specs.Tac.{tac}
+use Rattle.rgo_tac.specs.Transfers.{StepsTo}
 use Rattle.rgo_code.specs.Erasure.{erased}
 use Rattle.rgo_world.specs.declared.worlds.World.{World}
 use Rattle.rgo_world.specs.Works.{MayStep}
@@ -43,8 +42,7 @@ returns c =
     let m = w.state.memory in
     let memory = c.if-not-call_or_return.ensures.memory in
     let sum = c.saturating_add-self-inside.ensures in
+    let steps = subst (λ code. StepsTo code before after) (c.tac.ensures ∙ ap (λ (u : World). erased u.code.now) v)
+    c.if-not-call_or_return.ensures.steps in
     subst (λ u. MayStep w u g true) (search (rules, v, b, memory, sum))
-    (steps_once w g m before after (read ∙ ap Some (sym b))
-    (subst (λ code. pace (tac code) m before ≡ Some (m, after))
-    (c.tac.ensures ∙ ap (λ (u : World). erased u.code.now) v) (c.if-not-call_or_return.ensures.steps m))
-    (λ o channel is. is))
+    (steps_once w g m before after (read ∙ ap Some (sym b)) (steps.goes w.state g) steps.room (λ o channel is. is))
