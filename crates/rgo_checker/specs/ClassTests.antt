@@ -7,7 +7,7 @@ use Rattle.rgo_typed.specs.Types.{is_pointer_like}
 use Rattle.rgo_tac.specs.declared.regions.Class.{Class}
 use Rattle.rgo_tac.specs.declared.regions.Class.TheVariants.{NoClass, Global, Name}
 use Rattle.rgo_tac.specs.declared.regions.Member.{Member}
-use Rattle.rgo_tac.specs.Code.{Op, Do, Call, Go, Return}
+use Rattle.rgo_tac.specs.Code.{Op, Do, Call, Go, Return, Print, Jump, Branch}
 use Rattle.rgo_tac.specs.Joins.{joins}
 use Rattle.rgo_code.specs.Code.{CodeFn, Code}
 use Rattle.rgo_code.specs.ClassRules.{is_of_package, IsPassedFor, CallPasses, StartPasses}
@@ -19,13 +19,19 @@ abbrev pub same_class : Class → Class → Bool
 same_class NoClass NoClass = true
 same_class Global Global = true
 same_class (Name m) (Name n) = nat_eq m n
-same_class _ _ = false
+same_class NoClass Global = false
+same_class NoClass (Name n) = false
+same_class Global NoClass = false
+same_class Global (Name n) = false
+same_class (Name m) NoClass = false
+same_class (Name m) Global = false
 
 -- ---- rule 3
 
 abbrev pub has_class : Class → Bool
 has_class NoClass = false
-has_class c = true
+has_class Global = true
+has_class (Name k) = true
 
 abbrev pub class_fits : Class → «Type» → Bool
 class_fits c ty = if has_class c then is_pointer_like ty else not (is_pointer_like ty)
@@ -45,15 +51,30 @@ op_agrees f op = agree f (joins (erased_fn f) op)
 
 abbrev pub joins_agree : CodeFn → Op → Bool
 joins_agree f (Do to action from) = is_of_package action || op_agrees f (Do to action from)
-joins_agree f op = true
+joins_agree f (Call to n from) = true
+joins_agree f (Go n from) = true
+joins_agree f (Print pieces from) = true
+joins_agree f (Jump target) = true
+joins_agree f (Branch test target other) = true
+joins_agree f (Return value) = true
 
 abbrev pub globals_agree : CodeFn → Op → Bool
 globals_agree f (Do to action from) = not (is_of_package action) || op_agrees f (Do to action from)
-globals_agree f op = true
+globals_agree f (Call to n from) = true
+globals_agree f (Go n from) = true
+globals_agree f (Print pieces from) = true
+globals_agree f (Jump target) = true
+globals_agree f (Branch test target other) = true
+globals_agree f (Return value) = true
 
 abbrev pub return_agrees : CodeFn → Op → Bool
 return_agrees f (Return value) = op_agrees f (Return value)
-return_agrees f op = true
+return_agrees f (Do to action from) = true
+return_agrees f (Call to n from) = true
+return_agrees f (Go n from) = true
+return_agrees f (Print pieces from) = true
+return_agrees f (Jump target) = true
+return_agrees f (Branch test target other) = true
 
 -- ---- rules 6 and 7
 
@@ -102,11 +123,21 @@ called c = (c.to, c.function, c.from.now)
 
 abbrev pub call_of : Op → Option (Option ℕ × ℕ × List ℕ)
 call_of (Call to n from) = Some (to, n, from)
-call_of op = None
+call_of (Do to action from) = None
+call_of (Go n from) = None
+call_of (Print pieces from) = None
+call_of (Jump target) = None
+call_of (Branch test target other) = None
+call_of (Return value) = None
 
 abbrev pub start_of : Op → Option (Option ℕ × ℕ × List ℕ)
 start_of (Go n from) = Some (None, n, from)
-start_of op = None
+start_of (Do to action from) = None
+start_of (Call to n from) = None
+start_of (Print pieces from) = None
+start_of (Jump target) = None
+start_of (Branch test target other) = None
+start_of (Return value) = None
 
 abbrev pub CalledPasses : Code → CodeFn → List Class → Option ℕ × ℕ × List ℕ → Type 0
 CalledPasses code f passes call = CallPasses f (slice_get code.functions call.1) call.0 call.2 passes
@@ -117,18 +148,29 @@ StartedPasses code f passes call = StartPasses f (slice_get code.functions call.
 -- what is passed, of three-address code
 abbrev pub CallPassesBy : Code → CodeFn → List Class → Op → Type 0
 CallPassesBy code f passes (Call to n from) = CallPasses f (slice_get code.functions n) to from passes
-CallPassesBy code f passes op = ⊤
+CallPassesBy code f passes (Do to action from) = ⊤
+CallPassesBy code f passes (Go n from) = ⊤
+CallPassesBy code f passes (Print pieces from) = ⊤
+CallPassesBy code f passes (Jump target) = ⊤
+CallPassesBy code f passes (Branch test target other) = ⊤
+CallPassesBy code f passes (Return value) = ⊤
 
 abbrev pub StartPassesBy : Code → CodeFn → List Class → Op → Type 0
 StartPassesBy code f passes (Go n from) = StartPasses f (slice_get code.functions n) from passes
-StartPassesBy code f passes op = ⊤
+StartPassesBy code f passes (Do to action from) = ⊤
+StartPassesBy code f passes (Call to n from) = ⊤
+StartPassesBy code f passes (Print pieces from) = ⊤
+StartPassesBy code f passes (Jump target) = ⊤
+StartPassesBy code f passes (Branch test target other) = ⊤
+StartPassesBy code f passes (Return value) = ⊤
 
 -- ---- rules 12 and 14
 
 -- the name is not among these
 abbrev pub is_free : Class → List ℕ → Bool
 is_free (Name k) names = not (list_any (λ j. nat_eq j k) names)
-is_free c names = true
+is_free NoClass names = true
+is_free Global names = true
 
 abbrev pub lends : Class → (creates removes otherwise : List ℕ) → Bool
 lends c creates removes otherwise = is_free c creates && (is_free c removes && is_free c otherwise)
@@ -140,7 +182,8 @@ is_empty (k ∷ ks) = false
 -- no name, or that of the result
 abbrev pub is_lent : Class → Class → Bool
 is_lent result (Name k) = same_class result (Name k)
-is_lent result c = true
+is_lent result NoClass = true
+is_lent result Global = true
 
 abbrev pub value_is_lent : CodeFn → Option ℕ → Bool
 value_is_lent f None = true
@@ -148,4 +191,9 @@ value_is_lent f (Some v) = is_lent (result_class f) (class_of f v)
 
 abbrev pub ends_empty : CodeFn → (creates : List ℕ) → Op → Bool
 ends_empty f creates (Return value) = is_empty creates && value_is_lent f value
-ends_empty f creates op = true
+ends_empty f creates (Do to action from) = true
+ends_empty f creates (Call to n from) = true
+ends_empty f creates (Go n from) = true
+ends_empty f creates (Print pieces from) = true
+ends_empty f creates (Jump target) = true
+ends_empty f creates (Branch test target other) = true

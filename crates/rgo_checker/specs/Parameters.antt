@@ -2,7 +2,7 @@
 use Rattle.std.specs.Prelude.{◌≡◌, ◌<◌, ℕ, List, Option, Some, slice_get, nat_eq, if◌then◌else◌, MatchOption}
 use Rattle.std.specs.HashMap.{HashMap, get}
 use Rattle.rgo_tac.specs.declared.regions.Class.{Class}
-use Rattle.rgo_tac.specs.declared.regions.Class.TheVariants.{Name}
+use Rattle.rgo_tac.specs.declared.regions.Class.TheVariants.{Name, NoClass, Global}
 
 abbrev pub ArePlacesBelow : {S : Type 0} → List Class → ℕ → HashMap ℕ ℕ S → Type 0
 ArePlacesBelow classes count places =
@@ -12,4 +12,5 @@ ArePlacesBelow classes count places =
 -- what a map has at q once a class is at place p
 abbrev pub placed : Class → (p q : ℕ) → Option ℕ → Option ℕ
 placed (Name k) p q before = if nat_eq k q then Some p else before
-placed c p q before = before
+placed NoClass p q before = before
+placed Global p q before = before

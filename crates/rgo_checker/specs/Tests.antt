@@ -46,7 +46,24 @@ abbrev pub action_exists : Tac → Action → Bool
 action_exists code (action.New n) = nat_lt n (length code.structs)
 action_exists code (action.Get n) = nat_lt n (length code.variables)
 action_exists code (action.Set n) = nat_lt n (length code.variables)
-action_exists code action = true
+action_exists code (action.Int k) = true
+action_exists code (action.Bool b) = true
+action_exists code action.Nil = true
+action_exists code action.Copy = true
+action_exists code (action.Binary op) = true
+action_exists code action.Neg = true
+action_exists code action.Not = true
+action_exists code action.IsNil = true
+action_exists code action.Len = true
+action_exists code (action.Load k) = true
+action_exists code (action.Store k) = true
+action_exists code action.At = true
+action_exists code action.Put = true
+action_exists code action.Slice = true
+action_exists code action.Chan = true
+action_exists code action.Recv = true
+action_exists code action.Send = true
+action_exists code action.Close = true
 
 abbrev pub has_fields : ℕ → Option Struct → Bool
 has_fields k None = true
@@ -67,7 +84,25 @@ variable_has_field code f k (Some a) = struct_has_field code k (pointed_by (slic
 abbrev pub field_exists : Tac → TacFn → Action → List ℕ → Bool
 field_exists code f (action.Load k) from = variable_has_field code f k (slice_get from 0)
 field_exists code f (action.Store k) from = variable_has_field code f k (slice_get from 0)
-field_exists code f action from = true
+field_exists code f (action.Int k) from = true
+field_exists code f (action.Bool b) from = true
+field_exists code f action.Nil from = true
+field_exists code f action.Copy from = true
+field_exists code f (action.Binary op) from = true
+field_exists code f action.Neg from = true
+field_exists code f action.Not from = true
+field_exists code f action.IsNil from = true
+field_exists code f action.Len from = true
+field_exists code f action.At from = true
+field_exists code f action.Put from = true
+field_exists code f (action.New n) from = true
+field_exists code f action.Slice from = true
+field_exists code f action.Chan from = true
+field_exists code f action.Recv from = true
+field_exists code f action.Send from = true
+field_exists code f action.Close from = true
+field_exists code f (action.Get n) from = true
+field_exists code f (action.Set n) from = true
 
 abbrev pub both_or_neither : Option ℕ → Option «Type» → Bool
 both_or_neither None None = true

@@ -125,7 +125,11 @@ computes binary.Gt a b t = orders a b t
 computes binary.Ge a b t = orders a b t
 computes binary.And a b t = false
 computes binary.Or a b t = false
-computes op a b t = counts a b t
+computes binary.Add a b t = counts a b t
+computes binary.Sub a b t = counts a b t
+computes binary.Mul a b t = counts a b t
+computes binary.Div a b t = counts a b t
+computes binary.Rem a b t = counts a b t
 
 abbrev pub returns_of_none : Tac → Action → «Type» → Bool
 returns_of_none code (action.Int n) t = is_int t
@@ -133,7 +137,22 @@ returns_of_none code (action.Bool b) t = is_bool t
 returns_of_none code action.Nil t = is_pointer_like t
 returns_of_none code (action.New n) t = is_new code n t
 returns_of_none code (action.Get n) t = is_variable (slice_get code.variables n) t
-returns_of_none code action t = false
+returns_of_none code action.Copy t = false
+returns_of_none code (action.Binary op) t = false
+returns_of_none code action.Neg t = false
+returns_of_none code action.Not t = false
+returns_of_none code action.IsNil t = false
+returns_of_none code action.Len t = false
+returns_of_none code (action.Load k) t = false
+returns_of_none code (action.Store k) t = false
+returns_of_none code action.At t = false
+returns_of_none code action.Put t = false
+returns_of_none code action.Slice t = false
+returns_of_none code action.Chan t = false
+returns_of_none code action.Recv t = false
+returns_of_none code action.Send t = false
+returns_of_none code action.Close t = false
+returns_of_none code (action.Set n) t = false
 
 abbrev pub returns_of_one : Tac → Action → (a t : «Type») → Bool
 returns_of_one code action.Copy a t = same_type a t
@@ -145,12 +164,41 @@ returns_of_one code (action.Load k) a t = is_field code a k t
 returns_of_one code action.Slice a t = is_int a && is_slice t
 returns_of_one code action.Chan a t = is_int a && is_chan t
 returns_of_one code action.Recv a t = is_around Chan a t
-returns_of_one code action a t = false
+returns_of_one code (action.Int k) a t = false
+returns_of_one code (action.Bool b) a t = false
+returns_of_one code action.Nil a t = false
+returns_of_one code (action.Binary op) a t = false
+returns_of_one code (action.Store k) a t = false
+returns_of_one code action.At a t = false
+returns_of_one code action.Put a t = false
+returns_of_one code (action.New n) a t = false
+returns_of_one code action.Send a t = false
+returns_of_one code action.Close a t = false
+returns_of_one code (action.Get n) a t = false
+returns_of_one code (action.Set n) a t = false
 
 abbrev pub returns_of_two : Action → (a b t : «Type») → Bool
 returns_of_two (action.Binary op) a b t = computes op a b t
 returns_of_two action.At a b t = is_around Slice a t && is_int b
-returns_of_two action a b t = false
+returns_of_two (action.Int k) a b t = false
+returns_of_two (action.Bool truth) a b t = false
+returns_of_two action.Nil a b t = false
+returns_of_two action.Copy a b t = false
+returns_of_two action.Neg a b t = false
+returns_of_two action.Not a b t = false
+returns_of_two action.IsNil a b t = false
+returns_of_two action.Len a b t = false
+returns_of_two (action.Load k) a b t = false
+returns_of_two (action.Store k) a b t = false
+returns_of_two action.Put a b t = false
+returns_of_two (action.New n) a b t = false
+returns_of_two action.Slice a b t = false
+returns_of_two action.Chan a b t = false
+returns_of_two action.Recv a b t = false
+returns_of_two action.Send a b t = false
+returns_of_two action.Close a b t = false
+returns_of_two (action.Get n) a b t = false
+returns_of_two (action.Set n) a b t = false
 
 -- an action on operands of these types returns a value of type t
 abbrev pub returns : Tac → Action → List «Type» → «Type» → Bool
@@ -162,16 +210,71 @@ returns code action (a ∷ b ∷ c ∷ rest) t = false
 abbrev pub takes_one : Tac → Action → «Type» → Bool
 takes_one code action.Close a = is_chan a
 takes_one code (action.Set n) a = is_variable (slice_get code.variables n) a
-takes_one code action a = false
+takes_one code (action.Int k) a = false
+takes_one code (action.Bool b) a = false
+takes_one code action.Nil a = false
+takes_one code action.Copy a = false
+takes_one code (action.Binary op) a = false
+takes_one code action.Neg a = false
+takes_one code action.Not a = false
+takes_one code action.IsNil a = false
+takes_one code action.Len a = false
+takes_one code (action.Load k) a = false
+takes_one code (action.Store k) a = false
+takes_one code action.At a = false
+takes_one code action.Put a = false
+takes_one code (action.New n) a = false
+takes_one code action.Slice a = false
+takes_one code action.Chan a = false
+takes_one code action.Recv a = false
+takes_one code action.Send a = false
+takes_one code (action.Get n) a = false
 
 abbrev pub takes_two : Tac → Action → (a b : «Type») → Bool
 takes_two code (action.Store k) a b = is_field code a k b
 takes_two code action.Send a b = is_around Chan a b
-takes_two code action a b = false
+takes_two code (action.Int k) a b = false
+takes_two code (action.Bool truth) a b = false
+takes_two code action.Nil a b = false
+takes_two code action.Copy a b = false
+takes_two code (action.Binary op) a b = false
+takes_two code action.Neg a b = false
+takes_two code action.Not a b = false
+takes_two code action.IsNil a b = false
+takes_two code action.Len a b = false
+takes_two code (action.Load k) a b = false
+takes_two code action.At a b = false
+takes_two code action.Put a b = false
+takes_two code (action.New n) a b = false
+takes_two code action.Slice a b = false
+takes_two code action.Chan a b = false
+takes_two code action.Recv a b = false
+takes_two code action.Close a b = false
+takes_two code (action.Get n) a b = false
+takes_two code (action.Set n) a b = false
 
 abbrev pub takes_three : Action → (a b c : «Type») → Bool
 takes_three action.Put a b c = is_around Slice a c && is_int b
-takes_three action a b c = false
+takes_three (action.Int k) a b c = false
+takes_three (action.Bool truth) a b c = false
+takes_three action.Nil a b c = false
+takes_three action.Copy a b c = false
+takes_three (action.Binary op) a b c = false
+takes_three action.Neg a b c = false
+takes_three action.Not a b c = false
+takes_three action.IsNil a b c = false
+takes_three action.Len a b c = false
+takes_three (action.Load k) a b c = false
+takes_three (action.Store k) a b c = false
+takes_three action.At a b c = false
+takes_three (action.New n) a b c = false
+takes_three action.Slice a b c = false
+takes_three action.Chan a b c = false
+takes_three action.Recv a b c = false
+takes_three action.Send a b c = false
+takes_three action.Close a b c = false
+takes_three (action.Get n) a b c = false
+takes_three (action.Set n) a b c = false
 
 -- an action without value takes operands of these types
 abbrev pub takes : Tac → Action → List «Type» → Bool

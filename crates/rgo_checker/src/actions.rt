@@ -84,8 +84,10 @@ fn computes(op: BinaryOp, a: &Type, b: &Type, ty: &Type) -> bool
     match op {
         BinaryOp::Eq | BinaryOp::Ne => compares(a, b, ty),
         BinaryOp::Lt | BinaryOp::Le | BinaryOp::Gt | BinaryOp::Ge => orders(a, b, ty),
+        BinaryOp::Add | BinaryOp::Sub | BinaryOp::Mul | BinaryOp::Div | BinaryOp::Rem => {
+            counts(a, b, ty)
+        }
         BinaryOp::And | BinaryOp::Or => false,
-        _ => counts(a, b, ty),
     }
 }
 
@@ -98,7 +100,22 @@ fn returns_of_none(code: &Tac, action: Action, ty: &Type) -> bool
         Action::Nil => ty.is_pointer_like(),
         Action::New(n) => is_new(code, n, ty),
         Action::Get(n) => is_variable(code, n, ty),
-        _ => false,
+        Action::Copy
+        | Action::Binary(_)
+        | Action::Neg
+        | Action::Not
+        | Action::IsNil
+        | Action::Len
+        | Action::Load(_)
+        | Action::Store(_)
+        | Action::At
+        | Action::Put
+        | Action::Slice
+        | Action::Chan
+        | Action::Recv
+        | Action::Send
+        | Action::Close
+        | Action::Set(_) => false,
     }
 }
 
@@ -115,7 +132,18 @@ fn returns_of_one(code: &Tac, action: Action, a: &Type, ty: &Type) -> bool
         Action::Slice => is_int(a) && is_slice(ty),
         Action::Chan => is_int(a) && is_chan(ty),
         Action::Recv => is_around(Layer::Chan, a, ty),
-        _ => false,
+        Action::Int(_)
+        | Action::Bool(_)
+        | Action::Nil
+        | Action::Binary(_)
+        | Action::Store(_)
+        | Action::At
+        | Action::Put
+        | Action::New(_)
+        | Action::Send
+        | Action::Close
+        | Action::Get(_)
+        | Action::Set(_) => false,
     }
 }
 
@@ -125,7 +153,25 @@ fn returns_of_two(action: Action, a: &Type, b: &Type, ty: &Type) -> bool
     match action {
         Action::Binary(op) => computes(op, a, b, ty),
         Action::At => is_around(Layer::Slice, a, ty) && is_int(b),
-        _ => false,
+        Action::Int(_)
+        | Action::Bool(_)
+        | Action::Nil
+        | Action::Copy
+        | Action::Neg
+        | Action::Not
+        | Action::IsNil
+        | Action::Len
+        | Action::Load(_)
+        | Action::Store(_)
+        | Action::Put
+        | Action::New(_)
+        | Action::Slice
+        | Action::Chan
+        | Action::Recv
+        | Action::Send
+        | Action::Close
+        | Action::Get(_)
+        | Action::Set(_) => false,
     }
 }
 
@@ -147,7 +193,25 @@ fn takes_one(code: &Tac, action: Action, a: &Type) -> bool
     match action {
         Action::Close => is_chan(a),
         Action::Set(n) => is_variable(code, n, a),
-        _ => false,
+        Action::Int(_)
+        | Action::Bool(_)
+        | Action::Nil
+        | Action::Copy
+        | Action::Binary(_)
+        | Action::Neg
+        | Action::Not
+        | Action::IsNil
+        | Action::Len
+        | Action::Load(_)
+        | Action::Store(_)
+        | Action::At
+        | Action::Put
+        | Action::New(_)
+        | Action::Slice
+        | Action::Chan
+        | Action::Recv
+        | Action::Send
+        | Action::Get(_) => false,
     }
 }
 
@@ -157,7 +221,25 @@ fn takes_two(code: &Tac, action: Action, a: &Type, b: &Type) -> bool
     match action {
         Action::Store(k) => is_field(code, a, k, b),
         Action::Send => is_around(Layer::Chan, a, b),
-        _ => false,
+        Action::Int(_)
+        | Action::Bool(_)
+        | Action::Nil
+        | Action::Copy
+        | Action::Binary(_)
+        | Action::Neg
+        | Action::Not
+        | Action::IsNil
+        | Action::Len
+        | Action::Load(_)
+        | Action::At
+        | Action::Put
+        | Action::New(_)
+        | Action::Slice
+        | Action::Chan
+        | Action::Recv
+        | Action::Close
+        | Action::Get(_)
+        | Action::Set(_) => false,
     }
 }
 
@@ -166,7 +248,26 @@ fn takes_three(action: Action, a: &Type, b: &Type, c: &Type) -> bool
 {
     match action {
         Action::Put => is_around(Layer::Slice, a, c) && is_int(b),
-        _ => false,
+        Action::Int(_)
+        | Action::Bool(_)
+        | Action::Nil
+        | Action::Copy
+        | Action::Binary(_)
+        | Action::Neg
+        | Action::Not
+        | Action::IsNil
+        | Action::Len
+        | Action::Load(_)
+        | Action::Store(_)
+        | Action::At
+        | Action::New(_)
+        | Action::Slice
+        | Action::Chan
+        | Action::Recv
+        | Action::Send
+        | Action::Close
+        | Action::Get(_)
+        | Action::Set(_) => false,
     }
 }
 

@@ -16,14 +16,19 @@ pub(crate) fn same_class(a: Class, b: Class) -> bool
     match (a, b) {
         (Class::NoClass, Class::NoClass) | (Class::Global, Class::Global) => true,
         (Class::Name(m), Class::Name(n)) => m == n,
-        _ => false,
+        (Class::NoClass, Class::Global | Class::Name(_)) => false,
+        (Class::Global, Class::NoClass | Class::Name(_)) => false,
+        (Class::Name(_), Class::NoClass | Class::Global) => false,
     }
 }
 
 fn has_class(class: Class) -> bool
     ensures { result ≡ tests.has_class class }
 {
-    !matches!(class, Class::NoClass)
+    match class {
+        Class::NoClass => false,
+        Class::Global | Class::Name(_) => true,
+    }
 }
 
 /// Whether a variable of this type has a class exactly if it is a pointer, a slice or a channel.
@@ -69,7 +74,28 @@ fn op_agrees(f: &CodeFn<'_>, op: Op<'_>) -> bool
 fn is_of_package(action: Action) -> bool
     ensures { result ≡ rules.is_of_package action }
 {
-    matches!(action, Action::Get(_) | Action::Set(_))
+    match action {
+        Action::Get(_) | Action::Set(_) => true,
+        Action::Int(_)
+        | Action::Bool(_)
+        | Action::Nil
+        | Action::Copy
+        | Action::Binary(_)
+        | Action::Neg
+        | Action::Not
+        | Action::IsNil
+        | Action::Len
+        | Action::Load(_)
+        | Action::Store(_)
+        | Action::At
+        | Action::Put
+        | Action::New(_)
+        | Action::Slice
+        | Action::Chan
+        | Action::Recv
+        | Action::Send
+        | Action::Close => false,
+    }
 }
 
 /// Whether what an action joins has one class, except for actions on package variables.
@@ -78,7 +104,12 @@ pub(crate) fn joins_agree(f: &CodeFn<'_>, op: Op<'_>) -> bool
 {
     match op {
         Op::Do { action, .. } => is_of_package(action) || op_agrees(f, op),
-        _ => true,
+        Op::Call { .. }
+        | Op::Go { .. }
+        | Op::Print { .. }
+        | Op::Jump(_)
+        | Op::Branch { .. }
+        | Op::Return(_) => true,
     }
 }
 
@@ -88,7 +119,12 @@ pub(crate) fn globals_agree(f: &CodeFn<'_>, op: Op<'_>) -> bool
 {
     match op {
         Op::Do { action, .. } => !is_of_package(action) || op_agrees(f, op),
-        _ => true,
+        Op::Call { .. }
+        | Op::Go { .. }
+        | Op::Print { .. }
+        | Op::Jump(_)
+        | Op::Branch { .. }
+        | Op::Return(_) => true,
     }
 }
 
@@ -98,6 +134,11 @@ pub(crate) fn return_agrees(f: &CodeFn<'_>, op: Op<'_>) -> bool
 {
     match op {
         Op::Return(_) => op_agrees(f, op),
-        _ => true,
+        Op::Do { .. }
+        | Op::Call { .. }
+        | Op::Go { .. }
+        | Op::Print { .. }
+        | Op::Jump(_)
+        | Op::Branch { .. } => true,
     }
 }

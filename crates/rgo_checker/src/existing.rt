@@ -49,7 +49,24 @@ fn action_exists(code: &Tac, action: Action) -> bool
         Action::New(n) => n < code.structs().len(),
         Action::Get(n) => n < code.variables().len(),
         Action::Set(n) => n < code.variables().len(),
-        _ => true,
+        Action::Int(_)
+        | Action::Bool(_)
+        | Action::Nil
+        | Action::Copy
+        | Action::Binary(_)
+        | Action::Neg
+        | Action::Not
+        | Action::IsNil
+        | Action::Len
+        | Action::Load(_)
+        | Action::Store(_)
+        | Action::At
+        | Action::Put
+        | Action::Slice
+        | Action::Chan
+        | Action::Recv
+        | Action::Send
+        | Action::Close => true,
     }
 }
 
@@ -89,7 +106,25 @@ fn field_exists(code: &Tac, f: &TacFn, action: Action, from: Operands) -> bool
     match action {
         Action::Load(k) => variable_has_field(code, f, k, from.get(0)),
         Action::Store(k) => variable_has_field(code, f, k, from.get(0)),
-        _ => true,
+        Action::Int(_)
+        | Action::Bool(_)
+        | Action::Nil
+        | Action::Copy
+        | Action::Binary(_)
+        | Action::Neg
+        | Action::Not
+        | Action::IsNil
+        | Action::Len
+        | Action::At
+        | Action::Put
+        | Action::New(_)
+        | Action::Slice
+        | Action::Chan
+        | Action::Recv
+        | Action::Send
+        | Action::Close
+        | Action::Get(_)
+        | Action::Set(_) => true,
     }
 }
 
@@ -190,7 +225,10 @@ fn variables_exist(op: Op<'_>, count: usize) -> bool
 fn leaves(op: Op<'_>) -> bool
     ensures { result ≡ exists.leaves (operation_of op.entry) }
 {
-    matches!(op, Op::Jump(_) | Op::Branch { .. } | Op::Return(_))
+    match op {
+        Op::Jump(_) | Op::Branch { .. } | Op::Return(_) => true,
+        Op::Do { .. } | Op::Call { .. } | Op::Go { .. } | Op::Print { .. } => false,
+    }
 }
 
 fn ends_right(at: usize, count: usize, op: Op<'_>) -> bool

@@ -14,7 +14,7 @@ pub(crate) fn is_free(class: Class, names: &[u32]) -> bool
 {
     match class {
         Class::Name(k) => !names.contains(&k),
-        _ => true,
+        Class::NoClass | Class::Global => true,
     }
 }
 
@@ -36,7 +36,7 @@ fn is_lent(lent: Class, class: Class) -> bool
 {
     match class {
         Class::Name(_) => same_class(lent, class),
-        _ => true,
+        Class::NoClass | Class::Global => true,
     }
 }
 
@@ -55,6 +55,11 @@ pub(crate) fn ends_empty(f: &CodeFn<'_>, creates: &[u32], op: Op<'_>) -> bool
 {
     match op {
         Op::Return(value) => is_empty(creates) && value_is_lent(f, value),
-        _ => true,
+        Op::Do { .. }
+        | Op::Call { .. }
+        | Op::Go { .. }
+        | Op::Print { .. }
+        | Op::Jump(_)
+        | Op::Branch { .. } => true,
     }
 }

@@ -31,7 +31,7 @@ fn place(places: &mut HashMap<u32, u32>, class: Class, p: u32) -> Result<(), All
             places.insert(k, p)?;
             Ok(())
         }
-        _ => Ok(()),
+        Class::NoClass | Class::Global => Ok(()),
     }
 }
 

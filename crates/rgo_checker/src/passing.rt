@@ -166,7 +166,12 @@ fn call_of(op: Op<'_>) -> Option<Called<'_>>
 {
     match op {
         Op::Call { to, function, from } => Some(Called { to, function, from }),
-        _ => None,
+        Op::Do { .. }
+        | Op::Go { .. }
+        | Op::Print { .. }
+        | Op::Jump(_)
+        | Op::Branch { .. }
+        | Op::Return(_) => None,
     }
 }
 
@@ -179,7 +184,12 @@ fn start_of(op: Op<'_>) -> Option<Called<'_>>
             function,
             from,
         }),
-        _ => None,
+        Op::Do { .. }
+        | Op::Call { .. }
+        | Op::Print { .. }
+        | Op::Jump(_)
+        | Op::Branch { .. }
+        | Op::Return(_) => None,
     }
 }
 

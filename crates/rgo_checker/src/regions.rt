@@ -41,7 +41,7 @@ fn add_name(names: &mut HashSet<u32>, class: Class) -> Result<(), AllocError>
             names.insert(k)?;
             Ok(())
         }
-        _ => Ok(()),
+        Class::NoClass | Class::Global => Ok(()),
     }
 }
 
@@ -112,7 +112,15 @@ pub(crate) fn creates_used(
 fn is_call(op: Op<'_>) -> bool
     ensures { result ≡ spec.is_call (operation_of op.entry) }
 {
-    matches!(op, Op::Call { .. })
+    match op {
+        Op::Call { .. } => true,
+        Op::Do { .. }
+        | Op::Go { .. }
+        | Op::Print { .. }
+        | Op::Jump(_)
+        | Op::Branch { .. }
+        | Op::Return(_) => false,
+    }
 }
 
 /// Whether a call protects the names that it passes and that are needed after it.
@@ -158,7 +166,12 @@ fn callee_of(op: Op<'_>) -> Option<u32>
 {
     match op {
         Op::Call { function, .. } => Some(function),
-        _ => None,
+        Op::Do { .. }
+        | Op::Go { .. }
+        | Op::Print { .. }
+        | Op::Jump(_)
+        | Op::Branch { .. }
+        | Op::Return(_) => None,
     }
 }
 

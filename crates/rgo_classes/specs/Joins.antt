@@ -4,7 +4,7 @@ use Rattle.rgo_tac.specs.declared.regions.Class.{Class}
 use Rattle.rgo_tac.specs.declared.regions.Class.TheVariants as class
 use Rattle.rgo_tac.specs.declared.regions.Member.{Member}
 use Rattle.rgo_tac.specs.declared.regions.Member.TheVariants.{Variable, Result, Global}
-use Rattle.rgo_tac.specs.Code.{Op, Call, Go, Instr, TacFn}
+use Rattle.rgo_tac.specs.Code.{Op, Call, Go, Instr, TacFn, Do, Print, Jump, Branch, Return}
 use Rattle.rgo_tac.specs.Joins.{is_pointer_like_in, op_joins}
 use Rattle.rgo_classes.specs.declared.classes.Summary.{Summary}
 
@@ -26,7 +26,11 @@ CallJoins (Some s) to from a b =
 abbrev pub OpJoins : List Summary → Op → Member → Member → Type 0
 OpJoins summaries (Call to n from) a b = CallJoins (slice_get summaries n) to from a b
 OpJoins summaries (Go n from) a b = CallJoins (slice_get summaries n) None from a b
-OpJoins summaries op a b = op_joins op ≡ Some (a, b)
+OpJoins summaries (Do to action from) a b = op_joins (Do to action from) ≡ Some (a, b)
+OpJoins summaries (Print pieces from) a b = op_joins (Print pieces from) ≡ Some (a, b)
+OpJoins summaries (Jump target) a b = op_joins (Jump target) ≡ Some (a, b)
+OpJoins summaries (Branch test target other) a b = op_joins (Branch test target other) ≡ Some (a, b)
+OpJoins summaries (Return value) a b = op_joins (Return value) ≡ Some (a, b)
 
 abbrev pub IsPointerLike : TacFn → Member → Type 0
 IsPointerLike f m = is_pointer_like_in f m ≡ true

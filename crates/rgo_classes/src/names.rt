@@ -31,7 +31,8 @@ fn class_of(given: &mut [Class], next: &mut u32, label: u32) -> Class
             *next += 1;
             class
         }
-        class => class,
+        Class::Global => Class::Global,
+        Class::Name(name) => Class::Name(name),
     }
 }
 

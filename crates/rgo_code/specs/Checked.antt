@@ -29,7 +29,8 @@ KeptByInstr code rule.Returns f i instr = ReturnsAgree f instr.op
 KeptByInstr code rule.Lending f i instr = LendsResult f i instr
 KeptByInstr code rule.Removals f i instr = RemovesDead code f i instr
 KeptByInstr code rule.Endings f i instr = ReturnsHoldNothing f i instr instr.op
-KeptByInstr code rule f i instr = ⊤
+KeptByInstr code rule.Classes f i instr = ⊤
+KeptByInstr code rule.Entry f i instr = ⊤
 
 abbrev pub KeptByEntry : Rule → CodeFn → Type 0
 KeptByEntry rule.Entry f = EntryIsKnown f

@@ -7,7 +7,7 @@ use Rattle.rgo_tac.specs.declared.regions.Class.{Class}
 use Rattle.rgo_tac.specs.declared.regions.Class.TheVariants.{NoClass, Global, Name}
 use Rattle.rgo_tac.specs.declared.regions.Member.{Member}
 use Rattle.rgo_tac.specs.Joins.{joins}
-use Rattle.rgo_code.specs.Code.{Slot, CodeOp, CodeFn, Code, Do, Call, Go, Return}
+use Rattle.rgo_code.specs.Code.{Slot, CodeOp, CodeFn, Code, Do, Call, Go, Return, Print, Jump, Branch}
 use Rattle.rgo_code.specs.Erasure.{erased_op, erased_fn}
 use Rattle.rgo_code.specs.Names.{class_of, result_class, member_class, region_parameters, Holds, IsParameterName}
 
@@ -25,7 +25,25 @@ ResultFits (Some s) = SlotFits s
 abbrev pub is_of_package : Action → Bool
 is_of_package (action.Get n) = true
 is_of_package (action.Set n) = true
-is_of_package action = false
+is_of_package (action.Int k) = false
+is_of_package (action.Bool b) = false
+is_of_package action.Nil = false
+is_of_package action.Copy = false
+is_of_package (action.Binary op) = false
+is_of_package action.Neg = false
+is_of_package action.Not = false
+is_of_package action.IsNil = false
+is_of_package action.Len = false
+is_of_package (action.Load k) = false
+is_of_package (action.Store k) = false
+is_of_package action.At = false
+is_of_package action.Put = false
+is_of_package (action.New n) = false
+is_of_package action.Slice = false
+is_of_package action.Chan = false
+is_of_package action.Recv = false
+is_of_package action.Send = false
+is_of_package action.Close = false
 
 abbrev pub Agree : CodeFn → Option (Member × Member) → Type 0
 Agree f None = ⊤
@@ -37,17 +55,32 @@ OpAgrees f op = Agree f (joins (erased_fn f) (erased_op op))
 -- rule 4, of actions but those on package variables
 abbrev pub JoinsAgree : CodeFn → CodeOp → Type 0
 JoinsAgree f (Do to action from removes) = is_of_package action ≡ false → OpAgrees f (Do to action from removes)
-JoinsAgree f op = ⊤
+JoinsAgree f (Call to n from passes protects removes) = ⊤
+JoinsAgree f (Go n from passes removes) = ⊤
+JoinsAgree f (Print pieces from removes) = ⊤
+JoinsAgree f (Jump target removes) = ⊤
+JoinsAgree f (Branch test target removes other otherwise) = ⊤
+JoinsAgree f (Return value) = ⊤
 
 -- rule 5, of actions on package variables, whose class is Global
 abbrev pub GlobalsAgree : CodeFn → CodeOp → Type 0
 GlobalsAgree f (Do to action from removes) = is_of_package action ≡ true → OpAgrees f (Do to action from removes)
-GlobalsAgree f op = ⊤
+GlobalsAgree f (Call to n from passes protects removes) = ⊤
+GlobalsAgree f (Go n from passes removes) = ⊤
+GlobalsAgree f (Print pieces from removes) = ⊤
+GlobalsAgree f (Jump target removes) = ⊤
+GlobalsAgree f (Branch test target removes other otherwise) = ⊤
+GlobalsAgree f (Return value) = ⊤
 
 -- rule 11, of a returned variable and the result
 abbrev pub ReturnsAgree : CodeFn → CodeOp → Type 0
 ReturnsAgree f (Return value) = OpAgrees f (Return value)
-ReturnsAgree f op = ⊤
+ReturnsAgree f (Do to action from removes) = ⊤
+ReturnsAgree f (Call to n from passes protects removes) = ⊤
+ReturnsAgree f (Go n from passes removes) = ⊤
+ReturnsAgree f (Print pieces from removes) = ⊤
+ReturnsAgree f (Jump target removes) = ⊤
+ReturnsAgree f (Branch test target removes other otherwise) = ⊤
 
 -- ---- rules 6 and 7: what is passed
 
@@ -76,11 +109,21 @@ StartPasses f (Some callee) from passes = (callee.result ≡ None) × Passes f c
 
 abbrev pub CallsPass : Code → CodeFn → CodeOp → Type 0
 CallsPass code f (Call to n from passes protects removes) = CallPasses f (slice_get code.functions n) to from passes
-CallsPass code f op = ⊤
+CallsPass code f (Do to action from removes) = ⊤
+CallsPass code f (Go n from passes removes) = ⊤
+CallsPass code f (Print pieces from removes) = ⊤
+CallsPass code f (Jump target removes) = ⊤
+CallsPass code f (Branch test target removes other otherwise) = ⊤
+CallsPass code f (Return value) = ⊤
 
 abbrev pub StartsPass : Code → CodeFn → CodeOp → Type 0
 StartsPass code f (Go n from passes removes) = StartPasses f (slice_get code.functions n) from passes
-StartsPass code f op = ⊤
+StartsPass code f (Do to action from removes) = ⊤
+StartsPass code f (Call to n from passes protects removes) = ⊤
+StartsPass code f (Print pieces from removes) = ⊤
+StartsPass code f (Jump target removes) = ⊤
+StartsPass code f (Branch test target removes other otherwise) = ⊤
+StartsPass code f (Return value) = ⊤
 
 -- ---- rule 8: each name that the first instruction holds is that of a parameter
 

@@ -50,7 +50,24 @@ abbrev pub ActionExists : Tac → Action → Type 0
 ActionExists code (action.New n) = n < length code.structs
 ActionExists code (action.Get n) = n < length code.variables
 ActionExists code (action.Set n) = n < length code.variables
-ActionExists code action = ⊤
+ActionExists code (action.Int k) = ⊤
+ActionExists code (action.Bool b) = ⊤
+ActionExists code action.Nil = ⊤
+ActionExists code action.Copy = ⊤
+ActionExists code (action.Binary op) = ⊤
+ActionExists code action.Neg = ⊤
+ActionExists code action.Not = ⊤
+ActionExists code action.IsNil = ⊤
+ActionExists code action.Len = ⊤
+ActionExists code (action.Load k) = ⊤
+ActionExists code (action.Store k) = ⊤
+ActionExists code action.At = ⊤
+ActionExists code action.Put = ⊤
+ActionExists code action.Slice = ⊤
+ActionExists code action.Chan = ⊤
+ActionExists code action.Recv = ⊤
+ActionExists code action.Send = ⊤
+ActionExists code action.Close = ⊤
 
 -- if the variable is a pointer to a declared struct, that has a field k
 abbrev pub HasField : Tac → TacFn → (k : ℕ) → List ℕ → Type 0
@@ -62,7 +79,25 @@ HasField code f k (a ∷ others) =
 abbrev pub FieldExists : Tac → TacFn → Action → List ℕ → Type 0
 FieldExists code f (action.Load k) from = HasField code f k from
 FieldExists code f (action.Store k) from = HasField code f k from
-FieldExists code f action from = ⊤
+FieldExists code f (action.Int k) from = ⊤
+FieldExists code f (action.Bool b) from = ⊤
+FieldExists code f action.Nil from = ⊤
+FieldExists code f action.Copy from = ⊤
+FieldExists code f (action.Binary op) from = ⊤
+FieldExists code f action.Neg from = ⊤
+FieldExists code f action.Not from = ⊤
+FieldExists code f action.IsNil from = ⊤
+FieldExists code f action.Len from = ⊤
+FieldExists code f action.At from = ⊤
+FieldExists code f action.Put from = ⊤
+FieldExists code f (action.New n) from = ⊤
+FieldExists code f action.Slice from = ⊤
+FieldExists code f action.Chan from = ⊤
+FieldExists code f action.Recv from = ⊤
+FieldExists code f action.Send from = ⊤
+FieldExists code f action.Close from = ⊤
+FieldExists code f (action.Get n) from = ⊤
+FieldExists code f (action.Set n) from = ⊤
 
 -- the function is declared, has as many parameters, and a result exactly where the call has a target
 pub record CallExists (code : Tac) (to : Option ℕ) (n : ℕ) (from : List ℕ) : Type 0 where
@@ -91,7 +126,10 @@ abbrev pub leaves : Op → Bool
 leaves (Jump target) = true
 leaves (Branch test target other) = true
 leaves (Return value) = true
-leaves op = false
+leaves (Do to action from) = false
+leaves (Call to n from) = false
+leaves (Go n from) = false
+leaves (Print pieces from) = false
 
 pub record InstrExists (code : Tac) (f : TacFn) (i : ℕ) (op : Op) : Type 0 where
   pub variables : (v : ℕ) → Uses op v → v < length f.variables

@@ -11,12 +11,21 @@ creates_in (Some i) = i.creates
 abbrev pub passes_of : CodeOp → List Class
 passes_of (Call to n from passes protects removes) = passes
 passes_of (Go n from passes removes) = passes
-passes_of op = []
+passes_of (Do to action from removes) = []
+passes_of (Print pieces from removes) = []
+passes_of (Jump target removes) = []
+passes_of (Branch test target removes other otherwise) = []
+passes_of (Return value) = []
 
 -- what a call protects
 abbrev pub protects_of : CodeOp → List ℕ
 protects_of (Call to n from passes protects removes) = protects
-protects_of op = []
+protects_of (Do to action from removes) = []
+protects_of (Go n from passes removes) = []
+protects_of (Print pieces from removes) = []
+protects_of (Jump target removes) = []
+protects_of (Branch test target removes other otherwise) = []
+protects_of (Return value) = []
 
 -- what is removed after an instruction, and on the other way of a branch
 abbrev pub removes_of : CodeOp → List ℕ
@@ -30,7 +39,12 @@ removes_of (Return value) = []
 
 abbrev pub otherwise_of : CodeOp → List ℕ
 otherwise_of (Branch test target removes other otherwise) = otherwise
-otherwise_of op = []
+otherwise_of (Do to action from removes) = []
+otherwise_of (Call to n from passes protects removes) = []
+otherwise_of (Go n from passes removes) = []
+otherwise_of (Print pieces from removes) = []
+otherwise_of (Jump target removes) = []
+otherwise_of (Return value) = []
 
 abbrev pub passes_in : Option CodeInstr → List Class
 passes_in None = []

@@ -2,7 +2,7 @@
 use Rattle.std.specs.Prelude.{◌≡◌, ◌↔◌, ◌⊎◌, ◌+◌, ℕ, List, [], Some, Contains, slice_get, ⊤}
 use Rattle.std.specs.List.Sorted.{IsStrictlyIncreasing}
 use Rattle.rgo_tac.specs.declared.regions.Class.TheVariants.{Name}
-use Rattle.rgo_code.specs.Code.{CodeOp, CodeInstr, CodeFn, Code, Call, Return}
+use Rattle.rgo_code.specs.Code.{CodeOp, CodeInstr, CodeFn, Code, Call, Return, Do, Go, Print, Jump, Branch}
 use Rattle.rgo_code.specs.Names.{result_class, IsOwn, IsLiveName, Holds, Names, Gives, IsPassedTwice, IsParameterName, edges}
 
 -- rule 9: an instruction creates the own names that it uses and that are not held before it
@@ -14,7 +14,12 @@ abbrev pub ProtectsUsed : CodeFn → ℕ → CodeOp → Type 0
 ProtectsUsed f i (Call to n from passes protects removes) =
     (k : ℕ) → Contains protects k
     ↔ (Contains passes (Name k) × (IsLiveName f k (i + 1) ⊎ ((result_class f ≡ Name k) ⊎ IsPassedTwice passes k)))
-ProtectsUsed f i op = ⊤
+ProtectsUsed f i (Do to action from removes) = ⊤
+ProtectsUsed f i (Go n from passes removes) = ⊤
+ProtectsUsed f i (Print pieces from removes) = ⊤
+ProtectsUsed f i (Jump target removes) = ⊤
+ProtectsUsed f i (Branch test target removes other otherwise) = ⊤
+ProtectsUsed f i (Return value) = ⊤
 
 -- what may be removed after an instruction: the names that are held or created before it and not left to a callee
 abbrev pub MayRemove : Code → CodeFn → ℕ → CodeInstr → ℕ → Type 0
@@ -46,13 +51,23 @@ pub record HoldsNothing (f : CodeFn) (i : ℕ) (instr : CodeInstr) : Type 0 wher
 
 abbrev pub ReturnsHoldNothing : CodeFn → ℕ → CodeInstr → CodeOp → Type 0
 ReturnsHoldNothing f i instr (Return value) = HoldsNothing f i instr
-ReturnsHoldNothing f i instr op = ⊤
+ReturnsHoldNothing f i instr (Do to action from removes) = ⊤
+ReturnsHoldNothing f i instr (Call to n from passes protects removes) = ⊤
+ReturnsHoldNothing f i instr (Go n from passes removes) = ⊤
+ReturnsHoldNothing f i instr (Print pieces from removes) = ⊤
+ReturnsHoldNothing f i instr (Jump target removes) = ⊤
+ReturnsHoldNothing f i instr (Branch test target removes other otherwise) = ⊤
 
 -- ---- lists of names are ascending
 
 abbrev pub protected_names : CodeOp → List ℕ
 protected_names (Call to n from passes protects removes) = protects
-protected_names op = []
+protected_names (Do to action from removes) = []
+protected_names (Go n from passes removes) = []
+protected_names (Print pieces from removes) = []
+protected_names (Jump target removes) = []
+protected_names (Branch test target removes other otherwise) = []
+protected_names (Return value) = []
 
 pub record InstrAscends (i : ℕ) (instr : CodeInstr) : Type 0 where
   pub creates : IsStrictlyIncreasing instr.creates

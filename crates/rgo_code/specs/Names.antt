@@ -29,7 +29,8 @@ member_class f member.Global = Global
 
 abbrev pub is_name : ℕ → Class → Bool
 is_name k (Name j) = nat_eq k j
-is_name k c = false
+is_name k NoClass = false
+is_name k Global = false
 
 -- ---- region parameters
 
@@ -95,7 +96,12 @@ pub record IsPassedForResult (callee : Option CodeFn) (passes : List Class) (k :
 abbrev pub Gives : Code → CodeOp → ℕ → Type 0
 Gives code (Call to n from passes protects removes) k =
     Contains passes (Name k) × (Contains protects k → ⊥) × (IsPassedForResult (slice_get code.functions n) passes k → ⊥)
-Gives code op k = ⊥
+Gives code (Do to action from removes) k = ⊥
+Gives code (Go n from passes removes) k = ⊥
+Gives code (Print pieces from removes) k = ⊥
+Gives code (Jump target removes) k = ⊥
+Gives code (Branch test target removes other otherwise) k = ⊥
+Gives code (Return value) k = ⊥
 
 -- two region parameters are given k
 pub record IsPassedTwice (passes : List Class) (k : ℕ) : Type 0 where

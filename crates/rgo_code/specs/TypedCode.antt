@@ -4,7 +4,7 @@ use Rattle.std.specs.Prelude.{◌≡◌, ◌≢◌, ◌<◌, ℕ, [], Some, None
 use Rattle.rgo_typed.specs.declared.programs.Struct.{Struct}
 use Rattle.rgo_typed.specs.declared.programs.Variable.{Variable}
 use Rattle.rgo_typed.specs.declared.types.Type.{«Type»}
-use Rattle.rgo_tac.specs.Code.{Op, Instr, TacFn, Tac, Go}
+use Rattle.rgo_tac.specs.Code.{Op, Instr, TacFn, Tac, Go, Do, Call, Print, Jump, Branch, Return}
 use Rattle.rgo_flow.specs.Live.{Live}
 use Rattle.rgo_code.specs.Exists.{TypeExists, InstrExists, StructExists, VariableExists, HeadExists, HasMain}
 use Rattle.rgo_code.specs.Types.{OpFits}
@@ -12,7 +12,12 @@ use Rattle.rgo_code.specs.Types.{OpFits}
 -- a function that is started has no result
 abbrev pub StartFits : Tac → Op → Type 0
 StartFits code (Go n from) = (callee : TacFn) → slice_get code.functions n ≡ Some callee → callee.result_type ≡ None
-StartFits code op = ⊤
+StartFits code (Do to action from) = ⊤
+StartFits code (Call to n from) = ⊤
+StartFits code (Print pieces from) = ⊤
+StartFits code (Jump target) = ⊤
+StartFits code (Branch test target other) = ⊤
+StartFits code (Return value) = ⊤
 
 -- instruction i of a function
 pub record IsTypedInstr (code : Tac) (f : TacFn) (i : ℕ) (op : Op) : Type 0 where

@@ -52,7 +52,7 @@ fn passes_by<'a>(kind: Kind, note: &'a Note) -> &'a [Class]
 {
     match kind {
         Kind::Call | Kind::Go => note.passes.items(),
-        _ => &[],
+        Kind::Branch | Kind::Return | Kind::Other => &[],
     }
 }
 
@@ -61,7 +61,7 @@ fn protects_by<'a>(kind: Kind, note: &'a Note) -> &'a [u32]
 {
     match kind {
         Kind::Call => note.protects.items(),
-        _ => &[],
+        Kind::Go | Kind::Branch | Kind::Return | Kind::Other => &[],
     }
 }
 
@@ -69,8 +69,8 @@ fn removes_by<'a>(kind: Kind, note: &'a Note) -> &'a [u32]
     ensures { (op : Op) → kind_of op ≡ kind → result.now ≡ removes_of (code_op op note.now) }
 {
     match kind {
+        Kind::Call | Kind::Go | Kind::Branch | Kind::Other => note.removes.items(),
         Kind::Return => &[],
-        _ => note.removes.items(),
     }
 }
 
@@ -79,7 +79,7 @@ fn otherwise_by<'a>(kind: Kind, note: &'a Note) -> &'a [u32]
 {
     match kind {
         Kind::Branch => note.otherwise.items(),
-        _ => &[],
+        Kind::Call | Kind::Go | Kind::Return | Kind::Other => &[],
     }
 }
 

@@ -141,6 +141,30 @@ pub(crate) fn print_action(
             variable_name(code, n),
         ),
         (Action::Set(n), None, Operands::One(a)) => print_set(out, variable_name(code, n), a),
-        _ => Ok(()),
+        (
+            Action::Int(_)
+            | Action::Bool(_)
+            | Action::Nil
+            | Action::Copy
+            | Action::Binary(_)
+            | Action::Neg
+            | Action::Not
+            | Action::IsNil
+            | Action::Len
+            | Action::Load(_)
+            | Action::Store(_)
+            | Action::At
+            | Action::Put
+            | Action::New(_)
+            | Action::Slice
+            | Action::Chan
+            | Action::Recv
+            | Action::Send
+            | Action::Close
+            | Action::Get(_)
+            | Action::Set(_),
+            _,
+            _,
+        ) => Ok(()),
     }
 }

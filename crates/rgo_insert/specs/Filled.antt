@@ -1,7 +1,7 @@
 -- Notes that say what the rules on creations, passing, protections and removals ask for.
 use Rattle.std.specs.Prelude.{◌≡◌, ℕ, List, [], Some, length, slice_get}
 use Rattle.rgo_tac.specs.declared.regions.Class.{Class}
-use Rattle.rgo_tac.specs.Code.{Op, TacFn, Call}
+use Rattle.rgo_tac.specs.Code.{Op, TacFn, Call, Do, Go, Print, Jump, Branch, Return}
 use Rattle.rgo_tac.specs.Ops.{op_in}
 use Rattle.rgo_code.specs.declared.notes.Note.{Note}
 use Rattle.rgo_code.specs.declared.notes.Regions.{Regions}
@@ -15,13 +15,23 @@ use Rattle.rgo_insert.specs.Passing.{PassesFor}
 -- a call protects what the rule asks for, and nothing else protects
 abbrev pub ProtectsFor : CodeFn → (at : ℕ) → Op → (passes : List Class) → (protects : List ℕ) → Type 0
 ProtectsFor f at (Call to n from) passes protects = IsSet protects (Protects f at passes)
-ProtectsFor f at op passes protects = protects ≡ []
+ProtectsFor f at (Do to action from) passes protects = protects ≡ []
+ProtectsFor f at (Go n from) passes protects = protects ≡ []
+ProtectsFor f at (Print pieces from) passes protects = protects ≡ []
+ProtectsFor f at (Jump target) passes protects = protects ≡ []
+ProtectsFor f at (Branch test target other) passes protects = protects ≡ []
+ProtectsFor f at (Return value) passes protects = protects ≡ []
 
 -- a call leaves these to its callee, and nothing else leaves any
 abbrev pub GivesFor : List CodeFn → Op → (passes : List Class) → (protects gives : List ℕ) → Type 0
 GivesFor functions (Call to n from) passes protects gives =
     IsSet gives (IsGiven (slice_get functions n) passes protects)
-GivesFor functions op passes protects gives = gives ≡ []
+GivesFor functions (Do to action from) passes protects gives = gives ≡ []
+GivesFor functions (Go n from) passes protects gives = gives ≡ []
+GivesFor functions (Print pieces from) passes protects gives = gives ≡ []
+GivesFor functions (Jump target) passes protects gives = gives ≡ []
+GivesFor functions (Branch test target other) passes protects gives = gives ≡ []
+GivesFor functions (Return value) passes protects gives = gives ≡ []
 
 -- the note of instruction `at`, which does this
 pub record IsRight (functions : List CodeFn) (f : CodeFn) (at : ℕ) (op : Op) (note : Note) : Type 0 where

@@ -2,8 +2,8 @@
 use Rattle.std.specs.Prelude.{◌≡◌, ◌≢◌, ◌<◌, ℕ, Bool, true, false, List, [], ◌∷◌, ◌++◌, map, Option, Some, None, length, get_or, slice_get, nat_eq}
 use Rattle.std.specs.HashMap.{HashMap, get}
 use Rattle.rgo_tac.specs.declared.regions.Class.{Class}
-use Rattle.rgo_tac.specs.declared.regions.Class.TheVariants.{NoClass, Name}
-use Rattle.rgo_tac.specs.Code.{Op, Call, Go}
+use Rattle.rgo_tac.specs.declared.regions.Class.TheVariants.{NoClass, Name, Global}
+use Rattle.rgo_tac.specs.Code.{Op, Call, Go, Do, Print, Jump, Branch, Return}
 use Rattle.rgo_code.specs.Code.{CodeFn}
 use Rattle.rgo_code.specs.Names.{class_of, is_name, parameter_classes, region_parameters, result_class}
 
@@ -35,7 +35,11 @@ ArePassedTo f (Some callee) to from passes =
 abbrev pub PassesFor : List CodeFn → CodeFn → Op → List Class → Type 0
 PassesFor functions f (Call to n from) passes = ArePassedTo f (slice_get functions n) to from passes
 PassesFor functions f (Go n from) passes = ArePassedTo f (slice_get functions n) None from passes
-PassesFor functions f op passes = passes ≡ []
+PassesFor functions f (Do to action from) passes = passes ≡ []
+PassesFor functions f (Print pieces from) passes = passes ≡ []
+PassesFor functions f (Jump target) passes = passes ≡ []
+PassesFor functions f (Branch test target other) passes = passes ≡ []
+PassesFor functions f (Return value) passes = passes ≡ []
 
 -- ---- actuals by name
 
@@ -61,4 +65,5 @@ passed_for (Some class) = class
 
 abbrev pub passed_by : {S : Type 0} → HashMap ℕ Class S → Class → Class
 passed_by found (Name k) = passed_for (get nat_eq found k)
-passed_by found class = NoClass
+passed_by found NoClass = NoClass
+passed_by found Global = NoClass

@@ -29,7 +29,12 @@ fn protects_of(
 {
     match op {
         Op::Call { .. } => protections(alloc, f, live, at, passes),
-        _ => Ok(Vec::new(alloc)),
+        Op::Do { .. }
+        | Op::Go { .. }
+        | Op::Print { .. }
+        | Op::Jump(_)
+        | Op::Branch { .. }
+        | Op::Return(_) => Ok(Vec::new(alloc)),
     }
 }
 
@@ -51,7 +56,12 @@ fn gives_of(
             Some(callee) => gives(alloc, Some(&callee), passes, protects),
             None => gives(alloc, None, passes, protects),
         },
-        _ => Ok(Vec::new(alloc)),
+        Op::Do { .. }
+        | Op::Go { .. }
+        | Op::Print { .. }
+        | Op::Jump(_)
+        | Op::Branch { .. }
+        | Op::Return(_) => Ok(Vec::new(alloc)),
     }
 }
 

@@ -158,6 +158,8 @@ pub(crate) fn passes_of(
             passed_by_number(alloc, functions, f, function, to, from)
         }
         Op::Go { function, from } => { passed_by_number(alloc, functions, f, function, None, from) }
-        _ => Ok(Vec::new(alloc)),
+        Op::Do { .. } | Op::Print { .. } | Op::Jump(_) | Op::Branch { .. } | Op::Return(_) => Ok(
+            Vec::new(alloc),
+        ),
     }
 }

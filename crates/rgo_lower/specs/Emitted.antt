@@ -78,7 +78,45 @@ with_slot b n d = record b { slots = slice_set b.slots n d }
 abbrev pub resolved : (ℕ → ℕ) → Instr → Instr
 resolved leads (code.Jump t) = code.Jump (leads t)
 resolved leads (code.Branch a t e) = code.Branch a (leads t) (leads e)
-resolved leads i = i
+resolved leads (code.Int d k) = code.Int d k
+resolved leads (code.Bool d b) = code.Bool d b
+resolved leads (code.Nil d) = code.Nil d
+resolved leads (code.Copy d a) = code.Copy d a
+resolved leads (code.CopyInt d a) = code.CopyInt d a
+resolved leads (code.CopyBool d a) = code.CopyBool d a
+resolved leads (code.Add d a b) = code.Add d a b
+resolved leads (code.Sub d a b) = code.Sub d a b
+resolved leads (code.Mul d a b) = code.Mul d a b
+resolved leads (code.Div d a b) = code.Div d a b
+resolved leads (code.Rem d a b) = code.Rem d a b
+resolved leads (code.Eq d a b) = code.Eq d a b
+resolved leads (code.Ne d a b) = code.Ne d a b
+resolved leads (code.Lt d a b) = code.Lt d a b
+resolved leads (code.Le d a b) = code.Le d a b
+resolved leads (code.Gt d a b) = code.Gt d a b
+resolved leads (code.Ge d a b) = code.Ge d a b
+resolved leads (code.Neg d a) = code.Neg d a
+resolved leads (code.Not d a) = code.Not d a
+resolved leads (code.IsNil d a) = code.IsNil d a
+resolved leads (code.Len d a) = code.Len d a
+resolved leads (code.Load d a k) = code.Load d a k
+resolved leads (code.Store a k b) = code.Store a k b
+resolved leads (code.At d a i) = code.At d a i
+resolved leads (code.Put a i b) = code.Put a i b
+resolved leads (code.New d s) = code.New d s
+resolved leads (code.Slice d n) = code.Slice d n
+resolved leads (code.Chan d n) = code.Chan d n
+resolved leads (code.Recv d c) = code.Recv d c
+resolved leads (code.Send c a) = code.Send c a
+resolved leads (code.Close c) = code.Close c
+resolved leads (code.Get d g) = code.Get d g
+resolved leads (code.Set g a) = code.Set g a
+resolved leads (code.Call d f n) = code.Call d f n
+resolved leads (code.Invoke f n) = code.Invoke f n
+resolved leads (code.Go f n) = code.Go f n
+resolved leads (code.Print p n) = code.Print p n
+resolved leads (code.Return a) = code.Return a
+resolved leads code.Leave = code.Leave
 
 -- whatever the function's labels, lists and pieces are
 abbrev pub Encodes : Instr → Op → Type 0

@@ -56,43 +56,132 @@ fn binary_instr(to: u32, op: BinaryOp, a: u32, b: u32) -> Result<Instr, AllocErr
     }
 }
 
-/// The instruction of an action that gives a value of this type. It fails where the action takes another number of
-/// operands, which never happens in a well-formed program.
-pub fn value_instr(to: u32, action: Action, from: &[u32], ty: &Type) -> Result<Instr, AllocError>
-    ensures { IfOk result (λ i. Encodes i (acts action from.now to)) }
+/// Nothing, of an action that takes no operand. Like `one_operand`, `two_operands` and `three_operands` it fails where
+/// the action has another number of operands, which never happens in a well-formed program.
+fn no_operand(from: &[u32]) -> Result<(), AllocError>
+    ensures { IfOk result (λ _. from.now ≡ []) }
 {
-    match (action, from) {
-        (Action::Int(k), []) => Ok(Instr::Int(to, k)),
-        (Action::Bool(b), []) => Ok(Instr::Bool(to, b)),
-        (Action::Nil, []) => Ok(Instr::Nil(to)),
-        (Action::Copy, [a]) => Ok(copy_instr(ty, to, *a)),
-        (Action::Binary(op), [a, b]) => binary_instr(to, op, *a, *b),
-        (Action::Neg, [a]) => Ok(Instr::Neg(to, *a)),
-        (Action::Not, [a]) => Ok(Instr::Not(to, *a)),
-        (Action::IsNil, [a]) => Ok(Instr::IsNil(to, *a)),
-        (Action::Len, [a]) => Ok(Instr::Len(to, *a)),
-        (Action::Load(k), [a]) => Ok(Instr::Load(to, *a, narrow(k)?)),
-        (Action::At, [a, i]) => Ok(Instr::At(to, *a, *i)),
-        (Action::New(n), []) => Ok(Instr::New(to, narrow(n)?)),
-        (Action::Slice, [n]) => Ok(Instr::Slice(to, *n)),
-        (Action::Chan, [n]) => Ok(Instr::Chan(to, *n)),
-        (Action::Recv, [c]) => Ok(Instr::Recv(to, *c)),
-        (Action::Get(n), []) => Ok(Instr::Get(to, narrow(n)?)),
+    match from {
+        [] => Ok(()),
         _ => Err(AllocError),
     }
 }
 
-/// The instruction of an action that gives no value. It fails as `value_instr` does.
+/// The operand of an action that takes one.
+fn one_operand(from: &[u32]) -> Result<u32, AllocError>
+    ensures { IfOk result (λ a. from.now ≡ a ∷ []) }
+{
+    match from {
+        [a] => Ok(*a),
+        _ => Err(AllocError),
+    }
+}
+
+/// The operands of an action that takes two.
+fn two_operands(from: &[u32]) -> Result<(u32, u32), AllocError>
+    ensures { IfOk result (λ both. from.now ≡ both.0 ∷ both.1 ∷ []) }
+{
+    match from {
+        [a, b] => Ok((*a, *b)),
+        _ => Err(AllocError),
+    }
+}
+
+/// The operands of an action that takes three.
+fn three_operands(from: &[u32]) -> Result<(u32, u32, u32), AllocError>
+    ensures { IfOk result (λ all. from.now ≡ all.0 ∷ all.1 ∷ all.2 ∷ []) }
+{
+    match from {
+        [a, b, c] => Ok((*a, *b, *c)),
+        _ => Err(AllocError),
+    }
+}
+
+/// The instruction of an action that gives a value of this type. It fails for an action that gives none, and where the
+/// action takes another number of operands: neither happens in a well-formed program.
+pub fn value_instr(to: u32, action: Action, from: &[u32], ty: &Type) -> Result<Instr, AllocError>
+    ensures { IfOk result (λ i. Encodes i (acts action from.now to)) }
+{
+    match action {
+        Action::Int(k) => {
+            no_operand(from)?;
+            Ok(Instr::Int(to, k))
+        }
+        Action::Bool(b) => {
+            no_operand(from)?;
+            Ok(Instr::Bool(to, b))
+        }
+        Action::Nil => {
+            no_operand(from)?;
+            Ok(Instr::Nil(to))
+        }
+        Action::Copy => Ok(copy_instr(ty, to, one_operand(from)?)),
+        Action::Binary(op) => {
+            let (a, b) = two_operands(from)?;
+            binary_instr(to, op, a, b)
+        }
+        Action::Neg => Ok(Instr::Neg(to, one_operand(from)?)),
+        Action::Not => Ok(Instr::Not(to, one_operand(from)?)),
+        Action::IsNil => Ok(Instr::IsNil(to, one_operand(from)?)),
+        Action::Len => Ok(Instr::Len(to, one_operand(from)?)),
+        Action::Load(k) => Ok(Instr::Load(to, one_operand(from)?, narrow(k)?)),
+        Action::At => {
+            let (a, i) = two_operands(from)?;
+            Ok(Instr::At(to, a, i))
+        }
+        Action::New(n) => {
+            no_operand(from)?;
+            Ok(Instr::New(to, narrow(n)?))
+        }
+        Action::Slice => Ok(Instr::Slice(to, one_operand(from)?)),
+        Action::Chan => Ok(Instr::Chan(to, one_operand(from)?)),
+        Action::Recv => Ok(Instr::Recv(to, one_operand(from)?)),
+        Action::Get(n) => {
+            no_operand(from)?;
+            Ok(Instr::Get(to, narrow(n)?))
+        }
+        Action::Store(_) | Action::Put | Action::Send | Action::Close | Action::Set(_) => {
+            Err(AllocError)
+        }
+    }
+}
+
+/// The instruction of an action that gives no value. It fails for an action that gives one, and where the action takes
+/// another number of operands.
 pub fn effect_instr(action: Action, from: &[u32]) -> Result<Instr, AllocError>
     ensures { IfOk result (λ i. Encodes i (Do None action from.now)) }
 {
-    match (action, from) {
-        (Action::Store(k), [a, b]) => Ok(Instr::Store(*a, narrow(k)?, *b)),
-        (Action::Put, [a, i, b]) => Ok(Instr::Put(*a, *i, *b)),
-        (Action::Send, [c, a]) => Ok(Instr::Send(*c, *a)),
-        (Action::Close, [c]) => Ok(Instr::Close(*c)),
-        (Action::Set(n), [a]) => Ok(Instr::Set(narrow(n)?, *a)),
-        _ => Err(AllocError),
+    match action {
+        Action::Store(k) => {
+            let (a, b) = two_operands(from)?;
+            Ok(Instr::Store(a, narrow(k)?, b))
+        }
+        Action::Put => {
+            let (a, i, b) = three_operands(from)?;
+            Ok(Instr::Put(a, i, b))
+        }
+        Action::Send => {
+            let (c, a) = two_operands(from)?;
+            Ok(Instr::Send(c, a))
+        }
+        Action::Close => Ok(Instr::Close(one_operand(from)?)),
+        Action::Set(n) => Ok(Instr::Set(narrow(n)?, one_operand(from)?)),
+        Action::Int(_)
+        | Action::Bool(_)
+        | Action::Nil
+        | Action::Copy
+        | Action::Binary(_)
+        | Action::Neg
+        | Action::Not
+        | Action::IsNil
+        | Action::Len
+        | Action::Load(_)
+        | Action::At
+        | Action::New(_)
+        | Action::Slice
+        | Action::Chan
+        | Action::Recv
+        | Action::Get(_) => { Err(AllocError) }
     }
 }
 

@@ -38,9 +38,25 @@ fn on_none(
     let value = match action {
         Action::Int(n) => Value::Int(n),
         Action::Bool(b) => Value::Bool(b),
+        Action::Nil => Value::Nil,
         Action::Get(n) => memory.variables.get(n).copied().unwrap_or(Value::Nil),
         Action::New(n) => return new_struct(alloc, memory, structs, n),
-        _ => Value::Nil,
+        Action::Copy
+        | Action::Binary(_)
+        | Action::Neg
+        | Action::Not
+        | Action::IsNil
+        | Action::Len
+        | Action::Load(_)
+        | Action::Store(_)
+        | Action::At
+        | Action::Put
+        | Action::Slice
+        | Action::Chan
+        | Action::Recv
+        | Action::Send
+        | Action::Close
+        | Action::Set(_) => Value::Nil,
     };
     Ok(Effect::Gives(value))
 }
@@ -65,7 +81,18 @@ fn on_one(
         Action::Slice => new_slice(alloc, memory, ty, x),
         Action::Chan => new_channel(alloc, memory, x),
         Action::Set(n) => Ok(set_variable(memory, n, x)),
-        _ => Ok(Effect::Gives(Value::Nil)),
+        Action::Int(_)
+        | Action::Bool(_)
+        | Action::Nil
+        | Action::Binary(_)
+        | Action::Store(_)
+        | Action::At
+        | Action::Put
+        | Action::New(_)
+        | Action::Recv
+        | Action::Send
+        | Action::Close
+        | Action::Get(_) => Ok(Effect::Gives(Value::Nil)),
     }
 }
 
@@ -77,7 +104,24 @@ fn on_two(memory: &mut Memory, action: Action, x: Value, y: Value) -> Effect
         Action::Binary(op) => answered(binary(op, x, y)),
         Action::Store(field) => store(memory, x, field, y),
         Action::At => answered(element_at(memory, x, y)),
-        _ => Effect::Gives(Value::Nil),
+        Action::Int(_)
+        | Action::Bool(_)
+        | Action::Nil
+        | Action::Copy
+        | Action::Neg
+        | Action::Not
+        | Action::IsNil
+        | Action::Len
+        | Action::Load(_)
+        | Action::Put
+        | Action::New(_)
+        | Action::Slice
+        | Action::Chan
+        | Action::Recv
+        | Action::Send
+        | Action::Close
+        | Action::Get(_)
+        | Action::Set(_) => Effect::Gives(Value::Nil),
     }
 }
 
@@ -87,7 +131,26 @@ fn on_three(memory: &mut Memory, action: Action, x: Value, y: Value, z: Value) -
 {
     match action {
         Action::Put => put(memory, x, y, z),
-        _ => Effect::Gives(Value::Nil),
+        Action::Int(_)
+        | Action::Bool(_)
+        | Action::Nil
+        | Action::Copy
+        | Action::Binary(_)
+        | Action::Neg
+        | Action::Not
+        | Action::IsNil
+        | Action::Len
+        | Action::Load(_)
+        | Action::Store(_)
+        | Action::At
+        | Action::New(_)
+        | Action::Slice
+        | Action::Chan
+        | Action::Recv
+        | Action::Send
+        | Action::Close
+        | Action::Get(_)
+        | Action::Set(_) => Effect::Gives(Value::Nil),
     }
 }
 

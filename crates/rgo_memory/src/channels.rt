@@ -40,7 +40,7 @@ pub fn receive(memory: &mut Memory, channel: Value, blank: Value) -> Option<Effe
             Some(object) => receive_from(object, blank),
             None => Some(Effect::Gives(Value::Nil)),
         },
-        _ => Some(Effect::Gives(Value::Nil)),
+        Value::Int(_) | Value::Bool(_) => Some(Effect::Gives(Value::Nil)),
     }
 }
 
@@ -49,7 +49,7 @@ fn has_value(object: &Object) -> bool
 {
     match object {
         Object::Channel(channel) => channel.closed || !channel.queue.is_empty(),
-        _ => true,
+        Object::Struct(_) | Object::Slice(_) => true,
     }
 }
 
@@ -64,7 +64,7 @@ pub fn can_receive(memory: &Memory, channel: Value) -> bool
             Some(object) => has_value(object),
             None => true,
         },
-        _ => true,
+        Value::Int(_) | Value::Bool(_) => true,
     }
 }
 
@@ -88,7 +88,7 @@ fn send_to(object: &mut Object, value: Value) -> Result<Option<Effect>, AllocErr
 {
     match object {
         Object::Channel(channel) => send_in(channel, value),
-        _ => Ok(Some(Effect::Gives(Value::Nil))),
+        Object::Struct(_) | Object::Slice(_) => Ok(Some(Effect::Gives(Value::Nil))),
     }
 }
 
@@ -108,7 +108,7 @@ pub fn send(memory: &mut Memory, channel: Value, value: Value) -> Result<Option<
             Some(object) => send_to(object, value),
             None => Ok(Some(Effect::Gives(Value::Nil))),
         },
-        _ => Ok(Some(Effect::Gives(Value::Nil))),
+        Value::Int(_) | Value::Bool(_) => Ok(Some(Effect::Gives(Value::Nil))),
     }
 }
 
@@ -117,7 +117,7 @@ fn has_room(object: &Object) -> bool
 {
     match object {
         Object::Channel(channel) => channel.closed || channel.queue.len() < channel.capacity,
-        _ => true,
+        Object::Struct(_) | Object::Slice(_) => true,
     }
 }
 
@@ -132,7 +132,7 @@ pub fn can_send(memory: &Memory, channel: Value) -> bool
             Some(object) => has_room(object),
             None => true,
         },
-        _ => true,
+        Value::Int(_) | Value::Bool(_) => true,
     }
 }
 
@@ -161,7 +161,7 @@ pub fn close(memory: &mut Memory, channel: Value) -> Effect
             Some(object) => shut(object),
             None => Effect::Gives(Value::Nil),
         },
-        _ => Effect::Gives(Value::Nil),
+        Value::Int(_) | Value::Bool(_) => Effect::Gives(Value::Nil),
     }
 }
 
@@ -170,7 +170,7 @@ fn is_meeting_place(object: &Object) -> bool
 {
     match object {
         Object::Channel(channel) => !channel.closed && channel.capacity == 0,
-        _ => false,
+        Object::Struct(_) | Object::Slice(_) => false,
     }
 }
 

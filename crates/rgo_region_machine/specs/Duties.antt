@@ -7,7 +7,7 @@ use Rattle.rgo_region_machine.specs.declared.regions.Region.TheVariants.{Global 
 use Rattle.rgo_region_machine.specs.Regions.{same_region, is_live, with_info, one_more, one_fewer, bound, unbind}
 use Rattle.rgo_region_machine.specs.Regions.{removed_once, without}
 use Rattle.rgo_region_machine.specs.States.{Duty, Create, Share, Protect, Unprotect, Remove, EndBase}
-use Rattle.rgo_region_machine.specs.States.{Offer, Taken, Environment, Holder, RegionState, top_names, with_top}
+use Rattle.rgo_region_machine.specs.States.{Offer, Taken, Environment, Holder, RegionState, top_names, with_top, NoOffer, Standing}
 
 -- the state with another holder
 abbrev pub attended : RegionState → ℕ → Holder → RegionState
@@ -94,7 +94,8 @@ duty_done s g h (EndBase r) = removal s g (record h { base = removed_once r h.ba
 -- an offer that was taken is acknowledged before anything else
 abbrev pub may_go : Offer → Bool
 may_go (Taken channel) = false
-may_go _ = true
+may_go NoOffer = true
+may_go (Standing channel) = true
 
 -- the first of the duties
 abbrev pub attend : RegionState → ℕ → Holder → List Duty → Option RegionState

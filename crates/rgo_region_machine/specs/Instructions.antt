@@ -8,7 +8,7 @@ use Rattle.rgo_machine.specs.declared.picks.Pick.{Pick}
 use Rattle.rgo_machine.specs.declared.picks.Pick.TheVariants.{One, Meet}
 use Rattle.rgo_tac.specs.Frames.{Frame}
 use Rattle.rgo_tac.specs.Tac.{TacState}
-use Rattle.rgo_code.specs.Code.{CodeOp, CodeInstr, Code, Call, Go, Return}
+use Rattle.rgo_code.specs.Code.{CodeOp, CodeInstr, Code, Call, Go, Return, Do, Print, Jump, Branch}
 use Rattle.rgo_region_machine.specs.declared.regions.Region.{Region}
 use Rattle.rgo_region_machine.specs.Duties.{may_go}
 use Rattle.rgo_region_machine.specs.Objects.{making_region, new_object, touched, may_touch, allotted}
@@ -37,6 +37,11 @@ is_ready code s h (frame ∷ callers) =
 
 -- ---- what is owed after it, and what names stand for
 
+-- the holder after an instruction of a frame that neither calls, starts nor returns
+abbrev pub holder_behind : Code → Holder → Frame → CodeOp → (next : List Frame) → Holder
+holder_behind code h frame op next =
+    record h { duties = map Remove (removes_behind frame op) ++ next_duties code next }
+
 -- the holder after an instruction of a frame, by the frames after it
 abbrev pub holder_after : Code → Holder → Frame → (callers : List Frame) → CodeOp → (next : List Frame) → Holder
 holder_after code h frame callers (Call to n from passes protects removes) next =
@@ -56,8 +61,13 @@ holder_after code h frame callers (Return value) next =
       environments = below h.environments;
       duties = caller_duties code h callers ++ next_duties code next;
     }
-holder_after code h frame callers op next =
-    record h { duties = map Remove (removes_behind frame op) ++ next_duties code next }
+holder_after code h frame callers (Do to action from removes) next =
+    holder_behind code h frame (Do to action from removes) next
+holder_after code h frame callers (Print pieces from removes) next =
+    holder_behind code h frame (Print pieces from removes) next
+holder_after code h frame callers (Jump target removes) next = holder_behind code h frame (Jump target removes) next
+holder_after code h frame callers (Branch test target removes other otherwise) next =
+    holder_behind code h frame (Branch test target removes other otherwise) next
 
 -- the holder of the goroutine that an instruction starts, if it starts one; the pending stakes are its own
 abbrev pub child_holder : Code → Holder → CodeOp → (child : List Frame) → List Holder
@@ -73,7 +83,12 @@ child_holder code h (Go n from passes removes) child =
       duties = map Remove (entry_removes (function_of code n)) ++ next_duties code child;
       offer = NoOffer;
     } ∷ []
-child_holder code h op child = []
+child_holder code h (Do to action from removes) child = []
+child_holder code h (Call to n from passes protects removes) child = []
+child_holder code h (Print pieces from removes) child = []
+child_holder code h (Jump target removes) child = []
+child_holder code h (Branch test target removes other otherwise) child = []
+child_holder code h (Return value) child = []
 
 abbrev pub last_frames : List (List Frame) → List Frame
 last_frames [] = []
@@ -145,11 +160,13 @@ one_instructed code page_words s g (Some h) (frame ∷ callers) next =
 
 abbrev pub standing_at : Offer → Bool
 standing_at (Standing channel) = true
-standing_at _ = false
+standing_at NoOffer = false
+standing_at (Taken channel) = false
 
 abbrev pub taken_offer : Offer → Offer
 taken_offer (Standing channel) = Taken channel
-taken_offer o = o
+taken_offer NoOffer = NoOffer
+taken_offer (Taken channel) = Taken channel
 
 abbrev pub side_by : Code → Holder → Frame → List Frame → List Frame → Option CodeInstr → Holder
 side_by code h frame callers next None = h

@@ -10,7 +10,7 @@ use Rattle.rgo_tac.specs.declared.regions.Class.{Class}
 use Rattle.rgo_tac.specs.declared.regions.Class.TheVariants.{NoClass}
 use Rattle.rgo_tac.specs.Frames.{Frame, values_of}
 use Rattle.rgo_tac.specs.Tac.{TacState}
-use Rattle.rgo_code.specs.Code.{CodeOp, CodeFn, Do}
+use Rattle.rgo_code.specs.Code.{CodeOp, CodeFn, Do, Call, Go, Print, Jump, Branch, Return}
 use Rattle.rgo_code.specs.Names.{class_of}
 use Rattle.rgo_region_machine.specs.declared.regions.Region.{Region}
 use Rattle.rgo_region_machine.specs.Regions.{same_region, is_live, Bindings, class_region}
@@ -22,7 +22,24 @@ abbrev pub makes_object : Action → Bool
 makes_object (action.New n) = true
 makes_object action.Slice = true
 makes_object action.Chan = true
-makes_object _ = false
+makes_object (action.Int k) = false
+makes_object (action.Bool b) = false
+makes_object action.Nil = false
+makes_object action.Copy = false
+makes_object (action.Binary op) = false
+makes_object action.Neg = false
+makes_object action.Not = false
+makes_object action.IsNil = false
+makes_object action.Len = false
+makes_object (action.Load k) = false
+makes_object (action.Store k) = false
+makes_object action.At = false
+makes_object action.Put = false
+makes_object action.Recv = false
+makes_object action.Send = false
+makes_object action.Close = false
+makes_object (action.Get n) = false
+makes_object (action.Set n) = false
 
 abbrev pub target_class : Option CodeFn → Option ℕ → Class
 target_class None to = NoClass
@@ -33,7 +50,12 @@ target_class (Some f) (Some d) = class_of f d
 abbrev pub making_region : Option CodeFn → Bindings → CodeOp → Option Region
 making_region f names (Do to action from removes) =
     if makes_object action then class_region names (target_class f to) else None
-making_region f names _ = None
+making_region f names (Call to n from passes protects removes) = None
+making_region f names (Go n from passes removes) = None
+making_region f names (Print pieces from removes) = None
+making_region f names (Jump target removes) = None
+making_region f names (Branch test target removes other otherwise) = None
+making_region f names (Return value) = None
 
 -- the object that a step made, if it made one
 abbrev pub new_object : TacState → TacState → Option Object
@@ -50,11 +72,36 @@ touched_by action.Len (value.Object o ∷ vs) = Some o
 touched_by action.Recv (value.Object o ∷ vs) = Some o
 touched_by action.Send (value.Object o ∷ vs) = Some o
 touched_by action.Close (value.Object o ∷ vs) = Some o
-touched_by _ _ = None
+touched_by (action.Load k) _ = None
+touched_by (action.Store k) _ = None
+touched_by action.At _ = None
+touched_by action.Put _ = None
+touched_by action.Len _ = None
+touched_by action.Recv _ = None
+touched_by action.Send _ = None
+touched_by action.Close _ = None
+touched_by (action.Int k) vs = None
+touched_by (action.Bool b) vs = None
+touched_by action.Nil vs = None
+touched_by action.Copy vs = None
+touched_by (action.Binary op) vs = None
+touched_by action.Neg vs = None
+touched_by action.Not vs = None
+touched_by action.IsNil vs = None
+touched_by (action.New n) vs = None
+touched_by action.Slice vs = None
+touched_by action.Chan vs = None
+touched_by (action.Get n) vs = None
+touched_by (action.Set n) vs = None
 
 abbrev pub touched : Frame → CodeOp → Option ℕ
 touched frame (Do to action from removes) = touched_by action (values_of frame from)
-touched frame _ = None
+touched frame (Call to n from passes protects removes) = None
+touched frame (Go n from passes removes) = None
+touched frame (Print pieces from removes) = None
+touched frame (Jump target removes) = None
+touched frame (Branch test target removes other otherwise) = None
+touched frame (Return value) = None
 
 abbrev pub owner_live : RegionState → Option Region → Bool
 owner_live s None = false

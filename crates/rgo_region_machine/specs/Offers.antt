@@ -3,12 +3,12 @@
 use Rattle.std.specs.Prelude.{ℕ, Bool, false, List, [], ◌∷◌, Option, Some, None}
 use Rattle.std.specs.Prelude.{slice_get, nat_eq, option_and_then, if◌then◌else◌}
 use Rattle.std.specs.List.{list_any}
-use Rattle.rgo_typed.specs.declared.actions.Action.TheVariants.{Send}
+use Rattle.rgo_typed.specs.declared.actions.Action.TheVariants as action
 use Rattle.rgo_memory.specs.declared.values.Value.{Value}
 use Rattle.rgo_memory.specs.declared.values.Value.TheVariants as value
 use Rattle.rgo_memory.specs.Channels.{is_meeting_at}
 use Rattle.rgo_tac.specs.Frames.{Frame, values_of}
-use Rattle.rgo_code.specs.Code.{CodeOp, CodeInstr, Code, Do}
+use Rattle.rgo_code.specs.Code.{CodeOp, CodeInstr, Code, Do, Call, Go, Print, Jump, Branch, Return}
 use Rattle.rgo_region_machine.specs.Duties.{attended}
 use Rattle.rgo_region_machine.specs.Instructions.{is_ready}
 use Rattle.rgo_region_machine.specs.Objects.{may_touch}
@@ -21,8 +21,33 @@ open_channel s (value.Object o ∷ v ∷ []) = if is_meeting_at (slice_get s.pla
 open_channel s _ = None
 
 abbrev pub offered_channel : RegionState → Frame → CodeOp → Option ℕ
-offered_channel s frame (Do to Send from removes) = open_channel s (values_of frame from)
-offered_channel s frame _ = None
+offered_channel s frame (Do to action.Send from removes) = open_channel s (values_of frame from)
+offered_channel s frame (Do to (action.Int k) from removes) = None
+offered_channel s frame (Do to (action.Bool b) from removes) = None
+offered_channel s frame (Do to action.Nil from removes) = None
+offered_channel s frame (Do to action.Copy from removes) = None
+offered_channel s frame (Do to (action.Binary op) from removes) = None
+offered_channel s frame (Do to action.Neg from removes) = None
+offered_channel s frame (Do to action.Not from removes) = None
+offered_channel s frame (Do to action.IsNil from removes) = None
+offered_channel s frame (Do to action.Len from removes) = None
+offered_channel s frame (Do to (action.Load k) from removes) = None
+offered_channel s frame (Do to (action.Store k) from removes) = None
+offered_channel s frame (Do to action.At from removes) = None
+offered_channel s frame (Do to action.Put from removes) = None
+offered_channel s frame (Do to (action.New n) from removes) = None
+offered_channel s frame (Do to action.Slice from removes) = None
+offered_channel s frame (Do to action.Chan from removes) = None
+offered_channel s frame (Do to action.Recv from removes) = None
+offered_channel s frame (Do to action.Close from removes) = None
+offered_channel s frame (Do to (action.Get n) from removes) = None
+offered_channel s frame (Do to (action.Set n) from removes) = None
+offered_channel s frame (Call to n from passes protects removes) = None
+offered_channel s frame (Go n from passes removes) = None
+offered_channel s frame (Print pieces from removes) = None
+offered_channel s frame (Jump target removes) = None
+offered_channel s frame (Branch test target removes other otherwise) = None
+offered_channel s frame (Return value) = None
 
 abbrev pub offers_on : ℕ → Offer → Bool
 offers_on o NoOffer = false
@@ -49,4 +74,5 @@ make_offer code s g h (frame ∷ callers) =
 abbrev pub acknowledge : RegionState → ℕ → Holder → Offer → Option RegionState
 acknowledge s g h (Taken o) =
     if may_touch s (Some o) then Some (attended s g (record h { offer = NoOffer })) else None
-acknowledge s g h _ = None
+acknowledge s g h NoOffer = None
+acknowledge s g h (Standing o) = None

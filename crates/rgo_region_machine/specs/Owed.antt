@@ -9,7 +9,7 @@ use Rattle.rgo_tac.specs.Frames.{Frame, value_at}
 use Rattle.rgo_code.specs.Code.{CodeOp, CodeInstr, CodeFn, Code, Do, Call, Go, Print, Jump, Branch, Return}
 use Rattle.rgo_code.specs.Names.{is_name, region_parameters, result_class}
 use Rattle.rgo_region_machine.specs.declared.regions.Region.{Region}
-use Rattle.rgo_region_machine.specs.declared.regions.Region.TheVariants.{Numbered}
+use Rattle.rgo_region_machine.specs.declared.regions.Region.TheVariants.{Global as GlobalRegion, Numbered}
 use Rattle.rgo_region_machine.specs.Regions.{same_region, Bindings, class_region}
 use Rattle.rgo_region_machine.specs.States.{Duty, Create, Share, Protect, Unprotect, Remove, EndBase, Holder}
 
@@ -46,12 +46,17 @@ result_of (Some f) = result_class f
 abbrev pub regions_named : List Class → List ℕ
 regions_named [] = []
 regions_named (Name k ∷ classes) = k ∷ regions_named classes
-regions_named (_ ∷ classes) = regions_named classes
+regions_named (NoClass ∷ classes) = regions_named classes
+regions_named (Global ∷ classes) = regions_named classes
 
 abbrev pub duties_of_op : CodeOp → List Duty
 duties_of_op (Call to n from passes protects removes) = map Protect protects
 duties_of_op (Go n from passes removes) = map Share (regions_named passes)
-duties_of_op _ = []
+duties_of_op (Do to action from removes) = []
+duties_of_op (Print pieces from removes) = []
+duties_of_op (Jump target removes) = []
+duties_of_op (Branch test target removes other otherwise) = []
+duties_of_op (Return value) = []
 
 abbrev pub duties_before : Option CodeInstr → List Duty
 duties_before None = []
@@ -77,7 +82,12 @@ removes_behind frame (Return value) = []
 -- after a call has returned, the end of its protections comes first
 abbrev pub duties_behind : CodeOp → List Duty
 duties_behind (Call to n from passes protects removes) = map Unprotect protects ++ map Remove removes
-duties_behind _ = []
+duties_behind (Do to action from removes) = []
+duties_behind (Go n from passes removes) = []
+duties_behind (Print pieces from removes) = []
+duties_behind (Jump target removes) = []
+duties_behind (Branch test target removes other otherwise) = []
+duties_behind (Return value) = []
 
 abbrev pub duties_behind_call : Option CodeInstr → List Duty
 duties_behind_call None = []
@@ -93,8 +103,11 @@ caller_duties code h (caller ∷ callers) = duties_behind_call (current code cal
 -- the names of a called function: its region parameters, for the regions passed
 abbrev pub passed : List Class → List (Option Region) → Bindings
 passed (Name k ∷ formals) (Some r ∷ regions) = (k, r) ∷ passed formals regions
-passed (_ ∷ formals) (_ ∷ regions) = passed formals regions
-passed _ _ = []
+passed (Name k ∷ formals) (None ∷ regions) = passed formals regions
+passed (NoClass ∷ formals) (region ∷ regions) = passed formals regions
+passed (Global ∷ formals) (region ∷ regions) = passed formals regions
+passed (formal ∷ formals) [] = []
+passed [] regions = []
 
 abbrev pub passed_regions : Bindings → List Class → List (Option Region)
 passed_regions names passes = map (class_region names) passes
@@ -102,7 +115,8 @@ passed_regions names passes = map (class_region names) passes
 abbrev pub same_class : Class → Class → Bool
 same_class NoClass c = false
 same_class Global Global = true
-same_class Global _ = false
+same_class Global NoClass = false
+same_class Global (Name k) = false
 same_class (Name k) c = is_name k c
 
 -- the names that a call leaves to its callee: passed, not protected, and not for the callee's result
@@ -110,7 +124,8 @@ abbrev pub given_names : (result : Class) → (formals passes : List Class) → 
 given_names result (formal ∷ formals) (Name k ∷ passes) protects =
     if list_any (nat_eq k) protects || same_class formal result
     then given_names result formals passes protects else k ∷ given_names result formals passes protects
-given_names result (formal ∷ formals) (_ ∷ passes) protects = given_names result formals passes protects
+given_names result (formal ∷ formals) (NoClass ∷ passes) protects = given_names result formals passes protects
+given_names result (formal ∷ formals) (Global ∷ passes) protects = given_names result formals passes protects
 given_names result _ _ protects = []
 
 abbrev pub stands_in : Region → List (Option Region) → Bool
@@ -124,4 +139,5 @@ twice [] = []
 twice (Some (Numbered r) ∷ others) =
     if stands_in (Numbered r) others && not (list_any (same_region (Numbered r)) (twice others))
     then Numbered r ∷ twice others else twice others
-twice (_ ∷ others) = twice others
+twice (Some GlobalRegion ∷ others) = twice others
+twice (None ∷ others) = twice others

@@ -1,13 +1,18 @@
 -- The branches of a function.
 use Rattle.std.specs.Prelude.{◌≡◌, ◌<◌, ℕ, List, Option, Some, None, length, slice_get}
 use Rattle.std.specs.List.Sorted.{IsStrictlyIncreasing}
-use Rattle.rgo_tac.specs.Code.{Op, TacFn, Branch}
+use Rattle.rgo_tac.specs.Code.{Op, TacFn, Branch, Do, Call, Go, Print, Jump, Return}
 use Rattle.rgo_tac.specs.Ops.{op_in}
 
 -- where a branch leads, if its variable is true and if it is false
 abbrev pub ways_of : Op → Option (ℕ × ℕ)
 ways_of (Branch test target other) = Some (target, other)
-ways_of op = None
+ways_of (Do to action from) = None
+ways_of (Call to n from) = None
+ways_of (Go n from) = None
+ways_of (Print pieces from) = None
+ways_of (Jump target) = None
+ways_of (Return value) = None
 
 abbrev pub ways_in : Option Op → Option (ℕ × ℕ)
 ways_in None = None

@@ -1,7 +1,7 @@
 -- The names that instructions use.
 use Rattle.std.specs.Prelude.{◌≡◌, ◌⊎◌, ◌↔◌, ℕ, List, Option, Some, None, option_to_list, Contains}
 use Rattle.rgo_tac.specs.declared.regions.Class.{Class}
-use Rattle.rgo_tac.specs.declared.regions.Class.TheVariants.{Name}
+use Rattle.rgo_tac.specs.declared.regions.Class.TheVariants.{Name, NoClass, Global}
 use Rattle.rgo_tac.specs.Code.{Op}
 use Rattle.rgo_tac.specs.Flow.{reads, writes}
 use Rattle.rgo_code.specs.Code.{CodeInstr, CodeFn}
@@ -10,7 +10,8 @@ use Rattle.rgo_code.specs.Names.{Names, class_of}
 -- the name that a class is, if it is one
 abbrev pub name_of : Class → Option ℕ
 name_of (Name k) = Some k
-name_of c = None
+name_of NoClass = None
+name_of Global = None
 
 -- where there is an instruction, it uses a variable of class k
 abbrev pub UsesName : CodeFn → Option CodeInstr → ℕ → Type 0

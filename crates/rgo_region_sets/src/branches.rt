@@ -21,7 +21,12 @@ fn ways_of(op: Op<'_>) -> Option<(u32, u32)>
 {
     match op {
         Op::Branch { target, other, .. } => Some((target, other)),
-        _ => None,
+        Op::Do { .. }
+        | Op::Call { .. }
+        | Op::Go { .. }
+        | Op::Print { .. }
+        | Op::Jump(_)
+        | Op::Return(_) => None,
     }
 }
 

@@ -2,7 +2,7 @@
 use Rattle.std.specs.List.{list_any}
 use Rattle.std.specs.Prelude.{Bool, Contains, List, None, Option, Some, [], false, if◌then◌else◌, length, map, nat_eq}
 use Rattle.std.specs.Prelude.{slice_get, suc, true, zero, ℕ, ◌+◌, ◌<◌, ◌∷◌, ◌≡◌, ◌≢◌}
-use Rattle.rgo_code.specs.Code.{Call, Code, CodeFn, CodeInstr, CodeOp, Go}
+use Rattle.rgo_code.specs.Code.{Call, Code, CodeFn, CodeInstr, CodeOp, Go, Do, Print, Jump, Branch, Return}
 use Rattle.rgo_code.specs.NameRules.{protected_names}
 use Rattle.rgo_code.specs.Names.{Gives, Holds, IsOwn, result_class}
 use Rattle.rgo_region_machine.specs.Owed.{current, function_at, regions_named}
@@ -111,7 +111,12 @@ Shares ks (EndBase r ∷ duties) names pending = Shares ks duties names pending
 -- the names that are shared before an instruction
 abbrev pub shared_names : CodeOp → List ℕ
 shared_names (Go n from passes removes) = regions_named passes
-shared_names op = []
+shared_names (Do to action from removes) = []
+shared_names (Call to n from passes protects removes) = []
+shared_names (Print pieces from removes) = []
+shared_names (Jump target removes) = []
+shared_names (Branch test target removes other otherwise) = []
+shared_names (Return value) = []
 
 abbrev pub shared_before : Option CodeInstr → List ℕ
 shared_before None = []
@@ -135,7 +140,12 @@ pub record Stands (code : Code) (frame : Frame) (f : Environment) (duties : List
 
 abbrev pub IsCall : CodeOp → Type 0
 IsCall (Call to n from passes protects removes) = Unit {0}
-IsCall op = ⊥
+IsCall (Do to action from removes) = ⊥
+IsCall (Go n from passes removes) = ⊥
+IsCall (Print pieces from removes) = ⊥
+IsCall (Jump target removes) = ⊥
+IsCall (Branch test target removes other otherwise) = ⊥
+IsCall (Return value) = ⊥
 
 -- a caller
 pub record Waits (code : Code) (frame : Frame) (f : Environment) : Type 0 where

@@ -8,7 +8,7 @@ use Rattle.rgo_region_machine.specs.Objects.{making_region, touched}
 use Rattle.rgo_region_machine.specs.Owed.{current, function_at}
 use Rattle.rgo_region_machine.specs.Regions.{bound, is_live}
 use Rattle.rgo_region_machine.specs.States.{Create, Duty, EndBase, Holder, Offer, Protect, RegionState, Remove, Share}
-use Rattle.rgo_region_machine.specs.States.{Taken, Unprotect, frames_of, top_names}
+use Rattle.rgo_region_machine.specs.States.{NoOffer, Standing, Taken, Unprotect, frames_of, top_names}
 use Rattle.rgo_region_machine.specs.declared.regions.Region.{Region}
 use Rattle.rgo_region_machine.specs.declared.regions.Region.TheVariants.{Global as GlobalRegion, Numbered}
 use Rattle.rgo_tac.specs.Frames.{Frame}
@@ -35,8 +35,10 @@ InstructionNames code s h (frame ∷ callers) r =
 abbrev pub NextNames : Code → RegionState → ℕ → Holder → List Duty → Offer → Region → Type 0
 NextNames code s g h (duty ∷ duties) (Taken o) r = (slice_get s.owners o ≡ Some r) ⊎ DutyNames h duty r
 NextNames code s g h [] (Taken o) r = slice_get s.owners o ≡ Some r
-NextNames code s g h (duty ∷ duties) offer r = DutyNames h duty r
-NextNames code s g h [] offer r = InstructionNames code s h (frames_of s.plain g) r
+NextNames code s g h (duty ∷ duties) NoOffer r = DutyNames h duty r
+NextNames code s g h (duty ∷ duties) (Standing o) r = DutyNames h duty r
+NextNames code s g h [] NoOffer r = InstructionNames code s h (frames_of s.plain g) r
+NextNames code s g h [] (Standing o) r = InstructionNames code s h (frames_of s.plain g) r
 
 -- the region is Global, or live with a stake of the goroutine
 abbrev pub HasStake : RegionState → Holder → Region → Type 0

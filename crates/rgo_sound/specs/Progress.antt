@@ -7,7 +7,7 @@ use Rattle.rgo_code.specs.NameRules.{Ascends}
 use Rattle.rgo_machine.specs.Runs.{Leads}
 use Rattle.rgo_machine.specs.declared.picks.Pick.{Pick}
 use Rattle.rgo_machine.specs.declared.picks.Pick.TheVariants.{Meet, One}
-use Rattle.rgo_region_machine.specs.Machine.{Event, Finish, Instruct, region_run, region_step}
+use Rattle.rgo_region_machine.specs.Machine.{Event, Finish, Instruct, region_run, region_step, Attend, TakePage, MakeOffer, Acknowledge}
 use Rattle.rgo_region_machine.specs.Objects.{new_object, words}
 use Rattle.rgo_region_machine.specs.States.{RegionState}
 use Rattle.rgo_tac.specs.Tac.{TacState, tac_step}
@@ -16,7 +16,10 @@ use Rattle.rgo_tac.specs.Tac.{TacState, tac_step}
 abbrev pub IsRegionStep : Event → Type 0
 IsRegionStep (Instruct pick) = ⊥
 IsRegionStep (Finish end) = ⊥
-IsRegionStep event = Unit {0}
+IsRegionStep (Attend g) = Unit {0}
+IsRegionStep (TakePage g) = Unit {0}
+IsRegionStep (MakeOffer g) = Unit {0}
+IsRegionStep (Acknowledge g) = Unit {0}
 
 abbrev pub AreRegionSteps : List Event → Type 0
 AreRegionSteps [] = Unit {0}

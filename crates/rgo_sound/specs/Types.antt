@@ -1,7 +1,7 @@
 -- Every value of a run of the three-address code has the type of its variable or of its cell.
 use Rattle.std.specs.Prelude.{List, Some, [], length, map, slice_get, true, ℕ, ◌∷◌, ◌≡◌}
 use Rattle.rgo_code.specs.Checked.{IsChecked}
-use Rattle.rgo_code.specs.Code.{Call, Code, CodeFn, CodeInstr, CodeOp}
+use Rattle.rgo_code.specs.Code.{Call, Code, CodeFn, CodeInstr, CodeOp, Do, Go, Print, Jump, Branch, Return}
 use Rattle.rgo_code.specs.Erasure.{erased_fn}
 use Rattle.rgo_machine.specs.declared.picks.Pick.{Pick}
 use Rattle.rgo_memory.specs.Memory.{Channel, Memory, Object, SliceObject, StructObject}
@@ -59,7 +59,12 @@ FrameFits code kinds frame = (fn : CodeFn) × (function_at code frame ≡ Some f
 -- a caller waits at its call of the function above it
 abbrev pub IsCallOf : Code → CodeOp → CodeFn → Type 0
 IsCallOf code (Call to n from passes protects removes) fn = function_of code n ≡ Some fn
-IsCallOf code op fn = ⊥
+IsCallOf code (Do to action from removes) fn = ⊥
+IsCallOf code (Go n from passes removes) fn = ⊥
+IsCallOf code (Print pieces from removes) fn = ⊥
+IsCallOf code (Jump target removes) fn = ⊥
+IsCallOf code (Branch test target removes other otherwise) fn = ⊥
+IsCallOf code (Return value) fn = ⊥
 
 abbrev pub CalledFrom : Code → Frame → List Frame → Type 0
 CalledFrom code frame [] = Unit {0}

@@ -1,6 +1,6 @@
 -- The invariant of region runs of checked code: where pointers lead.
 use Rattle.std.specs.Prelude.{List, None, Option, Some, [], length, slice_get, ℕ, ◌+◌, ◌∷◌, ◌≡◌, ◌≢◌}
-use Rattle.rgo_code.specs.Code.{Call, Code, CodeFn, CodeInstr, CodeOp}
+use Rattle.rgo_code.specs.Code.{Call, Code, CodeFn, CodeInstr, CodeOp, Do, Go, Print, Jump, Branch, Return}
 use Rattle.rgo_code.specs.Erasure.{erased_fn}
 use Rattle.rgo_code.specs.Names.{class_of}
 use Rattle.rgo_flow.specs.Live.{Live}
@@ -43,7 +43,12 @@ pub record MemoryHome (owners : List Region) (m : Memory) : Type 0 where
 -- the variable that waits for the result of a call
 abbrev pub call_target : CodeOp → Option ℕ
 call_target (Call to n from passes protects removes) = to
-call_target op = None
+call_target (Do to action from removes) = None
+call_target (Go n from passes removes) = None
+call_target (Print pieces from removes) = None
+call_target (Jump target removes) = None
+call_target (Branch test target removes other otherwise) = None
+call_target (Return value) = None
 
 -- of the top frame: what is live into its instruction
 abbrev pub TopLeads : Code → List Region → Frame → Bindings → Type 0

@@ -3,7 +3,7 @@ use Rattle.std.specs.Prelude.{ℕ, zero, suc, List, Option, Some, None, slice_ge
 use Rattle.std.specs.Option.{option_map}
 use Rattle.rgo_tac.specs.declared.regions.Member.{Member}
 use Rattle.rgo_tac.specs.declared.regions.Member.TheVariants.{Variable, Result, Global}
-use Rattle.rgo_tac.specs.Code.{Op, Call, Go, Instr, TacFn, Tac}
+use Rattle.rgo_tac.specs.Code.{Op, Call, Go, Instr, TacFn, Tac, Do, Print, Jump, Branch, Return}
 
 -- the member of this number
 abbrev pub member : ℕ → Member
@@ -21,7 +21,11 @@ pub record Called : Type 0 where
 abbrev pub call_of : Op → Option Called
 call_of (Call to n from) = Some (record { to = to; function = n; from = from })
 call_of (Go n from) = Some (record { to = None; function = n; from = from })
-call_of _ = None
+call_of (Do to action from) = None
+call_of (Print pieces from) = None
+call_of (Jump target) = None
+call_of (Branch test target other) = None
+call_of (Return value) = None
 
 -- the same for an instruction, if it exists
 abbrev pub call_in : Option Instr → Option Called

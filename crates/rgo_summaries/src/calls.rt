@@ -31,7 +31,7 @@ fn call_of<'a>(op: Op<'a>) -> Option<Call<'a>>
             function,
             from,
         }),
-        _ => None,
+        Op::Do { .. } | Op::Print { .. } | Op::Jump(_) | Op::Branch { .. } | Op::Return(_) => None,
     }
 }
 

@@ -97,7 +97,12 @@ Returns d action.Slice operands t = (operands ≡ int ∷ []) × (u : «Type») 
 Returns d action.Chan operands t = (operands ≡ int ∷ []) × (u : «Type») × (t ≡ chan_of u)
 Returns d action.Recv operands t = operands ≡ chan_of t ∷ []
 Returns d (action.Get n) operands t = (operands ≡ []) × (slice_get d.variables n ≡ Some t)
-Returns d _ operands t = ⊥
+Returns d action.Copy operands t = ⊥
+Returns d (action.Store k) operands t = ⊥
+Returns d action.Put operands t = ⊥
+Returns d action.Send operands t = ⊥
+Returns d action.Close operands t = ⊥
+Returns d (action.Set n) operands t = ⊥
 
 -- an action without value takes operands of these types
 abbrev pub Takes : Declared → Action → List «Type» → Type 0
@@ -106,4 +111,19 @@ Takes d action.Put operands = (t : «Type») × (operands ≡ slice_of t ∷ int
 Takes d action.Send operands = (t : «Type») × (operands ≡ chan_of t ∷ t ∷ [])
 Takes d action.Close operands = (t : «Type») × (operands ≡ chan_of t ∷ [])
 Takes d (action.Set n) operands = (t : «Type») × (operands ≡ t ∷ []) × (slice_get d.variables n ≡ Some t)
-Takes d _ operands = ⊥
+Takes d (action.Int k) operands = ⊥
+Takes d (action.Bool b) operands = ⊥
+Takes d action.Nil operands = ⊥
+Takes d action.Copy operands = ⊥
+Takes d (action.Binary op) operands = ⊥
+Takes d action.Neg operands = ⊥
+Takes d action.Not operands = ⊥
+Takes d action.IsNil operands = ⊥
+Takes d action.Len operands = ⊥
+Takes d (action.Load k) operands = ⊥
+Takes d action.At operands = ⊥
+Takes d (action.New n) operands = ⊥
+Takes d action.Slice operands = ⊥
+Takes d action.Chan operands = ⊥
+Takes d action.Recv operands = ⊥
+Takes d (action.Get n) operands = ⊥

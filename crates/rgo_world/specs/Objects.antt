@@ -9,7 +9,7 @@ use Rattle.rgo_memory.specs.declared.values.Value.{Value}
 use Rattle.rgo_memory.specs.declared.values.Value.TheVariants as value
 use Rattle.rgo_tac.specs.declared.regions.Class.{Class}
 use Rattle.rgo_tac.specs.declared.regions.Class.TheVariants.{NoClass, Global, Name}
-use Rattle.rgo_tac.specs.Code.{Op, Do}
+use Rattle.rgo_tac.specs.Code.{Op, Do, Call, Go, Print, Jump, Branch, Return}
 use Rattle.rgo_tac.specs.Frames.{Frame, values_of}
 use Rattle.rgo_tac.specs.Ops.{operation_of}
 use Rattle.rgo_code.specs.Names.{class_of}
@@ -49,7 +49,27 @@ abbrev pub words_made : List Struct → Action → List Value → Option ℕ
 words_made structs (action.New n) [] = struct_words (slice_get structs n)
 words_made structs action.Slice (size ∷ []) = sized_words (λ n. 1 + n) size
 words_made structs action.Chan (size ∷ []) = sized_words (λ n. 2 + max 1 n) size
-words_made structs _ _ = None
+words_made structs (action.New n) _ = None
+words_made structs action.Slice _ = None
+words_made structs action.Chan _ = None
+words_made structs (action.Int k) vs = None
+words_made structs (action.Bool b) vs = None
+words_made structs action.Nil vs = None
+words_made structs action.Copy vs = None
+words_made structs (action.Binary op) vs = None
+words_made structs action.Neg vs = None
+words_made structs action.Not vs = None
+words_made structs action.IsNil vs = None
+words_made structs action.Len vs = None
+words_made structs (action.Load k) vs = None
+words_made structs (action.Store k) vs = None
+words_made structs action.At vs = None
+words_made structs action.Put vs = None
+words_made structs action.Recv vs = None
+words_made structs action.Send vs = None
+words_made structs action.Close vs = None
+words_made structs (action.Get n) vs = None
+words_made structs (action.Set n) vs = None
 
 abbrev pub making_of : (to words : Option ℕ) → Option Making
 making_of (Some to) (Some words) = Some (record { to = to; words = words })
@@ -58,7 +78,12 @@ making_of _ _ = None
 -- the object that an instruction of a frame makes
 abbrev pub making_by : List Struct → Frame → Op → Option Making
 making_by structs frame (Do to action from) = making_of to (words_made structs action (values_of frame from))
-making_by structs frame _ = None
+making_by structs frame (Call to n from) = None
+making_by structs frame (Go n from) = None
+making_by structs frame (Print pieces from) = None
+making_by structs frame (Jump target) = None
+making_by structs frame (Branch test target other) = None
+making_by structs frame (Return value) = None
 
 -- goroutine g makes this object by its next instruction
 pub record MakesNext (w : World) (g : ℕ) (next : Next) (making : Making) : Type 0 where

@@ -13,7 +13,7 @@ use Rattle.rgo_machine.specs.Limits.{is_within}
 use Rattle.rgo_machine.specs.Runs.{Leads}
 use Rattle.rgo_machine.specs.Turns.{Turns}
 use Rattle.rgo_tac.specs.Frames.{Frame}
-use Rattle.rgo_tac.specs.Code.{Op, Call, Go, Return}
+use Rattle.rgo_tac.specs.Code.{Op, Call, Go, Return, Do, Print, Jump, Branch}
 use Rattle.rgo_tac.specs.Ops.{operation_of}
 use Rattle.rgo_tac.specs.Tac.{tac, tac_step}
 use Rattle.rgo_code.specs.Code.{CodeInstr, Code}
@@ -146,7 +146,14 @@ pub record IsNextOf (w : World) (g : ℕ) (next : Next) : Type 0 where
 -- what the three-address machine has no room for is memory
 abbrev pub without_regions : Stop → Stop
 without_regions (stop.NoRoom why) = stop.NoMemory
-without_regions other = other
+without_regions stop.Spent = stop.Spent
+without_regions stop.Waits = stop.Waits
+without_regions stop.Printed = stop.Printed
+without_regions (stop.Operated channel) = stop.Operated channel
+without_regions (stop.Ended end) = stop.Ended end
+without_regions stop.TooDeep = stop.TooDeep
+without_regions stop.Full = stop.Full
+without_regions stop.NoMemory = stop.NoMemory
 
 -- a goroutine has taken a turn of at most one step on the three-address machine; all but its state and the count of steps
 -- is as it was
@@ -166,7 +173,14 @@ MayStep w v g false = v ≡ w
 -- the run goes on after a turn of one step that was over so, if the step was done
 abbrev pub goes_by : Stop → (steps : ℕ) → Bool
 goes_by (stop.Ended e) steps = false
-goes_by _ steps = nat_lt 0 steps
+goes_by stop.Spent steps = nat_lt 0 steps
+goes_by stop.Waits steps = nat_lt 0 steps
+goes_by stop.Printed steps = nat_lt 0 steps
+goes_by (stop.Operated channel) steps = nat_lt 0 steps
+goes_by stop.TooDeep steps = nat_lt 0 steps
+goes_by stop.Full steps = nat_lt 0 steps
+goes_by (stop.NoRoom why) steps = nat_lt 0 steps
+goes_by stop.NoMemory steps = nat_lt 0 steps
 
 -- what a turn was, with what had to be done with regions after its step
 abbrev pub unless_failed : {A : Type 0} → Turned → Result A AllocError → Turned
@@ -282,7 +296,10 @@ abbrev pub ActsBy : Op → Type 0
 ActsBy (Call to n from) = ⊥
 ActsBy (Go n from) = ⊥
 ActsBy (Return value) = ⊥
-ActsBy op = Unit {0}
+ActsBy (Do to action from) = Unit {0}
+ActsBy (Print pieces from) = Unit {0}
+ActsBy (Jump target) = Unit {0}
+ActsBy (Branch test target other) = Unit {0}
 
 abbrev pub ActsNext : Next → Type 0
 ActsNext next = ActsBy (operation_of next.op)

@@ -19,7 +19,7 @@ use Rattle.rgo_region_machine.specs.Machine.{Event, TakePage, plain_step, region
 use Rattle.rgo_region_machine.specs.declared.regions.Region.TheVariants.{Numbered}
 use Rattle.rgo_region_machine.specs.Objects.{fill_of}
 use Rattle.rgo_region_machine.specs.Owed.{current, next_duties}
-use Rattle.rgo_region_machine.specs.States.{Duty, Create, Mark, Ended, RegionState, frames_of}
+use Rattle.rgo_region_machine.specs.States.{Duty, Create, Mark, Ended, Stopped, RegionState, frames_of}
 use Rattle.rgo_region_machine.specs.States as spec
 use Rattle.rgo_sound.specs.Progress.{MakesTooLarge}
 use Rattle.rgo_world.specs.declared.holders.Holder.{Holder}
@@ -33,7 +33,8 @@ use Rattle.rgo_world.specs.Tables.{TableShows, MemoryShows}
 
 abbrev pub end_in : Option Mark → Option End
 end_in (Some (Ended end)) = Some end
-end_in _ = None
+end_in (Some (Stopped limit)) = None
+end_in None = None
 
 -- of each goroutine
 pub record HoldersShow (w : World) (s : RegionState) : Type 0 where

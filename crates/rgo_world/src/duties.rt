@@ -275,7 +275,7 @@ impl<'a> World<'a> {
             Op::Go { .. } => {
                 self.share_all(alloc, g, creates.len(), next.function.passes(next.at))?;
             }
-            _ => {}
+            Op::Do { .. } | Op::Print { .. } | Op::Jump(_) | Op::Branch { .. } | Op::Return(_) => {}
         }
         Ok(())
     }

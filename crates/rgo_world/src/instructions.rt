@@ -23,7 +23,13 @@ fn removes_behind<'a>(frame: &Frame, next: &Next<'a>) -> &'a [u32]
 {
     match next.op {
         Op::Branch { test, .. } if !is_true(frame.value(test)) => next.function.otherwise(next.at),
-        _ => next.function.removes(next.at),
+        Op::Do { .. }
+        | Op::Call { .. }
+        | Op::Go { .. }
+        | Op::Print { .. }
+        | Op::Jump(_)
+        | Op::Branch { .. }
+        | Op::Return(_) => next.function.removes(next.at),
     }
 }
 
@@ -46,7 +52,14 @@ fn goes_on(turned: Turned) -> bool
 {
     match turned.stop {
         Stop::Ended(_) => false,
-        _ => turned.steps > 0,
+        Stop::Spent
+        | Stop::Waits
+        | Stop::Printed
+        | Stop::Operated(_)
+        | Stop::TooDeep
+        | Stop::Full
+        | Stop::NoRoom(_)
+        | Stop::NoMemory => turned.steps > 0,
     }
 }
 
@@ -56,7 +69,14 @@ fn without_regions(stop: Stop) -> Stop
 {
     match stop {
         Stop::NoRoom(_) => Stop::NoMemory,
-        _ => stop,
+        Stop::Spent
+        | Stop::Waits
+        | Stop::Printed
+        | Stop::Operated(_)
+        | Stop::Ended(_)
+        | Stop::TooDeep
+        | Stop::Full
+        | Stop::NoMemory => stop,
     }
 }
 
@@ -375,7 +395,9 @@ impl<'a> World<'a> {
             Op::Call { function, .. } => self.call(alloc, limits, g, &next, function as usize),
             Op::Go { function, .. } => self.start(alloc, limits, g, &next, function as usize),
             Op::Return(_) => self.give_back(alloc, limits, g),
-            _ => self.act(alloc, limits, g, &next),
+            Op::Do { .. } | Op::Print { .. } | Op::Jump(_) | Op::Branch { .. } => self.act(
+                alloc, limits, g, &next,
+            ),
         }
     }
 }

@@ -75,7 +75,28 @@ fn words_made(structs: &[Struct], frame: &Frame, action: Action, from: Operands)
         (Action::New(n), Operands::Zero) => struct_words(structs, n),
         (Action::Slice, Operands::One(size)) => slice_words(frame.value(size)),
         (Action::Chan, Operands::One(size)) => channel_words(frame.value(size)),
-        _ => None,
+        (Action::New(_) | Action::Slice | Action::Chan, _) => None,
+        (
+            Action::Int(_)
+            | Action::Bool(_)
+            | Action::Nil
+            | Action::Copy
+            | Action::Binary(_)
+            | Action::Neg
+            | Action::Not
+            | Action::IsNil
+            | Action::Len
+            | Action::Load(_)
+            | Action::Store(_)
+            | Action::At
+            | Action::Put
+            | Action::Recv
+            | Action::Send
+            | Action::Close
+            | Action::Get(_)
+            | Action::Set(_),
+            _,
+        ) => None,
     }
 }
 
@@ -92,7 +113,13 @@ pub(crate) fn next_object(structs: &[Struct], frame: &Frame, op: Op<'_>) -> Opti
             Some(words) => Some(Making { to, words }),
             None => None,
         },
-        _ => None,
+        Op::Do { .. }
+        | Op::Call { .. }
+        | Op::Go { .. }
+        | Op::Print { .. }
+        | Op::Jump(_)
+        | Op::Branch { .. }
+        | Op::Return(_) => None,
     }
 }
 

@@ -1,10 +1,10 @@
-use Rattle.std.proofs.Common.{Some, ap, subst, ◌∙◌, length}
+use Rattle.std.proofs.Common.{Some, ap, subst, ◌∙◌, ⊎_elim, length}
 use Rattle.std.proofs.lemmas.Result.{err_from_is_err_and}
 use Rattle.rgo_code.specs.Lists.{creates_in, passes_in, protects_in}
 use Rattle.rgo_region_machine.specs.Owed.{regions_named}
 use Rattle.rgo_tac.specs.Ops.{operation_of}
 use Rattle.rgo_world.specs.Attending.{CreatesAll, FailsToCreate, ProtectsAll, SharesAll}
-use Rattle.rgo_world.proofs.Preparing.{falls, prepares_call, prepares_silent, prepares_start, silent_next}
+use Rattle.rgo_world.proofs.Preparing.{IsSilent, falls, prepares_call, prepares_silent, prepares_start}
 use Rattle.rgo_world.proofs.worlds.World.prepare.Goals as goal
 
 pub returns-in_err-create_all : goal.returns-in_err-create_all
@@ -54,15 +54,17 @@ returns-in_ok-share_all-in-Go c =
           c.in_ok-share_all-in-Go.ensures.shared));
     }
 
-pub returns-in_default : goal.returns-in_default
-returns-in_default c =
+pub returns-in-Do : goal.returns-in-Do
+returns-in-Do c =
     let at = c.requires.next in
     let w = c.args.self.now in
     let v = c.create_all.new.self in
     let names = c.creates-creates.ensures ∙ ap creates_in at.is.is_instr in
+    let silent : IsSilent (operation_of c.args.next.now.op) = ⊎_elim (λ e. rw e.3 tt) (λ r. ⊎_elim (λ e. rw e.2 tt)
+    (λ r. ⊎_elim (λ e. rw e.1 tt) (λ r. ⊎_elim (λ e. rw e.3 tt) (λ e. rw e.1 tt) r) r) r) c.in-Do.is in
     record {
       readied = λ s between.
           prepares_silent w v c.args.g c.args.next.now at
           (subst (CreatesAll w v c.args.g) names c.in_ok-create_all.ensures.created) s between
-          (silent_next c.args.next.now.op c.in_default.not-Call c.in_default.not-Go);
+          silent;
     }

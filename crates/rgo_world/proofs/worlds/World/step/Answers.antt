@@ -1,6 +1,6 @@
-use Rattle.std.proofs.Common.{sym, subst}
+use Rattle.std.proofs.Common.{sym, subst, ⊎_elim}
 use Rattle.rgo_world.specs.Works.{Takes}
-use Rattle.rgo_world.proofs.Stepping.{acting_op, next_then, ready_then, step_then, takes_halt, takes_wait}
+use Rattle.rgo_world.proofs.Stepping.{next_then, ready_then, step_then, takes_halt, takes_wait}
 use Rattle.rgo_world.proofs.worlds.World.step.Goals as goal
 
 pub returns-in_default : goal.returns-in_default
@@ -24,7 +24,8 @@ pub act-requires : goal.act-requires
 act-requires c = record {
   next = next_then c.args.self.now c.prepare.new.self c.args.limits c.args.g c.in-Ok.ensures.readied c.in-Some.next
       c.requires.on c.in-Some.ensures;
-  kind = acting_op c.in-Some.next.op c.in_default-op.not-Call c.in_default-op.not-Go c.in_default-op.not-Return;
+  kind = ⊎_elim (λ e. rw e.3 tt) (λ r. ⊎_elim (λ e. rw e.2 tt) (λ r. ⊎_elim (λ e. rw e.1 tt) (λ e. rw e.3 tt) r) r)
+      c.in-Do.is;
   ready = ready_then c.args.self.now c.prepare.new.self c.args.limits c.args.g c.in-Ok.ensures.readied c.requires.on;
 }
 
@@ -46,8 +47,8 @@ returns-in-Return c = record {
       c.give_back.new.self c.give_back.result c.give_back.ensures.takes;
 }
 
-pub returns-in_default-op : goal.returns-in_default-op
-returns-in_default-op c = record {
+pub returns-in-Do : goal.returns-in-Do
+returns-in-Do c = record {
   takes = step_then c.args.self.now c.prepare.new.self c.args.limits c.args.g c.in-Ok.ensures.readied c.act.new.self
       c.act.result c.act.ensures.takes;
 }
