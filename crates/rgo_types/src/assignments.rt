@@ -46,7 +46,24 @@ fn write_of(read: Action) -> Option<Action>
         Action::Get(number) => Some(Action::Set(number)),
         Action::Load(number) => Some(Action::Store(number)),
         Action::At => Some(Action::Put),
-        _ => None,
+        Action::Int(_)
+        | Action::Bool(_)
+        | Action::Nil
+        | Action::Copy
+        | Action::Binary(_)
+        | Action::Neg
+        | Action::Not
+        | Action::IsNil
+        | Action::Len
+        | Action::Store(_)
+        | Action::Put
+        | Action::New(_)
+        | Action::Slice
+        | Action::Chan
+        | Action::Recv
+        | Action::Send
+        | Action::Close
+        | Action::Set(_) => None,
     }
 }
 

@@ -10,12 +10,13 @@ ghost use Rattle.rgo_types.specs.Programs as spec;
 
 use crate::flow::ends;
 use crate::names::{add_bindings, count};
+use crate::nodes::check_end;
 use crate::signatures::{copied, result_kind, types};
 use crate::statements::{Enclosing, check_stmts};
 use rgo_ast::{Decl, Function as Source};
 use rgo_typed::{Function, Type};
 use rgo_typing_expressions::{Checker, Scope};
-use rgo_typing_rules::{Kind, Node, TypeError, check_node};
+use rgo_typing_rules::{Kind, TypeError};
 use std::alloc::{AllocError, Global};
 
 fn optional_type(alloc: Global, kind: Option<Kind<'_>>) -> Result<Option<Type>, AllocError>
@@ -51,7 +52,7 @@ fn check_body<'a>(top: &Checker<'_, 'a>, f: &'a Source) -> Result<Function, Type
         in_loop: false,
     };
     let body = check_stmts(&mut checker, around, &f.body)?;
-    check_node(f.end, &Node::End(f.result_type.is_some(), ends(&f.body)))?;
+    check_end(f.end, f.result_type.is_some(), ends(&f.body))?;
     Ok(Function {
         name: copied(alloc, &f.name.name)?,
         params,

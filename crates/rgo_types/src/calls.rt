@@ -18,13 +18,14 @@ ghost use Rattle.rgo_types.specs.Outcomes.{Appends, ChecksStmt, simple_outcome};
 ghost use Rattle.rgo_types.specs.Statements as spec;
 ghost use Rattle.rgo_types.specs.TypedStatements as typed;
 
+use crate::nodes::{self, check_alone, check_close, check_go_nothing, check_missing, check_print};
 use crate::prints::print;
 use rgo_ast::{Expr, Ident, Place};
 use rgo_typed::{Action, Stmt, Term};
 use rgo_typing_expressions::{
     Callee, Checked, Checker, Package, Values, bare, call, named_callee, params_of,
 };
-use rgo_typing_rules::{Node, Role, Shape, Signature, TypeError, check_node};
+use rgo_typing_rules::{Role, Shape, Signature, TypeError};
 use std::alloc::{AllocError, Global};
 
 /// A call of a function or of `len`, for what it does.
@@ -57,11 +58,11 @@ fn call_stmt<'a>(
 {
     match callee {
         Callee::Printer => {
-            check_node(at, &Node::Print(Role::Alone, &values.shapes))?;
+            check_print(at, Role::Alone, &values.shapes)?;
             Ok(print(alloc, args, values.terms, at)?)
         }
         Callee::Closer => {
-            check_node(at, &Node::CallClose(Role::Alone, &values.shapes))?;
+            check_close(at, Role::Alone, &values.shapes)?;
             Ok(Stmt::Perform(Action::Close, values.terms, at))
         }
         _ => {
@@ -123,7 +124,7 @@ pub(crate) fn plain<'a>(
 {
     let inner = bare(e);
     let stmt = alone(checker, inner)?;
-    check_node(inner.place(), &Node::Alone(checker.may_stand(e)))?;
+    check_alone(inner.place(), checker.may_stand(e))?;
     out.push(stmt)?;
     Ok(())
 }
@@ -139,13 +140,13 @@ fn check_go(
     ensures { Checks result ((at, node.Go (signature_at globals.now number) (map shape_of args.now)) ∷ []) }
 {
     match globals.functions.get(number) {
-        Some(signature) => check_node(at, &Node::Go(signature, args)),
+        Some(signature) => nodes::check_go(at, signature, args),
         None => {
             let signature = Signature {
                 params: Vec::new(alloc),
                 result_type: None,
             };
-            check_node(at, &Node::Go(&signature, args))
+            nodes::check_go(at, &signature, args)
         }
     }
 }
@@ -164,7 +165,7 @@ fn started<'a>(
 {
     match callee {
         Callee::Missing(name_at) => {
-            check_node(name_at, &Node::CallMissing)?;
+            check_missing(name_at)?;
             unreachable!();
         }
         Callee::Routine(number) => {
@@ -172,7 +173,7 @@ fn started<'a>(
             Ok(Stmt::Go(number, values.terms, at))
         }
         _ => {
-            check_node(at, &Node::GoNothing)?;
+            check_go_nothing(at)?;
             unreachable!();
         }
     }

@@ -10,12 +10,13 @@ ghost use Rattle.rgo_types.specs.Views.{Declares};
 
 use crate::bodies::check_bodies;
 use crate::imports::check_imports;
+use crate::nodes::check_text_end;
 use crate::numbering::number_decls;
 use crate::signatures::check_decls;
 use rgo_ast::Program;
 use rgo_typed::{Row, Struct, Typed, Variable};
 use rgo_typing_expressions::{Checker, Package};
-use rgo_typing_rules::{Meaning, Node, TypeError, check_node};
+use rgo_typing_rules::{Meaning, TypeError};
 use std::alloc::Global;
 
 /// Whether there is a function `main` without parameters and result.
@@ -83,7 +84,7 @@ pub fn check(alloc: Global, program: &Program) -> Result<Typed, TypeError>
     ensures typed { IfOk result (λ tree. typed_of tree ≡ typed_program (program_of program.now)) }
 {
     let declared = check_package(alloc, program)?;
-    check_node(program.end, &Node::TextEnd(has_main(&declared.package)))?;
+    check_text_end(program.end, has_main(&declared.package))?;
     let functions = check_bodies(&Checker::new(alloc, &declared.package), &program.decls)?;
     Ok(Typed {
         structs: Row::new(declared.structs),

@@ -6,8 +6,9 @@ ghost use Rattle.rgo_ast.specs.Views.{import_of};
 ghost use Rattle.rgo_typing_rules.specs.Checks.{Checks};
 ghost use Rattle.rgo_types.specs.Imports as spec;
 
+use crate::nodes::check_import;
 use rgo_ast::{Import, ImportPath};
-use rgo_typing_rules::{Node, TypeError, check_node, is_fmt};
+use rgo_typing_rules::{TypeError, is_fmt};
 
 /// Checks imports that are declared together, and returns whether `fmt` was imported before or is
 /// among them.
@@ -17,7 +18,7 @@ fn check_paths(before: bool, paths: &[ImportPath]) -> Result<bool, TypeError>
 {
     let mut imported = before;
     for import in paths {
-        check_node(import.at, &Node::Import(imported, import.path.bytes()))?;
+        check_import(import.at, imported, import.path.bytes())?;
         imported = imported || is_fmt(import.path.bytes());
     }
     Ok(imported)

@@ -10,6 +10,7 @@ mod imports;
 mod locals;
 mod names;
 mod nested;
+mod nodes;
 mod numbering;
 mod prints;
 mod signatures;

@@ -12,10 +12,11 @@ ghost use Rattle.rgo_types.specs.Outcomes.{Appends, ChecksInto, var_outcome, var
 ghost use Rattle.rgo_types.specs.Statements as spec;
 
 use crate::names::{check_name, count};
+use crate::nodes::{check_define, check_define_as};
 use rgo_ast::{Binding, Expr, Ident, LocalVar, Place};
 use rgo_typed::{Base, Stmt};
 use rgo_typing_expressions::{Checker, with_type};
-use rgo_typing_rules::{Kind, Node, Role, Shape, TypeError, check_node};
+use rgo_typing_rules::{Kind, Role, Shape, TypeError};
 
 /// Declares a local variable in the innermost block.
 fn declare_local<'a>(
@@ -91,8 +92,8 @@ fn check_definition(wanted: Option<Kind<'_>>, shape: Shape<'_>, at: Place) -> Re
     ensures { Checks result ((at, spec.define_node (optional_kind_of wanted.entry) (shape_of shape.entry)) ∷ []) }
 {
     match wanted {
-        None => check_node(at, &Node::Define(shape)),
-        Some(kind) => check_node(at, &Node::DefineAs(kind, shape)),
+        None => check_define(at, shape),
+        Some(kind) => check_define_as(at, kind, shape),
     }
 }
 

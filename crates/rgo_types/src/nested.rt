@@ -13,10 +13,11 @@ ghost use Rattle.rgo_types.specs.Statements as spec;
 ghost use Rattle.rgo_types.specs.TypedStatements as typed;
 ghost use Rattle.rgo_types.specs.Views.{optional_shape_of, optional_term_of};
 
+use crate::nodes;
 use rgo_ast::{Expr, Place};
 use rgo_typed::{Stmt, Term};
 use rgo_typing_expressions::{Checked, Checker};
-use rgo_typing_rules::{Node, Role, TypeError, check_node};
+use rgo_typing_rules::{Role, TypeError};
 use std::alloc::{AllocError, Global};
 
 /// A block of these statements.
@@ -80,7 +81,7 @@ pub(crate) fn if_of(
     ensures { ChecksStmt result ((at, Condition (shape_of test.entry.shape)) ∷ [])
         (typed.branches has_other (term_of test.entry.term) (map stmt_of body.items) (map stmt_of other.items) at) }
 {
-    check_node(at, &Node::Condition(test.shape))?;
+    nodes::check_condition(at, test.shape)?;
     let test = Box::new(alloc, test.term)?;
     if has_other {
         Ok(Stmt::IfElse(test, body, other, at))
@@ -113,7 +114,7 @@ fn check_condition(test: &Option<Checked<'_>>, at: Place) -> Result<(), TypeErro
 {
     match test {
         None => Ok(()),
-        Some(test) => check_node(at, &Node::Condition(test.shape)),
+        Some(test) => nodes::check_condition(at, test.shape),
     }
 }
 

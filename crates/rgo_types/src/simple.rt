@@ -16,10 +16,11 @@ ghost use Rattle.rgo_types.specs.TypedStatements as typed;
 
 use crate::assignments::{assign_op, assigned, changed, step_op};
 use crate::locals::kind_in;
+use crate::nodes::{check_assign, check_branch, check_return, check_send, check_update};
 use rgo_ast::{AssignOp, BinaryOp, Expr, Place, StepOp};
 use rgo_typed::{Action, Stmt, Term};
 use rgo_typing_expressions::{Checked, Checker, constant, with_type};
-use rgo_typing_rules::{Kind, Node, Role, Shape, TypeError, check_node};
+use rgo_typing_rules::{Kind, Role, Shape, TypeError};
 use std::alloc::{AllocError, Global};
 
 /// A send of a value to a checked channel.
@@ -50,7 +51,7 @@ pub(crate) fn send<'a>(
 {
     let channel = checker.check_expr(Role::Value, channel)?;
     let value = checker.check_expr(Role::Value, value)?;
-    check_node(at, &Node::Send(channel.shape, value.shape))?;
+    check_send(at, channel.shape, value.shape)?;
     out.push(sent(checker.alloc(), channel, value.term, at)?)?;
     Ok(())
 }
@@ -76,8 +77,8 @@ fn check_assignment(
     ensures { Checks result ((at, spec.assign_node op at_place (shape_of left.entry) (shape_of right.entry)) ∷ []) }
 {
     match op {
-        None => check_node(at, &Node::Assign(at_place, left, right)),
-        Some(op) => check_node(at, &Node::Update(op, at_place, left, right)),
+        None => check_assign(at, at_place, left, right),
+        Some(op) => check_update(at, op, at_place, left, right),
     }
 }
 
@@ -125,7 +126,7 @@ pub(crate) fn step<'a>(
     let at_place = checker.is_place(e);
     let left = checker.check_expr(Role::Value, e)?;
     let one = Shape::Constant(1);
-    check_node(at, &Node::Update(op, at_place, left.shape, one))?;
+    check_update(at, op, at_place, left.shape, one)?;
     let alloc = checker.alloc();
     out.push(changed(alloc, op, left.term, constant(alloc, 1, at), at)?)?;
     Ok(())
@@ -157,13 +158,13 @@ pub(crate) fn return_value<'a>(
 {
     match value {
         None => {
-            check_node(at, &Node::Return(result_type, None))?;
+            check_return(at, result_type, None)?;
             out.push(Stmt::Return(None, at))?;
             Ok(())
         }
         Some(value) => {
             let value = checker.check_expr(Role::Value, value)?;
-            check_node(at, &Node::Return(result_type, Some(value.shape)))?;
+            check_return(at, result_type, Some(value.shape))?;
             let value = as_result(checker.alloc(), result_type, value.term)?;
             out.push(Stmt::Return(Some(Box::new(checker.alloc(), value)?), at))?;
             Ok(())
@@ -183,7 +184,7 @@ pub(crate) fn branch(
     ensures { Appends result (simple_outcome checker.now ((at, Branch in_loop) ∷ []) (stmt_of stmt))
         checker.now out.old.items out.new.items }
 {
-    check_node(at, &Node::Branch(in_loop))?;
+    check_branch(at, in_loop)?;
     out.push(stmt)?;
     Ok(())
 }

@@ -4,6 +4,7 @@
 ghost use Rattle.std.specs.Prelude.{◌≡◌, [], ◌∷◌, IfOk};
 ghost use Rattle.rgo_typed.specs.Tree as tree;
 ghost use Rattle.rgo_typed.specs.Views.{term_of};
+ghost use Rattle.rgo_typed.specs.declared.actions.Action.TheVariants.{IsNil};
 ghost use Rattle.rgo_typing_rules.specs.Checks.{Checks};
 ghost use Rattle.rgo_typing_rules.specs.Constants.{folded_shapes};
 ghost use Rattle.rgo_typing_rules.specs.Nodes as node;
@@ -12,14 +13,16 @@ ghost use Rattle.rgo_typing_rules.specs.Shapes.{is_nil_shape};
 ghost use Rattle.rgo_typing_rules.specs.Types.{plain};
 ghost use Rattle.rgo_typing_rules.specs.Views.{shape_of};
 ghost use Rattle.rgo_typing_expressions.specs.Results.{ChecksTo};
+ghost use Rattle.rgo_typing_expressions.specs.Scopes as scopes;
 ghost use Rattle.rgo_typing_expressions.specs.Terms as terms;
 ghost use Rattle.rgo_typing_expressions.specs.Types as types;
 
+use crate::nodes;
 use crate::results::Checked;
 use crate::terms::{apply_one, apply_two, constant, plain};
 use rgo_ast::{BinaryOp, Place};
 use rgo_typed::{Action, Base, Logical, Term};
-use rgo_typing_rules::{Kind, Node, Shape, TypeError, check_node, fold};
+use rgo_typing_rules::{Kind, Shape, TypeError, fold};
 use std::alloc::{AllocError, Global};
 
 /// Refuses a binary operation for the first rule that it breaks. Returns its value where it is a
@@ -36,7 +39,7 @@ fn check_binary(
     ensures value { IfOk result
         (λ n. n ≡ folded_shapes op (shape_of left.entry) (shape_of right.entry)) }
 {
-    check_node(at, &Node::Binary(op, left, right))?;
+    nodes::check_binary(at, op, left, right)?;
     match (left, right) {
         (Shape::Constant(a), Shape::Constant(b)) => Ok(fold(op, a, b)),
         _ => Ok(None),
@@ -64,6 +67,15 @@ fn opposite(alloc: Global, differs: bool, test: Term, at: Place) -> Result<Term,
     }
 }
 
+/// A test for `nil`, or its opposite.
+fn nil_test(alloc: Global, differs: bool, value: Term, at: Place) -> Result<Term, AllocError>
+    ensures { IfOk result (λ t. term_of t ≡ terms.negated differs
+        (tree.Apply IsNil (terms.one (term_of value)) scopes.bool at) at) }
+{
+    let test = apply_one(alloc, Action::IsNil, value, plain(alloc, Base::Bool), at)?;
+    opposite(alloc, differs, test, at)
+}
+
 /// `==`, or `!=`. With `nil` on one side it is a test of the other side.
 fn compared(
     alloc: Global,
@@ -77,14 +89,12 @@ fn compared(
         (is_nil_shape (shape_of left.entry.shape)) (is_nil_shape (shape_of right.entry.shape))
         (term_of left.entry.term) (term_of right.entry.term) at) }
 {
-    let ty = plain(alloc, Base::Bool);
     if left.shape.is_nil() {
-        let test = apply_one(alloc, Action::IsNil, right.term, ty, at)?;
-        opposite(alloc, differs, test, at)
+        nil_test(alloc, differs, right.term, at)
     } else if right.shape.is_nil() {
-        let test = apply_one(alloc, Action::IsNil, left.term, ty, at)?;
-        opposite(alloc, differs, test, at)
+        nil_test(alloc, differs, left.term, at)
     } else {
+        let ty = plain(alloc, Base::Bool);
         apply_two(alloc, Action::Binary(op), left.term, right.term, ty, at)
     }
 }

@@ -10,17 +10,20 @@ ghost use Rattle.rgo_typing_rules.specs.Shapes as shape;
 ghost use Rattle.rgo_typing_rules.specs.Views.{shape_of, optional_kind_of, signature_of};
 ghost use Rattle.rgo_typing_expressions.specs.Checking.{call_place, call_node};
 ghost use Rattle.rgo_typing_expressions.specs.Results.{ChecksTo, Matches};
-ghost use Rattle.rgo_typing_expressions.specs.Scopes.{int};
+ghost use Rattle.rgo_typing_expressions.specs.Scopes.{int, signature_at};
 ghost use Rattle.rgo_typing_expressions.specs.Terms as terms;
 ghost use Rattle.rgo_typing_expressions.specs.Types as types;
 
 use crate::callees::Callee;
+use crate::nodes::{
+    check_close, check_length, check_missing, check_nothing, check_print, check_routine,
+};
 use crate::packages::Package;
 use crate::results::{Checked, Values};
 use crate::terms::{atom, plain};
 use rgo_ast::Place;
 use rgo_typed::{Action, Base, Term, Type};
-use rgo_typing_rules::{Kind, Node, Role, Shape, Signature, TypeError, check_node};
+use rgo_typing_rules::{Kind, Role, Shape, Signature, TypeError};
 use std::alloc::{AllocError, Global};
 
 fn result_shape<'a>(result_type: Option<Kind<'a>>) -> Shape<'a>
@@ -61,7 +64,7 @@ fn routine<'a>(
         (tree.Call number (tree.terms_of (map term_of args.entry.terms.items))
         (terms.result_or_int (signature_of signature.now).result_type) at) }
 {
-    check_node(at, &Node::Call(role, signature, &args.shapes))?;
+    check_routine(at, role, signature, &args.shapes)?;
     let ty = result_or_int(alloc, signature.result_type)?;
     Ok(Checked {
         term: Term::Call(number, args.terms, ty, at),
@@ -76,7 +79,7 @@ fn length<'a>(alloc: Global, args: Values<'a>, at: Place) -> Result<Checked<'a>,
         (shape.Value int)
         (tree.Apply Len (tree.terms_of (map term_of args.entry.terms.items)) int at) }
 {
-    check_node(at, &Node::CallLen(&args.shapes))?;
+    check_length(at, &args.shapes)?;
     let ty = plain(alloc, Base::Int);
     Ok(Checked {
         term: Term::Apply(Action::Len, args.terms, ty, at),
@@ -91,6 +94,65 @@ fn nothing<'a>(alloc: Global, at: Place) -> Checked<'a>
     Checked {
         term: atom(alloc, Action::Nil, plain(alloc, Base::Int), at),
         shape: Shape::NoResult,
+    }
+}
+
+/// A call of `fmt.Println`.
+fn print<'a>(
+    alloc: Global,
+    role: Role,
+    args: &[Shape<'_>],
+    at: Place,
+) -> Result<Checked<'a>, TypeError>
+    ensures { ChecksTo result ((at, node.Print role (map shape_of args.now)) ∷ [])
+        shape.NoResult (terms.atom Nil int at) }
+{
+    check_print(at, role, args)?;
+    Ok(nothing(alloc, at))
+}
+
+/// A call of `close`.
+fn close<'a>(
+    alloc: Global,
+    role: Role,
+    args: &[Shape<'_>],
+    at: Place,
+) -> Result<Checked<'a>, TypeError>
+    ensures { ChecksTo result ((at, node.CallClose role (map shape_of args.now)) ∷ [])
+        shape.NoResult (terms.atom Nil int at) }
+{
+    check_close(at, role, args)?;
+    Ok(nothing(alloc, at))
+}
+
+/// A call of the function of this number.
+fn numbered<'a>(
+    alloc: Global,
+    globals: &Package<'a>,
+    role: Role,
+    number: usize,
+    args: Values<'a>,
+    at: Place,
+) -> Result<Checked<'a>, TypeError>
+    ensures { ChecksTo result
+        ((
+          at,
+          node.Call role (signature_at globals.now number)
+              (map shape_of args.entry.shapes.items),
+        ) ∷ [])
+        (types.result_shape (signature_at globals.now number).result_type)
+        (tree.Call number (tree.terms_of (map term_of args.entry.terms.items))
+        (terms.result_or_int (signature_at globals.now number).result_type) at) }
+{
+    match globals.functions.get(number) {
+        Some(signature) => routine(alloc, role, number, signature, args, at),
+        None => {
+            let signature = Signature {
+                params: Vec::new(alloc),
+                result_type: None,
+            };
+            routine(alloc, role, number, &signature, args, at)
+        }
     }
 }
 
@@ -115,31 +177,16 @@ pub fn call<'a>(
 {
     match callee {
         Callee::Missing(name_at) => {
-            check_node(name_at, &Node::CallMissing)?;
+            check_missing(name_at)?;
             unreachable!();
         }
         Callee::Nothing => {
-            check_node(at, &Node::CallNothing)?;
+            check_nothing(at)?;
             unreachable!();
         }
-        Callee::Printer => {
-            check_node(at, &Node::Print(role, &args.shapes))?;
-            Ok(nothing(alloc, at))
-        }
-        Callee::Closer => {
-            check_node(at, &Node::CallClose(role, &args.shapes))?;
-            Ok(nothing(alloc, at))
-        }
+        Callee::Printer => print(alloc, role, &args.shapes, at),
+        Callee::Closer => close(alloc, role, &args.shapes, at),
         Callee::Length => length(alloc, args, at),
-        Callee::Routine(number) => match globals.functions.get(number) {
-            Some(signature) => routine(alloc, role, number, signature, args, at),
-            None => {
-                let signature = Signature {
-                    params: Vec::new(alloc),
-                    result_type: None,
-                };
-                routine(alloc, role, number, &signature, args, at)
-            }
-        },
+        Callee::Routine(number) => numbered(alloc, globals, role, number, args, at),
     }
 }

@@ -3,7 +3,7 @@
 
 ghost use Rattle.std.specs.Prelude.{◌≡◌, [], ◌∷◌, IfOk, map};
 ghost use Rattle.rgo_ast.specs.Tree as ast;
-ghost use Rattle.rgo_ast.specs.Views.{expr_of, element_of};
+ghost use Rattle.rgo_ast.specs.Views.{expr_of, element_of, type_expr_of};
 ghost use Rattle.rgo_typing_rules.specs.Checks.{Checks};
 ghost use Rattle.rgo_typing_rules.specs.Views.{kind_of, optional_kind_of};
 ghost use Rattle.rgo_typing_rules.specs.declared.roles.Role.TheVariants.{Value};
@@ -19,12 +19,13 @@ use crate::checkers::Checker;
 use crate::keyed::{find_named, keyed};
 use crate::literals::literal;
 use crate::made::{make_buffered, make_channel, make_slice, new_object, struct_number};
+use crate::nodes::check_base_name;
 use crate::operands::{known_term, number, text, wanted_term};
 use crate::operations::{index, select, unary};
 use crate::packages::Package;
 use crate::results::{Checked, Values};
-use rgo_ast::{Element, Expr, Ident, Place};
-use rgo_typing_rules::{Kind, Meaning, Node, Role, TypeError, check_node};
+use rgo_ast::{Element, Expr, Ident, Place, TypeExpr};
+use rgo_typing_rules::{Kind, Meaning, Role, TypeError};
 
 /// No types.
 fn no_kinds<'b, 'a>(globals: &'b Package<'a>) -> &'b [Kind<'a>]
@@ -57,14 +58,40 @@ fn kinds_of<'b, 'a>(globals: &'b Package<'a>, meaning: Option<Meaning>) -> &'b [
 }
 
 impl<'p, 'a> Checker<'p, 'a> {
-    /// Refuses the struct's name of a literal or of `new`, and returns what it means.
+    /// Refuses the struct's name of a literal or of `new`.
+    fn check_struct(&self, x: &Ident) -> Result<(), TypeError>
+        ensures { Checks result (checking.base_site self.now x.now ∷ []) }
+    {
+        check_base_name(x.at, self.meaning(x.name.bytes()))
+    }
+
+    /// The same, and returns what it means.
     fn check_base(&self, x: &Ident) -> Result<Option<Meaning>, TypeError>
         ensures checked { Checks result (checking.base_site self.now x.now ∷ []) }
         ensures value { IfOk result (λ m. m ≡ meaning_of self.now x.now.name) }
     {
         let found = self.meaning(x.name.bytes());
-        check_node(x.at, &Node::BaseName(found))?;
+        check_base_name(x.at, found)?;
         Ok(found)
+    }
+
+    /// Checks `new(T)`.
+    #[tactic(auto, using(rgo_typing_rules::proofs::Refusals::refusals))]
+    fn check_new(&self, x: &Ident, at: Place) -> Result<Checked<'a>, TypeError>
+        ensures { ChecksExpr result self.now Value (ast.New x.now at) }
+    {
+        new_object(self.alloc(), self.check_base(x)?, at)
+    }
+
+    /// Checks `make(chan T)`.
+    #[tactic(auto, using(rgo_typing_rules::proofs::Refusals::refusals))]
+    fn check_make_channel(&self, element: &'a TypeExpr, at: Place) -> Result<Checked<'a>, TypeError>
+        ensures { ChecksExpr result self.now Value
+            (ast.MakeChan (type_expr_of element.now) ast.no_capacity at) }
+    {
+        self.check_type(element)?;
+        let kind = Kind::Chan(element, self.resolve_base(element));
+        Ok(make_channel(self.alloc(), kind, at)?)
     }
 
     /// Checks an expression (The Go Programming Language Specification, "Expressions").
@@ -79,17 +106,13 @@ impl<'p, 'a> Checker<'p, 'a> {
             Expr::Text(_, at) => text(alloc, role, *at),
             Expr::Name(x) => self.operand(role, x),
             Expr::Paren(inner, _) => self.check_expr(role, inner),
-            Expr::New(x, at) => new_object(alloc, self.check_base(x)?, *at),
+            Expr::New(x, at) => self.check_new(x, *at),
             Expr::MakeSlice(element, size, at) => {
                 self.check_type(element)?;
                 let kind = Kind::Slice(element, self.resolve_base(element));
                 make_slice(alloc, kind, self.check_expr(Role::Value, size)?, *at)
             }
-            Expr::MakeChan(element, None, at) => {
-                self.check_type(element)?;
-                let kind = Kind::Chan(element, self.resolve_base(element));
-                Ok(make_channel(alloc, kind, *at)?)
-            }
+            Expr::MakeChan(element, None, at) => self.check_make_channel(element, *at),
             Expr::MakeChan(element, Some(capacity), at) => {
                 self.check_type(element)?;
                 let kind = Kind::Chan(element, self.resolve_base(element));
@@ -181,36 +204,60 @@ impl<'p, 'a> Checker<'p, 'a> {
         ensures { Checks result (checking.parts self.now (expr_of e.now)) }
     {
         match e {
-            Expr::Number(_, _) | Expr::Text(_, _) | Expr::Name(_) => {}
-            Expr::Paren(inner, _) => self.check_parts(inner)?,
-            Expr::New(x, _) => {
-                self.check_base(x)?;
-            }
+            Expr::Number(_, _) | Expr::Text(_, _) | Expr::Name(_) => Ok(()),
+            Expr::Paren(inner, _) => self.check_parts(inner),
+            Expr::New(x, _) => self.check_struct(x),
             Expr::MakeSlice(element, size, _) | Expr::MakeChan(element, Some(size), _) => {
                 self.check_type(element)?;
-                self.check_expr(Role::Value, size)?;
+                self.check_value(size)
             }
-            Expr::MakeChan(element, None, _) => self.check_type(element)?,
-            Expr::Select(inner, _) | Expr::Unary(_, inner, _) => {
-                self.check_expr(Role::Value, inner)?;
-            }
+            Expr::MakeChan(element, None, _) => self.check_type(element),
+            Expr::Select(inner, _) | Expr::Unary(_, inner, _) => self.check_value(inner),
             Expr::Index(left, right, _) | Expr::Binary(_, left, right, _) => {
-                self.check_expr(Role::Value, left)?;
-                self.check_expr(Role::Value, right)?;
+                self.check_value(left)?;
+                self.check_value(right)
             }
             Expr::Call(f, args, _) => {
                 self.check_callee(f)?;
-                self.check_all(self.args_role(f), &[], args)?;
+                self.check_values(self.args_role(f), args)
             }
             Expr::Literal(x, values, _) => {
-                self.check_base(x)?;
-                self.check_all(Role::Value, &[], values)?;
+                self.check_struct(x)?;
+                self.check_values(Role::Value, values)
             }
             Expr::Keyed(x, elements, _) => {
-                self.check_base(x)?;
-                self.check_elements(&[], elements)?;
+                self.check_struct(x)?;
+                self.check_named_values(elements)
             }
         }
+    }
+
+    /// Checks an expression as a value, for its nodes alone.
+    #[cycle(expressions)]
+    fn check_value(&self, e: &'a Expr) -> Result<(), TypeError>
+        ensures { Checks result (checking.nodes self.now Value (expr_of e.now)) }
+    {
+        self.check_expr(Role::Value, e)?;
+        Ok(())
+    }
+
+    /// Checks expressions in order, for their nodes alone.
+    #[cycle(expressions)]
+    fn check_values(&self, role: Role, all: &'a [Expr]) -> Result<(), TypeError>
+        ensures { Checks result
+            (checking.all_nodes self.now role (ast.exprs_of (map expr_of all.now))) }
+    {
+        self.check_all(role, &[], all)?;
+        Ok(())
+    }
+
+    /// Checks the values of a literal by fields, for their nodes alone.
+    #[cycle(expressions)]
+    fn check_named_values(&self, elements: &'a [Element]) -> Result<(), TypeError>
+        ensures { Checks result
+            (checking.element_nodes self.now (ast.elements_of (map element_of elements.now))) }
+    {
+        self.check_elements(&[], elements)?;
         Ok(())
     }
 

@@ -10,17 +10,19 @@ ghost use Rattle.rgo_typed.specs.Views.{term_of};
 ghost use Rattle.rgo_typing_rules.specs.Nodes as node;
 ghost use Rattle.rgo_typing_rules.specs.Views.{shape_of, optional_kind_of};
 ghost use Rattle.rgo_typing_expressions.specs.Checking as checking;
-ghost use Rattle.rgo_typing_expressions.specs.Results.{ChecksTo, FieldsOf};
+ghost use Rattle.rgo_typing_expressions.specs.Results.{ChecksTo, FieldsOf, found_field};
+ghost use Rattle.rgo_typing_expressions.specs.Terms as terms;
 ghost use Rattle.rgo_typing_expressions.specs.Types as types;
 
-use crate::fields::field_in;
+use crate::fields::{Field, field_in};
 use crate::made::{pointer, struct_number};
+use crate::nodes;
 use crate::packages::{Fields, Package};
 use crate::results::{Checked, Values};
 use rgo_ast::{Element, Place};
 use rgo_scopes::Scopes;
 use rgo_typed::{Row, Term};
-use rgo_typing_rules::{Kind, Meaning, Node, TypeError, check_node};
+use rgo_typing_rules::{Kind, Meaning, TypeError};
 use std::alloc::{AllocError, Global};
 
 /// The fields that the elements of a literal name: the type of each, where there is such a field,
@@ -29,6 +31,26 @@ use std::alloc::{AllocError, Global};
 pub struct Named<'a> {
     pub kinds: Vec<Option<Kind<'a>>>,
     numbers: Vec<usize>,
+}
+
+/// The type of a field, if there is one.
+fn known_kind<'a>(field: Option<Field<'a>>) -> Option<Kind<'a>>
+    ensures { optional_kind_of result ≡ checking.known_type (found_field field.entry) }
+{
+    match field {
+        Some(field) => Some(field.kind),
+        None => None,
+    }
+}
+
+/// The number of a field, if there is one.
+fn number_or_zero(field: Option<Field<'_>>) -> usize
+    ensures { result ≡ terms.number_in (found_field field.entry) }
+{
+    match field {
+        Some(field) => field.number,
+        None => 0,
+    }
 }
 
 fn fields_named<'a>(
@@ -42,16 +64,9 @@ fn fields_named<'a>(
     let mut kinds = Vec::new(alloc);
     let mut numbers = Vec::new(alloc);
     for element in elements {
-        match field_in(fields, element.field.name.bytes()) {
-            Some(field) => {
-                kinds.push(Some(field.kind))?;
-                numbers.push(field.number)?;
-            }
-            None => {
-                kinds.push(None)?;
-                numbers.push(0)?;
-            }
-        }
+        let field = field_in(fields, element.field.name.bytes());
+        kinds.push(known_kind(field))?;
+        numbers.push(number_or_zero(field))?;
     }
     Ok(Named { kinds, numbers })
 }
@@ -119,10 +134,10 @@ pub(crate) fn keyed<'a>(
 {
     let twice = has_twice(alloc, elements)?;
     let Some(Meaning::Struct(number)) = meaning else {
-        check_node(at, &Node::Keyed(None, twice, &values.shapes))?;
+        nodes::check_keyed(at, None, twice, &values.shapes)?;
         unreachable!();
     };
-    check_node(at, &Node::Keyed(Some(&named.kinds), twice, &values.shapes))?;
+    nodes::check_keyed(at, Some(&named.kinds), twice, &values.shapes)?;
     Ok(Checked {
         term: Term::Build(number, values.terms, Row::new(named.numbers), at),
         shape: pointer(meaning),

@@ -12,6 +12,7 @@ mod laws;
 mod literals;
 mod made;
 mod names;
+mod nodes;
 mod operands;
 mod operations;
 mod packages;

@@ -14,11 +14,12 @@ ghost use Rattle.rgo_typing_expressions.specs.Terms as terms;
 ghost use Rattle.rgo_typing_expressions.specs.Types as types;
 
 use crate::made::pointer;
+use crate::nodes;
 use crate::packages::Package;
 use crate::results::{Checked, Values};
 use rgo_ast::Place;
 use rgo_typed::{Row, Term};
-use rgo_typing_rules::{Meaning, Node, Shape, TypeError, check_node};
+use rgo_typing_rules::{Meaning, Shape, TypeError};
 use std::alloc::{AllocError, Global};
 
 /// The numbers below n.
@@ -48,8 +49,8 @@ fn check_literal(
         ) ∷ []) }
 {
     match globals.structs.get(number) {
-        Some(fields) => check_node(at, &Node::Literal(Some(&fields.kinds), values)),
-        None => check_node(at, &Node::Literal(Some(&[]), values)),
+        Some(fields) => nodes::check_literal(at, Some(&fields.kinds), values),
+        None => nodes::check_literal(at, Some(&[]), values),
     }
 }
 
@@ -73,7 +74,7 @@ pub(crate) fn literal<'a>(
         (tree.terms_of (map term_of values.entry.terms.items)) at) }
 {
     let Some(Meaning::Struct(number)) = meaning else {
-        check_node(at, &Node::Literal(None, &values.shapes))?;
+        nodes::check_literal(at, None, &values.shapes)?;
         unreachable!();
     };
     check_literal(globals, number, &values.shapes, at)?;

@@ -15,12 +15,13 @@ ghost use Rattle.rgo_typing_expressions.specs.Scopes as scopes;
 ghost use Rattle.rgo_typing_expressions.specs.Terms as terms;
 ghost use Rattle.rgo_typing_expressions.specs.Types as types;
 
-use crate::results::Checked;
-use crate::terms::{apply_one, atom, constant, plain};
+use crate::nodes::{check_pointed, check_size};
+use crate::results::{Checked, applied};
+use crate::terms::{atom, constant, plain};
 use crate::types::pointer_base;
 use rgo_ast::Place;
 use rgo_typed::Action;
-use rgo_typing_rules::{Kind, Meaning, Node, Shape, TypeError, check_node};
+use rgo_typing_rules::{Kind, Meaning, Shape, TypeError};
 use std::alloc::{AllocError, Global};
 
 /// The number of the struct that a name means.
@@ -50,7 +51,7 @@ pub(crate) fn new_object<'a>(
         (terms.atom (action.New (checking.struct_number meaning))
         (plain (scopes.pointer_base meaning)) at) }
 {
-    check_node(at, &Node::Pointed(meaning))?;
+    check_pointed(at, meaning)?;
     let ty = plain(alloc, pointer_base(meaning));
     Ok(Checked {
         term: atom(alloc, Action::New(struct_number(meaning)), ty, at),
@@ -70,10 +71,8 @@ pub(crate) fn make_slice<'a>(
         (shape.Value (kind_of kind.entry))
         (tree.Apply action.Slice (terms.one (term_of size.entry.term)) (kind_of kind.entry) at) }
 {
-    check_node(at, &Node::Size(size.shape))?;
-    let term = apply_one(alloc, Action::Slice, size.term, kind.to_type(alloc)?, at)?;
-    let shape = Shape::Value(kind);
-    Ok(Checked { term, shape })
+    check_size(at, size.shape)?;
+    Ok(applied(alloc, Action::Slice, size.term, kind, at)?)
 }
 
 /// `make(chan T)`, of the channel's type: its capacity is 0.
@@ -85,10 +84,7 @@ pub(crate) fn make_channel<'a>(
     ensures { IfOk result (λ e. Matches e (shape.Value (kind_of kind.entry))
         (tree.Apply action.Chan (terms.one (terms.constant (pos 0) at)) (kind_of kind.entry) at)) }
 {
-    let capacity = constant(alloc, 0, at);
-    let term = apply_one(alloc, Action::Chan, capacity, kind.to_type(alloc)?, at)?;
-    let shape = Shape::Value(kind);
-    Ok(Checked { term, shape })
+    applied(alloc, Action::Chan, constant(alloc, 0, at), kind, at)
 }
 
 /// `make(chan T, n)`, of the channel's type and its capacity.
@@ -102,8 +98,6 @@ pub(crate) fn make_buffered<'a>(
         (shape.Value (kind_of kind.entry))
         (tree.Apply action.Chan (terms.one (term_of capacity.entry.term)) (kind_of kind.entry) at) }
 {
-    check_node(at, &Node::Size(capacity.shape))?;
-    let term = apply_one(alloc, Action::Chan, capacity.term, kind.to_type(alloc)?, at)?;
-    let shape = Shape::Value(kind);
-    Ok(Checked { term, shape })
+    check_size(at, capacity.shape)?;
+    Ok(applied(alloc, Action::Chan, capacity.term, kind, at)?)
 }

@@ -13,6 +13,7 @@ ghost use Rattle.rgo_typing_expressions.specs.Terms as terms;
 ghost use Rattle.rgo_typing_expressions.specs.Types as types;
 
 use crate::checkers::Checker;
+use crate::nodes::check_name;
 use crate::results::Checked;
 use crate::terms::{atom, constant, plain, with_type};
 use rgo_ast::{Ident, Place};
@@ -55,7 +56,7 @@ impl<'p, 'a> Checker<'p, 'a> {
             (terms.name_term self.now (meaning_of self.now x.now.name) x.now.at) }
     {
         let found = self.meaning(x.name.bytes());
-        check_node(x.at, &Node::Name(role, found))?;
+        check_name(x.at, role, found)?;
         Ok(self.named_value(found, x.at)?)
     }
 

@@ -17,12 +17,13 @@ ghost use Rattle.rgo_typing_expressions.specs.Terms as terms;
 ghost use Rattle.rgo_typing_expressions.specs.Types as types;
 
 use crate::fields::find_field;
+use crate::nodes::{self, check_index, check_selector};
 use crate::packages::Package;
-use crate::results::Checked;
-use crate::terms::{apply_one, apply_two, constant, plain};
+use crate::results::{Checked, applied, applied_to_two};
+use crate::terms::{apply_one, constant, plain};
 use rgo_ast::{Place, UnaryOp};
 use rgo_typed::{Action, Base, Term};
-use rgo_typing_rules::{Kind, Node, Shape, TypeError, check_node, fold_one};
+use rgo_typing_rules::{Kind, Shape, TypeError, fold_one};
 use std::alloc::{AllocError, Global};
 
 /// Refuses a unary operation for the first rule that it breaks. Returns its value where it is a
@@ -32,7 +33,7 @@ fn check_unary(op: UnaryOp, operand: Shape<'_>, at: Place) -> Result<Option<i64>
     ensures checked { Checks result ((at, node.Unary op (shape_of operand.entry)) ∷ []) }
     ensures value { IfOk result (λ n. n ≡ folded_shape op (shape_of operand.entry)) }
 {
-    check_node(at, &Node::Unary(op, operand))?;
+    nodes::check_unary(at, op, operand)?;
     match operand {
         Shape::Constant(n) => Ok(fold_one(op, n)),
         _ => Ok(None),
@@ -117,16 +118,11 @@ fn received<'a>(alloc: Global, channel: Checked<'a>, at: Place) -> Result<Checke
         (types.element_shape (shape_of channel.entry.shape))
         (terms.unary_term Receive (shape_of channel.entry.shape) (term_of channel.entry.term) at) }
 {
-    check_node(at, &Node::Unary(UnaryOp::Receive, channel.shape))?;
+    nodes::check_unary(at, UnaryOp::Receive, channel.shape)?;
     let Shape::Value(kind) = channel.shape else {
         unreachable!();
     };
-    let ty = kind.element().to_type(alloc)?;
-    let term = apply_one(alloc, Action::Recv, channel.term, ty, at)?;
-    Ok(Checked {
-        term,
-        shape: Shape::Value(kind.element()),
-    })
+    Ok(applied(alloc, Action::Recv, channel.term, kind.element(), at)?)
 }
 
 /// A unary operation.
@@ -163,16 +159,12 @@ pub(crate) fn index<'a>(
         (tree.Apply action.At (terms.two (term_of slice.entry.term) (term_of index.entry.term))
         (terms.element_type (shape_of slice.entry.shape)) at) }
 {
-    check_node(at, &Node::Index(slice.shape, index.shape))?;
+    check_index(at, slice.shape, index.shape)?;
     let Shape::Value(kind) = slice.shape else {
         unreachable!();
     };
-    let ty = kind.element().to_type(alloc)?;
-    let term = apply_two(alloc, Action::At, slice.term, index.term, ty, at)?;
-    Ok(Checked {
-        term,
-        shape: Shape::Value(kind.element()),
-    })
+    let element = kind.element();
+    Ok(applied_to_two(alloc, Action::At, slice.term, index.term, element, at)?)
 }
 
 /// A selector.
@@ -189,14 +181,10 @@ pub(crate) fn select<'a>(
         (types.field_shape field) (terms.field_term field (term_of operand.entry.term) at) }
 {
     let found = find_field(globals, operand.shape, name);
-    check_node(at, &Node::Selector(found.is_some()))?;
+    check_selector(at, found.is_some())?;
     let Some(field) = found else {
         unreachable!();
     };
-    let ty = field.kind.to_type(alloc)?;
-    let term = apply_one(alloc, Action::Load(field.number), operand.term, ty, at)?;
-    Ok(Checked {
-        term,
-        shape: Shape::Value(field.kind),
-    })
+    let read = Action::Load(field.number);
+    Ok(applied(alloc, read, operand.term, field.kind, at)?)
 }

@@ -9,9 +9,10 @@ ghost use Rattle.rgo_typing_expressions.specs.Checking.{type_expr_sites};
 ghost use Rattle.rgo_typing_expressions.specs.Scopes.{base_of, basic_base, pointer_base, resolved};
 
 use crate::checkers::Checker;
+use crate::nodes::{check_base_name, check_pointed, check_type_name};
 use rgo_ast::TypeExpr;
 use rgo_typed::Base;
-use rgo_typing_rules::{Kind, Meaning, Node, TypeError, check_node};
+use rgo_typing_rules::{Kind, Meaning, TypeError};
 
 fn basic_base(meaning: Option<Meaning>) -> Base
     ensures { result ≡ basic_base meaning }
@@ -56,14 +57,11 @@ impl<'p, 'a> Checker<'p, 'a> {
         ensures { Checks result (type_expr_sites self.now (type_expr_of ty.now)) }
     {
         match ty {
-            TypeExpr::Named(x) => {
-                let found = self.meaning(x.name.bytes());
-                check_node(x.at, &Node::TypeName(found))
-            }
+            TypeExpr::Named(x) => { check_type_name(x.at, self.meaning(x.name.bytes())) }
             TypeExpr::Pointer(x, at) => {
                 let found = self.meaning(x.name.bytes());
-                check_node(x.at, &Node::BaseName(found))?;
-                check_node(*at, &Node::Pointed(found))
+                check_base_name(x.at, found)?;
+                check_pointed(*at, found)
             }
             TypeExpr::Slice(element, _) | TypeExpr::Chan(element, _) => self.check_type(element),
         }

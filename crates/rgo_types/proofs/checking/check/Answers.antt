@@ -16,7 +16,7 @@ returns-in_err-functions-clause-checked c =
     let bodies = bodies_sites (outside_functions (package_of p)) p.decls in
     let main : first_refusal (end ∷ []) ≡ None =
     subst (λ b. first_refusal ((p.end, node.TextEnd b) ∷ []) ≡ None)
-    (c.has_main.ensures ∙ ap has_main c.in_ok-declared.ensures.value.0) c.in_ok-check_node.ensures in
+    (c.has_main.ensures ∙ ap has_main c.in_ok-declared.ensures.value.0) c.in_ok-check_text_end.ensures in
     let body : Refuses e (first_refusal bodies) =
     subst (λ q. Refuses e (first_refusal (bodies_sites q p.decls)))
     (c.new.ensures ∙ ap outside_functions c.in_ok-declared.ensures.value.0)

@@ -1,0 +1,156 @@
+//! The check of each kind of node, from what the rules ask about it.
+//!
+//! Each function makes one node and does nothing else. A node has many variants, and a proof
+//! carries all of them at each step of a function that holds one.
+#![tactic(auto)]
+
+ghost use Rattle.std.specs.Prelude.{[], ◌∷◌, map};
+ghost use Rattle.rgo_typing_rules.specs.Checks.{Checks};
+ghost use Rattle.rgo_typing_rules.specs.Nodes as node;
+ghost use Rattle.rgo_typing_rules.specs.Views.{shape_of, signature_of, fields_of, known_of};
+
+use rgo_ast::{BinaryOp, Place, UnaryOp};
+use rgo_typing_rules::{Kind, Meaning, Node, Role, Shape, Signature, TypeError, check_node};
+
+/// A name as a type.
+pub(crate) fn check_type_name(at: Place, meaning: Option<Meaning>) -> Result<(), TypeError>
+    ensures { Checks result ((at, node.TypeName meaning) ∷ []) }
+{
+    check_node(at, &Node::TypeName(meaning))
+}
+
+/// A name after `*` or `&`, or in `new`.
+pub(crate) fn check_base_name(at: Place, meaning: Option<Meaning>) -> Result<(), TypeError>
+    ensures { Checks result ((at, node.BaseName meaning) ∷ []) }
+{
+    check_node(at, &Node::BaseName(meaning))
+}
+
+/// The `*` or the `new` with such a name.
+pub(crate) fn check_pointed(at: Place, meaning: Option<Meaning>) -> Result<(), TypeError>
+    ensures { Checks result ((at, node.Pointed meaning) ∷ []) }
+{
+    check_node(at, &Node::Pointed(meaning))
+}
+
+/// An operand name.
+pub(crate) fn check_name(at: Place, role: Role, meaning: Option<Meaning>) -> Result<(), TypeError>
+    ensures { Checks result ((at, node.Name role meaning) ∷ []) }
+{
+    check_node(at, &Node::Name(role, meaning))
+}
+
+/// The size of a slice or the capacity of a channel, in `make`.
+pub(crate) fn check_size(at: Place, size: Shape<'_>) -> Result<(), TypeError>
+    ensures { Checks result ((at, node.Size (shape_of size.entry)) ∷ []) }
+{
+    check_node(at, &Node::Size(size))
+}
+
+/// A selector.
+pub(crate) fn check_selector(at: Place, found: bool) -> Result<(), TypeError>
+    ensures { Checks result ((at, node.Selector found) ∷ []) }
+{
+    check_node(at, &Node::Selector(found))
+}
+
+/// An index expression.
+pub(crate) fn check_index(at: Place, slice: Shape<'_>, index: Shape<'_>) -> Result<(), TypeError>
+    ensures { Checks result
+        ((at, node.Index (shape_of slice.entry) (shape_of index.entry)) ∷ []) }
+{
+    check_node(at, &Node::Index(slice, index))
+}
+
+/// A unary operation.
+pub(crate) fn check_unary(at: Place, op: UnaryOp, operand: Shape<'_>) -> Result<(), TypeError>
+    ensures { Checks result ((at, node.Unary op (shape_of operand.entry)) ∷ []) }
+{
+    check_node(at, &Node::Unary(op, operand))
+}
+
+/// A binary operation.
+pub(crate) fn check_binary(
+    at: Place,
+    op: BinaryOp,
+    left: Shape<'_>,
+    right: Shape<'_>,
+) -> Result<(), TypeError>
+    ensures { Checks result
+        ((at, node.Binary op (shape_of left.entry) (shape_of right.entry)) ∷ []) }
+{
+    check_node(at, &Node::Binary(op, left, right))
+}
+
+/// A literal by its values.
+pub(crate) fn check_literal(
+    at: Place,
+    fields: Option<&[Kind<'_>]>,
+    values: &[Shape<'_>],
+) -> Result<(), TypeError>
+    ensures { Checks result
+        ((at, node.Literal (fields_of fields.entry) (map shape_of values.now)) ∷ []) }
+{
+    check_node(at, &Node::Literal(fields, values))
+}
+
+/// A literal by fields.
+pub(crate) fn check_keyed(
+    at: Place,
+    fields: Option<&[Option<Kind<'_>>]>,
+    twice: bool,
+    values: &[Shape<'_>],
+) -> Result<(), TypeError>
+    ensures { Checks result
+        ((at, node.Keyed (known_of fields.entry) twice (map shape_of values.now)) ∷ []) }
+{
+    check_node(at, &Node::Keyed(fields, twice, values))
+}
+
+/// A call of a name that nothing declares.
+pub(crate) fn check_missing(at: Place) -> Result<(), TypeError>
+    ensures { Checks result ((at, node.CallMissing) ∷ []) }
+{
+    check_node(at, &Node::CallMissing)
+}
+
+/// A call of what is no function.
+pub(crate) fn check_nothing(at: Place) -> Result<(), TypeError>
+    ensures { Checks result ((at, node.CallNothing) ∷ []) }
+{
+    check_node(at, &Node::CallNothing)
+}
+
+/// A call of a function.
+pub(crate) fn check_routine(
+    at: Place,
+    role: Role,
+    signature: &Signature<'_>,
+    args: &[Shape<'_>],
+) -> Result<(), TypeError>
+    ensures { Checks result
+        ((at, node.Call role (signature_of signature.now) (map shape_of args.now)) ∷ []) }
+{
+    check_node(at, &Node::Call(role, signature, args))
+}
+
+/// A call of `len`.
+pub(crate) fn check_length(at: Place, args: &[Shape<'_>]) -> Result<(), TypeError>
+    ensures { Checks result ((at, node.CallLen (map shape_of args.now)) ∷ []) }
+{
+    check_node(at, &Node::CallLen(args))
+}
+
+/// A call of `close`.
+pub(crate) fn check_close(at: Place, role: Role, args: &[Shape<'_>]) -> Result<(), TypeError>
+    ensures { Checks result ((at, node.CallClose role (map shape_of args.now)) ∷ []) }
+{
+    check_node(at, &Node::CallClose(role, args))
+}
+
+/// A call of `fmt.Println`.
+pub(crate) fn check_print(at: Place, role: Role, args: &[Shape<'_>]) -> Result<(), TypeError>
+    ensures { Checks result ((at, node.Print role (map shape_of args.now)) ∷ []) }
+{
+    check_node(at, &Node::Print(role, args))
+}
