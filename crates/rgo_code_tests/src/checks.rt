@@ -7,3 +7,14 @@ use std::process::Abort;
 pub(crate) fn same<R: Abort, T: PartialEq + Debug>(rt: &R, label: &str, found: &T, wanted: &T) {
     assert_eq!(rt; found, wanted, "at {label}");
 }
+
+/// The same for a value of a row of a table.
+pub(crate) fn same_in_row<R: Abort, T: PartialEq + Debug>(
+    rt: &R,
+    label: &str,
+    row: usize,
+    found: &T,
+    wanted: &T,
+) {
+    assert_eq!(rt; found, wanted, "at {label} of row {row}");
+}

@@ -1,669 +1,565 @@
 //! Command lines with the commands that they ask for. A `|` separates two words.
+//!
+//! A line of a table has a command, a `:`, and the command line. Of `run` it has the steps, the goroutines, the pages, the
+//! words of a page, the regions, the workers, and whether it has `--stats`. Lines that begin with `#` are remarks.
 
 use crate::checks::same;
 use crate::lines::words_of;
 use rgo_command_line::{Command, RunOptions, WordsError, read_words};
-use rgo_machine::{Limits, Sizes};
+use std::alloc::{AllocError, Global};
 use std::process::Abort;
 use std::test::Fail;
 
-fn asks<R: Abort + AllocGlobal>(
-    rt: &R,
-    line: &str,
-    wanted: Result<Command, WordsError>,
-) -> Result<(), Fail> {
+fn shown_options(alloc: Global, options: RunOptions) -> Result<String, AllocError> {
+    let RunOptions {
+        limits,
+        sizes,
+        workers,
+        stats,
+    } = options;
+    format!(in alloc;
+        "run {} {} {} {} {} {workers} {stats}",
+        limits.steps, limits.goroutines, sizes.pages, sizes.page_words, sizes.regions
+    )
+}
+
+/// A command as the tables write it.
+fn shown(alloc: Global, found: Result<Command, WordsError>) -> Result<String, AllocError> {
+    match found {
+        Ok(Command::Run(options)) => shown_options(alloc, options),
+        Ok(Command::Big(number)) => format!(in alloc; "big {number}"),
+        Ok(Command::Check) => String::from_str(alloc, "check"),
+        Ok(Command::Emit) => String::from_str(alloc, "emit"),
+        Ok(Command::Code) => String::from_str(alloc, "code"),
+        Err(WordsError::Usage) => String::from_str(alloc, "usage"),
+        Err(WordsError::NoMemory) => String::from_str(alloc, "no memory"),
+    }
+}
+
+/// Command lines that ask for `run`, with its steps and its goroutines. The other options are the defaults.
+const RUNS: &str = "\
+run 4398046511104 100000 4096 256 65536 4 false: rgo|run
+run 4398046511104 100000 4096 256 65536 4 false: rgo|run|--
+run 4398046511104 100000 4096 256 65536 4 false: |run
+run 4398046511104 100000 4096 256 65536 4 false: --help|run
+run 4398046511104 100000 4096 256 65536 4 false: --steps=5|run
+run 4398046511104 100000 4096 256 65536 4 false: check|run
+# An option and its number, apart and joined.
+run 5 100000 4096 256 65536 4 false: rgo|run|--steps|5
+run 5 100000 4096 256 65536 4 false: rgo|run|--steps=5
+run 4398046511104 5 4096 256 65536 4 false: rgo|run|--goroutines|5
+run 4398046511104 5 4096 256 65536 4 false: rgo|run|--goroutines=5
+run 5 100000 4096 256 65536 4 false: rgo|run|--steps|5|--
+run 5 100000 4096 256 65536 4 false: rgo|run|--steps=5|--
+run 4398046511104 5 4096 256 65536 4 false: rgo|run|--goroutines|5|--
+run 4398046511104 5 4096 256 65536 4 false: rgo|run|--goroutines=5|--
+# Both, in any order and form.
+run 5 6 4096 256 65536 4 false: rgo|run|--steps|5|--goroutines|6
+run 5 6 4096 256 65536 4 false: rgo|run|--steps|5|--goroutines=6
+run 5 6 4096 256 65536 4 false: rgo|run|--steps=5|--goroutines|6
+run 5 6 4096 256 65536 4 false: rgo|run|--steps=5|--goroutines=6
+run 5 6 4096 256 65536 4 false: rgo|run|--goroutines|6|--steps|5
+run 5 6 4096 256 65536 4 false: rgo|run|--goroutines|6|--steps=5
+run 5 6 4096 256 65536 4 false: rgo|run|--goroutines=6|--steps|5
+run 5 6 4096 256 65536 4 false: rgo|run|--goroutines=6|--steps=5
+run 5 6 4096 256 65536 4 false: rgo|run|--goroutines=6|--steps|5|--
+run 5 6 4096 256 65536 4 false: rgo|run|--steps|5|--goroutines=6|--
+# The ends of each range.
+run 1 1 4096 256 65536 4 false: rgo|run|--steps|1|--goroutines|1
+run 4398046511104 100000 4096 256 65536 4 false: rgo|run|--steps|4398046511104
+run 4398046511103 100000 4096 256 65536 4 false: rgo|run|--steps|4398046511103
+run 4398046511104 1000000 4096 256 65536 4 false: rgo|run|--goroutines|1000000
+run 4398046511104 999999 4096 256 65536 4 false: rgo|run|--goroutines|999999
+run 4398046511104 100001 4096 256 65536 4 false: rgo|run|--goroutines|100001
+# Leading zeros.
+run 7 100000 4096 256 65536 4 false: rgo|run|--steps|007
+run 7 100000 4096 256 65536 4 false: rgo|run|--steps=007
+run 4398046511104 1000000 4096 256 65536 4 false: rgo|run|--goroutines|01000000
+run 4398046511104 10 4096 256 65536 4 false: rgo|run|--goroutines=010
+run 9 100000 4096 256 65536 4 false: rgo|run|--steps|00000000000000000000000000000000000000009
+run 4398046511104 100000 4096 256 65536 4 false: rgo|run|--steps=0004398046511104
+run 10 100000 4096 256 65536 4 false: rgo|run|--steps|10
+";
+
+/// The same with pages, the words of a page, regions, and `--stats`.
+const SIZED: &str = "\
+run 4398046511104 100000 4096 256 65536 4 false: rgo|run
+run 4398046511104 100000 4096 256 65536 4 true: rgo|run|--stats
+run 4398046511104 100000 4096 256 65536 4 true: rgo|run|--stats|--
+# An option and its number, apart and joined.
+run 4398046511104 100000 5 256 65536 4 false: rgo|run|--pages|5
+run 4398046511104 100000 5 256 65536 4 false: rgo|run|--pages=5
+run 4398046511104 100000 4096 32 65536 4 false: rgo|run|--page-words|32
+run 4398046511104 100000 4096 32 65536 4 false: rgo|run|--page-words=32
+run 4398046511104 100000 4096 256 5 4 false: rgo|run|--regions|5
+run 4398046511104 100000 4096 256 5 4 false: rgo|run|--regions=5
+run 4398046511104 100000 5 256 65536 4 false: rgo|run|--pages|5|--
+run 4398046511104 100000 4096 32 65536 4 false: rgo|run|--page-words=32|--
+run 4398046511104 100000 4096 256 5 4 false: rgo|run|--regions|5|--
+# Several, in any order and form.
+run 4398046511104 100000 1 256 65536 4 true: rgo|run|--pages=1|--stats
+run 4398046511104 100000 1 256 65536 4 true: rgo|run|--stats|--pages=1
+run 4398046511104 100000 1 256 65536 4 true: rgo|run|--stats|--pages|1|--
+run 4398046511104 100000 5 32 7 4 false: rgo|run|--pages|5|--page-words|32|--regions|7
+run 4398046511104 100000 5 32 7 4 false: rgo|run|--regions=7|--page-words=32|--pages=5
+run 4398046511104 100000 5 32 7 4 true: rgo|run|--page-words|32|--regions=7|--stats|--pages|5
+run 4398046511104 100000 5 32 7 4 true: rgo|run|--regions|7|--stats|--pages=5|--page-words=32
+run 4398046511104 100000 5 32 7 4 true: rgo|run|--steps=4398046511104|--pages=5|--goroutines|100000|--stats|--regions|7|--page-words=32
+run 4398046511104 100000 5 32 7 4 true: rgo|run|--stats|--regions|7|--page-words=32|--goroutines=100000|--pages|5|--steps|4398046511104|--
+# The ends of each range.
+run 4398046511104 100000 1 256 65536 4 false: rgo|run|--pages|1
+run 4398046511104 100000 2 256 65536 4 false: rgo|run|--pages|2
+run 4398046511104 100000 65535 256 65536 4 false: rgo|run|--pages|65535
+run 4398046511104 100000 65536 256 65536 4 false: rgo|run|--pages|65536
+run 4398046511104 100000 4096 16 65536 4 false: rgo|run|--page-words|16
+run 4398046511104 100000 4096 17 65536 4 false: rgo|run|--page-words|17
+run 4398046511104 100000 4096 4095 65536 4 false: rgo|run|--page-words|4095
+run 4398046511104 100000 4096 4096 65536 4 false: rgo|run|--page-words|4096
+run 4398046511104 100000 4096 256 1 4 false: rgo|run|--regions|1
+run 4398046511104 100000 4096 256 2 4 false: rgo|run|--regions|2
+run 4398046511104 100000 4096 256 65535 4 false: rgo|run|--regions|65535
+run 4398046511104 100000 4096 256 65536 4 false: rgo|run|--regions|65536
+# The most words of all pages.
+run 4398046511104 100000 65536 256 65536 4 false: rgo|run|--pages=65536|--page-words=256
+run 4398046511104 100000 4096 4096 65536 4 false: rgo|run|--page-words=4096|--pages=4096
+run 4398046511104 100000 65536 16 65536 4 false: rgo|run|--pages=65536|--page-words=16
+run 4398046511104 100000 5592 3000 65536 4 false: rgo|run|--pages=5592|--page-words=3000
+run 4398046511104 100000 1 16 1 4 false: rgo|run|--pages=1|--page-words=16|--regions=1
+# Leading zeros.
+run 4398046511104 100000 5 256 65536 4 false: rgo|run|--pages|005
+run 4398046511104 100000 4096 32 65536 4 false: rgo|run|--page-words=00000032
+run 4398046511104 100000 4096 256 7 4 false: rgo|run|--regions|0000000000000000000000000000007
+";
+
+/// The same with workers and `--stats`.
+const WORKED: &str = "\
+run 4398046511104 100000 4096 256 65536 4 false: rgo|run
+run 4398046511104 100000 4096 256 65536 4 true: rgo|run|--stats
+run 4398046511104 100000 4096 256 65536 2 false: rgo|run|--workers|2
+run 4398046511104 100000 4096 256 65536 2 false: rgo|run|--workers=2
+run 4398046511104 100000 4096 256 65536 2 false: rgo|run|--workers|2|--
+run 4398046511104 100000 4096 256 65536 2 false: rgo|run|--workers=2|--
+# With other options, in any order.
+run 4398046511104 100000 4096 256 65536 2 true: rgo|run|--workers|2|--stats
+run 4398046511104 100000 4096 256 65536 2 true: rgo|run|--stats|--workers=2
+run 4398046511104 100000 4096 256 65536 2 true: rgo|run|--stats|--workers|2|--
+run 4398046511104 100000 4096 256 65536 2 false: rgo|run|--workers=2|--steps=4398046511104
+run 4398046511104 100000 4096 256 65536 9 true: rgo|run|--regions=65536|--goroutines|100000|--workers|9|--pages=4096|--stats|--steps=4398046511104|--page-words|256
+# The ends of the range.
+run 4398046511104 100000 4096 256 65536 1 false: rgo|run|--workers|1
+run 4398046511104 100000 4096 256 65536 1 false: rgo|run|--workers=1
+run 4398046511104 100000 4096 256 65536 3 false: rgo|run|--workers|3
+run 4398046511104 100000 4096 256 65536 4 false: rgo|run|--workers|4
+run 4398046511104 100000 4096 256 65536 5 false: rgo|run|--workers|5
+run 4398046511104 100000 4096 256 65536 63 false: rgo|run|--workers|63
+run 4398046511104 100000 4096 256 65536 64 false: rgo|run|--workers|64
+run 4398046511104 100000 4096 256 65536 64 false: rgo|run|--workers=64
+# Leading zeros.
+run 4398046511104 100000 4096 256 65536 7 false: rgo|run|--workers|007
+run 4398046511104 100000 4096 256 65536 64 false: rgo|run|--workers=0064
+run 4398046511104 100000 4096 256 65536 9 false: rgo|run|--workers|00000000000000000000000000000000000000009
+";
+
+/// Command lines that ask for other commands.
+const OTHERS: &str = "\
+check: rgo|check
+check: rgo|check|--
+check: -|check
+emit: rgo|emit
+emit: rgo|emit|--
+emit: -|emit
+code: rgo|code
+code: rgo|code|--
+code: -|code
+big 5: rgo|big|5
+big 5: rgo|big|5|--
+big 5: rgo|big|--|5
+big 5: --steps=5|big|5
+# The ends of the range.
+big 1: rgo|big|1
+big 2: rgo|big|2
+big 9999: rgo|big|9999
+big 10000: rgo|big|10000
+big 10000: rgo|big|--|10000
+# Leading zeros.
+big 7: rgo|big|007
+big 10: rgo|big|--|0010
+big 10000: rgo|big|0010000|--
+big 9: rgo|big|00000000000000000000000000000000000000009
+";
+
+/// Command lines that ask for none.
+const REFUSED: &str = "\
+usage: rgo
+usage:\x20
+usage: run
+usage: check
+usage: rgo|
+usage: rgo|-
+usage: rgo|--
+usage: rgo|--|run
+usage: rgo|--|check
+usage: rgo||run
+usage: rgo|rgo|run
+usage: rgo|run|
+usage: rgo|run|-
+usage: rgo|run|5
+usage: rgo|run|--|
+usage: rgo|run|--|5
+usage: rgo|run|--|--
+usage: rgo|run|run
+usage: rgo|run|check
+usage: rgo|run|help
+usage: rgo|run|-h
+usage: rgo|run|--help
+usage: rgo|run|--version
+usage: rgo|check|
+usage: rgo|check|-
+usage: rgo|check|x
+usage: rgo|check|--|x
+usage: rgo|check|run
+usage: rgo|check|check
+usage: rgo|check|help
+usage: rgo|check|--help
+usage: rgo|help
+usage: rgo|help|run
+usage: rgo|--help
+usage: rgo|-h
+usage: rgo|version
+usage: rgo|--version
+usage: rgo|-V
+usage: rgo|ru
+usage: rgo|chec
+usage: rgo|runs
+usage: rgo| run
+usage: rgo|Run
+usage: rgo|RUN
+usage: rgo|ruñ
+usage: rgo|--run
+usage: rgo|--stats|run
+usage: rgo|emi
+usage: rgo|codes
+usage: rgo|Emit
+usage: rgo|--code
+usage: rgo|emit|code
+usage: rgo|emit|
+usage: rgo|emit|--|x
+usage: rgo|emit|--steps=5
+usage: rgo|code|x
+usage: rgo|code|--|--
+usage: rgo|code|--goroutines|5
+# The number of an option is missing, or no number.
+usage: rgo|run|--steps
+usage: rgo|run|--goroutines
+usage: rgo|run|--steps|
+usage: rgo|run|--steps=
+usage: rgo|run|--goroutines|
+usage: rgo|run|--goroutines=
+usage: rgo|run|--steps|--
+usage: rgo|run|--steps|--|5
+usage: rgo|run|--steps|-
+usage: rgo|run|--steps|+5
+usage: rgo|run|--steps|-5
+usage: rgo|run|--steps=+5
+usage: rgo|run|--steps=-5
+usage: rgo|run|--steps| 5
+usage: rgo|run|--steps|5\x20
+usage: rgo|run|--steps=5\x20
+usage: rgo|run|--steps|5x
+usage: rgo|run|--steps|x
+usage: rgo|run|--steps|0x5
+usage: rgo|run|--steps|5_000
+usage: rgo|run|--steps|5,000
+usage: rgo|run|--steps|5.0
+usage: rgo|run|--steps|1e3
+usage: rgo|run|--steps|٥
+usage: rgo|run|--steps|５
+usage: rgo|run|--steps==5
+usage: rgo|run|--goroutines|+1
+usage: rgo|run|--goroutines=many
+usage: rgo|run|--steps|--goroutines|5
+usage: rgo|run|--steps|--goroutines=5
+usage: rgo|run|--steps|--steps
+usage: rgo|run|--steps|run
+# A number that its option does not take.
+usage: rgo|run|--steps|0
+usage: rgo|run|--steps=0
+usage: rgo|run|--steps|000
+usage: rgo|run|--steps|4398046511105
+usage: rgo|run|--steps=4398046511105
+usage: rgo|run|--steps|18446744073709551615
+usage: rgo|run|--steps|18446744073709551616
+usage: rgo|run|--steps|18446744073709551617
+usage: rgo|run|--steps=18446744073709551621
+usage: rgo|run|--steps|340282366920938463463374607431768211457
+usage: rgo|run|--steps|99999999999999999999999999999999999999999999999999999999999999
+usage: rgo|run|--goroutines|0
+usage: rgo|run|--goroutines=0
+usage: rgo|run|--goroutines|1000001
+usage: rgo|run|--goroutines=1000001
+usage: rgo|run|--goroutines|4294967297
+usage: rgo|run|--goroutines|18446744073709551617
+usage: rgo|run|--steps|5|--goroutines|0
+usage: rgo|run|--steps|0|--goroutines|5
+# An option that occurs twice.
+usage: rgo|run|--steps|5|--steps|6
+usage: rgo|run|--steps|5|--steps|5
+usage: rgo|run|--steps=5|--steps=5
+usage: rgo|run|--steps|5|--steps=5
+usage: rgo|run|--steps=5|--steps|5
+usage: rgo|run|--goroutines|5|--goroutines|5
+usage: rgo|run|--goroutines=5|--goroutines=6
+usage: rgo|run|--steps|5|--goroutines|6|--steps|5
+usage: rgo|run|--goroutines=6|--steps=5|--goroutines=6
+# Further words.
+usage: rgo|run|--steps|5|6
+usage: rgo|run|--steps=5|6
+usage: rgo|run|--steps|5|
+usage: rgo|run|--steps=5|
+usage: rgo|run|--steps|5|-
+usage: rgo|run|--steps|5|--|6
+usage: rgo|run|--steps|5|--|--
+usage: rgo|run|--|--steps|5
+usage: rgo|run|--|--steps=5
+usage: rgo|run|6|--steps|5
+usage: rgo|run|--steps|5|--goroutines|6|7
+usage: rgo|run|--steps=5|run
+# Words that name no option of `run`.
+usage: rgo|run|--step|5
+usage: rgo|run|--s=5
+usage: rgo|run|--stepsx=5
+usage: rgo|run|--STEPS|5
+usage: rgo|run|--Steps=5
+usage: rgo|run|--stéps|5
+usage: rgo|run|-steps|5
+usage: rgo|run|-s|5
+usage: rgo|run|-s5
+usage: rgo|run|-g|5
+usage: rgo|run|--goroutine|5
+usage: rgo|run|--g|5
+usage: rgo|run|steps|5
+usage: rgo|run|steps=5
+usage: rgo|run|---steps|5
+usage: rgo|run|--=5
+usage: rgo|run|--steps |5
+usage: rgo|run|--steps|5|--help
+usage: rgo|run|--steps=5|-h
+usage: rgo|run|--steps=5|--version
+# `--pages`, `--page-words` and `--regions`: no number, or one that the option does not take.
+usage: rgo|run|--pages
+usage: rgo|run|--pages=
+usage: rgo|run|--pages|
+usage: rgo|run|--pages|--stats
+usage: rgo|run|--pages|--
+usage: rgo|run|--pages|many
+usage: rgo|run|--pages|+5
+usage: rgo|run|--pages|-5
+usage: rgo|run|--pages|0
+usage: rgo|run|--pages=0
+usage: rgo|run|--pages|65537
+usage: rgo|run|--pages=65537
+usage: rgo|run|--pages|4294967297
+usage: rgo|run|--pages|18446744073709551617
+usage: rgo|run|--page-words
+usage: rgo|run|--page-words=
+usage: rgo|run|--page-words|0
+usage: rgo|run|--page-words|15
+usage: rgo|run|--page-words=15
+usage: rgo|run|--page-words|4097
+usage: rgo|run|--page-words=4097
+usage: rgo|run|--page-words|18446744073709551648
+usage: rgo|run|--regions
+usage: rgo|run|--regions=
+usage: rgo|run|--regions|0
+usage: rgo|run|--regions=0
+usage: rgo|run|--regions|65537
+usage: rgo|run|--regions=65537
+usage: rgo|run|--regions|18446744073709551617
+# `--workers`: no number, one that it does not take, twice, and in another place.
+usage: rgo|run|--workers
+usage: rgo|run|--workers=
+usage: rgo|run|--workers|
+usage: rgo|run|--workers|--
+usage: rgo|run|--workers|--|4
+usage: rgo|run|--workers|--stats
+usage: rgo|run|--workers|--steps=5
+usage: rgo|run|--workers|x
+usage: rgo|run|--workers=x
+usage: rgo|run|--workers|-1
+usage: rgo|run|--workers=-1
+usage: rgo|run|--workers|+4
+usage: rgo|run|--workers|4x
+usage: rgo|run|--workers|0
+usage: rgo|run|--workers=0
+usage: rgo|run|--workers|000
+usage: rgo|run|--workers|65
+usage: rgo|run|--workers=65
+usage: rgo|run|--workers|260
+usage: rgo|run|--workers|4294967300
+usage: rgo|run|--workers|18446744073709551620
+usage: rgo|run|--workers=4|--workers=4
+usage: rgo|run|--workers|2|--workers|3
+usage: rgo|run|--workers|2|--steps=5|--workers=3
+usage: rgo|run|--workers|2|3
+usage: rgo|run|--|--workers=2
+usage: rgo|run|--worker|2
+usage: rgo|run|--workerss=2
+usage: rgo|run|--Workers=2
+usage: rgo|run|-workers|2
+usage: rgo|run|-w|2
+usage: rgo|run|workers|2
+usage: rgo|--workers=2|run
+usage: rgo|check|--workers|2
+usage: rgo|emit|--workers=2
+usage: rgo|code|--workers=2
+usage: rgo|big|3|--workers|2
+usage: rgo|big|3|--workers=2
+usage: rgo|big|--workers=2|3
+# All pages together have too many words.
+usage: rgo|run|--pages=65536|--page-words=257
+usage: rgo|run|--page-words|257|--pages|65536
+usage: rgo|run|--pages=65536|--page-words=4096
+usage: rgo|run|--pages=4097|--page-words=4096
+usage: rgo|run|--pages=5593|--page-words=3000
+usage: rgo|run|--pages=65536|--page-words=257|--stats
+# `--stats` with a value, and options that occur twice.
+usage: rgo|run|--stats=true
+usage: rgo|run|--stats=false
+usage: rgo|run|--stats=x
+usage: rgo|run|--stats=
+usage: rgo|run|--stats|true
+usage: rgo|run|--stats|x
+usage: rgo|run|--stats|
+usage: rgo|run|--stats|--stats
+usage: rgo|run|--stats|--pages=5|--stats
+usage: rgo|run|--stats|--|--stats
+usage: rgo|run|--pages=5|--pages=5
+usage: rgo|run|--pages|5|--pages=6
+usage: rgo|run|--page-words=32|--page-words=32
+usage: rgo|run|--page-words|32|--page-words|33
+usage: rgo|run|--regions=5|--regions=5
+usage: rgo|run|--regions|5|--stats|--regions=5
+usage: rgo|run|--pages=5|--steps=5|--pages=5
+# Words that are nearly one of these options.
+usage: rgo|run|--stat
+usage: rgo|run|--statss
+usage: rgo|run|-stats
+usage: rgo|run|stats
+usage: rgo|run|--Stats
+usage: rgo|run|--page|5
+usage: rgo|run|--page=5
+usage: rgo|run|--page_words|32
+usage: rgo|run|--pagewords=32
+usage: rgo|run|--page-word=32
+usage: rgo|run|--page|words|32
+usage: rgo|run|--region|5
+usage: rgo|run|-p|5
+usage: rgo|run|--p=5
+usage: rgo|check|--pages|5
+usage: rgo|check|--stats
+usage: rgo|emit|--page-words=32
+usage: rgo|code|--regions=5
+usage: rgo|--pages=5|run
+# Options in another place.
+usage: rgo|--steps|5
+usage: rgo|--steps=5
+usage: rgo|--steps|5|run
+usage: rgo|--steps=5|run
+usage: rgo|--goroutines|5|run
+usage: rgo|check|--steps|5
+usage: rgo|check|--steps=5
+usage: rgo|check|--goroutines|5
+usage: rgo|check|--goroutines=5
+usage: rgo|check|--|--steps=5
+# `big`: no number, or one that it does not take, further words, and options.
+usage: big
+usage: rgo|big
+usage: rgo|big|
+usage: rgo|big|-
+usage: rgo|big|--
+usage: rgo|big|--|
+usage: rgo|big|--|--
+usage: rgo|big|x
+usage: rgo|big|--|x
+usage: rgo|big|+5
+usage: rgo|big|-5
+usage: rgo|big|--|+5
+usage: rgo|big|--|-5
+usage: rgo|big| 5
+usage: rgo|big|5\x20
+usage: rgo|big|5.0
+usage: rgo|big|1e3
+usage: rgo|big|0x5
+usage: rgo|big|5_000
+usage: rgo|big|10,000
+usage: rgo|big|٥
+usage: rgo|big|0
+usage: rgo|big|000
+usage: rgo|big|--|0
+usage: rgo|big|10001
+usage: rgo|big|--|10001
+usage: rgo|big|4294967297
+usage: rgo|big|18446744073709551617
+usage: rgo|big|5|5
+usage: rgo|big|5|6
+usage: rgo|big|--|5|5
+usage: rgo|big|5|--|5
+usage: rgo|big|5|--|--
+usage: rgo|big|--|5|--
+usage: rgo|big|5|
+usage: rgo|big|5|-
+usage: rgo|big|--steps=5|5
+usage: rgo|big|--steps|5
+usage: rgo|big|5|--steps=5
+usage: rgo|big|5|--stats
+usage: rgo|big|--stats|5
+usage: rgo|big|--|--steps=5
+usage: rgo|big|--help
+usage: rgo|big|-h
+usage: rgo|big|help
+usage: rgo|big|run
+usage: rgo|big|5|run
+usage: rgo|run|big
+usage: rgo|5|big
+usage: rgo|--|big|5
+usage: rgo|Big|5
+usage: rgo|bigs|5
+usage: rgo|--big|5
+usage: rgo|--big=5
+usage: rgo|big=5
+usage: rgo|big5
+";
+
+fn asks<R: Abort + AllocGlobal>(rt: &R, row: &str) -> Result<(), Fail> {
+    let Some((wanted, line)) = row.split_once(": ") else {
+        return Err(Fail::new(format_args!("not a row: {row}")));
+    };
     let words = words_of(rt.alloc(), line, '|')?;
-    same(rt, line, &read_words(rt.alloc(), words.as_slice()), &wanted);
+    let found = shown(rt.alloc(), read_words(rt.alloc(), words.as_slice()))?;
+    same(rt, line, &found.as_str(), &wanted);
     Ok(())
 }
 
-const MOST_STEPS: u64 = 4_398_046_511_104;
-
-/// Command lines that ask for `run`, with its steps and its goroutines.
-static RUNS: [(&str, u64, usize); 37] = [
-    ("rgo|run", MOST_STEPS, 100_000),
-    ("rgo|run|--", MOST_STEPS, 100_000),
-    ("|run", MOST_STEPS, 100_000),
-    ("--help|run", MOST_STEPS, 100_000),
-    ("--steps=5|run", MOST_STEPS, 100_000),
-    ("check|run", MOST_STEPS, 100_000),
-    // An option and its number, apart and joined.
-    ("rgo|run|--steps|5", 5, 100_000),
-    ("rgo|run|--steps=5", 5, 100_000),
-    ("rgo|run|--goroutines|5", MOST_STEPS, 5),
-    ("rgo|run|--goroutines=5", MOST_STEPS, 5),
-    ("rgo|run|--steps|5|--", 5, 100_000),
-    ("rgo|run|--steps=5|--", 5, 100_000),
-    ("rgo|run|--goroutines|5|--", MOST_STEPS, 5),
-    ("rgo|run|--goroutines=5|--", MOST_STEPS, 5),
-    // Both, in any order and form.
-    ("rgo|run|--steps|5|--goroutines|6", 5, 6),
-    ("rgo|run|--steps|5|--goroutines=6", 5, 6),
-    ("rgo|run|--steps=5|--goroutines|6", 5, 6),
-    ("rgo|run|--steps=5|--goroutines=6", 5, 6),
-    ("rgo|run|--goroutines|6|--steps|5", 5, 6),
-    ("rgo|run|--goroutines|6|--steps=5", 5, 6),
-    ("rgo|run|--goroutines=6|--steps|5", 5, 6),
-    ("rgo|run|--goroutines=6|--steps=5", 5, 6),
-    ("rgo|run|--goroutines=6|--steps|5|--", 5, 6),
-    ("rgo|run|--steps|5|--goroutines=6|--", 5, 6),
-    // The ends of each range.
-    ("rgo|run|--steps|1|--goroutines|1", 1, 1),
-    ("rgo|run|--steps|4398046511104", MOST_STEPS, 100_000),
-    ("rgo|run|--steps|4398046511103", 4_398_046_511_103, 100_000),
-    ("rgo|run|--goroutines|1000000", MOST_STEPS, 1_000_000),
-    ("rgo|run|--goroutines|999999", MOST_STEPS, 999_999),
-    ("rgo|run|--goroutines|100001", MOST_STEPS, 100_001),
-    // Leading zeros.
-    ("rgo|run|--steps|007", 7, 100_000),
-    ("rgo|run|--steps=007", 7, 100_000),
-    ("rgo|run|--goroutines|01000000", MOST_STEPS, 1_000_000),
-    ("rgo|run|--goroutines=010", MOST_STEPS, 10),
-    (
-        "rgo|run|--steps|00000000000000000000000000000000000000009",
-        9,
-        100_000,
-    ),
-    ("rgo|run|--steps=0004398046511104", MOST_STEPS, 100_000),
-    ("rgo|run|--steps|10", 10, 100_000),
-];
-
-/// Command lines that ask for `run`, with its pages, the words of a page, its regions and whether it has `--stats`.
-/// Steps and goroutines are the defaults.
-static SIZED: [(&str, usize, usize, usize, bool); 41] = [
-    ("rgo|run", 4_096, 256, 65_536, false),
-    ("rgo|run|--stats", 4_096, 256, 65_536, true),
-    ("rgo|run|--stats|--", 4_096, 256, 65_536, true),
-    // An option and its number, apart and joined.
-    ("rgo|run|--pages|5", 5, 256, 65_536, false),
-    ("rgo|run|--pages=5", 5, 256, 65_536, false),
-    ("rgo|run|--page-words|32", 4_096, 32, 65_536, false),
-    ("rgo|run|--page-words=32", 4_096, 32, 65_536, false),
-    ("rgo|run|--regions|5", 4_096, 256, 5, false),
-    ("rgo|run|--regions=5", 4_096, 256, 5, false),
-    ("rgo|run|--pages|5|--", 5, 256, 65_536, false),
-    ("rgo|run|--page-words=32|--", 4_096, 32, 65_536, false),
-    ("rgo|run|--regions|5|--", 4_096, 256, 5, false),
-    // Several, in any order and form.
-    ("rgo|run|--pages=1|--stats", 1, 256, 65_536, true),
-    ("rgo|run|--stats|--pages=1", 1, 256, 65_536, true),
-    ("rgo|run|--stats|--pages|1|--", 1, 256, 65_536, true),
-    (
-        "rgo|run|--pages|5|--page-words|32|--regions|7",
-        5,
-        32,
-        7,
-        false,
-    ),
-    (
-        "rgo|run|--regions=7|--page-words=32|--pages=5",
-        5,
-        32,
-        7,
-        false,
-    ),
-    (
-        "rgo|run|--page-words|32|--regions=7|--stats|--pages|5",
-        5,
-        32,
-        7,
-        true,
-    ),
-    (
-        "rgo|run|--regions|7|--stats|--pages=5|--page-words=32",
-        5,
-        32,
-        7,
-        true,
-    ),
-    (
-        "rgo|run|--steps=4398046511104|--pages=5|--goroutines|100000|--stats|--regions|7|--page-words=32",
-        5,
-        32,
-        7,
-        true,
-    ),
-    (
-        "rgo|run|--stats|--regions|7|--page-words=32|--goroutines=100000|--pages|5|--steps|4398046511104|--",
-        5,
-        32,
-        7,
-        true,
-    ),
-    // The ends of each range.
-    ("rgo|run|--pages|1", 1, 256, 65_536, false),
-    ("rgo|run|--pages|2", 2, 256, 65_536, false),
-    ("rgo|run|--pages|65535", 65_535, 256, 65_536, false),
-    ("rgo|run|--pages|65536", 65_536, 256, 65_536, false),
-    ("rgo|run|--page-words|16", 4_096, 16, 65_536, false),
-    ("rgo|run|--page-words|17", 4_096, 17, 65_536, false),
-    ("rgo|run|--page-words|4095", 4_096, 4_095, 65_536, false),
-    ("rgo|run|--page-words|4096", 4_096, 4_096, 65_536, false),
-    ("rgo|run|--regions|1", 4_096, 256, 1, false),
-    ("rgo|run|--regions|2", 4_096, 256, 2, false),
-    ("rgo|run|--regions|65535", 4_096, 256, 65_535, false),
-    ("rgo|run|--regions|65536", 4_096, 256, 65_536, false),
-    // The most words of all pages.
-    (
-        "rgo|run|--pages=65536|--page-words=256",
-        65_536,
-        256,
-        65_536,
-        false,
-    ),
-    (
-        "rgo|run|--page-words=4096|--pages=4096",
-        4_096,
-        4_096,
-        65_536,
-        false,
-    ),
-    (
-        "rgo|run|--pages=65536|--page-words=16",
-        65_536,
-        16,
-        65_536,
-        false,
-    ),
-    (
-        "rgo|run|--pages=5592|--page-words=3000",
-        5_592,
-        3_000,
-        65_536,
-        false,
-    ),
-    (
-        "rgo|run|--pages=1|--page-words=16|--regions=1",
-        1,
-        16,
-        1,
-        false,
-    ),
-    // Leading zeros.
-    ("rgo|run|--pages|005", 5, 256, 65_536, false),
-    ("rgo|run|--page-words=00000032", 4_096, 32, 65_536, false),
-    (
-        "rgo|run|--regions|0000000000000000000000000000007",
-        4_096,
-        256,
-        7,
-        false,
-    ),
-];
-
-/// Command lines that ask for `run`, with its workers and whether it has `--stats`. The other options are the defaults.
-static WORKED: [(&str, u32, bool); 22] = [
-    ("rgo|run", 4, false),
-    ("rgo|run|--stats", 4, true),
-    ("rgo|run|--workers|2", 2, false),
-    ("rgo|run|--workers=2", 2, false),
-    ("rgo|run|--workers|2|--", 2, false),
-    ("rgo|run|--workers=2|--", 2, false),
-    // With other options, in any order.
-    ("rgo|run|--workers|2|--stats", 2, true),
-    ("rgo|run|--stats|--workers=2", 2, true),
-    ("rgo|run|--stats|--workers|2|--", 2, true),
-    ("rgo|run|--workers=2|--steps=4398046511104", 2, false),
-    (
-        "rgo|run|--regions=65536|--goroutines|100000|--workers|9|--pages=4096|--stats|--steps=4398046511104|--page-words|256",
-        9,
-        true,
-    ),
-    // The ends of the range.
-    ("rgo|run|--workers|1", 1, false),
-    ("rgo|run|--workers=1", 1, false),
-    ("rgo|run|--workers|3", 3, false),
-    ("rgo|run|--workers|4", 4, false),
-    ("rgo|run|--workers|5", 5, false),
-    ("rgo|run|--workers|63", 63, false),
-    ("rgo|run|--workers|64", 64, false),
-    ("rgo|run|--workers=64", 64, false),
-    // Leading zeros.
-    ("rgo|run|--workers|007", 7, false),
-    ("rgo|run|--workers=0064", 64, false),
-    (
-        "rgo|run|--workers|00000000000000000000000000000000000000009",
-        9,
-        false,
-    ),
-];
-
-static CHECKS: [&str; 3] = ["rgo|check", "rgo|check|--", "-|check"];
-
-static EMITS: [&str; 3] = ["rgo|emit", "rgo|emit|--", "-|emit"];
-
-static CODES: [&str; 3] = ["rgo|code", "rgo|code|--", "-|code"];
-
-/// Command lines that ask for `big`, with its number.
-static BIGS: [(&str, u32); 13] = [
-    ("rgo|big|5", 5),
-    ("rgo|big|5|--", 5),
-    ("rgo|big|--|5", 5),
-    ("--steps=5|big|5", 5),
-    // The ends of the range.
-    ("rgo|big|1", 1),
-    ("rgo|big|2", 2),
-    ("rgo|big|9999", 9_999),
-    ("rgo|big|10000", 10_000),
-    ("rgo|big|--|10000", 10_000),
-    // Leading zeros.
-    ("rgo|big|007", 7),
-    ("rgo|big|--|0010", 10),
-    ("rgo|big|0010000|--", 10_000),
-    ("rgo|big|00000000000000000000000000000000000000009", 9),
-];
-
-static REFUSED: [&str; 326] = [
-    "rgo",
-    "",
-    "run",
-    "check",
-    "rgo|",
-    "rgo|-",
-    "rgo|--",
-    "rgo|--|run",
-    "rgo|--|check",
-    "rgo||run",
-    "rgo|rgo|run",
-    "rgo|run|",
-    "rgo|run|-",
-    "rgo|run|5",
-    "rgo|run|--|",
-    "rgo|run|--|5",
-    "rgo|run|--|--",
-    "rgo|run|run",
-    "rgo|run|check",
-    "rgo|run|help",
-    "rgo|run|-h",
-    "rgo|run|--help",
-    "rgo|run|--version",
-    "rgo|check|",
-    "rgo|check|-",
-    "rgo|check|x",
-    "rgo|check|--|x",
-    "rgo|check|run",
-    "rgo|check|check",
-    "rgo|check|help",
-    "rgo|check|--help",
-    "rgo|help",
-    "rgo|help|run",
-    "rgo|--help",
-    "rgo|-h",
-    "rgo|version",
-    "rgo|--version",
-    "rgo|-V",
-    "rgo|ru",
-    "rgo|chec",
-    "rgo|runs",
-    "rgo| run",
-    "rgo|Run",
-    "rgo|RUN",
-    "rgo|ruñ",
-    "rgo|--run",
-    "rgo|--stats|run",
-    "rgo|emi",
-    "rgo|codes",
-    "rgo|Emit",
-    "rgo|--code",
-    "rgo|emit|code",
-    "rgo|emit|",
-    "rgo|emit|--|x",
-    "rgo|emit|--steps=5",
-    "rgo|code|x",
-    "rgo|code|--|--",
-    "rgo|code|--goroutines|5",
-    // The number of an option is missing, or no number.
-    "rgo|run|--steps",
-    "rgo|run|--goroutines",
-    "rgo|run|--steps|",
-    "rgo|run|--steps=",
-    "rgo|run|--goroutines|",
-    "rgo|run|--goroutines=",
-    "rgo|run|--steps|--",
-    "rgo|run|--steps|--|5",
-    "rgo|run|--steps|-",
-    "rgo|run|--steps|+5",
-    "rgo|run|--steps|-5",
-    "rgo|run|--steps=+5",
-    "rgo|run|--steps=-5",
-    "rgo|run|--steps| 5",
-    "rgo|run|--steps|5 ",
-    "rgo|run|--steps=5 ",
-    "rgo|run|--steps|5x",
-    "rgo|run|--steps|x",
-    "rgo|run|--steps|0x5",
-    "rgo|run|--steps|5_000",
-    "rgo|run|--steps|5,000",
-    "rgo|run|--steps|5.0",
-    "rgo|run|--steps|1e3",
-    "rgo|run|--steps|٥",
-    "rgo|run|--steps|５",
-    "rgo|run|--steps==5",
-    "rgo|run|--goroutines|+1",
-    "rgo|run|--goroutines=many",
-    "rgo|run|--steps|--goroutines|5",
-    "rgo|run|--steps|--goroutines=5",
-    "rgo|run|--steps|--steps",
-    "rgo|run|--steps|run",
-    // A number that its option does not take.
-    "rgo|run|--steps|0",
-    "rgo|run|--steps=0",
-    "rgo|run|--steps|000",
-    "rgo|run|--steps|4398046511105",
-    "rgo|run|--steps=4398046511105",
-    "rgo|run|--steps|18446744073709551615",
-    "rgo|run|--steps|18446744073709551616",
-    "rgo|run|--steps|18446744073709551617",
-    "rgo|run|--steps=18446744073709551621",
-    "rgo|run|--steps|340282366920938463463374607431768211457",
-    "rgo|run|--steps|99999999999999999999999999999999999999999999999999999999999999",
-    "rgo|run|--goroutines|0",
-    "rgo|run|--goroutines=0",
-    "rgo|run|--goroutines|1000001",
-    "rgo|run|--goroutines=1000001",
-    "rgo|run|--goroutines|4294967297",
-    "rgo|run|--goroutines|18446744073709551617",
-    "rgo|run|--steps|5|--goroutines|0",
-    "rgo|run|--steps|0|--goroutines|5",
-    // An option that occurs twice.
-    "rgo|run|--steps|5|--steps|6",
-    "rgo|run|--steps|5|--steps|5",
-    "rgo|run|--steps=5|--steps=5",
-    "rgo|run|--steps|5|--steps=5",
-    "rgo|run|--steps=5|--steps|5",
-    "rgo|run|--goroutines|5|--goroutines|5",
-    "rgo|run|--goroutines=5|--goroutines=6",
-    "rgo|run|--steps|5|--goroutines|6|--steps|5",
-    "rgo|run|--goroutines=6|--steps=5|--goroutines=6",
-    // Further words.
-    "rgo|run|--steps|5|6",
-    "rgo|run|--steps=5|6",
-    "rgo|run|--steps|5|",
-    "rgo|run|--steps=5|",
-    "rgo|run|--steps|5|-",
-    "rgo|run|--steps|5|--|6",
-    "rgo|run|--steps|5|--|--",
-    "rgo|run|--|--steps|5",
-    "rgo|run|--|--steps=5",
-    "rgo|run|6|--steps|5",
-    "rgo|run|--steps|5|--goroutines|6|7",
-    "rgo|run|--steps=5|run",
-    // Words that name no option of `run`.
-    "rgo|run|--step|5",
-    "rgo|run|--s=5",
-    "rgo|run|--stepsx=5",
-    "rgo|run|--STEPS|5",
-    "rgo|run|--Steps=5",
-    "rgo|run|--stéps|5",
-    "rgo|run|-steps|5",
-    "rgo|run|-s|5",
-    "rgo|run|-s5",
-    "rgo|run|-g|5",
-    "rgo|run|--goroutine|5",
-    "rgo|run|--g|5",
-    "rgo|run|steps|5",
-    "rgo|run|steps=5",
-    "rgo|run|---steps|5",
-    "rgo|run|--=5",
-    "rgo|run|--steps |5",
-    "rgo|run|--steps|5|--help",
-    "rgo|run|--steps=5|-h",
-    "rgo|run|--steps=5|--version",
-    // `--pages`, `--page-words` and `--regions`: no number, or one that the option does not take.
-    "rgo|run|--pages",
-    "rgo|run|--pages=",
-    "rgo|run|--pages|",
-    "rgo|run|--pages|--stats",
-    "rgo|run|--pages|--",
-    "rgo|run|--pages|many",
-    "rgo|run|--pages|+5",
-    "rgo|run|--pages|-5",
-    "rgo|run|--pages|0",
-    "rgo|run|--pages=0",
-    "rgo|run|--pages|65537",
-    "rgo|run|--pages=65537",
-    "rgo|run|--pages|4294967297",
-    "rgo|run|--pages|18446744073709551617",
-    "rgo|run|--page-words",
-    "rgo|run|--page-words=",
-    "rgo|run|--page-words|0",
-    "rgo|run|--page-words|15",
-    "rgo|run|--page-words=15",
-    "rgo|run|--page-words|4097",
-    "rgo|run|--page-words=4097",
-    "rgo|run|--page-words|18446744073709551648",
-    "rgo|run|--regions",
-    "rgo|run|--regions=",
-    "rgo|run|--regions|0",
-    "rgo|run|--regions=0",
-    "rgo|run|--regions|65537",
-    "rgo|run|--regions=65537",
-    "rgo|run|--regions|18446744073709551617",
-    // `--workers`: no number, one that it does not take, twice, and in another place.
-    "rgo|run|--workers",
-    "rgo|run|--workers=",
-    "rgo|run|--workers|",
-    "rgo|run|--workers|--",
-    "rgo|run|--workers|--|4",
-    "rgo|run|--workers|--stats",
-    "rgo|run|--workers|--steps=5",
-    "rgo|run|--workers|x",
-    "rgo|run|--workers=x",
-    "rgo|run|--workers|-1",
-    "rgo|run|--workers=-1",
-    "rgo|run|--workers|+4",
-    "rgo|run|--workers|4x",
-    "rgo|run|--workers|0",
-    "rgo|run|--workers=0",
-    "rgo|run|--workers|000",
-    "rgo|run|--workers|65",
-    "rgo|run|--workers=65",
-    "rgo|run|--workers|260",
-    "rgo|run|--workers|4294967300",
-    "rgo|run|--workers|18446744073709551620",
-    "rgo|run|--workers=4|--workers=4",
-    "rgo|run|--workers|2|--workers|3",
-    "rgo|run|--workers|2|--steps=5|--workers=3",
-    "rgo|run|--workers|2|3",
-    "rgo|run|--|--workers=2",
-    "rgo|run|--worker|2",
-    "rgo|run|--workerss=2",
-    "rgo|run|--Workers=2",
-    "rgo|run|-workers|2",
-    "rgo|run|-w|2",
-    "rgo|run|workers|2",
-    "rgo|--workers=2|run",
-    "rgo|check|--workers|2",
-    "rgo|emit|--workers=2",
-    "rgo|code|--workers=2",
-    "rgo|big|3|--workers|2",
-    "rgo|big|3|--workers=2",
-    "rgo|big|--workers=2|3",
-    // All pages together have too many words.
-    "rgo|run|--pages=65536|--page-words=257",
-    "rgo|run|--page-words|257|--pages|65536",
-    "rgo|run|--pages=65536|--page-words=4096",
-    "rgo|run|--pages=4097|--page-words=4096",
-    "rgo|run|--pages=5593|--page-words=3000",
-    "rgo|run|--pages=65536|--page-words=257|--stats",
-    // `--stats` with a value, and options that occur twice.
-    "rgo|run|--stats=true",
-    "rgo|run|--stats=false",
-    "rgo|run|--stats=x",
-    "rgo|run|--stats=",
-    "rgo|run|--stats|true",
-    "rgo|run|--stats|x",
-    "rgo|run|--stats|",
-    "rgo|run|--stats|--stats",
-    "rgo|run|--stats|--pages=5|--stats",
-    "rgo|run|--stats|--|--stats",
-    "rgo|run|--pages=5|--pages=5",
-    "rgo|run|--pages|5|--pages=6",
-    "rgo|run|--page-words=32|--page-words=32",
-    "rgo|run|--page-words|32|--page-words|33",
-    "rgo|run|--regions=5|--regions=5",
-    "rgo|run|--regions|5|--stats|--regions=5",
-    "rgo|run|--pages=5|--steps=5|--pages=5",
-    // Words that are nearly one of these options.
-    "rgo|run|--stat",
-    "rgo|run|--statss",
-    "rgo|run|-stats",
-    "rgo|run|stats",
-    "rgo|run|--Stats",
-    "rgo|run|--page|5",
-    "rgo|run|--page=5",
-    "rgo|run|--page_words|32",
-    "rgo|run|--pagewords=32",
-    "rgo|run|--page-word=32",
-    "rgo|run|--page|words|32",
-    "rgo|run|--region|5",
-    "rgo|run|-p|5",
-    "rgo|run|--p=5",
-    "rgo|check|--pages|5",
-    "rgo|check|--stats",
-    "rgo|emit|--page-words=32",
-    "rgo|code|--regions=5",
-    "rgo|--pages=5|run",
-    // Options in another place.
-    "rgo|--steps|5",
-    "rgo|--steps=5",
-    "rgo|--steps|5|run",
-    "rgo|--steps=5|run",
-    "rgo|--goroutines|5|run",
-    "rgo|check|--steps|5",
-    "rgo|check|--steps=5",
-    "rgo|check|--goroutines|5",
-    "rgo|check|--goroutines=5",
-    "rgo|check|--|--steps=5",
-    // `big`: no number, or one that it does not take, further words, and options.
-    "big",
-    "rgo|big",
-    "rgo|big|",
-    "rgo|big|-",
-    "rgo|big|--",
-    "rgo|big|--|",
-    "rgo|big|--|--",
-    "rgo|big|x",
-    "rgo|big|--|x",
-    "rgo|big|+5",
-    "rgo|big|-5",
-    "rgo|big|--|+5",
-    "rgo|big|--|-5",
-    "rgo|big| 5",
-    "rgo|big|5 ",
-    "rgo|big|5.0",
-    "rgo|big|1e3",
-    "rgo|big|0x5",
-    "rgo|big|5_000",
-    "rgo|big|10,000",
-    "rgo|big|٥",
-    "rgo|big|0",
-    "rgo|big|000",
-    "rgo|big|--|0",
-    "rgo|big|10001",
-    "rgo|big|--|10001",
-    "rgo|big|4294967297",
-    "rgo|big|18446744073709551617",
-    "rgo|big|5|5",
-    "rgo|big|5|6",
-    "rgo|big|--|5|5",
-    "rgo|big|5|--|5",
-    "rgo|big|5|--|--",
-    "rgo|big|--|5|--",
-    "rgo|big|5|",
-    "rgo|big|5|-",
-    "rgo|big|--steps=5|5",
-    "rgo|big|--steps|5",
-    "rgo|big|5|--steps=5",
-    "rgo|big|5|--stats",
-    "rgo|big|--stats|5",
-    "rgo|big|--|--steps=5",
-    "rgo|big|--help",
-    "rgo|big|-h",
-    "rgo|big|help",
-    "rgo|big|run",
-    "rgo|big|5|run",
-    "rgo|run|big",
-    "rgo|5|big",
-    "rgo|--|big|5",
-    "rgo|Big|5",
-    "rgo|bigs|5",
-    "rgo|--big|5",
-    "rgo|--big=5",
-    "rgo|big=5",
-    "rgo|big5",
-];
+fn all_ask<R: Abort + AllocGlobal>(rt: &R, table: &str) -> Result<(), Fail> {
+    for row in table.lines() {
+        if !row.starts_with('#') {
+            asks(rt, row)?;
+        }
+    }
+    Ok(())
+}
 
 #[test]
 fn words_ask_for_their_commands(rt: HostRuntime) -> Result<(), Fail> {
-    for (line, steps, goroutines) in &RUNS {
-        let options = RunOptions {
-            limits: Limits {
-                steps: *steps,
-                goroutines: *goroutines,
-            },
-            sizes: Sizes {
-                page_words: 256,
-                pages: 4_096,
-                regions: 65_536,
-            },
-            workers: 4,
-            stats: false,
-        };
-        asks(&rt, line, Ok(Command::Run(options)))?;
-    }
-    for (line, pages, page_words, regions, stats) in &SIZED {
-        let options = RunOptions {
-            limits: Limits {
-                steps: MOST_STEPS,
-                goroutines: 100_000,
-            },
-            sizes: Sizes {
-                page_words: *page_words,
-                pages: *pages,
-                regions: *regions,
-            },
-            workers: 4,
-            stats: *stats,
-        };
-        asks(&rt, line, Ok(Command::Run(options)))?;
-    }
-    for (line, workers, stats) in &WORKED {
-        let options = RunOptions {
-            limits: Limits {
-                steps: MOST_STEPS,
-                goroutines: 100_000,
-            },
-            sizes: Sizes {
-                page_words: 256,
-                pages: 4_096,
-                regions: 65_536,
-            },
-            workers: *workers,
-            stats: *stats,
-        };
-        asks(&rt, line, Ok(Command::Run(options)))?;
-    }
-    for line in &CHECKS {
-        asks(&rt, line, Ok(Command::Check))?;
-    }
-    for line in &EMITS {
-        asks(&rt, line, Ok(Command::Emit))?;
-    }
-    for line in &CODES {
-        asks(&rt, line, Ok(Command::Code))?;
-    }
-    for (line, number) in &BIGS {
-        asks(&rt, line, Ok(Command::Big(*number)))?;
-    }
-    Ok(())
+    all_ask(&rt, RUNS)?;
+    all_ask(&rt, SIZED)?;
+    all_ask(&rt, WORKED)?;
+    all_ask(&rt, OTHERS)
 }
 
 #[test]
 fn other_words_ask_for_none(rt: HostRuntime) -> Result<(), Fail> {
-    for line in &REFUSED {
-        asks(&rt, line, Err(WordsError::Usage))?;
-    }
+    all_ask(&rt, REFUSED)?;
     let none = read_words(rt.alloc(), &[]);
     same(&rt, "no words", &none, &Err(WordsError::Usage));
     Ok(())

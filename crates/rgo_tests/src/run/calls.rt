@@ -2,16 +2,15 @@
 
 use crate::checks::same;
 use crate::lines::words_of;
-use rgo_outside::{MemSink, MemSource, NoGate};
+use rgo_outside::{Gate, MemSink, MemSource, NoGate, Sink, Source};
 use rgo_run::rgo;
 use std::alloc::{AllocError, Global};
 use std::process::Abort;
 use std::sync::Wait;
-use std::test::Fail;
 use std::thread::Threads;
 
 /// The first three lines of most texts.
-const HEAD: &str = "package main\nimport \"fmt\"\ntype N struct { v int; p *N }\n";
+pub(super) const HEAD: &str = "package main\nimport \"fmt\"\ntype N struct { v int; p *N }\n";
 
 /// How many bytes a read returns at most, and which read, which write to `out` and which write to
 /// `err` fail, counted from 1. A 0 stands for none.
@@ -40,86 +39,102 @@ fn sink(alloc: Global, failing: u64) -> Result<MemSink, AllocError> {
     MemSink::new(alloc, 1000, vec![in alloc; failing; 1]?)
 }
 
+/// Calls `rgo` with the words of a line, and returns the status. It says nothing of the call, so that the tests are
+/// proved without what `rgo` says of it.
+pub(super) fn status_of<
+    R: Threads + Wait + AllocGlobal + Sync,
+    S: Source,
+    K: Sink,
+    E: Sink,
+    G: Gate + Sync,
+>(
+    rt: &R,
+    line: &str,
+    source: &mut S,
+    out: &mut K,
+    err: &mut E,
+    gate: &G,
+) -> Result<u8, AllocError> {
+    let words = words_of(rt.alloc(), line, ' ')?;
+    Ok(rgo(rt, rt.alloc(), &words, source, out, err, gate))
+}
+
+/// Ends the test, with the words and the text, unless these bytes were written.
+fn wrote<R: Abort>(rt: &R, words: &str, text: &[u8], found: &[u8], wanted: &str) {
+    let text = str::from_utf8(text).unwrap_or("?");
+    let shown = str::from_utf8(found).unwrap_or("?");
+    assert!(rt;
+        found == wanted.as_bytes(),
+        "{words} wrote {shown:?} and not {wanted:?} of {text}"
+    );
+}
+
 /// Calls `rgo` with a text, and compares what is printed and reported, and the status.
 fn expect_of_words<R: Threads + Wait + Abort + AllocGlobal + Sync>(
     rt: &R,
     words: &str,
-    text: Vec<u8>,
+    text: &[u8],
     outside: Outside,
     wanted: Wanted<'_>,
-) -> Result<(), Fail> {
+) -> Result<(), AllocError> {
     let alloc = rt.alloc();
     let Outside(per_read, read, out, err) = outside;
     let (print, report, status) = wanted;
     assert!(rt; 0 < per_read);
-    let mut source = MemSource::new(text, per_read, vec![in alloc; read; 1]?);
+    let mut source = MemSource::new(text.to_vec(alloc)?, per_read, vec![in alloc; read; 1]?);
     let mut out = sink(alloc, out)?;
     let mut err = sink(alloc, err)?;
-    let words = words_of(alloc, words, ' ')?;
-    let found = rgo(rt, alloc, &words, &mut source, &mut out, &mut err, &NoGate);
-    same(rt, report, &out.bytes(), &print.as_bytes());
-    same(rt, report, &err.bytes(), &report.as_bytes());
-    same(rt, report, &found, &status);
+    let found = status_of(rt, words, &mut source, &mut out, &mut err, &NoGate)?;
+    wrote(rt, words, text, out.bytes(), print);
+    wrote(rt, words, text, err.bytes(), report);
+    same(rt, words, &found, &status);
     Ok(())
 }
 
-/// The same. A run that names no number of workers is also called with 1, 2 and 7.
+/// The numbers of workers with which a run is called that names none, as words.
+static WORKERS: [&str; 4] = [" --workers 1", " --workers 2", " --workers 7", ""];
+
+/// Calls a run with each number of workers.
+fn expect_of_workers<R: Threads + Wait + Abort + AllocGlobal + Sync>(
+    rt: &R,
+    options: &str,
+    text: &[u8],
+    outside: Outside,
+    wanted: Wanted<'_>,
+) -> Result<(), AllocError> {
+    for workers in &WORKERS {
+        let words = format!(in rt.alloc(); "rgo run{workers}{options}")?;
+        expect_of_words(rt, &words, text, outside, wanted)?;
+    }
+    Ok(())
+}
+
+/// Calls `rgo` with a text, and compares what is printed and reported, and the status. A run that names no number of
+/// workers is called with 1, 2 and 7, too.
 pub(super) fn expect<R: Threads + Wait + Abort + AllocGlobal + Sync>(
     rt: &R,
     words: &str,
-    text: Vec<u8>,
+    text: &[u8],
     outside: Outside,
     wanted: Wanted<'_>,
-) -> Result<(), Fail> {
-    let alloc = rt.alloc();
-    if !words.contains("--workers") {
-        if let Some(rest) = words.strip_prefix("rgo run") {
-            for workers in [1u32, 2, 7] {
-                let words = format!(in alloc; "rgo run --workers {workers}{rest}")?;
-                expect_of_words(rt, &words, text.to_vec(alloc)?, outside, wanted)?;
-            }
+) -> Result<(), AllocError> {
+    match words.strip_prefix("rgo run") {
+        Some(options) if !options.contains("--workers") => {
+            expect_of_workers(rt, options, text, outside, wanted)
         }
+        _ => expect_of_words(rt, words, text, outside, wanted),
     }
-    expect_of_words(rt, words, text, outside, wanted)
-}
-
-pub(super) fn runs<R: Threads + Wait + Abort + AllocGlobal + Sync>(
-    rt: &R,
-    text: Vec<u8>,
-    wanted: Wanted<'_>,
-) -> Result<(), Fail> {
-    expect(rt, "rgo run", text, SOUND, wanted)
-}
-
-/// A run ends with 0 and prints this.
-pub(super) fn prints<R: Threads + Wait + Abort + AllocGlobal + Sync>(
-    rt: &R,
-    text: Vec<u8>,
-    print: &str,
-) -> Result<(), Fail> {
-    runs(rt, text, (print, "", 0))
-}
-
-/// A check reports this, or passes if it is empty.
-pub(super) fn checks<R: Threads + Wait + Abort + AllocGlobal + Sync>(
-    rt: &R,
-    text: Vec<u8>,
-    report: &str,
-) -> Result<(), Fail> {
-    let status = if report.is_empty() { 0 } else { 1 };
-    expect(rt, "rgo check", text, SOUND, ("", report, status))
 }
 
 /// The status of a run of a text, and the number of bytes that it prints.
 pub(super) fn answer<R: Threads + Wait + AllocGlobal + Sync>(
     rt: &R,
     text: &[u8],
-) -> Result<(u8, usize), Fail> {
+) -> Result<(u8, usize), AllocError> {
     let alloc = rt.alloc();
-    let words = words_of(alloc, "rgo run", ' ')?;
     let mut source = MemSource::new(text.to_vec(alloc)?, 1000, Vec::new(alloc));
     let mut out = sink(alloc, 0)?;
     let mut err = sink(alloc, 0)?;
-    let status = rgo(rt, alloc, &words, &mut source, &mut out, &mut err, &NoGate);
+    let status = status_of(rt, "rgo run", &mut source, &mut out, &mut err, &NoGate)?;
     Ok((status, out.bytes().len()))
 }

@@ -1,35 +1,117 @@
-//! Programs after the head, and the texts of their code, worked out by hand from the forms of code texts.
+//! Programs, and the texts of their code, worked out by hand from the forms of code texts, as tables of calls.
 
-/// The words, the lines of a program, and what is written to `out`.
-pub(super) static CODES: [(&str, &str, &str); 3] = [
-    ("rgo emit", "func main() {}", NOTHING),
-    ("rgo emit --", "func main() {}", NOTHING),
-    (
-        "rgo emit",
-        "func main() {\n\tx := new(N)\n\tfmt.Println(x.v)\n}",
-        FIELD,
-    ),
-];
+/// Lines after the head, and what is written to `out`.
+pub(super) const CODES: &str = "
+> rgo emit
+func main() {}
+< 0
+rgo code 1
+struct N int *N
+func main 0 - -
+entry -[]
+0 @69 +[] return -
+end
+
+> rgo emit --
+func main() {}
+< 0
+rgo code 1
+struct N int *N
+func main 0 - -
+entry -[]
+0 @69 +[] return -
+end
+
+> rgo emit
+func main() {
+\tx := new(N)
+\tfmt.Println(x.v)
+}
+< 0
+rgo code 1
+struct N int *N
+func main 0 - -
+var *N r0
+var *N r0
+var int -
+entry -[]
+0 @76 +[r0] new v0 N -[]
+1 @73 +[] copy v1 v0 -[]
+2 @98 +[] load v2 v1 0 -[r0]
+3 @95 +[] print v2 -[]
+4 @101 +[] return -
+end
+";
 
 /// Code texts, and what is reported of them: nothing if they keep all rules.
-pub(super) static CHECKED: [(&str, &str); 7] = [
-    (NOTHING, ""),
-    (FIELD, ""),
-    ("", "rgo: line 1: code text\n"),
-    ("rgo code 1\n", "rgo: line 2: code 1\n"),
-    ("rgo code 2\n", "rgo: line 1: code text\n"),
-    (
-        "rgo code 1\nfunc main 0 - -\nentry -[]\nend\n",
-        "rgo: line 4: code 1\n",
-    ),
-    (
-        "rgo code 1\nfunc main 0 - -\nvar []int r0\nentry -[]\n0 @0 +[r0] nil v0 -[]\n1 @0 +[] return -\nend\n",
-        "rgo: line 5: code 13\n",
-    ),
-];
+pub(super) const CHECKED: &str = "
+> rgo code
+rgo code 1
+struct N int *N
+func main 0 - -
+entry -[]
+0 @69 +[] return -
+end
 
-const NOTHING: &str =
-    "rgo code 1\nstruct N int *N\nfunc main 0 - -\nentry -[]\n0 @69 +[] return -\nend\n";
+< 0
 
-const FIELD: &str =
-    "rgo code 1\nstruct N int *N\nfunc main 0 - -\nvar *N r0\nvar *N r0\nvar int -\nentry -[]\n0 @76 +[r0] new v0 N -[]\n1 @73 +[] copy v1 v0 -[]\n2 @98 +[] load v2 v1 0 -[r0]\n3 @95 +[] print v2 -[]\n4 @101 +[] return -\nend\n";
+> rgo code
+rgo code 1
+struct N int *N
+func main 0 - -
+var *N r0
+var *N r0
+var int -
+entry -[]
+0 @76 +[r0] new v0 N -[]
+1 @73 +[] copy v1 v0 -[]
+2 @98 +[] load v2 v1 0 -[r0]
+3 @95 +[] print v2 -[]
+4 @101 +[] return -
+end
+
+< 0
+
+> rgo code
+
+< 1
+!
+rgo: line 1: code text
+
+> rgo code
+rgo code 1
+
+< 1
+!
+rgo: line 2: code 1
+
+> rgo code
+rgo code 2
+
+< 1
+!
+rgo: line 1: code text
+
+> rgo code
+rgo code 1
+func main 0 - -
+entry -[]
+end
+
+< 1
+!
+rgo: line 4: code 1
+
+> rgo code
+rgo code 1
+func main 0 - -
+var []int r0
+entry -[]
+0 @0 +[r0] nil v0 -[]
+1 @0 +[] return -
+end
+
+< 1
+!
+rgo: line 5: code 13
+";

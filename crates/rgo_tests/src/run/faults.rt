@@ -125,19 +125,13 @@ static FAULTS: [Row; 23] = [
 fn faults_end_the_call(rt: HostRuntime) -> Result<(), Fail> {
     for (words, outside, line, print, report, status) in &FAULTS {
         let text = with_head(rt.alloc(), line)?;
-        expect(&rt, words, text, *outside, (print, report, *status))?;
+        expect(&rt, words, &text, *outside, (print, report, *status))?;
     }
     Ok(())
 }
 
 #[test]
 fn a_refusal_that_cannot_be_reported_has_its_status(rt: HostRuntime) -> Result<(), Fail> {
-    let nothing = Vec::new(rt.alloc());
-    expect(
-        &rt,
-        "rgo run",
-        nothing,
-        Outside(1000, 0, 0, 1),
-        ("", "", 10),
-    )
+    expect(&rt, "rgo run", b"", Outside(1000, 0, 0, 1), ("", "", 10))?;
+    Ok(())
 }

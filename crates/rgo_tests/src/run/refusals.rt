@@ -1,77 +1,106 @@
 //! Texts that run or are refused.
 
-/// Lines after the head, with what a run prints and reports, and its status.
-pub(super) static LINES: [(&str, &str, &str, u8); 12] = [
-    (
-        "func main() { fmt.Println(\"hi\", 1, true) }",
-        "hi 1 true\n",
-        "",
-        0,
-    ),
-    ("func main() {}", "", "", 0),
-    ("func main() { ; }", "", "", 0),
-    (
-        "func main() {\n\tfmt.Println()\n\tfmt.Println(\"a  b\", \"\")\n}",
-        "\na  b \n",
-        "",
-        0,
-    ),
-    (
-        "func main() { fmt.Println(0, 9223372036854775807, false); }",
-        "0 9223372036854775807 false\n",
-        "",
-        0,
-    ),
-    (
-        "func main() { // a comment\n\tfmt.Println(\"a\tb\", 0x1F, /* two */ 1_000) }",
-        "a\tb 31 1000\n",
-        "",
-        0,
-    ),
-    (
-        "func main() { fmt.Println(\"a\",); fmt.Println(2) }\ntype M struct { }",
-        "a\n2\n",
-        "",
-        0,
-    ),
-    (
-        "func main() { x := 9223372036854775808 }",
-        "",
-        "rgo: 4:20: lexical 3 BadNumber\n",
-        1,
-    ),
-    (
-        "func main() { fmt.Print(\"open) }",
-        "",
-        "rgo: 4:25: lexical 5 OpenString\n",
-        1,
-    ),
-    (
-        "func main() { fmt.Println(1 2) }",
-        "",
-        "rgo: 4:29: syntax\n",
-        1,
-    ),
-    ("func main() { fmt.Println(1)", "", "rgo: 5:1: syntax\n", 1),
-    ("func main() {}\nfunc", "", "rgo: 6:1: syntax\n", 1),
-];
+/// Lines after the head, as a table of calls.
+pub(super) const LINES: &str = "
+> rgo run
+func main() { fmt.Println(\"hi\", 1, true) }
+< 0
+hi 1 true
+
+> rgo run
+func main() {}
+< 0
+
+> rgo run
+func main() { ; }
+< 0
+
+> rgo run
+func main() {
+\tfmt.Println()
+\tfmt.Println(\"a  b\", \"\")
+}
+< 0
+
+a  b\x20
+
+> rgo run
+func main() { fmt.Println(0, 9223372036854775807, false); }
+< 0
+0 9223372036854775807 false
+
+> rgo run
+func main() { // a comment
+\tfmt.Println(\"a\tb\", 0x1F, /* two */ 1_000) }
+< 0
+a\tb 31 1000
+
+> rgo run
+func main() { fmt.Println(\"a\",); fmt.Println(2) }
+type M struct { }
+< 0
+a
+2
+
+> rgo run
+func main() { x := 9223372036854775808 }
+< 1
+!
+rgo: 4:20: lexical 3 BadNumber
+
+> rgo run
+func main() { fmt.Print(\"open) }
+< 1
+!
+rgo: 4:25: lexical 5 OpenString
+
+> rgo run
+func main() { fmt.Println(1 2) }
+< 1
+!
+rgo: 4:29: syntax
+
+> rgo run
+func main() { fmt.Println(1)
+< 1
+!
+rgo: 5:1: syntax
+
+> rgo run
+func main() {}
+func
+< 1
+!
+rgo: 6:1: syntax
+";
 
 /// The same for whole texts.
-pub(super) static WHOLE: [(&str, &str, &str, u8); 3] = [
-    (
-        "package main\nimport \"fmt\"\ntype N struct { v int; p *N }\n",
-        "",
-        "rgo: 4:1: type 34 NoMain\n",
-        1,
-    ),
-    (
-        "package main\nimport (\n\t\"fmt\"\n)\nfunc main() { fmt.Println(7) }\n",
-        "7\n",
-        "",
-        0,
-    ),
-    ("", "", "rgo: 1:1: syntax\n", 1),
-];
+pub(super) const WHOLE: &str = "
+> rgo run
+package main
+import \"fmt\"
+type N struct { v int; p *N }
+
+< 1
+!
+rgo: 4:1: type 34 NoMain
+
+> rgo run
+package main
+import (
+\t\"fmt\"
+)
+func main() { fmt.Println(7) }
+
+< 0
+7
+
+> rgo run
+
+< 1
+!
+rgo: 1:1: syntax
+";
 
 /// Lines after the head, with what both commands report.
 pub(super) static BY_ALL: [(&str, &str); 8] = [

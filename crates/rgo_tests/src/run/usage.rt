@@ -1,11 +1,9 @@
 //! Calls with other words, and calls over other sources and sinks.
 
-use super::calls::with_head;
+use super::calls::{status_of, with_head};
 use crate::checks::same;
-use crate::lines::words_of;
 use crate::slow_sinks::SlowSink;
 use rgo_outside::{MemSink, NoFaultSink, NoFaultSource, NoGate, StdSink, StdSource, read_all};
-use rgo_run::rgo;
 use std::process::Abort;
 use std::sync::Wait;
 use std::test::Fail;
@@ -29,25 +27,21 @@ static OTHER_WORDS: [&str; 12] = [
     "rgo  run",
 ];
 
-fn usage_is_reported<R: Threads + Wait + Abort + AllocGlobal + Sync>(
+/// Calls `rgo` over a source that it shall not read, and compares what is printed and reported, and the status.
+fn nothing_is_read<R: Threads + Wait + Abort + AllocGlobal + Sync>(
     rt: &R,
     line: &str,
+    wanted: (&str, &str, u8),
 ) -> Result<(), Fail> {
     let alloc = rt.alloc();
-    let words = words_of(alloc, line, ' ')?;
+    let (print, report, status) = wanted;
     let mut source = NoFaultSource::new(b"text".as_slice().to_vec(alloc)?);
+    let mut out = MemSink::new(alloc, 1000, Vec::new(alloc))?;
     let mut err = MemSink::new(alloc, 1000, Vec::new(alloc))?;
-    let status = rgo(
-        rt,
-        alloc,
-        &words,
-        &mut source,
-        &mut NoFaultSink,
-        &mut err,
-        &NoGate,
-    );
-    same(rt, line, &status, &64);
-    same(rt, line, &err.bytes(), &USAGE.as_bytes());
+    let found = status_of(rt, line, &mut source, &mut out, &mut err, &NoGate)?;
+    same(rt, line, &found, &status);
+    same(rt, line, &out.bytes(), &print.as_bytes());
+    same(rt, line, &err.bytes(), &report.as_bytes());
     let left = read_all(alloc, &mut source, 4)?;
     same(rt, line, &left.as_slice(), &b"text".as_slice());
     Ok(())
@@ -56,7 +50,7 @@ fn usage_is_reported<R: Threads + Wait + Abort + AllocGlobal + Sync>(
 #[test]
 fn other_words_have_the_usage_reported(rt: HostRuntime) -> Result<(), Fail> {
     for line in &OTHER_WORDS {
-        usage_is_reported(&rt, line)?;
+        nothing_is_read(&rt, line, ("", USAGE, 64))?;
     }
     Ok(())
 }
@@ -70,29 +64,10 @@ static BIG_WORDS: [(&str, &str); 5] = [
     ("rgo big -- 040", "40 660\n"),
 ];
 
-fn big_is_run<R: Threads + Wait + Abort + AllocGlobal + Sync>(
-    rt: &R,
-    line: &str,
-    wanted: &str,
-) -> Result<(), Fail> {
-    let alloc = rt.alloc();
-    let words = words_of(alloc, line, ' ')?;
-    let mut source = NoFaultSource::new(b"text".as_slice().to_vec(alloc)?);
-    let mut out = MemSink::new(alloc, 1000, Vec::new(alloc))?;
-    let mut err = MemSink::new(alloc, 1000, Vec::new(alloc))?;
-    let status = rgo(rt, alloc, &words, &mut source, &mut out, &mut err, &NoGate);
-    same(rt, line, &status, &0);
-    same(rt, line, &out.bytes(), &wanted.as_bytes());
-    same(rt, line, &err.bytes().len(), &0);
-    let left = read_all(alloc, &mut source, 4)?;
-    same(rt, line, &left.as_slice(), &b"text".as_slice());
-    Ok(())
-}
-
 #[test]
 fn big_runs_its_own_text_and_reads_none(rt: HostRuntime) -> Result<(), Fail> {
     for (line, wanted) in &BIG_WORDS {
-        big_is_run(&rt, line, wanted)?;
+        nothing_is_read(&rt, line, (wanted, "", 0))?;
     }
     Ok(())
 }
@@ -100,20 +75,18 @@ fn big_runs_its_own_text_and_reads_none(rt: HostRuntime) -> Result<(), Fail> {
 #[test]
 fn a_slow_sink_gets_every_byte(rt: HostRuntime) -> Result<(), Fail> {
     let alloc = rt.alloc();
-    let words = words_of(alloc, "rgo run", ' ')?;
     let line = "func main() { fmt.Println(\"hi\", 1, true); fmt.Println(2, 3) }";
     let text = with_head(alloc, line)?;
     let mut source = StdSource::new(text.as_slice());
     let mut out = SlowSink::new(16);
-    let status = rgo(
+    let status = status_of(
         &rt,
-        alloc,
-        &words,
+        "rgo run",
         &mut source,
         &mut out,
         &mut NoFaultSink,
         &NoGate,
-    );
+    )?;
     same(&rt, "status", &status, &0);
     let wanted = b"hi 1 true\n2 3\n\0\0".as_slice();
     same(&rt, "out", &out.bytes.as_slice(), &wanted);
@@ -123,13 +96,12 @@ fn a_slow_sink_gets_every_byte(rt: HostRuntime) -> Result<(), Fail> {
 #[test]
 fn streams_of_std_are_read_and_written(rt: HostRuntime) -> Result<(), Fail> {
     let alloc = rt.alloc();
-    let words = words_of(alloc, "rgo run", ' ')?;
     let mut source = StdSource::new(b"x".as_slice());
     let mut printed: Vec<u8> = Vec::new(alloc);
     let mut reported: Vec<u8> = Vec::new(alloc);
     let mut out = StdSink::new(&mut printed);
     let mut err = StdSink::new(&mut reported);
-    let status = rgo(&rt, alloc, &words, &mut source, &mut out, &mut err, &NoGate);
+    let status = status_of(&rt, "rgo run", &mut source, &mut out, &mut err, &NoGate)?;
     same(&rt, "status", &status, &1);
     same(&rt, "out", &printed.len(), &0);
     let wanted = b"rgo: 1:1: syntax\n".as_slice();

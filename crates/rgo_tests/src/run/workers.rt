@@ -1,12 +1,10 @@
 //! Runs on several workers: that they run beside one another, and the large text.
 
-use super::calls::{SOUND, expect, with_head};
+use super::calls::{SOUND, expect, status_of, with_head};
 use super::running::ECHO;
 use crate::checks::same;
-use crate::lines::words_of;
 use rgo_big::big_source;
 use rgo_outside::{Gate, MemSink, MemSource};
-use rgo_run::rgo;
 use rgo_sched_tests::Meeting;
 use std::process::Abort;
 use std::sync::Wait;
@@ -44,14 +42,13 @@ fn arrivals<R: Threads + Wait + Abort + AllocGlobal + Sync>(
     print: &str,
 ) -> Result<(u32, bool), Fail> {
     let alloc = rt.alloc();
-    let words = words_of(alloc, line, ' ')?;
     let mut source = MemSource::new(with_head(alloc, text)?, 1000, Vec::new(alloc));
     let mut out = MemSink::new(alloc, 1000, Vec::new(alloc))?;
     let mut err = MemSink::new(alloc, 1000, Vec::new(alloc))?;
     let gate = Holding {
         round_2: Meeting::new(2),
     };
-    let status = rgo(rt, alloc, &words, &mut source, &mut out, &mut err, &gate);
+    let status = status_of(rt, line, &mut source, &mut out, &mut err, &gate)?;
     same(rt, line, &status, &0);
     same(rt, line, &out.bytes(), &print.as_bytes());
     same(rt, line, &err.bytes().len(), &0);
@@ -78,7 +75,7 @@ fn the_large_text_runs_on_any_number_of_workers(rt: HostRuntime) -> Result<(), F
     for (goroutines, print) in &LARGE {
         for words in ["rgo run", "rgo run --workers 8", "rgo run --workers 64"] {
             let text = big_source(rt.alloc(), *goroutines)?;
-            expect(&rt, words, text, SOUND, (print, "", 0))?;
+            expect(&rt, words, &text, SOUND, (print, "", 0))?;
         }
     }
     Ok(())

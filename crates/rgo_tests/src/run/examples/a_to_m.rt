@@ -1,8 +1,7 @@
-//! Examples with their outputs, as `tools/examples --table` writes them.
+//! Examples with their outputs as a table of calls, as `tools/examples --table` writes them.
 
-pub(crate) static A_TO_M: [(&str, &str); 5] = [
-    (
-        "\
+pub(crate) const A_TO_M: &str = "
+> rgo run // echo.go
 package main
 import \"fmt\"
 type N struct { v int; p *N }
@@ -16,17 +15,15 @@ func main() {
 \t\tfmt.Println(<-b)
 \t}
 }
-",
-        "\
+
+< 0
 1
 11
 21
 31
 41
-",
-    ),
-    (
-        "\
+
+> rgo run // fibonacci.go
 package main
 
 import \"fmt\"
@@ -43,26 +40,24 @@ func main() {
 \t\tfmt.Println(\"fibonacci\", n, \"is\", fibonacci(n))
 \t}
 }
-",
-        "\
+
+< 0
 fibonacci 0 is 0
 fibonacci 5 is 5
 fibonacci 10 is 55
 fibonacci 15 is 610
 fibonacci 20 is 6765
-",
-    ),
-    (
-        "\
+
+> rgo run // hello.go
 package main
 import \"fmt\"
 type N struct { v int; p *N }
 func main() { fmt.Println(\"hi\", 1, true) }
-",
-        "hi 1 true\n",
-    ),
-    (
-        "\
+
+< 0
+hi 1 true
+
+> rgo run // list.go
 package main
 
 import \"fmt\"
@@ -97,17 +92,15 @@ func main() {
 \t\tfmt.Println(all.value)
 \t}
 }
-",
-        "\
+
+< 0
 1
 2
 3
 4
 5
-",
-    ),
-    (
-        "\
+
+> rgo run // matrix.go
 package main
 
 import \"fmt\"
@@ -145,10 +138,8 @@ func main() {
 \tfmt.Println(p[0][0], p[0][1])
 \tfmt.Println(p[1][0], p[1][1])
 }
-",
-        "\
+
+< 0
 89 55
 55 34
-",
-    ),
-];
+";

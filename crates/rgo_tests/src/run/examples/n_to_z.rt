@@ -1,8 +1,7 @@
-//! Examples with their outputs, as `tools/examples --table` writes them.
+//! Examples with their outputs as a table of calls, as `tools/examples --table` writes them.
 
-pub(crate) static N_TO_Z: [(&str, &str); 9] = [
-    (
-        "\
+pub(crate) const N_TO_Z: &str = "
+> rgo run // order.go
 package main
 
 import \"fmt\"
@@ -21,8 +20,8 @@ func main() {
 \t\tfmt.Println(\"yes\")
 \t}
 }
-",
-        "\
+
+< 0
 say 1
 say 2
 say 3
@@ -32,10 +31,8 @@ say 5
 say 6
 say 8
 yes
-",
-    ),
-    (
-        "\
+
+> rgo run // primes.go
 package main
 
 import \"fmt\"
@@ -67,8 +64,8 @@ func main() {
 \t\tin = out
 \t}
 }
-",
-        "\
+
+< 0
 2
 3
 5
@@ -79,10 +76,8 @@ func main() {
 19
 23
 29
-",
-    ),
-    (
-        "\
+
+> rgo run // sieve.go
 package main
 
 import \"fmt\"
@@ -101,8 +96,8 @@ func main() {
 \t\t}
 \t}
 }
-",
-        "\
+
+< 0
 2
 3
 5
@@ -118,10 +113,8 @@ func main() {
 41
 43
 47
-",
-    ),
-    (
-        "\
+
+> rgo run // sort.go
 package main
 
 import \"fmt\"
@@ -149,18 +142,16 @@ func main() {
 \t\tfmt.Println(s[i])
 \t}
 }
-",
-        "\
+
+< 0
 0
 1
 3
 4
 5
 6
-",
-    ),
-    (
-        "\
+
+> rgo run // stack.go
 package main
 
 import \"fmt\"
@@ -194,11 +185,11 @@ func main() {
 \tpush(pop() + pop())
 \tfmt.Println(pop(), size, top == nil)
 }
-",
-        "14 0 true\n",
-    ),
-    (
-        "\
+
+< 0
+14 0 true
+
+> rgo run // tree.go
 package main
 
 import \"fmt\"
@@ -241,8 +232,8 @@ func main() {
 \t}
 \tfmt.Println(\"depth\", walk(t, 0))
 }
-",
-        "\
+
+< 0
 1
 2
 3
@@ -251,10 +242,8 @@ func main() {
 6
 7
 depth 4
-",
-    ),
-    (
-        "\
+
+> rgo run // words.go
 package main
 import \"fmt\"
 type N struct { v int; p *N }
@@ -262,14 +251,12 @@ func main() { // what the tokens allow
 \tfmt.Println(\"tab\\tand \\\"quotes\\\"\", 0x1F, 1_000_000)
 \tfmt.Println(true, /* a comment may stand anywhere */ false)
 }
-",
-        "\
+
+< 0
 tab\tand \"quotes\" 31 1000000
 true false
-",
-    ),
-    (
-        "\
+
+> rgo run // workers.go
 package main
 
 import \"fmt\"
@@ -296,11 +283,11 @@ func main() {
 \tclose(numbers)
 \tfmt.Println(<-sums + <-sums + <-sums)
 }
-",
-        "5050\n",
-    ),
-    (
-        "\
+
+< 0
+5050
+
+> rgo run // wrapping.go
 package main
 
 import \"fmt\"
@@ -316,11 +303,9 @@ func main() {
 \tone := 1
 \tfmt.Println(least/-one, least%-one)
 }
-",
-        "\
+
+< 0
 -9223372036854775808 -9223372036854775808 true
 3 -3 1 -1
 -9223372036854775808 0
-",
-    ),
-];
+";
