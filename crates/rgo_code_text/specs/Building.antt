@@ -7,7 +7,7 @@ use Rattle.rgo_typed.specs.declared.actions.Action.TheVariants as action
 use Rattle.rgo_typed.specs.declared.types.Base.{Base}
 use Rattle.rgo_typed.specs.declared.types.Base.TheVariants as base
 use Rattle.rgo_typed.specs.declared.types.Type.{«Type»}
-use Rattle.rgo_code.specs.Code.{Slot, CodeOp, CodeInstr, Code, Do, Call, Go}
+use Rattle.rgo_code.specs.Code.{Slot, CodeOp, CodeInstr, Code, Do, Call, Go, Print, Jump, Branch, Return}
 use Rattle.rgo_code_text.specs.declared.numbers.Counts.{Counts}
 use Rattle.rgo_code_text.specs.declared.numbers.Tables.{Tables}
 use Rattle.rgo_code_text.specs.CodeLines.{Line, Building, nothing, with_lines}
@@ -17,7 +17,7 @@ use Rattle.rgo_code_text.specs.Items as item
 use Rattle.rgo_code_text.specs.Numbers.{with_name}
 use Rattle.rgo_code_text.specs.Readers.{NamedType}
 use Rattle.rgo_code_printing.specs.Text.{Names}
-use Rattle.rgo_code_text.specs.Written.{number_of}
+use Rattle.rgo_code_text.specs.Written.{Naming, NamesNothing, NamesStruct, NamesVariable, naming_of, number_of}
 
 -- ---- the names of lines
 
@@ -44,19 +44,42 @@ abbrev pub slot_names : Option NamedSlot → List (List ℕ)
 slot_names None = []
 slot_names (Some s) = type_names s.ty
 
+abbrev pub struct_name : Naming → List ℕ → List (List ℕ)
+struct_name NamesNothing name = []
+struct_name (NamesStruct n) name = name ∷ []
+struct_name (NamesVariable n) name = []
+
+abbrev pub variable_name : Naming → List ℕ → List (List ℕ)
+variable_name NamesNothing name = []
+variable_name (NamesVariable n) name = name ∷ []
+variable_name (NamesStruct n) name = []
+
 abbrev pub op_structs : CodeOp → List ℕ → List (List ℕ)
-op_structs (Do to (action.New n) from removes) name = name ∷ []
-op_structs op name = []
+op_structs (Do to action from removes) name = struct_name (naming_of action) name
+op_structs (Call to f from passes protects removes) name = []
+op_structs (Go f from passes removes) name = []
+op_structs (Print pieces from removes) name = []
+op_structs (Jump target removes) name = []
+op_structs (Branch test target removes other otherwise) name = []
+op_structs (Return value) name = []
 
 abbrev pub op_variables : CodeOp → List ℕ → List (List ℕ)
-op_variables (Do to (action.Get n) from removes) name = name ∷ []
-op_variables (Do to (action.Set n) from removes) name = name ∷ []
-op_variables op name = []
+op_variables (Do to action from removes) name = variable_name (naming_of action) name
+op_variables (Call to f from passes protects removes) name = []
+op_variables (Go f from passes removes) name = []
+op_variables (Print pieces from removes) name = []
+op_variables (Jump target removes) name = []
+op_variables (Branch test target removes other otherwise) name = []
+op_variables (Return value) name = []
 
 abbrev pub op_functions : CodeOp → List ℕ → List (List ℕ)
 op_functions (Call to f from passes protects removes) name = name ∷ []
 op_functions (Go f from passes removes) name = name ∷ []
-op_functions op name = []
+op_functions (Do to action from removes) name = []
+op_functions (Print pieces from removes) name = []
+op_functions (Jump target removes) name = []
+op_functions (Branch test target removes other otherwise) name = []
+op_functions (Return value) name = []
 
 -- the names that a line uses
 abbrev pub used_structs : Item → List (List ℕ)
@@ -149,14 +172,34 @@ abbrev pub numbered_action : Names → Action → List ℕ → Action
 numbered_action n (action.New k) name = action.New (number_of n.structs name)
 numbered_action n (action.Get k) name = action.Get (number_of n.variables name)
 numbered_action n (action.Set k) name = action.Set (number_of n.variables name)
-numbered_action n action name = action
+numbered_action n (action.Int k) name = action.Int k
+numbered_action n (action.Bool b) name = action.Bool b
+numbered_action n action.Nil name = action.Nil
+numbered_action n action.Copy name = action.Copy
+numbered_action n (action.Binary op) name = action.Binary op
+numbered_action n action.Neg name = action.Neg
+numbered_action n action.Not name = action.Not
+numbered_action n action.IsNil name = action.IsNil
+numbered_action n action.Len name = action.Len
+numbered_action n (action.Load k) name = action.Load k
+numbered_action n (action.Store k) name = action.Store k
+numbered_action n action.At name = action.At
+numbered_action n action.Put name = action.Put
+numbered_action n action.Slice name = action.Slice
+numbered_action n action.Chan name = action.Chan
+numbered_action n action.Recv name = action.Recv
+numbered_action n action.Send name = action.Send
+numbered_action n action.Close name = action.Close
 
 abbrev pub numbered_op : Names → CodeOp → List ℕ → CodeOp
 numbered_op n (Do to action from removes) name = Do to (numbered_action n action name) from removes
 numbered_op n (Call to f from passes protects removes) name =
     Call to (number_of n.functions name) from passes protects removes
 numbered_op n (Go f from passes removes) name = Go (number_of n.functions name) from passes removes
-numbered_op n op name = op
+numbered_op n (Print pieces from removes) name = Print pieces from removes
+numbered_op n (Jump target removes) name = Jump target removes
+numbered_op n (Branch test target removes other otherwise) name = Branch test target removes other otherwise
+numbered_op n (Return value) name = Return value
 
 abbrev pub numbered_instr : Names → CodeInstr → List ℕ → CodeInstr
 numbered_instr n i name = record { creates = i.creates; op = numbered_op n i.op name; place = i.place }

@@ -2,17 +2,16 @@
 use Rattle.std.specs.Prelude.{◌≡◌, ℕ, true, List, [], ◌∷◌, map, Option, Some, None, All, IfSome, codes, decimal, ⊤}
 use Rattle.std.specs.List.{flat_map, join_with_byte}
 use Rattle.rgo_typed.specs.declared.actions.Action.{Action}
-use Rattle.rgo_typed.specs.declared.actions.Action.TheVariants as action
 use Rattle.rgo_typed.specs.declared.types.Base.{Base}
 use Rattle.rgo_typed.specs.declared.types.Base.TheVariants as base
 use Rattle.rgo_tac.specs.declared.regions.Class.{Class}
-use Rattle.rgo_code.specs.Code.{CodeOp, CodeInstr, Do, Call, Go}
+use Rattle.rgo_code.specs.Code.{CodeOp, CodeInstr, Do, Call, Go, Print, Jump, Branch, Return}
 use Rattle.rgo_code_text.specs.declared.places.Place.{Place}
 use Rattle.rgo_code_text.specs.Order.{Kind, OfHead, OfStruct, OfGlobal, OfFunction, OfSlot, OfEntry, OfInstr, OfEnd, after_kind, after_kinds}
 use Rattle.rgo_code_text.specs.Readers.{NamedType}
 use Rattle.rgo_code_printing.specs.Text.{Names, line, entry_words, instr_words}
 use Rattle.rgo_code_printing.specs.Words.{type_word, class_word}
-use Rattle.rgo_code_text.specs.Written.{is_name, AreRegions, ClassFits, InstrFits, IsSmall}
+use Rattle.rgo_code_text.specs.Written.{is_name, AreRegions, ClassFits, InstrFits, IsSmall, Naming, NamesNothing, NamesStruct, NamesVariable, naming_of}
 
 pub record NamedSlot : Type 0 where
   pub ty : NamedType
@@ -75,17 +74,22 @@ BaseFits b name = name ≡ []
 abbrev pub TypeFits : NamedType → Type 0
 TypeFits t = BaseFits t.ty.base t.name
 
+abbrev pub NamingFits : Naming → List ℕ → Type 0
+NamingFits NamesNothing name = name ≡ []
+NamingFits (NamesStruct n) name = IsNamed n name
+NamingFits (NamesVariable n) name = IsNamed n name
+
 abbrev pub ActionIsNamed : Action → List ℕ → Type 0
-ActionIsNamed (action.New n) name = IsNamed n name
-ActionIsNamed (action.Get n) name = IsNamed n name
-ActionIsNamed (action.Set n) name = IsNamed n name
-ActionIsNamed action name = name ≡ []
+ActionIsNamed action name = NamingFits (naming_of action) name
 
 abbrev pub OpIsNamed : CodeOp → List ℕ → Type 0
 OpIsNamed (Do to action from removes) name = ActionIsNamed action name
 OpIsNamed (Call to f from passes protects removes) name = IsNamed f name
 OpIsNamed (Go f from passes removes) name = IsNamed f name
-OpIsNamed op name = name ≡ []
+OpIsNamed (Print pieces from removes) name = name ≡ []
+OpIsNamed (Jump target removes) name = name ≡ []
+OpIsNamed (Branch test target removes other otherwise) name = name ≡ []
+OpIsNamed (Return value) name = name ≡ []
 
 abbrev pub NamedSlotFits : NamedSlot → Type 0
 NamedSlotFits s = TypeFits s.ty × ClassFits s.class

@@ -65,7 +65,8 @@ AreRegions names = IsStrictlyIncreasing names × AreSmall names
 
 abbrev pub ClassFits : Class → Type 0
 ClassFits (class.Name k) = IsSmall k
-ClassFits c = ⊤
+ClassFits class.NoClass = ⊤
+ClassFits class.Global = ⊤
 
 -- ---- instructions
 
@@ -84,7 +85,23 @@ ActionFits (action.Int k) = IntFits k
 ActionFits (action.Binary op) = OperatorFits op
 ActionFits (action.Load k) = IsSmall k
 ActionFits (action.Store k) = IsSmall k
-ActionFits action = ⊤
+ActionFits (action.Bool b) = ⊤
+ActionFits action.Nil = ⊤
+ActionFits action.Copy = ⊤
+ActionFits action.Neg = ⊤
+ActionFits action.Not = ⊤
+ActionFits action.IsNil = ⊤
+ActionFits action.Len = ⊤
+ActionFits action.At = ⊤
+ActionFits action.Put = ⊤
+ActionFits (action.New n) = ⊤
+ActionFits action.Slice = ⊤
+ActionFits action.Chan = ⊤
+ActionFits action.Recv = ⊤
+ActionFits action.Send = ⊤
+ActionFits action.Close = ⊤
+ActionFits (action.Get n) = ⊤
+ActionFits (action.Set n) = ⊤
 
 -- without names; what has words in any way has words in each
 abbrev pub no_names : Names
@@ -147,20 +164,72 @@ abbrev pub result_uses : Option Slot → List ℕ
 result_uses None = []
 result_uses (Some s) = type_uses s.ty
 
+-- what an action names, and its number
+pub data Naming : Type 0 where
+  NamesNothing : Naming
+  NamesStruct : ℕ → Naming
+  NamesVariable : ℕ → Naming
+
+abbrev pub naming_of : Action → Naming
+naming_of (action.Int k) = NamesNothing
+naming_of (action.Bool b) = NamesNothing
+naming_of action.Nil = NamesNothing
+naming_of action.Copy = NamesNothing
+naming_of (action.Binary op) = NamesNothing
+naming_of action.Neg = NamesNothing
+naming_of action.Not = NamesNothing
+naming_of action.IsNil = NamesNothing
+naming_of action.Len = NamesNothing
+naming_of (action.Load k) = NamesNothing
+naming_of (action.Store k) = NamesNothing
+naming_of action.At = NamesNothing
+naming_of action.Put = NamesNothing
+naming_of (action.New n) = NamesStruct n
+naming_of action.Slice = NamesNothing
+naming_of action.Chan = NamesNothing
+naming_of action.Recv = NamesNothing
+naming_of action.Send = NamesNothing
+naming_of action.Close = NamesNothing
+naming_of (action.Get n) = NamesVariable n
+naming_of (action.Set n) = NamesVariable n
+
+abbrev pub struct_named : Naming → List ℕ
+struct_named NamesNothing = []
+struct_named (NamesStruct n) = n ∷ []
+struct_named (NamesVariable n) = []
+
+abbrev pub variable_named : Naming → List ℕ
+variable_named NamesNothing = []
+variable_named (NamesStruct n) = []
+variable_named (NamesVariable n) = n ∷ []
+
 -- the struct, the package variable or the function of an instruction
 abbrev pub struct_in : CodeOp → List ℕ
-struct_in (Do to (action.New n) from removes) = n ∷ []
-struct_in op = []
+struct_in (Do to action from removes) = struct_named (naming_of action)
+struct_in (Call to f from passes protects removes) = []
+struct_in (Go f from passes removes) = []
+struct_in (Print pieces from removes) = []
+struct_in (Jump target removes) = []
+struct_in (Branch test target removes other otherwise) = []
+struct_in (Return value) = []
 
 abbrev pub variable_in : CodeOp → List ℕ
-variable_in (Do to (action.Get n) from removes) = n ∷ []
-variable_in (Do to (action.Set n) from removes) = n ∷ []
-variable_in op = []
+variable_in (Do to action from removes) = variable_named (naming_of action)
+variable_in (Call to f from passes protects removes) = []
+variable_in (Go f from passes removes) = []
+variable_in (Print pieces from removes) = []
+variable_in (Jump target removes) = []
+variable_in (Branch test target removes other otherwise) = []
+variable_in (Return value) = []
 
 abbrev pub function_in : CodeOp → List ℕ
 function_in (Call to f from passes protects removes) = f ∷ []
 function_in (Go f from passes removes) = f ∷ []
-function_in op = []
+function_in (Do to action from removes) = []
+function_in (Print pieces from removes) = []
+function_in (Jump target removes) = []
+function_in (Branch test target removes other otherwise) = []
+function_in (Return value) = []
 
 abbrev pub fn_structs : CodeFn → List ℕ
 fn_structs f =
