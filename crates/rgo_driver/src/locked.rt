@@ -119,8 +119,11 @@ impl<'a, H: Wait, R: Running, J: Begun<R>> Task for Share<'a, H, R, J> {
     }
 }
 
-/// What each of up to so many workers has of a round: positions in a row, and none has two more than another. Two workers
-/// take part at least, if there are two.
+/// The most workers that take part in a round. Two run beside each other; as all take one lock in turn, a third would only
+/// cost the time in which its thread is started.
+const MOST_SHARES: u32 = 2;
+
+/// What each worker has of a round: positions in a row, and none has two more than another.
 fn make_shares<'a, H: Wait, R: Running, J: Begun<R>>(
     rt: &'a H,
     alloc: Global,
@@ -130,7 +133,7 @@ fn make_shares<'a, H: Wait, R: Running, J: Begun<R>>(
 ) -> Result<Vec<Share<'a, H, R, J>>, AllocError>
     requires { 1 ≤ workers }
 {
-    let workers = positions.max(2).min(workers as usize);
+    let workers = workers.min(MOST_SHARES) as usize;
     let mut shares = Vec::new(alloc);
     let mut from = 0usize;
     for k in 0..workers {
