@@ -202,10 +202,10 @@ fn drive_on_workers<H: Threads + Wait + Sync, R: Running + Send, K: Sink, G: Gat
     }
 }
 
-/// Drives a run from the state that it is at, on up to `workers` workers, in rounds: in each, every goroutine that can
-/// step has a turn of up to 1,000 steps. The turns of the first two rounds run side by side, each step under one lock, so
-/// their steps come in any order; those of later rounds run on the caller's thread, one after the other. What a round
-/// printed goes out after it, each line in one piece. After a failed write nothing more is written.
+/// Drives a run from the state that it is at, in rounds: in each, every goroutine that can step has a turn of up to 1,000
+/// steps. Where `workers` is more than 1, two workers take the turns of the first two rounds side by side, each step under
+/// one lock, so their steps come in any order; those of later rounds run on the caller's thread, one after the other. What a
+/// round printed goes out after it, each line in one piece. After a failed write nothing more is written.
 ///
 /// Where one of several goroutines is ready alone in a round on workers, two of them come to it, and one has no turn.
 ///
