@@ -1,7 +1,7 @@
 //! Code that is run step by step.
 
 use crate::checks::same_in_row;
-use crate::lowering::code_of;
+use crate::codes::code_of;
 use rgo_machine::{End, Pick, Stepped};
 use rgo_memory::Trap;
 use rgo_tac::{TacState, tac_printed, tac_start, tac_step, tac_stuck};

@@ -1,7 +1,7 @@
 //! Stretches of instructions that are left by ways that are not marked.
 
 use crate::checks::same;
-use crate::lowering::code_of;
+use crate::codes::code_of;
 use rgo_memory::{Memory, Value, zero};
 use rgo_tac::{Frame, Mark, Tac, stretch};
 use std::alloc::Global;

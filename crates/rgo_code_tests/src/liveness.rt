@@ -1,8 +1,8 @@
 //! Where variables are live.
 
+use crate::analyses::{LIVE, LOOP};
 use crate::checks::same;
 use crate::codes::code_of;
-use crate::texts::{LIVE, LOOP};
 use rgo_flow::{Liveness, live};
 use rgo_tac::TacFn;
 use std::alloc::Global;

@@ -1,8 +1,8 @@
 //! The summaries of a program's functions, and the classes of their variables.
 
+use crate::analyses::PROGRAMS;
 use crate::checks::same;
 use crate::codes::code_of;
-use crate::texts::PROGRAMS;
 use rgo_classes::{Classes, Summaries, classes_of};
 use rgo_summaries::summaries;
 use rgo_tac::{Class, Tac, TacFn};

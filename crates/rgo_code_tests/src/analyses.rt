@@ -1,8 +1,5 @@
 //! Texts with what the analyses find in them. Which code a text has is in docs/CODE.md.
 
-/// The lines before each text.
-pub(crate) const HEAD: &str = "package main\nimport \"fmt\"\ntype N struct { v int; p *N }\n";
-
 pub(crate) const LOOP: &str = "func main() { x := 1; for { fmt.Println(x) } }\n";
 
 /// Texts, and for each function a line with the variables that are live into each of its instructions. They were found
