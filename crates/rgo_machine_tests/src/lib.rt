@@ -1,5 +1,5 @@
-//! The tests of what runs programs: the source machine and the driver. Each test calls public functions only, with values
-//! that were worked out by hand or come from another program.
+//! The tests of the typing of whole programs, of what runs them (the source machine and the driver), and of sources and
+//! sinks. Each test calls public functions only, with values that were worked out by hand or come from another program.
 #![tactic(auto)]
 
 #[cfg(test)]
@@ -9,4 +9,10 @@ mod driver;
 #[cfg(test)]
 mod meaning;
 #[cfg(test)]
+mod outside;
+#[cfg(test)]
 mod texts;
+#[cfg(test)]
+mod typed_programs;
+#[cfg(test)]
+mod types;

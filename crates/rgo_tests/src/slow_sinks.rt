@@ -1,8 +1,10 @@
-//! A sink that takes one byte in each call, for the tests of whole writes.
+//! A sink that takes one byte in each call: what is written whole is written in many calls.
 
 ghost use Rattle.std.specs.Prelude.{None};
 
-use rgo_outside::{Failed, Sink};
+use crate::checks::same;
+use rgo_outside::{Failed, NoFaultSink, Sink, WriteFault, write_all};
+use std::process::Abort;
 
 /// Takes one byte in each call, 16 at most.
 #[derive(Drop)]
@@ -50,4 +52,23 @@ impl Sink for SlowSink {
         self.filled += 1;
         Ok(1)
     }
+}
+
+/// Writes a text whole, and compares whether that failed.
+fn is_written<R: Abort, K: Sink>(
+    rt: &R,
+    sink: &mut K,
+    text: &str,
+    wanted: &Result<(), WriteFault>,
+) {
+    same(rt, text, &write_all(sink, text.as_bytes()), wanted);
+}
+
+#[test]
+fn a_slow_sink_is_written_to_the_end(rt: HostRuntime) {
+    let mut sink = SlowSink::new(4);
+    is_written(&rt, &mut sink, "abc", &Ok(()));
+    is_written(&rt, &mut sink, "de", &Err(WriteFault { written: 1 }));
+    same(&rt, "the sink", &&sink.bytes[..4], &b"abcd".as_slice());
+    is_written(&rt, &mut NoFaultSink, "abc", &Ok(()));
 }

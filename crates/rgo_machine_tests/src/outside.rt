@@ -1,10 +1,9 @@
 //! Texts read and written to the end, in pieces and past faults, over each source and sink.
 
 use crate::checks::same;
-use crate::slow_sinks::SlowSink;
 use rgo_outside::{
-    MemSink, MemSource, NoFaultSink, NoFaultSource, ReadEnd, Sink, Source, StdSink, StdSource,
-    WriteFault, read_all, write_all,
+    MemSink, MemSource, NoFaultSource, ReadEnd, Sink, Source, StdSink, StdSource, WriteFault,
+    read_all, write_all,
 };
 use std::io::{self, ErrorKind, Read, Write};
 use std::process::Abort;
@@ -128,15 +127,6 @@ fn a_sink_in_memory_is_written(rt: HostRuntime) -> Result<(), Fail> {
         same(&rt, piece, &sink.bytes(), &kept.as_bytes());
     }
     Ok(())
-}
-
-#[test]
-fn a_slow_sink_is_written_to_the_end(rt: HostRuntime) {
-    let mut sink = SlowSink::new(4);
-    is_written(&rt, &mut sink, "abc", &Ok(()));
-    is_written(&rt, &mut sink, "de", &Err(WriteFault { written: 1 }));
-    same(&rt, "the sink", &&sink.bytes[..4], &b"abcd".as_slice());
-    is_written(&rt, &mut NoFaultSink, "abc", &Ok(()));
 }
 
 /// How many bytes a writer takes, whether its flushes fail, and what a whole write reports.
