@@ -39,7 +39,7 @@ total_set f [] g h k e = cc
 total_set f (x ∷ xs) zero h k e = let q : f x ≡ f h = ap f (same_Some x h e) in omega (arith, q)
 total_set f (x ∷ xs) (suc g) h k e = let q = total_set f xs g h k e in omega (arith, q)
 
-total_at : (f : Holder → ℕ) (hs : List Holder) (g : ℕ) (h : Holder) → slice_get hs g ≡ Some h → f h ≤ total f hs
+pub total_at : (f : Holder → ℕ) (hs : List Holder) (g : ℕ) (h : Holder) → slice_get hs g ≡ Some h → f h ≤ total f hs
 total_at f [] g h e = cc
 total_at f (x ∷ xs) zero h e = let q : f x ≡ f h = ap f (same_Some x h e) in omega (arith, q)
 total_at f (x ∷ xs) (suc g) h e = let q = total_at f xs g h e in omega (arith, q)

@@ -56,7 +56,7 @@ use Rattle.rgo_region_machine.specs.declared.limits.Limit.{Limit}
 use Rattle.rgo_region_machine.specs.declared.regions.Region.{Region}
 use Rattle.rgo_region_machine.specs.declared.regions.Region.TheVariants.{Global as GlobalRegion, Numbered}
 use Rattle.rgo_sound.proofs.Acting.{after, Acted, act, act_at, start}
-use Rattle.rgo_sound.proofs.Attends.{total_set, length_with_info}
+use Rattle.rgo_sound.proofs.Attends.{total_at, total_set, length_with_info}
 use Rattle.rgo_sound.proofs.ErasureLemmas.{Yields, yields, yields_none, yields_if, yields_then, yields_at, yields_from}
 use Rattle.rgo_sound.proofs.Leads.{live_read}
 use Rattle.rgo_sound.proofs.Lists.{listed}
@@ -753,16 +753,11 @@ record FineBounded (code : Code) (s : RegionState) : Type 0 where
   fine : Fine code s
   bounded : Bounded code s
 
--- regions are at most the names of a function, for each step and each goroutine
-pub regions_always : (code : Code) (page_words : ℕ) (events : List Event) (s : RegionState) → IsChecked code
-    → Ascends code → region_run code page_words events ≡ Some s
-    → (counts_of s).made ≤ ((counts_of s).steps + (counts_of s).goroutines) * most_names code.functions
-regions_always code page_words events s checked written run =
-    let x = run_keeps code page_words (FineBounded code) step events (region_start code) s start run in
-    let a = Bounded.counted (FineBounded.bounded x) in
-    let b = few_sum code checked written s.plain.goroutines in
-    let c = mul_add s.steps (length s.plain.goroutines) (most_names code.functions) in
-    omega (arith, a, b, c)
+-- each state of a run of checked code is bounded so
+bounded_always : (code : Code) (page_words : ℕ) (events : List Event) (s : RegionState) → IsChecked code → Ascends code
+    → region_run code page_words events ≡ Some s → FineBounded code s
+bounded_always code page_words events s checked written run =
+    run_keeps code page_words (FineBounded code) step events (region_start code) s start run
   where
     step : (t : RegionState) (e : Event) → FineBounded code t
         → Yields (FineBounded code) (region_step code page_words t e)
@@ -779,3 +774,26 @@ regions_always code page_words events s checked written run =
       bounded =
           record { counted = let a = next_creates code (frames_of (tac_start (erased code)) 0) in omega (arith, a) };
     }
+
+-- regions are at most the names of a function, for each step and each goroutine
+pub regions_always : (code : Code) (page_words : ℕ) (events : List Event) (s : RegionState) → IsChecked code
+    → Ascends code → region_run code page_words events ≡ Some s
+    → (counts_of s).made ≤ ((counts_of s).steps + (counts_of s).goroutines) * most_names code.functions
+regions_always code page_words events s checked written run =
+    let a = Bounded.counted (FineBounded.bounded (bounded_always code page_words events s checked written run)) in
+    let b = few_sum code checked written s.plain.goroutines in
+    let c = mul_add s.steps (length s.plain.goroutines) (most_names code.functions) in
+    omega (arith, a, b, c)
+
+-- and where a goroutine is to create a region, there is one fewer than that
+pub regions_to_come : (code : Code) (page_words : ℕ) (events : List Event) (s : RegionState) (g k : ℕ) (h : Holder)
+    (duties : List Duty) → IsChecked code → Ascends code → region_run code page_words events ≡ Some s
+    → slice_get s.holders g ≡ Some h → h.duties ≡ Create k ∷ duties
+    → (counts_of s).made + 1 ≤ ((counts_of s).steps + (counts_of s).goroutines) * most_names code.functions
+regions_to_come code page_words events s g k h duties checked written run there owes =
+    let a = Bounded.counted (FineBounded.bounded (bounded_always code page_words events s checked written run)) in
+    let b = few_sum code checked written s.plain.goroutines in
+    let c = mul_add s.steps (length s.plain.goroutines) (most_names code.functions) in
+    let d = total_at owed_of s.holders g h there in
+    let e : owed_of h ≡ 1 + creates_in duties = ap creates_in owes in
+    omega (arith, a, b, c, d, e)
