@@ -2,10 +2,6 @@
 -- ending.
 use Rattle.std.proofs.Common.{◌≡◌, Bool, true, false, ℕ, ◌⊎◌, inl, inr, List, [], Option, None, Some, IfSome, option_and_then, refl, sym, ap, ◌∙◌, subst}
 use Rattle.std.specs.Io.KnownBytes.{Appends}
-use Rattle.rgo_machine.specs.declared.limits.Limits.{Limits}
-use Rattle.rgo_tac.specs.Code.{Tac}
-use Rattle.rgo_tac.specs.Tac.{TacState, tac, tac_start}
-use Rattle.rgo_code.specs.Erasure.{erased}
 use Rattle.rgo_region_machine.specs.States.{RegionState}
 use Rattle.rgo_world.specs.declared.tally.Tally.{Tally}
 use Rattle.rgo_driver.specs.Runs.{Gives}
@@ -23,7 +19,7 @@ use Rattle.rgo_run.specs.declared.endings.Ending.TheVariants.{WriteFault, NoMemo
 use Rattle.rgo_run.specs.Calls.{AsksRun, Call, Asks, IsRun, SourceFailed, SourceHeld, IsUntouched, run_options}
 use Rattle.rgo_run.specs.Endings.{status_of, is_run_status, is_fault_status}
 use Rattle.rgo_run.specs.Reports.{Tells, HasPlace, Reports}
-use Rattle.rgo_run.specs.Runs.{RunsInRounds, RunsTo, stats_at}
+use Rattle.rgo_run.specs.Runs.{RunsTo, stats_at}
 use Rattle.rgo_run.specs.Texts.{IsTextOf, IsRead, AskSome, NotRead, ReadTooMuch, Checks, ChecksCode, Fails, Performs, RefusedBy}
 use Rattle.rgo_run.specs.Verdicts.{Refused}
 use Rattle.rgo_run.specs.Headline.{EndsEmit, EndsRun, Headline, IsWriteFault}
@@ -77,25 +73,7 @@ whole_print run_end.StepsSpent print old new n g = g
 whole_print run_end.GoroutinesSpent print old new n g = g
 whole_print run_end.NoMemory print old new n g = g
 
--- a run of which the lines had no memory counts as one that ran out of memory; the same of one in rounds
-no_line_in_rounds : (code : Tac) (limits : Limits) (end : RunEnd) (old new : Option (List ℕ)) (t : TacState)
-    → (end ≡ run_end.WriteFault → ⊥) → RunsInRounds (tac code) limits (tac_start code) end old new t
-    → RunsInRounds (tac code) limits (tac_start code) run_end.NoMemory old new t
-no_line_in_rounds code limits end old new t no_fault r = record {
-  runs = record {
-    rounds = r.runs.rounds;
-    last = r.runs.last;
-    begun = r.runs.begun;
-    state = r.runs.state;
-    went = r.runs.went;
-    goes = r.runs.goes;
-    ran = r.runs.ran;
-    ends = tt;
-    gives = whole_print end r.runs.state.printed old new no_fault r.runs.gives;
-  };
-  is = r.is;
-}
-
+-- a run of which the lines had no memory counts as one that ran out of memory
 no_line_run : (options : RunOptions) (text : List ℕ) (call : Call) (e : Ending) (r : RunsTo options text e call.out)
     → (r.run_end ≡ run_end.WriteFault → ⊥) → RunsTo options text (Ran run_end.NoMemory None) call.out
 no_line_run options text call e r no_fault = record {
@@ -116,9 +94,6 @@ no_line_run options text call e r no_fault = record {
       ends = tt;
       gives = whole_print r.run_end r.runs.runs.state.printed call.out.old call.out.new no_fault r.runs.runs.gives;
     };
-    in_rounds = λ one.
-        no_line_in_rounds (erased r.runs.code) options.limits r.run_end call.out.old call.out.new r.runs.runs.state no_fault
-        (r.runs.in_rounds one);
     source = record {
       picks = r.runs.source.picks;
       state = r.runs.source.state;

@@ -2,7 +2,9 @@ pub mod EndingLemmas
 pub mod ClaimLemmas
 pub mod CodeVerdictLemmas
 pub mod HeadlineLemmas
+pub mod OneCompiled
 pub mod ProgramLemmas
+pub mod Sufficing
 pub mod TextLemmas
 pub mod VerdictLemmas
 pub mod WorldLemmas

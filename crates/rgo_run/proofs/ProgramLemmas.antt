@@ -12,6 +12,7 @@ use Rattle.rgo_summaries.specs.Families.{IsLeastFamily}
 use Rattle.rgo_code.specs.Checked.{IsChecked}
 use Rattle.rgo_code.specs.Code.{Code}
 use Rattle.rgo_code.specs.Erasure.{erased}
+use Rattle.rgo_code.specs.NameRules.{Ascends}
 use Rattle.rgo_code.specs.TypedCode.{IsTypedCode}
 use Rattle.rgo_insert.specs.Bare.{nothing_undeclared}
 use Rattle.rgo_insert.specs.Inserted.{HasClasses}
@@ -31,8 +32,8 @@ is_typed text code is =
 
 pub compiled : (text : List ℕ) (tac : Tac) (family : List Summary) (code : Code) → IsCodeOf text tac
     → IsLeastFamily tac family → erased code ≡ tac → code.undeclared ≡ nothing_undeclared → HasClasses family code
-    → IsChecked code → IsCompiled text code
-compiled text tac family code is least same declared classes checked = record {
+    → IsChecked code → Ascends code → IsCompiled text code
+compiled text tac family code is least same declared classes checked ascends = record {
   program = is.program;
   is_program = is.is_program;
   from = record {
@@ -42,5 +43,6 @@ compiled text tac family code is least same declared classes checked = record {
     classes = classes;
     declared = declared;
     checked = checked;
+    ascends = ascends;
   };
 }

@@ -64,7 +64,7 @@ use Rattle.rgo_run.specs.declared.endings.Ending.TheVariants.{Ran, Usage}
 use Rattle.rgo_run.specs.Compiled.{IsCompiled, WritesCode}
 use Rattle.rgo_run.specs.Calls.{SourceUse, SourceFailed, SourceHeld, SinkUse, Failed, Held}
 use Rattle.rgo_run.specs.Errors.{command_error, read_error, too_long, lex_error, type_error, reading_error, check_error}
-use Rattle.rgo_run.specs.Runs.{RegionRun, RunsInRounds, SourceRun, stats_at}
+use Rattle.rgo_run.specs.Runs.{RegionRun, SourceRun, stats_at}
 use Rattle.rgo_run.specs.CodeVerdicts.{IsTextOfCode, code_limit}
 use Rattle.rgo_run.specs.Texts.{IsRead, IsTextOf, NotRead, ReadTooMuch, RefusedBy, Fails, ChecksCode, Performs, limit_of}
 use Rattle.rgo_run.specs.Verdicts.{IsTree, text_limit}
@@ -253,12 +253,10 @@ region_run_of code sizes end t events state checked ascends leads is printed lac
 pub ran : (options : RunOptions) (text : List ℕ) (code : code.Code) (end : RunEnd) (stats : Option Tally) (out : SinkUse)
     → IsCompiled text code
     → (runs : RunsFreely (tac (erased code)) options.limits (tac_start (erased code)) end out.old out.new)
-    → (options.workers ≡ 1
-    → RunsInRounds (tac (erased code)) options.limits (tac_start (erased code)) end out.old out.new runs.state)
     → (regions : RegionRun code options.sizes end runs.state) → stats ≡ stats_at options.stats end regions.state
     → (end ≡ WriteFault → Failed out) → ((end ≡ WriteFault → ⊥) → Held out)
     → Performs (Run options) text (Ran end stats) out
-ran options text code end stats out is_code runs in_rounds regions stats_are failed held = inl (record {
+ran options text code end stats out is_code runs regions stats_are failed held = inl (record {
   program = is_code.program;
   is_program = is_code.is_program;
   run_end = end;
@@ -268,7 +266,6 @@ ran options text code end stats out is_code runs in_rounds regions stats_are fai
     code = code;
     compiled = is_code.from;
     runs = runs;
-    in_rounds = in_rounds;
     source = followed options.limits is_code.program (erased code) runs.tested (length runs.picks) end runs.state runs.ends
         ((lowering_simulates is_code.program (erased code) is_code.from.lowered).backward_within options.limits
         runs.picks runs.state runs.ran);

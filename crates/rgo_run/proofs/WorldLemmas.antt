@@ -1,22 +1,18 @@
 -- A world in which a run has ended: the run of the region machine, and what is said of it.
-use Rattle.std.proofs.Common.{◌≡◌, ℕ, zero, suc, Bool, List, ◌++◌, Option, refl, sym, ◌∙◌, subst}
+use Rattle.std.proofs.Common.{◌≡◌, ℕ, Bool, List, ◌++◌, Option, refl, sym, ◌∙◌, subst}
 use Rattle.rgo_machine.specs.declared.limits.Sizes.{Sizes}
 use Rattle.rgo_machine.specs.declared.turns.Shortage.{Shortage}
 use Rattle.rgo_machine.specs.declared.limits.Limits.{Limits}
-use Rattle.rgo_machine.specs.Machines.{Machine}
-use Rattle.rgo_tac.specs.Frames.{Frame}
 use Rattle.rgo_tac.specs.Tac.{TacState, tac}
 use Rattle.rgo_code.specs.Code.{Code}
 use Rattle.rgo_code.specs.Erasure.{erased}
-use Rattle.rgo_driver.specs.Runs.{RunsFreely, RunsFreelyTo, RunsTo}
+use Rattle.rgo_driver.specs.Runs.{RunsFreely}
 use Rattle.rgo_driver.specs.declared.ends.RunEnd.{RunEnd}
 use Rattle.rgo_driver.specs.declared.ends.RunEnd.TheVariants as run_end
 use Rattle.rgo_world.specs.declared.tally.Tally.{Tally}
 use Rattle.rgo_world.specs.declared.worlds.World.{World}
 use Rattle.rgo_world.specs.Worlds.{Lacks, LacksIn, Reaches, Shown, Stands}
-use Rattle.rgo_driver.specs.Running.{View}
-use Rattle.rgo_driver.proofs.AnyOrder.{freely}
-use Rattle.rgo_run.specs.Runs.{RegionRun, RunsInRounds, stats_at}
+use Rattle.rgo_run.specs.Runs.{RegionRun, stats_at}
 use Rattle.rgo_run.proofs.TextLemmas.{region_run_of}
 
 -- by one run of the region machine: why there was no room, and where memory sufficed and no write failed, the world shows it
@@ -49,29 +45,11 @@ ended_so w before p run_end.StepsSpent left stands lacks =
 ended_so w before p run_end.GoroutinesSpent left stands lacks =
     let s = stands (λ x. cc) (λ x. cc) in record { reaches = s.reaches; lacks = λ why is. cc; shown = λ a b. s.shown }
 
--- ---- one worker or several
-
-module _ (run : View Frame (Code × Sizes)) (machine : Machine Frame) (limits : Limits) (given : List ℕ) (start : TacState)
-    (end : RunEnd) (old new : Option (List ℕ)) where
-  -- a run on so many workers has ended so: with one, it was in rounds
-  pub record RunsBy (workers : ℕ) : Type 0 where
-    pub to : RunsFreelyTo run machine limits given start end old new
-    pub in_rounds : workers ≡ 1 → RunsInRounds machine limits start end old new to.runs.state
-
-  -- what is said of any number of workers, and of one
-  pub runs_by : (workers : ℕ) → RunsFreelyTo run machine limits given start end old new
-      → (workers ≡ 1 → RunsTo run machine limits given start end old new) → RunsBy workers
-  runs_by zero to alone = record { to = to; in_rounds = λ one. cc }
-  runs_by (suc zero) to alone =
-      let r = alone refl in record { to = freely run machine limits given start end old new r; in_rounds = λ one. record { runs = r.runs; is = refl } }
-  runs_by (suc (suc n)) to alone = record { to = to; in_rounds = λ one. cc }
-
 -- a run of this code without its regions has ended so in a world
-pub record Went (workers : ℕ) (limits : Limits) (start : TacState) (end : RunEnd) (old new : Option (List ℕ)) (w : World)
+pub record Went (limits : Limits) (start : TacState) (end : RunEnd) (old new : Option (List ℕ)) (w : World)
     (code : Code)
     : Type 0 where
   pub runs : RunsFreely (tac (erased code)) limits start end old new
-  pub in_rounds : workers ≡ 1 → RunsInRounds (tac (erased code)) limits start end old new runs.state
   pub before : List ℕ
   pub whole : runs.state.printed ≡ before ++ w.state.printed
   pub ended : Ended w before (record runs.state { printed = w.state.printed }) end

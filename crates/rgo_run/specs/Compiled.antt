@@ -7,6 +7,7 @@ use Rattle.rgo_summaries.specs.Families.{IsLeastFamily}
 use Rattle.rgo_code.specs.Checked.{IsChecked}
 use Rattle.rgo_code.specs.Code.{Code}
 use Rattle.rgo_code.specs.Erasure.{erased}
+use Rattle.rgo_code.specs.NameRules.{Ascends}
 use Rattle.rgo_insert.specs.Bare.{nothing_undeclared}
 use Rattle.rgo_insert.specs.Inserted.{HasClasses}
 use Rattle.rgo_code_printing.specs.Text.{text_of}
@@ -15,8 +16,8 @@ use Rattle.rgo_run.specs.declared.endings.Ending.TheVariants.{Valid, WriteFault}
 use Rattle.rgo_run.specs.Calls.{SinkUse, Failed, Grew, Held}
 use Rattle.rgo_run.specs.Verdicts.{IsProgram}
 
--- The code keeps all rules. Without its regions it is the program's three-address code, and its classes are those that
--- the functions have under the least summaries.
+-- The code keeps all rules, and in each of its lists the names ascend. Without its regions it is the program's three-address
+-- code, and its classes are those that the functions have under the least summaries.
 pub record IsCompiledFrom (program : Typed) (code : Code) : Type 0 where
   pub lowered : IsLowered program (erased code)
   pub family : List Summary
@@ -24,6 +25,11 @@ pub record IsCompiledFrom (program : Typed) (code : Code) : Type 0 where
   pub classes : HasClasses family code
   pub declared : code.undeclared ≡ nothing_undeclared
   pub checked : IsChecked code
+  pub ascends : Ascends code
+
+-- a program is compiled to one code
+abbrev pub OneCompiled : Type 0
+OneCompiled = (program : Typed) (a b : Code) → IsCompiledFrom program a → IsCompiledFrom program b → a ≡ b
 
 pub record IsCompiled (text : List ℕ) (code : Code) : Type 0 where
   pub program : Typed

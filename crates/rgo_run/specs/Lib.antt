@@ -8,5 +8,6 @@ pub mod Positions
 pub mod Programs
 pub mod Reports
 pub mod Runs
+pub mod Sufficing
 pub mod Texts
 pub mod Verdicts

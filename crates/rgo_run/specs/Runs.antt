@@ -24,7 +24,7 @@ use Rattle.rgo_world.specs.declared.tally.Tally.{Tally}
 use Rattle.rgo_world.specs.Worlds.{LacksIn, plain_at, tally_of}
 use Rattle.rgo_driver.specs.declared.ends.RunEnd.{RunEnd}
 use Rattle.rgo_driver.specs.declared.ends.RunEnd.TheVariants.{Deadlock, NoMemory, NoRoom, WriteFault}
-use Rattle.rgo_driver.specs.Runs.{Runs, RunsFreely}
+use Rattle.rgo_driver.specs.Runs.{RunsFreely}
 use Rattle.rgo_command_line.specs.declared.limits.RunOptions.{RunOptions}
 use Rattle.rgo_run.specs.declared.endings.Ending.{Ending}
 use Rattle.rgo_run.specs.declared.endings.Ending.TheVariants.{Ran}
@@ -74,24 +74,12 @@ pub record RegionRun (code : Code) (sizes : Sizes) (end : RunEnd) (t : TacState)
   -- why there was no room
   pub lacks : (why : Shortage) → end ≡ NoRoom why → LacksIn code sizes why state
 
--- some run in rounds, in which goroutines have their turns one after the other, ends so in this state, and its print was
--- given out
-pub record RunsInRounds
-    {F : Type 0} (machine : Machine F) (limits : Limits) (start : State F) (end : RunEnd) (old new : Option (List ℕ))
-    (t : State F)
-    : Type 0 where
-  pub runs : Runs machine limits start end old new
-  pub is : runs.state ≡ t
-
 -- Some run of the program's code, its steps in any order, ends so and gives out what `out` took. It is why the end is
 -- what it is, it does what some run of the program does, and it is a run with regions.
 pub record ProgramRuns (program : Typed) (options : RunOptions) (end : RunEnd) (out : SinkUse) : Type 0 where
   pub code : Code
   pub compiled : IsCompiledFrom program code
   pub runs : RunsFreely (tac (erased code)) options.limits (tac_start (erased code)) end out.old out.new
-  -- with one worker, goroutines had their turns one after the other
-  pub in_rounds : options.workers ≡ 1
-      → RunsInRounds (tac (erased code)) options.limits (tac_start (erased code)) end out.old out.new runs.state
   pub source : SourceRun options.limits program end runs.state
   pub regions : RegionRun code options.sizes end runs.state
 

@@ -1,7 +1,9 @@
 //! What holds of the definitions by themselves.
 
 ghost use Rattle.rgo_run.specs.CodeVerdicts.{OneCodeVerdict};
+ghost use Rattle.rgo_run.specs.Compiled.{OneCompiled};
 ghost use Rattle.rgo_run.specs.Programs.{ProgramsAreWellFormed};
+ghost use Rattle.rgo_run.specs.Sufficing.{FewSuffice};
 ghost use Rattle.rgo_run.specs.Verdicts.{OneVerdict};
 
 /// Each text is one program at most, and is within the rules or has one refusal, and never both.
@@ -17,4 +19,16 @@ pub fn one_code_verdict()
 /// The program of every valid text is well-formed, and no function with a result reaches the end of its body.
 pub fn programs_are_well_formed()
     ensures { ProgramsAreWellFormed }
+{}
+
+/// A program is compiled to one code, so there is one text that `emit` may print of it.
+pub fn one_compiled()
+    ensures { OneCompiled }
+{}
+
+/// No run of a program lacks a page if there are as many pages as objects and goroutines in any of its runs. None lacks a
+/// region if there are as many regions as steps and goroutines in any of its runs, times the most region names of one
+/// function.
+pub fn few_suffice()
+    ensures { FewSuffice }
 {}

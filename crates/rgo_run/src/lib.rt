@@ -11,7 +11,9 @@ mod report;
 mod top;
 
 pub use endings::Ending;
-pub use laws::{one_code_verdict, one_verdict, programs_are_well_formed};
+pub use laws::{
+    few_suffice, one_code_verdict, one_compiled, one_verdict, programs_are_well_formed,
+};
 pub use pipeline::{compile, lower_text};
 pub use rgo_code::{CodeRefusal, Rule as CodeRule};
 pub use rgo_command_line::Command;

@@ -107,5 +107,6 @@ pub fn compile(alloc: Global, text: &[u8]) -> Result<Checked, Ending>
     let tac = lower_text(alloc, text)?;
     let summaries = summaries(alloc, &tac)?;
     let code = insert(alloc, &tac, &summaries)?;
+    code.ascends();
     Ok(Checked::new(code))
 }

@@ -1,10 +1,9 @@
 use Rattle.std.proofs.Common.{[], ◌∙◌, subst}
 use Rattle.rgo_code.specs.Erasure.{erased}
 use Rattle.rgo_tac.specs.Tac.{tac_start}
-use Rattle.rgo_world.specs.Views.{view_of}
 use Rattle.rgo_world.proofs.Standing.{starts_stand}
 use Rattle.rgo_run.proofs.TextLemmas.{ran, starts_ready}
-use Rattle.rgo_run.proofs.WorldLemmas.{Went, ended_so, region_run, runs_by}
+use Rattle.rgo_run.proofs.WorldLemmas.{Went, ended_so, region_run}
 use Rattle.rgo_run.proofs.commands.run_code.Goals as goal
 
 pub run_with_workers-world-requires-clause-begins : goal.run_with_workers-world-requires-clause-begins
@@ -28,12 +27,9 @@ returns-in-Ok-clause-performs g c = λ text is_code.
     let stand = starts_stand code options.sizes c.in-Ok.world starts in
     let old = g.K.Sink.contents c.args.out.now in
     let new = g.K.Sink.contents call.new.out in
-    let by = runs_by (view_of world) (view_of c.in-Ok.world).machine options.limits [] start end old new options.workers
-    (call.ensures.runs [] start stand ready) (λ one. call.ensures.alone one [] start stand ready) in
-    let done = by.to in
-    let went = subst (Went options.workers options.limits start end old new world) starts.code_is (record {
+    let done = call.ensures.runs [] start stand ready in
+    let went = subst (Went options.limits start end old new world) starts.code_is (record {
       runs = done.runs;
-      in_rounds = by.in_rounds;
       before = done.before;
       whole = done.whole;
       ended = ended_so world done.before (record done.runs.state { printed = world.state.printed }) end done.left.leaves
@@ -42,5 +38,5 @@ returns-in-Ok-clause-performs g c = λ text is_code.
     let tallied = region_run code options.sizes world went.before went.runs.state end options.stats c.stats_of.result
     (call.ensures.fixed ∙ (λ i. (starts.code_is i, starts.sizes_are i))) went.whole went.ended
     (c.stats_of.ensures went.ended.reaches.state went.ended.shown) in
-    ran options text code end c.stats_of.result _ is_code went.runs went.in_rounds tallied.0 tallied.1
+    ran options text code end c.stats_of.result _ is_code went.runs tallied.0 tallied.1
     (λ e. record { counted = call.ensures.fault e; broken = call.ensures.broken e }) call.ensures.kept

@@ -1,0 +1,34 @@
+-- How many pages and regions are enough for every run of a program.
+use Rattle.std.specs.Prelude.{◌≡◌, ◌≤◌, ◌+◌, ◌*◌, List, Some}
+use Rattle.rgo_typed.specs.Tree.{Typed}
+use Rattle.rgo_machine.specs.declared.limits.Sizes.{Sizes}
+use Rattle.rgo_machine.specs.declared.turns.Shortage.TheVariants as shortage
+use Rattle.rgo_code.specs.Code.{Code}
+use Rattle.rgo_region_machine.specs.Counts.{counts_of}
+use Rattle.rgo_region_machine.specs.Machine.{Event, region_run}
+use Rattle.rgo_region_machine.specs.States.{RegionState}
+use Rattle.rgo_sound.specs.Safety.{most_names}
+use Rattle.rgo_run.specs.Compiled.{IsCompiledFrom}
+use Rattle.rgo_run.specs.Headline.{AlwaysHas}
+
+-- every state of every run of the program's code with its regions is so
+abbrev pub Always : Sizes → Typed → (Code → RegionState → Type 0) → Type 0
+Always sizes program Holds =
+    (code : Code) (events : List Event) (s : RegionState) → IsCompiledFrom program code
+    → region_run code sizes.page_words events ≡ Some s → Holds code s
+
+-- objects and goroutines together are at most the pages
+abbrev pub FewObjects : Sizes → Code → RegionState → Type 0
+FewObjects sizes code s = (counts_of s).objects + (counts_of s).goroutines ≤ sizes.pages
+
+-- steps and goroutines together, times the most region names of one function, are at most the regions
+abbrev pub FewSteps : Sizes → Code → RegionState → Type 0
+FewSteps sizes code s = ((counts_of s).steps + (counts_of s).goroutines) * most_names code.functions ≤ sizes.regions
+
+-- Where every run makes as few objects, no run wants a page that there is not; where every run takes as few steps, none
+-- wants a region.
+pub record FewSuffice : Type 0 where
+  pub pages : (sizes : Sizes) (program : Typed) → Always sizes program (FewObjects sizes)
+      → AlwaysHas sizes program shortage.Pages
+  pub regions : (sizes : Sizes) (program : Typed) → Always sizes program (FewSteps sizes)
+      → AlwaysHas sizes program shortage.Regions
