@@ -66,19 +66,19 @@ fn read<S: Source>(
 /// The words are the program's name, which is ignored, and `check`, `emit`, `code`, or `run` with its
 /// options `--steps N`, `--goroutines N`, `--pages N`, `--page-words N`, `--regions N`, `--workers N` and
 /// `--stats`, followed by nothing or a `--`; or `big` and a number, as `read_words` says. The text is what
-/// the source has left, at most 1,048,576 bytes. `run` writes its print to `out`, line by line; `emit`
+/// the source has left, at most 1,048,576 bytes. `run` writes its print to `out`; `emit`
 /// writes the text of the code with regions; `check` leaves `out` as it was. `code` reads such a text of
 /// code, at most 67,108,864 bytes, checks it, and leaves `out` as it was. `big N` leaves the source as
 /// it was, and does what `run` without options does with the large text of `rgo_big` that starts `N`
 /// goroutines. At most one line is written to `err`, and before it, with `--stats`, one that counts what
 /// the run has made. After a failed write nothing more is written to that sink.
 ///
-/// A run is in rounds, in which every goroutine that can step has a turn. With one worker the turns come
-/// one after the other, on the caller's thread. With more, `rt` starts threads: the goroutines of a
-/// round are dealt out to the workers, and their steps come in any order, each under one lock. A worker
-/// that has goroutines in a round arrives at the gate before the first turn of these, with its number,
-/// from 0 on, and that of the round, from 1 on. That a worker gets the lock for which it waits is not
-/// claimed.
+/// A run is in rounds, in which every goroutine that can step has a turn; no clause says so. With one
+/// worker the turns come one after the other, on the caller's thread. With more, `rt` starts threads in
+/// the first two rounds: the goroutines are dealt out to two workers, and their steps come in any order,
+/// each under one lock. A worker that has goroutines in a round arrives at the gate before the first
+/// turn of these, with its number, from 0 on, and that of the round, from 1 on. That a worker gets the
+/// lock for which it waits is not claimed.
 ///
 /// | status | where |
 /// |---|---|
