@@ -8,7 +8,10 @@ import re
 
 import go_types
 from go_reader import read
-from go_types import Entity, INTEGERS, FLOATS, Scope, element_of, is_library, is_string, is_type, member, resolved, sort_of, type_of, under
+from go_types import (
+    Entity, FLOATS, INTEGERS, Scope, element_of, is_library, is_string, is_type, library_of, member, resolved, sort_of, type_of,
+    under,
+)  # fmt: skip
 
 RESERVED = {"int", "bool", "true", "false", "nil", "new", "make", "len", "close", "cap", "append", "fmt", "sync", "init", "_"}
 BIT_OPERATORS = {"&", "|", "^", "<<", ">>", "&^"}
@@ -567,8 +570,6 @@ class Finder:
             self.note(node.at, "function value")
         elif entity is not None and entity.sort == "type":
             self.type(node)
-        elif node.text == "iota" and entity is not None and entity.sort == "const":
-            self.note(node.at, "const")
 
     def of_literal(self, node):
         text = node.text
@@ -596,17 +597,15 @@ class Finder:
             self.library(node)
             return
         self.value(node.base)
-        sort, _ = member(type_of(node.base, self.scope), node.name.text)
-        if sort == "method":
+        base = type_of(node.base, self.scope)
+        if library := library_of(base, node.name.text):
+            self.note(node.name.at, of_library(*library.split(".")))
+        elif member(base, node.name.text)[0] == "method":
             self.note(node.name.at, "function value")
 
     def library(self, node):
         package, name = node.base.text, node.name.text
-        if package == "fmt":
-            construct = "Printf" if name != "Println" else "function value"
-        else:
-            construct = PACKAGES.get(f"{package}.{name}") or PACKAGES.get(package, "other packages")
-        self.note(node.at, construct)
+        self.note(node.at, of_library(package, name))
 
     def of_index(self, node):
         if is_type(node.base, self.scope):
@@ -648,7 +647,8 @@ class Finder:
             self.pointed(node)
             return
         if node.op == "&":
-            self.note(node.at, "pointer to a variable")
+            is_struct = sort_of(type_of(node.inner, self.scope)) == "struct" and node.inner.kind != "composite"
+            self.note(node.at, "address of a struct" if is_struct else "pointer to a variable")
         elif node.op == "^":
             self.note(node.at, "bit operator")
         self.value(node.inner)
@@ -751,10 +751,8 @@ class Finder:
 
     def member_called(self, callee):
         base = type_of(callee.base, self.scope)
-        plain = element_of(base) if sort_of(base) == "pointer" else base
-        if plain and plain[0] == "library":
-            package = plain[1].split(".")[0]
-            self.note(callee.name.at, PACKAGES.get(plain[1]) or PACKAGES.get(package, "other packages"))
+        if library := library_of(base, callee.name.text):
+            self.note(callee.name.at, of_library(*library.split(".")))
         elif sort_of(base) == "interface":
             self.note(callee.name.at, "interface" if callee.name.text != "Error" else "error")
         elif member(base, callee.name.text)[0] == "field":
@@ -802,6 +800,13 @@ class Finder:
             self.value(one)
             if not (node.callee.kind == "name" and node.callee.text == "len"):
                 self.copied(one)
+
+
+def of_library(package, name):
+    """The construct of a name of the library."""
+    if package == "fmt":
+        return "function value" if name == "Println" else "Printf"
+    return PACKAGES.get(f"{package}.{name}") or PACKAGES.get(package, "other packages")
 
 
 class Node:

@@ -27,6 +27,7 @@ LIBRARY = {
     "strconv.Itoa": STRING, "strconv.Atoi": ("several", [INT, ERROR]), "strconv.Quote": STRING, "strconv.FormatInt": STRING,
     "fmt.Sprintf": STRING, "fmt.Sprint": STRING, "fmt.Sprintln": STRING, "fmt.Errorf": ERROR, "errors.New": ERROR,
     "time.After": ("chan", ("library", "time.Time")), "time.Tick": ("chan", ("library", "time.Time")),
+    "time.NewTicker": ("pointer", ("library", "time.Ticker")), "time.NewTimer": ("pointer", ("library", "time.Timer")),
     "time.Now": ("library", "time.Time"), "time.Since": ("library", "time.Duration"),
     "math.Sqrt": FLOAT, "math.Abs": FLOAT, "math.Pow": FLOAT, "math.Floor": FLOAT, "math.Max": FLOAT, "math.Min": FLOAT,
     "rand.Intn": INT, "rand.Int": INT, "rand.Perm": ("slice", INT), "rand.New": ("pointer", ("library", "rand.Rand")),
@@ -199,6 +200,19 @@ def member(kind, name, depth=0):
         if found[0]:
             return found
     return None, None
+
+
+def library_of(kind, name, depth=0):
+    """The name of the library's type that `x.name` belongs to, for an x of a type, or None: it may be embedded."""
+    named = element_of(kind) if sort_of(kind) == "pointer" else kind
+    inner = under(named)
+    if inner and inner[0] == "library":
+        return inner[1]
+    if not inner or inner[0] != "struct" or depth > 20 or name in inner[1]:
+        return None
+    if named[0] == "named" and name in named[1].methods:
+        return None
+    return next((found for one in inner[2] if (found := library_of(one, name, depth + 1))), None)
 
 
 def type_of(node, scope):

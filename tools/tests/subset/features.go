@@ -140,6 +140,8 @@ func (f *finder) Visit(n ast.Node) ast.Visitor {
 		if n.Len != nil {
 			f.note(n.Pos(), "array")
 		}
+	case *ast.FuncType:
+		f.function(n)
 	case *ast.ChanType:
 		if n.Dir != ast.SEND|ast.RECV {
 			f.note(n.Pos(), "directional channel")
@@ -190,6 +192,19 @@ func (f *finder) results(n *ast.FuncType) {
 	if n.Results.NumFields() > 1 {
 		f.note(n.Results.List[0].Pos(), "several results")
 	}
+}
+
+func (f *finder) function(n *ast.FuncType) {
+	switch up := f.above(1).(type) {
+	case *ast.FuncDecl, *ast.FuncLit:
+		return
+	case *ast.Field:
+		// A method of an interface.
+		if list, ok := f.above(3).(*ast.InterfaceType); ok && len(up.Names) == 1 && list != nil {
+			return
+		}
+	}
+	f.note(n.Pos(), "function value")
 }
 
 func (f *finder) closure(n *ast.FuncLit) {
@@ -340,6 +355,8 @@ func (f *finder) builtin(n *ast.CallExpr, name string) {
 			f.note(n.Pos(), "string")
 		} else if _, ok := f.under(n.Args[0]).(*types.Map); ok {
 			f.note(n.Pos(), "map")
+		} else if _, ok := f.under(n.Args[0]).(*types.Array); ok {
+			f.note(n.Pos(), "array")
 		}
 	case "make":
 		if len(n.Args) > 2 {
