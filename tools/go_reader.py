@@ -91,8 +91,6 @@ class Reader:
         while not self.is_at(end) and self.token.kind != "end":
             found.append(part())
             if not self.took(","):
-                # A newline before the bracket is a common mistake: Go asks for a comma there.
-                self.took("\n")
                 break
         self.expect(end)
         return found
@@ -484,10 +482,8 @@ class Reader:
         return Node("if", at, first=first, condition=condition, then=then, other=other)
 
     def header_of_if(self):
-        first = None if self.is_at(";", "{") else self.simple()
-        if not self.took(";"):
-            return None, first
-        return first, None if self.is_at("{") else self.simple()
+        first = None if self.is_at(";") else self.simple()
+        return (first, self.simple()) if self.took(";") else (None, first)
 
     def for_statement(self):
         at = self.expect("for").at
@@ -614,7 +610,6 @@ class Reader:
         if self.is_at("("):
             self.take()
             inner = self.in_brackets(self.expression)
-            self.took("\n")
             self.expect(")")
             return Node("paren", token.at, inner=inner)
         if self.is_at("func"):

@@ -5,6 +5,7 @@ are the headings of docs/PORTING.md, which says what to write instead.
 """
 
 import re
+import sys
 
 import go_types
 from go_reader import read
@@ -38,7 +39,12 @@ GOOD_STRING = re.compile(r'"(?:[^"\\\n]|\\[abfnrtv\\"])*"')
 
 
 def finds(text):
-    """The places of a text, each as (place, construct, what is expected), in the order of the text."""
+    """The places of a text, each as (place, construct, what is expected), in the order of the text.
+
+    A text that is nested too deeply ends in a RecursionError.
+    """
+    # A level of nesting takes some ten calls.
+    sys.setrecursionlimit(max(sys.getrecursionlimit(), 10000))
     tree, faults = read(text)
     finder = Finder()
     finder.file(tree)

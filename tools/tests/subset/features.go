@@ -472,6 +472,9 @@ func main() {
 	files := token.NewFileSet()
 	imports := importer.ForCompiler(files, "source", nil)
 	for _, path := range os.Args[1:] {
+		if path == "--" {
+			continue
+		}
 		tree, err := parser.ParseFile(files, path, nil, 0)
 		if err != nil {
 			fmt.Fprintln(os.Stderr, err)
