@@ -154,7 +154,7 @@ class Page(unittest.TestCase):
 
     def test_lines_are_not_too_long(self):
         for path in [PORTING]:
-            self.assertEqual([], [line for line in path.read_text(encoding="utf-8").splitlines() if len(line) > 135])
+            self.assertEqual([], [line for line in path.read_text(encoding="utf-8").splitlines() if len(line) > 120])
 
 
 class WithTheProgram(unittest.TestCase):
