@@ -88,7 +88,8 @@ class Finder:
     # Declarations.
 
     def file(self, tree):
-        if tree.package and tree.package.text != "main":
+        has_main = any(one.kind == "func" and one.receiver is None and one.name.text == "main" for one in tree.declarations)
+        if tree.package and (tree.package.text != "main" or not has_main):
             self.note(tree.package.at, "package")
         for one in tree.declarations:
             if one.kind == "import":
@@ -141,7 +142,7 @@ class Finder:
     def collect_values(self, node):
         scope = self.scope
         for number, name in enumerate(node.names):
-            kind = (lambda n=number: value_type(node, n, scope)) if node.values or node.type else go_types.INT
+            kind = (lambda n=number: value_type(node.type, node.values, n, scope)) if node.values or node.type else go_types.INT
             self.scope.names[name.text] = Entity(node.kind, kind)
 
     def type_outside(self, node):
@@ -200,6 +201,8 @@ class Finder:
             self.note(node.at, "init function")
         else:
             self.check_name(node.name)
+        if node.body is None:
+            self.note(node.at, "package")
         if node.parameters:
             self.note(node.at, "generic")
         self.within(self.generic, node.parameters, self.function, node.type, node.body, node.receiver or [])
@@ -364,7 +367,7 @@ class Finder:
         elif node.values and len(node.names) > 1:
             self.several_of_one(node, node.names, node.values[0])
         for number, name in enumerate(node.names):
-            found = resolved(node.type, self.scope) if node.type else value_type(node, number, self.scope)
+            found = value_type(node.type, node.values, number, self.scope)
             if number < len(node.values):
                 self.copied(node.values[number])
             self.declare(name, Entity("var", found))
@@ -387,7 +390,7 @@ class Finder:
             self.several_of_one(node, node.lefts, node.rights[0])
         if node.op[:-1] in BIT_OPERATORS:
             self.note(node.at, "bit operator")
-        for one in node.lefts:
+        for one in map(plain, node.lefts):
             if one.kind != "name" or one.text != "_":
                 self.value(one)
             elif len(node.lefts) == 1:
@@ -408,21 +411,19 @@ class Finder:
             self.several_of_one(node, node.lefts, node.rights[0])
         for number, name in enumerate(node.lefts):
             if name.kind == "name" and name.text != "_":
-                self.declare(name, Entity("var", value_type(Node(node.rights), number, self.scope)))
+                self.declare(name, Entity("var", value_type(None, node.rights, number, self.scope)))
             elif name.kind == "name" and len(node.lefts) == 1:
                 self.note(name.at, "blank name")
 
     def several_of_one(self, node, lefts, right):
         """Several names for one value: `v, ok := ..` or the results of a call."""
-        while right.kind == "paren":
-            right = right.inner
+        right = plain(right)
         is_question = right.kind in ("index", "asserted") or (right.kind == "unary" and right.op == "<-")
         self.note(node.at, "comma ok" if is_question else "several results")
 
     def copied(self, node):
         """Notes a value that is copied where it is assigned, passed or compared: after porting nothing would copy it."""
-        while node.kind == "paren":
-            node = node.inner
+        node = plain(node)
         if node.kind in ("name", "select", "index", "star") and not is_type(node, self.scope):
             if sort_of(type_of(node, self.scope)) in ("struct", "array"):
                 self.note(node.at, "copy of a struct")
@@ -815,27 +816,26 @@ def of_library(package, name):
     return PACKAGES.get(f"{package}.{name}") or PACKAGES.get(package, "other packages")
 
 
-class Node:
-    """What `value_type` reads of a declaration."""
+def plain(node):
+    """An expression without the parentheses around it."""
+    while node.kind == "paren":
+        node = node.inner
+    return node
 
-    def __init__(self, values):
-        self.values = values
-        self.type = None
 
-
-def value_type(node, number, scope):
-    """The type of the name with this number in a declaration."""
-    if node.type is not None:
-        return resolved(node.type, scope)
-    if not node.values:
+def value_type(kind, values, number, scope):
+    """The type of the name with this number in a declaration, which may have a type and values."""
+    if kind is not None:
+        return resolved(kind, scope)
+    if not values:
         return None
-    if number < len(node.values) and (len(node.values) > 1 or number == 0):
-        found = type_of(node.values[number], scope)
-        return found[1][0] if found and found[0] == "several" and found[1] else found
-    found = type_of(node.values[0], scope)
+    if len(values) > 1:
+        return type_of(values[number], scope) if number < len(values) else None
+    found = type_of(values[0], scope)
     if found and found[0] == "several":
         return found[1][number] if number < len(found[1]) else None
-    return go_types.BOOL
+    # The second name of `v, ok := ..`.
+    return found if number == 0 else go_types.BOOL
 
 
 def range_types(found):
@@ -855,7 +855,7 @@ def typed_switch(subject):
     if subject is None:
         return None, None
     name, value = None, getattr(subject, "inner", None)
-    if subject.kind == "define" and len(subject.rights) == 1:
+    if subject.kind == "define" and len(subject.rights) == 1 and subject.lefts[0].kind == "name":
         name, value = subject.lefts[0], subject.rights[0]
     if value is not None and value.kind == "asserted" and value.type is None:
         return value, name
