@@ -15,8 +15,9 @@ import tempfile
 import unittest
 
 import error_pages
+import go_programs
 import go_subset
-import go_tokens
+from go_subset import find_statements, find_values, library, tokens
 from error_pages import TOP
 
 SUBSET = TOP / "tools" / "subset"
@@ -50,7 +51,7 @@ BROKEN = [
 
 def constructs_by_line(text):
     """What tools/subset finds in a text, as lines with constructs."""
-    lines = go_tokens.Lines(text)
+    lines = tokens.Lines(text)
     return {(lines.place(at)[0], construct) for at, construct, _ in go_subset.finds(text)}
 
 
@@ -104,8 +105,12 @@ class Finds(unittest.TestCase):
                 self.assertEqual(found, {one for one in seen if one[1] in compared})
 
     def test_nothing_in_programs_of_the_language(self):
-        texts = {path.name: path.read_text(encoding="utf-8") for path in TOP.glob("examples/**/*.go") if path.name != "before.go"}
-        texts |= {page.path.name: page.corrected.decode() for page in map(error_pages.read_page, error_pages.page_paths()) if not error_pages.is_of_code(page)}
+        paths = [path for path in TOP.glob("examples/**/*.go") if path.name != "before.go"]
+        texts = {path.name: path.read_text(encoding="utf-8") for path in paths}
+        for page in map(error_pages.read_page, error_pages.page_paths()):
+            if not error_pages.is_of_code(page):
+                texts[page.path.name] = page.corrected.decode()
+        texts |= {seed: go_programs.Program(seed).text() for seed in range(10)}
         for name, text in texts.items():
             with self.subTest(name):
                 self.assertEqual([], go_subset.finds(text))
@@ -113,9 +118,9 @@ class Finds(unittest.TestCase):
     def test_texts_that_are_no_go(self):
         for text, place in BROKEN:
             with self.subTest(text):
-                lines = go_tokens.Lines(text)
-                found = ["%d:%d" % lines.place(at) for at, construct, _ in go_subset.finds(text) if construct == go_subset.NOT_GO]
-                self.assertEqual(place, found[0])
+                lines = tokens.Lines(text)
+                faults = [at for at, construct, _ in go_subset.finds(text) if construct == go_subset.NOT_GO]
+                self.assertEqual(place, "%d:%d" % lines.place(faults[0]))
 
     def test_what_follows_a_fault_is_read(self):
         found = constructs("package main\nfunc f() {\n\tx := )\n\tdefer f()\n}\nvar := 3\nfunc (t *T) g() {\n\tswitch {\n\t}\n}\n")
@@ -128,16 +133,17 @@ class Finds(unittest.TestCase):
             words = re.findall(r"\w+|\s+|.", chance.choice(texts))
             for _ in range(chance.randint(1, 4)):
                 at = chance.randrange(len(words))
-                words[at : at + chance.randint(0, 2)] = chance.choice([[], [words[at]] * 2, [chance.choice(words)], ["}"], ["("], ["\n"]])
+                others = [[], [words[at]] * 2, [chance.choice(words)], ["}"], ["("], ["\n"]]
+                words[at : at + chance.randint(0, 2)] = chance.choice(others)
             with self.subTest(number):
                 go_subset.finds("".join(words))
 
 
 class Page(unittest.TestCase):
     def test_each_construct_has_a_section(self):
-        source = pathlib.Path(go_subset.__file__).read_text(encoding="utf-8")
+        source = "".join(path.read_text(encoding="utf-8") for path in pathlib.Path(go_subset.__file__).parent.glob("*.py"))
         named = set(re.findall(r'self\.note\([^"\n]*"(\w[^"]+)"', source)) | {"range"}
-        for table in (go_subset.PACKAGES, go_subset.RANGES, go_subset.BUILTINS):
+        for table in (library.PACKAGES, find_statements.RANGES, find_values.BUILTINS):
             named |= set(table.values())
         self.assertEqual(set(), named - set(HEADINGS) - {"error"})
         self.assertEqual(len(HEADINGS), len(set(HEADINGS)))
@@ -153,8 +159,7 @@ class Page(unittest.TestCase):
                     self.assertEqual([], go_subset.finds(whole(after)))
 
     def test_lines_are_not_too_long(self):
-        for path in [PORTING]:
-            self.assertEqual([], [line for line in path.read_text(encoding="utf-8").splitlines() if len(line) > 120])
+        self.assertEqual([], [line for line in PORTING.read_text(encoding="utf-8").splitlines() if len(line) > 120])
 
 
 class WithTheProgram(unittest.TestCase):

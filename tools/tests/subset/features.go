@@ -1,6 +1,6 @@
 // Features prints which constructs that rgo leaves out Go's own parser and type checker find in Go programs:
 //
-//	go run features.go FILE.go ..
+//	go run features.go -- FILE.go ..
 //
 // For each file it prints its name, and then a line for each line of it and each construct there, by the headings of
 // docs/PORTING.md. tools/tests/test_subset.py compares what tools/subset finds with this.

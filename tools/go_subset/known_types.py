@@ -8,42 +8,17 @@ A type is a tuple that begins with its sort, and None if it is not known:
 `nil` is ("basic", "nil"), and a constant without a type is of the type that it has by default.
 """
 
+from go_subset.library import LIBRARY, LIBRARY_METHODS, LIBRARY_TYPES
+
 INTEGERS = "int8 int16 int32 int64 uint uint8 uint16 uint32 uint64 uintptr byte rune".split()
 FLOATS = "float32 float64 complex64 complex128".split()
 BASIC = ["int", "bool", "string", *INTEGERS, *FLOATS]
 BUILTINS = "append cap clear close complex copy delete imag len make max min new panic print println real recover".split()
 INT, BOOL, STRING, NIL = (("basic", name) for name in ("int", "bool", "string", "nil"))
-RUNE, FLOAT = ("basic", "rune"), ("basic", "float64")
-ERROR = ("interface",)
-LITERALS = {"int": INT, "float": FLOAT, "imaginary": ("basic", "complex128"), "rune": RUNE, "string": STRING, "raw": STRING}
+RUNE = ("basic", "rune")
+FLOAT, COMPLEX = ("basic", "float64"), ("basic", "complex128")
+LITERALS = {"int": INT, "float": FLOAT, "imaginary": COMPLEX, "rune": RUNE, "string": STRING, "raw": STRING}
 COMPARISONS = {"==", "!=", "<", "<=", ">", ">=", "&&", "||"}
-# What functions and variables of the library are, as far as programs often loop over it or take it apart.
-LIBRARY = {
-    "strings.Split": ("slice", STRING), "strings.Fields": ("slice", STRING), "strings.Join": STRING,
-    "strings.Repeat": STRING, "strings.ToUpper": STRING, "strings.ToLower": STRING, "strings.TrimSpace": STRING,
-    "strings.Replace": STRING, "strings.ReplaceAll": STRING, "strings.Title": STRING, "strings.Trim": STRING,
-    "strings.Contains": BOOL, "strings.HasPrefix": BOOL, "strings.HasSuffix": BOOL, "strings.Index": INT,
-    "strings.NewReader": ("pointer", ("library", "strings.Reader")), "strings.Count": INT,
-    "strconv.Itoa": STRING, "strconv.Atoi": ("several", [INT, ERROR]), "strconv.Quote": STRING, "strconv.FormatInt": STRING,
-    "fmt.Sprintf": STRING, "fmt.Sprint": STRING, "fmt.Sprintln": STRING, "fmt.Errorf": ERROR, "errors.New": ERROR,
-    "time.After": ("chan", ("library", "time.Time")), "time.Tick": ("chan", ("library", "time.Time")),
-    "time.NewTicker": ("pointer", ("library", "time.Ticker")), "time.NewTimer": ("pointer", ("library", "time.Timer")),
-    "time.Now": ("library", "time.Time"), "time.Since": ("library", "time.Duration"),
-    "math.Sqrt": FLOAT, "math.Abs": FLOAT, "math.Pow": FLOAT, "math.Floor": FLOAT, "math.Max": FLOAT, "math.Min": FLOAT,
-    "rand.Intn": INT, "rand.Int": INT, "rand.Perm": ("slice", INT), "rand.New": ("pointer", ("library", "rand.Rand")),
-    "bufio.NewScanner": ("pointer", ("library", "bufio.Scanner")), "bufio.NewReader": ("pointer", ("library", "bufio.Reader")),
-    "bufio.NewWriter": ("pointer", ("library", "bufio.Writer")), "list.New": ("pointer", ("library", "list.List")),
-    "os.Args": ("slice", STRING), "unicode.IsLetter": BOOL, "unicode.IsDigit": BOOL, "unicode.IsSpace": BOOL,
-    "unicode.ToLower": RUNE, "unicode.ToUpper": RUNE, "sync.NewCond": ("pointer", ("library", "sync.Cond")),
-    "heap.Pop": ("interface",), "atomic.AddInt32": ("basic", "int32"), "atomic.AddInt64": ("basic", "int64"),
-    "atomic.LoadInt32": ("basic", "int32"), "atomic.LoadInt64": ("basic", "int64"), "math.MaxInt64": INT, "math.MinInt64": INT,
-    "math.MaxInt32": INT, "math.MaxInt": INT, "math.MinInt": INT, "math.Pi": FLOAT,
-}  # fmt: skip
-LIBRARY_METHODS = {
-    "strings.Builder.String": STRING, "strings.Builder.Len": INT, "bufio.Scanner.Text": STRING, "bufio.Scanner.Scan": BOOL,
-    "time.Time.Sub": ("library", "time.Duration"), "sync.Mutex.TryLock": BOOL, "rand.Rand.Intn": INT, "list.List.Len": INT,
-    "error.Error": STRING,
-}  # fmt: skip
 
 
 class Entity:
@@ -157,14 +132,6 @@ def is_type(node, scope):
     if node.kind == "select":
         return is_library(node, scope) and f"{node.base.text}.{node.name.text}" in LIBRARY_TYPES
     return node.kind.endswith("_type")
-
-
-LIBRARY_TYPES = set(
-    "time.Duration time.Time time.Month time.Timer time.Ticker sync.Mutex sync.RWMutex sync.WaitGroup sync.Once sync.Cond"
-    " sync.Pool sync.Map strings.Builder strings.Reader sort.IntSlice sort.StringSlice sort.Interface heap.Interface list.List"
-    " list.Element rand.Rand bufio.Scanner bufio.Reader bufio.Writer bytes.Buffer atomic.Int32 atomic.Int64 atomic.Value"
-    " atomic.Bool context.Context big.Int os.File io.Reader io.Writer fmt.Stringer".split()
-)
 
 
 def is_library(node, scope):
