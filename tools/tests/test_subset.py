@@ -158,6 +158,14 @@ class Page(unittest.TestCase):
                     self.assertIn(heading, constructs(whole(before)))
                     self.assertEqual([], go_subset.finds(whole(after)))
 
+    def test_the_table_of_programs(self):
+        rows = re.findall(r"^\| `(\w+)` \| (\d+) \| (\d+) \| (\d+) \|", PORTING.read_text(encoding="utf-8"), re.MULTILINE)
+        self.assertEqual([path.parent.name for path in PORTED], sorted(row[0] for row in rows))
+        for name, *counts in rows:
+            before, after = (TOP.joinpath("examples", "porting", name, part).read_text() for part in ("before.go", "after.go"))
+            found = [len(before.splitlines()), len(go_subset.finds(before)), len(after.splitlines())]
+            self.assertEqual(found, list(map(int, counts)), name)
+
     def test_lines_are_not_too_long(self):
         self.assertEqual([], [line for line in PORTING.read_text(encoding="utf-8").splitlines() if len(line) > 120])
 
