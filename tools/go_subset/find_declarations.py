@@ -72,9 +72,9 @@ class DeclarationFinder:
         if node.parameters:
             self.note(node.at, "generic")
         if node.is_alias or node.type.kind != "struct_type":
-            self.note(node.at, "interface" if node.type.kind == "interface_type" else "type definition")
-            if node.type.kind != "interface_type":
-                self.within(self.generic, node.parameters, self.type, node.type)
+            is_interface = node.type.kind == "interface_type"
+            self.note(node.at, "interface" if is_interface else "type definition")
+            self.within(self.generic, node.parameters, self.methods if is_interface else self.type, node.type)
             return
         self.within(self.generic, node.parameters, self.fields, node.type.fields)
 

@@ -90,3 +90,10 @@ class TypeFinder:
 
     def interface_type_as_type(self, node):
         self.note(node.at, "interface")
+        self.methods(node)
+
+    def methods(self, node):
+        for method in node.methods:
+            if method.kind == "method":
+                for one in [*method.type.parameters, *method.type.results]:
+                    self.type(one.type)

@@ -152,7 +152,8 @@ class ValueFinder:
             self.type(node.type.element)
         elif node.type.kind == "name" and sort_of(resolved(node.type, self.scope)) in ("slice", "map", "array"):
             self.type(node.type)
-            self.note(node.at, "map" if sort_of(resolved(node.type, self.scope)) == "map" else "slice literal")
+            sort = sort_of(resolved(node.type, self.scope))
+            self.note(node.at, sort if sort in ("map", "array") else "slice literal")
         else:
             self.type(node.type)
         self.elements(node)

@@ -81,6 +81,8 @@ class TypeReader:
             names, kind = [], self.type()
         elif self.token.kind == "name" and self.ahead().kind in ("string", "raw"):
             names, kind = [], self.type()
+        elif self.is_generic_before("\n", ";", "}"):
+            names, kind = [], self.type()
         else:
             names, kind = self.names(), self.type()
         tag = self.take() if self.token.kind in ("string", "raw") else None
@@ -137,6 +139,17 @@ class TypeReader:
         found += [Node("parameter", one.at, names=[], type=one, is_variadic=False) for one in waiting]
         return found
 
+    def is_generic_before(self, *ends):
+        """Whether what is next is a type such as `T[int]`, and not a name with a type such as `a [n]int`."""
+        begin = self.next
+        try:
+            self.type_name()
+            return self.tokens[self.next - 1].text == "]" and self.is_at(*ends)
+        except Unreadable:
+            return False
+        finally:
+            self.next = begin
+
     def entry(self):
         """A name with its type, or one of both: a name alone may turn out to be a type."""
         if self.took("..."):
@@ -145,7 +158,7 @@ class TypeReader:
             return None, self.type(), False
         if self.ahead().text in (",", ")"):
             return self.name(), None, False
-        if self.ahead().text == ".":
+        if self.ahead().text == "." or self.is_generic_before(",", ")"):
             return None, self.type(), False
         name = self.name()
         if self.took("..."):

@@ -21,15 +21,19 @@ OPERATORS = sorted(
     key=len,
     reverse=True,
 )
+INT = r"0[xX][\da-fA-F_]+|0[bBoO][\d_]+|\d[\d_]*"
+FLOAT = (
+    r"0[xX][\da-fA-F_]*\.?[\da-fA-F_]*[pP][+-]?[\d_]+|\d[\d_]*\.[\d_]*(?:[eE][+-]?[\d_]+)?"
+    r"|\d[\d_]*[eE][+-]?[\d_]+|\.\d[\d_]*(?:[eE][+-]?[\d_]+)?"
+)
 # The first form that fits is taken.
 FORMS = [
     ("newline", r"\n"),
     ("blank", r"[ \t\r]+"),
     ("comment", r"//[^\n]*|/\*(?s:.)*?(?:\*/|\Z)"),
-    ("imaginary", r"(?:0[xX][\da-fA-F_]+|\d[\d_]*(?:\.[\d_]*)?(?:[eE][+-]?[\d_]+)?|\.\d[\d_]*(?:[eE][+-]?[\d_]+)?)i"),
-    ("float", r"0[xX][\da-fA-F_]*\.?[\da-fA-F_]*[pP][+-]?[\d_]+|\d[\d_]*\.[\d_]*(?:[eE][+-]?[\d_]+)?"
-              r"|\d[\d_]*[eE][+-]?[\d_]+|\.\d[\d_]*(?:[eE][+-]?[\d_]+)?"),
-    ("int", r"0[xX][\da-fA-F_]+|0[bB][\d_]+|0[oO][\d_]+|\d[\d_]*"),
+    ("imaginary", f"(?:{FLOAT}|{INT})i"),
+    ("float", FLOAT),
+    ("int", INT),
     ("rune", r"'(?:\\[^\n]|[^\\'\n])*(?:'|(?=\n)|\Z)"),
     ("string", r'"(?:\\[^\n]|[^\\"\n])*(?:"|(?=\n)|\Z|\\(?=\n))'),
     ("raw", r"`[^`]*(?:`|\Z)"),

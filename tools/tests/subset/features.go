@@ -275,6 +275,9 @@ func (f *finder) assign(n *ast.AssignStmt) {
 
 func (f *finder) question(pos token.Pos, e ast.Expr) {
 	switch e := e.(type) {
+	case *ast.ParenExpr:
+		f.question(pos, e.X)
+		return
 	case *ast.IndexExpr, *ast.TypeAssertExpr:
 		f.note(pos, "comma ok")
 		return
@@ -427,7 +430,7 @@ func (f *finder) str(n *ast.BasicLit) {
 		case "fmt", "errors", "log":
 			return
 		}
-		if name, ok := up.Fun.(*ast.Ident); ok && name.Name == "panic" {
+		if name, ok := up.Fun.(*ast.Ident); ok && strings.Contains("panic println", name.Name) {
 			return
 		}
 	}
