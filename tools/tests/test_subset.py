@@ -275,6 +275,11 @@ class Command(unittest.TestCase):
         with open("/dev/full", "wb") as full:
             for words in [["--help"], [self.file]]:
                 self.assertEqual((74, "", "subset: cannot write: No space left on device\n"), tool(*words, stdout=full))
+        for end, status in [(">&-", 74), (">&- 2>&-", 74), ("2>&-", 0)]:
+            command = ["sh", "-c", f'"$0" -S "$1" examples/hello.go {end}', sys.executable, SUBSET]
+            ran = subprocess.run(command, cwd=TOP, capture_output=True, check=False)
+            self.assertEqual(status, ran.returncode)
+            self.assertNotIn(b"Traceback", ran.stderr)
         reader, writer = os.pipe()
         os.close(reader)
         with open(writer, "wb") as closed:
