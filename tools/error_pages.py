@@ -27,11 +27,15 @@ import sys
 import textwrap
 import unicodedata
 
+import code_reasons
 import command
+import constructs
 
 TOP = pathlib.Path(__file__).resolve().parent.parent
 PAGES = TOP / "docs" / "errors"
 SECTIONS = ["Example", "Message", "Why", "Corrected example"]
+# The most bytes of a code text that is read to explain a message of it.
+LONGEST_CODE = 2_000_000
 # The columns of what is printed.
 WIDTH = 80
 
@@ -190,6 +194,23 @@ def place_of(message, text):
     return place, [found or "(The file has no such place: the message is of another text.)"]
 
 
+def meaning_of(message, path, text):
+    """The paragraphs that say what a message means: the first one of its page, or what is wrong at this place of the text,
+    or both."""
+    said = None
+    if message and message["column"] and text is not None:
+        find = constructs.of_syntax if message["what"] == "syntax" else constructs.of_type
+        said = find(text, int(message["line"]), int(message["column"]), path.read_text(encoding="utf-8"))
+    if said:
+        return [said]
+    found = [sections_of(path)[1]]
+    rule = re.fullmatch(r"code (\d+)", message["what"]) if message and message["whole"] else None
+    if rule and text is not None and len(text) <= LONGEST_CODE:
+        reason = code_reasons.reason_of(text, int(rule[1]), int(message["whole"]))
+        found += [f"Here {reason}."] if reason else []
+    return found
+
+
 def explained(line, file, text):
     """A line of standard error with its explanation; a line that is not a message of rgo as it is.
 
@@ -205,7 +226,8 @@ def explained(line, file, text):
     if message and file:
         place, place_shown = place_of(message, text)
         parts = [f"{file}:{place} {what}", *place_shown]
-    parts.append(textwrap.fill(sections_of(path)[1], WIDTH, break_on_hyphens=False))
+    for paragraph in meaning_of(message, path, text):
+        parts.append(textwrap.fill(paragraph, WIDTH, break_on_hyphens=False, break_long_words=False))
     parts.append(f"Read on: {where(path)}")
     return ("\n".join(parts) + "\n").encode("utf-8", "surrogateescape")
 

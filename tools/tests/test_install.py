@@ -73,6 +73,7 @@ class Install(Case):
         explained = f"{self.file}:2:15: type 4 NoSuchName\n{TEXT.splitlines()[1]}\n{' ' * 14}^\n{meaning}\nRead on: {page}\n"
         self.assertEqual((1, "run --steps 5\n", explained), self.run_it(bin_folder / "rgor", self.file, "--steps", "5"))
         self.assertEqual((1, "", explained), self.run_it(bin_folder / "rgo-regions", self.file))
+        self.assertRegex(self.run_it(bin_folder / "rgor", "--version")[1], r"\Argo, commit .*\n\Z")
 
     def test_documents_lead_to_what_is_installed(self):
         self.install()
@@ -87,7 +88,7 @@ class Install(Case):
         self.assertFalse(self.room.joinpath("prefix").exists())
 
     def test_wrong_words(self):
-        for words in ([], [""], ["a", "b"], ["--help"]):
+        for words in ([], [""], ["a", "b"], ["--all"]):
             with self.subTest(words=words):
                 status, out, err = self.run_it(TOP / "tools" / "install", *words, RGO=self.fake)
                 self.assertEqual((64, "", "usage: tools/install PREFIX\n"), (status, out, err))

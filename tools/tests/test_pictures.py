@@ -136,7 +136,7 @@ class Case(unittest.TestCase):
     def setUpClass(cls):
         # Without this the first run would build the program, which takes an hour.
         cls.program = pathlib.Path(error_pages.program()).resolve()
-        if cls.program == TOP / "rgo" or not cls.program.is_file():
+        if not cls.program.is_file():
             raise AssertionError("no program is built at crates/rgo/out/rgo, and the variable RGO names none")
 
     def setUp(self):

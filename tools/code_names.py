@@ -1,0 +1,40 @@
+"""The names that the variables of a code have in its source. A code text does not have them: they are found by places."""
+
+import re
+
+WORD = re.compile(rb"[A-Za-z_]\w*")
+# What is before the place of an assignment or a declaration with a value, on its line: the variable is its last word.
+BEFORE = re.compile(rb"([A-Za-z_]\w*)\s*$")
+DECLARED = re.compile(rb"\bvar\s*\(?\s*([A-Za-z_]\w*)[^;=]*$")
+ASSIGNMENTS = (b":=", b"=", b"+=", b"-=", b"*=", b"/=", b"%=", b"++", b"--")
+CONSTANTS = (b"nil", b"true", b"false")
+
+
+def assigned(text, place):
+    """The variable to which an assignment or a declaration at a place of the source gives a value, or None."""
+    if not text.startswith(ASSIGNMENTS, place):
+        return None
+    before = text[text.rfind(b"\n", 0, place) + 1 : place]
+    found = (DECLARED if text.startswith(b"=", place) else BEFORE).search(before) or BEFORE.search(before)
+    return found[1].decode() if found else None
+
+
+def declared(text, place):
+    """The variable that a declaration without a value names at a place of the source, or None."""
+    found = WORD.match(text, place)
+    return found[0].decode() if found and found[0] not in CONSTANTS else None
+
+
+def names_of(f, head, text):
+    """The names of the variables of a function that have one, by their numbers. `text` is the source, and `head` the
+    head of the function there, with its parameters."""
+    found = {n: name.decode() for n, name in enumerate(head.parameters[: f.count])}
+    for op in f.body:
+        name = None
+        if op.word == "copy":
+            name = assigned(text, op.place)
+        elif op.word in ("nil", "int", "bool"):
+            name = declared(text, op.place)
+        if name:
+            found.setdefault(op.parts["d"], name)
+    return found
