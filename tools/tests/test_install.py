@@ -159,18 +159,19 @@ class Completions(Case):
         ("rgor --", ["--check"]),
         ("rgor a.go --", OPTIONS),
         ("rgor a.go --goroutines 5 --", [option for option in OPTIONS if option != "--goroutines"]),
-        ("rgo-regions --", ["--function", "--list", "--picture"]),
+        ("rgo-regions --", ["--function", "--list", "--picture", "--warn"]),
         ("rgo-regions --l", ["--list"]),
         ("rgo-regions --list --", ["--function"]),
         ("rgo-regions --function ", []),
-        ("rgo-regions a.go --function main --", ["--list"]),
+        ("rgo-regions --warn --", ["--function"]),
+        ("rgo-regions a.go --function main --", ["--list", "--warn"]),
         ("rgo-regions --picture a.svg --", LIMITS),
         ("rgo-regions --picture a.svg a.go --pages 5 --", [option for option in LIMITS if option != "--pages"]),
         ("rgo-regions --picture a.svg --pages ", []),
     ]
 
     # Lines after which a Go file may follow.
-    FILES = ["rgor ", "rgor --check ", "rgo-regions ", "rgo-regions --list ", "rgo-regions --picture a.svg "]
+    FILES = ["rgor ", "rgor --check ", "rgo-regions ", "rgo-regions --list ", "rgo-regions --warn ", "rgo-regions --picture a.svg "]
 
     def offers(self, line, words):
         raise NotImplementedError
