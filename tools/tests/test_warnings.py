@@ -82,7 +82,7 @@ class Warnings(unittest.TestCase):
         instructions = ["@<x> +[] bool v1 true -[]", "@<x> +[] branch v1 2 -[] 3 -[]", "@<y> +[r0] nil v0 -[]"]
         instructions += ["@<y> +[] new v0 N -[]", "@<y> +[] jump 1 -[]"]
         said = warned(text, main_of(["*N r0", "bool -"], *instructions))
-        self.assertEqual("a.go:1:24: main: each turn of a loop makes ", said[:42])
+        self.assertEqual("a.go:1:24: main: each turn of a loop makes ", said[:43])
         self.assertEqual("", warned(text, main_of(["*N r0", "bool -"], *(line.replace("branch v1 2", "branch v1 4").replace("3 -[]", "2 -[]") for line in instructions))))
 
     def test_package_variables(self):
