@@ -75,12 +75,15 @@ def said_of(ran, source, file):
         if region.removed is None and place_of(region) == grown:
             made[maker, at] += count
     ((maker, at), count), = made.most_common(1)
-    verb = "has" if len(group) == 1 else "have"
+    verb, guide = "has" if len(group) == 1 else "have", error_pages.where(GUIDE)
+    why = f"Why they are there: regions --warn {file}; what to do: {guide}."
+    if len(group) > 1:
+        why = f"So many live regions come from a recursion, or from goroutines that do not end: {guide}."
     how = f"In a repeated run, after {ran.steps} steps, {what} {verb} {pages} of {total} pages, with {objects} objects."
     return [
         how,
         f"Most of these, {count}, are made at {where(at)} in {maker}.",
-        f"Why they are there: regions --warn {file}; what to do: {error_pages.where(GUIDE)}.",
+        why,
     ]
 
 

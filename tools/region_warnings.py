@@ -7,7 +7,7 @@ is what is wanted where a structure is built that is used later, and a leak wher
 An object is made by an instruction, or by a function that is called or started and makes it in a region that it is given.
 The region is older than the loop if there is a way from the instruction back to itself on which the region is not created
 anew. The reason is a shortest chain of instructions that put the object, or what the function returns, into one region
-with a variable that is live before the instruction.
+with a variable that is live where these ways begin.
 """
 
 import collections
@@ -38,25 +38,44 @@ class Warning:
 
 @dataclasses.dataclass(frozen=True)
 class Origin:
-    """Where a region is created. Without a place it is that of the package variables, which is never removed."""
+    """Where a region is created, and whether that is in a loop, or in a function that a loop calls. Without a place it is
+    that of the package variables, which is never removed."""
 
     function: str | None
     place: int | None
     in_loop: bool = False
+    is_called_by_loop: bool = False
 
 
-def is_on_cycle(f, at, avoided=()):
-    """Whether there is a way from an instruction back to itself that avoids some others."""
-    seen = set()
-    left = [to for to, _ in code_text.edges(f.body[at], at)]
+def reached(start, steps, avoided):
+    """What can be reached from a number by at least one step, without those that are avoided. `steps` has, for each
+    number, those that follow it."""
+    seen, left = set(), list(steps[start])
     while left:
         one = left.pop()
-        if one == at:
-            return True
-        if one not in seen and one not in avoided and one < len(f.body):
+        if one not in seen and one not in avoided:
             seen.add(one)
-            left += [to for to, _ in code_text.edges(f.body[one], one)]
-    return False
+            left += steps[one]
+    return seen
+
+
+class Flow:
+    """Which instructions of a function follow each other."""
+
+    def __init__(self, f):
+        self.after = [[to for to, _ in code_text.edges(op, at) if to < len(f.body)] for at, op in enumerate(f.body)]
+        self.before = [[] for _ in f.body]
+        for at, following in enumerate(self.after):
+            for to in following:
+                self.before[to].append(at)
+
+    def loop(self, at, avoided=()):
+        """The instructions on the ways from one back to itself that avoid some others. Empty if there is no such way."""
+        return reached(at, self.after, avoided) & reached(at, self.before, avoided) if at not in avoided else set()
+
+    def entries(self, loop):
+        """The instructions of a loop at which it begins."""
+        return [at for at in loop if at == 0 or any(one not in loop for one in self.before[at])]
 
 
 class Program:
@@ -66,6 +85,7 @@ class Program:
         self.code, self.source = code, source
         self.names = {f.name: code_names.names_of(f, head, source.text) for f, head in zip(code.functions, source.heads)}
         self.live = {f.name: code_text.live_variables(f) for f in code.functions}
+        self.flow = {f.name: Flow(f) for f in code.functions}
         self.summaries = {
             f.name: [*(v.cls for v in f.variables[: f.count]), f.result.cls if f.result else None] for f in code.functions
         }
@@ -216,13 +236,23 @@ class Program:
 
     # ---- origins
 
+    def is_called_by_loop(self, f, seen=frozenset()):
+        """Whether a loop calls or starts a function, or one that leads to it."""
+        return f.name not in seen and any(
+            self.flow[caller.name].loop(at) or self.is_called_by_loop(caller, seen | {f.name})
+            for caller in self.code.functions
+            for at, op in enumerate(caller.body)
+            if "f" in op.parts and op.parts["f"][0] == f.name
+        )
+
     def origins(self, f, cls, seen=frozenset()):
         """Where the regions of a class of a function are created."""
         if cls == GLOBAL:
             return {Origin(None, None)}
         if (f.name, cls) in seen:
             return set()
-        found = {Origin(f.name, op.place, is_on_cycle(f, at)) for at, op in enumerate(f.body) if cls in op.creates}
+        flow, is_called = self.flow[f.name], self.is_called_by_loop(f)
+        found = {Origin(f.name, op.place, bool(flow.loop(at)), is_called) for at, op in enumerate(f.body) if cls in op.creates}
         if cls in code_text.region_parameters(f):
             for caller in self.code.functions:
                 for op in caller.body:
@@ -233,15 +263,13 @@ class Program:
 
     # ---- warnings
 
-    def older_members(self, f, at, cls):
-        """The members of a class that are live before an instruction; the package variables and the result if it is
-        theirs."""
-        found = {v for v in self.live[f.name][at] if f.variables[v].cls == cls}
+    def older_members(self, f, loop, cls):
+        """The members of a class that are live where a loop begins; the package variables and the result if it is theirs."""
         if cls == GLOBAL:
-            found = {GLOBAL}
-        elif not found and f.result and f.result.cls == cls:
-            found = {RESULT}
-        return found
+            return {GLOBAL}
+        live = set().union(*(self.live[f.name][at] for at in self.flow[f.name].entries(loop)))
+        found = {v for v in live if f.variables[v].cls == cls}
+        return found or ({RESULT} if f.result and f.result.cls == cls else set())
 
     def starts(self, f, op, formal):
         """The members of the function that stand for what an instruction makes."""
@@ -253,7 +281,7 @@ class Program:
         actuals = [op.parts["to"]] if op.parts.get("to") is not None and callee.result.cls == formal else []
         return actuals + [v for n, v in enumerate(op.parts["f"][1]) if callee.variables[n].cls == formal]
 
-    def warning(self, f, at, cls, formal):
+    def warning(self, f, at, loop, cls, formal):
         op = f.body[at]
         if op.word in MAKERS:
             chain, what = (), f"makes {self.described(f, op.parts['d']).replace('the', 'a', 1)}"
@@ -261,7 +289,7 @@ class Program:
             chain, made = self.made_in_callee(op, formal)
             verb = "calls" if op.word == "call" else "starts"
             what = f"{verb} {op.parts['f'][0]}, which makes {made.replace('the', 'a', 1)}"
-        ends = self.older_members(f, at, cls)
+        ends = self.older_members(f, loop, cls)
         starts = self.starts(f, op, formal)
         # What is made now is no older than itself.
         found = self.chain(f, starts, ends - {op.parts.get("d", op.parts.get("to"))}) or self.chain(f, starts, ends)
@@ -279,9 +307,10 @@ class Program:
             for at, op in enumerate(f.body):
                 for cls, formal in self.made_at(f, op).items():
                     creators = {n for n, one in enumerate(f.body) if cls in one.creates}
-                    if at not in creators and is_on_cycle(f, at, creators):
-                        found.append(self.warning(f, at, cls, formal))
-        is_renewed = lambda warning: bool(warning.origins) and all(origin.in_loop for origin in warning.origins)
+                    loop = self.flow[f.name].loop(at, creators)
+                    if loop:
+                        found.append(self.warning(f, at, loop, cls, formal))
+        is_renewed = lambda warning: all(origin.in_loop or origin.is_called_by_loop for origin in warning.origins)
         return sorted(dict.fromkeys(found), key=lambda warning: (is_renewed(warning), warning.place))
 
 
@@ -296,7 +325,7 @@ def listed(words):
 def origin_shown(origin, source):
     if origin.place is None:
         return "The region is that of the package variables, which is never removed."
-    turn = ", in each turn of a loop" if origin.in_loop else ""
+    turn = ", in each turn of a loop" if origin.in_loop else ", which a loop calls" if origin.is_called_by_loop else ""
     return f"The region is created at {source.line(origin.place)}:{source.column(origin.place)} in {origin.function}{turn}."
 
 
@@ -307,8 +336,8 @@ def lines(program, file, name=None):
     for warning in program.warnings():
         if name not in (None, warning.function):
             continue
-        where = f"in the region of {warning.older}, which is older than the loop"
-        yield f"{file}:{place(warning.place)}: {warning.function}: each turn of a loop {warning.what} {where}"
+        where = f"in the older region of {warning.older}"
+        yield f"{file}:{place(warning.place)}: {warning.function}: a loop {warning.what} {where}"
         for function, at, said in warning.chain:
             yield f"    {place(at)}: {function}: {said}"
         if len(warning.members) > 1:

@@ -36,14 +36,14 @@ entry -[]
 end
 """
 SENT = """\
-a.go:1:49: main: each turn of a loop makes a new N in the region of `c`, which is older than the loop
+a.go:1:49: main: a loop makes a new N in the older region of `c`
     1:46: main: `m` becomes the new N
     1:59: main: `m` is sent to `c`
     So `c` and `m` and all that they lead to are in one region.
     The region is created at 1:20 in main.
 """
 LOOP = """\
-loop.go:13:7: main: each turn of a loop makes a new N in the region of `l`, which is older than the loop
+loop.go:13:7: main: a loop makes a new N in the older region of `l`
     13:7: main: `l` is stored in the new N
     The region is created at 11:6 in main.
 """
@@ -82,14 +82,14 @@ class Warnings(unittest.TestCase):
         instructions = ["@<x> +[] bool v1 true -[]", "@<x> +[] branch v1 2 -[] 3 -[]", "@<y> +[r0] nil v0 -[]"]
         instructions += ["@<y> +[] new v0 N -[]", "@<y> +[] jump 1 -[]"]
         said = warned(text, main_of(["*N r0", "bool -"], *instructions))
-        self.assertEqual("a.go:1:24: main: each turn of a loop makes ", said[:43])
+        self.assertEqual("a.go:1:24: main: a loop makes ", said[:30])
         self.assertEqual("", warned(text, main_of(["*N r0", "bool -"], *(line.replace("branch v1 2", "branch v1 4").replace("3 -[]", "2 -[]") for line in instructions))))
 
     def test_package_variables(self):
         text = "var g []int; func main() { for { g = make([]int, 1) } }"
         code = "global g []int\n" + main_of(["int -", "[]int G"], "@<1> +[] int v0 1 -[]", "@<make> +[] slice v1 v0 -[]", "@<= make> +[] set g v1 -[]", "@<for> +[] jump 0 -[]")
         said = warned(text, code).splitlines()
-        self.assertEqual("a.go:1:38: main: each turn of a loop makes a new slice in the region of the package variables, which is older than the loop", said[0])
+        self.assertEqual("a.go:1:38: main: a loop makes a new slice in the older region of the package variables", said[0])
         self.assertEqual("    1:36: main: the new slice is assigned to the package variable `g`", said[1])
         self.assertEqual("    The region is that of the package variables, which is never removed.", said[-1])
 
