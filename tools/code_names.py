@@ -7,7 +7,8 @@ WORD = re.compile(rb"[A-Za-z_]\w*")
 BEFORE = re.compile(rb"([A-Za-z_]\w*)\s*$")
 DECLARED = re.compile(rb"\bvar\s*\(?\s*([A-Za-z_]\w*)[^;=]*$")
 ASSIGNMENTS = (b":=", b"=", b"+=", b"-=", b"*=", b"/=", b"%=", b"++", b"--")
-CONSTANTS = (b"nil", b"true", b"false")
+# Words at which a value is made, and no variable declared.
+VALUES = (b"nil", b"true", b"false", b"make", b"new")
 
 
 def assigned(text, place):
@@ -22,7 +23,7 @@ def assigned(text, place):
 def declared(text, place):
     """The variable that a declaration without a value names at a place of the source, or None."""
     found = WORD.match(text, place)
-    return found[0].decode() if found and found[0] not in CONSTANTS else None
+    return found[0].decode() if found and found[0] not in VALUES else None
 
 
 def names_of(f, head, text):

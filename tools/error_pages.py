@@ -27,9 +27,7 @@ import sys
 import textwrap
 import unicodedata
 
-import code_reasons
 import command
-import constructs
 
 TOP = pathlib.Path(__file__).resolve().parent.parent
 PAGES = TOP / "docs" / "errors"
@@ -196,9 +194,11 @@ def place_of(message, text):
 
 def meaning_of(message, path, text):
     """The paragraphs that say what a message means: the first one of its page, or what is wrong at this place of the text,
-    or both."""
+    or both. What finds that is loaded when it is needed, since it takes longer to load than all else."""
     said = None
     if message and message["column"] and text is not None:
+        import constructs
+
         find = constructs.of_syntax if message["what"] == "syntax" else constructs.of_type
         said = find(text, int(message["line"]), int(message["column"]), path.read_text(encoding="utf-8"))
     if said:
@@ -206,6 +206,8 @@ def meaning_of(message, path, text):
     found = [sections_of(path)[1]]
     rule = re.fullmatch(r"code (\d+)", message["what"]) if message and message["whole"] else None
     if rule and text is not None and len(text) <= LONGEST_CODE:
+        import code_reasons
+
         reason = code_reasons.reason_of(text, int(rule[1]), int(message["whole"]))
         found += [f"Here {reason}."] if reason else []
     return found

@@ -1,15 +1,14 @@
 """Tests what tools/regions --warn prints, and what tools/rgor and tools/explain say after `pages spent`: by hand, and with the
 program."""
 
-import os
 import pathlib
 import subprocess
-import sys
 import unittest
 
 import code_text
 import error_pages
 import growth
+import region_events
 import region_runs
 import region_warnings
 import test_explain
@@ -141,6 +140,59 @@ class Commands(test_explain.Case):
         wanted = LOOP.replace("loop.go", str(self.file))
         self.assertEqual((0, wanted, ""), self.tool("regions", "--warn", self.file, RGO=str(self.rgo)))
         self.assertEqual((64, ""), self.tool("regions", "--warn", "--list", self.file, RGO=str(self.rgo))[:2])
+
+
+# The lines of the guide's programs in which a loop makes an object in an older region, by hand: those of the pitfalls, of
+# which each keeps what its loop makes, and those that only build a list.
+LINES = {
+    "best": [19],
+    "current": [24],
+    "queue": [37],
+    "messages": [12],
+    "report": [18, 37],
+    "state": [19, 20],
+    "server": [13, 13, 34],
+    "lists": [13],
+    "shared": [13],
+}
+# The programs in which each turn of a loop has regions of its own, or nothing is made in a loop.
+NONE = """apart best_copied current_passed either object result scratch server_jobs state_in_turns tree twice workers""".split()
+
+
+class WithTheProgram(test_explain.Case):
+    """What is printed of the guide's programs. The program is the one that is built, or what the variable RGO names."""
+
+    @classmethod
+    def setUpClass(cls):
+        cls.program = pathlib.Path(error_pages.program()).resolve()
+        if not cls.program.is_file():
+            raise AssertionError("no program is built at crates/rgo/out/rgo, and the variable RGO names none")
+
+    def warned_lines(self, name):
+        text = (TOP / "examples" / "regions" / f"{name}.go").read_bytes()
+        ran = subprocess.run([self.program, "emit"], input=text, capture_output=True, timeout=60, check=True)
+        source = region_events.Source(text)
+        program = region_warnings.Program(code_text.read(ran.stdout), source)
+        return sorted(source.line(warning.place) for warning in program.warnings())
+
+    def test_the_programs_of_the_guide(self):
+        for name, lines in {**LINES, **dict.fromkeys(NONE, [])}.items():
+            with self.subTest(name):
+                self.assertEqual(lines, self.warned_lines(name))
+
+    def test_what_grew(self):
+        # One region that grows, that of the package variables, and as many regions as pages.
+        for name, words in [
+            ("queue", ["has 7 of 7 pages", "895, are made at 16:7 in add", "regions --warn "]),
+            ("current", ["the package variables, which is never removed, has 7 of 7", "at 24:13 in main", "regions --warn "]),
+            ("scratch", ["the 7 live regions that total creates at 9:9 have 7 of 7", "at 9:9 in total", "recursion"]),
+        ]:
+            with self.subTest(name):
+                path = TOP / "examples" / "regions" / f"{name}.go"
+                status, out, err = self.tool("rgor", path, "--pages", "7", RGO=str(self.program))
+                self.assertEqual((4, "", f"{path}: pages spent"), (status, out, err.splitlines()[0]))
+                for found, wanted in zip(err.splitlines()[-3:], words):
+                    self.assertIn(wanted, found)
 
 
 if __name__ == "__main__":
