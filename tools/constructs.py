@@ -344,7 +344,8 @@ def row_with(page, snippet):
 
 
 def advice(said):
-    """A cell of a table as a sentence that says what to write."""
+    """A cell of a table as a sentence that says what to write. A link is written as its words and its page."""
+    said = re.sub(r"\[([^]]+)\]\((?:\.\./)*([^)#]+)[^)]*\)", r"\1 in docs/\2", said)
     if said.startswith("none"):
         rest = said.removeprefix("none").lstrip("; ")
         return f"Nothing takes its place{f': {rest}' if rest else ''}."

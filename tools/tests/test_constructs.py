@@ -112,6 +112,12 @@ class ByHand(unittest.TestCase):
         wanted = "a.go:4:2: syntax\n    switch x {\n    ^\n`switch` is left out of rgo (`switch x {`). Instead: `if` and `else if`.\n"
         self.assertEqual(wanted + "Read on: docs/errors/syntax.md\n", said)
 
+    def test_links_in_a_row(self):
+        for said, wanted in [("none", "Nothing takes its place."), ("none; a", "Nothing takes its place: a."), ("b", "Instead: b.")]:
+            self.assertEqual(wanted, constructs.advice(said))
+        said = constructs.advice("see [The rules](../LANGUAGE.md#the-rules)")
+        self.assertEqual("Instead: see The rules in docs/LANGUAGE.md.", said)
+
     def test_names(self):
         for message, line, beginning in [
             ("type 9 StringPlace", 'fmt.Printf(§"%d\\n", 3)', "`fmt.Printf` is left out of rgo. Instead: "),

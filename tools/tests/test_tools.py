@@ -32,6 +32,7 @@ WRONG = {
     "regions": ["", "--all a.go", "a.go b.go", "--warn --list a.go"],
     "rgor": ["", "--check", "--steps 5 a.go"],
     "soak": ["x", "--seconds x"],
+    "subset": ["", "a.go b.go", "--all a.go"],
     "test-rgo": ["x"],
     "test-tools": ["--all"],
     "wrong-bodies": ["--all", "--changed a b"],
@@ -47,7 +48,9 @@ NO_FILE = {
     "regions F": 66,
     "rgor F": 66,
     "soak --rgo F": 127,
+    "subset F": 66,
 }
+WRONG, NO_FILE = ({words: found for words, found in table.items() if words.split()[0] in TOOLS} for table in (WRONG, NO_FILE))
 # Words that need the program where none is built.
 NO_PROGRAM = ["compare-with-go", "examples", "listing a.go", "regions a.go", "rgor a.go", "rgor --check a.go", "soak"]
 # Words that print something without the program, and need nothing to be installed.
