@@ -371,7 +371,9 @@ def of_type(text, line, column, page):
     if place.token == "(" and place.before().is_name():
         # The place of a call is its parenthesis.
         called = place.before().text if place.before(2) != "." else f"{place.before(3).text}.{place.before().text}"
-    for name in filter(None, [whole.strip('"'), called, place.callee()]):
+    # Of what is selected from something other than `fmt` there is one row for all.
+    method = "x.f()" if "." in called and not called.startswith("fmt.") else ""
+    for name in filter(None, [whole.strip('"'), called, method, place.callee()]):
         said = row_with(page, name)
         if said:
             return f"`{name}` is left out of rgo. {advice(said)}"

@@ -129,6 +129,10 @@ class ByHand(unittest.TestCase):
             ("type 4 NoSuchName", "§panic(3)", "`panic` is left out of rgo. Instead: "),
             ("type 4 NoSuchName", "§print(3)", "`print` is left out of rgo. Instead: "),
             ("type 4 NoSuchName", "§other(3)", "Nothing in scope declares this name"),
+            ("type 17 NotCall", "fmt.Printf§(3)", "`fmt.Printf` is left out of rgo. Instead: "),
+            ("type 17 NotCall", "t.run§(3)", "`x.f()` is left out of rgo. Instead: `f(x)`: a function"),
+            ("type 17 NotCall", "t§(3)", "What is called is not a function"),
+            ("type 9 StringPlace", 'fmt.Println(§"a" + 1)', "A string appears elsewhere than as an argument"),
             ("type 1 BadImport", 'import §"sync"', "`sync` is left out of rgo. Instead: "),
             ("type 1 BadImport", 'import §"log"', "The program imports a package other than `fmt`"),
         ]:
