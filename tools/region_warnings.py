@@ -91,7 +91,14 @@ class Program:
         }
         # For each function and class the number of an instruction that makes an object there, directly if there is one.
         self.makes = {}
+        # Each call and each start: the function that has it, its number there, and its instruction.
+        self.calls = [(f, at, op) for f in code.functions for at, op in enumerate(f.body) if "f" in op.parts]
+        self.called, self.callers = collections.defaultdict(list), collections.defaultdict(list)
+        for f, _, op in self.calls:
+            self.called[f.name].append(op.parts["f"][0])
+            self.callers[op.parts["f"][0]].append((f, op))
         self.find_makers()
+        self.called_by_loops = self.find_called_by_loops()
 
     # ---- what makes objects
 
@@ -236,29 +243,32 @@ class Program:
 
     # ---- origins
 
-    def is_called_by_loop(self, f, seen=frozenset()):
-        """Whether a loop calls or starts a function, or one that leads to it."""
-        return f.name not in seen and any(
-            self.flow[caller.name].loop(at) or self.is_called_by_loop(caller, seen | {f.name})
-            for caller in self.code.functions
-            for at, op in enumerate(caller.body)
-            if "f" in op.parts and op.parts["f"][0] == f.name
-        )
+    def find_called_by_loops(self):
+        """The names of the functions that a loop calls or starts, and of those that these call or start."""
+        found, left = set(), [op.parts["f"][0] for f, at, op in self.calls if self.flow[f.name].loop(at)]
+        while left:
+            name = left.pop()
+            if name not in found:
+                found.add(name)
+                left += self.called[name]
+        return found
 
-    def origins(self, f, cls, seen=frozenset()):
-        """Where the regions of a class of a function are created."""
-        if cls == GLOBAL:
-            return {Origin(None, None)}
-        if (f.name, cls) in seen:
-            return set()
-        flow, is_called = self.flow[f.name], self.is_called_by_loop(f)
-        found = {Origin(f.name, op.place, bool(flow.loop(at)), is_called) for at, op in enumerate(f.body) if cls in op.creates}
-        if cls in code_text.region_parameters(f):
-            for caller in self.code.functions:
-                for op in caller.body:
-                    if "R" in op.parts and op.parts["f"][0] == f.name:
-                        passed = dict(zip(code_text.region_parameters(f), op.parts["R"]))[cls]
-                        found |= self.origins(caller, passed, seen | {(f.name, cls)})
+    def origins(self, f, cls):
+        """Where the regions of a class of a function are created: there, or in the functions that pass them."""
+        found, seen, left = set(), set(), [(f, cls)]
+        while left:
+            f, cls = left.pop()
+            if (f.name, cls) in seen:
+                continue
+            seen.add((f.name, cls))
+            if cls == GLOBAL:
+                found.add(Origin(None, None))
+                continue
+            flow, is_called = self.flow[f.name], f.name in self.called_by_loops
+            found |= {Origin(f.name, op.place, bool(flow.loop(at)), is_called) for at, op in enumerate(f.body) if cls in op.creates}
+            formals = code_text.region_parameters(f)
+            if cls in formals:
+                left += [(g, op.parts["R"][formals.index(cls)]) for g, op in self.callers[f.name]]
         return found
 
     # ---- warnings
