@@ -54,7 +54,7 @@ WRONG, NO_FILE = ({words: found for words, found in table.items() if words.split
 # Words that need the program where none is built.
 NO_PROGRAM = ["compare-with-go", "examples", "listing a.go", "regions a.go", "rgor a.go", "rgor --check a.go", "soak"]
 # Words that print something without the program, and need nothing to be installed.
-PRINTING = ["code_producer.py texts/all.tac", "definitions", "count", "explain", "listing texts/all.code", "quick --list"]
+PRINTING = ["code_producer.py texts/all.tac", "definitions", "count", "explain", "listing texts/all.code"]
 
 
 class Tools(unittest.TestCase):
@@ -65,20 +65,20 @@ class Tools(unittest.TestCase):
         folder = tempfile.TemporaryDirectory()
         cls.addClassCleanup(folder.cleanup)
         cls.top = pathlib.Path(folder.name)
-        for part in ["tools", "docs", "examples"]:
-            shutil.copytree(TOP / part, cls.top / part, ignore=shutil.ignore_patterns("__pycache__", "tests"))
+        leave_out = shutil.ignore_patterns("__pycache__", "tests", "code_texts")
+        shutil.copytree(TOP / "tools", cls.top / "tools", ignore=leave_out)
         shutil.copytree(TOP / "tools" / "code_texts", cls.top / "texts")
-        (cls.top / "tools" / "tests").mkdir()
-        (cls.top / "crates").mkdir()
-        shutil.copytree(TOP / "crates" / "rgo_run" / "specs", cls.top / "crates" / "rgo_run" / "specs")
+        for part in ["docs", "examples"]:
+            cls.top.joinpath(part).symlink_to(TOP / part)
+        cls.top.joinpath("tools", "tests").mkdir()
+        cls.top.joinpath("crates", "rgo_run").mkdir(parents=True)
+        cls.top.joinpath("crates", "rgo_run", "specs").symlink_to(TOP / "crates" / "rgo_run" / "specs")
         shutil.copy(TOP / "crates.txt", cls.top)
         shutil.copy(TOP / "examples" / "hello.go", cls.top / "a.go")
         cls.top.joinpath("bin").mkdir()
         for name, script in [("rgo", "touch built"), ("bin/rt", "touch built"), ("bin/go", "exit 1")]:
             cls.top.joinpath(name).write_text(f"#!/bin/sh\n{script}\n")
             cls.top.joinpath(name).chmod(0o755)
-        for words in ["init -q", "add -A", "commit -qm All", "commit -q --allow-empty -m More"]:
-            subprocess.run(["git", "-c", "user.name=a", "-c", "user.email=b", *words.split()], cwd=cls.top, check=True)
 
     def run_tool(self, words, **streams):
         """The status of a tool, what it prints, and what it reports."""
