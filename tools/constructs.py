@@ -165,8 +165,8 @@ def is_package_type(place):
     return place.token == "." and place.before().is_name() and place.after().is_name() and not is_go_of_method(place)
 
 
-def of_package(*names):
-    return lambda place: is_package_type(place) and f"{place.before().text}.{place.after().text}" in names
+def of_package(name):
+    return lambda place: is_package_type(place) and f"{place.before().text}.{place.after().text}" == name
 
 
 def is_go_of_method(place):
@@ -244,7 +244,7 @@ def has_several_results(place):
 
 
 def is_directional(place):
-    return place.token == "<-" and (place.before() == "chan" or place.before().is_name() and not place.starts() and place.after() == "chan")
+    return place.token == "<-" and "chan" in (place.before().text, place.after().text)
 
 
 def is_initialised(place):
@@ -298,7 +298,8 @@ CONSTRUCTS = [
     ("`go` of something other than a function of the program", "go fmt.Println(1)", is_go_of_method),
     ("The address of a variable", "p := &x", is_address),
     ("`sync.WaitGroup`", "var wg sync.WaitGroup", of_package("sync.WaitGroup")),
-    ("`sync.Mutex`", "var mu sync.Mutex", of_package("sync.Mutex", "sync.RWMutex")),
+    ("`sync.Mutex`", "var mu sync.Mutex", of_package("sync.Mutex")),
+    ("`sync.RWMutex`", "var mu sync.Mutex", of_package("sync.RWMutex")),
     ("A type of another package", "var b strings.Builder", is_package_type),
     ("A float", "x = 1.5", is_float),
     ("A label", "outer:", lambda place: is_label(place) or is_jump_to_label(place)),

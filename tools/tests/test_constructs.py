@@ -64,7 +64,7 @@ OUTSIDE = {
     "type number int": ["type number §int", "type F §func(int) int", "type S §[]int", "type A §= int"],
     "func (p *T) size() int {": ["func §(p *T) size() int {", "func §(t T) f() {"],
     "func f() (int, bool) {": ["func f() §(int, bool) {", "func f(a int) §(n int, err error) {"],
-    "func f(c <-chan int) {": ["func f(c §<-chan int) {", "func f(c chan§<- int) {", "func f(a int, c, d §<-chan int) {"],
+    "func f(c <-chan int) {": ["func f(c §<-chan int) {", "func f(c chan§<- int) {", "func f(a int, c, d §<-chan int) {", "func f() §<-chan int {"],
     "type Shape interface {": ["type Shape §interface {"],
     "type T struct { Base }": ["type T struct { Base §}", "type T struct { §*Base }", "type T struct { v int; Base§; w int }"],
     "type Pair[T any] struct {": ["type Pair§[T any] struct {", "func f§[T any](x T) {"],
