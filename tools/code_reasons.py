@@ -145,7 +145,8 @@ def wrong_passing(code, f, op):
             return f"{callee.name} needs one region for what is passed for its {show_class(cls)}, and there are {several}"
     formals = region_parameters(callee)
     needed = [next(iter(found[cls].values()), None) for cls in formals]
-    return f"R{code_text.show_names(needed)} is needed, for {listed(list(map(show_class, formals))) if formals else 'no region'} of {callee.name}"
+    of_what = listed(list(map(show_class, formals))) if formals else "no region"
+    return f"R{code_text.show_names(needed)} is needed, for {of_what} of {callee.name}"
 
 
 # ---- the other rules, each of an instruction

@@ -192,7 +192,8 @@ def is_label(place):
 
 
 def is_jump_to_label(place):
-    return place.token.is_name() and place.before().text in ("break", "continue", "goto") and place.before().line == place.token.line
+    word = place.before()
+    return place.token.is_name() and word.text in ("break", "continue", "goto") and word.line == place.token.line
 
 
 def is_struct_value(place):
@@ -254,7 +255,8 @@ def is_initialised(place):
 
 def has_several_values(place):
     """`var a, b int = 1, 2` in a function."""
-    return place.token == "=" and any(token == "var" for token in place.statement()) and any(token == "," for token in place.statement())
+    found = [token.text for token in place.statement()]
+    return place.token == "=" and "var" in found and "," in found
 
 
 def is_other_type(place):

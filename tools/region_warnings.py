@@ -265,7 +265,8 @@ class Program:
                 found.add(Origin(None, None))
                 continue
             flow, is_called = self.flow[f.name], f.name in self.called_by_loops
-            found |= {Origin(f.name, op.place, bool(flow.loop(at)), is_called) for at, op in enumerate(f.body) if cls in op.creates}
+            creators = [(at, op) for at, op in enumerate(f.body) if cls in op.creates]
+            found |= {Origin(f.name, op.place, bool(flow.loop(at)), is_called) for at, op in creators}
             formals = code_text.region_parameters(f)
             if cls in formals:
                 left += [(g, op.parts["R"][formals.index(cls)]) for g, op in self.callers[f.name]]
