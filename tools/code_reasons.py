@@ -1,7 +1,10 @@
-"""Why a code text breaks a rule: which name is missing, and which is too many. tools/explain says so of `code K`.
+"""Why a code text is refused. tools/explain says so of `code K` and of `code text`.
 
-`reason` says it of the rule and the line that `rgo code` reports. It expects that the code keeps all lesser rules.
+`reason` says which name is missing, and which is too many, of the rule and the line that `rgo code` reports; it expects that
+the code keeps all lesser rules. `form_reason` says why a line has no form.
 """
+
+import re
 
 import code_text
 from code_text import GLOBAL, own_names, parameter_classes, region_parameters, show_class
@@ -260,8 +263,87 @@ def reason(code, rule, line):
 
 
 def reason_of(text, rule, line):
-    """The same for a text in bytes; None if it has no form or does not break the rule there."""
+    """Why a text in bytes is refused for a rule, or for `text`, at a line; None if it is not refused for that."""
     code = code_text.read(text)
-    if isinstance(code, int) or code_text.check(code) != (rule, line):
-        return None
-    return reason(code, rule, line)
+    if isinstance(code, int):
+        return form_reason(text, line) if (rule, code) == ("text", line) else None
+    return reason(code, int(rule), line) if rule != "text" and code_text.check(code) == (int(rule), line) else None
+
+
+# ---- lines without form
+
+FIRST = "the first line has to be: rgo code 1"
+# What is wrong with a line that looks as if it had a form.
+WRONG_WORD = "a name is a keyword of Go, or a number is too large, or the names of a list are not in ascending order"
+# The forms of lines in the words of docs/CODE_TEXT.md.
+LINE_FORMS = {
+    "struct": "struct NAME, and a TYPE for each field",
+    "global": "global NAME TYPE",
+    "func": "func NAME COUNT TYPE CLASS, or func NAME COUNT - - without a result",
+    "var": "var TYPE CLASS",
+    "entry": "entry -[..]",
+    "instruction": "INDEX @PLACE +[..], and what is done",
+    "end": "end",
+}
+
+
+def kind_of(line):
+    """The kind of a line that has a form, or None."""
+    if line == "rgo code 1":
+        return "rgo"
+    return next((kind for kind, pattern in code_text.LINES.items() if pattern.fullmatch(line)), None)
+
+
+def expected(before):
+    """What may be in the line after one of a kind."""
+    words = {"instruction": "an instruction", "end": "the line end", "entry": "the line entry"}
+    return " or ".join(words.get(kind, f"a line {kind}") for kind in code_text.AFTER[before])
+
+
+def form_of(word):
+    """The form of an instruction in the words of docs/CODE_TEXT.md."""
+    shown = {"removes": "-[..]", "otherwise": "-[..]", "R": "R[..]", "P": "P[..]", "f": "NAME(..)", "pieces": "PIECES"}
+    shown.update(dict.fromkeys("dabin", "V"), to="(V or -)", value="(V or -)", k="FIELD", S="NAME", g="NAME")
+    shown.update(t="INDEX", e="INDEX", B="(true or false)")
+    return " ".join([word, *(shown.get(part, part) for part in code_text.FORMS[word])])
+
+
+def form_reason(text, number):
+    """Why a line of a text in bytes has no form in its place, as a clause without its full stop."""
+    *lines, rest = text.decode("latin-1").split("\n")
+    if number > len(lines):
+        if rest:
+            return "the last line does not end in a newline"
+        return f"the text ends, and {expected(kind_of(lines[-1]))} has to follow" if lines else FIRST
+    line = lines[number - 1]
+    if not line:
+        return "the line is empty"
+    if line[-1] in "\r ":
+        return f"the line ends in a {'blank' if line[-1] == ' ' else 'carriage return'}"
+    if number == 1:
+        return FIRST
+    if "\t" in line or "  " in re.sub(r'"[^"]*"', "", line):
+        return "a tab, or more than one blank, separates two parts"
+    before, kind = kind_of(lines[number - 2]), kind_of(line)
+    if kind is None or kind not in code_text.AFTER[before]:
+        return other_kind(line.split(" ")[0], before)
+    return wrong_instruction(line, lines[number - 2], before) if kind == "instruction" else WRONG_WORD
+
+
+def other_kind(word, before):
+    """Why a line that begins with a word does not follow one of a kind."""
+    kind = "instruction" if word.isdigit() else word
+    if kind in code_text.AFTER[before]:
+        return f"the form is {LINE_FORMS[kind]}"
+    return f"{expected(before)} has to be here"
+
+
+def wrong_instruction(line, line_before, before):
+    """Why an instruction has no form after a line of a kind."""
+    index, _, _, rest, word = code_text.LINES["instruction"].fullmatch(line).groups()
+    at = 0 if before == "entry" else int(code_text.LINES["instruction"].fullmatch(line_before)[1]) + 1
+    if int(index) != at:
+        return f"the number of this instruction is {at}"
+    if word not in code_text.FORMS:
+        return f"there is no instruction {word}"
+    return WRONG_WORD if code_text.PATTERNS[word].fullmatch(rest) else f"the form is {form_of(word)}"

@@ -204,11 +204,11 @@ def meaning_of(message, path, text):
     if said:
         return [said]
     found = [sections_of(path)[1]]
-    rule = re.fullmatch(r"code (\d+)", message["what"]) if message and message["whole"] else None
+    rule = re.fullmatch(r"code (\d+|text)", message["what"]) if message and message["whole"] else None
     if rule and text is not None and len(text) <= LONGEST_CODE:
         import code_reasons
 
-        reason = code_reasons.reason_of(text, int(rule[1]), int(message["whole"]))
+        reason = code_reasons.reason_of(text, rule[1], int(message["whole"]))
         found += [f"Here {reason}."] if reason else []
     return found
 
