@@ -192,6 +192,12 @@ def place_of(message, text):
     return place, [found or "(The file has no such place: the message is of another text.)"]
 
 
+def filled(paragraph):
+    """A paragraph in lines. What is in backquotes stays in one."""
+    joined = re.sub("`[^`]*`", lambda found: found[0].replace(" ", "\0"), paragraph)
+    return textwrap.fill(joined, WIDTH, break_on_hyphens=False, break_long_words=False).replace("\0", " ")
+
+
 def meaning_of(message, path, text):
     """The paragraphs that say what a message means: the first one of its page, or what is wrong at this place of the text,
     or both. What finds that is loaded when it is needed, since it takes longer to load than all else."""
@@ -229,7 +235,7 @@ def explained(line, file, text):
         place, place_shown = place_of(message, text)
         parts = [f"{file}:{place} {what}", *place_shown]
     for paragraph in meaning_of(message, path, text):
-        parts.append(textwrap.fill(paragraph, WIDTH, break_on_hyphens=False, break_long_words=False))
+        parts.append(filled(paragraph))
     parts.append(f"Read on: {where(path)}")
     return ("\n".join(parts) + "\n").encode("utf-8", "surrogateescape")
 
