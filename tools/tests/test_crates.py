@@ -113,8 +113,8 @@ class Quick(Tools):
         self.write("crates/high/must-fail/bug.edit", "")
         top = self.top.name
         wanted = [f"rt {words} {top}{folder}" for words, folder in [
-            ("verdict, in", "/crates/middle"),
-            ("verdict, in", "/crates/high"),
+            ("check, in", "/crates/middle"),
+            ("check, in", "/crates/high"),
             ("test, in", "/crates/high"),
             ("must-fail high, in", ""),
         ]]
@@ -129,11 +129,11 @@ class Quick(Tools):
     def test_it_stops_at_what_fails(self):
         self.write("crates/middle/src/lib.rt", "")
         self.write("fails", "middle")
-        self.assertEqual((3, [f"rt verdict, in {self.top.name}/crates/middle"]), self.steps())
+        self.assertEqual((3, [f"rt check, in {self.top.name}/crates/middle"]), self.steps())
 
     def test_nothing_is_run_without_a_change(self):
         ran = self.run_tool("quick", "HEAD")
-        self.assertEqual((0, False), (ran.returncode, "rt verdict" in ran.stdout))
+        self.assertEqual((0, False), (ran.returncode, "rt check" in ran.stdout))
 
     def test_a_commit_that_does_not_exist(self):
         ran = self.run_tool("quick", "nothing")
