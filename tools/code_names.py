@@ -1,4 +1,5 @@
-"""The names that the variables of a code have in its source. A code text does not have them: they are found by places."""
+"""The names that the variables and the fields of a code have in its source. A code text does not have them: those of
+variables are found by places, and those of fields by the names of their structs."""
 
 import re
 
@@ -9,6 +10,10 @@ DECLARED = re.compile(rb"\bvar\s*\(?\s*([A-Za-z_]\w*)[^;=]*$")
 ASSIGNMENTS = (b":=", b"=", b"+=", b"-=", b"*=", b"/=", b"%=", b"++", b"--")
 # Words at which a value is made, and no variable declared.
 VALUES = (b"nil", b"true", b"false", b"make", b"new")
+# What has no words of the program.
+SKIPPED = re.compile(rb'//[^\n]*|/\*.*?\*/|"(?:\\.|[^"\\])*"', re.DOTALL)
+STRUCT = re.compile(rb"\b(\w+)\s+struct\s*\{([^}]*)\}")
+FIELDS = re.compile(rb"\s*(\w+(?:\s*,\s*\w+)*)\s+\S")
 
 
 def assigned(text, place):
@@ -24,6 +29,15 @@ def declared(text, place):
     """The variable that a declaration without a value names at a place of the source, or None."""
     found = WORD.match(text, place)
     return found[0].decode() if found and found[0] not in VALUES else None
+
+
+def fields_of(text):
+    """The names of the fields of each struct of a source, by its name."""
+    found = {}
+    for struct, body in STRUCT.findall(SKIPPED.sub(b" ", text)):
+        lines = filter(None, map(FIELDS.match, re.split(rb"[;\n]", body)))
+        found[struct.decode()] = [name.decode() for line in lines for name in re.findall(rb"\w+", line[1])]
+    return found
 
 
 def names_of(f, head, text):

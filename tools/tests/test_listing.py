@@ -9,7 +9,7 @@ import test_explain
 from code_vectors import TEXTS
 
 FIELD = """\
-struct N { int; *N }
+struct N { v int; p *N }
 
 func main()
     var v0 *N in r0
@@ -17,7 +17,7 @@ func main()
     var v2 int
     0  5:7   v0 = new(N)  create r0
     1  5:4   v1 = v0
-    2  6:16  v2 = v1.0    remove r0
+    2  6:16  v2 = v1.v    remove r0
     3  6:13  print v2
     4  7:1   return
 """
@@ -119,6 +119,21 @@ class Listing(test_explain.Case):
 
 
 class Names(unittest.TestCase):
+    def test_names_of_fields(self):
+        text = b"""type A struct { v int; p, q *A }
+            type (
+                B struct {
+                    // a comment; x int
+                    s []chan *A
+                    t,
+                    u bool
+                }
+                C struct {}
+            )
+            // type D struct { v int }
+        """
+        self.assertEqual({"A": ["v", "p", "q"], "B": ["s", "u"], "C": []}, code_names.fields_of(text))
+
     def test_names_of_variables(self):
         place = lambda words: SOURCE.index(words)
         ops = [
