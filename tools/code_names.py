@@ -1,6 +1,7 @@
 """The names that the variables and the fields of a code have in its source. A code text does not have them: those of
 variables are found by places, and those of fields by the names of their structs."""
 
+import functools
 import re
 
 WORD = re.compile(rb"[A-Za-z_]\w*")
@@ -31,10 +32,16 @@ def declared(text, place):
     return found[0].decode() if found and found[0] not in VALUES else None
 
 
+@functools.cache
+def without_comments(text):
+    """A source with blanks in place of its comments and strings."""
+    return SKIPPED.sub(lambda skipped: b" " * len(skipped[0]), text)
+
+
 def fields_of(text):
     """The names of the fields of each struct of a source, by its name."""
     found = {}
-    for struct, body in STRUCT.findall(SKIPPED.sub(b" ", text)):
+    for struct, body in STRUCT.findall(SKIPPED.sub(lambda skipped: b"\n" if b"\n" in skipped[0] else b" ", text)):
         lines = filter(None, map(FIELDS.match, re.split(rb"[;\n]", body)))
         found[struct.decode()] = [name.decode() for line in lines for name in re.findall(rb"\w+", line[1])]
     return found
@@ -44,6 +51,7 @@ def names_of(f, head, text):
     """The names of the variables of a function that have one, by their numbers. `text` is the source, and `head` the
     head of the function there, with its parameters."""
     found = {n: name.decode() for n, name in enumerate(head.parameters[: f.count])}
+    text = without_comments(text)
     for op in f.body:
         name = None
         if op.word == "copy":

@@ -127,16 +127,16 @@ class Program:
 
     # ---- words
 
-    def described(self, f, member):
+    def described(self, f, member, seen=()):
         """A variable, the result or the package variables in words."""
         if member in (RESULT, GLOBAL):
             return {RESULT: "the result", GLOBAL: "the package variables"}[member]
         if member in self.names[f.name]:
             return f"`{self.names[f.name][member]}`"
         op = next((op for op in f.body if member in code_text.writes(op)), None)
-        if op is None:
-            return f"parameter {member}" if member < f.count else "a value"
-        from_a = lambda: self.described(f, op.parts["a"])
+        if op is None or member in seen:
+            return "a value"
+        from_a = lambda: self.described(f, op.parts["a"], (*seen, member))
         match op.word:
             case "new":
                 return f"the new {op.parts['S']}"

@@ -76,7 +76,7 @@ SOURCE = b"""func f(a, b *N) {
 \tvar y *N
 \tvar z int = 2
 \tx += 1
-\ty = nil
+\ty /* x */ = nil // :=
 \tvar c = make(chan int)
 }
 """

@@ -84,6 +84,13 @@ class Warnings(unittest.TestCase):
         self.assertEqual("a.go:1:24: main: a loop makes ", said[:30])
         self.assertEqual("", warned(text, main_of(["*N r0", "bool -"], *(line.replace("branch v1 2", "branch v1 4").replace("3 -[]", "2 -[]") for line in instructions))))
 
+    def test_variables_without_names(self):
+        instructions = [f"@<{{ for> +[] copy v{d} v{a} -[]" for d, a in [(0, 1), (1, 0)]]
+        instructions += ["@<x> +[] new v2 N -[]", "@<x> +[] store v2 0 v0 -[]", "@<for> +[] jump 2 -[]"]
+        said = warned("func main() { for { x } }", "struct N *N\n" + main_of(["*N r0"] * 3, *instructions)).splitlines()
+        self.assertEqual("a.go:1:21: main: a loop makes a new N in the older region of a value", said[0])
+        self.assertEqual("    1:21: main: a value is stored in the new N", said[1])
+
     def test_package_variables(self):
         text = "var g []int; func main() { for { g = make([]int, 1) } }"
         code = "global g []int\n" + main_of(["int -", "[]int G"], "@<1> +[] int v0 1 -[]", "@<make> +[] slice v1 v0 -[]", "@<= make> +[] set g v1 -[]", "@<for> +[] jump 0 -[]")
