@@ -33,7 +33,7 @@ TOP = pathlib.Path(__file__).resolve().parent.parent
 PAGES = TOP / "docs" / "errors"
 SECTIONS = ["Example", "Message", "Why", "Corrected example"]
 # The most bytes of a code text that is read to explain a message of it.
-LONGEST_CODE = 2_000_000
+LONGEST_CODE = 500_000
 # The columns of what is printed.
 WIDTH = 80
 
