@@ -1,7 +1,6 @@
 """Tests constructs: which part of Go a message is about, by places that were worked out by hand from the grammar, and, with
 the program, by the places that it reports."""
 
-import os
 import pathlib
 import re
 import subprocess
