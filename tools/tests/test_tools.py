@@ -19,20 +19,20 @@ SHELL = ["install", "test-rgo"]
 # Words that a tool does not take, and the first words of what it says.
 WRONG = {
     "code_producer.py": ["", "a b"],
-    "code_text.py": ["", "a", "check", "check a b", "chek a"],
-    "code_vectors.py": ["", "--tables", "--table x"],
+    "code_text.py": ["", "check a b", "chek a"],
+    "code_vectors.py": ["", "--tables"],
     "compare-with-go": ["--programs x", "--sead 1"],
-    "count": ["x", "--write x", "--wright"],
+    "count": ["x", "--wright"],
     "definitions": ["x"],
     "examples": ["--tables", "a b"],
     "explain": ["a b", "--all"],
-    "install": ["", "a b"],
-    "listing": ["", "a.go b.code", "--all a"],
+    "install": ["a b"],
+    "listing": ["a.go b.code", "--all a"],
     "quick": ["--all", "a b"],
-    "regions": ["", "--all a.go", "a.go b.go", "--warn --list a.go"],
-    "rgor": ["", "--check", "--steps 5 a.go"],
+    "regions": ["--all a.go", "--warn --list a.go"],
+    "rgor": ["", "--steps 5 a.go"],
     "soak": ["x", "--seconds x"],
-    "subset": ["", "a.go b.go", "--all a.go"],
+    "subset": ["a.go b.go", "--all a.go"],
     "test-rgo": ["x"],
     "test-tools": ["--all"],
     "wrong-bodies": ["--all", "--changed a b"],
@@ -119,7 +119,9 @@ class Tools(unittest.TestCase):
 
     def test_files_that_are_missing_or_folders(self):
         for file in ["none", "texts"]:
-            calls = {words.replace("F", file): status for words, status in NO_FILE.items()}
+            # A folder is no program, either, but that is found in the same way for all.
+            found = {words: status for words, status in NO_FILE.items() if file == "none" or status == command.NO_INPUT}
+            calls = {words.replace("F", file): status for words, status in found.items()}
             for words, (status, out, err) in self.run_all(list(calls)):
                 with self.subTest(words):
                     self.assertEqual((calls[words], ""), (status, out))
@@ -133,8 +135,7 @@ class Tools(unittest.TestCase):
 
     def test_a_full_device(self):
         with open("/dev/full", "wb") as full:
-            calls = [*PRINTING, *(f"{tool} --help" for tool in TOOLS)]
-            for words, (status, _, err) in self.run_all(calls, stdout=full):
+            for words, (status, _, err) in self.run_all([f"{tool} --help" for tool in TOOLS], stdout=full):
                 with self.subTest(words):
                     self.assertEqual(4 if words.split()[0] in SHELL else command.NOT_WRITTEN, status)
                     self.assertRegex(err, r"\A[\w.-]+: .*No space left on device\n\Z")
