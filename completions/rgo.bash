@@ -65,14 +65,18 @@ _rgo-regions() {
     if [[ ${COMP_WORDS[COMP_CWORD]} == -* ]]; then
         if _rgo_has --picture; then
             _rgo_words --steps --goroutines --pages --page-words --regions
-        elif _rgo_has --list --function; then
+        elif _rgo_has --list; then
             _rgo_words --list --function
+        elif _rgo_has --warn; then
+            _rgo_words --warn --function
+        elif _rgo_has --function; then
+            _rgo_words --list --warn --function
         else
-            _rgo_words --list --function --picture
+            _rgo_words --list --warn --function --picture
         fi
     elif [[ $last == --picture ]]; then
         _rgo_files svg
-    elif [[ $last != --* || $last == --list ]]; then
+    elif [[ $last != --* || $last == --list || $last == --warn ]]; then
         _rgo_files
     fi
 }

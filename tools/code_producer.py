@@ -11,6 +11,7 @@ import dataclasses
 import sys
 
 import code_text
+import command
 from code_text import GLOBAL, GLOBAL_JOINS, JOINS, Variable, callee_of, own_names, parameter_classes, region_parameters
 
 RESULT = "result"
@@ -149,18 +150,18 @@ def with_regions(code):
 
 def main(words):
     if len(words) != 1:
-        sys.exit(__doc__)
+        raise command.WrongWords
     with open(words[0], "rb") as file:
         code = read_plain(file.read())
     if isinstance(code, int):
-        sys.exit(f"code_producer: line {code} has no form")
+        raise command.Stop(1, f"line {code} has no form")
     # The rules on names and types are kept or broken without regions.
     for rule in [code_text.exists, code_text.types]:
         if list(rule(code)):
-            sys.exit(f"code_producer: the code breaks rule {rule.__doc__[0]}")
+            raise command.Stop(1, f"the code breaks rule {rule.__doc__[0]}")
     sys.stdout.buffer.write(code_text.write(with_regions(code)))
     return 0
 
 
 if __name__ == "__main__":
-    sys.exit(main(sys.argv[1:]))
+    command.start(main, __doc__)

@@ -14,6 +14,8 @@ import dataclasses
 import re
 import sys
 
+import command
+
 # ---- code
 
 # The class of a variable or a result: None where it has none, "G" for that of the package variables, or else the number
@@ -760,7 +762,7 @@ def report(text):
 
 def main(words):
     if len(words) != 2 or words[0] != "check":
-        sys.exit(__doc__)
+        raise command.WrongWords
     with open(words[1], "rb") as file:
         said = report(file.read())
     if said:
@@ -769,4 +771,4 @@ def main(words):
 
 
 if __name__ == "__main__":
-    sys.exit(main(sys.argv[1:]))
+    command.start(main, __doc__)

@@ -18,9 +18,9 @@ import ast
 import collections
 import pathlib
 import re
-import sys
 
 import code_text
+import command
 from code_text import FORMS, GLOBAL_JOINS, JOINS, OPERATORS
 
 TOP = pathlib.Path(__file__).resolve().parent.parent
@@ -155,7 +155,7 @@ def rules(lines):
                 rows.setdefault((found, kind, done), (number, edit + "\n", rule, at))
     missing = wanted - {found for found, _, _ in rows}
     if missing:
-        sys.exit(f"tools/code_vectors.py: no row for {sorted(missing)}")
+        raise command.Stop(1, f"no row for {sorted(missing)}")
     return sorted(rows.values(), key=lambda row: (row[2], row[3]))
 
 
@@ -288,7 +288,7 @@ def forms(lines):
             found = [(number, edit, *result_of(text_with(lines, number, edit))) for edit in edits]
             wrong = [row for row in found if (row[2] == 0 and row[3] != 0) == has_form]
             if wrong:
-                sys.exit(f"tools/code_vectors.py: {wrong[0]}")
+                raise command.Stop(1, f"{wrong[0]}")
             rows += found
     return rows
 
@@ -398,10 +398,11 @@ def main(words):
             (TABLES / name).write_text(text, encoding="utf-8")
     elif words == ["--check"]:
         if not all(is_written(name, text) for name, text in tables()):
-            sys.exit("tools/code_vectors.py: the tables are not those of today: run tools/code_vectors.py --table")
+            raise command.Stop(1, "the tables are not those of today: run tools/code_vectors.py --table")
     else:
-        sys.exit(__doc__)
+        raise command.WrongWords
+    return 0
 
 
 if __name__ == "__main__":
-    main(sys.argv[1:])
+    command.start(main, __doc__)

@@ -1,4 +1,4 @@
-"""The crates of the repository: their order, what each stands on, and which of them a change touches."""
+"""The crates of the repository: their order, what each depends on, and which of them a change touches."""
 
 import pathlib
 import subprocess
@@ -23,13 +23,28 @@ def crates():
     return read_crates((TOP / "crates.txt").read_text(encoding="utf-8"))
 
 
+def lowest_first(every):
+    """The names of crates, each after those that it depends on, and otherwise in their order."""
+    found = {}
+
+    def visit(crate):
+        if crate in every and crate not in found:
+            for below in every[crate]:
+                visit(below)
+            found[crate] = None
+
+    for crate in every:
+        visit(crate)
+    return list(found)
+
+
 def with_those_above(names):
-    """These crates and those that stand on them, in the order of crates.txt."""
+    """These crates and those that depend on them, each after those that it depends on."""
     every, found = crates(), set(names)
     while True:
         more = {crate for crate, below in every.items() if found & set(below)} - found
         if not more:
-            return [crate for crate in every if crate in found]
+            return [crate for crate in lowest_first(every) if crate in found]
         found |= more
 
 

@@ -17,17 +17,23 @@ the rule and what a producer of code often forgets. The title of a rule has its 
 """
 
 import collections
+import errno
 import os
 import pathlib
 import re
+import shutil
 import subprocess
 import sys
 import textwrap
 import unicodedata
 
+import command
+
 TOP = pathlib.Path(__file__).resolve().parent.parent
 PAGES = TOP / "docs" / "errors"
 SECTIONS = ["Example", "Message", "Why", "Corrected example"]
+# The most bytes of a code text that is read to explain a message of it.
+LONGEST_CODE = 500_000
 # The columns of what is printed.
 WIDTH = 80
 
@@ -39,6 +45,10 @@ COMMAND = re.compile(r"`(rgo(?: [^`]*)?)`")
 REPORTS = re.compile(r"^((?:`rgo[^`]*`(?:, | and )?)+) reports?, and exits? with (\d+):$", re.MULTILINE)
 LINE = re.compile(r"rgo: (?:(?P<line>\d+):(?P<column>\d+): |line (?P<whole>\d+): )?(?P<what>.*)", re.DOTALL)
 CODE = "rgo code"
+# What rgo reports of a write that failed.
+WRITE_FAILED = b"rgo: write failed\n"
+# What a tool says that needs the program.
+NOT_BUILT = "no program is built: run ./rgo run < examples/hello.go once, or name a program by the variable RGO"
 
 
 class BadPage(Exception):
@@ -182,6 +192,33 @@ def place_of(message, text):
     return place, [found or "(The file has no such place: the message is of another text.)"]
 
 
+def filled(paragraph):
+    """A paragraph in lines. What is in backquotes stays in one."""
+    joined = re.sub("`[^`]*`", lambda found: found[0].replace(" ", "\0"), paragraph)
+    return textwrap.fill(joined, WIDTH, break_on_hyphens=False, break_long_words=False).replace("\0", " ")
+
+
+def meaning_of(message, path, text):
+    """The paragraphs that say what a message means: the first one of its page, or what is wrong at this place of the text,
+    or both. What finds that is loaded when it is needed, since it takes longer to load than all else."""
+    said = None
+    if message and message["column"] and text is not None:
+        import constructs
+
+        find = constructs.of_syntax if message["what"] == "syntax" else constructs.of_type
+        said = find(text, int(message["line"]), int(message["column"]), path.read_text(encoding="utf-8"))
+    if said:
+        return [said]
+    found = [sections_of(path)[1]]
+    rule = re.fullmatch(r"code (\d+|text)", message["what"]) if message and message["whole"] else None
+    if rule and text is not None and len(text) <= LONGEST_CODE:
+        import code_reasons
+
+        reason = code_reasons.reason_of(text, rule[1], int(message["whole"]))
+        found += [f"Here {reason}."] if reason else []
+    return found
+
+
 def explained(line, file, text):
     """A line of standard error with its explanation; a line that is not a message of rgo as it is.
 
@@ -197,20 +234,24 @@ def explained(line, file, text):
     if message and file:
         place, place_shown = place_of(message, text)
         parts = [f"{file}:{place} {what}", *place_shown]
-    parts.append(textwrap.fill(sections_of(path)[1], WIDTH, break_on_hyphens=False))
+    for paragraph in meaning_of(message, path, text):
+        parts.append(filled(paragraph))
     parts.append(f"Read on: {where(path)}")
     return ("\n".join(parts) + "\n").encode("utf-8", "surrogateescape")
 
 
-def run(command, source, file, text, out=None):
+def run(words, source, file, text, out=None):
     """Runs a command and explains each line that it reports, as soon as it comes. Returns the status.
 
     The input of the command is `source`, an open file. What is reported is about the file with the name `file` and with
-    `text`, in bytes. The output goes to the open file `out`, or to standard output.
+    `text`, in bytes. The output goes to the open file `out`, or to standard output. If its reader has closed that, nothing
+    is reported of the failed write.
     """
-    with subprocess.Popen(command, stdin=source, stdout=out, stderr=subprocess.PIPE) as ran:
+    with subprocess.Popen(words, stdin=source, stdout=out, stderr=subprocess.PIPE) as ran:
         try:
             for line in ran.stderr:
+                if line == WRITE_FAILED and out is None and command.is_closed(sys.stdout):
+                    continue
                 sys.stderr.buffer.write(explained(line, file, text))
                 sys.stderr.flush()
             status = ran.wait()
@@ -221,6 +262,17 @@ def run(command, source, file, text, out=None):
 
 
 def program():
-    """The program: what the variable RGO names, or else the one that is built, or else the script `rgo`."""
-    built = TOP / "crates" / "rgo" / "out" / "rgo"
-    return os.environ.get("RGO") or str(built if built.is_file() else TOP / "rgo")
+    """The file of the program: what the variable RGO names, or else the one that is installed or built here. Whether it
+    exists is another question: none is built for the sake of a tool."""
+    is_repository = TOP.joinpath("crates.txt").is_file()
+    return os.environ.get("RGO") or str(TOP / "crates" / "rgo" / "out" / "rgo" if is_repository else TOP / "rgo")
+
+
+def existing(file):
+    """The file of a program if it can be run; otherwise the tool ends."""
+    if found := shutil.which(str(file)):
+        return found
+    if os.environ.get("RGO") or str(file) != program():
+        reason = "it is not a program" if os.path.exists(file) else os.strerror(errno.ENOENT)
+        raise command.Stop(command.NO_PROGRAM, f"cannot run {file}: {reason}")
+    raise command.Stop(command.NO_PROGRAM, NOT_BUILT)

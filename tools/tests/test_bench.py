@@ -27,7 +27,7 @@ class Programs(unittest.TestCase):
     @classmethod
     def setUpClass(cls):
         # Without this the first run would build the program, which takes an hour.
-        if pathlib.Path(error_pages.program()).resolve() == TOP / "rgo":
+        if not pathlib.Path(error_pages.program()).is_file():
             raise AssertionError("no program is built at crates/rgo/out/rgo, and the variable RGO names none")
 
     def test_the_smallest_sizes_print_what_go_printed(self):

@@ -11,8 +11,14 @@ from error_pages import TOP
 
 # Three crates, one on the other, and one beside them.
 CRATES = "# Crates\nlow:\nmiddle: clap low\nhigh: middle\nother:\n"
-# Says what it is called with, and which files the crates have; as a gate it ends as one that began from nothing.
-RT = '#!/bin/sh\necho "rt $*"\necho "rt: ok; every proof and must-fail edit was done in this run"\nexit 3\n'
+# Says what it is called with, and where; as a gate it ends as one that began from nothing. The file `fails` names the
+# folder in which it fails, or has a `*`.
+RT = """#!/bin/sh
+echo "rt $*"
+echo "rt: ok; every proof and must-fail edit was done in this run"
+fails=$(cat "${0%/bin/rt}/fails" 2>/dev/null)
+[ "$fails" != "*" ] && [ "$fails" != "${PWD##*/}" ] || exit 3
+"""
 PROOF = """# Proof
 
 <!-- tools/count writes from here -->
@@ -34,7 +40,7 @@ class Tools(unittest.TestCase):
         folder = tempfile.TemporaryDirectory()
         self.addCleanup(folder.cleanup)
         self.top = pathlib.Path(folder.name)
-        for name in ("quick", "count", "wrong-bodies", "crates.py"):
+        for name in ("quick", "count", "wrong-bodies", "crates.py", "command.py"):
             self.write(f"tools/{name}", (TOP / "tools" / name).read_text(encoding="utf-8"))
         self.write("crates.txt", CRATES)
         self.write("docs/PROOF.md", PROOF)
@@ -96,23 +102,48 @@ class Quick(Tools):
         self.assertEqual("   3.5  low", ran.stdout.splitlines()[0])
         self.assertEqual(f"   8.0  minutes of one processor at most, {8 / os.cpu_count():.0f} on all of this machine", ran.stdout.splitlines()[-1])
 
-    def test_the_gate_of_these_crates_is_run(self):
-        self.write("crates/middle/src/lib.rt", "")
+    def steps(self):
+        """The status of tools/quick, and what it runs, with the folders."""
         ran = self.run_tool("quick")
-        self.assertEqual((3, "rt ci middle high"), (ran.returncode, ran.stdout.splitlines()[-2]))
+        return ran.returncode, [line for line in ran.stdout.splitlines() if ", in " in line]
+
+    def test_these_crates_are_proved_and_tested_and_their_wrong_bodies_tried(self):
+        self.write("crates/middle/src/lib.rt", "")
+        self.write("crates/high/src/tests.rt", "#[test]\nfn one() {}\n")
+        self.write("crates/high/must-fail/bug.edit", "")
+        top = self.top.name
+        wanted = [f"rt {words} {top}{folder}" for words, folder in [
+            ("check, in", "/crates/middle"),
+            ("check, in", "/crates/high"),
+            ("test, in", "/crates/high"),
+            ("must-fail high, in", ""),
+        ]]
+        self.assertEqual((0, wanted), self.steps())
+
+    def test_lower_crates_are_first(self):
+        self.write("crates.txt", "high: middle\nmiddle: clap low\nother:\nlow:\n")
+        self.commit()
+        self.write("crates/low/src/lib.rt", "")
+        self.assertEqual([("low", False), ("middle", True), ("high", True)], self.listed())
+
+    def test_it_stops_at_what_fails(self):
+        self.write("crates/middle/src/lib.rt", "")
+        self.write("fails", "middle")
+        self.assertEqual((3, [f"rt check, in {self.top.name}/crates/middle"]), self.steps())
 
     def test_nothing_is_run_without_a_change(self):
         ran = self.run_tool("quick", "HEAD")
-        self.assertEqual((0, False), (ran.returncode, "rt ci" in ran.stdout))
+        self.assertEqual((0, False), (ran.returncode, "rt check" in ran.stdout))
 
     def test_a_commit_that_does_not_exist(self):
         ran = self.run_tool("quick", "nothing")
-        self.assertEqual((1, True), (ran.returncode, ran.stderr.startswith("tools/quick: fatal: ")))
+        self.assertEqual((1, True), (ran.returncode, ran.stderr.startswith("quick: fatal: ")))
 
 
 class WrongBodies(Tools):
     def test_those_of_the_crates_that_changed(self):
         self.write("crates/middle/src/lib.rt", "fn one() -> u8 { 1 }\n")
+        self.write("fails", "*")
         ran = self.run_tool("wrong-bodies", "--changed")
         self.assertIn("rt must-fail middle\n", ran.stdout)
         self.assertEqual((1, "middle/bug: it was not tried"), (ran.returncode, ran.stdout.splitlines()[-1]))
@@ -123,7 +154,8 @@ class WrongBodies(Tools):
 
     def test_a_commit_that_does_not_exist(self):
         self.assertEqual(1, self.run_tool("wrong-bodies", "--changed", "nothing").returncode)
-        self.assertEqual(1, self.run_tool("wrong-bodies", "--changed", "HEAD", "HEAD").returncode)
+        self.assertEqual(1, self.run_tool("wrong-bodies", "--changed", "nothing").returncode)
+        self.assertEqual(64, self.run_tool("wrong-bodies", "--changed", "HEAD", "HEAD").returncode)
 
 
 class Count(Tools):

@@ -124,8 +124,15 @@ class Explain(Case):
 
     def test_wrong_words(self):
         status, out, err = self.tool("explain", "no such file", said=b"rgo: deadlock\n")
-        self.assertEqual((2, "", "explain: cannot read no such file: No such file or directory\n"), (status, out, err))
-        self.assertEqual((2, ""), self.tool("explain", "a", "b")[:2])
+        self.assertEqual((66, "", "explain: cannot read no such file: No such file or directory\n"), (status, out, err))
+        self.assertEqual((64, ""), self.tool("explain", "a", "b")[:2])
+
+    def test_what_a_rule_of_code_misses(self):
+        text = (TOP / "tools" / "code_texts" / "field.code").read_bytes().replace(b"0 -[r0]", b"0 -[]")
+        self.file.write_bytes(text)
+        status, out, err = self.tool("explain", self.file, said=b"rgo: line 10: code 13\n")
+        self.assertEqual((0, ""), (status, err))
+        self.assertEqual("Here r0 is missing in REMOVES.", out.splitlines()[-2])
 
 
 class Rgor(Case):
@@ -170,6 +177,21 @@ class Rgor(Case):
             with self.subTest(words=words):
                 status, out, err = self.rgor(*words)
                 self.assertEqual((64, "", "Runs a file with rgo"), (status, out, err[:20]))
+
+    def test_a_reader_that_has_stopped(self):
+        self.write_program('cat >/dev/null; echo "rgo: write failed" >&2; exit 10')
+        reader, writer = os.pipe()
+        os.close(reader)
+        with open(writer, "wb") as closed:
+            command = [sys.executable, "-S", TOP / "tools" / "rgor", self.file]
+            env = {**os.environ, "RGO": str(self.rgo)}
+            ran = subprocess.run(command, stdout=closed, stderr=subprocess.PIPE, env=env, timeout=60, check=False)
+        self.assertEqual((10, b""), (ran.returncode, ran.stderr))
+
+    def test_the_version(self):
+        status, out, err = self.rgor("--version")
+        self.assertEqual((0, ""), (status, err))
+        self.assertRegex(out, r"\Argo, commit .*\n\Z")
 
     def test_a_missing_program(self):
         self.rgo.unlink()

@@ -178,7 +178,7 @@ class WithTheProgram(unittest.TestCase):
     @classmethod
     def setUpClass(cls):
         cls.program = pathlib.Path(error_pages.program()).resolve()
-        if cls.program == TOP / "rgo":
+        if not cls.program.is_file():
             raise AssertionError("no program is built at crates/rgo/out/rgo, and the variable RGO names none")
 
     def status(self, text, pages):

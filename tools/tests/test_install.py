@@ -73,6 +73,7 @@ class Install(Case):
         explained = f"{self.file}:2:15: type 4 NoSuchName\n{TEXT.splitlines()[1]}\n{' ' * 14}^\n{meaning}\nRead on: {page}\n"
         self.assertEqual((1, "run --steps 5\n", explained), self.run_it(bin_folder / "rgor", self.file, "--steps", "5"))
         self.assertEqual((1, "", explained), self.run_it(bin_folder / "rgo-regions", self.file))
+        self.assertRegex(self.run_it(bin_folder / "rgor", "--version")[1], r"\Argo, commit .*\n\Z")
 
     def test_documents_lead_to_what_is_installed(self):
         self.install()
@@ -87,7 +88,7 @@ class Install(Case):
         self.assertFalse(self.room.joinpath("prefix").exists())
 
     def test_wrong_words(self):
-        for words in ([], [""], ["a", "b"], ["--help"]):
+        for words in ([], [""], ["a", "b"], ["--all"]):
             with self.subTest(words=words):
                 status, out, err = self.run_it(TOP / "tools" / "install", *words, RGO=self.fake)
                 self.assertEqual((64, "", "usage: tools/install PREFIX\n"), (status, out, err))
@@ -158,18 +159,19 @@ class Completions(Case):
         ("rgor --", ["--check"]),
         ("rgor a.go --", OPTIONS),
         ("rgor a.go --goroutines 5 --", [option for option in OPTIONS if option != "--goroutines"]),
-        ("rgo-regions --", ["--function", "--list", "--picture"]),
+        ("rgo-regions --", ["--function", "--list", "--picture", "--warn"]),
         ("rgo-regions --l", ["--list"]),
         ("rgo-regions --list --", ["--function"]),
         ("rgo-regions --function ", []),
-        ("rgo-regions a.go --function main --", ["--list"]),
+        ("rgo-regions --warn --", ["--function"]),
+        ("rgo-regions a.go --function main --", ["--list", "--warn"]),
         ("rgo-regions --picture a.svg --", LIMITS),
         ("rgo-regions --picture a.svg a.go --pages 5 --", [option for option in LIMITS if option != "--pages"]),
         ("rgo-regions --picture a.svg --pages ", []),
     ]
 
     # Lines after which a Go file may follow.
-    FILES = ["rgor ", "rgor --check ", "rgo-regions ", "rgo-regions --list ", "rgo-regions --picture a.svg "]
+    FILES = ["rgor ", "rgor --check ", "rgo-regions ", "rgo-regions --list ", "rgo-regions --warn ", "rgo-regions --picture a.svg "]
 
     def offers(self, line, words):
         raise NotImplementedError

@@ -157,7 +157,7 @@ class WithTheProgram(unittest.TestCase):
     @classmethod
     def setUpClass(cls):
         program = pathlib.Path(error_pages.program()).resolve()
-        if program == TOP / "rgo":
+        if not program.is_file():
             raise AssertionError("no program is built at crates/rgo/out/rgo, and the variable RGO names none")
         cls.room = pathlib.Path(tempfile.mkdtemp())
         cls.room.joinpath("bin").mkdir()

@@ -443,7 +443,7 @@ class Command(test_explain.Case):
         self.assertEqual((11, "", f"{self.file}: out of memory"), (status, out, lines(err)[0]))
 
     def test_wrong_words(self):
-        for words in ["", "--list", "--function main", "a.go b.go", "--all a.go", "--help", "a.go --function"]:
+        for words in ["", "--list", "--function main", "a.go b.go", "--all a.go", "a.go --function"]:
             with self.subTest(words):
                 status, out, err = self.regions(*words.split())
                 self.assertEqual((64, ""), (status, out))
