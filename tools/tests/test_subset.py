@@ -258,8 +258,8 @@ class Command(unittest.TestCase):
         deep = self.file.with_name("deep.go")
         deep.write_text("package main\nvar x = " + "(" * 50000 + "1" + ")" * 50000 + "\n")
         cases = [
-            (["none.go"], 66, "subset: cannot read none.go: No such file or directory\n"),
-            ([TOP / "docs"], 66, f"subset: cannot read {TOP / 'docs'}: Is a directory\n"),
+            (["none.go"], 66, "subset: none.go: No such file or directory\n"),
+            ([TOP / "docs"], 66, f"subset: {TOP / 'docs'}: Is a directory\n"),
             ([other], 66, f"subset: {other} is not UTF-8: byte 17 belongs to no character\n"),
             ([deep], 66, f"subset: {deep} is nested too deeply; rgo takes 200 levels\n"),
             ([], 64, None), (["a", "b"], 64, None), (["--all", "a"], 64, None), (["--lines"], 64, None),

@@ -1,0 +1,58 @@
+"""Tests what reads the proofs' sources: tools/wrong-bodies and tools/definitions."""
+
+import importlib.machinery
+import importlib.util
+import unittest
+
+from error_pages import TOP
+
+
+def loaded(tool):
+    """A tool without a suffix, as a module."""
+    loader = importlib.machinery.SourceFileLoader(tool.replace("-", "_"), str(TOP / "tools" / tool))
+    module = importlib.util.module_from_spec(importlib.util.spec_from_loader(loader.name, loader))
+    loader.exec_module(module)
+    return module
+
+
+class WrongBodies(unittest.TestCase):
+    tool = loaded("wrong-bodies")
+
+    def test_each_can_be_applied(self):
+        for crate in sorted(path.name for path in (TOP / "crates").iterdir()):
+            for edit in self.tool.wrong_bodies(crate):
+                with self.subTest(f"{crate}/{edit.stem}"):
+                    texts = self.tool.edited(edit, TOP / "crates" / crate)
+                    self.assertTrue(texts and all(before != after for before, after in texts.values()))
+
+    def changed(self, crate, name):
+        folder = TOP / "crates" / crate
+        edit = next(edit for edit in self.tool.wrong_bodies(crate) if edit.stem == name)
+        texts = self.tool.edited(edit, folder)
+        return [self.tool.function_changed(path, *both, folder) for path, both in texts.items()]
+
+    def test_the_changed_function_is_named_as_by_the_prover(self):
+        # A function; a method beside its type; one of another file; one of a trait with a parameter; a table.
+        self.assertEqual(["turns::wake"], self.changed("rgo_driver", "channel_that_changed_wakes_nobody"))
+        self.assertEqual(["worlds::World::share"], self.changed("rgo_world", "a_child_has_no_stakes"))
+        self.assertEqual(["expressions::Expr::place"], self.changed("rgo_ast", "selector_at_its_operand"))
+        self.assertEqual(["endings::EndingFromTypeError::from"], self.changed("rgo_run", "rule_is_reported_at_another_place"))
+        self.assertEqual([None], self.changed("rgo_lexer", "goto_is_a_name"))
+
+
+class Definitions(unittest.TestCase):
+    def test_what_the_claim_names_is_listed_and_nothing_that_serves_code(self):
+        tool = loaded("definitions")
+        found = {path.relative_to(tool.CRATES).as_posix(): names for path, names in tool.reached({}).items()}
+        # The claim's own words, one of a file that code uses, too, and a case of a type.
+        self.assertLessEqual({"Headline", "Suffices", "AlwaysHas"}, found["rgo_run/specs/Headline.antt"])
+        self.assertEqual({"end_in", "plain_at", "LacksIn", "tally_of"}, found["rgo_world/specs/Worlds.antt"])
+        self.assertIn("Event", found["rgo_region_machine/specs/Machine.antt"])
+        # What is named through an alias, and in the head of a module.
+        self.assertIn("instructed_with", found["rgo_region_machine/specs/Instructions.antt"])
+        self.assertNotIn("rgo_world/specs/Tables.antt", found)
+        self.assertTrue(all(any(path.startswith(f"{crate}/") for crates in tool.CHAPTERS.values() for crate in crates) for path in found))
+
+
+if __name__ == "__main__":
+    unittest.main()
