@@ -119,8 +119,16 @@ impl<'a, H: Wait, R: Running, J: Begun<R>> Task for Share<'a, H, R, J> {
     }
 }
 
-/// What each of up to so many workers has of a round: positions in a row, and none has two more than another. Two workers
-/// take part at least, if there are two.
+/// How many of the workers take part in a round: no more than there are positions, but two at least, if there are two. Each
+/// has a share then, so no thread starts only to steal.
+fn take_part(positions: usize, workers: u32) -> u32
+    requires { 1 ≤ workers }
+    ensures { (1 ≤ result) × (result ≤ workers) }
+{
+    positions.max(2).min(workers as usize) as u32
+}
+
+/// What each of so many workers has of a round: positions in a row, and none has two more than another.
 fn make_shares<'a, H: Wait, R: Running, J: Begun<R>>(
     rt: &'a H,
     alloc: Global,
@@ -130,7 +138,7 @@ fn make_shares<'a, H: Wait, R: Running, J: Begun<R>>(
 ) -> Result<Vec<Share<'a, H, R, J>>, AllocError>
     requires { 1 ≤ workers }
 {
-    let workers = positions.max(2).min(workers as usize);
+    let workers = workers as usize;
     let mut shares = Vec::new(alloc);
     let mut from = 0usize;
     for k in 0..workers {
@@ -165,6 +173,7 @@ fn take_turns<
 ) -> Result<(), AllocError>
     requires { (1 ≤ workers) × (workers ≤ 64) }
 {
+    let workers = take_part(positions, workers);
     let mut shares = make_shares(rt, alloc, locked, positions, workers)?;
     round(rt, &mut shares, workers, number, gate)?;
     Ok(())

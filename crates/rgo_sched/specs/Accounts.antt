@@ -9,6 +9,7 @@ abbrev pub total : {A : Type 0} → (A → ℕ) → List A → ℕ
 total f [] = 0
 total f (x ∷ xs) = f x + total f xs
 
+-- an account by its three fields
 abbrev pub account : ℕ → List ℕ → List ℕ → Account
 account parts put taken = record { parts = parts; put = put; taken = taken }
 

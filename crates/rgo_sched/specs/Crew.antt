@@ -24,6 +24,7 @@ module _ {T B : Type 0} where
   pub record DoneIsTaken (m : Worker T B) : Type 0 where
     pub counted : (w : ℕ → ℕ) → taken_by w m ≡ done_by w m
 
+  -- each worker is so
   abbrev pub Every : (Worker T B → Type 0) → List (Worker T B) → Type 0
   Every P crew = (k : ℕ) (m : Worker T B) → get_elem? crew k ≡ some m → P m
 

@@ -81,7 +81,8 @@ pub fn hand_out<T: Task + Drop, B: Before<T>>(
 fn cut<T: Task + Drop, B: Before<T>>(own: &mut TaskDeque<T, B>) -> Pass<Queued<T, B>, Account>
     requires { 1 < (worker_view own.old).parts }
     ensures views { (worker_view own.new ≡ less_one (worker_view own.old)) × (view result ≡ one_part) }
-    ensures same { SameWorker own.old own.new × (worker_index own.new ≡ worker_index own.old) × IsPassOf (worker_deque own.old) result }
+    ensures same { SameWorker own.old own.new × (worker_index own.new ≡ worker_index own.old)
+        × IsPassOf (worker_deque own.old) result }
 {
     own.another::<Part>()
 }

@@ -44,7 +44,8 @@ fn drain<T: Task + Drop, B: Before<T>>(
     requires size { length results.old ≡ length B.tasks }
     requires all { (worker_view own.old).parts ≡ 128 }
     requires fifo { worker_flavor own.old ≡ 0 }
-    ensures left { (k : ℕ) → Filled results.new k ⊎ (total (only k) (worker_view own.old).put ≡ total (only k) (worker_view own.old).taken) }
+    ensures left { (k : ℕ) → Filled results.new k
+        ⊎ (total (only k) (worker_view own.old).put ≡ total (only k) (worker_view own.old).taken) }
     ensures kept { (k : ℕ) → Filled results.old k → Filled results.new k }
     ensures size { length results.new ≡ length results.old }
 {
@@ -61,7 +62,8 @@ fn gather<T: Task + Drop, B: Before<T>>(
     requires size { length results.old ≡ length B.tasks }
     requires all { (worker_view worker.own).parts ≡ 128 }
     requires fifo { worker_flavor worker.own ≡ 0 }
-    ensures left { (k : ℕ) → Filled results.new k ⊎ (put_by (only k) worker + done_by (only k) worker ≡ total (only k) (worker_view worker.own).taken) }
+    ensures left { (k : ℕ) → Filled results.new k
+        ⊎ (put_by (only k) worker + done_by (only k) worker ≡ total (only k) (worker_view worker.own).taken) }
     ensures kept { (k : ℕ) → Filled results.old k → Filled results.new k }
     ensures size { length results.new ≡ length results.old }
 {

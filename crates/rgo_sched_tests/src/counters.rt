@@ -97,8 +97,9 @@ fn each_counter_has_one_turn(rt: HostRuntime) -> Result<(), Fail> {
     short_lists_have_rounds(&rt, 2)?;
     short_lists_have_rounds(&rt, 4)?;
     short_lists_have_rounds(&rt, 7)?;
-    short_lists_have_rounds(&rt, 64)?;
-    has_rounds(&rt, 3, 64, 1)?;
+    for count in [0u32, 1, 3, 63, 64, 65] {
+        has_rounds(&rt, count, 64, 1)?;
+    }
     has_rounds(&rt, 1_000, 1, 999)?;
     has_rounds(&rt, 1_000, 2, 999)?;
     has_rounds(&rt, 1_000, 7, 999)?;
