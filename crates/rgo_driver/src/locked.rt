@@ -121,9 +121,9 @@ impl<'a, H: Wait, R: Running, J: Begun<R>> Task for Share<'a, H, R, J> {
 
 /// The most workers that take part in a round. Two run beside each other; as all take one lock in turn, a third would only
 /// cost the time in which its thread is started.
-const MOST_SHARES: u32 = 2;
+const MOST_WORKERS: u32 = 2;
 
-/// What each worker has of a round: positions in a row, and none has two more than another.
+/// What each of so many workers has of a round: positions in a row, and none has two more than another.
 fn make_shares<'a, H: Wait, R: Running, J: Begun<R>>(
     rt: &'a H,
     alloc: Global,
@@ -133,7 +133,7 @@ fn make_shares<'a, H: Wait, R: Running, J: Begun<R>>(
 ) -> Result<Vec<Share<'a, H, R, J>>, AllocError>
     requires { 1 ≤ workers }
 {
-    let workers = workers.min(MOST_SHARES) as usize;
+    let workers = workers as usize;
     let mut shares = Vec::new(alloc);
     let mut from = 0usize;
     for k in 0..workers {
@@ -168,6 +168,7 @@ fn take_turns<
 ) -> Result<(), AllocError>
     requires { (1 ≤ workers) × (workers ≤ 64) }
 {
+    let workers = workers.min(MOST_WORKERS);
     let mut shares = make_shares(rt, alloc, locked, positions, workers)?;
     round(rt, &mut shares, workers, number, gate)?;
     Ok(())

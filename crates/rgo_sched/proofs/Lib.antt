@@ -1,1 +1,5 @@
+pub mod AccountLemmas
+pub mod CrewLemmas
+pub mod DealLemmas
+pub mod ResultLemmas
 pub mod RoundLemmas

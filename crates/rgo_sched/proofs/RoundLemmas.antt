@@ -1,12 +1,14 @@
--- Rounds, built up turn by turn and share by share.
-use Rattle.std.proofs.Common.{◌≡◌, ℕ, zero, suc, ◌+◌, ◌<◌, ◌≤◌, Bool, false, ◌||◌, List, [], ◌∷◌, ◌++◌, length, set, get_or, refl, sym, subst, ◌∙◌, ap, ap₂, arith}
+-- Rounds, built up turn by turn: where the tasks stay, and where they come back into their list.
+use Rattle.std.proofs.Common.{◌≡◌, ℕ, zero, suc, ◌+◌, ◌<◌, ◌≤◌, Bool, false, ◌||◌, Some, List, [], ◌∷◌, ◌++◌, length, take, set, get_or, refl, sym, subst, ◌∙◌, ap, ap₂, arith}
 use Rattle.std.proofs.Math.Bool.{or-false}
 use Rattle.std.proofs.lemmas.List.Folds.{list_any-append}
-use Rattle.std.specs.List.{list_any}
+use Rattle.std.proofs.lemmas.List.{take_more}
+use Rattle.std.proofs.lemmas.Option.{slice_get_within, get_or_from_slice_get}
+use Rattle.std.specs.List.{list_any, slice_get}
 use Rattle.rgo_sched.specs.Rounds.{EachTurned, RoundOf}
 
 module _ {A : Type 0} (goes : A → A → Bool → Type 0) where
-  -- the first i tasks have had their turn, and the others stand as before
+  -- the first i tasks have had their turn, and the others are as before
   abbrev pub TurnedBelow : ℕ → List A → List A → List Bool → Type 0
   TurnedBelow zero xs ys [] = xs ≡ ys
   TurnedBelow (suc i) (x ∷ xs) (y ∷ ys) (b ∷ bs) = goes x y b × TurnedBelow i xs ys bs
@@ -38,16 +40,6 @@ module _ {A : Type 0} (goes : A → A → Bool → Type 0) where
   turned_all (suc i) (x ∷ xs) (y ∷ ys) (b ∷ bs) end turned =
       (turned.0, turned_all i xs ys bs (omega arith) turned.1)
 
-  -- the turns of one share and of the next
-  turned_both : (xs ys : List A) (bs : List Bool) (us vs : List A) (cs : List Bool) → EachTurned goes xs ys bs
-      → EachTurned goes us vs cs → EachTurned goes (xs ++ us) (ys ++ vs) (bs ++ cs)
-  turned_both [] [] [] us vs cs front back = back
-  turned_both [] [] (b ∷ bs) us vs cs front back = absurd front
-  turned_both [] (y ∷ ys) bs us vs cs front back = absurd front
-  turned_both (x ∷ xs) [] bs us vs cs front back = absurd front
-  turned_both (x ∷ xs) (y ∷ ys) [] us vs cs front back = absurd front
-  turned_both (x ∷ xs) (y ∷ ys) (b ∷ bs) us vs cs front back = (front.0, turned_both xs ys bs us vs cs front.1 back)
-
   -- a round of which the first i tasks have had their turn
   pub record RoundBelow (i : ℕ) (before after : List A) (went : Bool) : Type 0 where
     pub answers : List Bool
@@ -74,12 +66,30 @@ module _ {A : Type 0} (goes : A → A → Bool → Type 0) where
     any = all.any;
   }
 
-  -- the round of one share beside that of the next
-  pub round_of_both : (before xs ys us vs : List A) (went others : Bool) → before ≡ xs ++ us → RoundOf goes xs ys went
-      → RoundOf goes us vs others → RoundOf goes before (ys ++ vs) (went || others)
-  round_of_both before xs ys us vs went others cut front back = record {
-    answers = front.answers ++ back.answers;
-    turned = subst (λ zs. EachTurned goes zs (ys ++ vs) (front.answers ++ back.answers)) (sym cut)
-        (turned_both xs ys front.answers us vs back.answers front.turned back.turned);
-    any = ap₂ ◌||◌ front.any back.any ∙ sym (list_any-append (λ b. b) front.answers back.answers);
-  }
+  -- the turns of one list and of the next
+  turned_both : (xs ys : List A) (bs : List Bool) (us vs : List A) (cs : List Bool) → EachTurned goes xs ys bs
+      → EachTurned goes us vs cs → EachTurned goes (xs ++ us) (ys ++ vs) (bs ++ cs)
+  turned_both [] [] [] us vs cs front back = back
+  turned_both [] [] (b ∷ bs) us vs cs front back = absurd front
+  turned_both [] (y ∷ ys) bs us vs cs front back = absurd front
+  turned_both (x ∷ xs) [] bs us vs cs front back = absurd front
+  turned_both (x ∷ xs) (y ∷ ys) [] us vs cs front back = absurd front
+  turned_both (x ∷ xs) (y ∷ ys) (b ∷ bs) us vs cs front back = (front.0, turned_both xs ys bs us vs cs front.1 back)
+
+  take_next : (l : List A) (i : ℕ) (a : A) → slice_get l i ≡ Some a → take (i + 1) l ≡ take i l ++ a ∷ []
+  take_next l i a at =
+      take_more l i a (slice_get_within l i a at) ∙ ap (λ z. take i l ++ z ∷ []) (get_or_from_slice_get l i a a at)
+
+  -- the task of position k comes back after those of the positions below
+  pub round_more : (all : List A) (k n : ℕ) (ys zs : List A) (went : Bool) (x y : A) (b : Bool) → n ≡ k + 1
+      → slice_get all k ≡ Some x → zs ≡ ys ++ y ∷ [] → goes x y b → RoundOf goes (take k all) ys went
+      → RoundOf goes (take n all) zs (went || b)
+  round_more all k n ys zs went x y b next at push turn so_far =
+      let one = turned_both (take k all) ys so_far.answers (x ∷ []) (y ∷ []) (b ∷ []) so_far.turned (turn, tt) in
+      let pushed = subst (λ (l : List A). EachTurned goes (take k all ++ x ∷ []) l (so_far.answers ++ b ∷ [])) (sym push) one in
+      record {
+        answers = so_far.answers ++ b ∷ [];
+        turned = subst (λ (l : List A). EachTurned goes l zs (so_far.answers ++ b ∷ []))
+            (sym (ap (λ j. take j all) next ∙ take_next all k x at)) pushed;
+        any = ap₂ ◌||◌ so_far.any (sym (or-false b)) ∙ sym (list_any-append (λ c. c) so_far.answers (b ∷ []));
+      }

@@ -1,21 +1,31 @@
-//! A round: the tasks are cut into contiguous shares, one for each worker, and all workers run at once.
-ghost use Rattle.std.specs.Prelude.{◌≡◌, ◌+◌, ◌<◌, ◌≤◌, ◌^◌, length, IfOk, IfErr};
-ghost use denote.Param.Send.{IsSend, IsSync};
+//! A round: the tasks are dealt into deques, one for each worker, and the workers run at once and steal from each other.
+ghost use Rattle.std.specs.Prelude.{◌≡◌, ◌<◌, ◌≤◌, [], length, vec_capacity, IfOk, IfErr};
+ghost use Rattle.rgo_sched.specs.Crew.{Every, HasAllParts, IsCrew, New, NoneLost};
 ghost use Rattle.rgo_sched.specs.Rounds.{RoundOf};
 
+use crate::alone::turn_in_order;
+use crate::crew::{Worker, hand_out, new_crew, take_back};
+use crate::deal::{deal, give_back};
+use crate::deques::TaskStealer;
+use crate::gather::{empty_results, gather_all};
+use crate::queued::{Before, Done};
 use crate::tasks::Task;
+use crate::work::work_all;
 use rgo_outside::Gate;
 use std::alloc::AllocError;
-use std::thread::{Threads, join_mut};
+use std::marker::Brand;
+use std::thread::Threads;
 
-/// Gives each task one turn, and says whether any went on. The tasks keep their positions.
+/// Gives each task one turn, and returns whether any went on. The tasks keep their positions.
 ///
-/// There are at most `workers` workers, each with at least one task and none with two more than another. The first runs
-/// in the caller's thread and each other one in a thread of its own, all at once; where the system makes no thread, they
-/// run one after the other. Before its first turn each arrives at the gate, in round `number`.
+/// The task at position k is dealt to worker k modulo `workers`. Each worker that was dealt one arrives at the gate, in round
+/// `number`, before its first turn. It turns its own tasks in ascending order, and then steals: it asks each other worker once,
+/// in ascending order, and begins anew until no worker has a task for it. A worker that was dealt nothing steals, too. The
+/// workers run at once, one of them in the caller's thread and each other one in a thread of its own; where the system makes
+/// no thread, they run one after the other.
 ///
-/// If memory is refused, that is before any turn.
-pub fn round<R: Threads + Sync, T: Task + Send, G: Gate + Sync>(
+/// If memory is refused, that is before any turn, and the tasks are as they were. One worker takes no memory.
+pub fn round<R: Threads + Sync, T: Task + Drop + Send, G: Gate + Sync>(
     rt: &R,
     tasks: &mut Vec<T>,
     workers: u32,
@@ -26,97 +36,88 @@ pub fn round<R: Threads + Sync, T: Task + Send, G: Gate + Sync>(
     ensures ok { IfOk result (λ went. RoundOf T.goes tasks.old.items tasks.new.items went) }
     ensures err { IfErr result (λ _. tasks.new ≡ tasks.old) }
 {
-    let count = tasks.len().min(workers as usize) as u32;
-    if count == 0 {
+    if tasks.is_empty() {
         return Ok(false);
     }
-    Ok(turn_at_once(rt, gate, number, 0, count, tasks.as_mut_slice()))
-}
-
-/// The turns of so many workers, numbered from `first` on, which run beside each other.
-#[cycle(halves)]
-fn turn_at_once<R: Threads + Sync, T: Task + Send, G: Gate + Sync>(
-    rt: &R,
-    gate: &G,
-    number: u64,
-    first: u32,
-    workers: u32,
-    tasks: &mut [T],
-) -> bool
-    requires some { 0 < workers }
-    requires numbers { first + workers < 2 ^ 32 }
-    ensures { RoundOf T.goes tasks.old tasks.new result }
-{
     if workers == 1 {
-        return turn_in_order(gate, number, first, tasks);
+        return Ok(turn_in_order(tasks.as_mut_slice(), number, gate));
     }
-    let low = workers / 2;
-    let (front, back) = tasks.split_at_mut(share(tasks.len(), workers, low));
-    let (own, others) = turn_halves(
-        rt,
-        gate,
-        number,
-        first,
-        low,
-        front,
-        first + low,
-        workers - low,
-        back,
-    );
-    own | others
+    round_of::<R, T, G, Brand>(rt, tasks, workers as usize, number, gate)
 }
 
-/// The turns of the first `low` workers in this thread, those of the next `high` in a new one. This stands apart from
-/// `turn_at_once` since a closure may ask only for what its function is given.
-#[cycle(halves)]
-fn turn_halves<R: Threads + Sync, T: Task + Send, G: Gate + Sync>(
+/// The round of several workers, of tasks that contracts know as `B.tasks`. All memory is taken first, while the tasks are still
+/// in their list.
+fn round_of<R: Threads + Sync, T: Task + Drop + Send, G: Gate + Sync, B: Before<T> + Send + Sync>(
     rt: &R,
-    gate: &G,
+    tasks: &mut Vec<T>,
+    workers: usize,
     number: u64,
-    first: u32,
-    low: u32,
-    front: &mut [T],
-    up: u32,
-    high: u32,
-    back: &mut [T],
-) -> (bool, bool)
-    requires low { (0 < low) × (first + low < 2 ^ 32) }
-    requires high { (0 < high) × (up + high < 2 ^ 32) }
-    ensures front { RoundOf T.goes front.old front.new result.0 }
-    ensures back { RoundOf T.goes back.old back.new result.1 }
+    gate: &G,
+) -> Result<bool, AllocError>
+    requires dealt { tasks.old.items ≡ B.tasks }
+    requires workers { (1 ≤ workers) × (workers ≤ 64) }
+    ensures ok { IfOk result (λ went. RoundOf T.goes tasks.old.items tasks.new.items went) }
+    ensures err { IfErr result (λ _. tasks.new ≡ tasks.old) }
 {
-    let (others, own) = join_mut(
+    let alloc = *tasks.allocator();
+    let count = tasks.len();
+    let mut results = empty_results::<T, B>(alloc, count)?;
+    let (crew, stealers) = new_crew::<T, B>(alloc, count, workers)?;
+    Ok(turn_all(
         rt,
-        &mut || -> bool
-            requires { IsSync R.row × IsSync G.row × IsSend T.row × (0 < high) × (up + high < 2 ^ 32) }
-            ensures { RoundOf T.goes back.entry.now back.exit.now result }
-        { turn_at_once(rt, gate, number, up, high, back) },
-        &mut || -> bool
-            requires { IsSync R.row × IsSync G.row × IsSend T.row × (0 < low) × (first + low < 2 ^ 32) }
-            ensures { RoundOf T.goes front.entry.now front.exit.now result }
-        { turn_at_once(rt, gate, number, first, low, front) },
-    );
-    (own, others)
+        tasks,
+        crew,
+        stealers.as_slice(),
+        results.as_mut_slice(),
+        number,
+        gate,
+    ))
 }
 
-/// How many of so many tasks the first `low` workers have. No worker has more than one task more than another.
-fn share(tasks: usize, workers: u32, low: u32) -> usize
-    requires { low < workers }
-    ensures { result ≤ tasks }
+/// The round once its memory is there.
+fn turn_all<R: Threads + Sync, T: Task + Drop + Send, G: Gate + Sync, B: Before<T> + Send + Sync>(
+    rt: &R,
+    tasks: &mut Vec<T>,
+    mut crew: Vec<Worker<T, B>>,
+    stealers: &[TaskStealer<T, B>],
+    results: &mut [Option<Done<T, B>>],
+    number: u64,
+    gate: &G,
+) -> bool
+    requires dealt { tasks.old.items ≡ B.tasks }
+    requires room { length B.tasks ≤ vec_capacity tasks.old }
+    requires size { length results.old ≡ length B.tasks }
+    requires some { 0 < length crew.items }
+    requires crew { IsCrew stealers.now (λ _. 0) crew.items }
+    requires new { Every (New (length B.tasks) (length stealers.now)) crew.items }
+    ensures { RoundOf T.goes B.tasks tasks.new.items result }
 {
-    let workers = workers as usize;
-    let low = low as usize;
-    tasks / workers * low + (tasks % workers).min(low)
+    play(rt, tasks, crew.as_mut_slice(), stealers, number, gate);
+    gather_all(crew, results);
+    give_back(results, tasks)
 }
 
-/// The turns of one worker, with what it has.
-fn turn_in_order<T: Task, G: Gate>(gate: &G, number: u64, worker: u32, tasks: &mut [T]) -> bool
-    ensures { RoundOf T.goes tasks.old tasks.new result }
+/// Deals the tasks, lets the workers work, and joins what they know.
+fn play<R: Threads + Sync, T: Task + Drop + Send, G: Gate + Sync, B: Before<T> + Send + Sync>(
+    rt: &R,
+    tasks: &mut Vec<T>,
+    crew: &mut [Worker<T, B>],
+    stealers: &[TaskStealer<T, B>],
+    number: u64,
+    gate: &G,
+)
+    requires dealt { tasks.old.items ≡ B.tasks }
+    requires some { 0 < length crew.old }
+    requires crew { IsCrew stealers.now (λ _. 0) crew.old }
+    requires new { Every (New (length B.tasks) (length stealers.now)) crew.old }
+    ensures none_lost { NoneLost (length B.tasks) crew.new }
+    ensures all { Every HasAllParts crew.new }
+    ensures len { length crew.new ≡ length crew.old }
+    ensures room { (tasks.new.items ≡ []) × (vec_capacity tasks.new ≡ vec_capacity tasks.old) }
 {
-    gate.arrive(worker, number);
-    let mut went = false;
-    for task in tasks {
-        went |= task.turn();
-    }
-    went
+    let count = tasks.len();
+    hand_out(crew, stealers);
+    deal(tasks, crew, stealers);
+    work_all(rt, crew, stealers, count, number, gate);
+    take_back(crew, stealers);
 }

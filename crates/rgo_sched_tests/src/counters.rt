@@ -97,6 +97,43 @@ fn each_counter_has_one_turn(rt: HostRuntime) -> Result<(), Fail> {
     short_lists_have_rounds(&rt, 2)?;
     short_lists_have_rounds(&rt, 4)?;
     short_lists_have_rounds(&rt, 7)?;
-    short_lists_have_rounds(&rt, 64)?;
-    has_rounds(&rt, 1_000, 7, 999)
+    for count in [0u32, 1, 3, 63, 64, 65] {
+        has_rounds(&rt, count, 64, 1)?;
+    }
+    has_rounds(&rt, 1_000, 1, 999)?;
+    has_rounds(&rt, 1_000, 2, 999)?;
+    has_rounds(&rt, 1_000, 7, 999)?;
+    has_rounds(&rt, 1_000, 64, 999)
+}
+
+fn boxes_have_a_round<R: Threads + Abort + AllocGlobal + Sync>(
+    rt: &R,
+    workers: u32,
+) -> Result<(), Fail>
+    requires { (1 ≤ workers) × (workers ≤ 64) }
+{
+    let mut tasks = Vec::new(rt.alloc());
+    for number in 0..100u32 {
+        tasks.push(Box::new(
+            rt.alloc(),
+            Counter {
+                number,
+                turns: 0,
+                last: 1,
+            },
+        )?)?;
+    }
+    let went = round(rt, &mut tasks, workers, 1, &NoGate)?;
+    assert!(rt; !went, "{workers} workers");
+    for (at, task) in tasks.iter().enumerate() {
+        assert_eq!(rt; task.number as usize, at, "{workers} workers");
+        assert_eq!(rt; task.turns, 1, "{workers} workers, at {at}");
+    }
+    Ok(())
+}
+
+#[test]
+fn each_counter_in_a_box_has_one_turn(rt: HostRuntime) -> Result<(), Fail> {
+    boxes_have_a_round(&rt, 1)?;
+    boxes_have_a_round(&rt, 4)
 }

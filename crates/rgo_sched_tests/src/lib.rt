@@ -1,5 +1,5 @@
 //! The tests of rounds on worker threads: what the tasks are afterwards, when the workers arrive, that they run beside
-//! each other, and tasks that share a lock. Tests of whole runs use [`Meeting`], too.
+//! each other and steal from each other, and tasks that share a lock. Tests of whole runs use [`Meeting`], too.
 #![tactic(auto)]
 
 #[cfg(test)]
@@ -11,5 +11,7 @@ mod gates;
 #[cfg(test)]
 mod locked;
 mod meetings;
+#[cfg(test)]
+mod stealing;
 
 pub use meetings::Meeting;

@@ -1,6 +1,6 @@
 use Rattle.std.proofs.Common.{arith}
 use Rattle.rgo_sched.proofs.RoundLemmas.{round_starts, round_goes_on, round_ends}
-use Rattle.rgo_sched.proofs.rounds.turn_in_order.Goals as goal
+use Rattle.rgo_sched.proofs.alone.turn_in_order.Goals as goal
 
 pub loop-task-init : goal.loop-task-init
 loop-task-init g c = round_starts g.T.Task.goes c.args.tasks.now

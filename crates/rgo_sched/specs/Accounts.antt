@@ -1,0 +1,54 @@
+-- What was put into a deque is what was taken from it and what it holds, position by position.
+use Rattle.std.specs.Prelude.{◌≡◌, ℕ, ◌+◌, ◌-◌, ◌++◌, List, [], ◌∷◌}
+use mathlib.Core.Option.{some}
+use lib.ListN.{get_elem?}
+use Rattle.rgo_sched.specs.declared.accounts.Account.{Account}
+
+-- the sum of a weight over a list
+abbrev pub total : {A : Type 0} → (A → ℕ) → List A → ℕ
+total f [] = 0
+total f (x ∷ xs) = f x + total f xs
+
+-- an account by its three fields
+abbrev pub account : ℕ → List ℕ → List ℕ → Account
+account parts put taken = record { parts = parts; put = put; taken = taken }
+
+-- what the owner of a new deque knows, what a new pass knows, and what one knows that was joined into another
+abbrev pub all_parts : Account
+all_parts = account 128 [] []
+
+abbrev pub one_part : Account
+one_part = account 1 [] []
+
+abbrev pub no_part : Account
+no_part = account 0 [] []
+
+-- what is left to who gives a part away
+abbrev pub less_one : Account → Account
+less_one v = account (v.parts - 1) v.put v.taken
+
+abbrev pub joined : Account → Account → Account
+joined v w = account (v.parts + w.parts) (v.put ++ w.put) (v.taken ++ w.taken)
+
+-- an account without a part has put and taken nothing
+abbrev pub IdleIsEmpty : List Account → Type 0
+IdleIsEmpty views = (port : ℕ) (v : Account) → get_elem? views port ≡ some v → v.parts ≡ 0 → (v.put ≡ []) × (v.taken ≡ [])
+
+-- The rule of a deque that holds these positions, over the accounts of all its passes. Its second field speaks of every
+-- weight of positions: of the weight 1 it says how many there are, and of `only k` that k is neither lost nor doubled.
+pub record Balanced (items : List ℕ) (views : List Account) : Type 0 where
+  pub whole : total (λ v. v.parts) views ≡ 128
+  pub even : (w : ℕ → ℕ) → total (λ v. total w v.put) views ≡ total (λ v. total w v.taken) views + total w items
+  pub idle : IdleIsEmpty views
+
+-- from v to w the positions xs were taken
+abbrev pub Took : Account → List ℕ → Account → Type 0
+Took v xs w = w ≡ account v.parts v.put (v.taken ++ xs)
+
+-- from v to w the positions xs were put
+abbrev pub Put : Account → List ℕ → Account → Type 0
+Put v xs w = w ≡ account v.parts (v.put ++ xs) v.taken
+
+-- what was taken from v to w is what the list of done tasks has more
+abbrev pub TookInto : Account → Account → List ℕ → List ℕ → Type 0
+TookInto v w old new = (xs : List ℕ) × Took v xs w × (new ≡ old ++ xs)

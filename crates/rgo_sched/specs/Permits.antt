@@ -1,0 +1,36 @@
+-- The permits by which a worker steals, one for each deque.
+use Rattle.std.specs.Prelude.{◌≡◌, ℕ, zero, suc, ◌+◌, ◌≤◌, List, [], length}
+use mathlib.Core.Option.{some}
+use lib.ListN.{get_elem?}
+use Rattle.crossbeam_deque.specs.Handles.{view, IsPassOf, stealer_deque}
+use Rattle.rgo_sched.specs.declared.deques.Permit.{Permit}
+use Rattle.rgo_sched.specs.Accounts.{total}
+use Rattle.rgo_sched.specs.Deques.{TaskStealer}
+
+-- how many permits for the deque i a worker has that has the first n
+abbrev pub permits_for : ℕ → ℕ → ℕ
+permits_for i zero = 0
+permits_for zero (suc n) = 1
+permits_for (suc i) (suc n) = permits_for i n
+
+module _ {T B : Type 0} where
+  -- a permit for the deque of this stealer, with one part, by which nothing was put
+  pub record Fits (s : TaskStealer) (p : Permit T B) : Type 0 where
+    pub table : IsPassOf (stealer_deque s) p.pass
+    pub part : (view p.pass).parts ≡ 1
+    pub none : (view p.pass).put ≡ []
+
+  -- the permit at each index is one for the deque of that index
+  pub record AllFit (stealers : List TaskStealer) (permits : List (Permit T B)) : Type 0 where
+    pub few : length permits ≤ length stealers
+    pub each : (i : ℕ) (s : TaskStealer) (p : Permit T B) → get_elem? stealers i ≡ some s → get_elem? permits i ≡ some p
+        → Fits s p
+
+  -- the weight of what was taken by these permits
+  abbrev pub stolen : (ℕ → ℕ) → List (Permit T B) → ℕ
+  stolen w permits = total (λ (p : Permit T B). total w (view p.pass).taken) permits
+
+  -- what was taken by the permits from ps to qs is what was done from ds to es
+  pub record Moved (ps qs : List (Permit T B)) (ds es : List ℕ) : Type 0 where
+    pub moved : (w : ℕ → ℕ) → stolen w qs + total w ds ≡ stolen w ps + total w es
+    pub same : length qs ≡ length ps

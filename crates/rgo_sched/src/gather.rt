@@ -1,0 +1,90 @@
+//! What the workers have done, position by position.
+ghost use Rattle.std.specs.Prelude.{◌≡◌, ℕ, ◌+◌, ◌<◌, ◌⊎◌, length, IfOk};
+ghost use Rattle.crossbeam_deque.specs.Handles.{worker_view, worker_flavor};
+ghost use Rattle.rgo_sched.specs.Accounts.{total};
+ghost use Rattle.rgo_sched.specs.Crew.{Every, HasAllParts, NoneLost, done_by, put_by};
+ghost use Rattle.rgo_sched.specs.Positions.{Filled, only};
+
+use crate::crew::Worker;
+use crate::deques::{TakesAlone, TaskDeque};
+use crate::queued::{Before, Done};
+use crate::tasks::Task;
+use std::alloc::{AllocError, Global};
+
+/// A place for each task.
+pub fn empty_results<T: Task + Drop, B: Before<T>>(
+    alloc: Global,
+    tasks: usize,
+) -> Result<Vec<Option<Done<T, B>>>, AllocError>
+    ensures { IfOk result (λ v. length v.items ≡ tasks) }
+{
+    let mut results = Vec::with_capacity(alloc, tasks)?;
+    for _ in 0..tasks {
+        results.push_reserved(None);
+    }
+    Ok(results)
+}
+
+/// Puts a task at its position.
+pub fn store<T: Task + Drop, B: Before<T>>(results: &mut [Option<Done<T, B>>], done: Done<T, B>)
+    requires { length results.old ≡ length B.tasks }
+    ensures here { Filled results.new done }
+    ensures kept { (k : ℕ) → Filled results.old k → Filled results.new k }
+    ensures size { length results.new ≡ length results.old }
+{
+    let at = done.at();
+    results[at] = Some(done);
+}
+
+/// Turns what is left in a deque. After a whole round nothing is: its worker has seen it empty, or was dealt nothing.
+fn drain<T: Task + Drop, B: Before<T>>(
+    own: &mut TaskDeque<T, B>,
+    results: &mut [Option<Done<T, B>>],
+)
+    requires size { length results.old ≡ length B.tasks }
+    requires all { (worker_view own.old).parts ≡ 128 }
+    requires fifo { worker_flavor own.old ≡ 0 }
+    ensures left { (k : ℕ) → Filled results.new k
+        ⊎ (total (only k) (worker_view own.old).put ≡ total (only k) (worker_view own.old).taken) }
+    ensures kept { (k : ℕ) → Filled results.old k → Filled results.new k }
+    ensures size { length results.new ≡ length results.old }
+{
+    while let Some(queued) = own.pop_as::<TakesAlone>() {
+        store(results, queued.turn());
+    }
+}
+
+/// Stores what one worker has done, and what its deque still holds.
+fn gather<T: Task + Drop, B: Before<T>>(
+    mut worker: Worker<T, B>,
+    results: &mut [Option<Done<T, B>>],
+)
+    requires size { length results.old ≡ length B.tasks }
+    requires all { (worker_view worker.own).parts ≡ 128 }
+    requires fifo { worker_flavor worker.own ≡ 0 }
+    ensures left { (k : ℕ) → Filled results.new k
+        ⊎ (put_by (only k) worker + done_by (only k) worker ≡ total (only k) (worker_view worker.own).taken) }
+    ensures kept { (k : ℕ) → Filled results.old k → Filled results.new k }
+    ensures size { length results.new ≡ length results.old }
+{
+    drain(&mut worker.own, results);
+    while let Some(done) = worker.done.pop() {
+        store(results, done);
+    }
+}
+
+/// Stores what all workers have done, after which each position has its task.
+pub fn gather_all<T: Task + Drop, B: Before<T>>(
+    mut crew: Vec<Worker<T, B>>,
+    results: &mut [Option<Done<T, B>>],
+)
+    requires size { length results.old ≡ length B.tasks }
+    requires all { Every HasAllParts crew.items }
+    requires none_lost { NoneLost (length B.tasks) crew.items }
+    ensures all { (k : ℕ) → k < length B.tasks → Filled results.new k }
+    ensures size { length results.new ≡ length results.old }
+{
+    while let Some(worker) = crew.pop() {
+        gather(worker, results);
+    }
+}
