@@ -1,5 +1,5 @@
 -- What a call passes, as the code goes over its lists from the front.
-use Rattle.std.proofs.Common.{◌≡◌, ℕ, zero, suc, ◌+◌, ◌<◌, ◌≤◌, Bool, true, false, not, ◌&&◌, ◌||◌, List, [], ◌∷◌, ⊎_elim, length, drop, map}
+use Rattle.std.proofs.Common.{◌≡◌, ◌⊎◌, ℕ, zero, suc, ◌+◌, ◌<◌, ◌≤◌, Bool, true, false, not, ◌&&◌, ◌||◌, List, [], ◌∷◌, ⊎_elim, length, drop, map}
 use Rattle.std.proofs.Common.{Option, Some, None, refl, sym, ap, ◌∙◌, arith, nat_eq, if◌then◌else◌}
 use Rattle.std.proofs.Common.{get_or, is_some, subst, ◌-◌}
 use Rattle.std.proofs.lemmas.List.{at_drop_more, get_or-map, length-map}
@@ -18,7 +18,7 @@ use Rattle.rgo_region_machine.specs.declared.regions.Region.TheVariants.{Global 
 use Rattle.rgo_region_machine.specs.Owed.{passed, passed_regions, given_names, same_class, stands_in, twice}
 use Rattle.rgo_region_machine.specs.Regions.{Bindings, bound, class_region, same_region}
 use Rattle.rgo_world.specs.declared.holders.Holder.{Holder}
-use Rattle.rgo_world.specs.Calls.{StandFor, UnbindsAll, class_in, bound_except}
+use Rattle.rgo_world.specs.Calls.{StandFor, UnbindsAll, class_in, bound_except, bound_first, or_else}
 use Rattle.rgo_world.specs.Holders.{Names, Same, SameElse, Unbinds, bound_in, bound_with, bound_without}
 
 -- ---- the regions that are passed
@@ -45,11 +45,6 @@ pub region_within : (names : Names) (cs : List Class) (i : ℕ) → i < length c
 region_within names cs i h = rw length-map h
 
 -- ---- the names that are given
-
--- what stands here, or else there
-abbrev pub or_else : Option Region → Option Region → Option Region
-or_else (Some r) other = Some r
-or_else None other = other
 
 pub or_none_same : (o : Option Region) → or_else o None ≡ o
 or_none_same (Some r) = refl
@@ -120,35 +115,66 @@ given_end lent (f ∷ fs) (p ∷ ps) protects (suc i) h =
 
 -- ---- a name that is given
 
--- a name that stood for none is given
-pub given_new : (names after : Names) (name : ℕ) (region : Region) (fs : List Class) (rs : List (Option Region)) (k : ℕ)
-    → bound_in names name ≡ None → bound_in after k ≡ bound_with names name region k
-    → or_else (bound_in after k) (bound (passed fs rs) k)
-    ≡ or_else (bound_in names k) (bound (passed (Name name ∷ fs) (Some region ∷ rs)) k)
-given_new names after name region fs rs k none is =
-    ap (λ o. or_else o (bound (passed fs rs) k)) is
-    ∙ go (nat_eq name k) (λ t. ap (bound_in names) (sym (eqb-true name k t)) ∙ none)
+none_some : (r : Region) → None ≡ Some r → ⊥
+none_some r e = true≢false (sym (ap is_some e))
+
+-- for a name that stands for what is passed for it, or for none if nothing is
+pub first_none : (names : Names) (name : ℕ) (passed : Option Region) (k : ℕ) → ((r : Region) → passed ≡ Some r → ⊥)
+    → bound_in names k ≡ bound_first names name passed k
+first_none names name (Some region) k none = absurd (none region refl)
+first_none names name None k none = go (nat_eq name k) (bound_in names k)
   where
-    go : (t : Bool) → (t ≡ true → bound_in names k ≡ None)
-        → or_else (if t then Some region else bound_in names k) (bound (passed fs rs) k)
-        ≡ or_else (bound_in names k) (if t then Some region else bound (passed fs rs) k)
-    go true f = ap (λ o. or_else o (Some region)) (sym (f refl))
-    go false f = refl
+    go : (t : Bool) (o : Option Region) → o ≡ or_else o (if t then None else None)
+    go t (Some r) = refl
+    go true None = refl
+    go false None = refl
 
 -- one that stood for a region stays
-pub given_kept : (names : Names) (name : ℕ) (region other : Region) (fs : List Class) (rs : List (Option Region)) (k : ℕ)
-    → bound_in names name ≡ Some other
-    → or_else (bound_in names k) (bound (passed fs rs) k)
-    ≡ or_else (bound_in names k) (bound (passed (Name name ∷ fs) (Some region ∷ rs)) k)
-given_kept names name region other fs rs k some =
-    go (nat_eq name k) (λ t. ap (bound_in names) (sym (eqb-true name k t)) ∙ some)
+pub first_kept : (names : Names) (name : ℕ) (passed : Option Region) (other : Region) (k : ℕ)
+    → bound_in names name ≡ Some other → bound_in names k ≡ bound_first names name passed k
+first_kept names name passed other k some =
+    go (nat_eq name k) (bound_in names k) (λ t. ap (bound_in names) (sym (eqb-true name k t)) ∙ some)
   where
-    go : (t : Bool) → (t ≡ true → bound_in names k ≡ Some other)
-        → or_else (bound_in names k) (bound (passed fs rs) k)
-        ≡ or_else (bound_in names k) (if t then Some region else bound (passed fs rs) k)
-    go true f =
-        ap (λ o. or_else o (bound (passed fs rs) k)) (f refl) ∙ ap (λ o. or_else o (Some region)) (sym (f refl))
-    go false f = refl
+    go : (t : Bool) (o : Option Region) → (t ≡ true → o ≡ Some other) → o ≡ or_else o (if t then passed else None)
+    go t (Some r) f = refl
+    go true None f = absurd (none_some other (f refl))
+    go false None f = refl
+
+-- one that stood for none is given
+pub first_new : (names after : Names) (name : ℕ) (region : Region) (k : ℕ)
+    → bound_in names name ≡ None → bound_in after k ≡ bound_with names name region k
+    → bound_in after k ≡ bound_first names name (Some region) k
+first_new names after name region k none is =
+    is ∙ go (nat_eq name k) (bound_in names k) (λ t. ap (bound_in names) (sym (eqb-true name k t)) ∙ none)
+  where
+    go : (t : Bool) (o : Option Region) → (t ≡ true → o ≡ None)
+        → (if t then Some region else o) ≡ or_else o (if t then Some region else None)
+    go true (Some r) f = absurd (none_some r (sym (f refl)))
+    go true None f = refl
+    go false (Some r) f = refl
+    go false None f = refl
+
+given_first : (names after : Names) (name : ℕ) (passed_for : Option Region) (fs : List Class) (rs : List (Option Region)) (k : ℕ)
+    → bound_in after k ≡ bound_first names name passed_for k
+    → or_else (bound_in after k) (bound (passed fs rs) k)
+    ≡ or_else (bound_in names k) (bound (passed (Name name ∷ fs) (passed_for ∷ rs)) k)
+given_first names after name None fs rs k is =
+    ap (λ o. or_else o (bound (passed fs rs) k)) is ∙ go (nat_eq name k) (bound_in names k)
+  where
+    go : (t : Bool) (o : Option Region)
+        → or_else (or_else o (if t then None else None)) (bound (passed fs rs) k) ≡ or_else o (bound (passed fs rs) k)
+    go t (Some r) = refl
+    go true None = refl
+    go false None = refl
+given_first names after name (Some region) fs rs k is =
+    ap (λ o. or_else o (bound (passed fs rs) k)) is ∙ go (nat_eq name k) (bound_in names k)
+  where
+    go : (t : Bool) (o : Option Region)
+        → or_else (or_else o (if t then Some region else None)) (bound (passed fs rs) k)
+        ≡ or_else o (if t then Some region else bound (passed fs rs) k)
+    go t (Some r) = refl
+    go true None = refl
+    go false None = refl
 
 -- ---- names that are taken away
 
@@ -313,59 +339,27 @@ twice_more q rs o is =
 
 -- ---- one step of the loop over what is given
 
-pub none_from : (o : Option Region) → is_some o ≡ false → o ≡ None
-none_from None e = refl
-none_from (Some r) e = absurd (true≢false e)
+-- a class without a name
+pub not_named : (class : Class) → ((class ≡ NoClass) ⊎ (class ≡ Global)) → (k : ℕ) → class ≡ Name k → ⊥
+not_named class is k named = ⊎_elim (λ e. cc) (λ e. cc) is
 
-pub step_new : (fs : List Class) (rs : List (Option Region)) (i : ℕ) (names after : Names) (name : ℕ) (region : Region) (k : ℕ)
-    → i < length fs → i < length rs → get_or fs i NoClass ≡ Name name → get_or rs i None ≡ Some region
-    → bound_in names name ≡ None → bound_in after k ≡ bound_with names name region k
+pub step_first : (fs : List Class) (rs : List (Option Region)) (i : ℕ) (names after : Names) (name : ℕ) (r : Option Region) (k : ℕ)
+    → i < length fs → i < length rs → get_or fs i NoClass ≡ Name name → get_or rs i None ≡ r
+    → bound_in after k ≡ bound_first names name r k
     → or_else (bound_in after k) (bound (passed (drop (i + 1) fs) (drop (i + 1) rs)) k)
     ≡ or_else (bound_in names k) (bound (passed (drop i fs) (drop i rs)) k)
-step_new fs rs i names after name region k a b f r none is =
-    given_new names after name region (drop (i + 1) fs) (drop (i + 1) rs) k none is
+step_first fs rs i names after name r k a b f e is =
+    given_first names after name r (drop (i + 1) fs) (drop (i + 1) rs) k is
     ∙ ap (λ p. or_else (bound_in names k) (bound p k))
     (sym (passed_at fs rs i NoClass None a b
     ∙ ap (λ x. passed (x ∷ drop (i + 1) fs) (get_or rs i None ∷ drop (i + 1) rs)) f
-    ∙ ap (λ x. passed (Name name ∷ drop (i + 1) fs) (x ∷ drop (i + 1) rs)) r))
-
-pub step_kept : (fs : List Class) (rs : List (Option Region)) (i : ℕ) (names : Names) (name : ℕ) (region : Region) (k : ℕ)
-    → i < length fs → i < length rs → get_or fs i NoClass ≡ Name name → get_or rs i None ≡ Some region
-    → is_some (bound_in names name) ≡ true
-    → or_else (bound_in names k) (bound (passed (drop (i + 1) fs) (drop (i + 1) rs)) k)
-    ≡ or_else (bound_in names k) (bound (passed (drop i fs) (drop i rs)) k)
-step_kept fs rs i names name region k a b f r some =
-    go (bound_in names name) refl some
-    ∙ ap (λ p. or_else (bound_in names k) (bound p k))
-    (sym (passed_at fs rs i NoClass None a b
-    ∙ ap (λ x. passed (x ∷ drop (i + 1) fs) (get_or rs i None ∷ drop (i + 1) rs)) f
-    ∙ ap (λ x. passed (Name name ∷ drop (i + 1) fs) (x ∷ drop (i + 1) rs)) r))
-  where
-    go : (o : Option Region) → bound_in names name ≡ o → is_some o ≡ true
-        → or_else (bound_in names k) (bound (passed (drop (i + 1) fs) (drop (i + 1) rs)) k)
-        ≡ or_else (bound_in names k)
-        (bound (passed (Name name ∷ drop (i + 1) fs) (Some region ∷ drop (i + 1) rs)) k)
-    go (Some other) e t = given_kept names name region other (drop (i + 1) fs) (drop (i + 1) rs) k e
-    go None e t = absurd (true≢false (sym t))
-
-nothing_passed : (f : Class) (fs : List Class) (rs : List (Option Region))
-    → passed fs rs ≡ passed (f ∷ fs) (None ∷ rs)
-nothing_passed NoClass fs rs = refl
-nothing_passed Global fs rs = refl
-nothing_passed (Name k) fs rs = refl
+    ∙ ap (λ x. passed (Name name ∷ drop (i + 1) fs) (x ∷ drop (i + 1) rs)) e))
 
 nothing_named : (f : Class) (r : Option Region) (fs : List Class) (rs : List (Option Region))
     → ((k : ℕ) → f ≡ Name k → ⊥) → passed fs rs ≡ passed (f ∷ fs) (r ∷ rs)
 nothing_named NoClass r fs rs other = refl
 nothing_named Global r fs rs other = refl
 nothing_named (Name k) r fs rs other = absurd (other k refl)
-
-pub step_none : (fs : List Class) (rs : List (Option Region)) (i : ℕ) → i < length fs → i < length rs
-    → get_or rs i None ≡ None → passed (drop (i + 1) fs) (drop (i + 1) rs) ≡ passed (drop i fs) (drop i rs)
-step_none fs rs i a b r =
-    nothing_passed (get_or fs i NoClass) (drop (i + 1) fs) (drop (i + 1) rs)
-    ∙ sym (passed_at fs rs i NoClass None a b
-    ∙ ap (λ x. passed (get_or fs i NoClass ∷ drop (i + 1) fs) (x ∷ drop (i + 1) rs)) r)
 
 pub step_other : (fs : List Class) (rs : List (Option Region)) (i : ℕ) → i < length fs → i < length rs
     → ((k : ℕ) → get_or fs i NoClass ≡ Name k → ⊥)
@@ -437,10 +431,6 @@ unbinds_since a b d given same h =
 pub unbinds_from : (a b d : Holder) (given : List ℕ) → a ≡ b → UnbindsAll a d given → UnbindsAll b d given
 unbinds_from a b d given e h = subst (λ x. UnbindsAll x d given) e h
 
-pub none_unless : (o : Option Region) → ((r : Region) → o ≡ Some r → ⊥) → o ≡ None
-none_unless None other = refl
-none_unless (Some r) other = absurd (other r refl)
-
 -- ---- one step of the loop from the back
 
 pub twice_step : (rs : List (Option Region)) (j q : ℕ) (o : Option Bool) → j < length rs
@@ -485,7 +475,24 @@ stands_from_some q rs b e = go (stands_in (Numbered q) rs) _ e
     go true t e = refl
     go false t e = absurd (true≢false (ap is_some e))
 
+-- what was seen twice is still that once it stands at one place more
+pub seen_still : (f : ℕ → Option Bool) (rs : List (Option Region)) (j q r : ℕ) → j < length rs
+    → get_or rs j None ≡ Some (Numbered q) → Some true ≡ f q → ((k : ℕ) → f k ≡ seen_in k (drop (j + 1) rs))
+    → f r ≡ seen_in r (drop j rs)
+seen_still f rs j q r h at got same = go (nat_eq q r) refl ∙ sym (seen_step rs j q r h at)
+  where
+    go : (t : Bool) → nat_eq q r ≡ t
+        → f r ≡ (if t then Some (stands_in (Numbered q) (drop (j + 1) rs)) else seen_in r (drop (j + 1) rs))
+    go true e =
+        ap f (sym (eqb-true q r e)) ∙ sym got
+        ∙ ap Some (sym (stands_from_some q (drop (j + 1) rs) true (got ∙ same q)))
+    go false e = same r
+
 -- what holds if a call succeeded, which it did
 pub since_ok : {A E : Type 0} (r : Result A E) (P : Type 0) → is_err r ≡ false → OnOk r P → P
 since_ok (Ok a) P e h = h
 since_ok (Err x) P e h = absurd (true≢false e)
+
+pub on_ok : {A E : Type 0} (r : Result A E) (P Q : Type 0) → (P → Q) → OnOk r P → OnOk r Q
+on_ok (Ok a) P Q f h = f h
+on_ok (Err x) P Q f h = h

@@ -22,6 +22,15 @@ abbrev pub or_nothing : {X : Type 0} → Option (List X) → List X
 or_nothing None = []
 or_nothing (Some xs) = xs
 
+-- what stands here, or else there
+abbrev pub or_else : Option Region → Option Region → Option Region
+or_else (Some r) other = Some r
+or_else None other = other
+
+-- what a name stands for once this one stands for the region that is passed for it, if it stood for none
+abbrev pub bound_first : Names → (name : ℕ) → (passed : Option Region) → (k : ℕ) → Option Region
+bound_first names name passed k = or_else (bound_in names k) (if nat_eq name k then passed else None)
+
 -- the region of a class
 abbrev pub class_in : Names → Class → Option Region
 class_in names NoClass = None

@@ -1,12 +1,13 @@
 //! Calls, starts and returns, as far as regions go.
 
-ghost use Rattle.std.specs.Prelude.{◌≡◌, [], List, IfOk, OnOk, map, slice_get};
+ghost use Rattle.std.specs.Prelude.{◌≡◌, [], ℕ, List, IfOk, OnOk, map, slice_get};
 ghost use Rattle.std.specs.List.Sorted.{IsStrictlyIncreasing};
 ghost use Rattle.rgo_region_machine.specs.Owed as owed;
 ghost use Rattle.rgo_region_machine.specs.Regions.{Bindings, bound};
 ghost use Rattle.rgo_region_machine.specs.declared.regions.Region.TheVariants.{Numbered};
 ghost use Rattle.rgo_world.specs.Calls as spec;
 ghost use Rattle.rgo_world.specs.Calls.{or_nothing};
+ghost use Rattle.rgo_world.specs.Holders.{bound_in};
 ghost use Rattle.rgo_world.specs.Works.{IsNextOfSome, SameRun};
 ghost use Rattle.rgo_world.specs.Worlds.{Prepared};
 
@@ -45,6 +46,23 @@ fn passed_regions(
     Ok(regions)
 }
 
+/// A name stands for the region that is passed for it, if one is. The first of two equal names counts.
+///
+/// # Errors
+///
+/// On allocation failure.
+fn bind_first(names: &mut Names, name: u32, passed: Option<Region>) -> Result<(), AllocError>
+    ensures { OnOk result ((k : ℕ) → bound_in names.new.items k ≡ spec.bound_first names.old.items name passed k) }
+{
+    let Some(region) = passed else {
+        return Ok(());
+    };
+    match region_of(names, name) {
+        Some(_) => Ok(()),
+        None => bind(names, name, region),
+    }
+}
+
 /// The names of a called function stand for the regions that are passed by the names of the caller.
 ///
 /// # Errors
@@ -61,13 +79,9 @@ fn fill(
         → spec.StandFor names.new.items (owed.passed formals.now (owed.passed_regions bindings passes.now))) }
 {
     for i in 0..formals.len().min(passes.len()) {
-        if let Class::Name(name) = formals[i] {
-            if let Some(region) = region_by(callers, passes[i]) {
-                // The first of two equal names counts.
-                if region_of(names, name).is_none() {
-                    bind(names, name, region)?;
-                }
-            }
+        match formals[i] {
+            Class::NoClass | Class::Global => {}
+            Class::Name(name) => bind_first(names, name, region_by(callers, passes[i]))?,
         }
     }
     Ok(())
@@ -139,9 +153,12 @@ fn leave_given(
         → spec.UnbindsAll holder.old holder.new (owed.given_names lent formals.now passes.now protects.now) }
 {
     for i in 0..formals.len().min(passes.len()) {
-        if let Class::Name(name) = passes[i] {
-            if !same_class(formals[i], lent) && protects.binary_search(&name).is_err() {
-                holder.unbind(name);
+        match passes[i] {
+            Class::NoClass | Class::Global => {}
+            Class::Name(name) => {
+                if !same_class(formals[i], lent) && protects.binary_search(&name).is_err() {
+                    holder.unbind(name);
+                }
             }
         }
     }

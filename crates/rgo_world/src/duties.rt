@@ -252,9 +252,12 @@ impl<'a> World<'a> {
         }
         let mut shared = HashMap::new(alloc);
         for class in passes {
-            if let Class::Name(name) = class {
-                self.share(g, *name, &mut shared)?;
-                self.count_done(g)?;
+            match *class {
+                Class::NoClass | Class::Global => {}
+                Class::Name(name) => {
+                    self.share(g, name, &mut shared)?;
+                    self.count_done(g)?;
+                }
             }
         }
         Ok(())

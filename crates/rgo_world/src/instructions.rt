@@ -376,6 +376,23 @@ impl<'a> World<'a> {
         turned
     }
 
+    /// A goroutine's next instruction, before which nothing is left to do, with what it owes after it.
+    fn perform(&mut self, alloc: Global, limits: Limits, g: usize, next: &Next<'a>) -> Turned
+        requires next { IsNextOf self.old g next.now }
+        requires ready { IsReady self.old limits g }
+        ensures takes { (s : RegionState) → Ready self.old s g → is_within limits (plain_at s self.old.state.printed) ≡ true
+            → TakesStep self.old self.new limits s g 1 result }
+    {
+        match next.op {
+            Op::Call { function, .. } => self.call(alloc, limits, g, next, function as usize),
+            Op::Go { function, .. } => self.start(alloc, limits, g, next, function as usize),
+            Op::Return(_) => self.give_back(alloc, limits, g),
+            Op::Do { .. } | Op::Print { .. } | Op::Jump(_) | Op::Branch { .. } => self.act(
+                alloc, limits, g, next,
+            ),
+        }
+    }
+
     /// A goroutine's next instruction, with what it owes before and after it.
     pub(crate) fn step(&mut self, alloc: Global, limits: Limits, g: usize) -> Turned
         requires on { IsOn self.old limits }
@@ -388,16 +405,8 @@ impl<'a> World<'a> {
             };
         };
         match self.prepare(alloc, g, &next) {
-            Ok(()) => {}
-            Err(halt) => return halt.turned(),
-        }
-        match next.op {
-            Op::Call { function, .. } => self.call(alloc, limits, g, &next, function as usize),
-            Op::Go { function, .. } => self.start(alloc, limits, g, &next, function as usize),
-            Op::Return(_) => self.give_back(alloc, limits, g),
-            Op::Do { .. } | Op::Print { .. } | Op::Jump(_) | Op::Branch { .. } => self.act(
-                alloc, limits, g, &next,
-            ),
+            Ok(()) => self.perform(alloc, limits, g, &next),
+            Err(halt) => halt.turned(),
         }
     }
 }

@@ -1,9 +1,8 @@
 use Rattle.std.proofs.Common.{◌≡◌, ℕ, drop, map}
 use Rattle.rgo_region_machine.specs.Owed.{passed}
 use Rattle.rgo_region_machine.specs.Regions.{bound}
-use Rattle.rgo_world.specs.Calls.{class_in}
+use Rattle.rgo_world.specs.Calls.{class_in, or_else}
 use Rattle.rgo_world.specs.Holders.{bound_in}
-use Rattle.rgo_world.proofs.CallsPassing.{or_else}
 use Rattle.rgo_world.proofs.calls.fill.Given as goal
 
 abbrev pub invariant-loop-i : goal.invariant-loop-i

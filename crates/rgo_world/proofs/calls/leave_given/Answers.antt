@@ -1,7 +1,7 @@
 use Rattle.std.proofs.Common.{◌∙◌, ◌<◌, ◌+◌, ap, sym, drop, not, length, arith}
-use Rattle.rgo_world.proofs.CallsPassing.{any_in, given_end, left_at, left_given, left_lent, left_other, left_protected, unbinds_as, unbinds_from, unbinds_more, unbinds_none}
+use Rattle.rgo_world.proofs.CallsPassing.{any_in, given_end, left_at, left_given, left_lent, left_other, left_protected, not_named, unbinds_as, unbinds_from, unbinds_more, unbinds_none}
 use Rattle.rgo_world.proofs.calls.leave_given.Goals as goal
-use Rattle.rgo_world.proofs.calls.leave_given.Goals.{in-Name+then-not-same_class+then-is_err, in-Name+else-not-same_class, else-not-same_class-via-then-not-same_class+else-is_err, else-not-same_class-via-else-not-same_class, in_default}
+use Rattle.rgo_world.proofs.calls.leave_given.Goals.{in-Name+then-not-same_class+then-is_err, in-Name+else-not-same_class, else-not-same_class-via-then-not-same_class+else-is_err, else-not-same_class-via-else-not-same_class, in-NoClass}
 
 pub loop-i-preserved : goal.loop-i-preserved
 loop-i-preserved c = λ rising d h.
@@ -42,9 +42,9 @@ loop-i-preserved c = λ rising d h.
                 (sym w.same_class.ensures ∙ w'.if-not-same_class.false) ∙ at)
                 kept)
           ]
-      | in_default w ↦
+      | in-NoClass w ↦
           c.loop-i.invariant rising d
-          (unbinds_as c.loop-i.holder d _ _ (left_other lent fs ps protects i a b w.in_default.not-Name) (unbinds_from _ _ d _ w.holder-is h))
+          (unbinds_as c.loop-i.holder d _ _ (left_other lent fs ps protects i a b (not_named _ w.in-NoClass.is)) (unbinds_from _ _ d _ w.holder-is h))
     ]
 
 pub returns : goal.returns

@@ -1,6 +1,6 @@
 use Rattle.std.proofs.Common.{ap, sym, subst, ◌∙◌}
 use Rattle.rgo_world.specs.Works.{TakesStep}
-use Rattle.rgo_world.proofs.ActParts.{made_next, makes_then, making_then, removes_next, removes_then, turn_halted}
+use Rattle.rgo_world.proofs.ActParts.{made_next, makes_then, making_then, never_newest, ready_then, removes_next, removes_then, turn_halted}
 use Rattle.rgo_world.proofs.worlds.World.act.Goals as goal
 
 pub act_only-requires-clause-makes : goal.act_only-requires-clause-makes
@@ -45,3 +45,24 @@ returns-in-Err c = record {
       (sym c.turned.ensures)
       (turn_halted c.in-Err.halt c.args.self.now c.make_room.new.self s c.args.limits c.args.g ready c.in-Err.ensures);
 }
+
+pub returns-in_default : goal.returns-in_default
+returns-in_default c = record {
+  takes = λ s ready within. absurd (never_newest c.args.self.now c.args.g c.args.next.now c.requires.next c.in_default.ensures);
+}
+
+pub act_only-requires-clause-kind : goal.act_only-requires-clause-kind
+act_only-requires-clause-kind c = c.requires.kind
+
+pub act_only-requires-clause-ready : goal.act_only-requires-clause-ready
+act_only-requires-clause-ready c = c.requires.ready
+
+pub returns-in_default-next_object : goal.returns-in_default-next_object
+returns-in_default-next_object c = record { takes = c.act_only.ensures.takes }
+
+pub act_making-requires-clause-kind : goal.act_making-requires-clause-kind
+act_making-requires-clause-kind c = c.requires.kind
+
+pub act_making-requires-clause-ready : goal.act_making-requires-clause-ready
+act_making-requires-clause-ready c = ready_then c.args.self.now c.make_room.new.self c.args.limits c.args.g
+    c.args.next.now c.in-Some-next_object.making c.in-Ok.ensures c.requires.ready

@@ -25,3 +25,24 @@ returns-clause-begun c =
     (λ bindings same. c.in_ok-fill.ensures bindings
     (subst (λ l. StandFor l bindings) (sym c.names-callers.ensures) same))
     (c.in_ok-base.ensures ∙ ap twice c.deref-3.ensures.value)
+
+pub returns-clause-same : goal.returns-clause-same
+returns-clause-same c = record { code = refl; sizes = refl; print = refl }
+
+pub returns-in_default-clause-same : goal.returns-in_default-clause-same
+returns-in_default-clause-same c = record { code = refl; sizes = refl; print = refl }
+
+pub returns-in_err-fill-clause-same : goal.returns-in_err-fill-clause-same
+returns-in_err-fill-clause-same c = record { code = refl; sizes = refl; print = refl }
+
+pub returns-in_err-regions-clause-same : goal.returns-in_err-regions-clause-same
+returns-in_err-regions-clause-same c = record { code = refl; sizes = refl; print = refl }
+
+pub returns-in_err-base-clause-same : goal.returns-in_err-base-clause-same
+returns-in_err-base-clause-same c = record { code = refl; sizes = refl; print = refl }
+
+pub returns-in_err-new-clause-same : goal.returns-in_err-new-clause-same
+returns-in_err-new-clause-same c = record { code = refl; sizes = refl; print = refl }
+
+pub returns-in_err-push-clause-same : goal.returns-in_err-push-clause-same
+returns-in_err-push-clause-same c = record { code = refl; sizes = refl; print = refl }

@@ -27,3 +27,18 @@ pub returns-in_default-clause-created : goal.returns-in_default-clause-created
 returns-in_default-clause-created c = λ rest s works.
     absurd (nowhere c.args.self.now s c.args.g (Create c.args.name ∷ rest) works
     (slice_get_past c.args.self.now.holders.items c.args.g c.in_default.ensures.item.3))
+
+pub returns-in_err-r-clause-same : goal.returns-in_err-r-clause-same
+returns-in_err-r-clause-same c = record { code = refl; sizes = refl; print = refl }
+
+pub returns-in_err-bind-clause-same : goal.returns-in_err-bind-clause-same
+returns-in_err-bind-clause-same c = record { code = refl; sizes = refl; print = refl }
+
+pub returns-in_ok-bind-clause-same : goal.returns-in_ok-bind-clause-same
+returns-in_ok-bind-clause-same c = record { code = refl; sizes = refl; print = refl }
+
+pub returns-in_default-clause-same : goal.returns-in_default-clause-same
+returns-in_default-clause-same c = record { code = refl; sizes = refl; print = refl }
+
+pub returns-in_default-clause-done : goal.returns-in_default-clause-done
+returns-in_default-clause-done c = refl

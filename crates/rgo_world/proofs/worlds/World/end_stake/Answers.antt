@@ -1,7 +1,12 @@
-use Rattle.std.proofs.Common.{refl, sym, ap, ◌∙◌}
+use Rattle.std.proofs.Common.{refl, sym, ap, ◌∙◌, ◌≡◌, Some, None}
+use Rattle.std.proofs.lemmas.Option.{slice_get_past}
 use Rattle.std.specs.Vec.{with_item}
 use Rattle.rgo_world.proofs.Attending.{count_kept, ends_guarded, ends_unguarded, found, set_same}
+use Rattle.rgo_world.specs.declared.holders.Holder.{Holder}
 use Rattle.rgo_world.proofs.worlds.World.end_stake.Goals as goal
+
+nothing_there : (x : Holder) → Some x ≡ None → ⊥
+nothing_there x e = cc
 
 pub returns-then-guards-clause-ended : goal.returns-then-guards-clause-ended
 returns-then-guards-clause-ended c =
@@ -43,3 +48,23 @@ returns-clause-done c =
     let w = c.args.self.now in
     count_kept w.holders.items c.args.g c.in-Some.holder.now c.leave.new.self
     (found w.holders.items c.args.g c.in-Some.holder.now item.3.0 item.1) c.leave.ensures.1.done
+
+pub returns-in_default-clause-ended : goal.returns-in_default-clause-ended
+returns-in_default-clause-ended c = rw c.in_default.is (record { moved = refl; table = refl; memory = refl; holders = refl })
+
+pub returns-in_default-clause-done : goal.returns-in_default-clause-done
+returns-in_default-clause-done c = refl
+
+pub returns-in_default-get_mut-clause-ended : goal.returns-in_default-get_mut-clause-ended
+returns-in_default-get_mut-clause-ended c =
+    rw c.in-Numbered.is (λ x e. absurd (nothing_there x (sym e ∙ slice_get_past c.args.self.now.holders.items c.args.g c.in_default-get_mut.ensures.item.3)))
+
+pub returns-in_default-get_mut-clause-done : goal.returns-in_default-get_mut-clause-done
+returns-in_default-get_mut-clause-done c = refl
+
+pub returns-then-guards-clause-done : goal.returns-then-guards-clause-done
+returns-then-guards-clause-done c =
+    let item = c.in-Some.ensures.item in
+    let w = c.args.self.now in
+    count_kept w.holders.items c.args.g c.in-Some.holder.now c.in-Some.holder.now
+    (found w.holders.items c.args.g c.in-Some.holder.now item.3.0 item.1) refl

@@ -28,3 +28,15 @@ returns-clause-entered c =
     (c.leave_given.ensures (subst IsStrictlyIncreasing (sym c.protects.ensures)
     (protects_rise w next c.requires.prepared c.requires.next))))
     c.in_ok-enter.ensures.enters c.in_ok-fill.ensures)
+
+pub returns-clause-same : goal.returns-clause-same
+returns-clause-same c = record { code = refl; sizes = refl; print = refl }
+
+pub returns-in_default-clause-same : goal.returns-in_default-clause-same
+returns-in_default-clause-same c = record { code = refl; sizes = refl; print = refl }
+
+pub returns-in_err-fill-clause-same : goal.returns-in_err-fill-clause-same
+returns-in_err-fill-clause-same c = record { code = refl; sizes = refl; print = refl }
+
+pub returns-in_err-enter-clause-same : goal.returns-in_err-enter-clause-same
+returns-in_err-enter-clause-same c = record { code = refl; sizes = refl; print = refl }

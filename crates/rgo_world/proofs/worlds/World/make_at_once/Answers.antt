@@ -1,4 +1,4 @@
-use Rattle.std.proofs.Common.{rules, ◌≡◌, ◌-◌, ◌∷◌, ◌∙◌, true, Some, ap, arith, drop, length, refl, reverse, slice_get, sym, subst}
+use Rattle.std.proofs.Common.{slice_set, ◌≡◌, ◌-◌, ◌∷◌, ◌∙◌, true, Some, ap, arith, drop, length, refl, reverse, slice_get, sym, subst}
 use Rattle.std.specs.Vec.{vec_len}
 use Rattle.std.proofs.lemmas.Option.{slice_get_read}
 use Rattle.rgo_memory.specs.Channels.{SameChannels}
@@ -10,14 +10,11 @@ use Rattle.rgo_tac.specs.Steps.{act, stand}
 use Rattle.rgo_code.specs.Erasure.{erased}
 use Rattle.rgo_world.specs.declared.worlds.World.{World}
 use Rattle.rgo_world.specs.Works.{MayStep}
-use Rattle.rgo_world.proofs.AtOnce.{goes_once}
+use Rattle.rgo_world.proofs.AtOnce.{goes_once, world_same, world_then}
 use Rattle.rgo_world.proofs.worlds.World.make_at_once.Goals as goal
 
 pub returns-in_default : goal.returns-in_default
-returns-in_default c =
-    let v = c.self.view_is in
-    let e = c.in_default.ensures in
-    search (rules, v, e)
+returns-in_default c = c.self.view_is
 
 pub returns-in_default-last_mut : goal.returns-in_default-last_mut
 returns-in_default-last_mut c =
@@ -28,7 +25,7 @@ returns-in_default-last_mut c =
     subst (λ (w : World). slice_get w.state.goroutines c.args.g ≡ Some c.in-Some.goroutine.now) v
     (slice_get_read _ _ c.args.g c.in-Some.goroutine.now refl item.3.0 item.1) in
     let same = set_same c.args.self.now.state.goroutines c.args.g c.in-Some.goroutine.now read in
-    search (rules, v, b, same)
+    world_same _ c.args.self.now c.args.g _ _ _ v (ap (λ (u : World). u.state.memory) v) b same
 
 pub returns-then-not-make_object : goal.returns-then-not-make_object
 returns-then-not-make_object c =
@@ -47,7 +44,8 @@ returns-then-not-make_object c =
     let turned = ap reverse kept in
     let memory = c.if-not-make_object.ensures.goes.0 in
     let frame = c.if-not-make_object.ensures.goes.1 in
-    search (rules, v, b, same, kept, turned, memory, frame)
+    world_same _ c.args.self.now c.args.g _ _ _ v (memory ∙ ap (λ (u : World). u.state.memory) v)
+    (ap (λ f. reverse (slice_set frames.items (vec_len frames - 1) f)) frame ∙ turned ∙ b) same
 
 pub returns : goal.returns
 returns c =
@@ -71,7 +69,7 @@ returns c =
     let m = ap (λ (u : World). u.state.memory) v in
     let code = c.tac.ensures ∙ ap (λ (u : World). erased u.code.now) v in
     let sum = c.saturating_add-self-inside.ensures in
-    subst (λ u. MayStep w u g true) (search (rules, v, b, again, sum))
+    subst (λ u. MayStep w u g true) (world_then _ w g n _ _ (next ∷ callers) 1 _ v refl again sum)
     (goes_once w g n old next callers at
     (subst (λ code. GoesOn true (stand code old) (act code w.state.memory old) w.state.memory n old next) code
     (subst (λ k. GoesOn true (stand c.tac.result.now old) (act c.tac.result.now k old) k n old next) m

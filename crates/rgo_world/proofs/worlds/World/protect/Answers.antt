@@ -33,3 +33,25 @@ pub returns-in_default-clause-protected : goal.returns-in_default-clause-protect
 returns-in_default-clause-protected c = λ rest s works.
     absurd (nowhere c.args.self.now s c.args.g (Protect c.args.name ∷ rest) works
     (slice_get_past c.args.self.now.holders.items c.args.g c.in_default.ensures.item.3))
+
+pub returns-in_err-protect-clause-same : goal.returns-in_err-protect-clause-same
+returns-in_err-protect-clause-same c = record { code = refl; sizes = refl; print = refl }
+
+pub returns-in_ok-protect-clause-same : goal.returns-in_ok-protect-clause-same
+returns-in_ok-protect-clause-same c = record { code = refl; sizes = refl; print = refl }
+
+pub returns-in_default-region-clause-same : goal.returns-in_default-region-clause-same
+returns-in_default-region-clause-same c = record { code = refl; sizes = refl; print = refl }
+
+pub returns-in_default-clause-same : goal.returns-in_default-clause-same
+returns-in_default-clause-same c = record { code = refl; sizes = refl; print = refl }
+
+pub returns-in_default-clause-done : goal.returns-in_default-clause-done
+returns-in_default-clause-done c = refl
+
+pub returns-in_default-region-clause-done : goal.returns-in_default-region-clause-done
+returns-in_default-region-clause-done c =
+    let item = c.in-Some.ensures.item in
+    let w = c.args.self.now in
+    count_kept w.holders.items c.args.g c.in-Some.holder.now c.in-Some.holder.now
+    (found w.holders.items c.args.g c.in-Some.holder.now item.3.0 item.1) refl

@@ -43,3 +43,45 @@ returns-clause-shared c =
     (has_key c.insert.new.self) there (sym c.region.ensures ∙ c.in-Some-region.is ∙ ap Some c.in-Numbered.is)
     (sym c.contains_key.ensures ∙ c.if-contains_key.false) refl refl refl c.in_ok-share.ensures.shared
     (λ q. ap is_some (c.in-Ok.ensures.updates.0 q) ∙ key_added tt c.in-Numbered.r q (get nat_eq c.args.shared.now q))
+
+pub returns-in_default-clause-same : goal.returns-in_default-clause-same
+returns-in_default-clause-same c = record { code = refl; sizes = refl; print = refl }
+
+pub returns-in_default-region-clause-same : goal.returns-in_default-region-clause-same
+returns-in_default-region-clause-same c = record { code = refl; sizes = refl; print = refl }
+
+pub returns-in_default-region-2-clause-same : goal.returns-in_default-region-2-clause-same
+returns-in_default-region-2-clause-same c = record { code = refl; sizes = refl; print = refl }
+
+pub returns-then-contains_key-clause-same : goal.returns-then-contains_key-clause-same
+returns-then-contains_key-clause-same c = record { code = refl; sizes = refl; print = refl }
+
+pub returns-in-Err-clause-same : goal.returns-in-Err-clause-same
+returns-in-Err-clause-same c = record { code = refl; sizes = refl; print = refl }
+
+pub returns-in_err-share-clause-same : goal.returns-in_err-share-clause-same
+returns-in_err-share-clause-same c = record { code = refl; sizes = refl; print = refl }
+
+pub returns-clause-same : goal.returns-clause-same
+returns-clause-same c = record { code = refl; sizes = refl; print = refl }
+
+pub returns-in_default-clause-done : goal.returns-in_default-clause-done
+returns-in_default-clause-done c = refl
+
+pub returns-in_default-region-clause-done : goal.returns-in_default-region-clause-done
+returns-in_default-region-clause-done c = refl
+
+pub returns-in_default-region-2-clause-done : goal.returns-in_default-region-2-clause-done
+returns-in_default-region-2-clause-done c = refl
+
+pub returns-then-contains_key-clause-done : goal.returns-then-contains_key-clause-done
+returns-then-contains_key-clause-done c = refl
+
+pub returns-clause-done : goal.returns-clause-done
+returns-clause-done c = refl
+
+pub returns-in-Err-clause-done : goal.returns-in-Err-clause-done
+returns-in-Err-clause-done c = tt
+
+pub returns-in-Err-clause-shared : goal.returns-in-Err-clause-shared
+returns-in-Err-clause-shared c = tt

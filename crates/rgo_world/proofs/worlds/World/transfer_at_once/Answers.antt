@@ -1,18 +1,15 @@
-use Rattle.std.proofs.Common.{rules, ◌≡◌, true, Some, ap, refl, reverse, slice_get, sym, subst, ◌∙◌}
+use Rattle.std.proofs.Common.{◌≡◌, true, Some, ap, refl, reverse, slice_get, sym, subst, ◌∙◌}
 use Rattle.std.proofs.lemmas.Option.{slice_get_read}
 use Rattle.rgo_memory.proofs.InPlace.{set_same}
 use Rattle.rgo_tac.specs.Transfers.{StepsTo}
 use Rattle.rgo_code.specs.Erasure.{erased}
 use Rattle.rgo_world.specs.declared.worlds.World.{World}
 use Rattle.rgo_world.specs.Works.{MayStep}
-use Rattle.rgo_world.proofs.AtOnce.{steps_once}
+use Rattle.rgo_world.proofs.AtOnce.{steps_once, world_same, world_then}
 use Rattle.rgo_world.proofs.worlds.World.transfer_at_once.Goals as goal
 
 pub returns-in_default : goal.returns-in_default
-returns-in_default c =
-    let v = c.self.view_is in
-    let e = c.in_default.ensures in
-    search (rules, v, e)
+returns-in_default c = c.self.view_is
 
 pub returns-then-not-call_or_return : goal.returns-then-not-call_or_return
 returns-then-not-call_or_return c =
@@ -25,7 +22,7 @@ returns-then-not-call_or_return c =
     let same = set_same c.args.self.now.state.goroutines c.args.g c.in-Some.goroutine.now read in
     let frames = c.if-not-call_or_return.ensures.steps in
     let memory = c.if-not-call_or_return.ensures.memory in
-    search (rules, v, b, same, frames, memory)
+    world_same _ c.args.self.now c.args.g _ _ _ v (memory ∙ ap (λ (u : World). u.state.memory) v) (frames ∙ b) same
 
 pub returns : goal.returns
 returns c =
@@ -44,5 +41,6 @@ returns c =
     let sum = c.saturating_add-self-inside.ensures in
     let steps = subst (λ code. StepsTo code before after) (c.tac.ensures ∙ ap (λ (u : World). erased u.code.now) v)
     c.if-not-call_or_return.ensures.steps in
-    subst (λ u. MayStep w u g true) (search (rules, v, b, memory, sum))
+    subst (λ u. MayStep w u g true)
+    (world_then _ w g m _ _ after 1 _ v (memory ∙ ap (λ (u : World). u.state.memory) v) refl sum)
     (steps_once w g m before after (read ∙ ap Some (sym b)) (steps.goes w.state g) steps.room (λ o channel is. is))

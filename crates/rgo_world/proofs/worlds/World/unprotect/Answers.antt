@@ -33,3 +33,13 @@ pub returns-in_default-clause-unprotected : goal.returns-in_default-clause-unpro
 returns-in_default-clause-unprotected c = λ rest s works.
     absurd (nowhere c.args.self.now s c.args.g (Unprotect c.args.name ∷ rest) works
     (slice_get_past c.args.self.now.holders.items c.args.g c.in_default.ensures.item.3))
+
+pub returns-in_default-clause-done : goal.returns-in_default-clause-done
+returns-in_default-clause-done c = refl
+
+pub returns-in_default-region-clause-done : goal.returns-in_default-region-clause-done
+returns-in_default-region-clause-done c =
+    let item = c.in-Some.ensures.item in
+    let w = c.args.self.now in
+    count_kept w.holders.items c.args.g c.in-Some.holder.now c.in-Some.holder.now
+    (found w.holders.items c.args.g c.in-Some.holder.now item.3.0 item.1) refl
