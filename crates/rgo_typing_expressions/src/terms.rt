@@ -48,8 +48,7 @@ pub fn apply_one(
 ) -> Result<Term, AllocError>
     ensures { IfOk result (λ t. term_of t ≡ tree.Apply action (spec.one (term_of part)) ty at) }
 {
-    let mut parts = Vec::new(alloc);
-    parts.push(part)?;
+    let parts = Vec::from_array(alloc, [part])?;
     Ok(Term::Apply(action, parts, ty, at))
 }
 
@@ -65,9 +64,7 @@ pub fn apply_two(
     ensures { IfOk result (λ t. term_of t
         ≡ tree.Apply action (spec.two (term_of first) (term_of second)) ty at) }
 {
-    let mut parts = Vec::new(alloc);
-    parts.push(first)?;
-    parts.push(second)?;
+    let parts = Vec::from_array(alloc, [first, second])?;
     Ok(Term::Apply(action, parts, ty, at))
 }
 
