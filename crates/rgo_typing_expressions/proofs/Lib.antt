@@ -1,4 +1,3 @@
-pub mod Kept
 pub mod Lists
 pub mod Numbers
 pub mod Trees

@@ -31,11 +31,20 @@ use Rattle.rgo_typing_rules.specs.declared.rules.Rule.{Rule}
 use Rattle.rgo_typing_rules.specs.declared.errors.TypeRefusal.{TypeRefusal}
 use Rattle.rgo_typing_expressions.specs.Types.{type_of, types_of, shape_of_meaning, element_shape, field_of, field_shape}
 use Rattle.rgo_typing_expressions.specs.Types.{constant_or, unary_shape, binary_type, result_shape, call_shape}
-use Rattle.rgo_typing_expressions.proofs.Kept.{not_false, none_left, alone}
 use Rattle.rgo_typing_rules.proofs.Refusals.{first_of_both}
 use Rattle.rgo_typing_rules.proofs.Unbroken.{keeps}
 
+-- ---- a node that breaks no rule
+
+not_false : (b : Bool) → not b ≡ false → b ≡ true
+not_false true h = refl
+not_false false h = sym h
+
 -- ---- lists in which no node breaks a rule
+
+none_left : (a b : Option TypeRefusal) → earlier a b ≡ None → a ≡ None
+none_left None b h = refl
+none_left (Some f) b h = h
 
 none_right : (a b : Option TypeRefusal) → earlier a b ≡ None → b ≡ None
 none_right None b h = h
@@ -46,6 +55,13 @@ left l m h = none_left (first_refusal l) (first_refusal m) (sym (first_of_both l
 
 right : (l m : List Site) → first_refusal (l ++ m) ≡ None → first_refusal m ≡ None
 right l m h = none_right (first_refusal l) (first_refusal m) (sym (first_of_both l m) ∙ h)
+
+unplaced : (at : ℕ) (o : Option Rule) → refused_at at o ≡ None → o ≡ None
+unplaced at None h = refl
+unplaced at (Some rule) h = absurd (true≢false (ap is_some h))
+
+alone : (at : ℕ) (n : Node) → first_refusal ((at, n) ∷ []) ≡ None → broken n ≡ None
+alone at n h = unplaced at (broken n) (none_left (refused_at at (broken n)) None h)
 
 -- ---- by what the expression is
 

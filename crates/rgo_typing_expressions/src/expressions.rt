@@ -24,7 +24,7 @@ use crate::operands::{known_term, number, text, wanted_term};
 use crate::operations::{index, select, unary};
 use crate::packages::{Package, no_kinds};
 use crate::results::{Checked, Values};
-use rgo_ast::{BinaryOp, Element, Expr, Ident, Place, TypeExpr, UnaryOp};
+use rgo_ast::{Element, Expr, Ident, Place, TypeExpr, UnaryOp};
 use rgo_typing_rules::{Kind, Meaning, Role, TypeError};
 
 /// The types that arguments of a callee have to have.
@@ -90,16 +90,30 @@ impl<'p, 'a> Checker<'p, 'a> {
             Expr::Name(x) => self.operand(role, x),
             Expr::Paren(inner, _) => self.check_expr(role, inner),
             Expr::New(x, at) => self.check_new(x, *at),
-            Expr::MakeSlice(element, size, at) => self.check_make_slice(element, size, *at),
+            Expr::MakeSlice(element, size, at) => self.check_make_slice(size, element, *at),
             Expr::MakeChan(element, None, at) => self.check_make_channel(element, *at),
             Expr::MakeChan(element, Some(capacity), at) => {
-                self.check_make_buffered(element, capacity, *at)
+                self.check_make_buffered(capacity, element, *at)
             }
             Expr::Select(inner, field) => self.check_select(inner, field),
-            Expr::Index(slice, position, at) => self.check_index(slice, position, *at),
-            Expr::Call(f, args, at) => self.check_call(role, f, args, *at),
+            Expr::Index(slice, position, at) => {
+                let slice = self.check_expr(Role::Value, slice)?;
+                let position = self.check_expr(Role::Value, position)?;
+                index(alloc, slice, position, *at)
+            }
+            Expr::Call(f, args, at) => {
+                self.check_callee(f)?;
+                let callee = self.resolve_callee(f);
+                let wanted = params_of(self.globals(), callee);
+                let args = self.check_all(self.args_role(f), wanted, args)?;
+                call(alloc, self.globals(), role, callee, args, *at)
+            }
             Expr::Unary(op, inner, at) => self.check_unary(*op, inner, *at),
-            Expr::Binary(op, left, right, at) => self.check_binary(*op, left, right, *at),
+            Expr::Binary(op, left, right, at) => {
+                let left = self.check_expr(Role::Value, left)?;
+                let right = self.check_expr(Role::Value, right)?;
+                binary(alloc, *op, left, right, *at)
+            }
             Expr::Literal(x, values, at) => self.check_literal(x, values, *at),
             Expr::Keyed(x, elements, at) => self.check_keyed(x, elements, *at),
         }
@@ -110,8 +124,8 @@ impl<'p, 'a> Checker<'p, 'a> {
     #[tactic(auto, using(rgo_typing_rules::proofs::Refusals::refusals))]
     fn check_make_slice(
         &self,
-        element: &'a TypeExpr,
         size: &'a Expr,
+        element: &'a TypeExpr,
         at: Place,
     ) -> Result<Checked<'a>, TypeError>
         ensures { ChecksExpr result self.now Value
@@ -127,8 +141,8 @@ impl<'p, 'a> Checker<'p, 'a> {
     #[tactic(auto, using(rgo_typing_rules::proofs::Refusals::refusals))]
     fn check_make_buffered(
         &self,
-        element: &'a TypeExpr,
         capacity: &'a Expr,
+        element: &'a TypeExpr,
         at: Place,
     ) -> Result<Checked<'a>, TypeError>
         ensures { ChecksExpr result self.now Value
@@ -136,7 +150,12 @@ impl<'p, 'a> Checker<'p, 'a> {
     {
         self.check_type(element)?;
         let kind = Kind::Chan(element, self.resolve_base(element));
-        make_buffered(self.alloc(), kind, self.check_expr(Role::Value, capacity)?, at)
+        make_buffered(
+            self.alloc(),
+            kind,
+            self.check_expr(Role::Value, capacity)?,
+            at,
+        )
     }
 
     /// Checks a selector.
@@ -146,77 +165,23 @@ impl<'p, 'a> Checker<'p, 'a> {
         ensures { ChecksExpr result self.now Value (ast.Select (expr_of inner.now) field.now) }
     {
         let inner = self.check_expr(Role::Value, inner)?;
-        select(self.alloc(), self.globals(), inner, field.name.bytes(), field.at)
-    }
-
-    /// Checks an index expression.
-    #[cycle(expressions)]
-    #[tactic(auto, using(rgo_typing_rules::proofs::Refusals::refusals))]
-    fn check_index(
-        &self,
-        slice: &'a Expr,
-        position: &'a Expr,
-        at: Place,
-    ) -> Result<Checked<'a>, TypeError>
-        ensures { ChecksExpr result self.now Value
-            (ast.Index (expr_of slice.now) (expr_of position.now) at) }
-    {
-        let slice = self.check_expr(Role::Value, slice)?;
-        let position = self.check_expr(Role::Value, position)?;
-        index(self.alloc(), slice, position, at)
-    }
-
-    /// Checks a call.
-    #[cycle(expressions)]
-    #[tactic(auto, using(rgo_typing_rules::proofs::Refusals::refusals))]
-    fn check_call(
-        &self,
-        role: Role,
-        f: &'a Expr,
-        args: &'a [Expr],
-        at: Place,
-    ) -> Result<Checked<'a>, TypeError>
-        ensures { ChecksExpr result self.now role
-            (ast.Called (expr_of f.now) (ast.exprs_of (map expr_of args.now)) at) }
-    {
-        self.check_callee(f)?;
-        let callee = self.resolve_callee(f);
-        let wanted = params_of(self.globals(), callee);
-        let args = self.check_all(self.args_role(f), wanted, args)?;
-        call(self.alloc(), self.globals(), role, callee, args, at)
+        select(
+            self.alloc(),
+            self.globals(),
+            inner,
+            field.name.bytes(),
+            field.at,
+        )
     }
 
     /// Checks a unary operation.
     #[cycle(expressions)]
     #[tactic(auto, using(rgo_typing_rules::proofs::Refusals::refusals))]
-    fn check_unary(
-        &self,
-        op: UnaryOp,
-        inner: &'a Expr,
-        at: Place,
-    ) -> Result<Checked<'a>, TypeError>
+    fn check_unary(&self, op: UnaryOp, inner: &'a Expr, at: Place) -> Result<Checked<'a>, TypeError>
         ensures { ChecksExpr result self.now Value (ast.Unary op (expr_of inner.now) at) }
     {
         let inner = self.check_expr(Role::Value, inner)?;
         unary(self.alloc(), op, inner, at)
-    }
-
-    /// Checks a binary operation.
-    #[cycle(expressions)]
-    #[tactic(auto, using(rgo_typing_rules::proofs::Refusals::refusals))]
-    fn check_binary(
-        &self,
-        op: BinaryOp,
-        left: &'a Expr,
-        right: &'a Expr,
-        at: Place,
-    ) -> Result<Checked<'a>, TypeError>
-        ensures { ChecksExpr result self.now Value
-            (ast.Binary op (expr_of left.now) (expr_of right.now) at) }
-    {
-        let left = self.check_expr(Role::Value, left)?;
-        let right = self.check_expr(Role::Value, right)?;
-        binary(self.alloc(), op, left, right, at)
     }
 
     /// Checks a literal by its values in order.

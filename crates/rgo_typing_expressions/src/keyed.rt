@@ -96,10 +96,7 @@ pub(crate) fn find_named<'a>(
 }
 
 /// Whether an element names a field that is seen, or that of an earlier one.
-fn repeats<'e>(
-    seen: &mut Scopes<'e, usize>,
-    elements: &'e [Element],
-) -> Result<bool, AllocError>
+fn repeats<'e>(seen: &mut Scopes<'e, usize>, elements: &'e [Element]) -> Result<bool, AllocError>
     ensures { IfOk result
         (λ b. b ≡ checking.has_twice seen.old (ast.elements_of (map element_of elements.now))) }
 {
@@ -136,12 +133,12 @@ fn known_if<'k, 'a>(
 }
 
 /// Refuses a literal by fields for the first rule that it breaks.
-fn check_fields(
+fn check_fields<'a>(
     alloc: Global,
     meaning: Option<Meaning>,
     elements: &[Element],
-    known: &[Option<Kind<'_>>],
-    values: &[Shape<'_>],
+    known: &[Option<Kind<'a>>],
+    values: &[Shape<'a>],
     at: Place,
 ) -> Result<(), TypeError>
     ensures { Checks result ((

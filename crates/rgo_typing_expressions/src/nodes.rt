@@ -55,7 +55,11 @@ pub(crate) fn check_selector(at: Place, found: bool) -> Result<(), TypeError>
 }
 
 /// An index expression.
-pub(crate) fn check_index(at: Place, slice: Shape<'_>, index: Shape<'_>) -> Result<(), TypeError>
+pub(crate) fn check_index<'t>(
+    at: Place,
+    slice: Shape<'t>,
+    index: Shape<'t>,
+) -> Result<(), TypeError>
     ensures { Checks result
         ((at, node.Index (shape_of slice.entry) (shape_of index.entry)) ∷ []) }
 {
@@ -70,11 +74,11 @@ pub(crate) fn check_unary(at: Place, op: UnaryOp, operand: Shape<'_>) -> Result<
 }
 
 /// A binary operation.
-pub(crate) fn check_binary(
+pub(crate) fn check_binary<'t>(
     at: Place,
     op: BinaryOp,
-    left: Shape<'_>,
-    right: Shape<'_>,
+    left: Shape<'t>,
+    right: Shape<'t>,
 ) -> Result<(), TypeError>
     ensures { Checks result
         ((at, node.Binary op (shape_of left.entry) (shape_of right.entry)) ∷ []) }
@@ -83,10 +87,10 @@ pub(crate) fn check_binary(
 }
 
 /// A literal by its values.
-pub(crate) fn check_literal(
+pub(crate) fn check_literal<'t>(
     at: Place,
-    fields: Option<&[Kind<'_>]>,
-    values: &[Shape<'_>],
+    fields: Option<&[Kind<'t>]>,
+    values: &[Shape<'t>],
 ) -> Result<(), TypeError>
     ensures { Checks result
         ((at, node.Literal (fields_of fields.entry) (map shape_of values.now)) ∷ []) }
@@ -95,11 +99,11 @@ pub(crate) fn check_literal(
 }
 
 /// A literal by fields.
-pub(crate) fn check_keyed(
+pub(crate) fn check_keyed<'t>(
     at: Place,
-    fields: Option<&[Option<Kind<'_>>]>,
+    fields: Option<&[Option<Kind<'t>>]>,
     twice: bool,
-    values: &[Shape<'_>],
+    values: &[Shape<'t>],
 ) -> Result<(), TypeError>
     ensures { Checks result
         ((at, node.Keyed (known_of fields.entry) twice (map shape_of values.now)) ∷ []) }
@@ -122,11 +126,11 @@ pub(crate) fn check_nothing(at: Place) -> Result<(), TypeError>
 }
 
 /// A call of a function.
-pub(crate) fn check_routine(
+pub(crate) fn check_routine<'t>(
     at: Place,
     role: Role,
-    signature: &Signature<'_>,
-    args: &[Shape<'_>],
+    signature: &Signature<'t>,
+    args: &[Shape<'t>],
 ) -> Result<(), TypeError>
     ensures { Checks result
         ((at, node.Call role (signature_of signature.now) (map shape_of args.now)) ∷ []) }
