@@ -28,10 +28,10 @@ use std::alloc::{AllocError, Global};
 /// Refuses a binary operation for the first rule that it breaks. Returns its value where it is a
 /// constant.
 #[tactic(auto, unfolding(rgo_typing_rules::specs::Rules::broken))]
-fn check_binary(
+fn check_binary<'a>(
     op: BinaryOp,
-    left: Shape<'_>,
-    right: Shape<'_>,
+    left: Shape<'a>,
+    right: Shape<'a>,
     at: Place,
 ) -> Result<Option<i64>, TypeError>
     ensures checked { Checks result
@@ -129,6 +129,35 @@ fn operation(
     }
 }
 
+/// A binary operation, or a constant in its place.
+fn constant_or_operation(
+    alloc: Global,
+    value: Option<i64>,
+    op: BinaryOp,
+    left: Checked<'_>,
+    right: Checked<'_>,
+    at: Place,
+) -> Result<Term, AllocError>
+    ensures { IfOk result (λ t. term_of t ≡ terms.constant_or_term value at (terms.operation op
+        (shape_of left.entry.shape) (shape_of right.entry.shape)
+        (term_of left.entry.term) (term_of right.entry.term) at)) }
+{
+    match value {
+        Some(n) => Ok(constant(alloc, n, at)),
+        None => operation(alloc, op, left, right, at),
+    }
+}
+
+/// The shape of the result of a binary operation.
+fn binary_shape<'a>(value: Option<i64>, op: BinaryOp) -> Shape<'a>
+    ensures { shape_of result ≡ types.constant_or value (shape.Value (types.binary_type op)) }
+{
+    match value {
+        Some(n) => Shape::Constant(n),
+        None => Shape::Value(Kind::Plain(binary_base(op))),
+    }
+}
+
 /// A binary operation.
 pub(crate) fn binary<'a>(
     alloc: Global,
@@ -145,17 +174,8 @@ pub(crate) fn binary<'a>(
         (terms.binary_term op (shape_of left.entry.shape) (shape_of right.entry.shape)
         (term_of left.entry.term) (term_of right.entry.term) at) }
 {
-    match check_binary(op, left.shape, right.shape, at)? {
-        Some(n) => Ok(Checked {
-            term: constant(alloc, n, at),
-            shape: Shape::Constant(n),
-        }),
-        None => {
-            let term = operation(alloc, op, left, right, at)?;
-            Ok(Checked {
-                term,
-                shape: Shape::Value(Kind::Plain(binary_base(op))),
-            })
-        }
-    }
+    let value = check_binary(op, left.shape, right.shape, at)?;
+    let term = constant_or_operation(alloc, value, op, left, right, at)?;
+    let shape = binary_shape(value, op);
+    Ok(Checked { term, shape })
 }

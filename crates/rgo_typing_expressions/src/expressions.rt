@@ -17,22 +17,15 @@ use crate::callees::Callee;
 use crate::calls::call;
 use crate::checkers::Checker;
 use crate::keyed::{find_named, keyed};
-use crate::literals::literal;
-use crate::made::{make_buffered, make_channel, make_slice, new_object, struct_number};
+use crate::literals::{kinds_of, literal};
+use crate::made::{make_buffered, make_channel, make_slice, new_object};
 use crate::nodes::check_base_name;
 use crate::operands::{known_term, number, text, wanted_term};
 use crate::operations::{index, select, unary};
-use crate::packages::Package;
+use crate::packages::{Package, no_kinds};
 use crate::results::{Checked, Values};
-use rgo_ast::{Element, Expr, Ident, Place, TypeExpr};
+use rgo_ast::{Element, Expr, Ident, Place, TypeExpr, UnaryOp};
 use rgo_typing_rules::{Kind, Meaning, Role, TypeError};
-
-/// No types.
-fn no_kinds<'b, 'a>(globals: &'b Package<'a>) -> &'b [Kind<'a>]
-    ensures { result.now ≡ [] }
-{
-    &globals.variables[..0]
-}
 
 /// The types that arguments of a callee have to have.
 pub fn params_of<'b, 'a>(globals: &'b Package<'a>, callee: Callee) -> &'b [Kind<'a>]
@@ -45,16 +38,6 @@ pub fn params_of<'b, 'a>(globals: &'b Package<'a>, callee: Callee) -> &'b [Kind<
         return no_kinds(globals);
     };
     &signature.params
-}
-
-/// The types of the fields of the struct that a name means.
-fn kinds_of<'b, 'a>(globals: &'b Package<'a>, meaning: Option<Meaning>) -> &'b [Kind<'a>]
-    ensures { map kind_of result.now ≡ (checking.struct_fields globals.now meaning).types }
-{
-    let Some(fields) = globals.structs.get(struct_number(meaning)) else {
-        return no_kinds(globals);
-    };
-    &fields.kinds
 }
 
 impl<'p, 'a> Checker<'p, 'a> {
@@ -107,21 +90,12 @@ impl<'p, 'a> Checker<'p, 'a> {
             Expr::Name(x) => self.operand(role, x),
             Expr::Paren(inner, _) => self.check_expr(role, inner),
             Expr::New(x, at) => self.check_new(x, *at),
-            Expr::MakeSlice(element, size, at) => {
-                self.check_type(element)?;
-                let kind = Kind::Slice(element, self.resolve_base(element));
-                make_slice(alloc, kind, self.check_expr(Role::Value, size)?, *at)
-            }
+            Expr::MakeSlice(element, size, at) => self.check_make_slice(size, element, *at),
             Expr::MakeChan(element, None, at) => self.check_make_channel(element, *at),
             Expr::MakeChan(element, Some(capacity), at) => {
-                self.check_type(element)?;
-                let kind = Kind::Chan(element, self.resolve_base(element));
-                make_buffered(alloc, kind, self.check_expr(Role::Value, capacity)?, *at)
+                self.check_make_buffered(capacity, element, *at)
             }
-            Expr::Select(inner, field) => {
-                let inner = self.check_expr(Role::Value, inner)?;
-                select(alloc, self.globals(), inner, field.name.bytes(), field.at)
-            }
+            Expr::Select(inner, field) => self.check_select(inner, field),
             Expr::Index(slice, position, at) => {
                 let slice = self.check_expr(Role::Value, slice)?;
                 let position = self.check_expr(Role::Value, position)?;
@@ -134,10 +108,7 @@ impl<'p, 'a> Checker<'p, 'a> {
                 let args = self.check_all(self.args_role(f), wanted, args)?;
                 call(alloc, self.globals(), role, callee, args, *at)
             }
-            Expr::Unary(op, inner, at) => {
-                let inner = self.check_expr(Role::Value, inner)?;
-                unary(alloc, *op, inner, *at)
-            }
+            Expr::Unary(op, inner, at) => self.check_unary(*op, inner, *at),
             Expr::Binary(op, left, right, at) => {
                 let left = self.check_expr(Role::Value, left)?;
                 let right = self.check_expr(Role::Value, right)?;
@@ -146,6 +117,71 @@ impl<'p, 'a> Checker<'p, 'a> {
             Expr::Literal(x, values, at) => self.check_literal(x, values, *at),
             Expr::Keyed(x, elements, at) => self.check_keyed(x, elements, *at),
         }
+    }
+
+    /// Checks `make([]T, n)`.
+    #[cycle(expressions)]
+    #[tactic(auto, using(rgo_typing_rules::proofs::Refusals::refusals))]
+    fn check_make_slice(
+        &self,
+        size: &'a Expr,
+        element: &'a TypeExpr,
+        at: Place,
+    ) -> Result<Checked<'a>, TypeError>
+        ensures { ChecksExpr result self.now Value
+            (ast.MakeSlice (type_expr_of element.now) (expr_of size.now) at) }
+    {
+        self.check_type(element)?;
+        let kind = Kind::Slice(element, self.resolve_base(element));
+        make_slice(self.alloc(), kind, self.check_expr(Role::Value, size)?, at)
+    }
+
+    /// Checks `make(chan T, n)`.
+    #[cycle(expressions)]
+    #[tactic(auto, using(rgo_typing_rules::proofs::Refusals::refusals))]
+    fn check_make_buffered(
+        &self,
+        capacity: &'a Expr,
+        element: &'a TypeExpr,
+        at: Place,
+    ) -> Result<Checked<'a>, TypeError>
+        ensures { ChecksExpr result self.now Value
+            (ast.MakeChan (type_expr_of element.now) (ast.a_capacity (expr_of capacity.now)) at) }
+    {
+        self.check_type(element)?;
+        let kind = Kind::Chan(element, self.resolve_base(element));
+        make_buffered(
+            self.alloc(),
+            kind,
+            self.check_expr(Role::Value, capacity)?,
+            at,
+        )
+    }
+
+    /// Checks a selector.
+    #[cycle(expressions)]
+    #[tactic(auto, using(rgo_typing_rules::proofs::Refusals::refusals))]
+    fn check_select(&self, inner: &'a Expr, field: &'a Ident) -> Result<Checked<'a>, TypeError>
+        ensures { ChecksExpr result self.now Value (ast.Select (expr_of inner.now) field.now) }
+    {
+        let inner = self.check_expr(Role::Value, inner)?;
+        select(
+            self.alloc(),
+            self.globals(),
+            inner,
+            field.name.bytes(),
+            field.at,
+        )
+    }
+
+    /// Checks a unary operation.
+    #[cycle(expressions)]
+    #[tactic(auto, using(rgo_typing_rules::proofs::Refusals::refusals))]
+    fn check_unary(&self, op: UnaryOp, inner: &'a Expr, at: Place) -> Result<Checked<'a>, TypeError>
+        ensures { ChecksExpr result self.now Value (ast.Unary op (expr_of inner.now) at) }
+    {
+        let inner = self.check_expr(Role::Value, inner)?;
+        unary(self.alloc(), op, inner, at)
     }
 
     /// Checks a literal by its values in order.

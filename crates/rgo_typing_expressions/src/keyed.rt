@@ -7,8 +7,9 @@ ghost use Rattle.rgo_ast.specs.Views.{element_of};
 ghost use Rattle.rgo_scopes.specs.Blocks.{no_names};
 ghost use Rattle.rgo_typed.specs.Tree as tree;
 ghost use Rattle.rgo_typed.specs.Views.{term_of};
+ghost use Rattle.rgo_typing_rules.specs.Checks.{Checks};
 ghost use Rattle.rgo_typing_rules.specs.Nodes as node;
-ghost use Rattle.rgo_typing_rules.specs.Views.{shape_of, optional_kind_of};
+ghost use Rattle.rgo_typing_rules.specs.Views.{shape_of, optional_kind_of, known_of};
 ghost use Rattle.rgo_typing_expressions.specs.Checking as checking;
 ghost use Rattle.rgo_typing_expressions.specs.Results.{ChecksTo, FieldsOf, found_field};
 ghost use Rattle.rgo_typing_expressions.specs.Terms as terms;
@@ -16,13 +17,13 @@ ghost use Rattle.rgo_typing_expressions.specs.Types as types;
 
 use crate::fields::{Field, field_in};
 use crate::made::{pointer, struct_number};
-use crate::nodes;
+use crate::nodes::check_keyed;
 use crate::packages::{Fields, Package};
 use crate::results::{Checked, Values};
 use rgo_ast::{Element, Place};
 use rgo_scopes::Scopes;
 use rgo_typed::{Row, Term};
-use rgo_typing_rules::{Kind, Meaning, TypeError};
+use rgo_typing_rules::{Kind, Meaning, Shape, TypeError};
 use std::alloc::{AllocError, Global};
 
 /// The fields that the elements of a literal name: the type of each, where there is such a field,
@@ -94,24 +95,67 @@ pub(crate) fn find_named<'a>(
     }
 }
 
+/// Whether an element names a field that is seen, or that of an earlier one.
+fn repeats<'e>(seen: &mut Scopes<'e, usize>, elements: &'e [Element]) -> Result<bool, AllocError>
+    ensures { IfOk result
+        (λ b. b ≡ checking.has_twice seen.old (ast.elements_of (map element_of elements.now))) }
+{
+    for element in elements {
+        let name = element.field.name.bytes();
+        if seen.get(name).is_some() {
+            return Ok(true);
+        }
+        seen.declare(name, 0)?;
+    }
+    Ok(false)
+}
+
 /// Whether two elements name one field.
 fn has_twice(alloc: Global, elements: &[Element]) -> Result<bool, AllocError>
     ensures { IfOk result
         (λ b. b ≡ checking.has_twice no_names (ast.elements_of (map element_of elements.now))) }
 {
-    let mut seen: Scopes<'_, usize> = Scopes::new(alloc);
-    for element in elements {
-        if seen.get(element.field.name.bytes()).is_some() {
-            return Ok(true);
-        }
-        seen.declare(element.field.name.bytes(), 0)?;
+    let mut seen = Scopes::new(alloc);
+    repeats(&mut seen, elements)
+}
+
+/// The types of the named fields, where a name means a struct.
+fn known_if<'k, 'a>(
+    meaning: Option<Meaning>,
+    known: &'k [Option<Kind<'a>>],
+) -> Option<&'k [Option<Kind<'a>>]>
+    ensures { known_of result ≡ checking.known_if meaning (map optional_kind_of known.now) }
+{
+    match meaning {
+        Some(Meaning::Struct(_)) => Some(known),
+        _ => None,
     }
-    Ok(false)
+}
+
+/// Refuses a literal by fields for the first rule that it breaks.
+fn check_fields<'a>(
+    alloc: Global,
+    meaning: Option<Meaning>,
+    elements: &[Element],
+    known: &[Option<Kind<'a>>],
+    values: &[Shape<'a>],
+    at: Place,
+) -> Result<(), TypeError>
+    ensures { Checks result ((
+      at,
+      node.Keyed
+          (checking.known_if meaning (map optional_kind_of known.now))
+          (checking.has_twice no_names (ast.elements_of (map element_of elements.now)))
+          (map shape_of values.now),
+    ) ∷ []) }
+{
+    let twice = has_twice(alloc, elements)?;
+    check_keyed(at, known_if(meaning, known), twice, values)
 }
 
 /// `&T{f: a, g: b}`, from its checked values (The Go Programming Language Specification, "Composite
 /// literals").
-#[tactic(auto, using(crate::proofs::Trees::terms), unfolding(rgo_typing_rules::specs::Rules::broken))]
+#[tactic(auto, using(crate::proofs::Trees::terms))]
 pub(crate) fn keyed<'a>(
     alloc: Global,
     meaning: Option<Meaning>,
@@ -132,14 +176,10 @@ pub(crate) fn keyed<'a>(
         (tree.terms_of (map term_of values.entry.terms.items))
         named.entry.numbers.items at) }
 {
-    let twice = has_twice(alloc, elements)?;
-    let Some(Meaning::Struct(number)) = meaning else {
-        nodes::check_keyed(at, None, twice, &values.shapes)?;
-        unreachable!();
-    };
-    nodes::check_keyed(at, Some(&named.kinds), twice, &values.shapes)?;
+    check_fields(alloc, meaning, elements, &named.kinds, &values.shapes, at)?;
+    let numbers = Row::new(named.numbers);
     Ok(Checked {
-        term: Term::Build(number, values.terms, Row::new(named.numbers), at),
+        term: Term::Build(struct_number(meaning), values.terms, numbers, at),
         shape: pointer(meaning),
     })
 }

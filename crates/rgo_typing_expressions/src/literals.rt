@@ -1,25 +1,23 @@
 //! Composite literals by their values in order.
 #![tactic(auto)]
 
-ghost use Rattle.std.specs.Prelude.{◌≡◌, [], ◌∷◌, IfOk, map, Some};
+ghost use Rattle.std.specs.Prelude.{◌≡◌, [], ◌∷◌, IfOk, map};
 ghost use Rattle.rgo_typed.specs.Tree as tree;
 ghost use Rattle.rgo_typed.specs.Views.{term_of};
-ghost use Rattle.rgo_typing_rules.specs.Checks.{Checks};
 ghost use Rattle.rgo_typing_rules.specs.Nodes as node;
-ghost use Rattle.rgo_typing_rules.specs.Views.{shape_of};
+ghost use Rattle.rgo_typing_rules.specs.Views.{kind_of, shape_of, fields_of};
 ghost use Rattle.rgo_typing_expressions.specs.Checking as checking;
 ghost use Rattle.rgo_typing_expressions.specs.Results.{ChecksTo};
-ghost use Rattle.rgo_typing_expressions.specs.Scopes as scopes;
 ghost use Rattle.rgo_typing_expressions.specs.Terms as terms;
 ghost use Rattle.rgo_typing_expressions.specs.Types as types;
 
-use crate::made::pointer;
-use crate::nodes;
-use crate::packages::Package;
+use crate::made::{pointer, struct_number};
+use crate::nodes::check_literal;
+use crate::packages::{Package, no_kinds};
 use crate::results::{Checked, Values};
 use rgo_ast::Place;
 use rgo_typed::{Row, Term};
-use rgo_typing_rules::{Meaning, Shape, TypeError};
+use rgo_typing_rules::{Kind, Meaning, TypeError};
 use std::alloc::{AllocError, Global};
 
 /// The numbers below n.
@@ -34,28 +32,31 @@ fn first_numbers(alloc: Global, n: usize) -> Result<Vec<usize>, AllocError>
     Ok(numbers)
 }
 
-/// Refuses a literal of a struct for the first rule that it breaks.
-fn check_literal(
-    globals: &Package<'_>,
-    number: usize,
-    values: &[Shape<'_>],
-    at: Place,
-) -> Result<(), TypeError>
-    ensures { Checks result
-        ((
-          at,
-          node.Literal (Some (scopes.fields_at globals.now number).types)
-              (map shape_of values.now),
-        ) ∷ []) }
+/// The types of the fields of the struct that a name means.
+pub(crate) fn kinds_of<'b, 'a>(globals: &'b Package<'a>, meaning: Option<Meaning>) -> &'b [Kind<'a>]
+    ensures { map kind_of result.now ≡ (checking.struct_fields globals.now meaning).types }
 {
-    match globals.structs.get(number) {
-        Some(fields) => nodes::check_literal(at, Some(&fields.kinds), values),
-        None => nodes::check_literal(at, Some(&[]), values),
+    let Some(fields) = globals.structs.get(struct_number(meaning)) else {
+        return no_kinds(globals);
+    };
+    &fields.kinds
+}
+
+/// The same, where it means a struct.
+fn struct_kinds<'b, 'a>(
+    globals: &'b Package<'a>,
+    meaning: Option<Meaning>,
+) -> Option<&'b [Kind<'a>]>
+    ensures { fields_of result ≡ checking.struct_types globals.now meaning }
+{
+    match meaning {
+        Some(Meaning::Struct(_)) => Some(kinds_of(globals, meaning)),
+        _ => None,
     }
 }
 
 /// `&T{a, b}` (The Go Programming Language Specification, "Composite literals").
-#[tactic(auto, using(crate::proofs::Trees::terms, crate::proofs::Numbers::numbers), unfolding(rgo_typing_rules::specs::Rules::broken))]
+#[tactic(auto, using(crate::proofs::Trees::terms, crate::proofs::Numbers::numbers))]
 pub(crate) fn literal<'a>(
     alloc: Global,
     globals: &Package<'a>,
@@ -73,14 +74,10 @@ pub(crate) fn literal<'a>(
         (terms.build (checking.struct_number meaning)
         (tree.terms_of (map term_of values.entry.terms.items)) at) }
 {
-    let Some(Meaning::Struct(number)) = meaning else {
-        nodes::check_literal(at, None, &values.shapes)?;
-        unreachable!();
-    };
-    check_literal(globals, number, &values.shapes, at)?;
+    check_literal(at, struct_kinds(globals, meaning), &values.shapes)?;
     let numbers = first_numbers(alloc, values.terms.len())?;
     Ok(Checked {
-        term: Term::Build(number, values.terms, Row::new(numbers), at),
+        term: Term::Build(struct_number(meaning), values.terms, Row::new(numbers), at),
         shape: pointer(meaning),
     })
 }

@@ -1,7 +1,8 @@
 //! The check of each kind of node, from what the rules ask about it.
 //!
 //! Each function makes one node and does nothing else. A node has many variants, and a proof
-//! carries all of them at each step of a function that holds one.
+//! carries all of them at each step of a function that holds one. The lifetimes of the node are
+//! written out, since a proof is longer where they are left open.
 #![tactic(auto)]
 
 ghost use Rattle.std.specs.Prelude.{[], ◌∷◌, map};
@@ -41,10 +42,11 @@ pub(crate) fn check_name(at: Place, role: Role, meaning: Option<Meaning>) -> Res
 }
 
 /// The size of a slice or the capacity of a channel, in `make`.
-pub(crate) fn check_size(at: Place, size: Shape<'_>) -> Result<(), TypeError>
+pub(crate) fn check_size<'t>(at: Place, size: Shape<'t>) -> Result<(), TypeError>
     ensures { Checks result ((at, node.Size (shape_of size.entry)) ∷ []) }
 {
-    check_node(at, &Node::Size(size))
+    let node: Node<'t, 't, 't> = Node::Size(size);
+    check_node(at, &node)
 }
 
 /// A selector.
@@ -55,38 +57,45 @@ pub(crate) fn check_selector(at: Place, found: bool) -> Result<(), TypeError>
 }
 
 /// An index expression.
-pub(crate) fn check_index(at: Place, slice: Shape<'_>, index: Shape<'_>) -> Result<(), TypeError>
+pub(crate) fn check_index<'t>(
+    at: Place,
+    slice: Shape<'t>,
+    index: Shape<'t>,
+) -> Result<(), TypeError>
     ensures { Checks result
         ((at, node.Index (shape_of slice.entry) (shape_of index.entry)) ∷ []) }
 {
-    check_node(at, &Node::Index(slice, index))
+    let node: Node<'t, 't, 't> = Node::Index(slice, index);
+    check_node(at, &node)
 }
 
 /// A unary operation.
-pub(crate) fn check_unary(at: Place, op: UnaryOp, operand: Shape<'_>) -> Result<(), TypeError>
+pub(crate) fn check_unary<'t>(at: Place, op: UnaryOp, operand: Shape<'t>) -> Result<(), TypeError>
     ensures { Checks result ((at, node.Unary op (shape_of operand.entry)) ∷ []) }
 {
-    check_node(at, &Node::Unary(op, operand))
+    let node: Node<'t, 't, 't> = Node::Unary(op, operand);
+    check_node(at, &node)
 }
 
 /// A binary operation.
-pub(crate) fn check_binary(
+pub(crate) fn check_binary<'t>(
     at: Place,
     op: BinaryOp,
-    left: Shape<'_>,
-    right: Shape<'_>,
+    left: Shape<'t>,
+    right: Shape<'t>,
 ) -> Result<(), TypeError>
     ensures { Checks result
         ((at, node.Binary op (shape_of left.entry) (shape_of right.entry)) ∷ []) }
 {
-    check_node(at, &Node::Binary(op, left, right))
+    let node: Node<'t, 't, 't> = Node::Binary(op, left, right);
+    check_node(at, &node)
 }
 
 /// A literal by its values.
-pub(crate) fn check_literal(
+pub(crate) fn check_literal<'t>(
     at: Place,
-    fields: Option<&[Kind<'_>]>,
-    values: &[Shape<'_>],
+    fields: Option<&[Kind<'t>]>,
+    values: &[Shape<'t>],
 ) -> Result<(), TypeError>
     ensures { Checks result
         ((at, node.Literal (fields_of fields.entry) (map shape_of values.now)) ∷ []) }
@@ -95,11 +104,11 @@ pub(crate) fn check_literal(
 }
 
 /// A literal by fields.
-pub(crate) fn check_keyed(
+pub(crate) fn check_keyed<'t>(
     at: Place,
-    fields: Option<&[Option<Kind<'_>>]>,
+    fields: Option<&[Option<Kind<'t>>]>,
     twice: bool,
-    values: &[Shape<'_>],
+    values: &[Shape<'t>],
 ) -> Result<(), TypeError>
     ensures { Checks result
         ((at, node.Keyed (known_of fields.entry) twice (map shape_of values.now)) ∷ []) }
@@ -122,11 +131,11 @@ pub(crate) fn check_nothing(at: Place) -> Result<(), TypeError>
 }
 
 /// A call of a function.
-pub(crate) fn check_routine(
+pub(crate) fn check_routine<'t>(
     at: Place,
     role: Role,
-    signature: &Signature<'_>,
-    args: &[Shape<'_>],
+    signature: &Signature<'t>,
+    args: &[Shape<'t>],
 ) -> Result<(), TypeError>
     ensures { Checks result
         ((at, node.Call role (signature_of signature.now) (map shape_of args.now)) ∷ []) }
@@ -135,22 +144,33 @@ pub(crate) fn check_routine(
 }
 
 /// A call of `len`.
-pub(crate) fn check_length(at: Place, args: &[Shape<'_>]) -> Result<(), TypeError>
+pub(crate) fn check_length<'t, 'v>(at: Place, args: &'v [Shape<'t>]) -> Result<(), TypeError>
     ensures { Checks result ((at, node.CallLen (map shape_of args.now)) ∷ []) }
 {
-    check_node(at, &Node::CallLen(args))
+    let node: Node<'t, 't, 'v> = Node::CallLen(args);
+    check_node(at, &node)
 }
 
 /// A call of `close`.
-pub(crate) fn check_close(at: Place, role: Role, args: &[Shape<'_>]) -> Result<(), TypeError>
+pub(crate) fn check_close<'t, 'v>(
+    at: Place,
+    role: Role,
+    args: &'v [Shape<'t>],
+) -> Result<(), TypeError>
     ensures { Checks result ((at, node.CallClose role (map shape_of args.now)) ∷ []) }
 {
-    check_node(at, &Node::CallClose(role, args))
+    let node: Node<'t, 't, 'v> = Node::CallClose(role, args);
+    check_node(at, &node)
 }
 
 /// A call of `fmt.Println`.
-pub(crate) fn check_print(at: Place, role: Role, args: &[Shape<'_>]) -> Result<(), TypeError>
+pub(crate) fn check_print<'t, 'v>(
+    at: Place,
+    role: Role,
+    args: &'v [Shape<'t>],
+) -> Result<(), TypeError>
     ensures { Checks result ((at, node.Print role (map shape_of args.now)) ∷ []) }
 {
-    check_node(at, &Node::Print(role, args))
+    let node: Node<'t, 't, 'v> = Node::Print(role, args);
+    check_node(at, &node)
 }

@@ -1,6 +1,6 @@
 //! What a package declares.
 
-ghost use Rattle.std.specs.Prelude.{◌≡◌};
+ghost use Rattle.std.specs.Prelude.{◌≡◌, []};
 ghost use Rattle.rgo_typing_rules.specs.Views.{kind_of};
 ghost use Rattle.rgo_typing_expressions.specs.Scopes.{variable_at, global_meaning};
 
@@ -76,4 +76,11 @@ impl<'a> Package<'a> {
             None => universe(self.imported, name),
         }
     }
+}
+
+/// No types.
+pub(crate) fn no_kinds<'b, 'a>(globals: &'b Package<'a>) -> &'b [Kind<'a>]
+    ensures { result.now ≡ [] }
+{
+    &globals.variables[..0]
 }

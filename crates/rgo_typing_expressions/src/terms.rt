@@ -48,8 +48,8 @@ pub fn apply_one(
 ) -> Result<Term, AllocError>
     ensures { IfOk result (λ t. term_of t ≡ tree.Apply action (spec.one (term_of part)) ty at) }
 {
-    let mut parts = Vec::new(alloc);
-    parts.push(part)?;
+    let mut parts = Vec::with_capacity(alloc, 1)?;
+    parts.push_reserved(part);
     Ok(Term::Apply(action, parts, ty, at))
 }
 
@@ -65,9 +65,9 @@ pub fn apply_two(
     ensures { IfOk result (λ t. term_of t
         ≡ tree.Apply action (spec.two (term_of first) (term_of second)) ty at) }
 {
-    let mut parts = Vec::new(alloc);
-    parts.push(first)?;
-    parts.push(second)?;
+    let mut parts = Vec::with_capacity(alloc, 2)?;
+    parts.push_reserved(first);
+    parts.push_reserved(second);
     Ok(Term::Apply(action, parts, ty, at))
 }
 
