@@ -1,6 +1,6 @@
--- Instructions that name nothing and have no lists keep their form.
+-- Instructions that name nothing and have no lists keep their form, but for the kinds of copies.
 use Rattle.std.specs.Prelude.{⊤}
-use Rattle.std.proofs.Common.{◌≡◌, ℕ, List, [], ◌∷◌, refl}
+use Rattle.std.proofs.Common.{◌≡◌, ℕ, List, [], ◌∷◌, refl, sym, ap, ◌∙◌}
 use Rattle.rgo_typed.specs.declared.statements.Piece.{Piece}
 use Rattle.rgo_tac.specs.declared.code.Instr.{Instr}
 use Rattle.rgo_tac.specs.declared.code.Instr.TheVariants as code
@@ -10,7 +10,7 @@ use Rattle.rgo_code.specs.Views.{code_op}
 use Rattle.rgo_code_printing.specs.Text.{Names}
 use Rattle.rgo_code_text.specs.declared.ops.NamedOp.{NamedOp}
 use Rattle.rgo_code_text.specs.Building.{numbered_op}
-use Rattle.rgo_code_text.specs.Opened.{IsNumbered, ListsBelow}
+use Rattle.rgo_code_text.specs.Opened.{IsCopy, IsNumbered, ListsBelow}
 
 -- neither a copy, nor what names something or has lists
 abbrev IsPlain : Instr → Type 0
@@ -68,3 +68,26 @@ plain_numbered n o list x y z w v u t s =
       below = λ k l. plain_below k o.instr p;
       op = λ lists pieces a b. plain_op n lists (o.from.items ∷ []) pieces (o.pieces.items ∷ []) o.note o.name.now o.instr p;
     }
+
+-- ---- copies of any kind
+
+module _ (n : Names) (lists one : List (List ℕ)) (pieces ps : List (List Piece)) (note : Note) (name : List ℕ) where
+  copy_op : (d a e b : ℕ) → e ≡ d → b ≡ a
+      → code_op (op_of lists pieces (code.Copy e b)) note ≡ numbered_op n (code_op (op_of one ps (code.Copy d a)) note) name
+  copy_op d a e b p q =
+      ap (λ x. code_op (op_of lists pieces (code.Copy x b)) note) p
+      ∙ ap (λ x. code_op (op_of lists pieces (code.Copy d x)) note) q
+
+module _ (n : Names) (o : NamedOp) (list d a : ℕ) (is : o.instr ≡ code.Copy d a) where
+  copy_is : (lists : List (List ℕ)) (pieces : List (List Piece)) (e b : ℕ) → e ≡ d → b ≡ a
+      → code_op (op_of lists pieces (code.Copy e b)) o.note
+      ≡ numbered_op n (code_op (op_of (o.from.items ∷ []) (o.pieces.items ∷ []) o.instr) o.note) o.name.now
+  copy_is lists pieces e b p q =
+      copy_op n lists (o.from.items ∷ []) pieces (o.pieces.items ∷ []) o.note o.name.now d a e b p q
+      ∙ ap (λ i. numbered_op n (code_op (op_of (o.from.items ∷ []) (o.pieces.items ∷ []) i) o.note) o.name.now) (sym is)
+
+  pub copy_numbered : (i : Instr) → IsCopy d a i → IsNumbered n o list i
+  copy_numbered (code.Copy e b) c = record { below = λ k l. tt; op = λ lists pieces f g. copy_is lists pieces e b c.0 c.1 }
+  copy_numbered (code.CopyInt e b) c = record { below = λ k l. tt; op = λ lists pieces f g. copy_is lists pieces e b c.0 c.1 }
+  copy_numbered (code.CopyBool e b) c = record { below = λ k l. tt; op = λ lists pieces f g. copy_is lists pieces e b c.0 c.1 }
+  copy_numbered _ c = absurd c

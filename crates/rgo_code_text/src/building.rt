@@ -353,8 +353,8 @@ pub(crate) fn code(
     requires counts { CountsAre counts (declared_in (map item_of items.items)) }
     ensures { IfOk result (λ c. c ≡ code_of (map item_of items.entry.items)) }
 {
-    let building = collected(alloc, tables, items)?;
     let undeclared = undeclared(alloc, tables, counts)?;
+    let building = collected(alloc, tables, items)?;
     let Building {
         structs,
         variables,
