@@ -114,6 +114,7 @@ word_from (b ∷ bytes) e =
     from_cons 48 b bytes (letter_from b p.0) (word_bytes_from bytes p.1)
 
 pub name_from : (name : List ℕ) → is_name name ≡ true → From 48 name
+unfolding is_name
 name_from name e = word_from name (both_true (is_word name) _ e).0
 
 pub joined_from : (m d : ℕ) (words : List (List ℕ)) → m ≤ d → AllFrom m words → From m (join_with_byte d words)

@@ -3,6 +3,7 @@ pub mod ActionsBack
 pub mod ActionsIs
 pub mod Ascending
 pub mod Assembling
+pub mod CallNotes
 pub mod Cutting
 pub mod Firsts
 pub mod Fitting
@@ -32,6 +33,7 @@ pub mod Options
 pub mod PieceBytes
 pub mod PieceFronts
 pub mod PieceLists
+pub mod PlainInstrs
 pub mod PrintWords
 pub mod Refusing
 pub mod Tables

@@ -166,6 +166,7 @@ module _ (line word : List ℕ) (n : ℕ) (read : List (List ℕ) → Option Ite
 -- ---- structs
 
 some_name : (words : List (List ℕ)) → is_name (word_at words 1) ≡ true → 2 ≤ length words
+unfolding is_name
 some_name [] e = absurd (true≢false (sym e))
 some_name (a ∷ []) e = absurd (true≢false (sym e))
 some_name (a ∷ b ∷ words) e = omega arith

@@ -1,6 +1,7 @@
 -- Functions that are not complete yet, with one more variable or instruction.
 use Rattle.std.proofs.Common.{◌≡◌, ℕ, ◌≤◌, List, [], ◌∷◌, ◌++◌, length, get_or, drop, refl, sym, ap, ◌∙◌, arith}
-use Rattle.std.specs.Prelude.{Some, None}
+use Rattle.std.specs.Prelude.{Option, Some, None}
+use Rattle.std.specs.Option.{option_map}
 use Rattle.std.specs.List.{All}
 use Rattle.std.proofs.lemmas.List.{get_or_append_left, get_or-append-add}
 use Rattle.std.proofs.lemmas.List.Elements.{All-head, All-tail, All-push}
@@ -108,6 +109,32 @@ pub parts_same : {lists ls : List (List ℕ)} {pieces ps : List (List Piece)} {i
     {notes ns : List Note} → lists ≡ ls → pieces ≡ ps → instrs ≡ is → places ≡ qs → notes ≡ ns
     → code_body (body_of lists pieces instrs places) notes ≡ code_body (body_of ls ps is qs) ns
 parts_same a b c d e = λ t. code_body (body_of (a t) (b t) (c t) (d t)) (e t)
+
+-- a function that is complete, by the equations of its parts
+pub fn_completed : {ts us : List «Type»} {cs ds : List Class} {entry en : List ℕ} {instrs is : List Instr} {places qs : List ℕ}
+    {lists ls : List (List ℕ)} {pieces ps : List (List Piece)} {notes ns : List Note} (f : tac.TacFn) (name : List ℕ) (params : ℕ)
+    (ty : Option «Type») (class : Class)
+    → f ≡ record { name = name; params = params; result_type = ty; variables = us; body = body_of ls ps is qs } → us ≡ ts
+    → ds ≡ cs → en ≡ entry → is ≡ instrs → qs ≡ places → ls ≡ lists → ps ≡ pieces → ns ≡ notes
+    → code_fn f (record { classes = ds; result = class; entry = en; notes = ns })
+    ≡ record {
+      name = name;
+      params = params;
+      result = option_map (λ t. slot t class) ty;
+      variables = slots ts cs;
+      entry = entry;
+      body = code_body (body_of lists pieces instrs places) notes;
+    }
+fn_completed {ds = ds} {en = en} {ns = ns} f name params ty class made u d e i q l p n =
+    ap (λ (g : tac.TacFn). code_fn g (record { classes = ds; result = class; entry = en; notes = ns })) made
+    ∙ λ t. record {
+      name = name;
+      params = params;
+      result = option_map (λ t. slot t class) ty;
+      variables = slots (u t) (d t);
+      entry = e t;
+      body = code_body (body_of (l t) (p t) (i t) (q t)) (n t);
+    }
 
 pub lines_push : (b : Building) (lines : List Line) (x : Line)
     → with_lines b (lines ++ x ∷ []) ≡ with_line (with_lines b lines) x

@@ -16,7 +16,7 @@ use Rattle.rgo_code_text.specs.Cuts.{nows}
 use Rattle.rgo_code_text.specs.Items.{Item}
 use Rattle.rgo_code_text.specs.Numbers.{first_of, with_name}
 use Rattle.rgo_code_printing.specs.Text.{Names}
-use Rattle.rgo_code_text.specs.Written.{is_among, number_of}
+use Rattle.rgo_code_text.specs.Written.{is_among, no_names, number_of}
 
 below_next : (m n : ℕ) → nat_lt (1 + m) (suc n) ≡ nat_lt m n
 below_next m n = by (nat_lt (1 + m) (suc n)) (nat_lt m n) (Decides-ltb (1 + m) (suc n)) (Decides-ltb m n)
@@ -190,9 +190,6 @@ names_same a b s v f =
     ap (λ x. record { structs = x; variables = a.variables; functions = a.functions }) s
     ∙ ap (λ x. record { structs = b.structs; variables = x; functions = a.functions }) v
     ∙ ap (λ x. record { structs = b.structs; variables = b.variables; functions = x }) f
-
-abbrev pub no_names : Names
-no_names = record { structs = []; variables = []; functions = [] }
 
 declared_more : (n : Names) (items : List Item)
     → all_declared n items ≡ record {

@@ -56,6 +56,17 @@ layered_is (b ∷ word) layer.Chan e = record {
         apart : ◌≡◌ {A = Option Layer} (Some layer.Slice) (Some layer.Chan) → ⊥
         apart r = cc
 
+-- a word without a layer at its front
+bare : (word : List ℕ) → read_layer word ≡ None → read_type word ≡ read_base word
+bare [] e = refl
+bare (b ∷ word) e = ap (λ o. by_layer o (read_base (b ∷ word)) (type_after word 1) (type_after word 4)) e
+
+-- the base is read after all layers, where `rest` is what is left of the word
+pub base_ends : (layers : List Layer) (word rest : List ℕ) (at : ℕ) → rest ≡ drop at word → read_layer rest ≡ None
+    → with_layers layers (read_type (drop at word)) ≡ read_type word → with_layers layers (read_base rest) ≡ read_type word
+base_ends layers word rest at whole e so_far =
+    ap (with_layers layers) (sym (bare rest e) ∙ ap read_type whole) ∙ so_far
+
 one_layer : (layers : List Layer) (l : Layer) (o : Option NamedType)
     → with_layers layers (with_layer l o) ≡ with_layers (layers ++ l ∷ []) o
 one_layer layers l None = refl

@@ -1,9 +1,9 @@
 -- Lines of a code text, as they are read.
-use Rattle.std.specs.Prelude.{ℕ, ◌==◌, ◌&&◌, if◌then◌else◌, List, [], length, Option, Some, None, codes, ⊤}
+use Rattle.std.specs.Prelude.{◌≡◌, ℕ, ◌==◌, ◌&&◌, ◌||◌, false, if◌then◌else◌, List, [], length, Option, Some, None, codes, ⊤}
 use Rattle.std.specs.Option.{option_map}
-use Rattle.std.specs.List.{slice_split}
+use Rattle.std.specs.List.{slice_split, before_first}
 use Rattle.std.specs.Str.{bytes_eq}
-use Rattle.rgo_code_text.specs.Cuts.{is_space, word_at}
+use Rattle.rgo_code_text.specs.Cuts.{is_space, cut, word_at}
 use Rattle.rgo_code_text.specs.Items.{NamedSlot, Item, Struct, Global, Function, Slot, Entry, Instr, ItemFits}
 use Rattle.rgo_code_text.specs.Ops.{NamedOp}
 use Rattle.rgo_code_text.specs.Readers.{NamedType, on_some, read_class, read_each, read_number, read_regions, read_type}
@@ -47,6 +47,22 @@ slot_of words = if length words == 3 then option_map Slot (read_slot (word_at wo
 
 abbrev pub entry_of : List (List ℕ) → Option Item
 entry_of words = if length words == 2 then option_map Entry (read_regions 45 (word_at words 1)) else None
+
+-- ---- words
+
+-- at how many spaces a line with this first word is cut
+abbrev pub spaces : List ℕ → ℕ
+spaces word =
+    if bytes_eq word (codes "func") then 4
+    else (if bytes_eq word (codes "entry") then 1
+    else (if bytes_eq word (codes "struct") || bytes_eq word (codes "global") || bytes_eq word (codes "var") then 2 else 3))
+
+-- the first word and the words of a line that is neither the first line nor the end of a function
+pub record IsCut (line word : List ℕ) (words : List (List ℕ)) : Type 0 where
+  pub first : before_first is_space line ≡ word
+  pub words_are : words ≡ cut (spaces word) line
+  pub not_head : bytes_eq line (codes "rgo code 1") ≡ false
+  pub not_end : bytes_eq line (codes "end") ≡ false
 
 -- ---- instructions
 

@@ -9,6 +9,7 @@ use Rattle.rgo_code.specs.Code.{Slot, CodeInstr, CodeFn}
 use Rattle.rgo_code.specs.Views.{slot, slots, code_op, code_body, code_fns}
 use Rattle.rgo_code_text.specs.declared.building.Building.{Building as CodeBuilding}
 use Rattle.rgo_code_text.specs.declared.building.Open.{Open}
+use Rattle.rgo_code_text.specs.declared.items.NamedInstr.{NamedInstr}
 use Rattle.rgo_code_text.specs.declared.ops.NamedOp.{NamedOp}
 use Rattle.rgo_code_text.specs.Building.{numbered_op}
 use Rattle.rgo_code_text.specs.CodeLines.{Building}
@@ -63,6 +64,28 @@ pub record IsAligned (o : Open) : Type 0 where
   pub pieces : length o.pieces.items ≡ length o.instrs.items
   pub notes : length o.notes.items ≡ length o.instrs.items
   pub below : All (ListsBelow (length o.instrs.items)) o.instrs.items
+
+-- without its lists and its note, the function has one more instruction
+pub record HasCode (before after : Open) (instr : Instr) (place : ℕ) : Type 0 where
+  pub instrs : after.instrs.items ≡ before.instrs.items ++ instr ∷ []
+  pub places : after.places.items ≡ before.places.items ++ place ∷ []
+  pub lists : after.lists.items ≡ before.lists.items
+  pub pieces : after.pieces.items ≡ before.pieces.items
+  pub notes : after.notes.items ≡ before.notes.items
+  pub types : after.types.items ≡ before.types.items
+  pub classes : after.classes.items ≡ before.classes.items
+  pub others : record (open_of after) { body = [] } ≡ record (open_of before) { body = [] }
+
+-- the function has one more instruction, with its place, its lists and its note
+pub record HasOneMore (before after : Open) (instr : Instr) (named : NamedInstr) : Type 0 where
+  pub instrs : after.instrs.items ≡ before.instrs.items ++ instr ∷ []
+  pub places : after.places.items ≡ before.places.items ++ named.place ∷ []
+  pub lists : after.lists.items ≡ before.lists.items ++ named.op.from.items ∷ []
+  pub pieces : after.pieces.items ≡ before.pieces.items ++ named.op.pieces.items ∷ []
+  pub notes : after.notes.items ≡ before.notes.items ++ named.op.note ∷ []
+  pub types : after.types.items ≡ before.types.items
+  pub classes : after.classes.items ≡ before.classes.items
+  pub others : record (open_of after) { body = [] } ≡ record (open_of before) { body = [] }
 
 abbrev pub building_of : CodeBuilding → Building
 building_of b = record {

@@ -69,6 +69,19 @@ starting words =
     on_some (read_removes (word_at words 3)) (λ removes.
     Some (record { op = Go 0 c.from passes removes; name = c.name }))))
 
+-- what the words of a call, and those of a goroutine's start, say of regions
+abbrev pub call_note : List (List ℕ) → Option Note
+call_note words =
+    on_some (read_passes (word_at words 3)) (λ passes.
+    on_some (read_regions 80 (word_at words 4)) (λ protects.
+    on_some (read_removes (word_at words 5)) (λ removes.
+    Some (record (removing removes) { passes = passes; protects = protects }))))
+
+abbrev pub go_note : List (List ℕ) → Option Note
+go_note words =
+    on_some (read_passes (word_at words 2)) (λ passes.
+    on_some (read_removes (word_at words 3)) (λ removes. Some (record (removing removes) { passes = passes })))
+
 abbrev pub jumping : List (List ℕ) → Option NamedOp
 jumping words =
     on_some (read_number (word_at words 1)) (λ target.

@@ -45,7 +45,7 @@ is_word [] = false
 is_word (b ∷ bytes) = is_letter b && list_all is_word_byte bytes
 
 -- a word that is no keyword
-abbrev pub is_name : List ℕ → Bool
+unfoldable pub is_name : List ℕ → Bool
 is_name bytes = is_word bytes && not (is_among keywords bytes)
 
 abbrev pub AreNames : List (List ℕ) → Type 0

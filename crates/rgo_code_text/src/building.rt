@@ -1,6 +1,6 @@
 //! Code, made of the items of its text.
 
-ghost use Rattle.std.specs.Prelude.{◌≡◌, ◌++◌, ◌∷◌, [], map, drop, All, OnOk, IfOk};
+ghost use Rattle.std.specs.Prelude.{◌≡◌, ◌++◌, ◌∷◌, [], length, map, drop, All, OnOk, IfOk};
 ghost use Rattle.std.specs.Option.{option_map};
 ghost use Rattle.rgo_code.specs.Views.{slot, code_fn};
 ghost use Rattle.rgo_code_text.specs.Building as spec;
@@ -8,7 +8,8 @@ ghost use Rattle.rgo_code_text.specs.Building.{names_now, names_in, declared_in,
 ghost use Rattle.rgo_code_text.specs.CodeLines as lines;
 ghost use Rattle.rgo_code_text.specs.CodeLines.{no_function, nothing, with_line, with_lines};
 ghost use Rattle.rgo_code_text.specs.Items.{ItemFits};
-ghost use Rattle.rgo_code_text.specs.Opened.{open_of, IsAligned, building_of, AllAligned, with_slot, with_instr};
+ghost use Rattle.rgo_code_text.specs.Opened.{open_of, IsAligned, IsNumbered, building_of, AllAligned};
+ghost use Rattle.rgo_code_text.specs.Opened.{HasCode, HasOneMore, with_slot, with_instr};
 ghost use Rattle.rgo_code_text.specs.Views.{item_of, instr_of, named_slot_of, named_type_of};
 
 use crate::items::{Item, NamedInstr, NamedSlot};
@@ -162,6 +163,55 @@ fn add_slot(tables: &Tables<'_>, current: &mut Open, slot: NamedSlot<'_>) -> Res
     Ok(())
 }
 
+/// Adds the lists of an instruction.
+fn push_lists(
+    lists: &mut Vec<Row<u32>>,
+    pieces: &mut Vec<Row<Piece>>,
+    from: Vec<u32>,
+    printed: Vec<Piece>,
+) -> Result<(), AllocError>
+    ensures lists { OnOk result (lists.new.items ≡ lists.old.items ++ from.items ∷ []) }
+    ensures pieces { OnOk result (pieces.new.items ≡ pieces.old.items ++ printed.items ∷ []) }
+{
+    lists.push(Row::new(from))?;
+    pieces.push(Row::new(printed))?;
+    Ok(())
+}
+
+/// Adds an instruction without its lists, and its place.
+fn push_code(current: &mut Open, instr: Instr, place: u32) -> Result<(), AllocError>
+    ensures { OnOk result (HasCode current.old current.new instr place) }
+{
+    current.instrs.push(instr)?;
+    current.places.push(place as usize)?;
+    Ok(())
+}
+
+/// Adds an instruction, with what else its operation has.
+fn push_op(current: &mut Open, instr: Instr, named: NamedInstr<'_>) -> Result<(), AllocError>
+    ensures { OnOk result (HasOneMore current.old current.new instr named.entry) }
+{
+    let NamedInstr { place, op, .. } = named;
+    let NamedOp {
+        from,
+        pieces,
+        note,
+        ..
+    } = op;
+    push_code(current, instr, place)?;
+    push_lists(&mut current.lists, &mut current.pieces, from, pieces)?;
+    current.notes.push(note)?;
+    Ok(())
+}
+
+/// The next instruction of a function, with the numbers of what it names and of its lists.
+fn next_instr(tables: &Tables<'_>, current: &Open, op: &NamedOp<'_>) -> Result<Instr, AllocError>
+    ensures { IfOk result (λ i. IsNumbered (names_now tables.now) op.now (length current.now.instrs.items) i) }
+{
+    let list = narrow(current.instrs.len())?;
+    numbered_instr(tables, &current.types, op, list)
+}
+
 fn add_instr(
     tables: &Tables<'_>,
     current: &mut Open,
@@ -173,21 +223,8 @@ fn add_instr(
         (spec.numbered_instr (names_now tables.now) (instr_of named.entry) named.entry.op.name.now)) }
     ensures aligned { OnOk result (IsAligned current.new) }
 {
-    let NamedInstr { place, op, .. } = named;
-    let list = narrow(current.instrs.len())?;
-    let instr = numbered_instr(tables, &current.types, &op, list)?;
-    let NamedOp {
-        from,
-        pieces,
-        note,
-        ..
-    } = op;
-    current.instrs.push(instr)?;
-    current.places.push(place as usize)?;
-    current.lists.push(Row::new(from))?;
-    current.pieces.push(Row::new(pieces))?;
-    current.notes.push(note)?;
-    Ok(())
+    let instr = next_instr(tables, current, &named.op)?;
+    push_op(current, instr, named)
 }
 
 /// A function that is complete, and what it says of regions.
@@ -316,8 +353,8 @@ pub(crate) fn code(
     requires counts { CountsAre counts (declared_in (map item_of items.items)) }
     ensures { IfOk result (λ c. c ≡ code_of (map item_of items.entry.items)) }
 {
-    let building = collected(alloc, tables, items)?;
     let undeclared = undeclared(alloc, tables, counts)?;
+    let building = collected(alloc, tables, items)?;
     let Building {
         structs,
         variables,

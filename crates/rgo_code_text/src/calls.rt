@@ -1,18 +1,21 @@
 //! Calls and goroutines' starts in a code text, as they are read.
 
-ghost use Rattle.std.specs.Prelude.{◌≡◌, ℕ, List, [], get_or, IfOk};
+ghost use Rattle.std.specs.Prelude.{◌≡◌, ℕ, List, [], ◌∷◌, get_or, IfOk};
 ghost use Rattle.std.specs.Option.{option_map};
 ghost use Rattle.rgo_typed.specs.declared.statements.Piece.{Piece};
 ghost use Rattle.rgo_tac.specs.Code as tac;
 ghost use Rattle.rgo_tac.specs.Views.{op_of};
 ghost use Rattle.rgo_code_text.specs.Cuts.{nows};
-ghost use Rattle.rgo_code_text.specs.Ops.{of_length, calling, starting, read_callee};
+ghost use Rattle.rgo_code.specs.Views.{code_op};
+ghost use Rattle.rgo_code_text.specs.Ops as spec;
+ghost use Rattle.rgo_code_text.specs.Ops.{of_length, calling, starting, removing};
 ghost use Rattle.rgo_code_text.specs.Views.{callee_of, named_op_of};
 
 use crate::cuts::{len_to, word_at};
 use crate::lists::{inside, numbers, passes, regions, removes};
-use crate::ops::{NamedOp, removals};
+use crate::ops::{NamedOp, no_numbers};
 use crate::words::{is_name, value};
+use rgo_code::{Class, Note};
 use rgo_tac::Instr;
 use rgo_typed::Row;
 use std::alloc::{AllocError, Global};
@@ -25,7 +28,7 @@ pub(crate) struct Callee<'t> {
 }
 
 fn read_callee(alloc: Global, word: &[u8]) -> Result<Option<Callee<'_>>, AllocError>
-    ensures { IfOk result (λ r. option_map callee_of r ≡ read_callee word.now) }
+    ensures { IfOk result (λ r. option_map callee_of r ≡ spec.read_callee word.now) }
 {
     let len = len_to(word, b'(');
     let name = &word[..len];
@@ -51,6 +54,65 @@ fn call_instr(to: Option<u32>) -> Instr
     }
 }
 
+/// A note of what is passed, kept and removed.
+fn passing(alloc: Global, passes: Row<Class>, protects: Row<u32>, removes: Row<u32>) -> Note
+    ensures { result ≡ record (removing removes) { passes = passes; protects = protects } }
+{
+    Note {
+        creates: no_numbers(alloc),
+        passes,
+        protects,
+        removes,
+        otherwise: no_numbers(alloc),
+    }
+}
+
+/// What a call says of regions, by its words.
+fn call_note(alloc: Global, words: &[&[u8]]) -> Result<Option<Note>, AllocError>
+    ensures { IfOk result (λ r. r ≡ spec.call_note (nows words.now)) }
+{
+    let Some(passes) = passes(alloc, word_at(words, 3))? else {
+        return Ok(None);
+    };
+    let Some(protects) = regions(alloc, word_at(words, 4), b'P')? else {
+        return Ok(None);
+    };
+    match removes(alloc, word_at(words, 5))? {
+        Some(removes) => Ok(Some(passing(alloc, passes, protects, removes))),
+        None => Ok(None),
+    }
+}
+
+/// What the start of a goroutine says of regions, by its words.
+fn go_note(alloc: Global, words: &[&[u8]]) -> Result<Option<Note>, AllocError>
+    ensures { IfOk result (λ r. r ≡ spec.go_note (nows words.now)) }
+{
+    let Some(passes) = passes(alloc, word_at(words, 2))? else {
+        return Ok(None);
+    };
+    match removes(alloc, word_at(words, 3))? {
+        Some(removes) => Ok(Some(passing(alloc, passes, no_numbers(alloc), removes))),
+        None => Ok(None),
+    }
+}
+
+/// An instruction with the arguments of a callee.
+fn with_callee<'t>(alloc: Global, instr: Instr, callee: Callee<'t>, note: Note) -> NamedOp<'t>
+    ensures { named_op_of result ≡ record {
+      op = code_op (op_of (callee.entry.from ∷ []) ([] ∷ []) instr) note;
+      name = callee.entry.name.now;
+    } }
+{
+    let Callee { name, from } = callee;
+    NamedOp {
+        instr,
+        name,
+        from: from.into_items(),
+        pieces: Vec::new(alloc),
+        note,
+    }
+}
+
 /// `call d f(..) R[..] P[..] -[..]`.
 pub(crate) fn call<'t>(alloc: Global, words: &[&'t [u8]]) -> Result<Option<NamedOp<'t>>, AllocError>
     ensures { IfOk result (λ r. option_map named_op_of r
@@ -65,26 +127,10 @@ pub(crate) fn call<'t>(alloc: Global, words: &[&'t [u8]]) -> Result<Option<Named
     let Some(callee) = read_callee(alloc, word_at(words, 2))? else {
         return Ok(None);
     };
-    let Some(passes) = passes(alloc, word_at(words, 3))? else {
-        return Ok(None);
-    };
-    let Some(protects) = regions(alloc, word_at(words, 4), b'P')? else {
-        return Ok(None);
-    };
-    let Some(removes) = removes(alloc, word_at(words, 5))? else {
-        return Ok(None);
-    };
-    let Callee { name, from } = callee;
-    let mut note = removals(alloc, removes);
-    note.passes = passes;
-    note.protects = protects;
-    Ok(Some(NamedOp {
-        instr: call_instr(to),
-        name,
-        from: from.into_items(),
-        pieces: Vec::new(alloc),
-        note,
-    }))
+    match call_note(alloc, words)? {
+        Some(note) => Ok(Some(with_callee(alloc, call_instr(to), callee, note))),
+        None => Ok(None),
+    }
 }
 
 /// `go f(..) R[..] -[..]`.
@@ -98,20 +144,8 @@ pub(crate) fn go<'t>(alloc: Global, words: &[&'t [u8]]) -> Result<Option<NamedOp
     let Some(callee) = read_callee(alloc, word_at(words, 1))? else {
         return Ok(None);
     };
-    let Some(passes) = passes(alloc, word_at(words, 2))? else {
-        return Ok(None);
-    };
-    let Some(removes) = removes(alloc, word_at(words, 3))? else {
-        return Ok(None);
-    };
-    let Callee { name, from } = callee;
-    let mut note = removals(alloc, removes);
-    note.passes = passes;
-    Ok(Some(NamedOp {
-        instr: Instr::Go(0, 0),
-        name,
-        from: from.into_items(),
-        pieces: Vec::new(alloc),
-        note,
-    }))
+    match go_note(alloc, words)? {
+        Some(note) => Ok(Some(with_callee(alloc, Instr::Go(0, 0), callee, note))),
+        None => Ok(None),
+    }
 }

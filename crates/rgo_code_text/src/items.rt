@@ -1,10 +1,12 @@
 //! Lines of a code text, as they are read. What they name is not resolved yet.
 
-ghost use Rattle.std.specs.Prelude.{◌≡◌, IfOk};
+ghost use Rattle.std.specs.Prelude.{◌≡◌, ℕ, List, IfOk};
 ghost use Rattle.std.specs.Option.{option_map};
 ghost use Rattle.rgo_code_text.specs.Cuts as cuts;
+ghost use Rattle.rgo_code_text.specs.Cuts.{nows};
 ghost use Rattle.rgo_code_text.specs.Items.{ItemFits, item_line};
-ghost use Rattle.rgo_code_text.specs.Lines.{read_fields, read_slot, read_result, instr_with, InstrFits};
+ghost use Rattle.rgo_code_text.specs.Lines as lines;
+ghost use Rattle.rgo_code_text.specs.Lines.{read_fields, read_slot, read_result, instr_with, InstrFits, IsCut};
 ghost use Rattle.rgo_code_text.specs.Lines.{struct_of, global_of, function_of, slot_of, entry_of};
 ghost use Rattle.rgo_code_text.specs.Readers.{IsRead};
 ghost use Rattle.rgo_code_text.specs.Views.{item_of, instr_of, named_op_of, named_slot_of, types_of};
@@ -67,33 +69,31 @@ fn fields(alloc: Global, list: &[u8]) -> Result<Option<Vec<NamedType<'_>>>, Allo
 }
 
 /// `struct NAME TYPE..`.
-fn a_struct(alloc: Global, line: &[u8]) -> Result<Option<Item<'_>>, AllocError>
-    ensures { IfOk result (λ r. option_map item_of r ≡ struct_of (cuts.cut 2 line.now)) }
+fn a_struct<'t>(alloc: Global, words: &[&'t [u8]]) -> Result<Option<Item<'t>>, AllocError>
+    ensures { IfOk result (λ r. option_map item_of r ≡ struct_of (nows words.now)) }
 {
-    let words = cut(alloc, line, 2)?;
-    let name = word_at(&words, 1);
+    let name = word_at(words, 1);
     if !is_name(name) {
         return Ok(None);
     }
     if words.len() == 2 {
         return Ok(Some(Item::Struct(name, Vec::new(alloc))));
     }
-    match fields(alloc, word_at(&words, 2))? {
+    match fields(alloc, word_at(words, 2))? {
         Some(types) => Ok(Some(Item::Struct(name, types))),
         None => Ok(None),
     }
 }
 
 /// `global NAME TYPE`.
-fn a_global(alloc: Global, line: &[u8]) -> Result<Option<Item<'_>>, AllocError>
-    ensures { IfOk result (λ r. option_map item_of r ≡ global_of (cuts.cut 2 line.now)) }
+fn a_global<'t>(alloc: Global, words: &[&'t [u8]]) -> Result<Option<Item<'t>>, AllocError>
+    ensures { IfOk result (λ r. option_map item_of r ≡ global_of (nows words.now)) }
 {
-    let words = cut(alloc, line, 2)?;
-    let name = word_at(&words, 1);
+    let name = word_at(words, 1);
     if words.len() != 3 || !is_name(name) {
         return Ok(None);
     }
-    match named_type(alloc, word_at(&words, 2))? {
+    match named_type(alloc, word_at(words, 2))? {
         Some(ty) => Ok(Some(Item::Global(name, ty))),
         None => Ok(None),
     }
@@ -130,46 +130,43 @@ fn result<'t>(
 }
 
 /// `func NAME COUNT TYPE CLASS`.
-fn a_function(alloc: Global, line: &[u8]) -> Result<Option<Item<'_>>, AllocError>
-    ensures { IfOk result (λ r. option_map item_of r ≡ function_of (cuts.cut 4 line.now)) }
+fn a_function<'t>(alloc: Global, words: &[&'t [u8]]) -> Result<Option<Item<'t>>, AllocError>
+    ensures { IfOk result (λ r. option_map item_of r ≡ function_of (nows words.now)) }
 {
-    let words = cut(alloc, line, 4)?;
-    let name = word_at(&words, 1);
+    let name = word_at(words, 1);
     if words.len() != 5 || !is_name(name) {
         return Ok(None);
     }
-    let Some(params) = number(word_at(&words, 2)) else {
+    let Some(params) = number(word_at(words, 2)) else {
         return Ok(None);
     };
-    match result(alloc, word_at(&words, 3), word_at(&words, 4))? {
+    match result(alloc, word_at(words, 3), word_at(words, 4))? {
         Some(result) => Ok(Some(Item::Function(name, params, result))),
         None => Ok(None),
     }
 }
 
 /// `var TYPE CLASS`.
-fn a_slot(alloc: Global, line: &[u8]) -> Result<Option<Item<'_>>, AllocError>
-    ensures { IfOk result (λ r. option_map item_of r ≡ slot_of (cuts.cut 2 line.now)) }
+fn a_slot<'t>(alloc: Global, words: &[&'t [u8]]) -> Result<Option<Item<'t>>, AllocError>
+    ensures { IfOk result (λ r. option_map item_of r ≡ slot_of (nows words.now)) }
 {
-    let words = cut(alloc, line, 2)?;
     if words.len() != 3 {
         return Ok(None);
     }
-    match slot(alloc, word_at(&words, 1), word_at(&words, 2))? {
+    match slot(alloc, word_at(words, 1), word_at(words, 2))? {
         Some(slot) => Ok(Some(Item::Slot(slot))),
         None => Ok(None),
     }
 }
 
 /// `entry -[..]`.
-fn an_entry(alloc: Global, line: &[u8]) -> Result<Option<Item<'_>>, AllocError>
-    ensures { IfOk result (λ r. option_map item_of r ≡ entry_of (cuts.cut 1 line.now)) }
+fn an_entry<'t>(alloc: Global, words: &[&'t [u8]]) -> Result<Option<Item<'t>>, AllocError>
+    ensures { IfOk result (λ r. option_map item_of r ≡ entry_of (nows words.now)) }
 {
-    let words = cut(alloc, line, 1)?;
     if words.len() != 2 {
         return Ok(None);
     }
-    match removes(alloc, word_at(&words, 1))? {
+    match removes(alloc, word_at(words, 1))? {
         Some(names) => Ok(Some(Item::Entry(names.into_items()))),
         None => Ok(None),
     }
@@ -216,25 +213,64 @@ fn instr_item<'t>(
 }
 
 /// `INDEX @PLACE +[..]`, and an operation.
-fn an_instr(alloc: Global, line: &[u8]) -> Result<Option<Item<'_>>, AllocError>
-    ensures { IfOk result (λ r. IsRead InstrFits item_line line.now (option_map item_of r)) }
+fn an_instr<'t>(alloc: Global, words: &[&'t [u8]]) -> Result<Option<Item<'t>>, AllocError>
+    ensures { IfOk result (λ r. (line : List ℕ) → nows words.now ≡ cuts.cut 3 line
+        → IsRead InstrFits item_line line (option_map item_of r)) }
 {
-    let words = cut(alloc, line, 3)?;
     if words.len() != 4 {
         return Ok(None);
     }
-    let Some(index) = number(word_at(&words, 0)) else {
+    let Some(index) = number(word_at(words, 0)) else {
         return Ok(None);
     };
-    let Some(place) = lettered(word_at(&words, 1), b'@') else {
+    let Some(place) = lettered(word_at(words, 1), b'@') else {
         return Ok(None);
     };
-    let Some(creates) = regions(alloc, word_at(&words, 2), b'+')? else {
+    let Some(creates) = regions(alloc, word_at(words, 2), b'+')? else {
         return Ok(None);
     };
-    match named_op(alloc, word_at(&words, 3))? {
+    match named_op(alloc, word_at(words, 3))? {
         Some(op) => Ok(Some(instr_item(alloc, index, place, creates, op)?)),
         None => Ok(None),
+    }
+}
+
+/// At how many spaces a line with this first word is cut.
+fn spaces(word: &[u8]) -> usize
+    ensures { result ≡ lines.spaces word.now }
+{
+    if is(word, "func") {
+        4
+    } else if is(word, "entry") {
+        1
+    } else if is(word, "struct") || is(word, "global") || is(word, "var") {
+        2
+    } else {
+        3
+    }
+}
+
+/// What a line is by its first word and its words, if it is neither the first line nor the end of a function.
+fn worded_item<'t>(
+    alloc: Global,
+    word: &[u8],
+    words: &[&'t [u8]],
+) -> Result<Option<Item<'t>>, AllocError>
+    ensures { IfOk result (λ r. (line : List ℕ) → IsCut line word.now (nows words.now)
+        → IsRead ItemFits item_line line (option_map item_of r)) }
+{
+    if is(word, "struct") {
+        a_struct(alloc, words)
+    } else if is(word, "global") {
+        a_global(alloc, words)
+    } else if is(word, "func") {
+        a_function(alloc, words)
+    } else if is(word, "var") {
+        a_slot(alloc, words)
+    } else if is(word, "entry") {
+        an_entry(alloc, words)
+    } else {
+        an_instr(alloc, words)
     }
 }
 
@@ -249,17 +285,6 @@ pub(crate) fn read_item(alloc: Global, line: &[u8]) -> Result<Option<Item<'_>>, 
         return Ok(Some(Item::End));
     }
     let word = &line[..len_to(line, b' ')];
-    if is(word, "struct") {
-        a_struct(alloc, line)
-    } else if is(word, "global") {
-        a_global(alloc, line)
-    } else if is(word, "func") {
-        a_function(alloc, line)
-    } else if is(word, "var") {
-        a_slot(alloc, line)
-    } else if is(word, "entry") {
-        an_entry(alloc, line)
-    } else {
-        an_instr(alloc, line)
-    }
+    let words = cut(alloc, line, spaces(word))?;
+    worded_item(alloc, word, &words)
 }

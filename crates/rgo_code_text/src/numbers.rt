@@ -8,7 +8,7 @@ ghost use Rattle.rgo_code_text.specs.Building.{names_in, declared_in, CountsAre,
 ghost use Rattle.rgo_code_text.specs.Building.{op_structs, op_variables, op_functions, with_names};
 ghost use Rattle.rgo_code_text.specs.Numbers.{with_name};
 ghost use Rattle.rgo_code_text.specs.Views.{item_of, named_type_of, named_slot_of, named_op_of};
-ghost use Rattle.rgo_code_text.specs.Written.{number_of};
+ghost use Rattle.rgo_code_text.specs.Written.{no_names, number_of};
 
 use crate::items::{Item, NamedSlot};
 use crate::ops::NamedOp;
@@ -211,25 +211,37 @@ fn note_all<'t>(tables: &mut Tables<'t>, items: &[Item<'t>]) -> Result<(), Alloc
     Ok(())
 }
 
-/// The numbers of all names, and how many of them are declared.
-pub(crate) fn number_names<'t>(
-    alloc: Global,
-    items: &[Item<'t>],
-) -> Result<(Tables<'t>, Counts), AllocError>
-    ensures { IfOk result (λ r. (names_now r.0 ≡ names_in (map item_of items.now))
-        × CountsAre r.1 (declared_in (map item_of items.now))) }
+pub(crate) fn no_tables<'t>(alloc: Global) -> Tables<'t>
+    ensures { names_now result ≡ no_names }
 {
-    let mut tables = Tables {
+    Tables {
         structs: Numbers::new(alloc),
         globals: Numbers::new(alloc),
         functions: Numbers::new(alloc),
-    };
-    declare_all(&mut tables, items)?;
-    let counts = Counts {
+    }
+}
+
+fn counts_of(tables: &Tables<'_>) -> Counts
+    ensures { CountsAre result (names_now tables.now) }
+{
+    Counts {
         structs: tables.structs.len(),
         globals: tables.globals.len(),
         functions: tables.functions.len(),
-    };
-    note_all(&mut tables, items)?;
-    Ok((tables, counts))
+    }
+}
+
+/// Numbers all names, in tables that have none yet, and returns how many of them are declared.
+pub(crate) fn number_names<'t>(
+    tables: &mut Tables<'t>,
+    items: &[Item<'t>],
+) -> Result<Counts, AllocError>
+    requires { names_now tables.old ≡ no_names }
+    ensures names { OnOk result (names_now tables.new ≡ names_in (map item_of items.now)) }
+    ensures counts { IfOk result (λ counts. CountsAre counts (declared_in (map item_of items.now))) }
+{
+    declare_all(tables, items)?;
+    let counts = counts_of(tables);
+    note_all(tables, items)?;
+    Ok(counts)
 }

@@ -31,7 +31,7 @@ pub(crate) struct NamedOp<'t> {
     pub(crate) note: Note,
 }
 
-fn no_numbers(alloc: Global) -> Row<u32>
+pub(crate) fn no_numbers(alloc: Global) -> Row<u32>
     ensures { result ≡ [] }
 {
     Row::new(Vec::new(alloc))

@@ -1,16 +1,18 @@
 //! A code text, read line by line.
 
-ghost use Rattle.std.specs.Prelude.{◌≡◌, map, IfOk, MatchResult};
+ghost use Rattle.std.specs.Prelude.{◌≡◌, map, All, IfOk, MatchResult};
 ghost use Rattle.std.specs.Option.{option_map};
 ghost use Rattle.rgo_code_printing.specs.Text.{text_of};
+ghost use Rattle.rgo_code_text.specs.Building.{code_of, names_now};
+ghost use Rattle.rgo_code_text.specs.Items.{ItemFits};
 ghost use Rattle.rgo_code_text.specs.Walk.{AreItems, StepIs, StopsIn, Refuses};
 ghost use Rattle.rgo_code_text.specs.Views.{item_of};
-ghost use Rattle.rgo_code_text.specs.Written.{IsWritten};
+ghost use Rattle.rgo_code_text.specs.Written.{IsWritten, no_names};
 
 use crate::building::code;
 use crate::cuts::len_to;
 use crate::items::{Item, read_item};
-use crate::numbers::number_names;
+use crate::numbers::{Tables, no_tables, number_names};
 use crate::places::Place;
 use crate::refusals::{CodeText, ReadError};
 use rgo_code::Code;
@@ -61,6 +63,29 @@ pub(crate) fn items(alloc: Global, text: &[u8]) -> Result<Vec<Item<'_>>, ReadErr
     Err(ReadError::NoMemory)
 }
 
+/// The code of these lines, whose names are numbered in tables that have none yet.
+fn assembled<'t>(
+    alloc: Global,
+    tables: &mut Tables<'t>,
+    items: Vec<Item<'t>>,
+) -> Result<Code, AllocError>
+    requires fit { All ItemFits (map item_of items.items) }
+    requires empty { names_now tables.old ≡ no_names }
+    ensures { IfOk result (λ c. c ≡ code_of (map item_of items.entry.items)) }
+{
+    let counts = number_names(tables, &items)?;
+    code(alloc, tables, counts, items)
+}
+
+/// The code of these lines.
+fn code_in(alloc: Global, items: Vec<Item<'_>>) -> Result<Code, AllocError>
+    requires { All ItemFits (map item_of items.items) }
+    ensures { IfOk result (λ c. c ≡ code_of (map item_of items.entry.items)) }
+{
+    let mut tables = no_tables(alloc);
+    assembled(alloc, &mut tables, items)
+}
+
 /// The code of which this is the text.
 ///
 /// # Errors
@@ -70,8 +95,7 @@ pub fn read_code(alloc: Global, text: &[u8]) -> Result<Code, ReadError>
     ensures { MatchResult result (λ code. (text.now ≡ text_of code) × IsWritten code) (λ e. Refuses text.now e) }
 {
     let items = items(alloc, text)?;
-    let (tables, counts) = number_names(alloc, &items)?;
-    match code(alloc, &tables, counts, items) {
+    match code_in(alloc, items) {
         Ok(code) => Ok(code),
         Err(_) => Err(ReadError::NoMemory),
     }

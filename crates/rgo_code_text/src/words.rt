@@ -76,6 +76,7 @@ fn is_word(bytes: &[u8]) -> bool
     }
 }
 
+#[tactic(auto, unfolding(crate::specs::Written::is_name))]
 /// Whether these bytes are a name.
 pub(crate) fn is_name(bytes: &[u8]) -> bool
     ensures { result ≡ spec.is_name bytes.now }

@@ -9,6 +9,15 @@ use Rattle.rgo_code_text.specs.Readers.{read_regions}
 use Rattle.rgo_code_text.specs.Views.{action_of}
 use Rattle.rgo_code_text.proofs.ops.act.Goals as goal
 
+pub returns-in_default : goal.returns-in_default
+returns-in_default c =
+    let words = nows c.args.words.now in
+    let last : c.saturating_sub-last.result ≡ length words - 1 = simp length-map (omega (arith, c.saturating_sub-last.ensures)) in
+    let action : read_action (take (length words - 1) words) ≡ None =
+    ap (λ k. read_action (take k words)) (sym last) ∙ ap read_action (take-map _ c.saturating_sub-last.result c.args.words.now)
+    ∙ sym c.read_action.ensures ∙ ap (option_map action_of) c.in_default.is in
+    rw action refl
+
 pub returns-in-Some-2 : goal.returns-in-Some-2
 returns-in-Some-2 c =
     let words = nows c.args.words.now in

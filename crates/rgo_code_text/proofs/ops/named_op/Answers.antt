@@ -1,13 +1,22 @@
-use Rattle.std.proofs.Common.{◌≡◌, Option, sym, ap, ◌∙◌, subst}
+use Rattle.std.proofs.Common.{◌≡◌, ◌-◌, ◌++◌, Option, IfOk, length, take, drop, sym, ap, ◌∙◌, subst, codes}
 use Rattle.std.specs.Option.{option_map}
 use Rattle.rgo_code_text.specs.Cuts.{nows}
 use Rattle.rgo_code_text.specs.Ops.{read_op, op_text, NamedOpFits}
 use Rattle.rgo_code_text.specs.Readers.{IsRead}
 use Rattle.rgo_code_text.specs.Views.{named_op_of}
 use Rattle.rgo_code_text.specs.declared.ops.NamedOp.{NamedOp as CodeNamedOp}
+use Rattle.rgo_code_text.proofs.ListFacts.{rest_of}
 use Rattle.rgo_code_text.proofs.Options.{if_ok}
-use Rattle.rgo_code_text.proofs.OpTexts.{text_read}
+use Rattle.rgo_code_text.proofs.OpTexts.{print_front, text_read}
 use Rattle.rgo_code_text.proofs.ops.named_op.Goals as goal
+
+pub returns-then-is_print : goal.returns-then-is_print
+returns-then-is_print c =
+    let text = c.args.text.now in
+    let whole : codes "print " ++ take (length text - 6) (drop 6 text) ≡ text =
+    ap (λ t. codes "print " ++ t) (rest_of text 6) ∙ print_front text (sym c.is_print.ensures ∙ c.if-is_print.true) in
+    subst (λ t. IfOk c.print.result (λ (r : Option CodeNamedOp). IsRead NamedOpFits op_text t (option_map named_op_of r))) whole
+    c.print.ensures
 
 pub returns : goal.returns
 returns c =
