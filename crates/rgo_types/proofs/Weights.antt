@@ -8,8 +8,10 @@ use Rattle.rgo_ast.specs.declared.statements.Stmt.{Stmt as CodeStmt}
 abbrev mutual
   pub weight : Stmt → ℕ
   weight (tree.Block all at) = suc (suc (suc (weights all)))
-  weight (tree.If init test body other at) = suc (suc (suc (clause_weight init + (weights body + clause_weight other))))
-  weight (tree.For init test post body at) = suc (suc (suc (clause_weight init + (clause_weight post + weights body))))
+  weight (tree.If init test body other at) =
+      suc (suc (suc (suc (clause_weight init + (weights body + clause_weight other)))))
+  weight (tree.For init test post body at) =
+      suc (suc (suc (suc (clause_weight init + (clause_weight post + weights body)))))
   weight _ = 0
 
   pub weights : Stmts → ℕ

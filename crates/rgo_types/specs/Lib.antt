@@ -1,10 +1,4 @@
 pub mod Flow
-pub mod Imports
-pub mod Names
-pub mod Numbering
-pub mod Outcomes
+pub mod Nested
 pub mod Programs
-pub mod Signatures
-pub mod Statements
-pub mod TypedStatements
 pub mod Views

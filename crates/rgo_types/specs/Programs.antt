@@ -12,45 +12,14 @@ use Rattle.rgo_typing_rules.specs.declared.meanings.Meaning.{Meaning}
 use Rattle.rgo_typing_rules.specs.declared.meanings.Meaning.TheVariants as meaning
 use Rattle.rgo_scopes.specs.Blocks.{found}
 use Rattle.rgo_typing_expressions.specs.Packages.{Package, Context}
-use Rattle.rgo_typing_expressions.specs.Scopes.{no_locals, in_scope, signature_at}
+use Rattle.rgo_typing_expressions.specs.Scopes.{in_scope, signature_at}
+use Rattle.rgo_typing_packages.specs.Packages.{outside_functions, signatures_in, package_of, package_sites}
+use Rattle.rgo_typing_packages.specs.Signatures.{params_of, result_of}
 use Rattle.rgo_types.specs.Flow.{ends}
-use Rattle.rgo_types.specs.Imports.{all_import_fmt, import_sites}
-use Rattle.rgo_types.specs.Numbering.{numbered, no_numbers}
-use Rattle.rgo_types.specs.Signatures.{Signatures, no_signatures, with_decls, decls_sites, params_of, result_of}
-use Rattle.rgo_types.specs.Statements.{Enclosing, all_sites, after_all}
-use Rattle.rgo_types.specs.TypedStatements.{typed_all}
+use Rattle.rgo_typing_statements.specs.Statements.{Enclosing, all_sites, after_all}
+use Rattle.rgo_typing_statements.specs.TypedStatements.{typed_all}
 
--- ---- the package
-
--- where no local variable is in scope
-abbrev pub outside_functions : Package → Context
-outside_functions p = record { globals = p; scope = no_locals }
-
--- names of the package by their meanings alone
-abbrev pub named_package : Program → Package
-named_package program = record {
-  imported = all_import_fmt false program.imports;
-  names = (numbered no_numbers program.decls).names;
-  structs = [];
-  variables = [];
-  functions = [];
-}
-
-abbrev pub signatures_in : Program → Signatures
-signatures_in program = with_decls (outside_functions (named_package program)) no_signatures program.decls
-
--- names, with all that they mean
-abbrev pub whole_package : Package → Signatures → Package
-whole_package p s = record {
-  imported = p.imported;
-  names = p.names;
-  structs = s.structs;
-  variables = s.variables;
-  functions = s.functions;
-}
-
-abbrev pub package_of : Program → Package
-package_of program = whole_package (named_package program) (signatures_in program)
+-- ---- `main`
 
 abbrev pub are_none : List «Type» → Option «Type» → Bool
 are_none [] None = true
@@ -112,18 +81,14 @@ typed_functions c (d ∷ l) = typed_decl c d ++ typed_functions c l
 
 -- ---- the program
 
--- the checked nodes in the order of checking: those of imports, and of types, package variables and signatures
-abbrev pub package_sites : Program → List Site
-package_sites program =
-    import_sites false program.imports
-    ++ decls_sites (outside_functions (named_package program)) no_signatures program.decls
+-- the checked nodes of a package: that there is a `main`, and then the bodies
+abbrev pub functions_sites : Package → Program → List Site
+functions_sites p program =
+    (program.end, node.TextEnd (has_main p)) ∷ bodies_sites (outside_functions p) program.decls
 
--- all of them: that there is a `main` comes next, and then the bodies
+-- the checked nodes in the order of checking: all that is outside of bodies comes first
 abbrev pub sites_of : Program → List Site
-sites_of program =
-    package_sites program
-    ++ (program.end, node.TextEnd (has_main (package_of program)))
-    ∷ bodies_sites (outside_functions (package_of program)) program.decls
+sites_of program = package_sites program ++ functions_sites (package_of program) program
 
 abbrev pub typed_program : Program → Typed
 typed_program program = record {

@@ -1,27 +1,11 @@
--- The views: of what the code keeps while it checks, the plain data that contracts speak of.
-use Rattle.std.specs.Prelude.{◌≡◌, map, Option, Some, None}
-use Rattle.rgo_ast.specs.Tree as tree
-use Rattle.rgo_ast.specs.Tree.{Program}
-use Rattle.rgo_ast.specs.Views.{type_expr_of}
-use Rattle.rgo_ast.specs.declared.types.TypeExpr.{TypeExpr}
+-- The views of a condition that may be left out.
+use Rattle.std.specs.Prelude.{Option, Some, None}
 use Rattle.rgo_typed.specs.Tree.{Term}
 use Rattle.rgo_typed.specs.Views.{term_of}
 use Rattle.rgo_typing_rules.specs.Shapes.{Shape}
-use Rattle.rgo_typing_rules.specs.Views.{kind_of, optional_kind_of, shape_of, signature_of}
+use Rattle.rgo_typing_rules.specs.Views.{shape_of}
 use Rattle.rgo_typing_expressions.specs.declared.results.Checked.{Checked}
-use Rattle.rgo_types.specs.Numbering.{Numbering}
-use Rattle.rgo_types.specs.Programs.{package_of, signatures_in}
-use Rattle.rgo_types.specs.Signatures.{Signatures}
-use Rattle.rgo_types.specs.Statements.{Enclosing}
-use Rattle.rgo_types.specs.declared.checking.Declared.{Declared}
-use Rattle.rgo_types.specs.declared.numbering.Numbering.{Numbering as CodeNumbering}
-use Rattle.rgo_types.specs.declared.signatures.Signatures.{Signatures as CodeSignatures}
-use Rattle.rgo_types.specs.declared.statements.Enclosing.{Enclosing as CodeEnclosing}
 
-abbrev pub enclosing_of : CodeEnclosing → Enclosing
-enclosing_of f = record { result_type = optional_kind_of f.result_type; in_loop = f.in_loop }
-
--- a condition that may be left out
 abbrev pub optional_shape_of : Option Checked → Option Shape
 optional_shape_of None = None
 optional_shape_of (Some e) = Some (shape_of e.shape)
@@ -29,33 +13,3 @@ optional_shape_of (Some e) = Some (shape_of e.shape)
 abbrev pub optional_term_of : Option Checked → Option Term
 optional_term_of None = None
 optional_term_of (Some e) = Some (term_of e.term)
-
-abbrev pub numbering_of : CodeNumbering → Numbering
-numbering_of n = record {
-  names = n.names;
-  structs = n.structs;
-  variables = n.variables;
-  functions = n.functions;
-}
-
-abbrev pub signatures_of : CodeSignatures → Signatures
-signatures_of s = record {
-  seen = s.seen;
-  structs = s.structs.items;
-  variables = map kind_of s.variables.items;
-  functions = map signature_of s.functions.items;
-  typed_structs = s.typed_structs.items;
-  typed_variables = s.typed_variables.items;
-}
-
--- a type that may be left out
-abbrev pub optional_type_expr_of : Option TypeExpr → Option tree.TypeExpr
-optional_type_expr_of None = None
-optional_type_expr_of (Some ty) = Some (type_expr_of ty)
-
--- what the declarations outside of functions come to
-abbrev pub Declares : Declared → Program → Type 0
-Declares d program =
-    (d.package ≡ package_of program)
-    × (d.structs.items ≡ (signatures_in program).typed_structs)
-    × (d.variables.items ≡ (signatures_in program).typed_variables)

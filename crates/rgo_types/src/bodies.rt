@@ -4,19 +4,21 @@
 ghost use Rattle.std.specs.Prelude.{◌≡◌, ◌++◌, IfOk, OnOk, map};
 ghost use Rattle.rgo_ast.specs.Views.{decl_of, function_of};
 ghost use Rattle.rgo_typed.specs.Views as typed;
+ghost use Rattle.rgo_typed.specs.Views.{stmt_of};
 ghost use Rattle.rgo_typing_rules.specs.Checks.{Checks};
-ghost use Rattle.rgo_typing_rules.specs.Views.{optional_kind_of};
+ghost use Rattle.rgo_typing_rules.specs.Views.{kind_of, optional_kind_of};
+ghost use Rattle.rgo_types.specs.Nested.{Makes, body_outcome, function_from};
 ghost use Rattle.rgo_types.specs.Programs as spec;
 
 use crate::flow::ends;
-use crate::names::{add_bindings, count};
 use crate::nodes::check_end;
-use crate::signatures::{copied, result_kind, types};
-use crate::statements::{Enclosing, check_stmts};
+use crate::statements::check_stmts;
 use rgo_ast::{Decl, Function as Source};
-use rgo_typed::{Function, Type};
+use rgo_typed::{Function, Stmt, Type};
 use rgo_typing_expressions::{Checker, Scope};
+use rgo_typing_packages::{add_bindings, copied, count, result_kind, types};
 use rgo_typing_rules::{Kind, TypeError};
+use rgo_typing_statements::Enclosing;
 use std::alloc::{AllocError, Global};
 
 fn optional_type(alloc: Global, kind: Option<Kind<'_>>) -> Result<Option<Type>, AllocError>
@@ -39,28 +41,79 @@ fn at_body<'p, 'a>(top: &Checker<'p, 'a>, f: &'a Source) -> Result<Checker<'p, '
 
 /// Checks the statements of a function, and then its end.
 #[tactic(auto, using(rgo_typing_rules::proofs::Refusals::refusals))]
-fn check_body<'a>(top: &Checker<'_, 'a>, f: &'a Source) -> Result<Function, TypeError>
-    ensures checked { Checks result (spec.body_sites top.now (function_of f.now)) }
-    ensures typed { IfOk result (λ t. typed.function_of t ≡ spec.typed_function top.now (function_of f.now)) }
+fn check_stmts_of<'a>(
+    checker: &mut Checker<'_, 'a>,
+    result_type: Option<Kind<'a>>,
+    f: &'a Source,
+) -> Result<Vec<Stmt>, TypeError>
+    ensures { Makes result (body_outcome (optional_kind_of result_type.entry) checker.old (function_of f.now))
+        checker.new }
 {
-    let alloc = top.alloc();
-    let mut checker = at_body(top, f)?;
-    let params = count(checker.scope());
-    let result_type = result_kind(top, &f.result_type);
     let around = Enclosing {
         result_type,
         in_loop: false,
     };
-    let body = check_stmts(&mut checker, around, &f.body)?;
+    let body = check_stmts(checker, around, &f.body)?;
     check_end(f.end, f.result_type.is_some(), ends(&f.body))?;
+    Ok(body)
+}
+
+/// The typed tree of a function, from its local variables, the first of them its parameters, and its
+/// checked statements.
+fn typed_function(
+    alloc: Global,
+    f: &Source,
+    params: usize,
+    locals: &[Kind<'_>],
+    result_type: Option<Kind<'_>>,
+    body: Vec<Stmt>,
+) -> Result<Function, AllocError>
+    ensures { IfOk result (λ t. typed.function_of t ≡ record {
+      name = f.now.name.name;
+      params = params;
+      locals = map kind_of locals.now;
+      result_type = optional_kind_of result_type.entry;
+      body = map stmt_of body.items;
+      end = f.now.end;
+    }) }
+{
+    let name = copied(alloc, &f.name.name)?;
+    let locals = types(alloc, locals)?;
+    let result_type = optional_type(alloc, result_type)?;
     Ok(Function {
-        name: copied(alloc, &f.name.name)?,
+        name,
         params,
-        locals: types(alloc, checker.scope().kinds())?,
-        result_type: optional_type(alloc, result_type)?,
+        locals,
+        result_type,
         body,
         end: f.end,
     })
+}
+
+/// Checks the body of a function from where it begins, and makes the function's typed tree.
+#[tactic(auto, using(rgo_typing_rules::proofs::Refusals::refusals))]
+fn check_from<'a>(
+    checker: &mut Checker<'_, 'a>,
+    result_type: Option<Kind<'a>>,
+    f: &'a Source,
+) -> Result<Function, TypeError>
+    ensures checked { Checks result (body_outcome (optional_kind_of result_type.entry) checker.old (function_of f.now)).sites }
+    ensures typed { IfOk result (λ t. typed.function_of t
+        ≡ function_from (optional_kind_of result_type.entry) checker.old (function_of f.now)) }
+{
+    let params = count(checker.scope());
+    let body = check_stmts_of(checker, result_type, f)?;
+    let locals = checker.scope().kinds();
+    Ok(typed_function(checker.alloc(), f, params, locals, result_type, body)?)
+}
+
+/// Checks a function whose signature was checked, and makes its typed tree.
+fn check_body<'a>(top: &Checker<'_, 'a>, f: &'a Source) -> Result<Function, TypeError>
+    ensures checked { Checks result (spec.body_sites top.now (function_of f.now)) }
+    ensures typed { IfOk result (λ t. typed.function_of t ≡ spec.typed_function top.now (function_of f.now)) }
+{
+    let mut checker = at_body(top, f)?;
+    check_from(&mut checker, result_kind(top, &f.result_type), f)
 }
 
 /// Checks the body of a declaration, where it has one.

@@ -1,21 +1,19 @@
 //! Whole programs.
 #![tactic(auto)]
 
-ghost use Rattle.std.specs.Prelude.{◌≡◌, IfOk};
+ghost use Rattle.std.specs.Prelude.{◌≡◌, IfOk, map};
 ghost use Rattle.rgo_ast.specs.Views.{program_of};
-ghost use Rattle.rgo_typed.specs.Views.{typed_of};
+ghost use Rattle.rgo_typed.specs.Views.{function_of, typed_of};
 ghost use Rattle.rgo_typing_rules.specs.Checks.{Checks};
-ghost use Rattle.rgo_types.specs.Programs.{has_main, package_sites, sites_of, typed_program};
-ghost use Rattle.rgo_types.specs.Views.{Declares};
+ghost use Rattle.rgo_typing_packages.specs.Packages.{outside_functions};
+ghost use Rattle.rgo_types.specs.Programs.{functions_sites, has_main, sites_of, typed_functions, typed_program};
 
 use crate::bodies::check_bodies;
-use crate::imports::check_imports;
 use crate::nodes::check_text_end;
-use crate::numbering::number_decls;
-use crate::signatures::check_decls;
 use rgo_ast::Program;
-use rgo_typed::{Row, Struct, Typed, Variable};
+use rgo_typed::{Function, Row, Typed};
 use rgo_typing_expressions::{Checker, Package};
+use rgo_typing_packages::check_package;
 use rgo_typing_rules::{Meaning, TypeError};
 use std::alloc::Global;
 
@@ -32,41 +30,19 @@ fn has_main(globals: &Package<'_>) -> bool
     }
 }
 
-/// What a program declares outside of its functions: its package, and structs and variables as typed
-/// trees.
-#[derive(Drop)]
-pub(crate) struct Declared<'a> {
-    pub(crate) package: Package<'a>,
-    pub(crate) structs: Vec<Struct>,
-    pub(crate) variables: Vec<Variable>,
-}
-
-/// Checks all of a program but that there is a `main`, and bodies.
+/// Checks that there is a `main`, and then the bodies of all functions.
 #[tactic(auto, using(rgo_typing_rules::proofs::Refusals::refusals))]
-fn check_package<'a>(alloc: Global, program: &'a Program) -> Result<Declared<'a>, TypeError>
-    ensures checked { Checks result (package_sites (program_of program.now)) }
-    ensures value { IfOk result (λ d. Declares d (program_of program.now)) }
+fn check_functions<'a>(
+    alloc: Global,
+    globals: &Package<'a>,
+    program: &'a Program,
+) -> Result<Vec<Function>, TypeError>
+    ensures checked { Checks result (functions_sites globals.now (program_of program.now)) }
+    ensures typed { IfOk result (λ v. map function_of v.items
+        ≡ typed_functions (outside_functions globals.now) (program_of program.now).decls) }
 {
-    let imported = check_imports(&program.imports)?;
-    let named = Package {
-        imported,
-        names: number_decls(alloc, &program.decls)?,
-        structs: Vec::new(alloc),
-        variables: Vec::new(alloc),
-        functions: Vec::new(alloc),
-    };
-    let signatures = check_decls(&Checker::new(alloc, &named), &program.decls)?;
-    Ok(Declared {
-        package: Package {
-            imported,
-            names: named.names,
-            structs: signatures.structs,
-            variables: signatures.variables,
-            functions: signatures.functions,
-        },
-        structs: signatures.typed_structs,
-        variables: signatures.typed_variables,
-    })
+    check_text_end(program.end, has_main(globals))?;
+    check_bodies(&Checker::new(alloc, globals), &program.decls)
 }
 
 /// The typed tree of a program that keeps the rules on meaning: names resolved, constants
@@ -84,8 +60,7 @@ pub fn check(alloc: Global, program: &Program) -> Result<Typed, TypeError>
     ensures typed { IfOk result (λ tree. typed_of tree ≡ typed_program (program_of program.now)) }
 {
     let declared = check_package(alloc, program)?;
-    check_text_end(program.end, has_main(&declared.package))?;
-    let functions = check_bodies(&Checker::new(alloc, &declared.package), &program.decls)?;
+    let functions = check_functions(alloc, &declared.package, program)?;
     Ok(Typed {
         structs: Row::new(declared.structs),
         variables: Row::new(declared.variables),

@@ -1,5 +1,5 @@
 //! Which statements are terminating, and which contain a `break` that leaves the `for` around them.
-#![tactic(auto, using(crate::proofs::Trees::sources))]
+#![tactic(auto, using(rgo_typing_statements::proofs::Trees::sources))]
 
 ghost use Rattle.std.specs.Prelude.{◌≡◌, map};
 ghost use Rattle.rgo_ast.specs.Tree as ast;

@@ -8,9 +8,10 @@ ghost use Rattle.rgo_typed.specs.Views.{stmt_of, term_of, boxed_term_of};
 ghost use Rattle.rgo_typing_rules.specs.Checks.{Checks};
 ghost use Rattle.rgo_typing_rules.specs.Nodes.{Condition};
 ghost use Rattle.rgo_typing_rules.specs.Views.{shape_of};
-ghost use Rattle.rgo_types.specs.Outcomes.{ChecksToOptional, ChecksStmt};
-ghost use Rattle.rgo_types.specs.Statements as spec;
-ghost use Rattle.rgo_types.specs.TypedStatements as typed;
+ghost use Rattle.rgo_typing_statements.specs.Outcomes.{ChecksStmt};
+ghost use Rattle.rgo_types.specs.Nested.{ChecksToOptional};
+ghost use Rattle.rgo_typing_statements.specs.Statements as spec;
+ghost use Rattle.rgo_typing_statements.specs.TypedStatements as typed;
 ghost use Rattle.rgo_types.specs.Views.{optional_shape_of, optional_term_of};
 
 use crate::nodes;
@@ -21,7 +22,7 @@ use rgo_typing_rules::{Role, TypeError};
 use std::alloc::{AllocError, Global};
 
 /// A block of these statements.
-#[tactic(auto, using(crate::proofs::Trees::stmts))]
+#[tactic(auto, using(rgo_typing_statements::proofs::Trees::stmts))]
 fn block(all: Vec<Stmt>) -> Stmt
     ensures { stmt_of result ≡ tree.Block (tree.stmts_of (map stmt_of all.items)) }
 {
@@ -69,7 +70,7 @@ pub(crate) fn push_headed(
 }
 
 /// Checks the condition of an `if`, and makes the statement.
-#[tactic(auto, using(crate::proofs::Trees::stmts))]
+#[tactic(auto, using(rgo_typing_statements::proofs::Trees::stmts))]
 pub(crate) fn if_of(
     alloc: Global,
     test: Checked<'_>,
@@ -129,7 +130,7 @@ fn boxed_term(alloc: Global, test: Option<Checked<'_>>) -> Result<Option<Box<Ter
 }
 
 /// Checks the condition of a `for`, and makes the loop.
-#[tactic(auto, using(crate::proofs::Trees::stmts))]
+#[tactic(auto, using(rgo_typing_statements::proofs::Trees::stmts))]
 pub(crate) fn loop_of(
     alloc: Global,
     test: Option<Checked<'_>>,

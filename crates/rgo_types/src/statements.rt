@@ -1,45 +1,24 @@
 //! Statements: checked in the order of the text, and made typed trees.
 //!
-//! `check_stmt` is a table of calls. Only blocks, `if` and `for` call back into it: they form one cycle
-//! of functions, with nothing else in it.
-#![tactic(auto, using(crate::proofs::Trees::sources, rgo_typing_rules::proofs::Refusals::refusals))]
+//! Only blocks, `if` and `for` contain statements: with `check_stmt` they form one cycle of functions, with
+//! nothing else in it.
+#![tactic(auto, using(rgo_typing_statements::proofs::Trees::sources, rgo_typing_rules::proofs::Refusals::refusals))]
 
-ghost use Rattle.std.specs.Prelude.{◌≡◌, map};
+ghost use Rattle.std.specs.Prelude.{map};
 ghost use Rattle.rgo_ast.specs.Tree as ast;
 ghost use Rattle.rgo_ast.specs.Views.{stmt_of, expr_of, boxed_expr_of, boxed_stmt_of};
-ghost use Rattle.rgo_types.specs.Outcomes.{Appends, Makes, stmt_outcome, all_outcome, block_outcome, clause_outcome};
-ghost use Rattle.rgo_types.specs.Statements.{in_a_loop};
-ghost use Rattle.rgo_types.specs.Views.{enclosing_of};
+ghost use Rattle.rgo_typing_statements.specs.Outcomes.{Appends, stmt_outcome};
+ghost use Rattle.rgo_typing_statements.specs.Statements.{after_block, after_clause};
+ghost use Rattle.rgo_typing_statements.specs.Views.{enclosing_of};
+ghost use Rattle.rgo_types.specs.Nested.{Makes, MakesStmt, all_outcome, block_outcome, clause_outcome};
+ghost use Rattle.rgo_types.specs.Nested.{if_sites, typed_if, loop_sites, typed_loop};
 
-use crate::calls::{go, plain};
-use crate::locals::{declare_vars, define};
 use crate::nested::{check_test, if_of, loop_of, push_block, push_headed};
-use crate::simple::{assign, branch, return_value, send, step};
 use rgo_ast::{Expr, Place, Stmt as Source};
 use rgo_typed::Stmt;
 use rgo_typing_expressions::Checker;
-use rgo_typing_rules::{Kind, Role, TypeError};
-
-/// What encloses a statement.
-#[derive(Clone, Copy)]
-pub(crate) struct Enclosing<'a> {
-    /// The result type of its function.
-    pub(crate) result_type: Option<Kind<'a>>,
-    /// Whether it is in a `for`.
-    pub(crate) in_loop: bool,
-}
-
-impl<'a> Enclosing<'a> {
-    /// The same in a `for`.
-    fn in_a_loop(self) -> Enclosing<'a>
-        ensures { enclosing_of result ≡ in_a_loop (enclosing_of self.entry) }
-    {
-        Enclosing {
-            result_type: self.result_type,
-            in_loop: true,
-        }
-    }
-}
+use rgo_typing_rules::{Role, TypeError};
+use rgo_typing_statements::{Enclosing, check_simple};
 
 /// Checks a statement, and appends its typed trees.
 #[cycle(statements)]
@@ -54,11 +33,6 @@ fn check_stmt<'a>(
 {
     match s {
         Source::Block(all, at) => nested_block(checker, around, out, all, *at),
-        Source::Plain(e) => plain(checker, out, e),
-        Source::Send(channel, value, at) => send(checker, out, channel, value, *at),
-        Source::Step(op, e, at) => step(checker, out, *op, e, *at),
-        Source::Assign(op, left, right, at) => assign(checker, out, *op, left, right, *at),
-        Source::Define(x, value, at) => define(checker, out, x, None, value, *at),
         Source::If {
             init,
             test,
@@ -73,11 +47,7 @@ fn check_stmt<'a>(
             body,
             at,
         } => for_stmt(checker, around, out, init, test, post, body, *at),
-        Source::Go(x, args, at) => go(checker, out, x, args, *at),
-        Source::Var(vars, _) => declare_vars(checker, out, vars),
-        Source::Return(value, at) => return_value(checker, out, around.result_type, value, *at),
-        Source::Break(at) => branch(checker, out, around.in_loop, Stmt::Break(*at), *at),
-        Source::Continue(at) => branch(checker, out, around.in_loop, Stmt::Continue(*at), *at),
+        _ => check_simple(checker, around, out, s),
     }
 }
 
@@ -118,24 +88,39 @@ fn if_stmt<'a>(
 {
     checker.enter()?;
     let header = check_clause(checker, around, init)?;
-    let test = checker.check_expr(Role::Value, test)?;
-    let body = check_block(checker, around, body)?;
-    let other_stmts = check_clause(checker, around, other)?;
-    let stmt = if_of(
-        checker.alloc(),
-        test,
-        body,
-        other.is_some(),
-        other_stmts,
-        at,
-    )?;
+    let stmt = check_if(checker, around, test, body, other, at)?;
     push_headed(out, init.is_some(), header, stmt)?;
     checker.leave();
     Ok(())
 }
 
-/// A "for" statement (The Go Programming Language Specification, "For statements"). Its condition is
-/// refused after its blocks.
+/// Checks what follows the first statement of an `if`.
+#[cycle(statements)]
+fn check_if<'a>(
+    checker: &mut Checker<'_, 'a>,
+    around: Enclosing<'a>,
+    test: &'a Expr,
+    body: &'a [Source],
+    other: &'a Option<Box<Source>>,
+    at: Place,
+) -> Result<Stmt, TypeError>
+    ensures { MakesStmt result
+        (if_sites (enclosing_of around.entry) checker.old (expr_of test.now)
+        (ast.stmts_of (map stmt_of body.now)) (ast.clause_of (boxed_stmt_of other.now)) at)
+        (typed_if (enclosing_of around.entry) checker.old (expr_of test.now)
+        (ast.stmts_of (map stmt_of body.now)) (ast.clause_of (boxed_stmt_of other.now)) at)
+        checker.new
+        (after_clause (after_block checker.old (ast.stmts_of (map stmt_of body.now)))
+        (ast.clause_of (boxed_stmt_of other.now))) }
+{
+    let test = checker.check_expr(Role::Value, test)?;
+    let body = check_block(checker, around, body)?;
+    let other_stmts = check_clause(checker, around, other)?;
+    let has_other = other.is_some();
+    if_of(checker.alloc(), test, body, has_other, other_stmts, at)
+}
+
+/// A "for" statement (The Go Programming Language Specification, "For statements").
 #[cycle(statements)]
 fn for_stmt<'a>(
     checker: &mut Checker<'_, 'a>,
@@ -154,13 +139,35 @@ fn for_stmt<'a>(
 {
     checker.enter()?;
     let header = check_clause(checker, around, init)?;
-    let test = check_test(checker, test)?;
-    let post = check_clause(checker, around, post)?;
-    let body = check_block(checker, around.in_a_loop(), body)?;
-    let stmt = loop_of(checker.alloc(), test, body, post, at)?;
+    let stmt = check_loop(checker, around, test, post, body, at)?;
     push_headed(out, init.is_some(), header, stmt)?;
     checker.leave();
     Ok(())
+}
+
+/// Checks what follows the first statement of a `for`. Its condition is refused after its blocks.
+#[cycle(statements)]
+fn check_loop<'a>(
+    checker: &mut Checker<'_, 'a>,
+    around: Enclosing<'a>,
+    test: &'a Option<Box<Expr>>,
+    post: &'a Option<Box<Source>>,
+    body: &'a [Source],
+    at: Place,
+) -> Result<Stmt, TypeError>
+    ensures { MakesStmt result
+        (loop_sites (enclosing_of around.entry) checker.old (boxed_expr_of test.now)
+        (ast.clause_of (boxed_stmt_of post.now)) (ast.stmts_of (map stmt_of body.now)) at)
+        (typed_loop (enclosing_of around.entry) checker.old (boxed_expr_of test.now)
+        (ast.clause_of (boxed_stmt_of post.now)) (ast.stmts_of (map stmt_of body.now)) at)
+        checker.new
+        (after_block (after_clause checker.old (ast.clause_of (boxed_stmt_of post.now)))
+        (ast.stmts_of (map stmt_of body.now))) }
+{
+    let test = check_test(checker, test)?;
+    let post = check_clause(checker, around, post)?;
+    let body = check_block(checker, around.in_a_loop(), body)?;
+    loop_of(checker.alloc(), test, body, post, at)
 }
 
 /// Checks statements one after another.

@@ -28,9 +28,9 @@ use Rattle.rgo_typing_expressions.specs.Scopes.{meaning_of, variable_at, local_a
 use Rattle.rgo_typing_rules.specs.Sites.{first_refusal}
 use Rattle.rgo_typing_expressions.specs.Types.{type_of, shape_of_meaning, element_shape, field_of, field_shape}
 use Rattle.rgo_typing_expressions.specs.Terms.{two, with_type, type_in, element_type, term_of, name_term, field_term}
-use Rattle.rgo_types.specs.TypedStatements.{ended, write_of, stored, stored_by, changed, changed_by, assign_stmt}
-use Rattle.rgo_types.specs.TypedStatements.{send_stmt}
-use Rattle.rgo_types.specs.Statements.{assign_sites, send_sites}
+use Rattle.rgo_typing_statements.specs.TypedStatements.{ended, write_of, stored, stored_by, changed, changed_by, assign_stmt}
+use Rattle.rgo_typing_statements.specs.TypedStatements.{send_stmt}
+use Rattle.rgo_typing_statements.specs.Statements.{assign_sites, send_sites}
 use Rattle.rgo_wellformed.specs.TypeRules.{Declared, Returns, Takes, Computes}
 use Rattle.rgo_wellformed.specs.WellFormed.{InScope, HasType, HaveTypes, Environment, IsStmt, scope_after}
 use Rattle.rgo_typing_laws.proofs.Unbroken.{not_false, and_left, and_right, right, alone, in_three}

@@ -38,9 +38,9 @@ use Rattle.rgo_typing_expressions.specs.Types.{field_shape, constant_or, unary_s
 use Rattle.rgo_typing_expressions.specs.Types.{call_shape}
 use Rattle.rgo_typing_expressions.specs.Terms.{one, term_of, all_terms, wanted_of, result_or_int, unary_term}
 use Rattle.rgo_typing_expressions.proofs.Typed.{typed_where_unbroken}
-use Rattle.rgo_types.specs.TypedStatements.{bare_plain, call_stmt, called_stmt, pieces_of, piece_of, printed_terms}
-use Rattle.rgo_types.specs.TypedStatements.{unless_text, is_text, go_stmt, returned}
-use Rattle.rgo_types.specs.Statements.{go_site, optional_type, optional_nodes}
+use Rattle.rgo_typing_statements.specs.TypedStatements.{bare_plain, call_stmt, called_stmt, pieces_of, piece_of, printed_terms}
+use Rattle.rgo_typing_statements.specs.TypedStatements.{unless_text, is_text, go_stmt, returned}
+use Rattle.rgo_typing_statements.specs.Statements.{go_site, optional_type, optional_nodes}
 use Rattle.rgo_wellformed.specs.TypeRules.{Declared, Takes}
 use Rattle.rgo_wellformed.specs.WellFormed.{InScope, HasType, HaveTypes, Environment, MatchPieces, IsPrinted, IsResult}
 use Rattle.rgo_typing_laws.proofs.Unbroken.{not_false, or_left, or_right, left, right, alone}

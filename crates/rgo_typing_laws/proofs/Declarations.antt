@@ -24,10 +24,10 @@ use Rattle.rgo_typing_expressions.specs.Scopes.{with_local, in_scope, int, resol
 use Rattle.rgo_typing_expressions.specs.Terms.{with_type, term_of}
 use Rattle.rgo_typing_expressions.specs.Types.{type_of}
 use Rattle.rgo_typing_expressions.proofs.Typed.{typed_where_unbroken}
-use Rattle.rgo_types.specs.Names.{name_site, with_names}
-use Rattle.rgo_types.specs.Statements.{type_or, define_node, define_sites, after_define, var_sites, vars_sites}
-use Rattle.rgo_types.specs.Statements.{after_var, after_vars}
-use Rattle.rgo_types.specs.TypedStatements.{zeros, define_stmt, var_stmts, vars_stmts}
+use Rattle.rgo_typing_packages.specs.Names.{name_site, with_names}
+use Rattle.rgo_typing_statements.specs.Statements.{type_or, define_node, define_sites, after_define, var_sites, vars_sites}
+use Rattle.rgo_typing_statements.specs.Statements.{after_var, after_vars}
+use Rattle.rgo_typing_statements.specs.TypedStatements.{zeros, define_stmt, var_stmts, vars_stmts}
 use Rattle.rgo_wellformed.specs.TypeRules.{Declared, IsType}
 use Rattle.rgo_wellformed.specs.WellFormed.{InScope, HasType, Environment, AreStmts, IsResult}
 use Rattle.rgo_typing_laws.proofs.Unbroken.{not_false, left, right, in_three}

@@ -18,12 +18,12 @@ use Rattle.rgo_scopes.specs.Blocks.{found_in}
 use Rattle.rgo_typing_expressions.specs.Checking.{type_expr_sites}
 use Rattle.rgo_typing_expressions.specs.Packages.{Scope, Context}
 use Rattle.rgo_typing_expressions.specs.Scopes.{with_local, no_locals, int, resolved}
-use Rattle.rgo_types.specs.Names.{name_site, name_sites, with_names, bindings_sites}
-use Rattle.rgo_types.specs.Signatures.{Signatures, no_signatures, with_struct, with_structs, with_variable}
-use Rattle.rgo_types.specs.Signatures.{with_variables}
-use Rattle.rgo_types.specs.Signatures.{with_binding, with_vars, with_function, with_decls, with_seen, in_seen}
-use Rattle.rgo_types.specs.Signatures.{struct_sites, structs_sites, binding_sites, vars_sites, result_sites}
-use Rattle.rgo_types.specs.Signatures.{decl_sites, decls_sites}
+use Rattle.rgo_typing_packages.specs.Names.{name_site, name_sites, with_names, bindings_sites}
+use Rattle.rgo_typing_packages.specs.Signatures.{Signatures, no_signatures, with_struct, with_structs, with_variable}
+use Rattle.rgo_typing_packages.specs.Signatures.{with_variables}
+use Rattle.rgo_typing_packages.specs.Signatures.{with_binding, with_vars, with_function, with_decls, with_seen, in_seen}
+use Rattle.rgo_typing_packages.specs.Signatures.{struct_sites, structs_sites, binding_sites, vars_sites, result_sites}
+use Rattle.rgo_typing_packages.specs.Signatures.{decl_sites, decls_sites}
 use Rattle.rgo_wellformed.specs.WellFormed.{AreDistinct}
 use Rattle.rgo_typing_laws.proofs.Unbroken.{left, right, alone}
 use Rattle.rgo_typing_laws.proofs.Lists.{holds_push}

@@ -19,13 +19,13 @@ use Rattle.rgo_typing_expressions.specs.Terms.{term_of, all_terms, wanted_of, wi
 use Rattle.rgo_typing_expressions.specs.Terms.{result_or_int}
 use Rattle.rgo_typing_expressions.specs.Types.{type_of, result_shape}
 use Rattle.rgo_types.specs.Flow as source
-use Rattle.rgo_types.specs.Statements.{Enclosing, in_a_loop, in_block, assign_op, step_op}
-use Rattle.rgo_types.specs.Statements.{after, after_var, after_block, after_clause, header}
-use Rattle.rgo_types.specs.TypedStatements.{plain_stmt, bare_plain, call_stmt, called_stmt, write_of, stored, stored_by}
-use Rattle.rgo_types.specs.TypedStatements.{changed, changed_by, assign_stmt, step_stmt, go_stmt, zeros, var_stmts}
-use Rattle.rgo_types.specs.TypedStatements.{vars_stmts}
-use Rattle.rgo_types.specs.TypedStatements.{has_clause, headed, branches, optional_term, typed_stmt, typed_all}
-use Rattle.rgo_types.specs.TypedStatements.{typed_clause}
+use Rattle.rgo_typing_statements.specs.Statements.{Enclosing, in_a_loop, in_block, assign_op, step_op}
+use Rattle.rgo_typing_statements.specs.Statements.{after, after_var, after_block, after_clause, header}
+use Rattle.rgo_typing_statements.specs.TypedStatements.{plain_stmt, bare_plain, call_stmt, called_stmt, write_of, stored, stored_by}
+use Rattle.rgo_typing_statements.specs.TypedStatements.{changed, changed_by, assign_stmt, step_stmt, go_stmt, zeros, var_stmts}
+use Rattle.rgo_typing_statements.specs.TypedStatements.{vars_stmts}
+use Rattle.rgo_typing_statements.specs.TypedStatements.{has_clause, headed, branches, optional_term, typed_stmt, typed_all}
+use Rattle.rgo_typing_statements.specs.TypedStatements.{typed_clause}
 use Rattle.rgo_wellformed.specs.Endings.{has_break, any_break, is_forever, is_terminating, ends}
 use Rattle.rgo_typing_laws.specs.Headers.{HasHeaders, HaveHeaders, ClauseHasHeaders}
 use Rattle.rgo_typing_laws.proofs.HeaderForms.{init_headers, init_breaks}

@@ -10,9 +10,9 @@ use Rattle.rgo_scopes.specs.Blocks.{left_to}
 use Rattle.rgo_typing_expressions.specs.Packages.{Scope, Context}
 use Rattle.rgo_typing_expressions.specs.Scopes.{with_local, resolved}
 use Rattle.rgo_typing_expressions.specs.Types.{type_of}
-use Rattle.rgo_types.specs.Names.{with_names}
-use Rattle.rgo_types.specs.Statements.{type_or, in_block, out_of_block, header, after_block}
-use Rattle.rgo_types.specs.Statements.{after, after_all, after_clause, after_var, after_vars}
+use Rattle.rgo_typing_packages.specs.Names.{with_names}
+use Rattle.rgo_typing_statements.specs.Statements.{type_or, in_block, out_of_block, header, after_block}
+use Rattle.rgo_typing_statements.specs.Statements.{after, after_all, after_clause, after_var, after_vars}
 
 -- a list begins with another
 abbrev pub Begins : {A : Type 0} → List A → List A → Type 0

@@ -12,8 +12,8 @@ use Rattle.rgo_typing_rules.specs.declared.meanings.Meaning.{Meaning}
 use Rattle.rgo_typing_rules.specs.declared.meanings.Meaning.TheVariants as meaning
 use Rattle.rgo_scopes.specs.Blocks.{Blocks, found, found_in, found_outside, declared}
 use Rattle.rgo_typing_laws.proofs.Lists.{some_is, none_is, still_there, at_end}
-use Rattle.rgo_types.specs.Numbering.{Numbering, no_numbers, first_meaning, with_struct, with_variable, with_function}
-use Rattle.rgo_types.specs.Numbering.{with_structs, with_variables, with_bindings, numbered}
+use Rattle.rgo_typing_packages.specs.Numbering.{Numbering, no_numbers, first_meaning, with_struct, with_variable, with_function}
+use Rattle.rgo_typing_packages.specs.Numbering.{with_structs, with_variables, with_bindings, numbered}
 
 -- `functions` are the names of the functions so far
 abbrev pub IsNumbered : Numbering → List (List ℕ) → List ℕ → Meaning → Type 0

@@ -16,12 +16,12 @@ use Rattle.rgo_scopes.specs.Blocks.{found}
 use Rattle.rgo_typing_expressions.specs.Packages.{Package, Scope, Fields, Context}
 use Rattle.rgo_typing_expressions.specs.Scopes.{no_locals, with_local, resolved, base_of, basic_base, pointer_base}
 use Rattle.rgo_typing_expressions.specs.Scopes.{int, meaning_of, global_meaning_if, universe}
-use Rattle.rgo_types.specs.Names.{with_names, with_bindings}
-use Rattle.rgo_types.specs.Names as names
-use Rattle.rgo_types.specs.Programs.{outside_functions}
-use Rattle.rgo_types.specs.Signatures.{Signatures, fields_of, with_struct, with_structs, with_variable, with_variables}
-use Rattle.rgo_types.specs.Signatures.{with_binding, with_vars, with_function, with_decls, result_of, params_of}
-use Rattle.rgo_types.specs.Signatures.{in_seen}
+use Rattle.rgo_typing_packages.specs.Names.{with_names, with_bindings}
+use Rattle.rgo_typing_packages.specs.Names as names
+use Rattle.rgo_typing_packages.specs.Packages.{outside_functions}
+use Rattle.rgo_typing_packages.specs.Signatures.{Signatures, fields_of, with_struct, with_structs, with_variable, with_variables}
+use Rattle.rgo_typing_packages.specs.Signatures.{with_binding, with_vars, with_function, with_decls, result_of, params_of}
+use Rattle.rgo_typing_packages.specs.Signatures.{in_seen}
 use Rattle.rgo_wellformed.specs.TypeRules.{Declared, IsType, IsBase}
 use Rattle.rgo_wellformed.specs.WellFormed.{InScope, is_in_scope, IsResult, first_numbers}
 use Rattle.rgo_typing_laws.proofs.Scopes.{Scoped, scoped_more, is_below, newest, older}

@@ -21,16 +21,17 @@ use Rattle.rgo_scopes.specs.Blocks.{found}
 use Rattle.rgo_typing_expressions.specs.Packages.{Package, Fields, Context}
 use Rattle.rgo_typing_expressions.specs.Scopes.{no_fields, no_signature, int, fields_at, variable_at, signature_at}
 use Rattle.rgo_types.specs.Flow.{ends}
-use Rattle.rgo_types.specs.Imports.{import_sites}
-use Rattle.rgo_types.specs.Numbering.{no_numbers, numbered}
-use Rattle.rgo_types.specs.Programs.{outside_functions, named_package, signatures_in, package_of, has_main, is_main}
+use Rattle.rgo_typing_packages.specs.Imports.{import_sites}
+use Rattle.rgo_typing_packages.specs.Numbering.{no_numbers, numbered}
+use Rattle.rgo_typing_packages.specs.Packages.{outside_functions, named_package, signatures_in, package_of, package_sites}
+use Rattle.rgo_types.specs.Programs.{has_main, is_main}
 use Rattle.rgo_types.specs.Programs.{is_plain}
 use Rattle.rgo_types.specs.Programs.{are_none, in_function, at_body, body_sites, bodies_sites, typed_function}
 use Rattle.rgo_types.specs.Programs.{typed_functions}
-use Rattle.rgo_types.specs.Programs.{package_sites, typed_program}
-use Rattle.rgo_types.specs.Signatures.{Signatures, no_signatures, decls_sites, params_of, result_of}
-use Rattle.rgo_types.specs.Statements.{all_sites, after_all}
-use Rattle.rgo_types.specs.TypedStatements.{typed_all}
+use Rattle.rgo_types.specs.Programs.{typed_program}
+use Rattle.rgo_typing_packages.specs.Signatures.{Signatures, no_signatures, decls_sites, params_of, result_of}
+use Rattle.rgo_typing_statements.specs.Statements.{all_sites, after_all}
+use Rattle.rgo_typing_statements.specs.TypedStatements.{typed_all}
 use Rattle.rgo_wellformed.specs.Endings.{Ends, EndsWith}
 use Rattle.rgo_wellformed.specs.TypeRules.{Declared, IsType}
 use Rattle.rgo_wellformed.specs.WellFormed.{first_numbers, signature_of, declared_by, IsFunction, IsMain, IsResult}

@@ -13,7 +13,7 @@ use Rattle.rgo_scopes.specs.Blocks.{found, found_in, found_outside}
 use Rattle.rgo_typing_expressions.specs.Packages.{Package, Scope, Context}
 use Rattle.rgo_typing_expressions.specs.Scopes.{with_local, inside, local_at, variable_at, meaning_of, meaning_if}
 use Rattle.rgo_typing_expressions.specs.Scopes.{global_meaning_if, universe, int, in_scope}
-use Rattle.rgo_types.specs.Statements.{in_block}
+use Rattle.rgo_typing_statements.specs.Statements.{in_block}
 use Rattle.rgo_wellformed.specs.TypeRules.{Declared, IsType}
 use Rattle.rgo_wellformed.specs.WellFormed.{InScope, is_in_scope}
 use Rattle.rgo_typing_laws.proofs.Growth.{Begins, Restores}

@@ -14,15 +14,16 @@ use Rattle.rgo_typing_rules.specs.Meanings.{Signature}
 use Rattle.rgo_typing_rules.specs.Types.{spelled}
 use Rattle.rgo_typing_expressions.specs.Packages.{Package, Scope, Fields, Context}
 use Rattle.rgo_typing_expressions.specs.Scopes.{no_locals, int, resolved, base_of}
-use Rattle.rgo_types.specs.Names.{with_names, with_bindings}
-use Rattle.rgo_types.specs.Names as names
-use Rattle.rgo_types.specs.Numbering.{Numbering, numbered}
-use Rattle.rgo_types.specs.Numbering as numbering
-use Rattle.rgo_types.specs.Programs.{outside_functions, whole_package, at_body, typed_function, typed_functions}
-use Rattle.rgo_types.specs.Signatures.{Signatures, with_struct, with_structs, with_variable, with_variables}
-use Rattle.rgo_types.specs.Signatures.{with_binding, with_vars}
-use Rattle.rgo_types.specs.Signatures.{with_function, with_decls, result_of, params_of, in_seen}
-use Rattle.rgo_types.specs.Statements.{after_all}
+use Rattle.rgo_typing_packages.specs.Names.{with_names, with_bindings}
+use Rattle.rgo_typing_packages.specs.Names as names
+use Rattle.rgo_typing_packages.specs.Numbering.{Numbering, numbered}
+use Rattle.rgo_typing_packages.specs.Numbering as numbering
+use Rattle.rgo_typing_packages.specs.Packages.{outside_functions, whole_package}
+use Rattle.rgo_types.specs.Programs.{at_body, typed_function, typed_functions}
+use Rattle.rgo_typing_packages.specs.Signatures.{Signatures, with_struct, with_structs, with_variable, with_variables}
+use Rattle.rgo_typing_packages.specs.Signatures.{with_binding, with_vars}
+use Rattle.rgo_typing_packages.specs.Signatures.{with_function, with_decls, result_of, params_of, in_seen}
+use Rattle.rgo_typing_statements.specs.Statements.{after_all}
 use Rattle.rgo_wellformed.specs.TypeRules
 use Rattle.rgo_wellformed.specs.WellFormed.{signature_of}
 use Rattle.rgo_typing_laws.proofs.Growth.{Begins, grows_all}

@@ -25,12 +25,12 @@ use Rattle.rgo_typing_expressions.specs.Packages.{Context}
 use Rattle.rgo_typing_expressions.specs.Scopes.{int, meaning_of}
 use Rattle.rgo_typing_expressions.specs.Terms.{constant, term_of}
 use Rattle.rgo_typing_expressions.specs.Types.{type_of, types_of}
-use Rattle.rgo_types.specs.Statements.{Enclosing, in_block, header, after, after_all, after_clause, after_block}
-use Rattle.rgo_types.specs.Statements.{step_op, step_sites, assign_op, assign_sites, go_site, optional_nodes}
-use Rattle.rgo_types.specs.Statements.{optional_type, condition_sites, stmt_sites, all_sites, clause_sites}
-use Rattle.rgo_types.specs.TypedStatements.{plain_stmt, send_stmt, assign_stmt, step_stmt, started, returned}
-use Rattle.rgo_types.specs.TypedStatements.{optional_term}
-use Rattle.rgo_types.specs.TypedStatements.{has_clause, headed, branches, typed_stmt, typed_all, typed_clause}
+use Rattle.rgo_typing_statements.specs.Statements.{Enclosing, in_block, header, after, after_all, after_clause, after_block}
+use Rattle.rgo_typing_statements.specs.Statements.{step_op, step_sites, assign_op, assign_sites, go_site, optional_nodes}
+use Rattle.rgo_typing_statements.specs.Statements.{optional_type, condition_sites, stmt_sites, all_sites, clause_sites}
+use Rattle.rgo_typing_statements.specs.TypedStatements.{plain_stmt, send_stmt, assign_stmt, step_stmt, started, returned}
+use Rattle.rgo_typing_statements.specs.TypedStatements.{optional_term}
+use Rattle.rgo_typing_statements.specs.TypedStatements.{has_clause, headed, branches, typed_stmt, typed_all, typed_clause}
 use Rattle.rgo_wellformed.specs.TypeRules.{Declared, Computes}
 use Rattle.rgo_wellformed.specs.WellFormed.{InScope, HasType, AreStmts, IsCondition, IsResult}
 use Rattle.rgo_wellformed.specs.TypeRules.{bool}

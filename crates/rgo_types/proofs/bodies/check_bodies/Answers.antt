@@ -7,7 +7,7 @@ use Rattle.rgo_typing_rules.specs.Checks.{Refuses}
 use Rattle.rgo_typing_rules.specs.Sites.{first_refusal}
 use Rattle.rgo_typing_rules.proofs.Refusals.{refuses_first, none_first}
 use Rattle.rgo_types.specs.Programs.{decl_sites, bodies_sites, typed_decl, typed_functions}
-use Rattle.rgo_types.proofs.Lists.{opened_map}
+use Rattle.rgo_typing_packages.proofs.Lists.{opened_map}
 use Rattle.rgo_types.proofs.bodies.check_bodies.Goals as goal
 
 pub returns-in_err-check_decl-clause-checked : goal.returns-in_err-check_decl-clause-checked

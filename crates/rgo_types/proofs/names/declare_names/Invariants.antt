@@ -1,9 +1,0 @@
-use Rattle.std.proofs.Common.{drop}
-use Rattle.rgo_typing_rules.specs.Views.{kind_of}
-use Rattle.rgo_types.specs.Names.{name_sites, with_names}
-use Rattle.rgo_types.proofs.Turns.{Loop}
-use Rattle.rgo_types.proofs.names.declare_names.Given as goal
-
-abbrev pub invariant-loop-x : goal.invariant-loop-x
-invariant-loop-x l =
-    Loop (name_sites (kind_of l.kind)) (with_names (kind_of l.kind)) l.initial.scope l.names l.scope (drop l.x-index l.names)

@@ -1,9 +1,0 @@
-use Rattle.std.proofs.Common.{◌≡◌, ◌++◌, map, drop}
-use Rattle.rgo_ast.specs.Tree.{exprs_of}
-use Rattle.rgo_ast.specs.Views.{expr_of}
-use Rattle.rgo_types.specs.TypedStatements.{pieces_of}
-use Rattle.rgo_types.proofs.prints.pieces.Given as goal
-
-abbrev pub invariant-loop-arg : goal.invariant-loop-arg
-invariant-loop-arg l =
-    l.pieces.items ++ pieces_of (exprs_of (map expr_of (drop l.arg-index l.args))) ≡ pieces_of (exprs_of (map expr_of l.args))

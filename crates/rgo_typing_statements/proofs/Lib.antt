@@ -1,0 +1,4 @@
+pub mod Ends
+pub mod Printed
+pub mod Trees
+pub mod Turns

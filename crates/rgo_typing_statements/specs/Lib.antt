@@ -1,0 +1,4 @@
+pub mod Outcomes
+pub mod Statements
+pub mod TypedStatements
+pub mod Views
