@@ -1,0 +1,181 @@
+#!/usr/bin/env python3
+"""Compiles a program of a tiny language to a code text with regions.
+
+    calc.py FILE.calc > FILE.code
+
+A line is `x = EXPR`, `x[EXPR] = EXPR`, `x = list EXPR`, `print EXPR ..`, `while EXPR`, `if EXPR`, `else` or `end`. An EXPR is a
+number, `true`, `false`, `x`, `x[EXPR]`, `len x`, or made of these with operators and brackets. Each list variable has a region
+of its own: created where a list is made, removed where it is used for the last time. What has the wrong type, `rgo code`
+reports.
+"""
+
+import re
+import sys
+
+TOKEN = re.compile(r"\s*(?:(\d+|[a-z]\w*|[<>=!]=|[-+*/%<>=()\[\]])|#.*)")
+# Operators by what binds them, the weakest first, and the words of the code text.
+LEVELS = [{"==": "eq", "!=": "ne", "<": "lt", "<=": "le", ">": "gt", ">=": "ge"},
+          {"+": "add", "-": "sub"}, {"*": "mul", "/": "div", "%": "rem"}]  # fmt: skip
+
+
+class Compiler:
+    def __init__(self, text):
+        # The types of variables, variables by name, and instructions: the line, words, what is read and written, targets.
+        self.types, self.named, self.code = [], {}, []
+        self.lines = [[token for token in TOKEN.findall(line) if token] for line in text.splitlines()]
+        self.at = 0
+        self.block()
+        self.emit("return -", [], None, [])
+
+    def new(self, ty):
+        self.types.append(ty)
+        return len(self.types) - 1
+
+    def emit(self, words, reads, written, targets=None):
+        self.code.append([self.at, words, reads, written, [len(self.code) + 1] if targets is None else targets])
+        return written
+
+    # A line of the program, as far as it is not read yet: what is taken has to be this, if it is given.
+    def take(self, wanted=None):
+        token = self.line.pop(0) if self.line else "the end of the line"
+        if wanted is not None and token != wanted:
+            sys.exit(f"line {self.at}: {token} where {wanted} is wanted")
+        return token
+
+    def block(self):
+        """The lines up to the `end` or `else` of a block, or to the end of the text; which of these it is."""
+        while self.at < len(self.lines):
+            self.line, self.at = self.lines[self.at], self.at + 1
+            word = self.take() if self.line else ""
+            if word in ("end", "else"):
+                return word
+            if word in ("while", "if"):
+                self.branch(word)
+            elif word == "print":
+                values = [self.expr()]
+                while self.line:
+                    values.append(self.expr())
+                self.emit("print " + ",".join(f"v{v}" for v in values), values, None)
+            elif word:
+                self.assign(word)
+            if self.line:
+                self.take("the end of the line")
+
+    def branch(self, word):
+        start = len(self.code)
+        test = self.expr()
+        branch, _ = len(self.code), self.emit("branch", [test], None, [len(self.code) + 1, None])
+        last = self.block()
+        if word == "while" or last == "else":
+            jump, _ = len(self.code), self.emit("jump", [], None, [start])
+        self.code[branch][4][1] = len(self.code)
+        if word == "if" and last == "else":
+            self.block()
+            self.code[jump][4] = [len(self.code)]
+
+    def assign(self, name):
+        if self.line[:1] == ["["]:
+            target, index = self.variable(name), self.index()
+            self.take("=")
+            value = self.expr()
+            return self.emit(f"put v{target} v{index} v{value}", [target, index, value], None)
+        self.take("=")
+        if self.line[:1] == ["list"]:
+            self.take()
+            size = self.expr()
+            variable = self.declared(name, "[]int")
+            return self.emit(f"slice v{variable} v{size}", [size], variable)
+        value = self.expr()
+        if self.types[value] == "[]int":
+            sys.exit(f"line {self.at}: two names of one list would need one region, which this language does not have")
+        variable = self.declared(name, self.types[value])
+        return self.emit(f"copy v{variable} v{value}", [value], variable)
+
+    def declared(self, name, ty):
+        """The variable of a name, which comes to be with the first value that it gets."""
+        if name not in self.named:
+            self.named[name] = self.new(ty)
+        if self.types[self.named[name]] != ty:
+            sys.exit(f"line {self.at}: {name} has values of another type")
+        return self.named[name]
+
+    def variable(self, name):
+        return self.named[name] if name in self.named else sys.exit(f"line {self.at}: {name} has no value")
+
+    def index(self):
+        self.take("[")
+        index = self.expr()
+        self.take("]")
+        return index
+
+    def expr(self, level=0):
+        if level == len(LEVELS):
+            return self.operand()
+        left = self.expr(level + 1)
+        while self.line and self.line[0] in LEVELS[level]:
+            op = LEVELS[level][self.take()]
+            right = self.expr(level + 1)
+            left = self.emit(f"bin v{{0}} {op} v{left} v{right}", [left, right], self.new("int" if level else "bool"))
+        return left
+
+    def operand(self):
+        word = self.take()
+        if word == "(":
+            value = self.expr()
+            self.take(")")
+            return value
+        if word.isdigit():
+            return self.emit(f"int v{{0}} {int(word)}", [], self.new("int"))
+        if word in ("true", "false"):
+            return self.emit(f"bool v{{0}} {word}", [], self.new("bool"))
+        if word == "len":
+            of = self.variable(self.take())
+            return self.emit(f"len v{{0}} v{of}", [of], self.new("int"))
+        variable = self.variable(word)
+        if self.line[:1] == ["["]:
+            index = self.index()
+            return self.emit(f"at v{{0}} v{variable} v{index}", [variable, index], self.new("int"))
+        return variable
+
+    # ---- regions: variable v, if it is a list, has the class of number v
+
+    def live(self):
+        """The lists that are live before each instruction."""
+        lists = {v for v, ty in enumerate(self.types) if ty == "[]int"}
+        live = [set() for _ in [*self.code, None]]
+        while True:
+            before = [
+                (set().union(*(live[t] for t in targets)) - {written}) | (lists & {*reads})
+                for _, _, reads, written, targets in self.code
+            ]
+            if before == live[:-1]:
+                return before, lists
+            live[:-1] = before
+
+    def text(self):
+        live, lists = self.live()
+        if live[0]:
+            sys.exit("a list is read that is not made on every way to it")
+        names = lambda found: "[" + ",".join(f"r{v}" for v in sorted(found)) + "]"
+        yield "rgo code 1\nfunc main 0 - -"
+        yield from (f"var {ty} {f'r{v}' if v in lists else '-'}" for v, ty in enumerate(self.types))
+        yield "entry -[]"
+        for at, (line, words, reads, written, targets) in enumerate(self.code):
+            creates = (lists & {*reads, written}) - live[at]
+            removes = [f"-{names((live[at] | creates) - live[t])}" for t in targets]
+            words = words.format(written)
+            if words == "branch":
+                words = f"branch v{reads[0]} {targets[0]} {removes[0]} {targets[1]} {removes[1]}"
+            elif words == "jump":
+                words = f"jump {targets[0]} {removes[0]}"
+            elif targets:
+                words = f"{words} {removes[0]}"
+            yield f"{at} @{line} +{names(creates)} {words}"
+        yield "end"
+
+
+if __name__ == "__main__":
+    if len(sys.argv) != 2:
+        sys.exit(__doc__.strip())
+    with open(sys.argv[1], encoding="utf-8") as file:
+        print("\n".join(Compiler(file.read()).text()))
