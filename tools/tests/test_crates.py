@@ -15,7 +15,8 @@ CRATES = "# Crates\nlow:\nmiddle: clap low\nhigh: middle\nother:\n"
 # folder in which it fails, or has a `*`.
 RT = """#!/bin/sh
 echo "rt $*"
-echo "rt: ok; every proof and must-fail edit was done in this run"
+echo "rt: ok"
+echo "3 passed, 0 failed"
 fails=$(cat "${0%/bin/rt}/fails" 2>/dev/null)
 [ "$fails" != "*" ] && [ "$fails" != "${PWD##*/}" ] || exit 3
 """
@@ -170,13 +171,13 @@ class Count(Tools):
         self.assertIn("| `other` | 1 | 0 | 0 | 0 | 1 |  |  |  |", rows)
 
     def test_a_gate_that_proved_a_part_keeps_the_sentences(self):
-        self.assertEqual(0, self.run_tool("count", "--write", text="rt: ok; some are kept\n").returncode)
+        self.assertEqual(0, self.run_tool("count", "--write", text="rt: low is kept: proved before\n3 passed, 0 failed\n").returncode)
         self.assertIn("| `high` | 1 | 0 | 0 | 0 | 1 | 0.5 | 4.0 |  |\n| `other` | 1 | 0 | 0 | 0 | 1 |  |  |  |\n\nAn earlier gate took a while.\n<!--", self.table())
 
     def test_a_gate_from_nothing_writes_the_sentences(self):
-        ran = self.run_tool("count", "--write", text="rt: ok; every proof and must-fail edit was done in this run\n")
+        ran = self.run_tool("count", "--write", text="rt: ok\n3 passed, 0 failed\n")
         self.assertEqual(0, ran.returncode)
-        self.assertIn("every proof", ran.stderr)
+        self.assertIn("3 passed", ran.stderr)
         self.assertRegex(self.table(), r"\n\nThe gate from nothing took 0 minutes on \d+ processors, and 0 minutes of one processor: .*\n.*\n<!--")
         self.assertNotIn("An earlier gate", self.table())
 
