@@ -12,19 +12,32 @@ reports.
 import re
 import sys
 
-TOKEN = re.compile(r"\s*(?:(\d+|[a-z]\w*|[<>=!]=|[-+*/%<>=()\[\]])|#.*)")
+TOKEN = re.compile(r"\s*(\d+|[a-z]\w*|[<>=!]=|[-+*/%<>=()\[\]])")
 # Operators by what binds them, the weakest first, and the words of the code text.
 LEVELS = [{"==": "eq", "!=": "ne", "<": "lt", "<=": "le", ">": "gt", ">=": "ge"},
           {"+": "add", "-": "sub"}, {"*": "mul", "/": "div", "%": "rem"}]  # fmt: skip
+
+
+def tokens(line, at):
+    """The tokens of a line, which is not a comment."""
+    found, end = [], 0
+    while line[end:].strip():
+        token = TOKEN.match(line, end)
+        if not token:
+            sys.exit(f"line {at}: {line[end:].split()[0]} is not a part of the language")
+        found.append(token[1])
+        end = token.end()
+    return found
 
 
 class Compiler:
     def __init__(self, text):
         # The types of variables, variables by name, and instructions: the line, words, what is read and written, targets.
         self.types, self.named, self.code = [], {}, []
-        self.lines = [[token for token in TOKEN.findall(line) if token] for line in text.splitlines()]
+        self.lines = [tokens(line.partition("#")[0], at) for at, line in enumerate(text.splitlines(), 1)]
         self.at = 0
-        self.block()
+        if self.block() is not None:
+            sys.exit(f"line {self.at}: no block is open here")
         self.emit("return -", [], None, [])
 
     def new(self, ty):
@@ -43,11 +56,13 @@ class Compiler:
         return token
 
     def block(self):
-        """The lines up to the `end` or `else` of a block, or to the end of the text; which of these it is."""
+        """The lines up to the `end` or `else` of a block, which it returns, or `None` at the end of the text."""
         while self.at < len(self.lines):
             self.line, self.at = self.lines[self.at], self.at + 1
             word = self.take() if self.line else ""
             if word in ("end", "else"):
+                if self.line:
+                    self.take("the end of the line")
                 return word
             if word in ("while", "if"):
                 self.branch(word)
@@ -65,13 +80,20 @@ class Compiler:
         start = len(self.code)
         test = self.expr()
         branch, _ = len(self.code), self.emit("branch", [test], None, [len(self.code) + 1, None])
-        last = self.block()
+        last = self.inside("end", "else") if word == "if" else self.inside("end")
         if word == "while" or last == "else":
             jump, _ = len(self.code), self.emit("jump", [], None, [start])
         self.code[branch][4][1] = len(self.code)
-        if word == "if" and last == "else":
-            self.block()
+        if last == "else":
+            self.inside("end")
             self.code[jump][4] = [len(self.code)]
+
+    def inside(self, *wanted):
+        """The lines of a block, up to one of these words."""
+        first, last = self.at, self.block()
+        if last not in wanted:
+            sys.exit(f"line {first}: the block that begins here has no end")
+        return last
 
     def assign(self, name):
         if self.line[:1] == ["["]:

@@ -24,6 +24,13 @@ REFUSED = {
     "if true\n  x = list 1\nend\nprint x[0]\n": "a list is read that is not made on every way to it\n",
     "x = (1\n": "line 1: the end of the line where ) is wanted\n",
     "x = 1 2\n": "line 1: 2 where the end of the line is wanted\n",
+    "x = 1 $ 2\n": "line 1: $ is not a part of the language\n",
+    "x = 1\nend\nprint x\n": "line 2: no block is open here\n",
+    "else\n": "line 1: no block is open here\n",
+    "x = 1\nwhile x < 2\n  x = 2\n": "line 2: the block that begins here has no end\n",
+    "while false\nelse\nend\n": "line 1: the block that begins here has no end\n",
+    "if true\nelse\nelse\nend\n": "line 2: the block that begins here has no end\n",
+    "if true\nend end\n": "line 2: end where the end of the line is wanted\n",
 }
 
 
