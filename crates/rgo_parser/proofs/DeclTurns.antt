@@ -5,7 +5,7 @@ use Rattle.rgo_ast.specs.Tree.{Import, Decl}
 use Rattle.rgo_lexer.specs.Lexemes.{Lexeme}
 use Rattle.rgo_grammar.specs.reading.Read.{Failed, Starving, first_of}
 use Rattle.rgo_grammar.specs.reading.Declarations.{decls, decls_on, imports, imports_on}
-use Rattle.rgo_parser.proofs.TypeTurns.{turn}
+use Rattle.rgo_reader.proofs.TypeTurns.{turn}
 
 pub decls_more : (n m : ℕ) (found : List Decl) (l : List Lexeme) → 0 < m → decls n m found l ≡ decls_on n (decls n (m - 1)) found l (first_of l)
 unfolding decls

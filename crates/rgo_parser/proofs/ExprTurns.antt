@@ -5,7 +5,7 @@ use Rattle.rgo_ast.specs.declared.ops.BinaryOp.TheVariants as op
 use Rattle.rgo_ast.specs.declared.names.Ident.{Ident}
 use Rattle.rgo_ast.specs.declared.expressions.Expr as code
 use Rattle.rgo_ast.specs.Tree as tree
-use Rattle.rgo_ast.proofs.Rows.{exprs_are, elements_are, capacity_is as no_capacity_is}
+use Rattle.rgo_ast.proofs.Rows.{exprs_are, elements_are}
 use Rattle.rgo_lexer.specs.declared.terminals.Terminal.{Terminal}
 use Rattle.rgo_lexer.specs.declared.terminals.Terminal.TheVariants.{Name, New, Make, Number, Text, Binary, Bang, Ampersand, Arrow, OpenParen, CloseParen, OpenBracket, CloseBracket, OpenBrace, CloseBrace, Comma, Dot, Chan}
 use Rattle.rgo_lexer.specs.Lexemes.{Leaf, Lexeme, tok, ident}
@@ -13,13 +13,13 @@ use Rattle.rgo_grammar.specs.Grammar.{level}
 use Rattle.rgo_grammar.specs.reading.Read.{Read, Done, Failed, Starving, ◌>>=◌, given, first_of, token, single, ended, listed, several}
 use Rattle.rgo_grammar.specs.reading.Types.{a_type}
 use Rattle.rgo_grammar.specs.reading.Expressions as r
-use Rattle.rgo_parser.specs.Agrees.{leaf_at}
-use Rattle.rgo_parser.specs.Expressions as parts
-use Rattle.rgo_parser.specs.declared.prefixes.Prefix.{Prefix}
-use Rattle.rgo_parser.specs.declared.prefixes.Prefix.TheVariants as prefix
-use Rattle.rgo_parser.specs.declared.suffixes.Suffix.{Suffix}
-use Rattle.rgo_parser.specs.declared.suffixes.Suffix.TheVariants as suffix
-use Rattle.rgo_parser.proofs.TypeTurns.{turn}
+use Rattle.rgo_reader.specs.Agrees.{leaf_at}
+use Rattle.rgo_reader.specs.Expressions as parts
+use Rattle.rgo_reader.specs.declared.prefixes.Prefix.{Prefix}
+use Rattle.rgo_reader.specs.declared.prefixes.Prefix.TheVariants as prefix
+use Rattle.rgo_reader.specs.declared.suffixes.Suffix.{Suffix}
+use Rattle.rgo_reader.specs.declared.suffixes.Suffix.TheVariants as suffix
+use Rattle.rgo_reader.proofs.TypeTurns.{turn}
 
 -- Reading twice in a row, read as once.
 
@@ -262,8 +262,6 @@ primary_starved n l e = rw e refl
 pub post_starved : (n : ℕ) (v : tree.Expr) (l : List Lexeme) → n ≡ 0 → r.post n v l ≡ Failed Starving
 unfolding r.expr
 post_starved n v l e = rw e refl
-
-pub ruleset nodes = (no_capacity_is, code.the_lemmas)
 
 pub ruleset expr_turns = (expr_more, expr_starved)
 

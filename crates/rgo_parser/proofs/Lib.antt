@@ -1,5 +1,3 @@
-pub mod TypeTurns
-pub mod ListTurns
 pub mod ExprTurns
 pub mod StmtTurns
 pub mod DeclTurns

@@ -11,13 +11,13 @@ use Rattle.rgo_grammar.specs.reading.Read.{Read, Done, Failed, Starving, â—Œ>>=â
 use Rattle.rgo_grammar.specs.reading.Expressions.{expr}
 use Rattle.rgo_grammar.specs.reading.Statements as r
 use Rattle.rgo_grammar.specs.reading.Declarations.{group, group_by}
-use Rattle.rgo_parser.specs.Agrees.{leaf_at}
+use Rattle.rgo_reader.specs.Agrees.{leaf_at}
 use Rattle.rgo_parser.specs.Headers as headers
 use Rattle.rgo_parser.specs.Statements as parts
 use Rattle.rgo_parser.specs.Statements.{if_at, for_at}
 use Rattle.rgo_parser.specs.declared.openings.Else.{Else as CodeElse}
 use Rattle.rgo_parser.specs.declared.openings.Else.TheVariants as code_else
-use Rattle.rgo_parser.proofs.TypeTurns.{turn}
+use Rattle.rgo_reader.proofs.TypeTurns.{turn}
 
 -- Local variables are read as a group.
 

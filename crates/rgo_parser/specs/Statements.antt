@@ -14,7 +14,7 @@ use Rattle.rgo_parser.specs.declared.openings.Leading.{Leading as CodeLeading}
 use Rattle.rgo_parser.specs.declared.openings.Leading.TheVariants as code_leading
 use Rattle.rgo_parser.specs.declared.openings.Else.{Else as CodeElse}
 use Rattle.rgo_parser.specs.declared.openings.Else.TheVariants as code_else
-use Rattle.rgo_parser.specs.Agrees.{leaf_at}
+use Rattle.rgo_reader.specs.Agrees.{leaf_at}
 use Rattle.rgo_parser.specs.Headers.{for_header}
 
 -- after the word `if`, of which only the place matters

@@ -6,14 +6,12 @@ ghost use Rattle.rgo_ast.specs.Tree as tree;
 ghost use Rattle.rgo_ast.specs.declared.names.ImportPath.{ImportPath};
 ghost use Rattle.rgo_grammar.specs.reading.Read.{first_of};
 ghost use Rattle.rgo_grammar.specs.reading.Declarations as reading;
-ghost use Rattle.rgo_parser.specs.Agrees.{Agrees, leaf_at};
+ghost use Rattle.rgo_reader.specs.Agrees.{Agrees, leaf_at};
 
-use crate::lists::{Item, group, list};
-use crate::reader::{Fault, Read, Reader};
 use crate::statements::block;
-use crate::types::ty;
 use rgo_ast::{Binding, Decl, Function, Import, ImportPath, Name, TypeExpr, TypeSpec};
 use rgo_lexer::{Lexeme, Terminal, unquoted};
+use rgo_reader::{Fault, Item, Read, Reader, group, list, ty};
 use std::alloc::Global;
 
 impl Item for ImportPath {

@@ -5,22 +5,21 @@ ghost use Rattle.rgo_ast.specs.Views.{expr_of, element_of};
 ghost use Rattle.rgo_grammar.specs.reading.Expressions as reading;
 ghost use Rattle.rgo_grammar.specs.reading.Read.{several};
 ghost use Rattle.rgo_lexer.specs.declared.terminals.Terminal.TheVariants as terminal;
-ghost use Rattle.rgo_parser.specs.Agrees.{Agrees, leaf_at, leaf_of};
+ghost use Rattle.rgo_reader.specs.Agrees.{Agrees, leaf_at, leaf_of};
 ghost use Rattle.rgo_lexer.specs.Lexemes.{ident};
-ghost use Rattle.rgo_parser.specs.Expressions.{boxed_of};
-ghost use Rattle.rgo_parser.specs.Lists.{listed_by};
+ghost use Rattle.rgo_reader.specs.Expressions.{boxed_of};
+ghost use Rattle.rgo_reader.specs.Lists.{listed_by};
 
-use crate::lists::{Listed, closes, separated};
-use crate::operands::{Opening, close_operand, open_operand};
-use crate::prefixes::{Prefix, level, operator, read_prefix};
-use crate::reader::{Fault, Read, Reader};
-use crate::suffixes::{Suffix, is_keyed, read_suffix};
 use rgo_ast::{Element, Expr, Ident};
 use rgo_lexer::Terminal;
+use rgo_reader::{
+    Fault, Listed, Opening, Prefix, Read, Reader, Suffix, close_operand, closes, is_keyed, level,
+    open_operand, operator, read_prefix, read_suffix, separated,
+};
 use std::alloc::{AllocError, Global};
 
 // Adds an expression to a list.
-#[tactic(auto, using(crate::proofs::ListTurns::pushes))]
+#[tactic(auto, using(rgo_reader::proofs::ListTurns::pushes))]
 fn push_expr(found: &mut Vec<Expr>, value: Box<Expr>) -> Result<(), AllocError>
     ensures { IfOk result (λ _. map expr_of found.new.items
         ≡ map expr_of found.old.items ++ expr_of value.value ∷ []) }
@@ -30,7 +29,7 @@ fn push_expr(found: &mut Vec<Expr>, value: Box<Expr>) -> Result<(), AllocError>
 }
 
 // Adds an element with its field to a list.
-#[tactic(auto, using(crate::proofs::ListTurns::pushes))]
+#[tactic(auto, using(rgo_reader::proofs::ListTurns::pushes))]
 fn push_element(found: &mut Vec<Element>, field: Ident, value: Box<Expr>) -> Result<(), AllocError>
     ensures { IfOk result (λ _. map element_of found.new.items
         ≡ map element_of found.old.items ++ (ident (leaf_of field), expr_of value.value) ∷ []) }
@@ -159,7 +158,7 @@ fn post(
 }
 
 /// Expressions up to the lexeme that closes them.
-#[tactic(auto, using(crate::proofs::ListTurns::list_turns))]
+#[tactic(auto, using(rgo_reader::proofs::ListTurns::list_turns))]
 #[cycle(expressions)]
 pub(crate) fn exprs<'r, 'a>(
     alloc: Global,
@@ -185,7 +184,7 @@ pub(crate) fn exprs<'r, 'a>(
 }
 
 // Elements with their fields up to the brace that closes them; their values are read with one turn less.
-#[tactic(auto, using(crate::proofs::ListTurns::list_turns))]
+#[tactic(auto, using(rgo_reader::proofs::ListTurns::list_turns))]
 #[cycle(expressions)]
 fn elements<'r, 'a>(
     alloc: Global,

@@ -5,14 +5,14 @@ ghost use Rattle.rgo_ast.specs.Views.{stmt_of, boxed_expr_of, boxed_stmt_of};
 ghost use Rattle.rgo_grammar.specs.reading.Expressions as reading_exprs;
 ghost use Rattle.rgo_grammar.specs.reading.Statements as reading;
 ghost use Rattle.rgo_grammar.specs.reading.Read.{first_of};
-ghost use Rattle.rgo_parser.specs.Agrees.{Agrees};
+ghost use Rattle.rgo_reader.specs.Agrees.{Agrees};
 ghost use Rattle.rgo_parser.specs.Headers as headers;
 
 use crate::expressions::expr;
-use crate::reader::{Fault, Read, Reader};
 use crate::simple::{defining, valued};
 use rgo_ast::{Expr, Stmt};
 use rgo_lexer::Terminal;
+use rgo_reader::{Fault, Read, Reader};
 use std::alloc::Global;
 
 /// A header up to its block or its first `;`: a condition before a block, or a statement, which may be

@@ -1,28 +1,22 @@
 //! The parser: the tree of a text's lexemes, or the first lexeme that is wrong.
 //!
 //! `parse` is what the compiler calls. Each private function reads one production of the grammar from
-//! a `Reader`, and its contract says that it agrees with the reading function of rgo_grammar for that
-//! production. rgo_grammar proves that the reading functions find the one tree or the first bad lexeme.
-//! The functions that call each other in a cycle are those of `expressions` and of `statements`; what
-//! they can read without the cycle is in the other files.
+//! a `Reader` of rgo_reader, and its contract says that it agrees with the reading function of
+//! rgo_grammar for that production. rgo_grammar proves that the reading functions find the one tree or
+//! the first bad lexeme. The functions that call each other in a cycle are those of `expressions` and of
+//! `statements`; what they can read without the cycle is in the other files, and in rgo_reader.
 #![tactic(auto)]
 
 mod declarations;
 mod expressions;
 mod headers;
 mod laws;
-mod lists;
 mod locals;
 mod openings;
-mod operands;
 mod parser;
-mod prefixes;
 mod programs;
-mod reader;
 mod simple;
 mod statements;
-mod suffixes;
-mod types;
 
 pub use laws::one_answer;
 pub use parser::{ParseError, ParseRefusal, parse};

@@ -6,14 +6,12 @@ ghost use Rattle.rgo_ast.specs.Views.{type_expr_of, local_var_of, stmt_of};
 ghost use Rattle.rgo_grammar.specs.reading.Expressions as reading_exprs;
 ghost use Rattle.rgo_grammar.specs.reading.Statements as reading;
 ghost use Rattle.rgo_grammar.specs.reading.Read.{first_of};
-ghost use Rattle.rgo_parser.specs.Agrees.{Agrees, leaf_of};
+ghost use Rattle.rgo_reader.specs.Agrees.{Agrees, leaf_of};
 
 use crate::expressions::expr;
-use crate::lists::{Item, group};
-use crate::reader::{Fault, Read, Reader};
-use crate::types::{ty, typed_names};
 use rgo_ast::{AssignOp, Binding, Ident, LocalVar, Stmt, TypeExpr};
 use rgo_lexer::{Lexeme, Terminal};
+use rgo_reader::{Fault, Item, Read, Reader, group, ty, typed_names};
 use std::alloc::Global;
 
 // After the one name of a declaration and its type: an initial value, or nothing.

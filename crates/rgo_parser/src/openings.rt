@@ -5,15 +5,15 @@ ghost use Rattle.rgo_ast.specs.Views.{stmt_of};
 ghost use Rattle.rgo_grammar.specs.reading.Expressions as reading_exprs;
 ghost use Rattle.rgo_grammar.specs.reading.Statements as reading;
 ghost use Rattle.rgo_grammar.specs.reading.Read.{first_of};
-ghost use Rattle.rgo_parser.specs.Agrees.{Agrees, leaf_at};
+ghost use Rattle.rgo_reader.specs.Agrees.{Agrees, leaf_at};
 ghost use Rattle.rgo_parser.specs.Statements as statements;
 
 use crate::expressions::{expr, exprs};
 use crate::locals::vars;
-use crate::reader::{Fault, Read, Reader};
 use crate::simple::defining;
 use rgo_ast::Stmt;
 use rgo_lexer::Terminal;
+use rgo_reader::{Fault, Read, Reader};
 use std::alloc::Global;
 
 /// A statement that holds no other, which was read whole, or the place where another one begins, after its

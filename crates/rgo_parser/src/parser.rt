@@ -9,10 +9,10 @@ ghost use Rattle.rgo_parser.specs.Parsing.{limit, IsParsed, Refuses, Fails};
 ghost use Rattle.rgo_parser.specs.declared.parser.ParseError.TheVariants.{NoMemory};
 
 use crate::programs::program;
-use crate::reader::{Fault, Reader};
 use rgo_ast::{Decl, Import, Place, Program};
 use rgo_grammar::deep_at;
 use rgo_lexer::Lexeme;
+use rgo_reader::{Fault, Reader};
 use std::alloc::{AllocError, Global};
 use thiserror::Error;
 

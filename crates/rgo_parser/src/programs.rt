@@ -3,12 +3,12 @@
 ghost use Rattle.std.specs.Prelude.{◌≡◌, [], map};
 ghost use Rattle.rgo_ast.specs.Views.{decl_of, import_of};
 ghost use Rattle.rgo_grammar.specs.reading.Declarations as reading;
-ghost use Rattle.rgo_parser.specs.Agrees.{Agrees, leaf_in};
+ghost use Rattle.rgo_reader.specs.Agrees.{Agrees, leaf_in};
 
 use crate::declarations::{decl, import};
-use crate::reader::{Fault, Read, Reader};
 use rgo_ast::{Decl, Import};
 use rgo_lexer::{Lexeme, Terminal};
+use rgo_reader::{Fault, Read, Reader};
 use std::alloc::Global;
 
 // Declarations, each with its `;`, up to the end.

@@ -4,12 +4,12 @@ ghost use Rattle.std.specs.Prelude.{◌≡◌};
 ghost use Rattle.rgo_ast.specs.Views.{stmt_of};
 ghost use Rattle.rgo_grammar.specs.reading.Expressions as reading_exprs;
 ghost use Rattle.rgo_grammar.specs.reading.Statements as reading;
-ghost use Rattle.rgo_parser.specs.Agrees.{Agrees};
+ghost use Rattle.rgo_reader.specs.Agrees.{Agrees};
 
 use crate::expressions::expr;
-use crate::reader::{Fault, Read, Reader, ident};
 use rgo_ast::Stmt;
 use rgo_lexer::Terminal;
+use rgo_reader::{Fault, Read, Reader, ident};
 use std::alloc::Global;
 
 /// A simple statement that begins with an expression; `header` says that it is between `if` or `for`

@@ -1,0 +1,3 @@
+pub mod TypeTurns
+pub mod ListTurns
+pub mod Nodes

@@ -1,0 +1,29 @@
+-- What a reader returns agrees with what the reading functions read of the same lexemes, unless memory ran out.
+use Rattle.std.specs.Prelude.{◌≡◌, ◌≢◌, ℕ, List, [], Result, Ok, Err}
+use denote.Ref.{Bor}
+use Rattle.rgo_ast.specs.declared.names.Ident.{Ident}
+use Rattle.rgo_lexer.specs.Lexemes.{Leaf, Lexeme}
+use Rattle.rgo_grammar.specs.reading.Read.{Read, Done, Failed, Stop, At, Starving}
+use Rattle.rgo_reader.specs.declared.readers.Fault.{Fault}
+use Rattle.rgo_reader.specs.declared.readers.Fault.TheVariants as fault
+
+abbrev pub stop_of : List Lexeme → Fault → Stop
+stop_of left fault.NoMemory = Starving
+stop_of left fault.Syntax = At left
+stop_of left fault.Starved = Starving
+
+-- by what of the result is compared, and the lexemes that are left
+abbrev pub Agrees : {X A : Type 0} → (X → A) → Result X Fault → List Lexeme → Read A → Type 0
+Agrees view (Ok x) left read = read ≡ Done (view x) left
+Agrees view (Err e) left read = e ≢ fault.NoMemory → read ≡ Failed (stop_of left e)
+
+-- the leaf that a name was read from
+abbrev pub leaf_of : Ident → Leaf
+leaf_of i = record { at = i.at; word = i.name }
+
+abbrev pub leaf_in : Bor Lexeme → Leaf
+leaf_in l = l.now.leaf
+
+-- a leaf of which only the place matters
+abbrev pub leaf_at : ℕ → Leaf
+leaf_at at = record { at = at; word = [] }
