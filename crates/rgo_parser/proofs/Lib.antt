@@ -1,3 +1,4 @@
+pub mod ListTurns
 pub mod ExprTurns
 pub mod StmtTurns
 pub mod DeclTurns

@@ -1,3 +1,4 @@
+pub mod Items
 pub mod Headers
 pub mod Statements
 pub mod Parsing

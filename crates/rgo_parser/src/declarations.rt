@@ -1,17 +1,19 @@
 //! Imports, and declarations of types, variables and functions.
 
 ghost use Rattle.std.specs.Prelude.{◌≡◌, option_map};
-ghost use Rattle.rgo_ast.specs.Views.{type_expr_of, type_spec_of, function_of, decl_of, import_of};
+ghost use Rattle.rgo_ast.specs.Views.{type_expr_of, binding_of, type_spec_of, function_of, decl_of, import_of};
 ghost use Rattle.rgo_ast.specs.Tree as tree;
 ghost use Rattle.rgo_ast.specs.declared.names.ImportPath.{ImportPath};
 ghost use Rattle.rgo_grammar.specs.reading.Read.{first_of};
 ghost use Rattle.rgo_grammar.specs.reading.Declarations as reading;
+ghost use Rattle.rgo_grammar.specs.reading.Types as reading_types;
 ghost use Rattle.rgo_reader.specs.Agrees.{Agrees, leaf_at};
 
+use crate::items::{Item, group, list};
 use crate::statements::block;
 use rgo_ast::{Binding, Decl, Function, Import, ImportPath, Name, TypeExpr, TypeSpec};
 use rgo_lexer::{Lexeme, Terminal, unquoted};
-use rgo_reader::{Fault, Item, Read, Reader, group, list, ty};
+use rgo_reader::{Fault, Read, Reader, binding, ty};
 use std::alloc::Global;
 
 impl Item for ImportPath {
@@ -28,6 +30,19 @@ impl Item for ImportPath {
             path: Name::new(unquoted(alloc, lexeme.word)?),
             at: lexeme.at,
         })
+    }
+}
+
+impl Item for Binding {
+    ghost Tree = { tree.Binding };
+
+    ghost tree_of = { binding_of };
+
+    ghost reads = { reading_types.binding };
+
+    /// Names and their type.
+    fn read(alloc: Global, reader: &mut Reader<'_, '_>, turns: usize) -> Read<Binding> {
+        binding(alloc, reader, turns)
     }
 }
 

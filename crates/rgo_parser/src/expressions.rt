@@ -8,18 +8,19 @@ ghost use Rattle.rgo_lexer.specs.declared.terminals.Terminal.TheVariants as term
 ghost use Rattle.rgo_reader.specs.Agrees.{Agrees, leaf_at, leaf_of};
 ghost use Rattle.rgo_lexer.specs.Lexemes.{ident};
 ghost use Rattle.rgo_reader.specs.Expressions.{boxed_of};
-ghost use Rattle.rgo_reader.specs.Lists.{listed_by};
+ghost use Rattle.rgo_parser.specs.Items.{listed_by};
 
+use crate::items::Listed;
 use rgo_ast::{Element, Expr, Ident};
 use rgo_lexer::Terminal;
 use rgo_reader::{
-    Fault, Listed, Opening, Prefix, Read, Reader, Suffix, close_operand, closes, is_keyed, level,
+    Fault, Opening, Prefix, Read, Reader, Suffix, close_operand, closes, is_keyed, level,
     open_operand, operator, read_prefix, read_suffix, separated,
 };
 use std::alloc::{AllocError, Global};
 
 // Adds an expression to a list.
-#[tactic(auto, using(rgo_reader::proofs::ListTurns::pushes))]
+#[tactic(auto, using(crate::proofs::ListTurns::pushes))]
 fn push_expr(found: &mut Vec<Expr>, value: Box<Expr>) -> Result<(), AllocError>
     ensures { IfOk result (λ _. map expr_of found.new.items
         ≡ map expr_of found.old.items ++ expr_of value.value ∷ []) }
@@ -29,7 +30,7 @@ fn push_expr(found: &mut Vec<Expr>, value: Box<Expr>) -> Result<(), AllocError>
 }
 
 // Adds an element with its field to a list.
-#[tactic(auto, using(rgo_reader::proofs::ListTurns::pushes))]
+#[tactic(auto, using(crate::proofs::ListTurns::pushes))]
 fn push_element(found: &mut Vec<Element>, field: Ident, value: Box<Expr>) -> Result<(), AllocError>
     ensures { IfOk result (λ _. map element_of found.new.items
         ≡ map element_of found.old.items ++ (ident (leaf_of field), expr_of value.value) ∷ []) }
@@ -158,7 +159,7 @@ fn post(
 }
 
 /// Expressions up to the lexeme that closes them.
-#[tactic(auto, using(rgo_reader::proofs::ListTurns::list_turns))]
+#[tactic(auto, using(crate::proofs::ListTurns::list_turns))]
 #[cycle(expressions)]
 pub(crate) fn exprs<'r, 'a>(
     alloc: Global,
@@ -184,7 +185,7 @@ pub(crate) fn exprs<'r, 'a>(
 }
 
 // Elements with their fields up to the brace that closes them; their values are read with one turn less.
-#[tactic(auto, using(rgo_reader::proofs::ListTurns::list_turns))]
+#[tactic(auto, using(crate::proofs::ListTurns::list_turns))]
 #[cycle(expressions)]
 fn elements<'r, 'a>(
     alloc: Global,

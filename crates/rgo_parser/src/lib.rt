@@ -10,6 +10,7 @@
 mod declarations;
 mod expressions;
 mod headers;
+mod items;
 mod laws;
 mod locals;
 mod openings;

@@ -9,9 +9,10 @@ ghost use Rattle.rgo_grammar.specs.reading.Read.{first_of};
 ghost use Rattle.rgo_reader.specs.Agrees.{Agrees, leaf_of};
 
 use crate::expressions::expr;
+use crate::items::{Item, group};
 use rgo_ast::{AssignOp, Binding, Ident, LocalVar, Stmt, TypeExpr};
 use rgo_lexer::{Lexeme, Terminal};
-use rgo_reader::{Fault, Item, Read, Reader, group, ty, typed_names};
+use rgo_reader::{Fault, Read, Reader, ty, typed_names};
 use std::alloc::Global;
 
 // After the one name of a declaration and its type: an initial value, or nothing.

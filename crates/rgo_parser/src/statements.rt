@@ -5,14 +5,15 @@ ghost use Rattle.rgo_ast.specs.Views.{stmt_of, boxed_stmt_of};
 ghost use Rattle.rgo_grammar.specs.reading.Statements as reading;
 ghost use Rattle.rgo_grammar.specs.reading.Read.{first_of};
 ghost use Rattle.rgo_reader.specs.Agrees.{Agrees, leaf_at};
-ghost use Rattle.rgo_reader.specs.Lists.{listed_by};
+ghost use Rattle.rgo_parser.specs.Items.{listed_by};
 ghost use Rattle.rgo_parser.specs.Statements.{if_at, for_at, stmt_list_of};
 
 use crate::headers::{ForHeader, IfHeader, for_header, if_header};
+use crate::items::Listed;
 use crate::openings::{Else, Leading, else_word, read_leading};
 use rgo_ast::Stmt;
 use rgo_lexer::Terminal;
-use rgo_reader::{Fault, Listed, Read, Reader, closes, separated};
+use rgo_reader::{Fault, Read, Reader, closes, separated};
 use std::alloc::Global;
 
 /// A statement, or none where it is empty.
@@ -108,7 +109,7 @@ pub(crate) fn block<'r, 'a>(
 }
 
 // Statements up to the `}` that closes them.
-#[tactic(auto, using(rgo_reader::proofs::ListTurns::listed_turns))]
+#[tactic(auto, using(crate::proofs::ListTurns::listed_turns))]
 #[cycle(statements)]
 fn stmts<'r, 'a>(alloc: Global, reader: &mut Reader<'r, 'a>, turns: usize) -> Listed<'r, 'a, Stmt>
     ensures { Agrees (listed_by stmt_of) result reader.new (reading.stmts turns reader.old) }

@@ -1,3 +1,2 @@
 pub mod TypeTurns
-pub mod ListTurns
 pub mod Nodes

@@ -1,8 +1,6 @@
 -- Reading what comes before and after an item of a list.
-use Rattle.std.specs.Prelude.{if◌then◌else◌, List, map, Option, Some, None}
+use Rattle.std.specs.Prelude.{if◌then◌else◌, List, Option, Some, None}
 use denote.Ref.{Bor}
-use Rattle.std.specs.declared.alloc.Global.{Global}
-use Rattle.std.specs.declared.vec.Vec.{Vec}
 use Rattle.rgo_lexer.specs.declared.terminals.Terminal.{Terminal}
 use Rattle.rgo_lexer.specs.Lexemes.{Leaf, Lexeme, same}
 use Rattle.rgo_grammar.specs.reading.Read.{Read, Done, Failed, At, first_of}
@@ -28,7 +26,3 @@ separated separator closer l = separated_on separator closer l (first_of l)
 abbrev pub ending_of : Option (Bor Lexeme) → Option Leaf
 ending_of None = None
 ending_of (Some l) = Some l.now.leaf
-
--- the items of a list by their trees, and the leaf that closes it
-abbrev pub listed_by : {X A : Type 0} → (X → A) → Vec X Global × Bor Lexeme → List A × Leaf
-listed_by tree x = (map tree x.0.items, x.1.now.leaf)

@@ -1,12 +1,10 @@
 //! Names and types.
 
 ghost use Rattle.std.specs.Prelude.{◌≡◌, ◌∷◌, []};
-ghost use Rattle.rgo_ast.specs.Tree as tree;
 ghost use Rattle.rgo_ast.specs.Views.{type_expr_of, binding_of};
 ghost use Rattle.rgo_grammar.specs.reading.Types as reading;
 ghost use Rattle.rgo_reader.specs.Agrees.{Agrees};
 
-use crate::lists::Item;
 use crate::readers::{Fault, Read, Reader, ident};
 use rgo_ast::{BinaryOp, Binding, Ident, TypeExpr};
 use rgo_lexer::Terminal;
@@ -81,16 +79,10 @@ pub fn typed_names(
     Ok(Binding { names, ty })
 }
 
-impl Item for Binding {
-    ghost Tree = { tree.Binding };
-
-    ghost tree_of = { binding_of };
-
-    ghost reads = { reading.binding };
-
-    /// Names and their type.
-    fn read(alloc: Global, reader: &mut Reader<'_, '_>, turns: usize) -> Read<Binding> {
-        let one = reader.name(alloc)?;
-        typed_names(alloc, reader, turns, one)
-    }
+/// Names and their type.
+pub fn binding(alloc: Global, reader: &mut Reader<'_, '_>, turns: usize) -> Read<Binding>
+    ensures { Agrees binding_of result reader.new (reading.binding turns reader.old) }
+{
+    let one = reader.name(alloc)?;
+    typed_names(alloc, reader, turns, one)
 }

@@ -1,5 +1,5 @@
 use Rattle.std.proofs.Common.{arith}
-use Rattle.rgo_reader.proofs.ListTurns.{list_turns}
+use Rattle.rgo_parser.proofs.ListTurns.{list_turns}
 use Rattle.rgo_parser.proofs.ExprTurns.{expr_turns, climb_turns, unary_turns, primary_turns, post_turns, literal_turns}
 use Rattle.rgo_parser.proofs.expressions.+expressions.Goals as goal
 

@@ -1,5 +1,5 @@
 use Rattle.std.proofs.Common.{arith}
-use Rattle.rgo_reader.proofs.ListTurns.{listed_turns}
+use Rattle.rgo_parser.proofs.ListTurns.{listed_turns}
 use Rattle.rgo_parser.proofs.StmtTurns.{nodes, stmt_turns, if_turns, else_turns}
 use Rattle.rgo_parser.proofs.statements.+statements.Goals as goal
 

@@ -1,6 +1,6 @@
 use Rattle.std.proofs.Common.{◌≡◌, ◌-◌, [], map}
 use Rattle.rgo_grammar.specs.reading.Read.{several}
-use Rattle.rgo_reader.proofs.lists.list.Given as goal
+use Rattle.rgo_parser.proofs.items.list.Given as goal
 
 abbrev pub invariant-loop-turn : goal.invariant-loop-turn
 invariant-loop-turn g l =

@@ -1,6 +1,6 @@
 use Rattle.std.proofs.Common.{arith}
-use Rattle.rgo_reader.proofs.ListTurns.{list_turns}
-use Rattle.rgo_reader.proofs.lists.list.Goals as goal
+use Rattle.rgo_parser.proofs.ListTurns.{list_turns}
+use Rattle.rgo_parser.proofs.items.list.Goals as goal
 
 pub returns-in_err-closing : goal.returns-in_err-closing
 returns-in_err-closing g c = grind (arith, list_turns)
