@@ -123,10 +123,16 @@ fn arrive_alone<G: Gate>(ready: &[usize], number: u64, gate: &G) {
 /// more rounds takes longer than a small program; in the second round a gate can hold them.
 const LAST_ON_WORKERS: u64 = 2;
 
-/// Whether the round of this number is on workers, by how many of the goroutines are ready: also where one of several is
-/// ready alone.
+/// The most goroutines that a round on workers has turns of. Each turn takes the lock up to 1,000 times, so that the turns of
+/// more goroutines would take longer than a small program.
+const MOST_ON_WORKERS: usize = 8;
+
+/// Whether the round of this number is on workers, by how many of the goroutines are ready: few, but also where one of
+/// several is ready alone.
 fn is_on_workers(number: u64, ready: usize, goroutines: usize) -> bool {
-    number <= LAST_ON_WORKERS && ready > 0 && goroutines > 1
+    let is_early = number <= LAST_ON_WORKERS;
+    let are_few = 0 < ready && ready <= MOST_ON_WORKERS;
+    is_early && are_few && goroutines > 1
 }
 
 /// A round, on workers or on the caller's thread, and what it printed goes out.
@@ -204,8 +210,9 @@ fn drive_on_workers<H: Threads + Wait + Sync, R: Running + Send, K: Sink, G: Gat
 
 /// Drives a run from the state that it is at, in rounds: in each, every goroutine that can step has a turn of up to 1,000
 /// steps. Where `workers` is more than 1, two workers take the turns of the first two rounds side by side, each step under
-/// one lock, so their steps come in any order; those of later rounds run on the caller's thread, one after the other. What a
-/// round printed goes out after it, each line in one piece. After a failed write nothing more is written.
+/// one lock, so their steps come in any order; those of later rounds, and of a round for which more than eight goroutines are
+/// ready, run on the caller's thread, one after the other. What a round printed goes out after it, each line in one piece.
+/// After a failed write nothing more is written.
 ///
 /// Where one of several goroutines is ready alone in a round on workers, two of them come to it, and one has no turn.
 ///

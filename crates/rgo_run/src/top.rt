@@ -75,8 +75,8 @@ fn read<S: Source>(
 ///
 /// A run is in rounds, in which every goroutine that can step has a turn; no clause says so. With one
 /// worker the turns come one after the other, on the caller's thread. With more, `rt` starts threads in
-/// the first two rounds: the goroutines are dealt out to two workers, and their steps come in any order,
-/// each under one lock. A worker that has goroutines in a round arrives at the gate before the first
+/// the first two rounds, where at most eight goroutines are ready: these are dealt out to two workers,
+/// and their steps come in any order, each under one lock. A worker that has goroutines in a round arrives at the gate before the first
 /// turn of these, with its number, from 0 on, and that of the round, from 1 on. That a worker gets the
 /// lock for which it waits is not claimed.
 ///
