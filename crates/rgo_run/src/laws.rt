@@ -11,7 +11,7 @@ pub fn one_verdict()
     ensures { OneVerdict }
 {}
 
-/// Each code text is the text of one code at most, and has at most one refusal, and none if that code keeps all rules.
+/// Each code text is the text of one code at most; it is that of code that keeps all rules, or has one refusal, never both.
 pub fn one_code_verdict()
     ensures { OneCodeVerdict }
 {}
