@@ -24,8 +24,7 @@ use Rattle.rgo_code.specs.NameRules.{CreatesUsed, ProtectsUsed, MayRemove, Remov
 use Rattle.rgo_code.specs.Names.{slot_class, class_of, result_class, region_parameters, parameter_classes, IsParameterName, IsOwn, IsLiveName, Holds, Names, callee_result, callee_regions, IsPassedForResult, Gives, IsPassedTwice, edges}
 use Rattle.rgo_flow.specs.Live.{Live}
 use Rattle.rgo_checker.specs.ClassTests.{class_fits, joins_agree, globals_agree, return_agrees, is_free, lends, ends_empty}
-use Rattle.rgo_checker.specs.Tests.{type_exists, types_exist, head_exists, instr_exists}
-use Rattle.rgo_checker.specs.TypeTests.{op_fits}
+use Rattle.rgo_checker.specs.Tests.{type_exists, types_exist, head_exists, instr_exists, op_fits}
 use Rattle.rgo_checker.proofs.ClassLaws.{class_fits_decided, joins_decided, globals_decided, return_decided}
 use Rattle.rgo_checker.proofs.Decided.{Decided, by_test, like, both, one_of, negated, premised, same_number, is_less, same_bytes, one_class, is_some_of, is_none, each_in, each_at, some_at, SomeAt, contains_or_not, same_set}
 use Rattle.rgo_checker.proofs.ExistenceLaws.{type_decided, types_decided, head_decided, instr_decided}
