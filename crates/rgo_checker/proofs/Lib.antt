@@ -1,5 +1,6 @@
 pub mod ActionLaws
 pub mod ClassLaws
+pub mod Decided
 pub mod Deciding
 pub mod ExistenceLaws
 pub mod ExistenceWalk
@@ -9,6 +10,7 @@ pub mod InstrLaws
 pub mod LendingLaws
 pub mod LineKept
 pub mod Listing
+pub mod LiveDecided
 pub mod NamingLaws
 pub mod OneOutcome
 pub mod OperandLaws
@@ -19,6 +21,8 @@ pub mod Pointwise
 pub mod Reaching
 pub mod RegionLaws
 pub mod RuleOrder
+pub mod RulesDecided
 pub mod Scanning
+pub mod SomeOutcome
 pub mod TypeLaws
 pub mod WalkLaws

@@ -8,7 +8,7 @@ use Rattle.rgo_code.specs.Code.{Code}
 use Rattle.rgo_checker.specs.Outcomes.{OneOutcome}
 
 -- the rule of a number
-abbrev rule_of : ℕ → Rule
+abbrev pub rule_of : ℕ → Rule
 rule_of n =
     if nat_eq n 1 then rule.Exists else
     (if nat_eq n 2 then rule.Types else
@@ -25,7 +25,7 @@ rule_of n =
     (if nat_eq n 13 then rule.Removals else
     rule.Endings))))))))))))
 
-rule_back : (r : Rule) → rule_of (rule_number r) ≡ r
+pub rule_back : (r : Rule) → rule_of (rule_number r) ≡ r
 rule_back rule.Exists = refl
 rule_back rule.Types = refl
 rule_back rule.Classes = refl

@@ -1,5 +1,5 @@
 -- What the checker's errors say.
-use Rattle.std.specs.Prelude.{◌≡◌, ℕ, ⊤}
+use Rattle.std.specs.Prelude.{◌≡◌, ◌⊎◌, ℕ, ⊤}
 use Rattle.rgo_code.specs.declared.rules.Rule.{Rule}
 use Rattle.rgo_code.specs.Checked.{IsChecked, IsFirstBroken}
 use Rattle.rgo_code.specs.Code.{Code}
@@ -14,3 +14,7 @@ CheckFails (Refused r) code = IsFirstBroken code r.rule r.line
 pub record OneOutcome : Type 0 where
   pub one : (code : Code) (a b : Rule) (m n : ℕ) → IsFirstBroken code a m → IsFirstBroken code b n → (a ≡ b) × (m ≡ n)
   pub not_both : (code : Code) (a : Rule) (m : ℕ) → IsChecked code → IsFirstBroken code a m → ⊥
+
+-- code keeps all rules, or has a first broken rule and line
+abbrev pub SomeOutcome : Type 0
+SomeOutcome = (code : Code) → IsChecked code ⊎ ((rule : Rule) × (line : ℕ) × IsFirstBroken code rule line)

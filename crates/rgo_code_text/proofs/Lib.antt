@@ -5,6 +5,9 @@ pub mod Ascending
 pub mod Assembling
 pub mod CallNotes
 pub mod Cutting
+pub mod EachLine
+pub mod EachPrint
+pub mod EachText
 pub mod Firsts
 pub mod Fitting
 pub mod Instrs
@@ -36,6 +39,8 @@ pub mod PieceLists
 pub mod PlainInstrs
 pub mod PrintWords
 pub mod Refusing
+pub mod Ruled
+pub mod RuledUses
 pub mod Tables
 pub mod TypeSteps
 pub mod TypeWords

@@ -11,6 +11,7 @@ pub mod Opened
 pub mod Ops
 pub mod Order
 pub mod Pieces
+pub mod Printable
 pub mod Readers
 pub mod Views
 pub mod Walk

@@ -1,6 +1,6 @@
 //! What holds of code texts.
 
-ghost use Rattle.rgo_code_text.specs.Laws.{OneRefusal, OneText};
+ghost use Rattle.rgo_code_text.specs.Laws.{OneOfBoth, OneRefusal, OneText, RulesSuffice};
 
 /// No two codes have one text.
 pub fn one_text()
@@ -10,4 +10,14 @@ pub fn one_text()
 /// A text has at most one first line without form, and the text of code has none.
 pub fn one_refusal()
     ensures { OneRefusal }
+{}
+
+/// Each text is the text of code, or has a first line without form.
+pub fn one_of_both()
+    ensures { OneOfBoth }
+{}
+
+/// Code that keeps all rules and declares what it uses has a text, if its names are words and its numbers are printable.
+pub fn rules_suffice()
+    ensures { RulesSuffice }
 {}

@@ -20,6 +20,6 @@ mod refusals;
 mod types;
 mod words;
 
-pub use laws::{one_refusal, one_text};
+pub use laws::{one_of_both, one_refusal, one_text, rules_suffice};
 pub use reading::read_code;
 pub use refusals::{CodeText, ReadError};

@@ -1,15 +1,19 @@
--- A code text is the text of one code at most, and has one refusal at most.
-use Rattle.std.proofs.Common.{◌≡◌, refl, sym, ◌∙◌, ap, ap₂, subst, ℕ, List, arith}
+-- Each code text is the text of one code at most, and passes or has one refusal.
+use Rattle.std.proofs.Common.{◌≡◌, ◌<◌, ◌≤◌, ◌⊎◌, inl, inr, refl, sym, ◌∙◌, ap, ap₂, subst, ℕ, List, length, arith}
+use Rattle.std.proofs.lemmas.Bool.{cases_lt}
 use Rattle.rgo_code.specs.Checked.{IsChecked, IsFirstBroken}
 use Rattle.rgo_code.specs.Code.{Code}
 use Rattle.rgo_code.specs.declared.rules.CodeRefusal.{CodeRefusal}
-use Rattle.rgo_code_text.specs.Forms.{IsFirstWithoutForm}
+use Rattle.rgo_code.specs.declared.rules.Rule.{Rule}
+use Rattle.rgo_code_text.specs.Forms.{IsText, IsFirstWithoutForm}
+use Rattle.rgo_code_text.proofs.EachText.{one_of_both as text_or_line}
 use Rattle.rgo_code_text.proofs.OneRefusal.{one_refusal as forms}
 use Rattle.rgo_code_text.proofs.Refusing.{no_two}
 use Rattle.rgo_checker.proofs.OneOutcome.{one_outcome}
+use Rattle.rgo_checker.proofs.SomeOutcome.{some_outcome}
 use Rattle.rgo_run.specs.declared.endings.Ending.{Ending}
 use Rattle.rgo_run.specs.declared.endings.Ending.TheVariants.{CodeTooLong, NoForm, Breaks}
-use Rattle.rgo_run.specs.CodeVerdicts.{IsTextOfCode, CodePasses, CodeBreaks, CodeRefused, OneCodeVerdict}
+use Rattle.rgo_run.specs.CodeVerdicts.{code_limit, IsTextOfCode, CodePasses, CodeBreaks, CodeRefused, OneCodeVerdict}
 
 one_code : (text : List ℕ) (a b : Code) → IsTextOfCode text a → IsTextOfCode text b → a ≡ b
 one_code text a b is also = no_two a b is.written also.written (sym is.text_is ∙ also.text_is)
@@ -52,5 +56,30 @@ never_both text (Breaks q) p r =
     (subst (λ c. IsChecked c) (one_code text p.code r.code p.is_text r.is_text) p.checked) r.broken
 never_both text _ p r = r
 
+abbrev Verdict : List ℕ → Type 0
+Verdict text = CodePasses text ⊎ ((why : Ending) × CodeRefused text why)
+
+module _ (text : List ℕ) where
+  -- the text of code passes, or breaks a rule
+  of_code : (code : Code) → IsTextOfCode text code
+      → IsChecked code ⊎ ((rule : Rule) × (line : ℕ) × IsFirstBroken code rule line) → Verdict text
+  of_code code is (inl checked) = inl (record { code = code; is_text = is; checked = checked })
+  of_code code is (inr broken) =
+      inr (Breaks (record { rule = broken.0; line = broken.1 }), record { code = code; is_text = is; broken = broken.2 })
+
+  within : length text ≤ code_limit → IsText text ⊎ ((n : ℕ) × IsFirstWithoutForm text n) → Verdict text
+  within short (inl t) =
+      of_code t.code (record { within = short; written = t.written; text_is = sym t.text }) (some_outcome t.code)
+  within short (inr line) = inr (NoForm line.0, (short, line.1))
+
+  by_length : (code_limit < length text) ⊎ (length text ≤ code_limit) → Verdict text
+  by_length (inl long) = inr (CodeTooLong, long)
+  by_length (inr short) = within short (text_or_line text)
+
 pub one_code_verdict : OneCodeVerdict
-one_code_verdict = record { one_code = one_code; one_refusal = one_refusal; never_both = never_both }
+one_code_verdict = record {
+  one_code = one_code;
+  one_refusal = one_refusal;
+  never_both = never_both;
+  one_of_both = λ text. by_length text (cases_lt code_limit (length text));
+}

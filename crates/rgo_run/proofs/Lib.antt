@@ -1,3 +1,4 @@
+pub mod Accepting
 pub mod EndingLemmas
 pub mod ClaimLemmas
 pub mod CodeVerdictLemmas

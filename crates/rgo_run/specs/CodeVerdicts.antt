@@ -1,5 +1,5 @@
 -- The verdict on a code text: the code that it is, or the first line without form, or the first rule that it breaks.
-use Rattle.std.specs.Prelude.{◌≡◌, ℕ, ◌<◌, ◌≤◌, List, length}
+use Rattle.std.specs.Prelude.{◌≡◌, ◌⊎◌, ℕ, ◌<◌, ◌≤◌, List, length}
 use Rattle.rgo_code.specs.Checked.{IsChecked, IsFirstBroken}
 use Rattle.rgo_code.specs.Code.{Code}
 use Rattle.rgo_code.specs.declared.rules.CodeRefusal.{CodeRefusal}
@@ -38,8 +38,9 @@ CodeRefused text (NoForm line) = (length text ≤ code_limit) × IsFirstWithoutF
 CodeRefused text (Breaks refusal) = CodeBreaks text refusal
 CodeRefused text _ = ⊥
 
--- A code text is the text of at most one code, has at most one refusal, and none if it passes.
+-- Each code text is the text of at most one code, and passes or has one refusal, never both.
 pub record OneCodeVerdict : Type 0 where
   pub one_code : (text : List ℕ) (a b : Code) → IsTextOfCode text a → IsTextOfCode text b → a ≡ b
   pub one_refusal : (text : List ℕ) (a b : Ending) → CodeRefused text a → CodeRefused text b → a ≡ b
   pub never_both : (text : List ℕ) (a : Ending) → CodePasses text → CodeRefused text a → ⊥
+  pub one_of_both : (text : List ℕ) → CodePasses text ⊎ ((why : Ending) × CodeRefused text why)

@@ -1,5 +1,6 @@
 //! What holds of the definitions by themselves.
 
+ghost use Rattle.rgo_run.specs.Accepted.{EmittedPasses};
 ghost use Rattle.rgo_run.specs.CodeVerdicts.{OneCodeVerdict};
 ghost use Rattle.rgo_run.specs.Compiled.{OneCompiled};
 ghost use Rattle.rgo_run.specs.Programs.{ProgramsAreWellFormed};
@@ -11,9 +12,15 @@ pub fn one_verdict()
     ensures { OneVerdict }
 {}
 
-/// Each code text is the text of one code at most, and has at most one refusal, and none if that code keeps all rules.
+/// Each code text is the text of one code at most; it is that of code that keeps all rules, or has one refusal, never both.
 pub fn one_code_verdict()
     ensures { OneCodeVerdict }
+{}
+
+/// The text that `emit` prints of a program is one that `code` accepts, if the parts of the code are printable (its names are
+/// words, its numbers have 32 bits, ..) and the text is within the limit.
+pub fn emitted_passes()
+    ensures { EmittedPasses }
 {}
 
 /// The program of every valid text is well-formed, and no function with a result reaches the end of its body.

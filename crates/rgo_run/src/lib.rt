@@ -12,7 +12,8 @@ mod top;
 
 pub use endings::Ending;
 pub use laws::{
-    few_suffice, one_code_verdict, one_compiled, one_verdict, programs_are_well_formed,
+    emitted_passes, few_suffice, one_code_verdict, one_compiled, one_verdict,
+    programs_are_well_formed,
 };
 pub use pipeline::{compile, lower_text};
 pub use rgo_code::{CodeRefusal, Rule as CodeRule};

@@ -1,0 +1,5 @@
+use Rattle.rgo_checker.proofs.SomeOutcome as some
+use Rattle.rgo_checker.proofs.laws.some_outcome.Goals as goal
+
+pub returns : goal.returns
+returns c = some.some_outcome

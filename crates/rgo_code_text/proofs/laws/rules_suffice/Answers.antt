@@ -1,0 +1,5 @@
+use Rattle.rgo_code_text.proofs.Ruled as ruled
+use Rattle.rgo_code_text.proofs.laws.rules_suffice.Goals as goal
+
+pub returns : goal.returns
+returns c = ruled.rules_suffice

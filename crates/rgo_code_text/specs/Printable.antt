@@ -1,0 +1,59 @@
+-- What the rules of code leave open of its parts, and a text needs: names are words, numbers have 32 bits, integers 64,
+-- strings are bytes, and a print has a variable for each piece that prints one.
+use Rattle.std.specs.Prelude.{◌≡◌, ◌≤◌, ◌^◌, ℕ, List, map, length, IfSome, All, ⊤}
+use Rattle.rgo_typed.specs.declared.actions.Action.{Action}
+use Rattle.rgo_typed.specs.declared.actions.Action.TheVariants as action
+use Rattle.rgo_code.specs.Code.{CodeOp, CodeInstr, CodeFn, Code, Do, Call, Go, Print, Jump, Branch, Return}
+use Rattle.rgo_code_text.specs.Written.{AreNames, IsSmall, AreSmall, ClassFits, SlotFits, IntFits, PieceFits, ValueFits, values_in}
+
+abbrev pub ActionPrints : Action → Type 0
+ActionPrints (action.Int k) = IntFits k
+ActionPrints (action.Load k) = IsSmall k
+ActionPrints (action.Store k) = IsSmall k
+ActionPrints (action.Bool b) = ⊤
+ActionPrints action.Nil = ⊤
+ActionPrints action.Copy = ⊤
+ActionPrints (action.Binary op) = ⊤
+ActionPrints action.Neg = ⊤
+ActionPrints action.Not = ⊤
+ActionPrints action.IsNil = ⊤
+ActionPrints action.Len = ⊤
+ActionPrints action.At = ⊤
+ActionPrints action.Put = ⊤
+ActionPrints (action.New n) = ⊤
+ActionPrints action.Slice = ⊤
+ActionPrints action.Chan = ⊤
+ActionPrints action.Recv = ⊤
+ActionPrints action.Send = ⊤
+ActionPrints action.Close = ⊤
+ActionPrints (action.Get n) = ⊤
+ActionPrints (action.Set n) = ⊤
+
+abbrev pub OpPrints : CodeOp → Type 0
+OpPrints (Do to action from removes) = ActionPrints action × ValueFits to × AreSmall from × AreSmall removes
+OpPrints (Call to f from passes protects removes) =
+    ValueFits to × AreSmall from × All ClassFits passes × AreSmall protects × AreSmall removes
+OpPrints (Go f from passes removes) = AreSmall from × All ClassFits passes × AreSmall removes
+OpPrints (Print pieces from removes) =
+    All PieceFits pieces × (length from ≡ values_in pieces) × AreSmall from × AreSmall removes
+OpPrints (Jump target removes) = IsSmall target × AreSmall removes
+OpPrints (Branch test target removes other otherwise) =
+    IsSmall test × IsSmall target × AreSmall removes × IsSmall other × AreSmall otherwise
+OpPrints (Return value) = ValueFits value
+
+abbrev pub InstrPrints : CodeInstr → Type 0
+InstrPrints instr = IsSmall instr.place × AreSmall instr.creates × OpPrints instr.op
+
+pub record FnPrints (f : CodeFn) : Type 0 where
+  pub params : IsSmall f.params
+  pub result : IfSome f.result SlotFits
+  pub variables : All SlotFits f.variables
+  pub entry : AreSmall f.entry
+  pub indexes : length f.body ≤ 2 ^ 32
+  pub body : All InstrPrints f.body
+
+pub record IsPrintable (code : Code) : Type 0 where
+  pub structs : AreNames (map (λ s. s.name) code.structs)
+  pub variables : AreNames (map (λ v. v.name) code.variables)
+  pub functions : AreNames (map (λ f. f.name) code.functions)
+  pub fits : All FnPrints code.functions
