@@ -254,10 +254,13 @@ pub record RegionExamples : Type 0 where
 abbrev pub sizes_of : (pages regions : ℕ) → Sizes
 sizes_of pages regions = record { page_words = 16; pages = pages; regions = regions }
 
+abbrev pub used : RegionState → ℕ × ℕ
+used s = (pages_in_use s, live_regions s)
+
 -- so many pages are in use after these events, and so many regions live
 abbrev pub Uses : Code → List Event → (pages regions : ℕ) → Type 0
 Uses code events pages regions =
-    option_and_then (λ s. Some (pages_in_use s, live_regions s)) (region_run code 16 events) ≡ Some (pages, regions)
+    option_and_then (λ s. Some (used s)) (region_run code 16 events) ≡ Some (pages, regions)
 
 -- each of these events has a step with room
 abbrev pub HasRoomIn : Sizes → Code → List Event → Type 0

@@ -1,6 +1,6 @@
 -- A run that has room for each of its steps is a run, and stays within the room.
 use Rattle.std.proofs.Common.{◌≡◌, ◌≤◌, ◌+◌, ℕ, Bool, true, false, List, [], ◌∷◌, ◌++◌, Option, Some, None, refl, sym, ap}
-use Rattle.std.proofs.Common.{◌∙◌, subst, nat_lt, if◌then◌else◌, arith, slice_get, option_and_then}
+use Rattle.std.proofs.Common.{◌∙◌, subst, nat_eq, nat_lt, if◌then◌else◌, arith, slice_get, option_and_then}
 use Rattle.std.proofs.lemmas.Bool.Decides.{nat_tests}
 use Rattle.std.proofs.lemmas.Option.{same_Some}
 use Rattle.rgo_sound.proofs.Tally.{tally_adds}

@@ -1,5 +1,11 @@
-use Rattle.std.proofs.Common.{arith, refl}
+use Rattle.std.proofs.Common.{◌≤◌, arith, refl}
 use Rattle.rgo_region_machine.proofs.laws.room_examples.Goals as goal
+
+two : 2 ≤ 2
+two = omega arith
+
+more : 2 ≤ 1 → ⊥
+more l = omega (arith, l)
 
 pub returns : goal.returns
 returns c = record {
@@ -12,7 +18,7 @@ returns c = record {
   room_for_both = refl;
   no_page = refl;
   no_region = refl;
-  fits = record { pages = omega arith; regions = omega arith };
-  too_many_pages = λ f. let p = f.pages in omega (arith, p);
-  too_many_regions = λ f. let r = f.regions in omega (arith, r);
+  fits = record { pages = two; regions = two };
+  too_many_pages = λ f. more f.pages;
+  too_many_regions = λ f. more f.regions;
 }
