@@ -1,5 +1,5 @@
--- Small code with regions, and its runs.
-use Rattle.std.specs.Prelude.{◌≡◌, ℕ, List, [], ◌∷◌, ◌++◌, Option, Some, None, pos, option_and_then, codes}
+-- Small code with regions, its runs, and the room that they use.
+use Rattle.std.specs.Prelude.{◌≡◌, ℕ, List, [], ◌∷◌, ◌++◌, Option, Some, None, IfSome, pos, option_and_then, codes}
 use Rattle.rgo_ast.specs.declared.ops.BinaryOp.TheVariants.{Add}
 use Rattle.rgo_typed.specs.declared.actions.Action.TheVariants as action
 use Rattle.rgo_typed.specs.declared.programs.Struct.{Struct}
@@ -7,6 +7,7 @@ use Rattle.rgo_typed.specs.declared.statements.Piece.TheVariants as piece
 use Rattle.rgo_typed.specs.declared.types.Type.{«Type»}
 use Rattle.rgo_wellformed.specs.TypeRules.{int, pointer_to, slice_of, chan_of}
 use Rattle.rgo_memory.specs.declared.values.Value.TheVariants as value
+use Rattle.rgo_machine.specs.declared.limits.Sizes.{Sizes}
 use Rattle.rgo_machine.specs.declared.picks.End.TheVariants.{Exit}
 use Rattle.rgo_machine.specs.declared.picks.Pick.TheVariants.{One, Meet}
 use Rattle.rgo_machine.specs.Lines.{line_of}
@@ -16,6 +17,7 @@ use Rattle.rgo_code.specs.declared.code.Undeclared.{Undeclared}
 use Rattle.rgo_code.specs.Code.{Slot, CodeOp, CodeInstr, CodeFn, Code, Do, Call, Go, Print, Return}
 use Rattle.rgo_region_machine.specs.Counts.{Counts, counts_of}
 use Rattle.rgo_region_machine.specs.Machine.{Event, Instruct, Attend, TakePage, MakeOffer, Acknowledge, region_run}
+use Rattle.rgo_region_machine.specs.Room.{FitsIn, live_regions, pages_in_use, roomy_run}
 use Rattle.rgo_region_machine.specs.States.{Mark, Ended, RegionState}
 
 -- ---- code
@@ -142,6 +144,19 @@ trapping = code_of [] (main_of (slot_of (slice_of int) (Name 0) ∷ int_slot ∷
     ∷ plain (Do (Some 2) action.At (0 ∷ 1 ∷ []) (0 ∷ []))
     ∷ plain (Return None) ∷ []) ∷ [])
 
+-- x := new(N); y := new(N), each in a region of its own. What the first of them removes is gone before the second.
+abbrev pub two_objects : (removes : List ℕ) → Code
+two_objects removes = code_of (node ∷ []) (main_of (node_slot (Name 0) ∷ node_slot (Name 1) ∷ []) (
+    creating (0 ∷ []) (Do (Some 0) (action.New 0) [] removes)
+    ∷ creating (1 ∷ []) (Do (Some 1) (action.New 0) [] [])
+    ∷ plain (Return None) ∷ []) ∷ [])
+
+abbrev pub both_live : Code
+both_live = two_objects []
+
+abbrev pub one_live : Code
+one_live = two_objects (0 ∷ [])
+
 -- ---- runs
 
 abbrev pub step : Event
@@ -177,6 +192,14 @@ abbrev pub started_twice_run : List Event
 started_twice_run =
     Attend 0 ∷ TakePage 0 ∷ step ∷ Attend 0 ∷ Attend 0 ∷ step ∷ Attend 0
     ∷ Attend 1 ∷ Attend 1 ∷ Instruct (One 1) ∷ []
+
+-- both regions are live in the end
+abbrev pub both_live_run : List Event
+both_live_run = Attend 0 ∷ TakePage 0 ∷ step ∷ Attend 0 ∷ TakePage 0 ∷ step ∷ []
+
+-- the first region is removed before the second is created
+abbrev pub one_live_run : List Event
+one_live_run = Attend 0 ∷ TakePage 0 ∷ step ∷ Attend 0 ∷ Attend 0 ∷ TakePage 0 ∷ step ∷ []
 
 -- ---- what they print, how they end, and what they have made
 
@@ -225,3 +248,40 @@ pub record RegionExamples : Type 0 where
       (before_the_meeting ++ (MakeOffer 1 ∷ Instruct (Meet 0 1) ∷ Attend 0 ∷ Attend 1 ∷ [])) ≡ None
   -- after a trap nothing is owed
   pub trap : region_run trapping 16 (step ∷ Attend 0 ∷ TakePage 0 ∷ step ∷ step ∷ Attend 0 ∷ []) ≡ None
+
+-- ---- the room that they use
+
+abbrev pub sizes_of : (pages regions : ℕ) → Sizes
+sizes_of pages regions = record { page_words = 16; pages = pages; regions = regions }
+
+abbrev pub used : RegionState → ℕ × ℕ
+used s = (pages_in_use s, live_regions s)
+
+-- so many pages are in use after these events, and so many regions live
+abbrev pub Uses : Code → List Event → (pages regions : ℕ) → Type 0
+Uses code events pages regions =
+    option_and_then (λ s. Some (used s)) (region_run code 16 events) ≡ Some (pages, regions)
+
+-- each of these events has a step with room
+abbrev pub HasRoomIn : Sizes → Code → List Event → Type 0
+HasRoomIn sizes code events = roomy_run code sizes events ≡ region_run code 16 events
+
+-- the state after these events fits
+abbrev pub FitsAfter : Sizes → Code → List Event → Type 0
+FitsAfter sizes code events = IfSome (region_run code 16 events) (FitsIn sizes)
+
+pub record RoomExamples : Type 0 where
+  pub one : Uses one_object (Attend 0 ∷ TakePage 0 ∷ []) 1 1
+  -- what a removed region had is not in use
+  pub none : Uses one_object one_object_run 0 0
+  pub first_removed : Uses one_live one_live_run 1 1
+  pub both : Uses both_live both_live_run 2 2
+  pub room_for_one : HasRoomIn (sizes_of 1 1) one_object one_object_run
+  pub room_again : HasRoomIn (sizes_of 1 1) one_live one_live_run
+  pub room_for_both : HasRoomIn (sizes_of 2 2) both_live both_live_run
+  -- as many pages are in use as there may be, or as many regions live
+  pub no_page : roomy_run both_live (sizes_of 1 2) both_live_run ≡ None
+  pub no_region : roomy_run both_live (sizes_of 2 1) both_live_run ≡ None
+  pub fits : FitsAfter (sizes_of 2 2) both_live both_live_run
+  pub too_many_pages : FitsAfter (sizes_of 1 2) both_live both_live_run → ⊥
+  pub too_many_regions : FitsAfter (sizes_of 2 1) both_live both_live_run → ⊥

@@ -7,4 +7,5 @@ pub mod Objects
 pub mod Offers
 pub mod Owed
 pub mod Regions
+pub mod Room
 pub mod States

@@ -33,6 +33,7 @@ use Rattle.rgo_driver.specs.Runs.{Ends, IsReady, RunsFreely}
 use Rattle.rgo_driver.specs.declared.ends.RunEnd.{RunEnd}
 use Rattle.rgo_driver.specs.declared.ends.RunEnd.TheVariants.{Deadlock, NoRoom, WriteFault}
 use Rattle.rgo_sound.proofs.Offers.{names_only_live}
+use Rattle.rgo_sound.proofs.Room.{room_is_kept}
 use Rattle.rgo_sound.proofs.Safe.{safety}
 use Rattle.rgo_command_line.specs.Commands.{command_of}
 use Rattle.rgo_command_line.specs.declared.commands.Command.{Command}
@@ -48,7 +49,8 @@ use Rattle.rgo_code.specs.Checked.{IsChecked}
 use Rattle.rgo_code.specs.Code as code
 use Rattle.rgo_code.specs.Erasure.{erased}
 use Rattle.rgo_code.specs.NameRules.{Ascends}
-use Rattle.rgo_region_machine.specs.Machine.{Event, region_run}
+use Rattle.rgo_region_machine.specs.Machine.{Event}
+use Rattle.rgo_region_machine.specs.Room.{roomy_run}
 use Rattle.rgo_region_machine.specs.States.{RegionState}
 use Rattle.rgo_world.specs.declared.tally.Tally.{Tally}
 use Rattle.rgo_world.specs.Worlds.{LacksIn, plain_at}
@@ -234,19 +236,21 @@ followed limits program code before steps end t ends run = record {
 
 -- a run of the region machine, which is safe in each of its states
 abbrev pub region_run_of : (code : code.Code) (sizes : Sizes) (end : RunEnd) (t : TacState) (events : List Event) (state : RegionState)
-    → IsChecked code → Ascends code → region_run code sizes.page_words events ≡ Some state
+    → IsChecked code → Ascends code → roomy_run code sizes events ≡ Some state
     → plain_at state t.printed ≡ t → state.plain.printed ≡ t.printed
     → ((why : Shortage) → end ≡ NoRoom why → LacksIn code sizes why state) → RegionRun code sizes end t
 region_run_of code sizes end t events state checked ascends leads is printed lacks = record {
   events = events;
   state = state;
-  run = leads;
+  run = room_is_kept.is_run code sizes events state leads;
   is = is;
   printed = printed;
   safe = λ before after s is run. (
     safety code sizes.page_words before s checked ascends run,
     λ g h r there names. names_only_live code sizes.page_words before s g h r checked ascends run there names,
   );
+  within = λ before after s is run.
+      room_is_kept.fits code sizes before after s state (subst (λ es. roomy_run code sizes es ≡ Some state) is leads) run;
   lacks = lacks;
 }
 

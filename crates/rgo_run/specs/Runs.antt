@@ -17,6 +17,7 @@ use Rattle.rgo_lower.specs.Lowered.{IsLowered}
 use Rattle.rgo_region_machine.specs.Counts.{counts_of}
 use Rattle.rgo_region_machine.specs.Machine.{Event, region_run}
 use Rattle.rgo_region_machine.specs.declared.regions.Region.{Region}
+use Rattle.rgo_region_machine.specs.Room.{FitsIn}
 use Rattle.rgo_region_machine.specs.States.{Holder, RegionState}
 use Rattle.rgo_sound.specs.NextNames.{HasStake, NextNames}
 use Rattle.rgo_sound.specs.Safety.{IsSafe}
@@ -61,6 +62,7 @@ NamesLive code s =
 
 -- A run of the code with its regions, in pages of this size, that has come to this state of the three-address code. Its
 -- steps are those of the region machine, none of which touches or removes a region that was removed, or removes Global.
+-- There are never more pages or regions than there may be.
 pub record RegionRun (code : Code) (sizes : Sizes) (end : RunEnd) (t : TacState) : Type 0 where
   pub events : List Event
   pub state : RegionState
@@ -71,6 +73,9 @@ pub record RegionRun (code : Code) (sizes : Sizes) (end : RunEnd) (t : TacState)
   -- in each state that it went through, stakes are counted, and what any goroutine names next is live
   pub safe : (before after : List Event) (s : RegionState) → events ≡ before ++ after
       → region_run code sizes.page_words before ≡ Some s → IsSafe code s × NamesLive code s
+  -- and no more pages are in use, and no more regions live, than there may be
+  pub within : (before after : List Event) (s : RegionState) → events ≡ before ++ after
+      → region_run code sizes.page_words before ≡ Some s → FitsIn sizes s
   -- why there was no room
   pub lacks : (why : Shortage) → end ≡ NoRoom why → LacksIn code sizes why state
 

@@ -6,6 +6,7 @@ pub mod Invariant
 pub mod NextNames
 pub mod Offers
 pub mod Progress
+pub mod Room
 pub mod Safety
 pub mod Stakes
 pub mod Tally

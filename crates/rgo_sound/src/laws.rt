@@ -4,6 +4,7 @@ ghost use Rattle.rgo_sound.specs.Erasure.{Erasure};
 ghost use Rattle.rgo_sound.specs.Good.{StartIsGood, StepsKeepGood};
 ghost use Rattle.rgo_sound.specs.NextNames.{NamesOnlyLive};
 ghost use Rattle.rgo_sound.specs.Progress.{NoStepMissing};
+ghost use Rattle.rgo_sound.specs.Room.{RoomIsKept};
 ghost use Rattle.rgo_sound.specs.Safety.{Safety, RemovedStays};
 ghost use Rattle.rgo_sound.specs.Tally.{TallyAdds};
 ghost use Rattle.rgo_sound.specs.Types.{TypesKeep};
@@ -51,4 +52,10 @@ pub fn no_step_missing()
 /// Stakes are counted, each is kept by one name, pointers stay in their regions, and all is removed in the end.
 pub fn safety()
     ensures { Safety }
+{}
+
+/// A run that takes a page only where fewer are in use than there may be, and creates a region only where fewer are live,
+/// has no more of either in any of its states.
+pub fn room_is_kept()
+    ensures { RoomIsKept }
 {}

@@ -4,6 +4,6 @@
 mod laws;
 
 pub use laws::{
-    erasure, names_only_live, no_step_missing, removed_stays, safety, start_is_good,
+    erasure, names_only_live, no_step_missing, removed_stays, room_is_kept, safety, start_is_good,
     steps_keep_good, tally_adds, types_keep,
 };

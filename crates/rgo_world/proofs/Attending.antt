@@ -2,13 +2,15 @@
 -- the state after it.
 use Rattle.std.proofs.Common.{◌≡◌, ℕ, zero, suc, ◌+◌, ◌≤◌, ◌<◌, Bool, true, false, List, [], ◌∷◌, ◌++◌, map, length}
 use Rattle.std.proofs.Common.{Option, Some, None, refl, sym, ap, ◌∙◌, subst, nat_eq, nat_lt, if◌then◌else◌, ◌||◌, arith}
-use Rattle.std.proofs.Common.{true≢false, cond, is_some, get_or, slice_get, slice_set, option_and_then, option_map, length-append}
+use Rattle.std.proofs.Common.{◌-◌, true≢false, cond, is_some, get_or, slice_get, slice_set, option_and_then, option_map, length-append}
 use Rattle.std.specs.List.{list_any}
+use Rattle.std.proofs.lemmas.Bool.Decides.{nat_tests}
 use Rattle.std.proofs.lemmas.Option.{slice_get_read}
 use Rattle.std.proofs.lemmas.Option.{slice_get_within}
 use Rattle.rgo_code.specs.Checked.{IsChecked}
 use Rattle.rgo_code.specs.Code.{Code}
 use Rattle.rgo_code.specs.NameRules.{Ascends}
+use Rattle.rgo_machine.specs.declared.limits.Sizes.{Sizes}
 use Rattle.rgo_machine.specs.Runs.{run}
 use Rattle.rgo_memory.specs.Memory.{Memory, Object}
 use Rattle.rgo_region_machine.specs.declared.regions.Region.{Region}
@@ -19,6 +21,7 @@ use Rattle.rgo_region_machine.specs.Machine.{Attend, Event, region_step}
 use Rattle.rgo_region_machine.specs.Objects.{fill_of}
 use Rattle.rgo_region_machine.specs.Regions.{RegionInfo, bound, has_stakes, is_live, one_fewer, one_more}
 use Rattle.rgo_region_machine.specs.Regions.{removed_once, unbind, with_info, without}
+use Rattle.rgo_region_machine.specs.Room.{has_room_for, has_room_for_first, has_room_to_attend, live_regions, roomy_step}
 use Rattle.rgo_region_machine.specs.States as spec
 use Rattle.rgo_region_machine.specs.States.{Create, Duty, EndBase, Environment, NoOffer, Protect, RegionState, Remove, Share}
 use Rattle.rgo_region_machine.specs.States.{Unprotect, frames_of, top_names, with_top}
@@ -200,21 +203,21 @@ module _ (w v : World) (s : RegionState) (g : ℕ) (d : Duty) (ds : List Duty) (
           (λ n. old.unmade j x y (code_other j x n e) (state_other j y n f) r (omega (arith, more, l)))
 
   -- the world after the step
-  pub attended_by : Goes w.code.now w.sizes.page_words s g works.holder d ds → (k : spec.Holder)
-      (regions : List RegionInfo) → duty_done s g (record works.holder { duties = ds }) d ≡ Some (next k regions)
+  pub attended_by : Goes w.code.now w.sizes.page_words s g works.holder d ds → has_room_for w.sizes s d ≡ true
+      → (k : spec.Holder) (regions : List RegionInfo) → duty_done s g (record works.holder { duties = ds }) d ≡ Some (next k regions)
       → k.duties ≡ ds → length s.regions ≤ length regions → TableShows v.table regions s.global_pages s.owners
       → MemoryShows v.state.memory regions s.owners s.plain.memory → HolderShows c' k
       → ((r : ℕ) → length regions ≤ r → fill_in c' (Numbered r) ≡ fill_of k.fills (Numbered r))
       → AttendedBy w v s g ds k
-  attended_by goes k regions done owed more table memory shows fills =
+  attended_by goes room k regions done owed more table memory shows fills =
       subst (λ u. AttendedBy w u s g ds k) (sym moved) (record {
         attended = record {
           events = Attend g ∷ [];
           only_regions = (tt, tt);
           state = next k regions;
           leads =
-              ap (option_and_then (λ (t : RegionState). run (region_step w.code.now w.sizes.page_words) t []))
-              (goes.steps ∙ ap Some is);
+              ap (option_and_then (λ (t : RegionState). run (roomy_step w.code.now w.sizes) t []))
+              (roomy ∙ goes.steps ∙ ap Some is);
           works = record {
             prepared = record {
               checked = works.prepared.checked;
@@ -244,13 +247,17 @@ module _ (w v : World) (s : RegionState) (g : ℕ) (d : Duty) (ds : List Duty) (
       is : goes.state ≡ next k regions
       is = the_same goes.state (next k regions) (sym goes.done ∙ done)
 
+      roomy : roomy_step w.code.now w.sizes s (Attend g) ≡ region_step w.code.now w.sizes.page_words s (Attend g)
+      roomy = ap (λ b. if b then region_step w.code.now w.sizes.page_words s (Attend g) else None)
+          (ap (has_room_to_attend w.sizes s) works.is_holder ∙ ap (has_room_for_first w.sizes s) works.owed ∙ room)
+
   -- the same where regions, the table and the memory stay
-  pub attended_same : Goes w.code.now w.sizes.page_words s g works.holder d ds → (k : spec.Holder)
-      → duty_done s g (record works.holder { duties = ds }) d ≡ Some (attended s g k) → k.duties ≡ ds
+  pub attended_same : Goes w.code.now w.sizes.page_words s g works.holder d ds → has_room_for w.sizes s d ≡ true
+      → (k : spec.Holder) → duty_done s g (record works.holder { duties = ds }) d ≡ Some (attended s g k) → k.duties ≡ ds
       → v.table ≡ w.table → v.state.memory ≡ w.state.memory → HolderShows c' k → SameFills c c'
       → k.fills ≡ works.holder.fills → AttendedBy w v s g ds k
-  attended_same goes k done owed table memory shows fills kept =
-      attended_by goes k s.regions done owed (omega arith)
+  attended_same goes room k done owed table memory shows fills kept =
+      attended_by goes room k s.regions done owed (omega arith)
       (subst (λ t. TableShows t s.regions s.global_pages s.owners) (sym table) works.shown.table)
       (memory ∙ works.shown.memory) shows
       (λ r l. fills (Numbered r) ∙ (works.shown.holders works.running).unmade g c works.holder there works.is_holder r l
@@ -399,14 +406,14 @@ leads_append {S} step (x ∷ xs) ys s t u a b = go (step s x) a (λ r e. leads_a
     go (Some r) a next = next r a
 
 pub leads_then : (w u v : World) (s : RegionState) (g : ℕ) (ds es : List Duty) (a : Attended w u s g ds)
-    (b : Attended u v a.state g es) → run (region_step w.code.now w.sizes.page_words) s (a.events ++ b.events)
+    (b : Attended u v a.state g es) → run (roomy_step w.code.now w.sizes) s (a.events ++ b.events)
     ≡ Some b.state
 leads_then w u v s g ds es a b =
-    leads_append (region_step w.code.now w.sizes.page_words) a.events b.events s a.state b.state a.leads
-    (subst (λ (z : Code × ℕ). run (region_step z.0 z.1) a.state b.events ≡ Some b.state) same b.leads)
+    leads_append (roomy_step w.code.now w.sizes) a.events b.events s a.state b.state a.leads
+    (subst (λ (z : Code × Sizes). run (roomy_step z.0 z.1) a.state b.events ≡ Some b.state) same b.leads)
   where
-    same : ◌≡◌ {A = Code × ℕ} (u.code.now, u.sizes.page_words) (w.code.now, w.sizes.page_words)
-    same = λ i. (a.same.code i, (a.same.sizes i).page_words)
+    same : ◌≡◌ {A = Code × Sizes} (u.code.now, u.sizes) (w.code.now, w.sizes)
+    same = λ i. (a.same.code i, a.same.sizes i)
 
 -- some steps, and then others
 abbrev pub attended_then : (w u v : World) (s : RegionState) (g : ℕ) (ds es : List Duty) (a : Attended w u s g ds)
@@ -522,10 +529,10 @@ pub create_attends : (w v : World) (g name : ℕ) (c c' : Holder) → slice_get 
     → ((regions : List RegionInfo) (global_pages : ℕ) (owners : List Region) → AreMade regions owners
     → TableShows w.table regions global_pages owners
     → TableShows v.table (regions ++ record { stakes = 1; pages = 0 } ∷ []) global_pages owners)
-    → (rest : List Duty) → Attends w v g (Create name ∷ rest) rest
-create_attends w v g name c c' there moved memory holders binds creates rest s works =
+    → w.table.made - w.table.removed < w.sizes.regions → (rest : List Duty) → Attends w v g (Create name ∷ rest) rest
+create_attends w v g name c c' there moved memory holders binds creates fewer rest s works =
     (attended_by w v s g (Create name) rest works moved c c' there holders
-    (work_goes w s g (Create name) rest works c there)
+    (work_goes w s g (Create name) rest works c there) room
     (record works.holder {
       stakes = length s.regions ∷ works.holder.stakes;
       environments = with_top works.holder.environments
@@ -542,6 +549,15 @@ create_attends w v g name c c' there moved memory holders binds creates rest s w
   where
     longer : length (s.regions ++ record { stakes = 1; pages = 0 } ∷ []) ≡ length s.regions + 1
     longer = omega (arith, length-append s.regions (record { stakes = 1; pages = 0 } ∷ []))
+
+    live : w.table.made - w.table.removed ≡ live_regions s
+    live = λ i. works.shown.table.made i - works.shown.table.removed i
+
+    room : nat_lt (live_regions s) w.sizes.regions ≡ true
+    room = below (live_regions s) w.sizes.regions (subst (λ n. n < w.sizes.regions) live fewer)
+      where
+        below : (n m : ℕ) → n < m → nat_lt n m ≡ true
+        below n m l = grind (arith, nat_tests)
 
     shows : HolderShows c works.holder
     shows = shown_holder w s g (Create name ∷ rest) works c there
@@ -570,7 +586,7 @@ pub protect_attends : (w v : World) (g name : ℕ) (c c' : Holder) (q : Region) 
     → v.holders.items ≡ slice_set w.holders.items g c' → region_in c name ≡ Some q → Protects c c' q → (rest : List Duty)
     → Attends w v g (Protect name ∷ rest) rest
 protect_attends w v g name c c' q there moved table memory holders names protects rest s works =
-    (attended_same w v s g (Protect name) rest works moved c c' there holders goes
+    (attended_same w v s g (Protect name) rest works moved c c' there holders goes refl
     (record works.holder { environments = with_protection works.holder.environments q; duties = rest })
     (named_now ∙ live) refl table memory
     (protect_shown c c' works.holder (shown_holder w s g (Protect name ∷ rest) works c there) rest frame.top frame.below
@@ -618,7 +634,7 @@ pub unprotect_attends : (w v : World) (g name : ℕ) (c c' : Holder) (q : Region
     → (rest : List Duty) → Attends w v g (Unprotect name ∷ rest) rest
 unprotect_attends w v g name c c' q there moved table memory holders names unprotects rest s works =
     (attended_same w v s g (Unprotect name) rest works moved c c' there holders
-    (work_goes w s g (Unprotect name) rest works c there)
+    (work_goes w s g (Unprotect name) rest works c there) refl
     (record works.holder { environments = without_protection works.holder.environments q; duties = rest })
     (ap (option_and_then (λ r. Some (attended s g (unprotected (record works.holder { duties = rest }) r)))) b) refl table
     memory
@@ -669,21 +685,22 @@ module _ (w u v : World) (s : RegionState) (g : ℕ) (d : Duty) (ds : List Duty)
     (moved : IsMoved w u) (table : u.table ≡ w.table) (memory : u.state.memory ≡ w.state.memory) (c c' : Holder)
     (there : slice_get w.holders.items g ≡ Some c) (holders : u.holders.items ≡ slice_set w.holders.items g c')
     (k : spec.Holder) (owed : k.duties ≡ ds) (shows : HolderShows c' k) (fills : SameFills c c')
-    (kept : k.fills ≡ works.holder.fills) (goes : Goes w.code.now w.sizes.page_words s g works.holder d ds) where
+    (kept : k.fills ≡ works.holder.fills) (goes : Goes w.code.now w.sizes.page_words s g works.holder d ds)
+    (room : has_room_for w.sizes s d ≡ true) where
   there_now : slice_get u.holders.items g ≡ Some c'
   there_now = ap (λ l. slice_get l g) holders ∙ get_set_same w.holders.items g c c' there
 
   -- nothing more is done
   stays : duty_done s g (record works.holder { duties = ds }) d ≡ Some (attended s g k) → Stays u v → Attended w v s g ds
   stays done x =
-      (attended_same w v s g d ds works (moved_on w u v moved x.moved) c c' there (x.holders ∙ holders) goes k done owed
+      (attended_same w v s g d ds works (moved_on w u v moved x.moved) c c' there (x.holders ∙ holders) goes room k done owed
       (x.table ∙ table) (x.memory ∙ memory) shows fills kept).attended
 
   leaves : (r : ℕ) → is_live s.regions (Numbered r) ≡ true → duty_done s g (record works.holder { duties = ds }) d
       ≡ Some (record (attended s g (record k { stakes = without r k.stakes })) { regions = with_info s.regions r one_fewer })
       → LeavesRegion u v g c' r → Attended w v s g ds
   leaves r live done x =
-      (attended_by w v s g d ds works (moved_on w u v moved x.moved) c x.holder there holders' goes (record k { stakes = without r k.stakes })
+      (attended_by w v s g d ds works (moved_on w u v moved x.moved) c x.holder there holders' goes room (record k { stakes = without r k.stakes })
       (with_info s.regions r one_fewer) done owed (omega (arith, same_length))
       (x.table s.regions s.global_pages s.owners live
       (subst (λ t. TableShows t s.regions s.global_pages s.owners) (sym table) works.shown.table))
@@ -758,7 +775,7 @@ remove_attends w u v g name c c' q there moved table memory holders names unbind
     }) refl
     (unbind_shown c c' works.holder (shown_holder w s g (Remove name ∷ rest) works c there) rest frame.top frame.below
     frame.is name unbinds)
-    unbinds.kept.fills refl (work_goes w s g (Remove name) rest works c there) q
+    unbinds.kept.fills refl (work_goes w s g (Remove name) rest works c there) refl q
     (ap (option_and_then (removal s g (record works.holder {
       environments = with_top works.holder.environments (unbind (top_names works.holder.environments) name);
       duties = rest;
@@ -781,7 +798,7 @@ end_base_attends w u v s g q c c' ds works there moved table memory holders ends
     removal_attends w u v s g (EndBase (Numbered q)) ds works moved table memory c c' there holders
     (record works.holder { base = removed_once (Numbered q) works.holder.base; duties = ds }) refl
     (end_base_shown c c' works.holder (shown_holder w s g (EndBase (Numbered q) ∷ ds) works c there) ds q ends).1
-    ends.3 refl (work_goes w s g (EndBase (Numbered q)) ds works c there) (Numbered q) refl stake
+    ends.3 refl (work_goes w s g (EndBase (Numbered q)) ds works c there) refl (Numbered q) refl stake
 
 -- what is left of the base, and the count, after the end of a stake
 module _ (u v : World) (g q : ℕ) (c : Holder) (there : slice_get u.holders.items g ≡ Some c)
@@ -910,7 +927,7 @@ module _ (w : World) (s : RegionState) (g name : ℕ) (rest : List Duty) (works 
       ≡ Some (attended s g (record works.holder { duties = rest })) → SharesTo w w s g rest has
   shares_nothing done =
       let x = attended_same w w s g (Share name) rest works refl c c there (sym (set_same w.holders.items g c there))
-      goes_here (record works.holder { duties = rest }) done refl refl refl
+      goes_here refl (record works.holder { duties = rest }) done refl refl refl
       (pend_shown c works.holder works.holder.pending rest
       (shown_holder w s g (Share name ∷ rest) works c there)) (λ r. refl) refl in
       record { attended = x.attended; pends = subst (PendsBy has) (sym x.holder) pends }
@@ -956,7 +973,7 @@ module _ (w : World) (s : RegionState) (g name : ℕ) (rest : List Duty) (works 
     shares_more v also moved holders memory table e adds =
         let l = length_with_info s.regions r one_more in
         let x = attended_by w v s g (Share name) rest works moved c c there
-        (holders ∙ sym (set_same w.holders.items g c there)) goes_here
+        (holders ∙ sym (set_same w.holders.items g c there)) goes_here refl
         (record works.holder { duties = rest; pending = r ∷ works.holder.pending }) (with_info s.regions r one_more)
         (shared_now false e) refl (omega (arith, l))
         (table s.regions s.global_pages s.owners live works.shown.table)

@@ -16,6 +16,7 @@ use Rattle.rgo_wellformed.specs.TypeRules.{chan_of}
 use Rattle.rgo_memory.specs.declared.values.Value.{Value}
 use Rattle.rgo_memory.specs.declared.values.Value.TheVariants as value
 use Rattle.rgo_memory.specs.Channels.{is_meeting_at, meets_at}
+use Rattle.rgo_machine.specs.declared.limits.Sizes.{Sizes}
 use Rattle.rgo_machine.specs.declared.picks.End.{End}
 use Rattle.rgo_machine.specs.declared.picks.Pick.TheVariants.{Meet}
 use Rattle.rgo_machine.specs.declared.picks.Stepped.{Stepped}
@@ -53,6 +54,7 @@ use Rattle.rgo_region_machine.specs.Offers.{offers_on, open_channel}
 use Rattle.rgo_region_machine.specs.Owed.{current, current_in, duties_before, duties_of_op, function_at, next_duties}
 use Rattle.rgo_region_machine.specs.Owed.{removes_behind}
 use Rattle.rgo_region_machine.specs.Regions.{RegionInfo, is_live}
+use Rattle.rgo_region_machine.specs.Room.{roomy_step}
 use Rattle.rgo_region_machine.specs.States as spec
 use Rattle.rgo_region_machine.specs.States.{Create, Duty, NoOffer, RegionState, Remove, Standing, Taken, frames_in}
 use Rattle.rgo_region_machine.specs.States.{frames_of}
@@ -287,10 +289,10 @@ receiver_owes_none code checked frames c go_on x =
 -- ---- the steps of the region machine
 
 -- two have met on the region machine: the sender has offered, and acknowledged that its offer was taken
-pub record MeetsBy (code : Code) (page_words : ℕ) (s : RegionState) (r u : ℕ) (next : TacState) (h k : spec.Holder)
+pub record MeetsBy (code : Code) (sizes : Sizes) (s : RegionState) (r u : ℕ) (next : TacState) (h k : spec.Holder)
     (x : MetSo code s.plain r u next) : Type 0 where
   pub state : RegionState
-  pub leads : Leads (region_step code page_words) s (MakeOffer u ∷ Instruct (Meet r u) ∷ Acknowledge u ∷ []) state
+  pub leads : Leads (roomy_step code sizes) s (MakeOffer u ∷ Instruct (Meet r u) ∷ Acknowledge u ∷ []) state
   pub good : AllGood code state
   pub orderly : Orderly code state
   pub plain : state.plain ≡ plain_after s next
@@ -320,7 +322,7 @@ ready_at code s h frame callers instr cur none free live =
     ∙ ap (touches s frame) cur
     ∙ live
 
-module _ (code : Code) (page_words : ℕ) (s : RegionState) (r u : ℕ) (next : TacState) (checked : IsChecked code)
+module _ (code : Code) (sizes : Sizes) (s : RegionState) (r u : ℕ) (next : TacState) (checked : IsChecked code)
     (ascends : Ascends code) (good : AllGood code s) (orderly : Orderly code s) (x : MetSo code s.plain r u next)
     (step : tac_step (erased code) s.plain (Meet r u) ≡ Some next)
     (h k : spec.Holder) (there_h : slice_get s.holders r ≡ Some h) (there_k : slice_get s.holders u ≡ Some k)
@@ -364,7 +366,7 @@ module _ (code : Code) (page_words : ℕ) (s : RegionState) (r u : ℕ) (next : 
   t1 : RegionState
   t1 = attended s u offering
 
-  makes : region_step code page_words s (MakeOffer u) ≡ Some t1
+  makes : region_step code sizes.page_words s (MakeOffer u) ≡ Some t1
   unfolding t1 offering
   makes =
       ap (option_and_then (λ q. make_offer code s u q (frames_of s.plain u))) there_k
@@ -379,10 +381,10 @@ module _ (code : Code) (page_words : ℕ) (s : RegionState) (r u : ℕ) (next : 
       ∙ ap (λ b. if b then None else Some (attended s u (record k { offer = Standing channel }))) (no_offers channel)
 
   good1 : AllGood code t1
-  good1 = steps_keep_good code page_words s t1 (MakeOffer u) checked ascends good makes
+  good1 = steps_keep_good code sizes.page_words s t1 (MakeOffer u) checked ascends good makes
 
   orderly1 : Orderly code t1
-  orderly1 = orderly_step code page_words s t1 (MakeOffer u) checked ascends good orderly makes
+  orderly1 = orderly_step code sizes.page_words s t1 (MakeOffer u) checked ascends good orderly makes
 
   h1 : slice_get t1.holders r ≡ Some h
   unfolding t1
@@ -433,19 +435,19 @@ module _ (code : Code) (page_words : ℕ) (s : RegionState) (r u : ℕ) (next : 
       ap (λ b. b && is_ready code t1 offering (frames_of s.plain u) && standing_at offering.offer) ready_r
       ∙ ap (λ b. b && standing_at offering.offer) ready_u
 
-  meets_then : region_step code page_words t1 (Instruct (Meet r u)) ≡ Some t2
+  meets_then : region_step code sizes.page_words t1 (Instruct (Meet r u)) ≡ Some t2
   unfolding t1 t2 offering taken receiver_after sender_after
   meets_then =
-      ap (option_and_then (instruct code page_words t1 (Meet r u))) step
+      ap (option_and_then (instruct code sizes.page_words t1 (Meet r u))) step
       ∙ ap (λ q. both_instructed code t1 r u q (slice_get t1.holders u) next) h1
       ∙ ap (λ q. both_instructed code t1 r u (Some h) q next) k1
       ∙ ap (λ b. if b then Some t2 else None) both_ready
 
   good2 : AllGood code t2
-  good2 = steps_keep_good code page_words t1 t2 (Instruct (Meet r u)) checked ascends good1 meets_then
+  good2 = steps_keep_good code sizes.page_words t1 t2 (Instruct (Meet r u)) checked ascends good1 meets_then
 
   orderly2 : Orderly code t2
-  orderly2 = orderly_step code page_words t1 t2 (Instruct (Meet r u)) checked ascends good1 orderly1 meets_then
+  orderly2 = orderly_step code sizes.page_words t1 t2 (Instruct (Meet r u)) checked ascends good1 orderly1 meets_then
 
   k2 : slice_get t2.holders u ≡ Some taken
   unfolding t2
@@ -460,7 +462,7 @@ module _ (code : Code) (page_words : ℕ) (s : RegionState) (r u : ℕ) (next : 
   t3 : RegionState
   t3 = attended t2 u given_back
 
-  acknowledges : region_step code page_words t2 (Acknowledge u) ≡ Some t3
+  acknowledges : region_step code sizes.page_words t2 (Acknowledge u) ≡ Some t3
   unfolding t1 t2 t3 taken given_back
   acknowledges =
       ap (option_and_then (λ (q : spec.Holder). acknowledge t2 u q q.offer)) k2
@@ -494,16 +496,16 @@ module _ (code : Code) (page_words : ℕ) (s : RegionState) (r u : ℕ) (next : 
       (get_set_other s.plain.goroutines r u (x.go_on x.v) x.apart ∙ x.at_u)))
       ∙ side_is code offering x.sender x.on (send_goes x.sends)
 
-  pub meets_by : MeetsBy code page_words s r u next h k x
+  pub meets_by : MeetsBy code sizes s r u next h k x
   unfolding t1 t2 t3 offering given_back
   meets_by = record {
     state = t3;
     leads =
-        ap (option_and_then (λ t. run (region_step code page_words) t (Instruct (Meet r u) ∷ Acknowledge u ∷ []))) makes
-        ∙ ap (option_and_then (λ t. run (region_step code page_words) t (Acknowledge u ∷ []))) meets_then
-        ∙ ap (option_and_then (λ t. run (region_step code page_words) t [])) acknowledges;
-    good = steps_keep_good code page_words t2 t3 (Acknowledge u) checked ascends good2 acknowledges;
-    orderly = orderly_step code page_words t2 t3 (Acknowledge u) checked ascends good2 orderly2 acknowledges;
+        ap (option_and_then (λ t. run (roomy_step code sizes) t (Instruct (Meet r u) ∷ Acknowledge u ∷ []))) makes
+        ∙ ap (option_and_then (λ t. run (roomy_step code sizes) t (Acknowledge u ∷ []))) meets_then
+        ∙ ap (option_and_then (λ t. run (roomy_step code sizes) t [])) acknowledges;
+    good = steps_keep_good code sizes.page_words t2 t3 (Acknowledge u) checked ascends good2 acknowledges;
+    orderly = orderly_step code sizes.page_words t2 t3 (Acknowledge u) checked ascends good2 orderly2 acknowledges;
     plain = refl;
     mark = refl;
     owners = refl;
@@ -716,8 +718,8 @@ module _ (w v : World) (s : RegionState) (r u : ℕ) (between : Between w s)
   sender = side_of w s between u both.sender both.at_u
       (sender_owes_none w.code.now between.prepared.checked both.sender both.d both.v both.on both.sends)
 
-  done : MeetsBy w.code.now w.sizes.page_words s r u shown.next receiver.h sender.h both
-  done = meets_by w.code.now w.sizes.page_words s r u shown.next between.prepared.checked between.prepared.ascends
+  done : MeetsBy w.code.now w.sizes s r u shown.next receiver.h sender.h both
+  done = meets_by w.code.now w.sizes s r u shown.next between.prepared.checked between.prepared.ascends
       between.good between.orderly both shown.step receiver.h sender.h receiver.there sender.there receiver.none
       sender.none receiver.free sender.free (λ o. no_offer_stands o s.holders (no_offer_of w s between))
 
@@ -943,10 +945,10 @@ module _ (w v : World) (s : RegionState) (r u : ℕ) (between : Between w s)
         go a = record {
           events = (MakeOffer u ∷ Instruct (Meet r u) ∷ Acknowledge u ∷ []) ++ a.events;
           state = a.state;
-          leads = leads_append (region_step w.code.now w.sizes.page_words)
+          leads = leads_append (roomy_step w.code.now w.sizes)
               (MakeOffer u ∷ Instruct (Meet r u) ∷ Acknowledge u ∷ []) a.events s t a.state done.leads
-              (subst (λ (y : Code × ℕ). run (region_step y.0 y.1) t a.events ≡ Some a.state)
-              (λ i. (code i, (sizes i).page_words)) a.leads);
+              (subst (λ (y : Code × Sizes). run (roomy_step y.0 y.1) t a.events ≡ Some a.state)
+              (λ i. (code i, sizes i)) a.leads);
           steps =
               shown.step_at
               ∙ ap Some (plain_at_after w.code.now s between.prepared.checked between.good w.state shows between.running

@@ -1,7 +1,8 @@
 -- A goroutine takes a page: the step of the region machine, and what the world shows after it.
 use Rattle.std.proofs.Common.{◌≡◌, ℕ, ◌≤◌, ◌<◌, Bool, true, false, List, [], ◌∷◌, length, map, Option, Some, None}
-use Rattle.std.proofs.Common.{refl, sym, ap, ◌∙◌, subst, drop, nat_eq, if◌then◌else◌, arith, true≢false}
+use Rattle.std.proofs.Common.{◌-◌, refl, sym, ap, ◌∙◌, subst, drop, nat_eq, nat_lt, if◌then◌else◌, arith, true≢false}
 use Rattle.std.proofs.Common.{slice_get, slice_set, option_map, option_and_then}
+use Rattle.std.proofs.lemmas.Bool.Decides.{nat_tests}
 use Rattle.rgo_machine.specs.Runs.{run}
 use Rattle.rgo_region_machine.specs.declared.regions.Region.{Region}
 use Rattle.rgo_region_machine.specs.declared.regions.Region.TheVariants.{Global as GlobalRegion, Numbered}
@@ -10,6 +11,7 @@ use Rattle.rgo_region_machine.specs.Machine.{TakePage, page_taken, region_step}
 use Rattle.rgo_region_machine.specs.Objects.{fill_of, with_fill}
 use Rattle.rgo_region_machine.specs.Owed.{next_duties}
 use Rattle.rgo_region_machine.specs.Regions.{RegionInfo, is_live, one_page_more, same_region, with_info}
+use Rattle.rgo_region_machine.specs.Room.{pages_in_use, roomy_step}
 use Rattle.rgo_region_machine.specs.States as spec
 use Rattle.rgo_region_machine.specs.States.{Duty, RegionState, frames_of}
 use Rattle.rgo_sound.proofs.Attends.{length_with_info, same_reflexive, with_info_other, with_info_same}
@@ -113,7 +115,7 @@ pub record Pages (w v : World) (s : RegionState) (g : ℕ) (k : spec.Holder) : T
   pub holder : ready.works.holder ≡ k
 
 module _ (w v : World) (s : RegionState) (g : ℕ) (ready : Ready w s g) (region : Region) (adds : AddsPage w v g region)
-    (live : is_live s.regions region ≡ true)
+    (live : is_live s.regions region ≡ true) (fewer : w.table.taken - w.table.returned < w.sizes.pages)
     (steps : region_step w.code.now w.sizes.page_words s (TakePage g)
     ≡ Some (page_taken s g ready.works.holder region)) where
   abbrev h : spec.Holder
@@ -140,6 +142,18 @@ module _ (w v : World) (s : RegionState) (g : ℕ) (ready : Ready w s g) (region
 
   leads : region_step w.code.now w.sizes.page_words s (TakePage g) ≡ Some next
   leads = steps ∙ ap Some (next_is region)
+
+  in_use : w.table.taken - w.table.returned ≡ pages_in_use s
+  in_use = λ i. ready.works.shown.table.taken i - ready.works.shown.table.returned i
+
+  room : nat_lt (pages_in_use s) w.sizes.pages ≡ true
+  room = below (pages_in_use s) w.sizes.pages (subst (λ n. n < w.sizes.pages) in_use fewer)
+    where
+      below : (n m : ℕ) → n < m → nat_lt n m ≡ true
+      below n m l = grind (arith, nat_tests)
+
+  roomy : roomy_step w.code.now w.sizes s (TakePage g) ≡ Some next
+  roomy = ap (λ b. if b then region_step w.code.now w.sizes.page_words s (TakePage g) else None) room ∙ leads
 
   kept : (c : Holder) × (slice_get w.holders.items g ≡ Some c)
   kept = there_is w s g [] ready.works
@@ -215,7 +229,7 @@ module _ (w v : World) (s : RegionState) (g : ℕ) (ready : Ready w s g) (region
       events = TakePage g ∷ [];
       only_regions = (tt, tt);
       state = next;
-      leads = ap (option_and_then (λ (t : RegionState). run (region_step w.code.now w.sizes.page_words) t [])) leads;
+      leads = ap (option_and_then (λ (t : RegionState). run (roomy_step w.code.now w.sizes) t [])) roomy;
       works = works_next;
       plain = refl;
       same = record { code = refl; sizes = refl; print = refl };

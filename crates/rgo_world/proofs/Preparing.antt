@@ -19,7 +19,6 @@ use Rattle.rgo_tac.specs.Tac.{TacState}
 use Rattle.rgo_code.specs.Code.{Branch, Call, Code, CodeInstr, CodeOp, Do, Go, Jump, Print, Return}
 use Rattle.rgo_code.specs.Erasure.{erased_op}
 use Rattle.rgo_code.specs.Lists.{creates_in, passes_of, protects_of}
-use Rattle.rgo_region_machine.specs.Counts.{counts_of}
 use Rattle.rgo_region_machine.specs.Owed.{current, current_in, duties_before, duties_of_op, next_duties}
 use Rattle.rgo_region_machine.specs.Owed.{regions_named}
 use Rattle.rgo_region_machine.specs.States as spec
@@ -214,7 +213,7 @@ creates_all w v g names i so past within s rest works =
 pub creates_halt : (w v u : World) (g : ℕ) (names : List ℕ) (i name : ℕ) (why : Shortage)
     → CreatesSo w v g names i
     → i < length names → name ≡ get_or names i 0 → SameRun w v → u ≡ v → why ≡ shortage.Regions
-    → ((s : RegionState) → Shown v s → v.sizes.regions ≤ (counts_of s).made - (counts_of s).removed)
+    → ((s : RegionState) → Shown v s → v.sizes.regions ≤ live_regions s)
     → FailsToCreate (halt.NoRoom why) w u g names
 creates_halt w v u g names i name why so l e run same regions full =
     subst (λ x. FailsToCreate (halt.NoRoom why) w x g names) (sym same) (regions, λ s rest works. stops s rest works)
@@ -238,8 +237,7 @@ creates_halt w v u g names i name why so l e run same regions full =
         left : drop i (map Create names) ++ rest ≡ Create name ∷ (drop (i + 1) (map Create names) ++ rest)
         left = from_next Create names i rest l ∙ ap (λ k. Create k ∷ (drop (i + 1) (map Create names) ++ rest)) (sym e)
 
-        full' : w.sizes.regions ≤ (counts_of (subst (Attended w v s g) left a.attended).state).made
-            - (counts_of (subst (Attended w v s g) left a.attended).state).removed
+        full' : w.sizes.regions ≤ live_regions (subst (Attended w v s g) left a.attended).state
         full' =
             let sizes : v.sizes.regions ≡ w.sizes.regions = ap (λ z. z.regions) run.sizes in
             let f = full (subst (Attended w v s g) left a.attended).state

@@ -183,8 +183,9 @@ module _ (w : World) (s : RegionState) (g : ℕ) (next : Next) (making : Making)
           (subst (λ n. w.sizes.pages ≤ w.table.taken - n) ready.works.shown.table.returned less),
     )
 
-    pub has_room_then : (v : World) → AddsPage w v g region → HasRoom w v s g next making
-    has_room_then v adds =
+    pub has_room_then : w.table.taken - w.table.returned < w.sizes.pages → (v : World) → AddsPage w v g region
+        → HasRoom w v s g next making
+    has_room_then fewer v adds =
         subst (λ u. HasRoom w u s g next making) (sym adds.same) (record {
           attended = x.attended;
           roomy = record {
@@ -213,7 +214,7 @@ module _ (w : World) (s : RegionState) (g : ℕ) (next : Next) (making : Making)
 
         x : Pages w (record w { table = v.table; holders = v.holders }) s g
             (record ready.works.holder { fills = with_fill ready.works.holder.fills (its_region i making is_making).0 0 })
-        x = pages w v s g ready (its_region i making is_making).0 adds' (region_live i making is_making) takes
+        x = pages w v s g ready (its_region i making is_making).0 adds' (region_live i making is_making) fewer takes
 
         small_enough : (n m : ℕ) → n ≤ m → nat_le (0 + n) m ≡ true
         small_enough n m l = grind (arith, nat_tests)

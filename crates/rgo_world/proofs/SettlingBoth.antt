@@ -2,8 +2,8 @@
 use Rattle.std.proofs.Common.{◌≡◌, ℕ, ◌≤◌, ◌<◌, false, List, ◌++◌, map, drop, length, Some}
 use Rattle.std.proofs.Common.{sym, ap, ◌∙◌, subst, arith, nat_eq, slice_get}
 use Rattle.rgo_code.specs.Code.{Code}
-use Rattle.rgo_region_machine.specs.Machine.{region_step}
 use Rattle.rgo_region_machine.specs.Owed.{next_duties}
+use Rattle.rgo_region_machine.specs.Room.{roomy_step}
 use Rattle.rgo_region_machine.specs.States as spec
 use Rattle.rgo_region_machine.specs.States.{Duty, RegionState, Remove, frames_of}
 use Rattle.rgo_tac.specs.Tac.{TacState}
@@ -50,7 +50,7 @@ settled_both w u x y v s g removes j others b same kept a none same_j kept_j owe
   events = a.events ++ z.events;
   only_regions = only_append a.events z.events a.only_regions z.only_regions;
   state = z.state;
-  leads = leads_append (region_step w.code.now w.sizes.page_words) a.events z.events s a.state z.state
+  leads = leads_append (roomy_step w.code.now w.sizes) a.events z.events s a.state z.state
       (leads_on w u s a.state a.events same a.leads) (leads_on w x a.state z.state z.events same_x z.leads);
   between = z.between;
   plain = z.plain ∙ a.plain;

@@ -24,9 +24,11 @@ use Rattle.rgo_code.specs.Code.{Code}
 use Rattle.rgo_code.specs.Erasure.{erased}
 use Rattle.rgo_code.specs.NameRules.{Ascends}
 use Rattle.rgo_driver.specs.Running as driver
-use Rattle.rgo_region_machine.specs.Machine.{Event, region_run, region_start, region_step}
+use Rattle.rgo_region_machine.specs.Machine.{Event, region_run, region_start}
+use Rattle.rgo_region_machine.specs.Room.{roomy_run, roomy_step}
 use Rattle.rgo_region_machine.specs.States.{RegionState}
 use Rattle.rgo_sound.proofs.Offers.{runs_are_good}
+use Rattle.rgo_sound.proofs.Room.{room_is_kept}
 use Rattle.rgo_world.specs.declared.worlds.World.{World}
 use Rattle.rgo_world.specs.Views.{view_of}
 use Rattle.rgo_world.specs.Works.{Between, IsOn, Meets, SamePrint, Starts, Takes, TakesStep, TriesMeeting}
@@ -43,8 +45,8 @@ pub stands_between : (w : World) (given : List ℕ) (p : TacState) (at : Stands 
     → Between w at.reaches.state
 stands_between w given p at on = record {
   prepared = at.prepared;
-  good = runs_are_good w.code.now w.sizes.page_words x.events x.state x.checked x.ascends x.run;
-  orderly = runs_are_orderly w.code.now w.sizes.page_words x.events x.state x.checked x.ascends x.run;
+  good = runs_are_good w.code.now w.sizes.page_words x.events x.state x.checked x.ascends is_run;
+  orderly = runs_are_orderly w.code.now w.sizes.page_words x.events x.state x.checked x.ascends is_run;
   shown = at.shown;
   running = running;
   owes = at.owes running;
@@ -52,6 +54,9 @@ stands_between w given p at on = record {
   where
     x : Reaches w given p
     x = at.reaches
+
+    is_run : region_run w.code.now w.sizes.page_words x.events ≡ Some x.state
+    is_run = room_is_kept.is_run w.code.now w.sizes x.events x.state x.run
 
     running : x.state.mark ≡ None
     running = at.unstopped (sym (ap (λ v. v.ended) x.is) ∙ on)
@@ -111,7 +116,7 @@ kept_meeting w given p at on found finds = go found finds
 
 -- the run of w goes on to state t, with what v has printed
 abbrev pub reaches_on : (w v : World) (given : List ℕ) (p : TacState) (x : Reaches w given p) (t : RegionState)
-    (events : List Event) → run (region_step w.code.now w.sizes.page_words) x.state events ≡ Some t
+    (events : List Event) → run (roomy_step w.code.now w.sizes) x.state events ≡ Some t
     → v.code.now ≡ w.code.now → v.sizes ≡ w.sizes → SamePrint w v x.state t
     → Reaches v given (plain_at t v.state.printed)
 reaches_on w v given p x t events leads code sizes prints = record {
@@ -119,10 +124,9 @@ reaches_on w v given p x t events leads code sizes prints = record {
   ascends = subst Ascends (sym code) x.ascends;
   events = x.events ++ events;
   state = t;
-  run = subst (λ (z : Code × ℕ). region_run z.0 z.1 (x.events ++ events) ≡ Some t)
-      (λ i. (sym code i, (sym sizes i).page_words))
-      (leads_append (region_step w.code.now w.sizes.page_words) x.events events (region_start w.code.now) x.state t
-      x.run leads);
+  run = subst (λ (z : Code × Sizes). roomy_run z.0 z.1 (x.events ++ events) ≡ Some t)
+      (λ i. (sym code i, sym sizes i))
+      (leads_append (roomy_step w.code.now w.sizes) x.events events (region_start w.code.now) x.state t x.run leads);
   is = refl;
   print = prints.whole
       ∙ ap (λ bytes. bytes ++ prints.bytes) x.print
@@ -247,8 +251,8 @@ module _ (w v : World) (receiver sender : ℕ) where
         ascends = subst Ascends (sym tries.code) at.reaches.ascends;
         events = at.reaches.events;
         state = at.reaches.state;
-        run = subst (λ (z : Code × ℕ). region_run z.0 z.1 at.reaches.events ≡ Some at.reaches.state)
-            (λ i. (sym tries.code i, (sym tries.sizes i).page_words)) at.reaches.run;
+        run = subst (λ (z : Code × Sizes). roomy_run z.0 z.1 at.reaches.events ≡ Some at.reaches.state)
+            (λ i. (sym tries.code i, sym tries.sizes i)) at.reaches.run;
         is = at.reaches.is ∙ ap (plain_at at.reaches.state) (sym tries.print);
         print = at.reaches.print ∙ ap (λ bytes. given ++ bytes) (sym tries.print);
       },

@@ -19,6 +19,7 @@ use Rattle.rgo_region_machine.specs.declared.regions.Region.{Region}
 use Rattle.rgo_region_machine.specs.Instructions.{marked, plain_after, printed_if}
 use Rattle.rgo_region_machine.specs.Machine.{Event, Instruct, region_step}
 use Rattle.rgo_region_machine.specs.Owed.{next_duties}
+use Rattle.rgo_region_machine.specs.Room.{roomy_step}
 use Rattle.rgo_region_machine.specs.States.{Duty, RegionState, frames_of}
 use Rattle.rgo_sound.proofs.Offers.{steps_keep_good}
 use Rattle.rgo_sound.specs.Good.{AllGood}
@@ -73,13 +74,11 @@ takes_nothing w v s limits g running same = record {
   };
 }
 
--- the steps lead on over the same code, with pages of the same size
+-- the steps lead on over the same code, with as much room
 pub leads_on : (w v : World) (s t : RegionState) (events : List Event) → SameRun w v
-    → run (region_step v.code.now v.sizes.page_words) s events ≡ Some t
-    → run (region_step w.code.now w.sizes.page_words) s events ≡ Some t
+    → run (roomy_step v.code.now v.sizes) s events ≡ Some t → run (roomy_step w.code.now w.sizes) s events ≡ Some t
 leads_on w v s t events same leads =
-    subst (λ (z : Code × ℕ). run (region_step z.0 z.1) s events ≡ Some t)
-    (λ i. (same.code i, (same.sizes i).page_words)) leads
+    subst (λ (z : Code × Sizes). run (roomy_step z.0 z.1) s events ≡ Some t) (λ i. (same.code i, same.sizes i)) leads
 
 -- what is owed after an instruction is done, and then all that comes before the next one is owed
 pub settled : (w u v : World) (s : RegionState) (g : ℕ) → SameRun w u
@@ -122,7 +121,7 @@ pub takes_after : (w v u : World) (s : RegionState) (g : ℕ) (ds : List Duty) (
 takes_after w v u s g ds limits turned a running x = record {
   events = a.events ++ x.events;
   state = x.state;
-  leads = leads_append (region_step w.code.now w.sizes.page_words) a.events x.events s a.state x.state a.leads
+  leads = leads_append (roomy_step w.code.now w.sizes) a.events x.events s a.state x.state a.leads
       (leads_on w v a.state x.state x.events a.same x.leads);
   turns = subst (λ (p : TacState). Turns (tac (erased w.code.now)) limits p (plain_at x.state u.state.printed) g 1 turned)
       (plain_at_same s a.state w.state.printed v.state.printed a.plain running a.works.running a.same.print)
@@ -220,8 +219,8 @@ module _ (w v : World) (s : RegionState) (limits : Limits) (g : ℕ) (turned : T
           (plain_at_after w.code.now s between.prepared.checked between.good w.state shows between.running (One g)
           v.state (shows_step one) t plain mark)
 
-      leads_after : run (region_step w.code.now w.sizes.page_words) s (Instruct (One g) ∷ []) ≡ Some t
-      leads_after = ap (option_and_then (λ (t : RegionState). run (region_step w.code.now w.sizes.page_words) t [])) step
+      leads_after : run (roomy_step w.code.now w.sizes) s (Instruct (One g) ∷ []) ≡ Some t
+      leads_after = ap (option_and_then (λ (t : RegionState). run (roomy_step w.code.now w.sizes) t [])) step
 
       -- what was printed
       print_after : (u : World) (x : RegionState) → u.state.printed ≡ v.state.printed → x.plain ≡ t.plain
@@ -245,10 +244,10 @@ module _ (w v : World) (s : RegionState) (limits : Limits) (g : ℕ) (turned : T
       takes_settled u x still = record {
         events = (Instruct (One g) ∷ []) ++ x.events;
         state = x.state;
-        leads = leads_append (region_step w.code.now w.sizes.page_words) (Instruct (One g) ∷ []) x.events s t x.state
+        leads = leads_append (roomy_step w.code.now w.sizes) (Instruct (One g) ∷ []) x.events s t x.state
             leads_after
-            (subst (λ (z : Code × ℕ). run (region_step z.0 z.1) t x.events ≡ Some x.state)
-            (λ i. (code_same i, (sizes_same i).page_words)) x.leads);
+            (subst (λ (z : Code × Sizes). run (roomy_step z.0 z.1) t x.events ≡ Some x.state)
+            (λ i. (code_same i, sizes_same i)) x.leads);
         turns = subst (λ (p : TacState). Turns (tac (erased w.code.now)) limits (plain_at s w.state.printed) p g 1 turned)
             (sym (plain_at_same t x.state v.state.printed u.state.printed x.plain still x.between.running x.same.print))
             turns_after;

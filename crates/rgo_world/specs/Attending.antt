@@ -5,10 +5,10 @@ use Rattle.std.specs.HashMap.{HashMap, get}
 use Rattle.std.specs.List.{list_any}
 use Rattle.rgo_machine.specs.declared.turns.Shortage.TheVariants as shortage
 use Rattle.rgo_memory.specs.Memory.{Memory}
-use Rattle.rgo_region_machine.specs.Counts.{counts_of}
 use Rattle.rgo_region_machine.specs.declared.regions.Region.{Region}
 use Rattle.rgo_region_machine.specs.declared.regions.Region.TheVariants.{Global as GlobalRegion, Numbered}
 use Rattle.rgo_region_machine.specs.Regions.{RegionInfo, is_live, with_info, one_fewer}
+use Rattle.rgo_region_machine.specs.Room.{live_regions}
 use Rattle.rgo_region_machine.specs.States.{Duty, Create, Protect, Share, RegionState}
 use Rattle.rgo_region_machine.specs.States as spec
 use Rattle.rgo_world.specs.declared.holders.Holder.{Holder}
@@ -114,7 +114,7 @@ pub record StopsAt (w v : World) (s : RegionState) (g : ℕ) (names : List ℕ) 
   pub is_left : Create name ∷ left ≡ drop (done_of v g) (map Create names) ++ rest
   pub from : done_of w g ≤ done_of v g
   pub within : done_of v g < length names
-  pub full : w.sizes.regions ≤ (counts_of attended.state).made - (counts_of attended.state).removed
+  pub full : w.sizes.regions ≤ live_regions attended.state
 
 abbrev pub FailsToCreate : Halt → World → World → ℕ → (names : List ℕ) → Type 0
 FailsToCreate halt.NoMemory w v g names = SameRun w v

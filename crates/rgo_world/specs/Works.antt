@@ -18,9 +18,9 @@ use Rattle.rgo_tac.specs.Ops.{operation_of}
 use Rattle.rgo_tac.specs.Tac.{tac, tac_step}
 use Rattle.rgo_code.specs.Code.{CodeInstr, Code}
 use Rattle.rgo_code.specs.Erasure.{erased, erased_op}
-use Rattle.rgo_region_machine.specs.Counts.{counts_of}
-use Rattle.rgo_region_machine.specs.Machine.{Event, region_start, region_step}
+use Rattle.rgo_region_machine.specs.Machine.{Event, region_start}
 use Rattle.rgo_region_machine.specs.Owed.{current, function_of, next_duties}
+use Rattle.rgo_region_machine.specs.Room.{live_regions, roomy_step}
 use Rattle.rgo_region_machine.specs.States.{Duty, Remove, RegionState, frames_of}
 use Rattle.rgo_region_machine.specs.States as spec
 use Rattle.rgo_sound.specs.Good.{AllGood}
@@ -82,7 +82,7 @@ pub record Attended (w v : World) (s : RegionState) (g : ℕ) (duties : List Dut
   pub events : List Event
   pub only_regions : AreRegionSteps events
   pub state : RegionState
-  pub leads : Leads (region_step w.code.now w.sizes.page_words) s events state
+  pub leads : Leads (roomy_step w.code.now w.sizes) s events state
   pub works : Works v state g duties
   pub plain : state.plain ≡ s.plain
   pub same : SameRun w v
@@ -108,7 +108,7 @@ pub record Settled (w v : World) (s : RegionState) : Type 0 where
   pub events : List Event
   pub only_regions : AreRegionSteps events
   pub state : RegionState
-  pub leads : Leads (region_step w.code.now w.sizes.page_words) s events state
+  pub leads : Leads (roomy_step w.code.now w.sizes) s events state
   pub between : Between v state
   pub plain : state.plain ≡ s.plain
   pub same : SameRun w v
@@ -118,7 +118,7 @@ abbrev pub Halts : Halt → World → World → Type 0
 Halts halt.NoMemory w v = SameRun w v
 Halts (halt.NoRoom why) w v =
     (v ≡ w) × (why ≡ shortage.Regions)
-    × ((s : RegionState) → Shown w s → w.sizes.regions ≤ (counts_of s).made - (counts_of s).removed)
+    × ((s : RegionState) → Shown w s → w.sizes.regions ≤ live_regions s)
 
 -- ---- the next instruction
 
@@ -198,7 +198,7 @@ pub record SamePrint (w v : World) (s t : RegionState) : Type 0 where
 pub record TakesStep (w v : World) (limits : Limits) (s : RegionState) (g at_most : ℕ) (turned : Turned) : Type 0 where
   pub events : List Event
   pub state : RegionState
-  pub leads : Leads (region_step w.code.now w.sizes.page_words) s events state
+  pub leads : Leads (roomy_step w.code.now w.sizes) s events state
   pub turns : Turns (tac (erased w.code.now)) limits (plain_at s w.state.printed) (plain_at state v.state.printed) g at_most turned
   pub code : v.code.now ≡ w.code.now
   pub sizes : v.sizes ≡ w.sizes
@@ -239,7 +239,7 @@ pub record StopsShort (w v : World) (s : RegionState) (g : ℕ) (why : Shortage)
   pub events : List Event
   pub only_regions : AreRegionSteps events
   pub state : RegionState
-  pub leads : Leads (region_step w.code.now w.sizes.page_words) s events state
+  pub leads : Leads (roomy_step w.code.now w.sizes) s events state
   pub plain : state.plain ≡ s.plain
   pub between : Between v state
   pub same : SameRun w v
@@ -269,7 +269,7 @@ pub record Starts (code : Code) (sizes : Sizes) (w : World) : Type 0 where
 pub record Meets (w v : World) (s : RegionState) (receiver sender : ℕ) : Type 0 where
   pub events : List Event
   pub state : RegionState
-  pub leads : Leads (region_step w.code.now w.sizes.page_words) s events state
+  pub leads : Leads (roomy_step w.code.now w.sizes) s events state
   pub steps : tac_step (erased w.code.now) (plain_at s w.state.printed) (Meet receiver sender)
       ≡ Some (plain_at state v.state.printed)
   pub between : Between v state

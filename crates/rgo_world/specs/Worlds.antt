@@ -15,10 +15,11 @@ use Rattle.rgo_code.specs.Lists.{creates_in, removes_in, otherwise_in}
 use Rattle.rgo_code.specs.NameRules.{Ascends}
 use Rattle.rgo_code.specs.Names.{region_parameters}
 use Rattle.rgo_region_machine.specs.Counts.{Counts, counts_of}
-use Rattle.rgo_region_machine.specs.Machine.{Event, TakePage, plain_step, region_step, region_run}
+use Rattle.rgo_region_machine.specs.Machine.{Event, TakePage, plain_step, region_step}
 use Rattle.rgo_region_machine.specs.declared.regions.Region.TheVariants.{Numbered}
 use Rattle.rgo_region_machine.specs.Objects.{fill_of}
 use Rattle.rgo_region_machine.specs.Owed.{current, next_duties}
+use Rattle.rgo_region_machine.specs.Room.{live_regions, pages_in_use, roomy_run}
 use Rattle.rgo_region_machine.specs.States.{Duty, Create, Mark, Ended, Stopped, RegionState, frames_of}
 use Rattle.rgo_region_machine.specs.States as spec
 use Rattle.rgo_sound.specs.Progress.{MakesTooLarge}
@@ -107,14 +108,14 @@ AllOweNext w s = (g : ℕ) (c : Holder) (h : spec.Holder) → slice_get w.holder
 abbrev pub plain_at : RegionState → List ℕ → TacState
 plain_at s printed = record s.plain { printed = printed; ended = end_in s.mark }
 
--- a run of the region machine over the world's code has come to this state of the three-address machine; the print of the
--- run is what was given out before, and then that of the world
+-- A run of the region machine over the world's code, with room for each of its steps, has come to this state of the
+-- three-address machine. The print of the run is what was given out before, and then that of the world.
 pub record Reaches (w : World) (given : List ℕ) (p : TacState) : Type 0 where
   pub checked : IsChecked w.code.now
   pub ascends : Ascends w.code.now
   pub events : List Event
   pub state : RegionState
-  pub run : region_run w.code.now w.sizes.page_words events ≡ Some state
+  pub run : roomy_run w.code.now w.sizes events ≡ Some state
   pub is : p ≡ plain_at state w.state.printed
   pub print : state.plain.printed ≡ given ++ w.state.printed
 
@@ -133,10 +134,10 @@ pub record Stands (w : World) (given : List ℕ) (p : TacState) : Type 0 where
 abbrev pub LacksIn : Code → Sizes → Shortage → RegionState → Type 0
 LacksIn code sizes shortage.Pages s =
     (g : ℕ) × IsSome (region_step code sizes.page_words s (TakePage g))
-    × (sizes.pages ≤ (counts_of s).taken - (counts_of s).returned)
+    × (sizes.pages ≤ pages_in_use s)
 LacksIn code sizes shortage.Regions s =
     (g k : ℕ) × (h : spec.Holder) × (duties : List Duty) × (slice_get s.holders g ≡ Some h) × (h.duties ≡ Create k ∷ duties)
-    × (sizes.regions ≤ (counts_of s).made - (counts_of s).removed)
+    × (sizes.regions ≤ live_regions s)
 LacksIn code sizes shortage.ObjectSize s =
     (g : ℕ) × (next : TacState) × (plain_step code s.plain (One g) ≡ Some next) × MakesTooLarge sizes.page_words s.plain next
 

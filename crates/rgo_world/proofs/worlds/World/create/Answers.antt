@@ -1,4 +1,4 @@
-use Rattle.std.proofs.Common.{◌∷◌, refl, subst}
+use Rattle.std.proofs.Common.{◌∷◌, arith, refl, subst}
 use Rattle.std.proofs.lemmas.Option.{slice_get_past}
 use Rattle.rgo_region_machine.specs.declared.regions.Region.TheVariants.{Numbered}
 use Rattle.rgo_region_machine.specs.States.{Create}
@@ -14,7 +14,7 @@ returns-in_ok-bind-clause-created c =
     (found w.holders.items c.args.g c.in-Some.holder.now item.3.0 item.1) refl refl refl
     (subst (λ r. Binds c.in-Some.holder.now c.bind.new.self c.args.name (Numbered r)) c.in_ok-r.ensures.number
     c.in_ok-bind.ensures.binds)
-    c.in_ok-r.ensures.created
+    c.in_ok-r.ensures.created (omega (arith, c))
 
 pub returns-in_ok-bind-clause-done : goal.returns-in_ok-bind-clause-done
 returns-in_ok-bind-clause-done c =

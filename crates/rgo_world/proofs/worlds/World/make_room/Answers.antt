@@ -1,4 +1,4 @@
-use Rattle.std.proofs.Common.{◌≤◌, refl, sym, ap, ◌∙◌, subst}
+use Rattle.std.proofs.Common.{arith, refl, sym, ap, ◌∙◌, subst}
 use Rattle.rgo_region_machine.specs.Objects.{fits}
 use Rattle.rgo_world.proofs.Rooms.{has_room_now, has_room_then, never_none, no_page_large_enough, no_page_left}
 use Rattle.rgo_world.proofs.worlds.World.make_room.Goals as goal
@@ -30,7 +30,7 @@ returns-then-pages-self c = (
       no_page_left w s c.args.g c.args.next.now c.args.making ready c.requires c.in-Some.region
       (sym c.region_for.ensures ∙ c.in-Some.is) c.if-making-self.false
       (ap (λ o. fits w.sizes.page_words o c.args.making.words) (sym c.fill.ensures) ∙ sym c.has_room.ensures
-      ∙ c.if-has_room.false) (subst (λ n. w.sizes.pages ≤ n) c.pages.ensures c.if-pages-self.true),
+      ∙ c.if-has_room.false) (omega (arith, c)),
 )
 
 pub returns : goal.returns
@@ -39,4 +39,5 @@ returns c = λ s ready.
     has_room_then w s c.args.g c.args.next.now c.args.making ready c.requires c.in-Some.region
     (sym c.region_for.ensures ∙ c.in-Some.is) c.if-making-self.false
     (ap (λ o. fits w.sizes.page_words o c.args.making.words) (sym c.fill.ensures) ∙ sym c.has_room.ensures
-    ∙ c.if-has_room.false) c.add_page.new.self c.in_ok-add_page.ensures.added
+    ∙ c.if-has_room.false) (omega (arith, c)) c.add_page.new.self
+    c.in_ok-add_page.ensures.added

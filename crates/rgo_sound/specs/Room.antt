@@ -1,0 +1,16 @@
+-- A run that has room for each of its steps stays within it.
+use Rattle.std.specs.Prelude.{◌≡◌, ◌++◌, List, Some}
+use Rattle.rgo_machine.specs.declared.limits.Sizes.{Sizes}
+use Rattle.rgo_code.specs.Code.{Code}
+use Rattle.rgo_region_machine.specs.Machine.{Event, region_run}
+use Rattle.rgo_region_machine.specs.Room.{FitsIn, roomy_run}
+use Rattle.rgo_region_machine.specs.States.{RegionState}
+
+pub record RoomIsKept : Type 0 where
+  -- it is a run of the region machine
+  pub is_run : (code : Code) (sizes : Sizes) (events : List Event) (t : RegionState) → roomy_run code sizes events ≡ Some t
+      → region_run code sizes.page_words events ≡ Some t
+  -- in each state that it went through, no more pages are in use, and no more regions live, than there may be
+  pub fits : (code : Code) (sizes : Sizes) (before after : List Event) (s t : RegionState)
+      → roomy_run code sizes (before ++ after) ≡ Some t → region_run code sizes.page_words before ≡ Some s
+      → FitsIn sizes s
