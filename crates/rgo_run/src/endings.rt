@@ -47,13 +47,19 @@ pub enum Ending {
     /// The text has no lexemes: what is wrong first, and where.
     Lexical(LexRefusal),
     /// The text is not a program: where the first token is with which no program continues.
-    Syntax { at: Place },
+    Syntax {
+        at: Place,
+    },
     /// The program is nested too deep: where the first token is after which it is.
-    Nesting { at: Place },
+    Nesting {
+        at: Place,
+    },
     /// The program breaks a typing rule: the first that it breaks, and where.
     Typing(TypeRefusal),
     /// The text is that of no code: the number of its first line without form, from 1.
-    NoForm { line: u32 },
+    NoForm {
+        line: u32,
+    },
     /// The code breaks a rule: the least that it breaks, and the number of the first line that does.
     Breaks(CodeRefusal),
     /// A write of the code to `out` failed.

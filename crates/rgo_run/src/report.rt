@@ -80,9 +80,7 @@ fn trap_line(
     ensures { IfOk result (λ line. string_bytes line ≡ line_of_run kind text.now (Ended (the_end.Trap trap at))) }
 {
     match kind {
-        TextKind::Go => {
-            numbered_line_at(alloc, text, at, "trap", trap.number(), trap.name())
-        }
+        TextKind::Go => { numbered_line_at(alloc, text, at, "trap", trap.number(), trap.name()) }
         TextKind::Code => numbered_line_of_code(alloc, at, "trap", trap.number(), trap.name()),
     }
 }
@@ -150,13 +148,7 @@ fn write_shortage<E: Sink>(err: &mut E, shortage: Shortage) -> u8
 }
 
 // Writes how a run ended.
-fn report_end<E: Sink>(
-    alloc: Global,
-    kind: TextKind,
-    text: &[u8],
-    end: RunEnd,
-    err: &mut E,
-) -> u8
+fn report_end<E: Sink>(alloc: Global, kind: TextKind, text: &[u8], end: RunEnd, err: &mut E) -> u8
     requires { length text.now < 2 ^ 63 }
     ensures { Reports text.now (Ran kind end None) result (sink_use (E.contents err.old)
         (E.contents err.new) (E.faults err.old) (E.faults err.new) (E.broken err.new)) }
@@ -178,12 +170,7 @@ fn report_end<E: Sink>(
 }
 
 // The line of a run's end; nothing where `main` returned.
-fn end_line(
-    alloc: Global,
-    kind: TextKind,
-    text: &[u8],
-    end: RunEnd,
-) -> Result<String, AllocError>
+fn end_line(alloc: Global, kind: TextKind, text: &[u8], end: RunEnd) -> Result<String, AllocError>
     requires { length text.now < 2 ^ 63 }
     ensures { IfOk result (λ line. string_bytes line ≡ line_of_run kind text.now end) }
 {

@@ -10,11 +10,7 @@ use std::alloc::{AllocError, Global};
 use std::process::Abort;
 use std::test::Fail;
 
-fn shown_options(
-    alloc: Global,
-    name: &str,
-    options: RunOptions,
-) -> Result<String, AllocError> {
+fn shown_options(alloc: Global, name: &str, options: RunOptions) -> Result<String, AllocError> {
     let RunOptions {
         limits,
         sizes,

@@ -113,7 +113,10 @@ fn expect_of_workers<R: Threads + Wait + Abort + AllocGlobal + Sync>(
 /// The command of a line that runs something, and the rest of the line.
 fn run_in(words: &str) -> Option<(&str, &str)> {
     for command in ["runcode", "run"] {
-        if let Some(options) = words.strip_prefix("rgo ").and_then(|w| w.strip_prefix(command)) {
+        if let Some(options) = words
+            .strip_prefix("rgo ")
+            .and_then(|w| w.strip_prefix(command))
+        {
             return Some((command, options));
         }
     }
