@@ -40,8 +40,8 @@ _rgo_run_options() {
 _rgo() {
     COMPREPLY=()
     if ((COMP_CWORD == 1)); then
-        _rgo_words run check emit code big
-    elif [[ ${COMP_WORDS[1]} == run ]]; then
+        _rgo_words run check emit code big runcode
+    elif [[ ${COMP_WORDS[1]} == run || ${COMP_WORDS[1]} == runcode ]]; then
         _rgo_run_options
     fi
 }

@@ -43,7 +43,9 @@ Page = collections.namedtuple(
 BLOCK = re.compile(r"^```(\w*)\n(.*?\n)```$", re.MULTILINE | re.DOTALL)
 COMMAND = re.compile(r"`(rgo(?: [^`]*)?)`")
 REPORTS = re.compile(r"^((?:`rgo[^`]*`(?:, | and )?)+) reports?, and exits? with (\d+):$", re.MULTILINE)
-LINE = re.compile(r"rgo: (?:(?P<line>\d+):(?P<column>\d+): |line (?P<whole>\d+): )?(?P<what>.*)", re.DOTALL)
+LINE = re.compile(
+    r"rgo: (?:(?P<line>\d+):(?P<column>\d+): |line (?P<whole>\d+): |@(?P<number>\d+): )?(?P<what>.*)", re.DOTALL
+)
 CODE = "rgo code"
 # What rgo reports of a write that failed.
 WRITE_FAILED = b"rgo: write failed\n"
@@ -171,6 +173,14 @@ def whole_line(text, line):
     return whole + ("(end of the text)" if line == len(lines) else "") or "(an empty line)"
 
 
+def line_at(text, number):
+    """The number of the first line of a code text whose instruction has this place, from 1, or 0 if there is none."""
+    for line, instruction in enumerate(text.split(b"\n"), 1):
+        if re.match(rb"\d+ @%d " % number, instruction):
+            return line
+    return 0
+
+
 def where(path):
     """A path as it is shortest to type."""
     try:
@@ -187,6 +197,10 @@ def place_of(message, text):
     elif message["whole"]:
         place = f"{message['whole']}:"
         found = whole_line(text, int(message["whole"]))
+    elif message["number"]:
+        line = line_at(text, int(message["number"]))
+        place = f"{line}:" if line else f"@{message['number']}:"
+        found = whole_line(text, line)
     else:
         return "", []
     return place, [found or "(The file has no such place: the message is of another text.)"]

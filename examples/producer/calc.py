@@ -2,11 +2,12 @@
 """Compiles a program of a tiny language to a code text with regions.
 
     calc.py FILE.calc > FILE.code
+    rgo runcode < FILE.code
 
 A line is `x = EXPR`, `x[EXPR] = EXPR`, `x = list EXPR`, `print EXPR ..`, `while EXPR`, `if EXPR`, `else` or `end`. An EXPR is a
 number, `true`, `false`, `x`, `x[EXPR]`, `len x`, or made of these with operators and brackets. Each list variable has a region
-of its own: created where a list is made, removed where it is used for the last time. What has the wrong type, `rgo code`
-reports.
+of its own: created where a list is made, removed where it is used for the last time. What has the wrong type, `rgo code` and
+`rgo runcode` report; a trap, at the line of FILE.calc.
 """
 
 import re

@@ -85,6 +85,16 @@ class Explain(Case):
                 said = error_pages.explained(f"rgo: line {line}: code 9\n".encode(), "a file", text)
                 self.assertEqual(f"a file:{line}: code 9\n{shown}\n{CREATIONS}", said.decode())
 
+    def test_instructions_of_code_texts_are_shown(self):
+        text = b"rgo code 1\nfunc main 0 - -\nentry -[]\n0 @7 +[] int v0 1 -[]\n1 @77 +[] close v1 -[]\n2 @7 +[] return -\n"
+        places = [(77, "5", "1 @77 +[] close v1 -[]"), (7, "4", "0 @7 +[] int v0 1 -[]")]
+        places.append((8, "@8", "(The file has no such place: the message is of another text.)"))
+        for number, place, shown in places:
+            with self.subTest(number):
+                said = error_pages.explained(f"rgo: @{number}: trap 7 CloseNil\n".encode(), "a file", text)
+                self.assertEqual(f"a file:{place}: trap 7 CloseNil\n{shown}\n{NIL}", said.decode())
+        self.assertEqual((0, f"rgo: @7: trap 7 CloseNil\n{NIL}", ""), self.tool("explain", said=b"rgo: @7: trap 7 CloseNil\n"))
+
     def test_a_code_text_and_its_message(self):
         self.file.write_bytes(b"rgo code 1\nfunc f\n")
         status, out, err = self.tool("explain", self.file, said=b"rgo: line 2: code text\n")

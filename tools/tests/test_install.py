@@ -18,7 +18,7 @@ from error_pages import TOP
 LIMITS = ["--goroutines", "--page-words", "--pages", "--regions", "--steps"]
 NUMBERS = [*LIMITS, "--workers"]
 OPTIONS = sorted([*NUMBERS, "--stats"])
-COMMANDS = ["big", "check", "code", "emit", "run"]
+COMMANDS = ["big", "check", "code", "emit", "run", "runcode"]
 FAKE = '#!/bin/sh\necho "$@"\ncat >/dev/null\necho "rgo: 2:15: type 4 NoSuchName" >&2\nexit 1\n'
 TEXT = "package main\nfunc main() { zz() }\n"
 
@@ -140,9 +140,10 @@ class Completions(Case):
 
     LINES = [
         ("rgo ", COMMANDS),
-        ("rgo r", ["run"]),
+        ("rgo r", ["run", "runcode"]),
         ("rgo c", ["check", "code"]),
-        ("rgo run", ["run"]),
+        ("rgo run", ["run", "runcode"]),
+        ("rgo runc", ["runcode"]),
         ("rgo run --", OPTIONS),
         ("rgo run --s", ["--stats", "--steps"]),
         ("rgo run --steps ", []),
@@ -151,6 +152,10 @@ class Completions(Case):
         ("rgo run --workers ", []),
         ("rgo run --steps 5 --", [option for option in OPTIONS if option != "--steps"]),
         ("rgo run --stats --", NUMBERS),
+        ("rgo runcode --", OPTIONS),
+        ("rgo runcode --w", ["--workers"]),
+        ("rgo runcode --steps ", []),
+        ("rgo runcode --stats --", NUMBERS),
         ("rgo check --", []),
         ("rgo code --", []),
         ("rgo b", ["big"]),

@@ -49,6 +49,9 @@ def messages():
     table = TOP.joinpath("README.md").read_text(encoding="utf-8").split("| status | line on standard error | meaning |\n")[1]
     for status, line, meaning in map(cells, ROW.findall(table.split("\n\n")[0])[1:]):
         said = re.sub("^rgo: (L:C: |line L: )?", "", line.strip("`"))
+        if said.startswith("@N: "):
+            # The messages of another row, at places of a code text.
+            continue
         if said == "lexical K Name":
             yield from ((title, int(status), None) for title in numbered("lexical", meaning))
         elif said == "type K Name":

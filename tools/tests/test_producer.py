@@ -1,12 +1,14 @@
 """Tests examples/producer: programs of a tiny language as code texts that keep the rules and print what they should."""
 
 import pathlib
+import shutil
 import subprocess
 import sys
 import tempfile
 import unittest
 
 import code_text
+import error_pages
 import region_runs
 from error_pages import TOP
 
@@ -51,6 +53,27 @@ class Calculator(unittest.TestCase):
                 run = region_runs.run(code, region_runs.limits_of({}), out.append)
                 self.assertEqual("".join(f"{line}\n" for line in prints), b"".join(out).decode())
                 self.assertEqual((regions, regions), (len(run.regions), run.removed))
+
+    def test_the_program_runs_what_is_compiled(self):
+        if not shutil.which(error_pages.program()):
+            self.skipTest("no program is built")
+        for name, (prints, regions) in PRINTS.items():
+            with self.subTest(name):
+                text = compiled(PRODUCER / f"{name}.calc")[1]
+                words = [error_pages.program(), "runcode", "--stats"]
+                ran = subprocess.run(words, input=text, capture_output=True, text=True, check=False)
+                self.assertEqual((0, "".join(f"{line}\n" for line in prints)), (ran.returncode, ran.stdout))
+                self.assertTrue(ran.stderr.startswith(f"rgo: regions {regions} removed {regions} "), ran.stderr)
+
+    def test_a_trap_is_at_the_line_of_the_calculator(self):
+        if not shutil.which(error_pages.program()):
+            self.skipTest("no program is built")
+        with tempfile.TemporaryDirectory() as folder:
+            file = pathlib.Path(folder) / "a.calc"
+            file.write_text("x = 0\nprint 1\nprint 1 / x\n")
+            words = [error_pages.program(), "runcode"]
+            ran = subprocess.run(words, input=compiled(file)[1], capture_output=True, text=True, check=False)
+        self.assertEqual((2, "1\n", "rgo: @3: trap 3 DivideZero\n"), (ran.returncode, ran.stdout, ran.stderr))
 
     def test_the_document_shows_the_program_and_its_lines(self):
         page = TOP.joinpath("docs", "CODE_TEXT.md").read_text(encoding="utf-8")

@@ -10,13 +10,13 @@ use Rattle.std.proofs.lemmas.List.Sorted.{IsPermutation-map}
 use Rattle.std.proofs.lemmas.Slice.Eq.{bytes_eq-Decides}
 use Rattle.clap.specs.Words.{Text}
 use Rattle.rgo_command_line.specs.Commands.{command_of}
-use Rattle.rgo_command_line.specs.Laws.{ArePlain, AreWordsOf, AskExactly, IsEnd, SetFlag, SetOptions}
+use Rattle.rgo_command_line.specs.Laws.{ArePlain, AreWordsOf, AskExactly, AskToRun, IsEnd, SetFlag, SetOptions}
 use Rattle.rgo_command_line.specs.Laws.{HoldNumber, joined}
 use Rattle.rgo_command_line.specs.Limits.{Fits, big_by, goroutine_bounds, limit_by, most_words, page_bounds, page_word_bounds}
 use Rattle.rgo_command_line.specs.Limits.{region_bounds, step_bounds, worker_bounds}
 use Rattle.rgo_command_line.specs.Numbers.{is_numeral, within}
 use Rattle.rgo_command_line.specs.declared.commands.Command.{Command}
-use Rattle.rgo_command_line.specs.declared.commands.Command.TheVariants.{Run, Check, Emit, Code, Big}
+use Rattle.rgo_command_line.specs.declared.commands.Command.TheVariants.{Run, Check, Emit, Code, Big, RunCode}
 use Rattle.rgo_command_line.specs.declared.limits.Bounds.{Bounds}
 use Rattle.rgo_command_line.specs.declared.limits.RunOptions.{RunOptions}
 use Rattle.rgo_machine.specs.declared.limits.Sizes.{Sizes}
@@ -24,7 +24,7 @@ use Rattle.rgo_command_line.proofs.BigLemmas as big
 use Rattle.rgo_command_line.proofs.FirstWordLemmas.{other_word}
 use Rattle.rgo_command_line.proofs.OptionLemmas.{AreOptions, Gives, IsNumeral, MetOptions, asks, met_options}
 use Rattle.rgo_command_line.proofs.OrderLemmas.{names, names_in_order}
-use Rattle.rgo_command_line.proofs.RestLemmas.{Plain, check, code, emit, more_rest, name_of, other_rest, plain_command}
+use Rattle.rgo_command_line.proofs.RestLemmas.{Plain, after_run_code, check, code, emit, more_rest, name_of, of_code, other_rest, plain_command}
 use Rattle.rgo_command_line.proofs.LiteralLemmas.{commands, nothing}
 use Rattle.rgo_command_line.proofs.RunLemmas.{at_first, between, from}
 use Rattle.rgo_command_line.proofs.StatusLemmas.{Values, options_from, run_by}
@@ -133,15 +133,17 @@ found v command asked =
         by_fit s g k (record { page_words = w; pages = p; regions = r }) (nat_le (p * w) most_words) refl
         hs hg hp hw hr hk e
 
-after_run : (program : Text) (rest : List Text) → Tells (program ∷ codes "run" ∷ rest)
-after_run program rest command e = by_met (met_options rest)
+-- the words set the options that a run is asked for with, and end
+abbrev SetAndEnd : List Text → RunOptions → Type 0
+SetAndEnd rest options =
+    (set ending : List Text) × SetOptions options set × IsEnd ending × (rest ≡ set ++ ending)
+
+abbrev AsksSo : List Text → Command → Type 0
+AsksSo rest command = (options : RunOptions) × SetAndEnd rest options × (Run options ≡ command)
+
+asks_so : (rest : List Text) (command : Command) → from (between [] None) rest ≡ Some command → AsksSo rest command
+asks_so rest command met = by_met (met_options rest)
   where
-    words : List Text
-    words = program ∷ codes "run" ∷ rest
-
-    met : from (between [] None) rest ≡ Some command
-    met = sym (at_first program rest) ∙ e
-
     flag : (value : Option Text) (b : Bool) (mine : List Text)
         → is_some value ≡ b
         → Gives stats value mine
@@ -154,9 +156,8 @@ after_run program rest command e = by_met (met_options rest)
     of_options : (v : Values) (options : RunOptions)
         → AreOptions v rest
         → Sets v options
-        → AreWordsOf (Run options) words
+        → SetAndEnd rest options
     of_options v options are sets = (
-      program,
       joined (map are.words are.order),
       are.ending,
       record {
@@ -180,15 +181,49 @@ after_run program rest command e = by_met (met_options rest)
         whole = refl;
       },
       are.ends,
-      ap (λ r. program ∷ codes "run" ∷ r) are.whole,
+      are.whole,
     )
 
-    by_found : (v : Values) → AreOptions v rest → Found v command → AreWordsOf command words
-    by_found v are (options, sets, is) = subst (λ c. AreWordsOf c words) is (of_options v options are sets)
+    by_found : (v : Values) → AreOptions v rest → Found v command → AsksSo rest command
+    by_found v are (options, sets, is) = (options, of_options v options are sets, is)
 
-    by_met : MetOptions rest → AreWordsOf command words
-    by_met (inl none) = tells_nothing words (at_first program rest ∙ none) command e
+    by_met : MetOptions rest → AsksSo rest command
+    by_met (inl none) = absurd (let nothing : None ≡ Some command = sym none ∙ met in cc)
     by_met (inr (v, are, is)) = by_found v are (found v command (sym is ∙ met))
+
+-- words that set options and end, after the name of a command
+named_words : (name program : Text) (rest : List Text) (options : RunOptions) → SetAndEnd rest options
+    → AskToRun name options (program ∷ name ∷ rest)
+named_words name program rest options (set, ending, sets, ends, is) =
+    (program, set, ending, sets, ends, ap (λ r. program ∷ name ∷ r) is)
+
+after_run : (program : Text) (rest : List Text) → Tells (program ∷ codes "run" ∷ rest)
+after_run program rest command e =
+    let asks = asks_so rest command (sym (at_first program rest) ∙ e) in
+    subst (λ c. AreWordsOf c (program ∷ codes "run" ∷ rest)) asks.2
+    (named_words (codes "run") program rest asks.0 asks.1)
+
+-- the words after `runcode` are read as those after `run`
+code_first : (program : Text) (rest : List Text)
+    → command_of (program ∷ codes "runcode" ∷ rest) ≡ option_map of_code (from (between [] None) rest)
+code_first program rest = after_run_code program rest ∙ ap (option_map of_code) (at_first program rest)
+
+after_code : (program : Text) (rest : List Text) → Tells (program ∷ codes "runcode" ∷ rest)
+after_code program rest command e = by_asked (from (between [] None) rest) refl (sym (code_first program rest) ∙ e)
+  where
+    words : List Text
+    words = program ∷ codes "runcode" ∷ rest
+
+    by_command : (other : Command) → AsksSo rest other → of_code other ≡ command → AreWordsOf command words
+    by_command other (options, sets, is) same =
+        let asked : RunCode options ≡ command = ap of_code is ∙ same in
+        subst (λ c. AreWordsOf c words) asked (named_words (codes "runcode") program rest options sets)
+
+    by_asked : (asked : Option Command) → from (between [] None) rest ≡ asked
+        → option_map of_code asked ≡ Some command → AreWordsOf command words
+    by_asked None met same = absurd cc
+    by_asked (Some other) met same =
+        let is : of_code other ≡ command = cc in by_command other (asks_so rest other met) is
 
 -- what sets a number is a numeral
 sets_by_numeral : (bounds : Bounds) (n : Number) (value : Option Text) (k : ℕ)
@@ -348,6 +383,20 @@ tells [] = tells_nothing [] nothing.no_words
 tells (program ∷ []) = tells_nothing (program ∷ []) (nothing.no_command program)
 tells (program ∷ w ∷ rest) = by_run (bytes_eq (codes "run") w) refl
   where
+    by_run_code : (b : Bool)
+        → bytes_eq (codes "run") w ≡ false
+        → bytes_eq (codes "check") w ≡ false
+        → bytes_eq (codes "emit") w ≡ false
+        → bytes_eq (codes "code") w ≡ false
+        → bytes_eq (codes "big") w ≡ false
+        → bytes_eq (codes "runcode") w ≡ b
+        → Tells (program ∷ w ∷ rest)
+    by_run_code true r c e o g is =
+        subst (λ w. Tells (program ∷ w ∷ rest)) ((bytes_eq-Decides (codes "runcode") w).0 is) (after_code program rest)
+    by_run_code false r c e o g is =
+        tells_nothing (program ∷ w ∷ rest)
+        (other_word program w rest (record { run = r; check = c; emit = e; code = o; big = g; run_code = is }))
+
     by_big : (b : Bool)
         → bytes_eq (codes "run") w ≡ false
         → bytes_eq (codes "check") w ≡ false
@@ -357,9 +406,7 @@ tells (program ∷ w ∷ rest) = by_run (bytes_eq (codes "run") w) refl
         → Tells (program ∷ w ∷ rest)
     by_big true r c e o is =
         subst (λ w. Tells (program ∷ w ∷ rest)) ((bytes_eq-Decides (codes "big") w).0 is) (after_big program rest)
-    by_big false r c e o is =
-        tells_nothing (program ∷ w ∷ rest)
-        (other_word program w rest (record { run = r; check = c; emit = e; code = o; big = is }))
+    by_big false r c e o is = by_run_code (bytes_eq (codes "runcode") w) r c e o is refl
 
     by_code : (b : Bool)
         → bytes_eq (codes "run") w ≡ false
@@ -399,6 +446,9 @@ ask_plain p words (program, ending, inr dashes, is) =
 ask : (words : List Text) (command : Command) → AreWordsOf command words → command_of words ≡ Some command
 ask words (Run options) (program, set, ending, sets, ends, is) =
     ap command_of is ∙ at_first program (set ++ ending) ∙ asks_set options set ending sets ends
+ask words (RunCode options) (program, set, ending, sets, ends, is) =
+    ap command_of is ∙ code_first program (set ++ ending)
+    ∙ ap (option_map of_code) (asks_set options set ending sets ends)
 ask words Check are = ask_plain check words are
 ask words Emit are = ask_plain emit words are
 ask words Code are = ask_plain code words are

@@ -1,5 +1,5 @@
 -- The words after a command's name are checked at that command's own level alone.
-use Rattle.std.proofs.Common.{◌≡◌, ◌∙◌, refl, sym, ap, ap₂, codes, cond, true}
+use Rattle.std.proofs.Common.{◌≡◌, ◌∙◌, refl, sym, ap, ap₂, codes, cond, Bool, true}
 use Rattle.std.proofs.Common.{false, List, [], ◌∷◌, ◌++◌, Option, Some, None}
 use Rattle.std.proofs.Common.{append-nil, append_assoc, option_map}
 use Rattle.std.specs.List.{fold}
@@ -8,15 +8,16 @@ use Rattle.std.specs.Str.{bytes_eq}
 use Rattle.clap.specs.Words.{App, Kinds, Row, Shape, Text, built}
 use Rattle.clap.specs.Kinds.{or_else}
 use Rattle.clap.specs.Simple.{built_leaf, entered, inherited, names_of, new_shape}
-use Rattle.clap.specs.Walk.{Names, Walk, finished, nothing_held, rows_after, settled, walk_from, walked}
+use Rattle.clap.specs.Walk.{Names, Walk, finished, nothing_held, rows_after, settled, walk, walk_from, walked}
 use Rattle.clap.specs.Faults.{check_fault, defaults_fault, entered_fault, level_fault}
-use Rattle.clap.specs.Faults.{settle_fault, walk_fault}
+use Rattle.clap.specs.Faults.{settle_fault, turn_fault, walk_fault}
 use Rattle.clap.proofs.OnLiterals.{clap_on_literals}
 use Rattle.rgo_command_line.specs.Commands.{command_met, command_of, has_fault}
 use Rattle.rgo_command_line.specs.Limits.{big_of, options_of}
 use Rattle.rgo_command_line.specs.Parser.{bare_parser, big_parser, parser, run_parser}
 use Rattle.rgo_command_line.specs.declared.commands.Command.{Command}
-use Rattle.rgo_command_line.specs.declared.commands.Command.TheVariants.{Run, Check, Emit, Code, Big}
+use Rattle.rgo_command_line.specs.declared.limits.RunOptions.{RunOptions}
+use Rattle.rgo_command_line.specs.declared.commands.Command.TheVariants.{Run, Check, Emit, Code, Big, RunCode}
 use Rattle.rgo_command_line.proofs.StrayLemmas.{stray, with_first}
 
 abbrev app : App
@@ -30,7 +31,10 @@ names = names_of app
 
 -- the commands, as they are built
 abbrev pub run_leaf : Shape
-run_leaf = built_leaf (inherited bare_parser.top run_parser.top)
+run_leaf = built_leaf (inherited bare_parser.top (run_parser (codes "run")).top)
+
+abbrev pub run_code_leaf : Shape
+run_code_leaf = built_leaf (inherited bare_parser.top (run_parser (codes "runcode")).top)
 
 abbrev pub big_leaf : Shape
 big_leaf = built_leaf (inherited bare_parser.top big_parser.top)
@@ -101,6 +105,53 @@ unfolding clap_on_literals
 after_run program rest =
     ap₂ whole (stays (codes "run") [] rest) (no_fault (codes "run") [] rest)
     ∙ ap (λ b. cond b None (run_met (rows_after run_leaf.rules [] rest))) (just_one (rest_fault run_leaf rest))
+
+-- `runcode` refuses the same words as `run`
+same_walk : (w : Walk) (rest : List Text) → walk_fault run_code_leaf [] w rest ≡ walk_fault run_leaf [] w rest
+unfolding walk_fault
+same_walk w [] = refl
+same_walk w (x ∷ xs) =
+    ap (or_else (turn_fault run_leaf [] w x)) (same_walk (walked run_leaf.rules [] w x) xs)
+
+same_fault : (rest : List Text) → rest_fault run_code_leaf rest ≡ rest_fault run_leaf rest
+same_fault rest =
+    let end = (walk run_leaf.rules [] nothing_held rest).held in
+    ap (λ k. or_else k (or_else (settle_fault run_leaf.rules run_leaf.args_override_self end)
+    (or_else (defaults_fault (settled run_leaf.rules end).rows run_leaf.rules)
+    (check_fault run_leaf (finished run_leaf.rules end) false)))) (same_walk (walk_from nothing_held) rest)
+
+-- the command that runs code with the options of one that runs a program
+abbrev pub of_code : Command → Command
+of_code (Run options) = RunCode options
+of_code other = other
+
+abbrev code_met : List Row → Option Command
+code_met rows = option_map RunCode (options_of rows)
+
+met_of_code : (rows : List Row) → code_met rows ≡ option_map of_code (run_met rows)
+met_of_code rows = by_options (options_of rows)
+  where
+    by_options : (o : Option RunOptions) → option_map RunCode o ≡ option_map of_code (option_map Run o)
+    by_options None = refl
+    by_options (Some options) = refl
+
+-- after `runcode` the same words ask for the same options as after `run`
+pub after_run_code : (program : Text) (rest : List Text)
+    → command_of (program ∷ codes "runcode" ∷ rest) ≡ option_map of_code (command_of (program ∷ codes "run" ∷ rest))
+unfolding clap_on_literals
+after_run_code program rest =
+    ap₂ whole (stays (codes "runcode") [] rest) (no_fault (codes "runcode") [] rest)
+    ∙ ap (λ b. cond b None (code_met rows)) (just_one (rest_fault run_code_leaf rest) ∙ ap has_fault (same_fault rest))
+    ∙ by_fault (has_fault (rest_fault run_leaf rest)) (met_of_code rows)
+    ∙ ap (option_map of_code) (sym (after_run program rest))
+  where
+    rows : List Row
+    rows = rows_after run_leaf.rules [] rest
+
+    by_fault : (b : Bool) → code_met rows ≡ option_map of_code (run_met rows)
+        → cond b None (code_met rows) ≡ option_map of_code (cond b None (run_met rows))
+    by_fault true e = refl
+    by_fault false e = e
 
 -- what the words after `big` ask for, where nothing is wrong with them
 abbrev pub big_met : List Row → Option Command

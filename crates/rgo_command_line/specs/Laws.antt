@@ -6,7 +6,7 @@ use Rattle.rgo_command_line.specs.Commands.{command_of}
 use Rattle.rgo_command_line.specs.Limits.{Fits, big_by, default_options, goroutine_bounds, limit_by, page_bounds, page_word_bounds}
 use Rattle.rgo_command_line.specs.Limits.{region_bounds, step_bounds, worker_bounds}
 use Rattle.rgo_command_line.specs.declared.commands.Command.{Command}
-use Rattle.rgo_command_line.specs.declared.commands.Command.TheVariants.{Run, Check, Emit, Code, Big}
+use Rattle.rgo_command_line.specs.declared.commands.Command.TheVariants.{Run, Check, Emit, Code, Big, RunCode}
 use Rattle.rgo_command_line.specs.declared.limits.Bounds.{Bounds}
 use Rattle.rgo_command_line.specs.declared.limits.RunOptions.{RunOptions}
 use Rattle.rgo_machine.specs.declared.limits.Limits.{Limits}
@@ -70,11 +70,16 @@ HoldNumber number words =
     (words ≡ number ∷ [])
     ⊎ ((words ≡ number ∷ codes "--" ∷ []) ⊎ (words ≡ codes "--" ∷ number ∷ []))
 
+-- any name of the program, the name of a command that runs something, its options, and nothing or a `--` after them
+abbrev pub AskToRun : Text → RunOptions → List Text → Type 0
+AskToRun name options words = (program : Text) × (set ending : List Text)
+    × SetOptions options set × IsEnd ending
+    × (words ≡ program ∷ name ∷ (set ++ ending))
+
 -- any name of the program, the command's name, and what the command takes: nothing, its options or its number
 abbrev pub AreWordsOf : Command → List Text → Type 0
-AreWordsOf (Run options) words = (program : Text) × (set ending : List Text)
-    × SetOptions options set × IsEnd ending
-    × (words ≡ program ∷ codes "run" ∷ (set ++ ending))
+AreWordsOf (Run options) words = AskToRun (codes "run") options words
+AreWordsOf (RunCode options) words = AskToRun (codes "runcode") options words
 AreWordsOf Check words = ArePlain (codes "check") words
 AreWordsOf Emit words = ArePlain (codes "emit") words
 AreWordsOf Code words = ArePlain (codes "code") words
@@ -138,6 +143,18 @@ pub record AskForCommands : Type 0 where
         workers = 7;
         stats = true;
       })
+  pub run_code : Ask (codes "runcode" ∷ []) (Some (RunCode default_options))
+  pub run_code_ended : Ask (codes "runcode" ∷ codes "--" ∷ []) (Some (RunCode default_options))
+  pub run_code_workers : Ask (codes "runcode" ∷ codes "--workers" ∷ codes "2" ∷ []) (Some (RunCode (with_workers 2)))
+  pub run_code_all : Ask (codes "runcode" ∷ codes "--stats" ∷ codes "--regions" ∷ codes "3" ∷ codes "--page-words=64"
+      ∷ codes "--goroutines=2" ∷ codes "--workers" ∷ codes "7" ∷ codes "--pages" ∷ codes "5"
+      ∷ codes "--steps=9" ∷ codes "--" ∷ [])
+      (Some (RunCode (record {
+        limits = record { steps = 9; goroutines = 2 };
+        sizes = record { page_words = 64; pages = 5; regions = 3 };
+        workers = 7;
+        stats = true;
+      })))
   pub check : Ask (codes "check" ∷ []) (Some Check)
   pub check_ended : Ask (codes "check" ∷ codes "--" ∷ []) (Some Check)
   pub emit : Ask (codes "emit" ∷ []) (Some Emit)
@@ -166,6 +183,11 @@ pub record AskForNothing : Type 0 where
   pub emit_option : Ask (codes "emit" ∷ codes "--steps=5" ∷ []) None
   pub code_option : Ask (codes "code" ∷ codes "--steps=5" ∷ []) None
   pub two_commands : Ask (codes "emit" ∷ codes "code" ∷ []) None
+  pub code_apart : Ask (codes "run" ∷ codes "code" ∷ []) None
+  pub run_code_twice : Ask (codes "runcode" ∷ codes "runcode" ∷ []) None
+  pub run_code_option_twice : Ask (codes "runcode" ∷ codes "--steps=5" ∷ codes "--steps=5" ∷ []) None
+  pub run_code_no_steps : Ask (codes "runcode" ∷ codes "--steps=0" ∷ []) None
+  pub run_code_many_workers : Ask (codes "runcode" ∷ codes "--workers=65" ∷ []) None
   pub option_twice : Ask (codes "run" ∷ codes "--steps=5" ∷ codes "--steps=5" ∷ []) None
   pub no_steps : Ask (codes "run" ∷ codes "--steps=0" ∷ []) None
   pub many_steps : Ask (codes "run" ∷ codes "--steps=4398046511105" ∷ []) None

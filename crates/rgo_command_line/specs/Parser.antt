@@ -15,9 +15,9 @@ flag_option name = record (new_rule name) { long = Some name; action = Some SetT
 abbrev pub required_word : Text → Rule
 required_word name = record (new_rule name) { action = Some Set; required = true }
 
--- `run`, with its options
-abbrev pub run_parser : App
-run_parser = with_rule (with_rule (with_rule (with_rule (with_rule (with_rule (with_rule (new_app (codes "run"))
+-- a command that runs something, with the options of a run
+abbrev pub run_parser : Text → App
+run_parser name = with_rule (with_rule (with_rule (with_rule (with_rule (with_rule (with_rule (new_app name)
     (number_option (codes "steps"))) (number_option (codes "goroutines"))) (number_option (codes "pages")))
     (number_option (codes "page-words"))) (number_option (codes "regions"))) (number_option (codes "workers")))
     (flag_option (codes "stats"))
@@ -40,7 +40,8 @@ bare_parser = record (new_app (codes "rgo")) {
 abbrev pub with_plain : App → Text → App
 with_plain app name = with_subcommand app (new_app name).top
 
--- one level of subcommands, of which `run` has options, and `big` has a number
+-- one level of subcommands, of which `run` and `runcode` have options, and `big` has a number
 abbrev pub parser : App
-parser = with_subcommand (with_plain (with_plain (with_plain (with_subcommand bare_parser run_parser.top)
-    (codes "check")) (codes "emit")) (codes "code")) big_parser.top
+parser = with_subcommand (with_subcommand (with_plain (with_plain (with_plain
+    (with_subcommand bare_parser (run_parser (codes "run")).top)
+    (codes "check")) (codes "emit")) (codes "code")) big_parser.top) (run_parser (codes "runcode")).top

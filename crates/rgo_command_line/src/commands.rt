@@ -25,6 +25,8 @@ pub enum Command {
     Code,
     /// `big N`: runs a large program that starts this many goroutines, without reading a text.
     Big(u32),
+    /// `runcode`: reads a code text, checks it and runs its code, with these options.
+    RunCode(RunOptions),
 }
 
 /// Why the words are no command.
@@ -57,6 +59,7 @@ fn command_named(name: &str, matches: &ArgMatches<'_>) -> Option<Command>
         "emit" => Some(Command::Emit),
         "code" => Some(Command::Code),
         "big" => Some(Command::Big(big_of(matches)?)),
+        "runcode" => Some(Command::RunCode(options_of(matches)?)),
         _ => None,
     }
 }
@@ -71,9 +74,9 @@ fn command_met(matches: &ArgMatches<'_>) -> Option<Command>
 
 /// The command that the words ask for. The first word is the program's name, and is ignored.
 ///
-/// `run` takes the options `--steps N`, `--goroutines N`, `--pages N`, `--page-words N`,
-/// `--regions N`, `--workers N` and `--stats`, each at most once and in any order. An option with a
-/// number may be written `--steps=N`; `--stats` has no value. `N` is one or more decimal digits:
+/// `run` and `runcode` take the options `--steps N`, `--goroutines N`, `--pages N`,
+/// `--page-words N`, `--regions N`, `--workers N` and `--stats`, each at most once and in any order. An option
+/// with a number may be written `--steps=N`; `--stats` has no value. `N` is one or more decimal digits:
 ///
 /// - steps: 1 to 4,398,046,511,104, which is also the default;
 /// - goroutines: 1 to 1,000,000, by default 100,000;

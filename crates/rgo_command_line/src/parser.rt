@@ -32,11 +32,12 @@ fn required_word<'a>(alloc: Global, name: &'a str) -> Arg<'a>
     Arg::new(alloc, name).required(true).action(ArgAction::Set)
 }
 
-fn run_parser<'a>(alloc: Global) -> Result<Command<'a>, AllocError>
-    ensures app { IfOk result (λ command. app_of command ≡ run_parser) }
+// A command that runs something, with the options of a run.
+fn run_parser<'a>(alloc: Global, name: &'a str) -> Result<Command<'a>, AllocError>
+    ensures app { IfOk result (λ command. app_of command ≡ run_parser name.entry.now) }
     ensures local { IfOk result (λ command. (out-Command command).has_globals ≡ false) }
 {
-    Command::new(alloc, "run")
+    Command::new(alloc, name)
         .arg(number_option(alloc, "steps"))?
         .arg(number_option(alloc, "goroutines"))?
         .arg(number_option(alloc, "pages"))?
@@ -57,8 +58,9 @@ fn big_parser<'a>(alloc: Global) -> Result<Command<'a>, AllocError>
 pub(crate) fn parser<'a>(alloc: Global) -> Result<Command<'a>, AllocError>
     ensures { IfOk result (λ command. app_of command ≡ parser) }
 {
-    let run = run_parser(alloc)?;
+    let run = run_parser(alloc, "run")?;
     let big = big_parser(alloc)?;
+    let run_code = run_parser(alloc, "runcode")?;
     Command::new(alloc, "rgo")
         .disable_help_flag(true)
         .disable_version_flag(true)
@@ -67,5 +69,6 @@ pub(crate) fn parser<'a>(alloc: Global) -> Result<Command<'a>, AllocError>
         .subcommand(Command::new(alloc, "check"))?
         .subcommand(Command::new(alloc, "emit"))?
         .subcommand(Command::new(alloc, "code"))?
-        .subcommand(big)
+        .subcommand(big)?
+        .subcommand(run_code)
 }

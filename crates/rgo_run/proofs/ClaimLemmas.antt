@@ -1,27 +1,29 @@
 -- Each claim of the headline by itself, from how a call ended that read its text.
 use Rattle.std.proofs.Common.{◌≡◌, true, false, ℕ, ◌⊎◌, inl, inr, List, None, Some, Option, option_and_then, refl, sym, ◌∙◌, ap, subst}
+use Rattle.std.proofs.lemmas.Option.{same_Some}
 use Rattle.rgo_typed.specs.Tree.{Typed}
 use Rattle.rgo_machine.specs.declared.turns.Shortage.{Shortage}
 use Rattle.rgo_machine.specs.declared.turns.Shortage.TheVariants as shortage
-use Rattle.rgo_code.specs.Erasure.{erased}
 use Rattle.rgo_world.specs.declared.tally.Tally.{Tally}
 use Rattle.rgo_driver.specs.declared.ends.RunEnd.{RunEnd}
 use Rattle.rgo_driver.specs.declared.ends.RunEnd.TheVariants as run_end
 use Rattle.rgo_command_line.specs.declared.limits.RunOptions.{RunOptions}
 use Rattle.rgo_command_line.specs.Commands.{command_of}
+use Rattle.rgo_run.specs.declared.endings.TextKind.{TextKind}
+use Rattle.rgo_run.specs.declared.endings.TextKind.TheVariants as text_kind
 use Rattle.rgo_run.specs.declared.endings.Ending.{Ending}
 use Rattle.rgo_run.specs.declared.endings.Ending.TheVariants.{Valid, Ran, Usage, ReadFault}
 use Rattle.rgo_run.specs.declared.endings.Ending.TheVariants.{WriteFault, NoMemory}
 use Rattle.rgo_command_line.specs.declared.commands.Command.{Command}
-use Rattle.rgo_command_line.specs.declared.commands.Command.TheVariants.{Run, Check, Emit, Code, Big}
+use Rattle.rgo_command_line.specs.declared.commands.Command.TheVariants.{Run, Check, Emit, Code, Big, RunCode}
 use Rattle.rgo_run.specs.Calls.{Call, Asks, IsRun, IsEmit, AsksRun, SinkUse, SourceHeld, Failed, Held, Grew}
-use Rattle.rgo_run.specs.Calls.{IsUntouched, run_options}
+use Rattle.rgo_run.specs.Calls.{IsUntouched, kind_of, run_of}
 use Rattle.rgo_run.specs.Compiled.{Emits, IsCodeText, WritesCode}
 use Rattle.rgo_run.specs.Endings.{status_of, status_of_run, is_fault_status, line_of}
 use Rattle.rgo_run.specs.Reports.{Tells}
-use Rattle.rgo_run.specs.Runs.{ProgramRuns, RunsTo, stats_at}
-use Rattle.rgo_run.specs.Texts.{IsTextOf, AskSome, RefusedBy, AcceptedBy}
-use Rattle.rgo_run.specs.Verdicts.{Passes, IsProgram, Refused}
+use Rattle.rgo_run.specs.Runs.{IsRunnable, RunOf, Runnable, RunsTo, of_code, of_program, stats_at}
+use Rattle.rgo_run.specs.Texts.{IsTextOf, AskSome, PassesAs, RefusedAs, RefusedBy, AcceptedBy}
+use Rattle.rgo_run.specs.Verdicts.{Passes, IsProgram}
 use Rattle.rgo_run.specs.Headline.{AlwaysHas, EndsRun, EndsEmit, IsOwnEnd, IsWriteFault, MayRun, MayEmit, NeverEnds, Print, Faults}
 use Rattle.rgo_run.specs.Headline.{Suffices, RunsWhole, MustRunWhole, IsSilent, EmitsWhole}
 use Rattle.rgo_run.proofs.EndingLemmas.{refused_status, not_one, one_is_no_run, one_is_no_emit, not_status_1, read_fault, write_fault}
@@ -38,7 +40,8 @@ OnlyChecks _ = ⊥
 pub data Outcome (call : Call) (text : List ℕ) (e : Ending) : Type 0 where
   accepted : e ≡ Valid → (command : Command) → Asks call command → OnlyChecks command → AcceptedBy command text
       → IsUntouched call.out → Outcome call text e
-  ran : (options : RunOptions) → IsRun call options → RunsTo options text e call.out → Outcome call text e
+  ran : (kind : TextKind) (options : RunOptions) → IsRun call kind options → RunsTo kind options text e call.out
+      → Outcome call text e
   emitted : IsEmit call → Emits text e call.out → Outcome call text e
   refused : (command : Command) → Asks call command → RefusedBy command text e → IsUntouched call.out → Outcome call text e
   no_memory : e ≡ NoMemory → IsUntouched call.out → Outcome call text e
@@ -57,62 +60,89 @@ told_whole call text e (inr t) n = absurd (n t.1)
 pub passes : (text : List ℕ) (program : Typed) → IsProgram text program → Passes text
 passes text program p = (p.tree, p.is_well_typed)
 
-same_options : (call : Call) (a b : RunOptions) → IsRun call a → IsRun call b → a ≡ b
-same_options call a b c d = cc
+same_run : (call : Call) (k : TextKind) (l : RunOptions) (kind : TextKind) (options : RunOptions) → IsRun call k l
+    → IsRun call kind options → ◌≡◌ {A = TextKind × RunOptions} (k, l) (kind, options)
+same_run call k l kind options c d = same_Some (k, l) (kind, options) (sym c ∙ d)
 
 same_command : (call : Call) (a b : Command) → Asks call a → Asks call b → a ≡ b
 same_command call a b c d = cc
 
--- the command that is asked for runs with these options
-pub runs_with : (call : Call) (command : Command) (options : RunOptions) → Asks call command → IsRun call options
-    → run_options command ≡ Some options
-runs_with call command options c r = sym (ap (option_and_then run_options) c) ∙ r
+-- the command that is asked for runs a text of this kind, with these options
+pub runs_with : (call : Call) (command : Command) (kind : TextKind) (options : RunOptions) → Asks call command
+    → IsRun call kind options → run_of command ≡ Some (kind, options)
+runs_with call command kind options c r = sym (ap (option_and_then run_of) c) ∙ r
 
-no_run : (call : Call) (command : Command) (options : RunOptions) → Asks call command → OnlyChecks command → IsRun call options → ⊥
-no_run call command options c k r = by_command command k (runs_with call command options c r)
+no_run : (call : Call) (command : Command) (kind : TextKind) (options : RunOptions) → Asks call command
+    → OnlyChecks command → IsRun call kind options → ⊥
+no_run call command kind options c k r = by_command command k (runs_with call command kind options c r)
   where
-    by_command : (command : Command) → OnlyChecks command → run_options command ≡ Some options → ⊥
+    by_command : (command : Command) → OnlyChecks command → run_of command ≡ Some (kind, options) → ⊥
     by_command Check k r = cc
     by_command Code k r = cc
     by_command (Run _) k r = k
+    by_command (RunCode _) k r = k
     by_command Emit k r = k
     by_command (Big n) k r = k
 
 no_emit : (call : Call) (command : Command) → Asks call command → OnlyChecks command → IsEmit call → ⊥
 no_emit call command c k d = subst OnlyChecks (same_command call command Emit c d) k
 
-run_or_emit : (call : Call) (options : RunOptions) → IsEmit call → IsRun call options → ⊥
-run_or_emit call options c d = let none = runs_with call Emit options c d in cc
+run_or_emit : (call : Call) (kind : TextKind) (options : RunOptions) → IsEmit call → IsRun call kind options → ⊥
+run_or_emit call kind options c d = let none = runs_with call Emit kind options c d in cc
 
--- a refusal by a command that runs is that of a program
-run_refused : (call : Call) (command : Command) (options : RunOptions) (text : List ℕ) (e : Ending) → Asks call command
-    → IsRun call options → RefusedBy command text e → Refused text e
-run_refused call command options text e c r = by_command command (runs_with call command options c r)
-  where
-    by_command : (command : Command) → run_options command ≡ Some options → RefusedBy command text e → Refused text e
-    by_command (Run _) r f = f
-    by_command (Big n) r f = f
-    by_command Check r f = f
-    by_command Emit r f = f
-    by_command Code r f = absurd (let none : None ≡ Some options = r in cc)
+-- a command that runs a text of a kind is about that kind
+run_kind : (command : Command) (kind : TextKind) (options : RunOptions) → run_of command ≡ Some (kind, options)
+    → kind_of command ≡ kind
+run_kind (Run o) kind options r = ap (λ (x : TextKind × RunOptions). x.0) (same_Some _ _ r)
+run_kind (RunCode o) kind options r = ap (λ (x : TextKind × RunOptions). x.0) (same_Some _ _ r)
+run_kind (Big n) kind options r = ap (λ (x : TextKind × RunOptions). x.0) (same_Some _ _ r)
+run_kind Check kind options r = absurd cc
+run_kind Emit kind options r = absurd cc
+run_kind Code kind options r = absurd cc
 
--- ---- verdicts by commands
+-- a refusal by a command that runs is that of a text of its kind
+run_refused : (call : Call) (command : Command) (kind : TextKind) (options : RunOptions) (text : List ℕ) (e : Ending)
+    → Asks call command → IsRun call kind options → RefusedBy command text e → RefusedAs kind text e
+run_refused call command kind options text e c r f =
+    subst (λ k. RefusedAs k text e) (run_kind command kind options (runs_with call command kind options c r)) f
 
-one_refusal : (command : Command) (text : List ℕ) (a b : Ending) → RefusedBy command text a → RefusedBy command text b → a ≡ b
-one_refusal (Run options) text a b r s = verdicts.one_refusal text a b r s
-one_refusal Check text a b r s = verdicts.one_refusal text a b r s
-one_refusal Emit text a b r s = verdicts.one_refusal text a b r s
-one_refusal Code text a b r s = codes.one_refusal text a b r s
-one_refusal (Big n) text a b r s = verdicts.one_refusal text a b r s
+-- ---- verdicts by kinds
 
-never_both : (command : Command) (text : List ℕ) (why : Ending) → AcceptedBy command text → RefusedBy command text why → ⊥
-never_both (Run options) text why p r = p
-never_both (Big n) text why p r = p
-never_both Check text why p r = verdicts.never_both text why p r
-never_both Emit text why p r = verdicts.never_both text why p r
-never_both Code text why p r = codes.never_both text why p r
+one_refusal : (kind : TextKind) (text : List ℕ) (a b : Ending) → RefusedAs kind text a → RefusedAs kind text b → a ≡ b
+one_refusal text_kind.Go text a b r s = verdicts.one_refusal text a b r s
+one_refusal text_kind.Code text a b r s = codes.one_refusal text a b r s
 
--- the refusal of a program, by the command that was asked for
+never_both : (kind : TextKind) (text : List ℕ) (why : Ending) → PassesAs kind text → RefusedAs kind text why → ⊥
+never_both text_kind.Go text why p r = verdicts.never_both text why p r
+never_both text_kind.Code text why p r = codes.never_both text why p r
+
+-- what a command accepts is valid
+accepted_passes : (command : Command) (text : List ℕ) → AcceptedBy command text → PassesAs (kind_of command) text
+accepted_passes Check text p = p
+accepted_passes Emit text p = p
+accepted_passes Code text p = p
+accepted_passes (Run options) text p = absurd p
+accepted_passes (RunCode options) text p = absurd p
+accepted_passes (Big n) text p = absurd p
+
+-- what is run is valid
+runnable_passes : (kind : TextKind) (text : List ℕ) (what : Runnable) → IsRunnable kind text what → PassesAs kind text
+runnable_passes kind text (of_program program) is =
+    subst (λ k. PassesAs k text) (sym is.0) (passes text program is.1)
+runnable_passes kind text (of_code code) is =
+    subst (λ k. PassesAs k text) (sym is.0) (record { code = code; is_text = is.1; checked = is.2 })
+
+-- a text is one program, or one code
+one_runnable : (kind : TextKind) (text : List ℕ) (a b : Runnable) → IsRunnable kind text a → IsRunnable kind text b → a ≡ b
+one_runnable kind text (of_program p) (of_program q) is also =
+    ap of_program (verdicts.one_program text p q is.1 also.1)
+one_runnable kind text (of_code p) (of_code q) is also = ap of_code (codes.one_code text p q is.1 also.1)
+one_runnable kind text (of_program p) (of_code q) is also =
+    absurd (let same : text_kind.Go ≡ text_kind.Code = sym is.0 ∙ also.0 in cc)
+one_runnable kind text (of_code p) (of_program q) is also =
+    absurd (let same : text_kind.Code ≡ text_kind.Go = sym is.0 ∙ also.0 in cc)
+
+-- the refusal of a text, by the command that was asked for
 program_refused : (call : Call) (text : List ℕ) (command other : Command) (e : Ending) → Asks call command
     → Asks call other → RefusedBy command text e → RefusedBy other text e
 program_refused call text command other e c d r = subst (λ x. RefusedBy x text e) (same_command call command other c d) r
@@ -135,8 +165,8 @@ emit_status _ ends s = ends
 pub emit_ends : (call : Call) (text : List ℕ) (e : Ending) → Emits text e call.out → EndsEmit e
 emit_ends call text e em = emits_ends em.0 call e em.2
 
-emit_is_no_run : (e : Ending) (end : RunEnd) (stats : Option Tally) → EndsEmit e → e ≡ Ran end stats → ⊥
-emit_is_no_run e end stats ends is = subst EndsEmit is ends
+emit_is_no_run : (e : Ending) (kind : TextKind) (end : RunEnd) (stats : Option Tally) → EndsEmit e → e ≡ Ran kind end stats → ⊥
+emit_is_no_run e kind end stats ends is = subst EndsEmit is ends
 
 emit_failed : (bytes : List ℕ) (call : Call) (e : Ending) → WritesCode bytes e call.out → e ≡ WriteFault → Failed call.out
 emit_failed bytes call WriteFault w x = w.0
@@ -152,10 +182,10 @@ emit_held bytes call _ w n = absurd w
 
 pub usage : (call : Call) (text : List ℕ) (e : Ending) → Outcome call text e → e ≡ Usage → command_of call.words ≡ None
 usage call text e (accepted is command c k p o) u = cc
-usage call text e (ran options c r) u = absurd (let is = r.is_end in cc)
+usage call text e (ran kind options c r) u = absurd (let is = r.is_end in cc)
 usage call text e (emitted c em) u = absurd (subst EndsEmit u (emit_ends call text e em))
 usage call text e (refused command c f o) u =
-    absurd (not_one e Usage (refused_status command text e f) (λ s. cc) u)
+    absurd (not_one e Usage (refused_status (kind_of command) text e f) (λ s. cc) u)
 usage call text e (no_memory is o) u = absurd (let memory = is in cc)
 
 pub unknown : (call : Call) (e : Ending) → AskSome call.words ⊎ (e ≡ NoMemory) → command_of call.words ≡ None
@@ -166,7 +196,7 @@ unknown call e (inr is) n = inr is
 pub is_refused : (call : Call) (text : List ℕ) (e : Ending) → Outcome call text e → status_of e ≡ 1
     → (command : Command) × Asks call command × RefusedBy command text e
 is_refused call text e (accepted is command c k p o) s = absurd (let t = subst (λ x. status_of x ≡ 1) is s in cc)
-is_refused call text e (ran options c r) s = absurd (not_status_1 r.run_end (subst (λ x. status_of x ≡ 1) r.is_end s))
+is_refused call text e (ran kind options c r) s = absurd (not_status_1 r.run_end (subst (λ x. status_of x ≡ 1) r.is_end s))
 is_refused call text e (emitted c em) s = absurd (emit_status e (emit_ends call text e em) s)
 is_refused call text e (refused command c f o) s = (command, c, f)
 is_refused call text e (no_memory is o) s = absurd (let t = subst (λ x. status_of x ≡ 1) is s in cc)
@@ -174,29 +204,30 @@ is_refused call text e (no_memory is o) s = absurd (let t = subst (λ x. status_
 pub valid : (call : Call) (text : List ℕ) (e : Ending) → Outcome call text e → e ≡ Valid
     → (command : Command) × Asks call command × AcceptedBy command text
 valid call text e (accepted is command c k p o) x = (command, c, p)
-valid call text e (ran options c r) x = absurd (let is = r.is_end in cc)
+valid call text e (ran kind options c r) x = absurd (let is = r.is_end in cc)
 valid call text e (emitted c em) x = (Emit, c, compiled_passes text em.0 em.1)
 valid call text e (refused command c f o) x =
-    absurd (not_one e Valid (refused_status command text e f) (λ s. cc) x)
+    absurd (not_one e Valid (refused_status (kind_of command) text e f) (λ s. cc) x)
 valid call text e (no_memory is o) x = absurd (let memory = is in cc)
 
 pub first : (call : Call) (text : List ℕ) (e : Ending) → Outcome call text e → (command : Command) → Asks call command
     → (why : Ending) → RefusedBy command text why → (e ≡ why) ⊎ (e ≡ NoMemory)
 first call text e (accepted is other c k p o) command d why w =
-    absurd (never_both other text why p (program_refused call text command other why d c w))
-first call text e (ran options c r) command d why w =
-    absurd (verdicts.never_both text why (passes text r.program r.is_program)
-    (run_refused call command options text why d c w))
+    absurd (never_both (kind_of other) text why (accepted_passes other text p)
+    (program_refused call text command other why d c w))
+first call text e (ran kind options c r) command d why w =
+    absurd (never_both kind text why (runnable_passes kind text r.what r.is_what)
+    (run_refused call command kind options text why d c w))
 first call text e (emitted c em) command d why w =
     absurd (verdicts.never_both text why (compiled_passes text em.0 em.1) (program_refused call text command Emit why d c w))
 first call text e (refused other c f o) command d why w =
-    inl (one_refusal other text e why f (program_refused call text command other why d c w))
+    inl (one_refusal (kind_of other) text e why f (program_refused call text command other why d c w))
 first call text e (no_memory is o) command d why w = inr is
 
 pub untouched : (call : Call) (text : List ℕ) (e : Ending) → Outcome call text e → (MayRun call e → ⊥)
     → (MayEmit call e → ⊥) → IsUntouched call.out
 untouched call text e (accepted is command c k p o) r m = o
-untouched call text e (ran options c run) r m = absurd (r ((options, c), subst EndsRun (sym run.is_end) tt))
+untouched call text e (ran kind options c run) r m = absurd (r ((kind, options, c), subst EndsRun (sym run.is_end) tt))
 untouched call text e (emitted c em) r m = absurd (m (c, emit_ends call text e em))
 untouched call text e (refused command c f o) r m = o
 untouched call text e (no_memory is o) r m = o
@@ -209,46 +240,46 @@ emit_no_run_end WriteFault ends m = m
 emit_no_run_end _ ends m = ends
 
 pub print : (call : Call) (text : List ℕ) (e : Ending) → Outcome call text e → Print call text e
-print call text e (accepted is command c k p o) options d m = absurd (subst EndsRun is m)
-print call text e (ran l c r) options d m =
-    inl (subst (λ l. RunsTo l text e call.out) (same_options call l options c d) r)
-print call text e (emitted c em) options d m = absurd (emit_no_run_end e (emit_ends call text e em) m)
-print call text e (refused command c f o) options d m =
-    absurd (one_is_no_run e (refused_status command text e f) m)
-print call text e (no_memory is o) options d m = inr (is, o)
+print call text e (accepted is command c k p o) kind options d m = absurd (subst EndsRun is m)
+print call text e (ran k l c r) kind options d m =
+    inl (subst (λ (x : TextKind × RunOptions). RunsTo x.0 x.1 text e call.out) (same_run call k l kind options c d) r)
+print call text e (emitted c em) kind options d m = absurd (emit_no_run_end e (emit_ends call text e em) m)
+print call text e (refused command c f o) kind options d m =
+    absurd (one_is_no_run e (refused_status (kind_of command) text e f) m)
+print call text e (no_memory is o) kind options d m = inr (is, o)
 
 pub emission : (call : Call) (text : List ℕ) (e : Ending) → Outcome call text e → IsEmit call → EndsEmit e
     → Emits text e call.out
 emission call text e (accepted is command c k p o) d m = absurd (no_emit call command c k d)
-emission call text e (ran options c r) d m = absurd (run_or_emit call options d c)
+emission call text e (ran kind options c r) d m = absurd (run_or_emit call kind options d c)
 emission call text e (emitted c em) d m = em
-emission call text e (refused command c f o) d m = absurd (one_is_no_emit e (refused_status command text e f) m)
+emission call text e (refused command c f o) d m = absurd (one_is_no_emit e (refused_status (kind_of command) text e f) m)
 emission call text e (no_memory is o) d m = absurd (subst EndsEmit is m)
 
 pub not_read_fault : (call : Call) (text : List ℕ) (e : Ending) → Outcome call text e → e ≡ ReadFault → ⊥
 not_read_fault call text e (accepted is command c k p o) x = cc
-not_read_fault call text e (ran options c r) x = let is = r.is_end in cc
+not_read_fault call text e (ran kind options c r) x = let is = r.is_end in cc
 not_read_fault call text e (emitted c em) x = subst EndsEmit x (emit_ends call text e em)
 not_read_fault call text e (refused command c f o) x =
-    not_one e ReadFault (refused_status command text e f) (λ s. cc) x
+    not_one e ReadFault (refused_status (kind_of command) text e f) (λ s. cc) x
 not_read_fault call text e (no_memory is o) x = let memory = is in cc
 
-run_write_failed : (options : RunOptions) (call : Call) (text : List ℕ) (e : Ending) → RunsTo options text e call.out
-    → IsWriteFault e → Failed call.out
-run_write_failed options call text e r (inl (stats, x)) =
+run_write_failed : (kind : TextKind) (options : RunOptions) (call : Call) (text : List ℕ) (e : Ending)
+    → RunsTo kind options text e call.out → IsWriteFault e → Failed call.out
+run_write_failed kind options call text e r (inl (other, stats, x)) =
     let is = r.is_end in let same : r.run_end ≡ run_end.WriteFault = cc in r.failed same
-run_write_failed options call text e r (inr x) = absurd (let is = r.is_end in cc)
+run_write_failed kind options call text e r (inr x) = absurd (let is = r.is_end in cc)
 
 emit_write_failed : (call : Call) (text : List ℕ) (e : Ending) → Emits text e call.out → IsWriteFault e
     → Failed call.out
-emit_write_failed call text e em (inl (stats, x)) =
-    absurd (emit_is_no_run e run_end.WriteFault stats (emit_ends call text e em) x)
+emit_write_failed call text e em (inl (kind, stats, x)) =
+    absurd (emit_is_no_run e kind run_end.WriteFault stats (emit_ends call text e em) x)
 emit_write_failed call text e em (inr x) = emit_failed em.0 call e em.2 x
 
 -- an ending that is not such a one
-pub no_write_fault : (e : Ending) → ((stats : Option Tally) → e ≡ Ran run_end.WriteFault stats → ⊥)
+pub no_write_fault : (e : Ending) → ((kind : TextKind) (stats : Option Tally) → e ≡ Ran kind run_end.WriteFault stats → ⊥)
     → (e ≡ WriteFault → ⊥) → IsWriteFault e → ⊥
-no_write_fault e run emit (inl (stats, x)) = run stats x
+no_write_fault e run emit (inl (kind, stats, x)) = run kind stats x
 no_write_fault e run emit (inr x) = emit x
 
 -- nor is it another ending than the one that it is
@@ -257,27 +288,32 @@ not_other e is other x n y = n (sym x ∙ y)
 
 pub write_failed : (call : Call) (text : List ℕ) (e : Ending) → Outcome call text e → IsWriteFault e → Failed call.out
 write_failed call text e (accepted is command c k p o) x =
-    absurd (no_write_fault e (λ stats. not_other e Valid (Ran run_end.WriteFault stats) is (λ w. cc))
+    absurd (no_write_fault e (λ kind stats. not_other e Valid (Ran kind run_end.WriteFault stats) is (λ w. cc))
     (not_other e Valid WriteFault is (λ w. cc)) x)
-write_failed call text e (ran options c r) x = run_write_failed options call text e r x
+write_failed call text e (ran kind options c r) x = run_write_failed kind options call text e r x
 write_failed call text e (emitted c em) x = emit_write_failed call text e em x
 write_failed call text e (refused command c f o) x =
-    let one = refused_status command text e f in
-    absurd (no_write_fault e (λ stats. not_one e (Ran run_end.WriteFault stats) one (λ s. cc))
+    let one = refused_status (kind_of command) text e f in
+    absurd (no_write_fault e (λ kind stats. not_one e (Ran kind run_end.WriteFault stats) one (λ s. cc))
     (not_one e WriteFault one (λ s. cc)) x)
 write_failed call text e (no_memory is o) x =
-    absurd (no_write_fault e (λ stats. not_other e NoMemory (Ran run_end.WriteFault stats) is (λ w. cc))
+    absurd (no_write_fault e (λ kind stats. not_other e NoMemory (Ran kind run_end.WriteFault stats) is (λ w. cc))
     (not_other e NoMemory WriteFault is (λ w. cc)) x)
 
-pub ran_asks : (call : Call) (text : List ℕ) (e : Ending) → Outcome call text e → (end : RunEnd) (stats : Option Tally)
-    → e ≡ Ran end stats → AsksRun call.words
-ran_asks call text e (accepted is command c k p o) end stats x =
-    absurd (not_other e Valid (Ran end stats) is (λ w. cc) x)
-ran_asks call text e (ran options c r) end stats x = (options, c)
-ran_asks call text e (emitted c em) end stats x = absurd (emit_is_no_run e end stats (emit_ends call text e em) x)
-ran_asks call text e (refused command c f o) end stats x =
-    absurd (not_one e (Ran end stats) (refused_status command text e f) (not_status_1 end) x)
-ran_asks call text e (no_memory is o) end stats x = absurd (not_other e NoMemory (Ran end stats) is (λ w. cc) x)
+pub ran_asks : (call : Call) (text : List ℕ) (e : Ending) → Outcome call text e → (kind : TextKind) (end : RunEnd)
+    (stats : Option Tally) → e ≡ Ran kind end stats → (options : RunOptions) × IsRun call kind options
+ran_asks call text e (accepted is command c k p o) kind end stats x =
+    absurd (not_other e Valid (Ran kind end stats) is (λ w. cc) x)
+ran_asks call text e (ran k options c r) kind end stats x =
+    let is = r.is_end in
+    let same : k ≡ kind = cc in
+    (options, subst (λ k. IsRun call k options) same c)
+ran_asks call text e (emitted c em) kind end stats x =
+    absurd (emit_is_no_run e kind end stats (emit_ends call text e em) x)
+ran_asks call text e (refused command c f o) kind end stats x =
+    absurd (not_one e (Ran kind end stats) (refused_status (kind_of command) text e f) (not_status_1 end) x)
+ran_asks call text e (no_memory is o) kind end stats x =
+    absurd (not_other e NoMemory (Ran kind end stats) is (λ w. cc) x)
 
 -- ---- faults
 
@@ -302,9 +338,10 @@ not_fault call e other is t s x =
     let no = subst (λ n. is_fault_status n ≡ false) (t ∙ ap status_of x) s in cc
 
 out_held : (call : Call) (text : List ℕ) (e : Ending) → Outcome call text e
-    → ((stats : Option Tally) → e ≡ Ran run_end.WriteFault stats → ⊥) → (e ≡ WriteFault → ⊥) → Held call.out
+    → ((kind : TextKind) (stats : Option Tally) → e ≡ Ran kind run_end.WriteFault stats → ⊥) → (e ≡ WriteFault → ⊥)
+    → Held call.out
 out_held call text e (accepted is command c k p o) n m = o.1
-out_held call text e (ran options c r) n m = r.held (λ w. n r.stats (r.is_end ∙ ap (λ end. Ran end r.stats) w))
+out_held call text e (ran kind options c r) n m = r.held (λ w. n kind r.stats (r.is_end ∙ ap (λ end. Ran kind end r.stats) w))
 out_held call text e (emitted c em) n m = emit_held em.0 call e em.2 m
 out_held call text e (refused command c f o) n m = o.1
 out_held call text e (no_memory is o) n m = o.1
@@ -319,44 +356,43 @@ faults call text e went t = record {
   read = λ s. absurd (not_read_fault call text e went.outcome (status_9 call text e t s));
   write = λ s. faults_write call text e went.outcome (status_10 call text e t s);
   none = λ s. let h = err_held call text e t s in
-      let run : (stats : Option Tally) → e ≡ Ran run_end.WriteFault stats → ⊥ =
-      λ stats. not_fault call e (Ran run_end.WriteFault stats) refl h.1 s in
+      let run : (kind : TextKind) (stats : Option Tally) → e ≡ Ran kind run_end.WriteFault stats → ⊥ =
+      λ kind stats. not_fault call e (Ran kind run_end.WriteFault stats) refl h.1 s in
       let emit = not_fault call e WriteFault refl h.1 s in
       (went.held, out_held call text e went.outcome run emit, h.0);
 }
 
 -- ---- completeness
 
--- a run of the program, and what is said of it
-abbrev RunsWith : RunOptions → Typed → RunEnd → Option Tally → SinkUse → Type 0
-RunsWith options program end stats out =
-    (runs : ProgramRuns program options end out) × (stats ≡ stats_at options.stats end runs.regions.state)
+-- a run of what is run, and what is said of it
+abbrev RunsWith : RunOptions → Runnable → RunEnd → Option Tally → SinkUse → Type 0
+RunsWith options what end stats out =
+    (runs : RunOf what options end out) × (stats ≡ stats_at options.stats end runs.regions.state)
 
-module _ (options : RunOptions) (call : Call) (text : List ℕ) (program : Typed) (stats : Option Tally)
-    (suffices : Suffices options program) where
-  own : (end : RunEnd) → IsOwnEnd end → (r : RunsWith options program end stats call.out)
-      → (call.status ≡ status_of_run end) × Grew call.err (line_of text (Ran end stats))
-      → RunsWhole options call text program
+module _ (kind : TextKind) (options : RunOptions) (call : Call) (text : List ℕ) (what : Runnable) (stats : Option Tally)
+    (suffices : Suffices options what) where
+  own : (end : RunEnd) → IsOwnEnd end → (r : RunsWith options what end stats call.out)
+      → (call.status ≡ status_of_run end) × Grew call.err (line_of text (Ran kind end stats))
+      → RunsWhole kind options call text what
   own end is r t = record {
     run_end = end;
     is_own = is;
     runs = r.0;
-    told = subst (λ x. Grew call.err (line_of text (Ran end x))) r.1 t.1;
+    told = subst (λ x. Grew call.err (line_of text (Ran kind end x))) r.1 t.1;
     status = t.0;
   }
 
-  lacks_none : (why : Shortage) → AlwaysHas options.sizes program why
-      → (r : RunsWith options program (run_end.NoRoom why) stats call.out) → ⊥
+  lacks_none : (why : Shortage) → AlwaysHas options.sizes what why
+      → (r : RunsWith options what (run_end.NoRoom why) stats call.out) → ⊥
   lacks_none why has r =
-      has r.0.code r.0.compiled r.0.regions.events r.0.regions.state r.0.regions.run (r.0.regions.lacks why refl)
+      has r.0.code r.0.is_code r.0.regions.events r.0.regions.state r.0.regions.run (r.0.regions.lacks why refl)
 
-  never : (end : RunEnd) → NeverEnds options.limits program end → RunsWith options program end stats call.out → ⊥
-  never end n r = n (erased r.0.code) r.0.compiled.lowered r.0.runs.tested r.0.runs.picks r.0.runs.state r.0.runs.ran
-      r.0.runs.ends
+  never : (end : RunEnd) → NeverEnds options.limits what end → RunsWith options what end stats call.out → ⊥
+  never end n r = n r.0.code r.0.is_code r.0.runs.tested r.0.runs.picks r.0.runs.state r.0.runs.ran r.0.runs.ends
 
-  runs_whole : (end : RunEnd) → RunsWith options program end stats call.out
-      → (call.status ≡ status_of_run end) × Grew call.err (line_of text (Ran end stats))
-      → (end ≡ run_end.WriteFault → ⊥) → RunsWhole options call text program ⊎ (call.status ≡ 11)
+  runs_whole : (end : RunEnd) → RunsWith options what end stats call.out
+      → (call.status ≡ status_of_run end) × Grew call.err (line_of text (Ran kind end stats))
+      → (end ≡ run_end.WriteFault → ⊥) → RunsWhole kind options call text what ⊎ (call.status ≡ 11)
   runs_whole (run_end.Ended end) r t w = inl (own (run_end.Ended end) tt r t)
   runs_whole run_end.Deadlock r t w = inl (own run_end.Deadlock tt r t)
   runs_whole (run_end.NoRoom shortage.Pages) r t w = absurd (lacks_none shortage.Pages suffices.pages r)
@@ -374,21 +410,25 @@ memory_status : (call : Call) (text : List ℕ) (e : Ending) → e ≡ NoMemory 
 memory_status call text e is t n = (told_whole call text e t n).0 ∙ ap status_of is
 
 pub complete_run : (call : Call) (text : List ℕ) (e : Ending) → Outcome call text e → Tells text e call.status call.err
-    → (options : RunOptions) → IsRun call options → (Failed call.out → ⊥) → (Failed call.err → ⊥)
-    → MustRunWhole options call text
-complete_run call text e (accepted is command c k u o) t options d w n program p s = absurd (no_run call command options c k d)
-complete_run call text e (ran l c r) t options d w n program p s =
-    let same = same_options call l options c d in
-    let q = verdicts.one_program text r.program program r.is_program p in
-    runs_whole options call text program r.stats s r.run_end
-    (subst (λ x. RunsWith x program r.run_end r.stats call.out) same
+    → (kind : TextKind) (options : RunOptions) → IsRun call kind options → (Failed call.out → ⊥) → (Failed call.err → ⊥)
+    → MustRunWhole kind options call text
+complete_run call text e (accepted is command c k u o) t kind options d w n what p s =
+    absurd (no_run call command kind options c k d)
+complete_run call text e (ran k l c r) t kind options d w n what p s =
+    let same = same_run call k l kind options c d in
+    let q = one_runnable kind text r.what what
+    (subst (λ (x : TextKind × RunOptions). IsRunnable x.0 text r.what) same r.is_what) p in
+    runs_whole kind options call text what r.stats s r.run_end
+    (subst (λ (x : TextKind × RunOptions). RunsWith x.1 what r.run_end r.stats call.out) same
     (subst (λ x. RunsWith l x r.run_end r.stats call.out) q (r.runs, r.stats_are)))
-    (subst (λ x. (call.status ≡ status_of x) × Grew call.err (line_of text x)) r.is_end (told_whole call text e t n))
+    (subst (λ x. (call.status ≡ status_of x) × Grew call.err (line_of text x))
+    (r.is_end ∙ ap (λ (x : TextKind × RunOptions). Ran x.0 r.run_end r.stats) same) (told_whole call text e t n))
     (λ f. w (r.failed f))
-complete_run call text e (emitted c em) t options d w n program p s = absurd (run_or_emit call options c d)
-complete_run call text e (refused command c f o) t options d w n program p s =
-    absurd (verdicts.never_both text e (passes text program p) (run_refused call command options text e c d f))
-complete_run call text e (no_memory is o) t options d w n program p s = inr (memory_status call text e is t n)
+complete_run call text e (emitted c em) t kind options d w n what p s = absurd (run_or_emit call kind options c d)
+complete_run call text e (refused command c f o) t kind options d w n what p s =
+    absurd (never_both kind text e (runnable_passes kind text what p)
+    (run_refused call command kind options text e c d f))
+complete_run call text e (no_memory is o) t kind options d w n what p s = inr (memory_status call text e is t n)
 
 -- a text that is only checked, and that the command accepts
 pub complete_checking : (call : Call) (text : List ℕ) (e : Ending) → Outcome call text e
@@ -397,10 +437,11 @@ pub complete_checking : (call : Call) (text : List ℕ) (e : Ending) → Outcome
 complete_checking call text e (accepted is other c k u o) t command d only n p =
     let told = subst (λ x. (call.status ≡ status_of x) × Grew call.err (line_of text x)) is (told_whole call text e t n) in
     inl (record { status = told.0; untouched = o; silent = told.1 })
-complete_checking call text e (ran options c r) t command d only n p = absurd (no_run call command options d only c)
+complete_checking call text e (ran kind options c r) t command d only n p = absurd (no_run call command kind options d only c)
 complete_checking call text e (emitted c em) t command d only n p = absurd (no_emit call command d only c)
 complete_checking call text e (refused other c f o) t command d only n p =
-    absurd (never_both command text e p (program_refused call text other command e c d f))
+    absurd (never_both (kind_of command) text e (accepted_passes command text p)
+    (program_refused call text other command e c d f))
 complete_checking call text e (no_memory is o) t command d only n p = inr (memory_status call text e is t n)
 
 emits_whole : (call : Call) (text : List ℕ) (e : Ending) (bytes : List ℕ) → IsCodeText text bytes
@@ -421,7 +462,7 @@ pub complete_emit : (call : Call) (text : List ℕ) (e : Ending) → Outcome cal
     → IsEmit call → (Failed call.out → ⊥) → (Failed call.err → ⊥) → Passes text
     → EmitsWhole call text ⊎ (call.status ≡ 11)
 complete_emit call text e (accepted is command c k u o) t d w n p = absurd (no_emit call command c k d)
-complete_emit call text e (ran options c r) t d w n p = absurd (run_or_emit call options d c)
+complete_emit call text e (ran kind options c r) t d w n p = absurd (run_or_emit call kind options d c)
 complete_emit call text e (emitted c em) t d w n p =
     inl (emits_whole call text e em.0 em.1 em.2 (told_whole call text e t n) w)
 complete_emit call text e (refused command c f o) t d w n p =

@@ -15,7 +15,7 @@ use Rattle.rgo_run.specs.declared.endings.Ending.{Ending}
 use Rattle.rgo_run.specs.declared.endings.Ending.TheVariants.{CodeTooLong, NoForm, Breaks}
 use Rattle.rgo_run.specs.CodeVerdicts.{code_limit, IsTextOfCode, CodePasses, CodeBreaks, CodeRefused, OneCodeVerdict}
 
-one_code : (text : List ℕ) (a b : Code) → IsTextOfCode text a → IsTextOfCode text b → a ≡ b
+pub one_code : (text : List ℕ) (a b : Code) → IsTextOfCode text a → IsTextOfCode text b → a ≡ b
 one_code text a b is also = no_two a b is.written also.written (sym is.text_is ∙ also.text_is)
 
 -- the text of code has a form

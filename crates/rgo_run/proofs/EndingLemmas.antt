@@ -5,8 +5,8 @@ use Rattle.rgo_machine.specs.declared.picks.End.TheVariants as the_end
 use Rattle.rgo_machine.specs.declared.turns.Shortage.TheVariants as shortage
 use Rattle.rgo_driver.specs.declared.ends.RunEnd.{RunEnd}
 use Rattle.rgo_driver.specs.declared.ends.RunEnd.TheVariants as run_end
-use Rattle.rgo_command_line.specs.declared.commands.Command.{Command}
-use Rattle.rgo_command_line.specs.declared.commands.Command.TheVariants.{Run, Check, Emit, Code, Big}
+use Rattle.rgo_run.specs.declared.endings.TextKind.{TextKind}
+use Rattle.rgo_run.specs.declared.endings.TextKind.TheVariants as text_kind
 use Rattle.rgo_run.specs.declared.endings.Ending.{Ending}
 use Rattle.rgo_run.specs.declared.endings.Ending.TheVariants.{Valid, Ran, Usage, ReadFault, TooLong, CodeTooLong}
 use Rattle.rgo_run.specs.declared.endings.Ending.TheVariants.{Lexical, Syntax, Nesting, Typing, NoForm, Breaks, WriteFault, NoMemory}
@@ -16,7 +16,7 @@ use Rattle.rgo_run.specs.Reports.{Reports, Writes}
 use Rattle.rgo_world.specs.declared.tally.Tally.{Tally}
 use Rattle.rgo_run.specs.Headline.{EndsEmit, EndsRun, IsWriteFault}
 use Rattle.rgo_run.specs.CodeVerdicts.{CodeRefused}
-use Rattle.rgo_run.specs.Texts.{RefusedBy}
+use Rattle.rgo_run.specs.Texts.{RefusedAs}
 use Rattle.rgo_run.specs.Verdicts.{Refused}
 
 -- a refusal has status 1
@@ -34,12 +34,9 @@ code_refused text (NoForm line) r = refl
 code_refused text (Breaks refusal) r = refl
 code_refused text _ r = absurd r
 
-pub refused_status : (command : Command) (text : List ℕ) (e : Ending) → RefusedBy command text e → status_of e ≡ 1
-refused_status (Run options) text e r = text_refused text e r
-refused_status Check text e r = text_refused text e r
-refused_status Emit text e r = text_refused text e r
-refused_status Code text e r = code_refused text e r
-refused_status (Big n) text e r = text_refused text e r
+pub refused_status : (kind : TextKind) (text : List ℕ) (e : Ending) → RefusedAs kind text e → status_of e ≡ 1
+refused_status text_kind.Go text e r = text_refused text e r
+refused_status text_kind.Code text e r = code_refused text e r
 
 -- the status of a run is none of a refusal or of a failed read
 pub not_status_1 : (end : RunEnd) → status_of_run end ≡ 1 → ⊥
@@ -60,7 +57,7 @@ pub not_one : (e other : Ending) → status_of e ≡ 1 → (status_of other ≡ 
 not_one e other s differs is = differs (subst (λ x. status_of x ≡ 1) is s)
 
 pub one_is_no_run : (e : Ending) → status_of e ≡ 1 → EndsRun e → ⊥
-one_is_no_run (Ran end stats) s m = not_status_1 end s
+one_is_no_run (Ran kind end stats) s m = not_status_1 end s
 one_is_no_run NoMemory s m = cc
 one_is_no_run _ s m = m
 
@@ -72,17 +69,17 @@ one_is_no_emit _ s m = m
 -- with status 9 a read failed
 pub read_fault : (e : Ending) → status_of e ≡ 9 → e ≡ ReadFault
 read_fault ReadFault s = refl
-read_fault (Ran (run_end.Ended the_end.Exit) stats) s = cc
-read_fault (Ran (run_end.Ended (the_end.Trap trap at)) stats) s = cc
-read_fault (Ran run_end.Deadlock stats) s = cc
-read_fault (Ran (run_end.NoRoom shortage.Pages) stats) s = cc
-read_fault (Ran (run_end.NoRoom shortage.Regions) stats) s = cc
-read_fault (Ran (run_end.NoRoom shortage.ObjectSize) stats) s = cc
-read_fault (Ran run_end.CallsTooDeep stats) s = cc
-read_fault (Ran run_end.StepsSpent stats) s = cc
-read_fault (Ran run_end.GoroutinesSpent stats) s = cc
-read_fault (Ran run_end.WriteFault stats) s = cc
-read_fault (Ran run_end.NoMemory stats) s = cc
+read_fault (Ran kind (run_end.Ended the_end.Exit) stats) s = cc
+read_fault (Ran kind (run_end.Ended (the_end.Trap trap at)) stats) s = cc
+read_fault (Ran kind run_end.Deadlock stats) s = cc
+read_fault (Ran kind (run_end.NoRoom shortage.Pages) stats) s = cc
+read_fault (Ran kind (run_end.NoRoom shortage.Regions) stats) s = cc
+read_fault (Ran kind (run_end.NoRoom shortage.ObjectSize) stats) s = cc
+read_fault (Ran kind run_end.CallsTooDeep stats) s = cc
+read_fault (Ran kind run_end.StepsSpent stats) s = cc
+read_fault (Ran kind run_end.GoroutinesSpent stats) s = cc
+read_fault (Ran kind run_end.WriteFault stats) s = cc
+read_fault (Ran kind run_end.NoMemory stats) s = cc
 read_fault Valid s = cc
 read_fault Usage s = cc
 read_fault TooLong s = cc
@@ -98,18 +95,18 @@ read_fault NoMemory s = cc
 
 -- with status 10 of an ending a write to `out` failed
 pub write_fault : (e : Ending) → status_of e ≡ 10 → IsWriteFault e
-write_fault (Ran run_end.WriteFault stats) s = inl (stats, refl)
+write_fault (Ran kind run_end.WriteFault stats) s = inl (kind, stats, refl)
 write_fault WriteFault s = inr refl
-write_fault (Ran (run_end.Ended the_end.Exit) stats) s = cc
-write_fault (Ran (run_end.Ended (the_end.Trap trap at)) stats) s = cc
-write_fault (Ran run_end.Deadlock stats) s = cc
-write_fault (Ran (run_end.NoRoom shortage.Pages) stats) s = cc
-write_fault (Ran (run_end.NoRoom shortage.Regions) stats) s = cc
-write_fault (Ran (run_end.NoRoom shortage.ObjectSize) stats) s = cc
-write_fault (Ran run_end.CallsTooDeep stats) s = cc
-write_fault (Ran run_end.StepsSpent stats) s = cc
-write_fault (Ran run_end.GoroutinesSpent stats) s = cc
-write_fault (Ran run_end.NoMemory stats) s = cc
+write_fault (Ran kind (run_end.Ended the_end.Exit) stats) s = cc
+write_fault (Ran kind (run_end.Ended (the_end.Trap trap at)) stats) s = cc
+write_fault (Ran kind run_end.Deadlock stats) s = cc
+write_fault (Ran kind (run_end.NoRoom shortage.Pages) stats) s = cc
+write_fault (Ran kind (run_end.NoRoom shortage.Regions) stats) s = cc
+write_fault (Ran kind (run_end.NoRoom shortage.ObjectSize) stats) s = cc
+write_fault (Ran kind run_end.CallsTooDeep stats) s = cc
+write_fault (Ran kind run_end.StepsSpent stats) s = cc
+write_fault (Ran kind run_end.GoroutinesSpent stats) s = cc
+write_fault (Ran kind run_end.NoMemory stats) s = cc
 write_fault ReadFault s = cc
 write_fault Valid s = cc
 write_fault Usage s = cc
@@ -124,8 +121,8 @@ write_fault (Breaks refusal) s = cc
 write_fault NoMemory s = cc
 
 pub run_of_status : (e : Ending) → is_run_status (status_of e) ≡ true
-    → (end : RunEnd) × (stats : Option Tally) × (e ≡ Ran end stats)
-run_of_status (Ran end stats) s = (end, stats, refl)
+    → (kind : TextKind) × (end : RunEnd) × (stats : Option Tally) × (e ≡ Ran kind end stats)
+run_of_status (Ran kind end stats) s = (kind, end, stats, refl)
 run_of_status Valid s = cc
 run_of_status NoMemory s = cc
 run_of_status Usage s = cc
@@ -141,12 +138,12 @@ run_of_status (Breaks refusal) s = cc
 run_of_status WriteFault s = cc
 
 -- the lines of a run, with what it has made, were written, or there was no memory for them
-pub stats_reported : {S : Type 0} (bytes_of : S → List ℕ) (text : List ℕ) (end : RunEnd) (tally : Tally)
+pub stats_reported : {S : Type 0} (bytes_of : S → List ℕ) (kind : TextKind) (text : List ℕ) (end : RunEnd) (tally : Tally)
     (lines : Result S AllocError) (status answer : ℕ) (err : SinkUse) → status ≡ status_of_run end
-    → IfOk lines (λ s. bytes_of s ≡ stats_lines tally (line_of_run text end))
+    → IfOk lines (λ s. bytes_of s ≡ stats_lines tally (line_of_run kind text end))
     → MatchResult lines (λ s. Writes (bytes_of s) status answer err) (λ e. Writes (line_of [] NoMemory) 11 answer err)
-    → Reports text (Ran end (Some tally)) answer err
-stats_reported bytes_of text end tally (Ok s) status answer err same is writes =
-    inl (subst (λ n. Writes (stats_lines tally (line_of_run text end)) n answer err) same
+    → Reports text (Ran kind end (Some tally)) answer err
+stats_reported bytes_of kind text end tally (Ok s) status answer err same is writes =
+    inl (subst (λ n. Writes (stats_lines tally (line_of_run kind text end)) n answer err) same
     (subst (λ bytes. Writes bytes status answer err) is writes))
-stats_reported bytes_of text end tally (Err e) status answer err same is writes = inr (tt, writes)
+stats_reported bytes_of kind text end tally (Err e) status answer err same is writes = inr (tt, writes)

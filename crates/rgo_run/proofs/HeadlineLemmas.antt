@@ -2,29 +2,32 @@
 -- ending.
 use Rattle.std.proofs.Common.{◌≡◌, Bool, true, false, ℕ, ◌⊎◌, inl, inr, List, [], Option, None, Some, IfSome, option_and_then, refl, sym, ap, ◌∙◌, subst}
 use Rattle.std.specs.Io.KnownBytes.{Appends}
+use Rattle.rgo_machine.specs.declared.limits.Limits.{Limits}
+use Rattle.rgo_tac.specs.Tac.{TacState}
 use Rattle.rgo_region_machine.specs.States.{RegionState}
 use Rattle.rgo_world.specs.declared.tally.Tally.{Tally}
 use Rattle.rgo_driver.specs.Runs.{Gives}
 use Rattle.rgo_driver.specs.declared.ends.RunEnd.{RunEnd}
 use Rattle.rgo_driver.specs.declared.ends.RunEnd.TheVariants as run_end
 use Rattle.rgo_command_line.specs.declared.commands.Command.{Command}
-use Rattle.rgo_command_line.specs.declared.commands.Command.TheVariants.{Run, Check, Emit, Code, Big}
+use Rattle.rgo_command_line.specs.declared.commands.Command.TheVariants.{Run, Check, Emit, Code, Big, RunCode}
 use Rattle.rgo_command_line.specs.declared.limits.RunOptions.{RunOptions}
 use Rattle.rgo_command_line.specs.Commands.{command_of}
 use Rattle.rgo_command_line.specs.Limits.{default_options}
 use Rattle.rgo_big.specs.Big.{big_text}
+use Rattle.rgo_run.specs.declared.endings.TextKind.{TextKind}
+use Rattle.rgo_run.specs.declared.endings.TextKind.TheVariants as text_kind
 use Rattle.rgo_run.specs.declared.endings.Ending.{Ending}
 use Rattle.rgo_run.specs.declared.endings.Ending.TheVariants.{Valid, Ran, Usage, ReadFault, TooLong, CodeTooLong}
 use Rattle.rgo_run.specs.declared.endings.Ending.TheVariants.{WriteFault, NoMemory}
-use Rattle.rgo_run.specs.Calls.{AsksRun, Call, Asks, IsRun, SourceFailed, SourceHeld, IsUntouched, run_options}
+use Rattle.rgo_run.specs.Calls.{AsksRun, Call, Asks, IsRun, SourceFailed, SourceHeld, IsUntouched, kind_of, run_of}
 use Rattle.rgo_run.specs.Endings.{status_of, is_run_status, is_fault_status}
 use Rattle.rgo_run.specs.Reports.{Tells, HasPlace, Reports}
-use Rattle.rgo_run.specs.Runs.{RunsTo, stats_at}
-use Rattle.rgo_run.specs.Texts.{IsTextOf, IsRead, AskSome, NotRead, ReadTooMuch, Checks, ChecksCode, Fails, Performs, RefusedBy}
-use Rattle.rgo_run.specs.Verdicts.{Refused}
+use Rattle.rgo_run.specs.Runs.{HasSourceRun, Runnable, RunsTo, of_code, of_program, stats_at}
+use Rattle.rgo_run.specs.Texts.{AcceptedBy, IsTextOf, IsRead, AskSome, NotRead, PassesAs, ReadTooMuch, Checks, FailsAs, Performs}
 use Rattle.rgo_run.specs.Headline.{EndsEmit, EndsRun, Headline, IsWriteFault}
 use Rattle.rgo_run.proofs.EndingLemmas.{run_of_status}
-use Rattle.rgo_run.proofs.ClaimLemmas.{Outcome, accepted, ran, emitted, refused, no_memory, Went}
+use Rattle.rgo_run.proofs.ClaimLemmas.{OnlyChecks, Outcome, accepted, ran, emitted, refused, no_memory, Went}
 use Rattle.rgo_run.proofs.ClaimLemmas.{complete_checking, complete_emit, complete_run, emission, err_held, faults, first}
 use Rattle.rgo_run.proofs.ClaimLemmas.{is_refused, no_write_fault, not_read_fault, print, ran_asks, status_10, status_9}
 use Rattle.rgo_run.proofs.ClaimLemmas.{emit_ends, unknown, untouched, usage, valid, write_failed}
@@ -54,7 +57,7 @@ headline_told call text e went t = record {
   };
   faults = faults call text e went t;
   complete = record {
-    run = λ options c s o n. complete_run call text e went.outcome t options c o n;
+    run = λ kind options c s o n. complete_run call text e went.outcome t kind options c o n;
     check = λ c s n. complete_checking call text e went.outcome t Check c tt n;
     emit = λ c s o n. complete_emit call text e went.outcome t c o n;
     code = λ c s n. complete_checking call text e went.outcome t Code c tt n;
@@ -73,18 +76,31 @@ whole_print run_end.StepsSpent print old new n g = g
 whole_print run_end.GoroutinesSpent print old new n g = g
 whole_print run_end.NoMemory print old new n g = g
 
+no_line_source : (what : Runnable) (limits : Limits) (end : RunEnd) (t : TacState) → HasSourceRun what limits end t
+    → HasSourceRun what limits run_end.NoMemory t
+no_line_source (of_program program) limits end t s = record {
+  picks = s.picks;
+  state = s.state;
+  leads = s.leads;
+  printed = s.printed;
+  ended = s.ended;
+  deadlock = λ x. cc;
+}
+no_line_source (of_code code) limits end t s = s
+
 -- a run of which the lines had no memory counts as one that ran out of memory
-no_line_run : (options : RunOptions) (text : List ℕ) (call : Call) (e : Ending) (r : RunsTo options text e call.out)
-    → (r.run_end ≡ run_end.WriteFault → ⊥) → RunsTo options text (Ran run_end.NoMemory None) call.out
-no_line_run options text call e r no_fault = record {
-  program = r.program;
-  is_program = r.is_program;
+no_line_run : (kind : TextKind) (options : RunOptions) (text : List ℕ) (call : Call) (e : Ending)
+    (r : RunsTo kind options text e call.out) → (r.run_end ≡ run_end.WriteFault → ⊥)
+    → RunsTo kind options text (Ran kind run_end.NoMemory None) call.out
+no_line_run kind options text call e r no_fault = record {
+  what = r.what;
+  is_what = r.is_what;
   run_end = run_end.NoMemory;
   stats = None;
   is_end = refl;
   runs = record {
     code = r.runs.code;
-    compiled = r.runs.compiled;
+    is_code = r.runs.is_code;
     runs = record {
       picks = r.runs.runs.picks;
       tested = r.runs.runs.tested;
@@ -94,14 +110,7 @@ no_line_run options text call e r no_fault = record {
       ends = tt;
       gives = whole_print r.run_end r.runs.runs.state.printed call.out.old call.out.new no_fault r.runs.runs.gives;
     };
-    source = record {
-      picks = r.runs.source.picks;
-      state = r.runs.source.state;
-      leads = r.runs.source.leads;
-      printed = r.runs.source.printed;
-      ended = r.runs.source.ended;
-      deadlock = λ x. cc;
-    };
+    source = no_line_source r.what options.limits r.run_end r.runs.runs.state r.runs.source;
     regions = record {
       events = r.runs.regions.events;
       state = r.runs.regions.state;
@@ -118,12 +127,12 @@ no_line_run options text call e r no_fault = record {
 }
 
 -- after a failed write nothing is said of the run, and the line of that needs no memory
-no_fault_line : (end : RunEnd) (stats : Option Tally) (s : RegionState) (b : Bool) → stats ≡ stats_at b end s
-    → HasPlace (Ran end stats) → end ≡ run_end.WriteFault → ⊥
-no_fault_line end stats s b is h x = subst HasPlace same h
+no_fault_line : (kind : TextKind) (end : RunEnd) (stats : Option Tally) (s : RegionState) (b : Bool)
+    → stats ≡ stats_at b end s → HasPlace (Ran kind end stats) → end ≡ run_end.WriteFault → ⊥
+no_fault_line kind end stats s b is h x = subst HasPlace same h
   where
-    same : Ran end stats ≡ Ran run_end.WriteFault None
-    same = ap (λ z. Ran end z) is ∙ ap (λ z. Ran z (stats_at b z s)) x
+    same : Ran kind end stats ≡ Ran kind run_end.WriteFault None
+    same = ap (λ z. Ran kind end z) is ∙ ap (λ z. Ran kind z (stats_at b z s)) x
 
 -- what was printed needs no memory for a line
 no_place : (e : Ending) → EndsEmit e → HasPlace e → ⊥
@@ -132,24 +141,24 @@ no_place WriteFault ends h = h
 no_place _ ends h = ends
 
 -- words that ask for a run ask for something
-run_asks : (call : Call) (options : RunOptions) → IsRun call options → AskSome call.words
-run_asks call options r = by_command (command_of call.words) refl r
+run_asks : (call : Call) (kind : TextKind) (options : RunOptions) → IsRun call kind options → AskSome call.words
+run_asks call kind options r = by_command (command_of call.words) refl r
   where
     by_command : (asked : Option Command) → command_of call.words ≡ asked
-        → option_and_then run_options asked ≡ Some options → AskSome call.words
+        → option_and_then run_of asked ≡ Some (kind, options) → AskSome call.words
     by_command (Some command) is r = (command, is)
     by_command None is r = cc
 
 no_line : (call : Call) (text : List ℕ) (e : Ending) → Went call text e → Outcome call text e → HasPlace e
     → Tells text NoMemory call.status call.err → Headline call
 no_line call text e went (accepted is command c k p o) h t = absurd (subst HasPlace is h)
-no_line call text e went (ran options c r) h t =
-    headline_told call text (Ran run_end.NoMemory None) (record {
+no_line call text e went (ran kind options c r) h t =
+    headline_told call text (Ran kind run_end.NoMemory None) (record {
       is_text = went.is_text;
       held = went.held;
-      asks = inl (run_asks call options c);
-      outcome = ran options c (no_line_run options text call e r
-          (no_fault_line r.run_end r.stats r.runs.regions.state options.stats r.stats_are (subst HasPlace r.is_end h)));
+      asks = inl (run_asks call kind options c);
+      outcome = ran kind options c (no_line_run kind options text call e r
+          (no_fault_line kind r.run_end r.stats r.runs.regions.state options.stats r.stats_are (subst HasPlace r.is_end h)));
     }) t
 no_line call text e went (emitted c em) h t = absurd (no_place e (emit_ends call text e em) h)
 no_line call text e went (refused command c f o) h t =
@@ -165,34 +174,31 @@ pub headline_of : (call : Call) (text : List ℕ) (e : Ending) → Went call tex
 headline_of call text e went (inl t) = headline_told call text e went t
 headline_of call text e went (inr t) = no_line call text e went went.outcome t.0 t.1
 
--- a program that was not made, for a refusal or for want of memory
+-- a text that was not accepted, for a refusal or for want of memory
 failed_outcome : (call : Call) (command : Command) (text : List ℕ) (e : Ending) → Asks call command
-    → ((why : Ending) → Refused text why → RefusedBy command text why) → Fails text e → IsUntouched call.out
-    → Outcome call text e
-failed_outcome call command text NoMemory c by f u = no_memory refl u
-failed_outcome call command text e c by f u = refused command c (by e f) u
+    → FailsAs (kind_of command) text e → IsUntouched call.out → Outcome call text e
+failed_outcome call command text NoMemory c f u = no_memory refl u
+failed_outcome call command text e c f u = refused command c f u
 
-checked_outcome : (call : Call) (text : List ℕ) (e : Ending) → Asks call Check → Checks text e → IsUntouched call.out
-    → Outcome call text e
-checked_outcome call text Valid c p u = accepted refl Check c tt p u
-checked_outcome call text e c p u = failed_outcome call Check text e c (λ why f. f) p u
-
-code_outcome : (call : Call) (text : List ℕ) (e : Ending) → Asks call Code → ChecksCode text e → IsUntouched call.out
-    → Outcome call text e
-code_outcome call text Valid c p u = accepted refl Code c tt p u
-code_outcome call text NoMemory c p u = no_memory refl u
-code_outcome call text e c p u = refused Code c p u
+checked_outcome : (call : Call) (command : Command) (text : List ℕ) (e : Ending) → Asks call command
+    → OnlyChecks command → (PassesAs (kind_of command) text → AcceptedBy command text)
+    → Checks (kind_of command) text e → IsUntouched call.out → Outcome call text e
+checked_outcome call command text Valid c only by p u = accepted refl command c only (by p) u
+checked_outcome call command text e c only by p u = failed_outcome call command text e c p u
 
 performed_outcome : (call : Call) (command : Command) (text : List ℕ) (e : Ending) → Asks call command
     → Performs command text e call.out → Outcome call text e
-performed_outcome call Check text e c p = checked_outcome call text e c p.0 p.1
-performed_outcome call (Run options) text e c (inl r) = ran options (ap (option_and_then run_options) c) r
-performed_outcome call (Run options) text e c (inr f) = failed_outcome call (Run options) text e c (λ why r. r) f.0 f.1
-performed_outcome call (Big n) text e c (inl r) = ran default_options (ap (option_and_then run_options) c) r
-performed_outcome call (Big n) text e c (inr f) = failed_outcome call (Big n) text e c (λ why r. r) f.0 f.1
+performed_outcome call Check text e c p = checked_outcome call Check text e c tt (λ passes. passes) p.0 p.1
+performed_outcome call Code text e c p = checked_outcome call Code text e c tt (λ passes. passes) p.0 p.1
+performed_outcome call (Run options) text e c (inl r) = ran text_kind.Go options (ap (option_and_then run_of) c) r
+performed_outcome call (Run options) text e c (inr f) = failed_outcome call (Run options) text e c f.0 f.1
+performed_outcome call (RunCode options) text e c (inl r) =
+    ran text_kind.Code options (ap (option_and_then run_of) c) r
+performed_outcome call (RunCode options) text e c (inr f) = failed_outcome call (RunCode options) text e c f.0 f.1
+performed_outcome call (Big n) text e c (inl r) = ran text_kind.Go default_options (ap (option_and_then run_of) c) r
+performed_outcome call (Big n) text e c (inr f) = failed_outcome call (Big n) text e c f.0 f.1
 performed_outcome call Emit text e c (inl em) = emitted c em
-performed_outcome call Emit text e c (inr f) = failed_outcome call Emit text e c (λ why r. r) f.0 f.1
-performed_outcome call Code text e c p = code_outcome call text e c p.0 p.1
+performed_outcome call Emit text e c (inr f) = failed_outcome call Emit text e c f.0 f.1
 
 -- a call whose text was read
 pub headline_of_text : (call : Call) (command : Command) (text : List ℕ) (e : Ending)
@@ -227,6 +233,7 @@ is_some_text (Some (Run options)) left = is_left_text left
 is_some_text (Some Check) left = is_left_text left
 is_some_text (Some Emit) left = is_left_text left
 is_some_text (Some Code) left = is_left_text left
+is_some_text (Some (RunCode options)) left = is_left_text left
 is_some_text (Some (Big n)) left = refl
 
 -- an ending that has nothing to do with a text
@@ -236,7 +243,7 @@ pub record IsOutside (e : Ending) : Type 0 where
   pub no_run : EndsRun e → ⊥
   pub no_emit : EndsEmit e → ⊥
   pub no_write_fault : IsWriteFault e → ⊥
-  pub not_ran : (end : RunEnd) (stats : Option Tally) → e ≡ Ran end stats → ⊥
+  pub not_ran : (kind : TextKind) (end : RunEnd) (stats : Option Tally) → e ≡ Ran kind end stats → ⊥
 
 -- a call that did not read its text: its words ask for nothing, or a read failed
 headline_outside : (call : Call) (e : Ending) → IsOutside e → IsUntouched call.out → Tells (some_text (command_of call.words) call.source.left) e call.status call.err
@@ -258,12 +265,12 @@ headline_outside call e outside u t of_usage to_usage of_fault kept only = recor
     first = λ command c n. absurd (only command c n);
     untouched = λ _ _. u;
   };
-  print = λ options c m. absurd (outside.no_run m);
+  print = λ kind options c m. absurd (outside.no_run m);
   emission = λ c m. absurd (outside.no_emit m);
   end = record {
     read_failed = of_fault;
     write_failed = λ x. absurd (outside.no_write_fault x);
-    ran = λ end stats x. absurd (outside.not_ran end stats x);
+    ran = λ kind end stats x. absurd (outside.not_ran kind end stats x);
     told = t;
   };
   faults = record {
@@ -272,7 +279,7 @@ headline_outside call e outside u t of_usage to_usage of_fault kept only = recor
     none = λ s. let h = err_held call _ e t s in (kept (subst (λ n. is_fault_status n ≡ false) h.1 s), u.1, h.0);
   };
   complete = record {
-    run = λ options c s o n. let some = run_asks call options c in absurd (only some.0 some.1 s);
+    run = λ kind options c s o n. let some = run_asks call kind options c in absurd (only some.0 some.1 s);
     check = λ c s n. absurd (only Check c s);
     emit = λ c s o n. absurd (only Emit c s);
     code = λ c s n. absurd (only Code c s);
@@ -285,8 +292,8 @@ usage_outside = record {
   not_valid = λ x. cc;
   no_run = λ m. m;
   no_emit = λ m. m;
-  no_write_fault = no_write_fault Usage (λ stats x. cc) (λ x. cc);
-  not_ran = λ end stats x. cc;
+  no_write_fault = no_write_fault Usage (λ kind stats x. cc) (λ x. cc);
+  not_ran = λ kind end stats x. cc;
 }
 
 fault_outside : IsOutside ReadFault
@@ -295,8 +302,8 @@ fault_outside = record {
   not_valid = λ x. cc;
   no_run = λ m. m;
   no_emit = λ m. m;
-  no_write_fault = no_write_fault ReadFault (λ stats x. cc) (λ x. cc);
-  not_ran = λ end stats x. cc;
+  no_write_fault = no_write_fault ReadFault (λ kind stats x. cc) (λ x. cc);
+  not_ran = λ kind end stats x. cc;
 }
 
 none_asked : (call : Call) → command_of call.words ≡ None → (command : Command) → Asks call command → ⊥
@@ -343,10 +350,13 @@ headline_of_words call _ n u t = absurd n
 -- ---- what a status alone says
 
 told_run : (call : Call) (text : List ℕ) (e : Ending) → Tells text e call.status call.err
-    → ((end : RunEnd) (stats : Option Tally) → e ≡ Ran end stats → AsksRun call.words)
+    → ((kind : TextKind) (end : RunEnd) (stats : Option Tally) → e ≡ Ran kind end stats
+    → (options : RunOptions) × IsRun call kind options)
     → is_run_status call.status ≡ true → AsksRun call.words
 told_run call text e (inl t) r s =
-    let run = run_of_status e (subst (λ n. is_run_status n ≡ true) t.0 s) in r run.0 run.1 run.2
+    let run = run_of_status e (subst (λ n. is_run_status n ≡ true) t.0 s) in
+    let asks = r run.0 run.1 run.2 run.3 in
+    (run.0, asks.0, asks.1)
 told_run call text e (inr t) r s = absurd (let ten = subst (λ n. is_run_status n ≡ true) t.0 s in cc)
 
 pub ran_by_status : (call : Call) → Headline call → is_run_status call.status ≡ true → AsksRun call.words

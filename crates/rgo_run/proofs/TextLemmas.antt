@@ -19,7 +19,8 @@ use Rattle.rgo_types.specs.Programs.{sites_of}
 use Rattle.rgo_memory.specs.Memory.{Memory}
 use Rattle.rgo_machine.specs.declared.turns.Shortage.{Shortage}
 use Rattle.rgo_machine.specs.Deadlocks.{IsDeadlock}
-use Rattle.rgo_machine.specs.Limits.{is_within}
+use Rattle.rgo_machine.specs.Limits.{LeadsWithin, is_within}
+use Rattle.rgo_machine.specs.declared.picks.Pick.{Pick}
 use Rattle.rgo_machine.specs.Machines.{start_of}
 use Rattle.rgo_machine.proofs.Waiting.{deadlocks_wait}
 use Rattle.rgo_simulation.specs.Simulations.{RunsWithinAs}
@@ -37,7 +38,7 @@ use Rattle.rgo_sound.proofs.Room.{room_is_kept}
 use Rattle.rgo_sound.proofs.Safe.{safety}
 use Rattle.rgo_command_line.specs.Commands.{command_of}
 use Rattle.rgo_command_line.specs.declared.commands.Command.{Command}
-use Rattle.rgo_command_line.specs.declared.commands.Command.TheVariants.{Big, Check, Code, Emit, Run}
+use Rattle.rgo_command_line.specs.declared.commands.Command.TheVariants.{Big, Check, Code, Emit, Run, RunCode}
 use Rattle.rgo_command_line.specs.Limits.{IsBig}
 use Rattle.rgo_command_line.specs.declared.limits.RunOptions.{RunOptions}
 use Rattle.rgo_big.specs.Big.{big_text}
@@ -61,14 +62,16 @@ use Rattle.rgo_code_text.specs.declared.refusals.ReadError.TheVariants as readin
 use Rattle.rgo_checker.specs.Outcomes.{CheckFails}
 use Rattle.rgo_checker.specs.declared.errors.CheckError.{CheckError}
 use Rattle.rgo_checker.specs.declared.errors.CheckError.TheVariants as check
+use Rattle.rgo_run.specs.declared.endings.TextKind.{TextKind}
+use Rattle.rgo_run.specs.declared.endings.TextKind.TheVariants as text_kind
 use Rattle.rgo_run.specs.declared.endings.Ending.{Ending}
 use Rattle.rgo_run.specs.declared.endings.Ending.TheVariants.{Ran, Usage}
 use Rattle.rgo_run.specs.Compiled.{IsCompiled, WritesCode}
-use Rattle.rgo_run.specs.Calls.{SourceUse, SourceFailed, SourceHeld, SinkUse, Failed, Held}
+use Rattle.rgo_run.specs.Calls.{SourceUse, SourceFailed, SourceHeld, SinkUse, Failed, Held, kind_of}
 use Rattle.rgo_run.specs.Errors.{command_error, read_error, too_long, lex_error, type_error, reading_error, check_error}
-use Rattle.rgo_run.specs.Runs.{RegionRun, SourceRun, stats_at}
+use Rattle.rgo_run.specs.Runs.{HasSourceRun, IsCodeFor, IsRunnable, RegionRun, Runnable, SourceRun, of_code, of_program, stats_at}
 use Rattle.rgo_run.specs.CodeVerdicts.{IsTextOfCode, code_limit}
-use Rattle.rgo_run.specs.Texts.{IsRead, IsTextOf, NotRead, ReadTooMuch, RefusedBy, Fails, ChecksCode, Performs, limit_of}
+use Rattle.rgo_run.specs.Texts.{IsRead, IsTextOf, NotRead, ReadTooMuch, RefusedAs, Fails, FailsAs, Performs, RunsOrFails, limit_of}
 use Rattle.rgo_run.specs.Verdicts.{IsTree, text_limit}
 
 -- the command reads its text
@@ -82,16 +85,17 @@ left_is_text (Run options) left text reads is = is
 left_is_text Check left text reads is = is
 left_is_text Emit left text reads is = is
 left_is_text Code left text reads is = is
+left_is_text (RunCode options) left text reads is = is
 left_is_text (Big n) left text reads is = absurd (reads n refl)
 
 -- the bytes that were read to the end are the text
 pub all_read : (command : Command) (w : List (List ℕ)) (source : SourceUse) (rest : Option (List ℕ)) (bytes : List ℕ)
-    → command_of w ≡ Some command → Reads command → ReadsAll (limit_of command) source.left rest bytes
+    → command_of w ≡ Some command → Reads command → ReadsAll (limit_of (kind_of command)) source.left rest bytes
     → SourceHeld source → IsRead w source command bytes
 all_read command w source rest bytes asked reads read held = record {
   asked = asked;
   is_text = left_is_text command source.left bytes reads
-      (ReadsAll-told (limit_of command) source.left rest bytes (λ text. bytes ≡ text) read refl);
+      (ReadsAll-told (limit_of (kind_of command)) source.left rest bytes (λ text. bytes ≡ text) read refl);
   within = read.within;
   held = held;
 }
@@ -113,42 +117,33 @@ longer limit None rest gave = (gave.0, tt, omega (arith, gave.1))
 longer limit (Some text) rest gave = (text, refl, GivesTooMany-told limit (Some text) rest gave)
 
 -- such a text is refused
-too_long_refused : (command : Command) (text : List ℕ) → limit_of command < length text
-    → RefusedBy command text (too_long command)
-too_long_refused (Run options) text h = h
-too_long_refused Check text h = h
-too_long_refused Emit text h = h
-too_long_refused Code text h = h
-too_long_refused (Big n) text h = h
+too_long_refused : (kind : TextKind) (text : List ℕ) → limit_of kind < length text
+    → RefusedAs kind text (too_long kind)
+too_long_refused text_kind.Go text h = h
+too_long_refused text_kind.Code text h = h
 
 too_much : (command : Command) (w : List (List ℕ)) (source : SourceUse) (rest : Option (List ℕ))
     → command_of w ≡ Some command → Reads command → SourceHeld source
-    → GivesTooMany (limit_of command) source.left rest → ReadTooMuch w source (too_long command)
+    → GivesTooMany (limit_of (kind_of command)) source.left rest → ReadTooMuch w source (too_long (kind_of command))
 too_much command w source rest asked reads held gave =
-    let t = longer (limit_of command) source.left rest gave in
+    let t = longer (limit_of (kind_of command)) source.left rest gave in
     record {
       command = command;
       asked = asked;
       held = held;
       text = t.0;
       is_text = left_is_text command source.left t.0 reads t.1;
-      refused = too_long_refused command t.0 t.2;
+      refused = too_long_refused (kind_of command) t.0 t.2;
     }
 
-not_read : (command : Command) (w : List (List ℕ)) (source : SourceUse) → ReadTooMuch w source (too_long command)
-    → NotRead w source (too_long command)
-not_read (Run options) w source much = much
-not_read Check w source much = much
-not_read Emit w source much = much
-not_read Code w source much = much
-not_read (Big n) w source much = much
+not_read : (kind : TextKind) (w : List (List ℕ)) (source : SourceUse) → ReadTooMuch w source (too_long kind)
+    → NotRead w source (too_long kind)
+not_read text_kind.Go w source much = much
+not_read text_kind.Code w source much = much
 
-pub limit_is_small : (command : Command) → limit_of command ≤ code_limit
-limit_is_small (Run options) = omega arith
-limit_is_small Check = omega arith
-limit_is_small Emit = omega arith
-limit_is_small Code = omega arith
-limit_is_small (Big n) = omega arith
+pub limit_is_small : (kind : TextKind) → limit_of kind ≤ code_limit
+limit_is_small text_kind.Go = omega arith
+limit_is_small text_kind.Code = omega arith
 
 pub no_words : (w : List (List ℕ)) (source : SourceUse) (error : WordsError)
     → (error ≡ words.Usage → command_of w ≡ None) → SourceHeld source → NotRead w source (command_error error)
@@ -159,21 +154,18 @@ pub no_text : (command : Command) (w : List (List ℕ)) (source : SourceUse) (re
     → command_of w ≡ Some command
     → Reads command
     → (end ≡ read.Fault → SourceFailed source)
-    → (end ≡ read.TooLong → SourceHeld source × GivesTooMany (limit_of command) source.left rest)
-    → (end ≡ read.NoMemory → SourceHeld source) → NotRead w source (read_error command end)
+    → (end ≡ read.TooLong → SourceHeld source × GivesTooMany (limit_of (kind_of command)) source.left rest)
+    → (end ≡ read.NoMemory → SourceHeld source) → NotRead w source (read_error (kind_of command) end)
 no_text command w source rest read.Fault asked reads fault long memory = ((command, asked), fault refl)
 no_text command w source rest read.TooLong asked reads fault long memory =
-    let h = long refl in not_read command w source (too_much command w source rest asked reads h.0 h.1)
+    let h = long refl in not_read (kind_of command) w source (too_much command w source rest asked reads h.0 h.1)
 no_text command w source rest read.NoMemory asked reads fault long memory = memory refl
 
-pub no_usage : (command : Command) (end : ReadEnd) → read_error command end ≡ Usage → ⊥
-no_usage command read.Fault x = cc
-no_usage (Run options) read.TooLong x = cc
-no_usage Check read.TooLong x = cc
-no_usage Emit read.TooLong x = cc
-no_usage Code read.TooLong x = cc
-no_usage (Big n) read.TooLong x = cc
-no_usage command read.NoMemory x = cc
+pub no_usage : (kind : TextKind) (end : ReadEnd) → read_error kind end ≡ Usage → ⊥
+no_usage kind read.Fault x = cc
+no_usage text_kind.Go read.TooLong x = cc
+no_usage text_kind.Code read.TooLong x = cc
+no_usage kind read.NoMemory x = cc
 
 pub lex_fails : (text : List ℕ) (error : LexError) → length text ≤ text_limit → LexFails text error
     → Fails text (lex_error error)
@@ -254,25 +246,32 @@ region_run_of code sizes end t events state checked ascends leads is printed lac
   lacks = lacks;
 }
 
-pub ran : (options : RunOptions) (text : List ℕ) (code : code.Code) (end : RunEnd) (stats : Option Tally) (out : SinkUse)
-    → IsCompiled text code
+-- the run of the program, if one is run, that a run of its code follows
+followed_if : (what : Runnable) (code : code.Code) (limits : Limits) (before : ℕ) (picks : List Pick) (end : RunEnd) (t : TacState)
+    → IsCodeFor what code → LeadsWithin (tac (erased code)) limits (tac_start (erased code)) picks t
+    → Ends (tac (erased code)) limits before (length picks) t end → HasSourceRun what limits end t
+followed_if (of_program program) code limits before picks end t is ran ends =
+    followed limits program (erased code) before (length picks) end t ends
+    ((lowering_simulates program (erased code) is.lowered).backward_within limits picks t ran)
+followed_if (of_code given) code limits before picks end t is ran ends = tt
+
+pub ran : (kind : TextKind) (options : RunOptions) (text : List ℕ) (what : Runnable) (code : code.Code) (end : RunEnd)
+    (stats : Option Tally) (out : SinkUse) → IsRunnable kind text what → IsCodeFor what code
     → (runs : RunsFreely (tac (erased code)) options.limits (tac_start (erased code)) end out.old out.new)
     → (regions : RegionRun code options.sizes end runs.state) → stats ≡ stats_at options.stats end regions.state
     → (end ≡ WriteFault → Failed out) → ((end ≡ WriteFault → ⊥) → Held out)
-    → Performs (Run options) text (Ran end stats) out
-ran options text code end stats out is_code runs regions stats_are failed held = inl (record {
-  program = is_code.program;
-  is_program = is_code.is_program;
+    → RunsOrFails kind options text (Ran kind end stats) out
+ran kind options text what code end stats out is_what is_code runs regions stats_are failed held = inl (record {
+  what = what;
+  is_what = is_what;
   run_end = end;
   stats = stats;
   is_end = refl;
   runs = record {
     code = code;
-    compiled = is_code.from;
+    is_code = is_code;
     runs = runs;
-    source = followed options.limits is_code.program (erased code) runs.tested (length runs.picks) end runs.state runs.ends
-        ((lowering_simulates is_code.program (erased code) is_code.from.lowered).backward_within options.limits
-        runs.picks runs.state runs.ran);
+    source = followed_if what code options.limits runs.tested runs.picks end runs.state is_code runs.ran runs.ends;
     regions = regions;
   };
   stats_are = stats_are;
@@ -290,11 +289,11 @@ emitted text code bytes e out is is_text writes =
 -- ---- code texts
 
 pub read_fails : (text : List ℕ) (error : ReadError) → length text ≤ code_limit → ReadFails text error
-    → ChecksCode text (reading_error error)
+    → FailsAs text_kind.Code text (reading_error error)
 read_fails text reading.NoMemory within fails = tt
 read_fails text (reading.Refused refusal) within fails = (within, fails)
 
 pub check_fails : (text : List ℕ) (c : code.Code) (error : CheckError) → IsTextOfCode text c → CheckFails error c
-    → ChecksCode text (check_error error)
+    → FailsAs text_kind.Code text (check_error error)
 check_fails text c check.NoMemory is fails = tt
 check_fails text c (check.Refused refusal) is fails = record { code = c; is_text = is; broken = fails }

@@ -3,10 +3,12 @@ use Rattle.std.specs.Prelude.{◌≡◌, ℕ, Bool, true, List, [], Option, Some
 use Rattle.std.specs.Io.KnownBytes.{Appends}
 use Rattle.rgo_outside.specs.Causes.{Rose}
 use Rattle.rgo_command_line.specs.declared.commands.Command.{Command}
-use Rattle.rgo_command_line.specs.declared.commands.Command.TheVariants.{Run, Check, Emit, Code, Big}
+use Rattle.rgo_command_line.specs.declared.commands.Command.TheVariants.{Run, Check, Emit, Code, Big, RunCode}
 use Rattle.rgo_command_line.specs.declared.limits.RunOptions.{RunOptions}
 use Rattle.rgo_command_line.specs.Commands.{command_of}
 use Rattle.rgo_command_line.specs.Limits.{default_options}
+use Rattle.rgo_run.specs.declared.endings.TextKind.{TextKind}
+use Rattle.rgo_run.specs.declared.endings.TextKind.TheVariants as text_kind
 
 -- what the source had left, where it reports it, and its count of faults before and after
 pub record SourceUse : Type 0 where
@@ -41,26 +43,33 @@ pub record Call : Type 0 where
   pub err : SinkUse
   pub status : ℕ
 
--- the options of a command that runs a program: those of `run`, and for `big` what `run` sets without options
-abbrev pub run_options : Command → Option RunOptions
-run_options (Run options) = Some options
-run_options (Big n) = Some default_options
-run_options _ = None
+-- the kind of text that a command is about
+abbrev pub kind_of : Command → TextKind
+kind_of Code = text_kind.Code
+kind_of (RunCode options) = text_kind.Code
+kind_of _ = text_kind.Go
 
--- the words ask for a run, with these options
-abbrev pub AsksRunWith : List (List ℕ) → RunOptions → Type 0
-AsksRunWith words options = option_and_then run_options (command_of words) ≡ Some options
+-- what kind of text a command runs, if any, and with which options: for `big` those that `run` sets without options
+abbrev pub run_of : Command → Option (TextKind × RunOptions)
+run_of (Run options) = Some (text_kind.Go, options)
+run_of (RunCode options) = Some (text_kind.Code, options)
+run_of (Big n) = Some (text_kind.Go, default_options)
+run_of _ = None
 
--- the words ask for a run, with some options
+-- the words ask for a run of a text of this kind, with these options
+abbrev pub AsksRunWith : List (List ℕ) → TextKind → RunOptions → Type 0
+AsksRunWith words kind options = option_and_then run_of (command_of words) ≡ Some (kind, options)
+
+-- the words ask for a run, of some kind and with some options
 abbrev pub AsksRun : List (List ℕ) → Type 0
-AsksRun words = (options : RunOptions) × AsksRunWith words options
+AsksRun words = (kind : TextKind) × (options : RunOptions) × AsksRunWith words kind options
 
 -- the words ask for this
 abbrev pub Asks : Call → Command → Type 0
 Asks call command = command_of call.words ≡ Some command
 
-abbrev pub IsRun : Call → RunOptions → Type 0
-IsRun call options = AsksRunWith call.words options
+abbrev pub IsRun : Call → TextKind → RunOptions → Type 0
+IsRun call kind options = AsksRunWith call.words kind options
 
 abbrev pub IsCheck : Call → Type 0
 IsCheck call = Asks call Check

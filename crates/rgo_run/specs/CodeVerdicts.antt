@@ -2,6 +2,7 @@
 use Rattle.std.specs.Prelude.{◌≡◌, ◌⊎◌, ℕ, ◌<◌, ◌≤◌, List, length}
 use Rattle.rgo_code.specs.Checked.{IsChecked, IsFirstBroken}
 use Rattle.rgo_code.specs.Code.{Code}
+use Rattle.rgo_code.specs.NameRules.{Ascends}
 use Rattle.rgo_code.specs.declared.rules.CodeRefusal.{CodeRefusal}
 use Rattle.rgo_code_printing.specs.Text.{text_of}
 use Rattle.rgo_code_text.specs.Forms.{IsFirstWithoutForm}
@@ -18,6 +19,12 @@ pub record IsTextOfCode (text : List ℕ) (code : Code) : Type 0 where
   pub within : length text ≤ code_limit
   pub written : IsWritten code
   pub text_is : text ≡ text_of code
+
+-- the text is that of this code, which keeps all rules, and in each of its lists the names ascend
+pub record IsCheckedText (text : List ℕ) (code : Code) : Type 0 where
+  pub is_text : IsTextOfCode text code
+  pub checked : IsChecked code
+  pub ascends : Ascends code
 
 -- the text is that of code that keeps all rules
 pub record CodePasses (text : List ℕ) : Type 0 where

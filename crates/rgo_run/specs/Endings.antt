@@ -9,6 +9,8 @@ use Rattle.rgo_machine.specs.declared.turns.Shortage.TheVariants as shortage
 use Rattle.rgo_driver.specs.declared.ends.RunEnd.{RunEnd}
 use Rattle.rgo_driver.specs.declared.ends.RunEnd.TheVariants as run_end
 use Rattle.rgo_run.specs.declared.endings.Ending.{Ending}
+use Rattle.rgo_run.specs.declared.endings.TextKind.{TextKind}
+use Rattle.rgo_run.specs.declared.endings.TextKind.TheVariants as text_kind
 use Rattle.rgo_code.specs.Checked.{rule_number}
 use Rattle.rgo_run.specs.declared.endings.Ending.TheVariants.{Valid, Ran, Usage, ReadFault, TooLong, CodeTooLong}
 use Rattle.rgo_run.specs.declared.endings.Ending.TheVariants.{Lexical, Syntax, Nesting, Typing, NoForm, Breaks, WriteFault, NoMemory}
@@ -33,7 +35,7 @@ status_of_run run_end.NoMemory = 11
 
 abbrev pub status_of : Ending → ℕ
 status_of Valid = 0
-status_of (Ran end stats) = status_of_run end
+status_of (Ran kind end stats) = status_of_run end
 status_of Usage = 64
 status_of ReadFault = 9
 status_of TooLong = 1
@@ -62,6 +64,15 @@ positioned text at message =
     codes "rgo: " ++ (decimal (position_of text at).line
     ++ (codes ":" ++ (decimal (position_of text at).column ++ (codes ": " ++ message))))
 
+-- `rgo: @PLACE: ` and what is wrong at an instruction of a code text, by the place that it has there
+abbrev pub placed : ℕ → List ℕ → List ℕ
+placed at message = codes "rgo: @" ++ (decimal at ++ (codes ": " ++ message))
+
+-- what is wrong at a place of a text of this kind
+abbrev pub located : TextKind → List ℕ → ℕ → List ℕ → List ℕ
+located text_kind.Go text at message = positioned text at message
+located text_kind.Code text at message = placed at message
+
 -- a kind, and the number and the name of one of that kind
 abbrev pub numbered : List ℕ → ℕ → List ℕ → List ℕ
 numbered kind number name = kind ++ (codes " " ++ (decimal number ++ (codes " " ++ (name ++ codes "\n"))))
@@ -76,17 +87,17 @@ line_of_shortage shortage.Regions = codes "rgo: regions spent\n"
 line_of_shortage shortage.ObjectSize = codes "rgo: object larger than a page\n"
 
 -- one line, or nothing where `main` returned
-abbrev pub line_of_run : List ℕ → RunEnd → List ℕ
-line_of_run text (run_end.Ended the_end.Exit) = []
-line_of_run text (run_end.Ended (the_end.Trap trap at)) =
-    positioned text at (numbered (codes "trap") (traps.number_of trap) (traps.name_of trap))
-line_of_run text run_end.Deadlock = codes "rgo: deadlock\n"
-line_of_run text (run_end.NoRoom short) = line_of_shortage short
-line_of_run text run_end.CallsTooDeep = codes "rgo: calls too deep\n"
-line_of_run text run_end.StepsSpent = codes "rgo: steps spent\n"
-line_of_run text run_end.GoroutinesSpent = codes "rgo: goroutines spent\n"
-line_of_run text run_end.WriteFault = codes "rgo: write failed\n"
-line_of_run text run_end.NoMemory = codes "rgo: out of memory\n"
+abbrev pub line_of_run : TextKind → List ℕ → RunEnd → List ℕ
+line_of_run kind text (run_end.Ended the_end.Exit) = []
+line_of_run kind text (run_end.Ended (the_end.Trap trap at)) =
+    located kind text at (numbered (codes "trap") (traps.number_of trap) (traps.name_of trap))
+line_of_run kind text run_end.Deadlock = codes "rgo: deadlock\n"
+line_of_run kind text (run_end.NoRoom short) = line_of_shortage short
+line_of_run kind text run_end.CallsTooDeep = codes "rgo: calls too deep\n"
+line_of_run kind text run_end.StepsSpent = codes "rgo: steps spent\n"
+line_of_run kind text run_end.GoroutinesSpent = codes "rgo: goroutines spent\n"
+line_of_run kind text run_end.WriteFault = codes "rgo: write failed\n"
+line_of_run kind text run_end.NoMemory = codes "rgo: out of memory\n"
 
 abbrev pub regions_made : Tally → List ℕ
 regions_made tally =
@@ -101,16 +112,16 @@ others_made tally =
 abbrev pub stats_lines : Tally → (lines : List ℕ) → List ℕ
 stats_lines tally lines = codes "rgo: " ++ (regions_made tally ++ (others_made tally ++ lines))
 
-abbrev pub lines_of_run : List ℕ → RunEnd → Option Tally → List ℕ
-lines_of_run text end None = line_of_run text end
-lines_of_run text end (Some tally) = stats_lines tally (line_of_run text end)
+abbrev pub lines_of_run : TextKind → List ℕ → RunEnd → Option Tally → List ℕ
+lines_of_run kind text end None = line_of_run kind text end
+lines_of_run kind text end (Some tally) = stats_lines tally (line_of_run kind text end)
 
 -- one line, or nothing where `main` returned, or a text was checked or its code printed; before it, where that was asked
 -- for, what the run has made
 abbrev pub line_of : List ℕ → Ending → List ℕ
 line_of text Valid = []
-line_of text (Ran end stats) = lines_of_run text end stats
-line_of text Usage = codes "usage: rgo run [--steps N] [--pages N] [--page-words N] [--regions N] [--goroutines N] [--workers N] [--stats] | check | emit | code | big N\n"
+line_of text (Ran kind end stats) = lines_of_run kind text end stats
+line_of text Usage = codes "usage: rgo run [--steps N] [--pages N] [--page-words N] [--regions N] [--goroutines N] [--workers N] [--stats] | check | emit | code | big N | runcode [--steps N] [--pages N] [--page-words N] [--regions N] [--goroutines N] [--workers N] [--stats]\n"
 line_of text ReadFault = codes "rgo: read failed\n"
 line_of text TooLong = codes "rgo: text longer than 1048576 bytes\n"
 line_of text CodeTooLong = codes "rgo: text longer than 67108864 bytes\n"

@@ -12,8 +12,8 @@ use Rattle.rgo_code_text.specs.declared.refusals.ReadError.{ReadError}
 use Rattle.rgo_code_text.specs.declared.refusals.ReadError.TheVariants as reading
 use Rattle.rgo_checker.specs.declared.errors.CheckError.{CheckError}
 use Rattle.rgo_checker.specs.declared.errors.CheckError.TheVariants as check
-use Rattle.rgo_command_line.specs.declared.commands.Command.{Command}
-use Rattle.rgo_command_line.specs.declared.commands.Command.TheVariants.{Code}
+use Rattle.rgo_run.specs.declared.endings.TextKind.{TextKind}
+use Rattle.rgo_run.specs.declared.endings.TextKind.TheVariants as text_kind
 use Rattle.rgo_run.specs.declared.endings.Ending.{Ending}
 use Rattle.rgo_run.specs.declared.endings.Ending.TheVariants.{Usage, ReadFault, TooLong, CodeTooLong, Lexical, Typing}
 use Rattle.rgo_run.specs.declared.endings.Ending.TheVariants.{NoForm, Breaks, NoMemory}
@@ -22,15 +22,15 @@ abbrev pub command_error : WordsError → Ending
 command_error words.Usage = Usage
 command_error words.NoMemory = NoMemory
 
--- the source gave more bytes than the command reads
-abbrev pub too_long : Command → Ending
-too_long Code = CodeTooLong
-too_long _ = TooLong
+-- the source gave more bytes than a text of this kind may have
+abbrev pub too_long : TextKind → Ending
+too_long text_kind.Go = TooLong
+too_long text_kind.Code = CodeTooLong
 
-abbrev pub read_error : Command → ReadEnd → Ending
-read_error command read.Fault = ReadFault
-read_error command read.TooLong = too_long command
-read_error command read.NoMemory = NoMemory
+abbrev pub read_error : TextKind → ReadEnd → Ending
+read_error kind read.Fault = ReadFault
+read_error kind read.TooLong = too_long kind
+read_error kind read.NoMemory = NoMemory
 
 abbrev pub reading_error : ReadError → Ending
 reading_error (reading.Refused refusal) = NoForm refusal.line

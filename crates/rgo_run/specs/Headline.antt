@@ -1,12 +1,10 @@
 -- What the program as a whole does: the claims that a call of `rgo` carries.
 use Rattle.std.specs.Prelude.{◌≡◌, ℕ, ◌⊎◌, false, List, [], None, Option, Some, length}
-use Rattle.rgo_typed.specs.Tree.{Typed}
 use Rattle.rgo_machine.specs.declared.picks.Pick.{Pick}
 use Rattle.rgo_machine.specs.Limits.{LeadsWithin}
-use Rattle.rgo_tac.specs.Code.{Tac}
 use Rattle.rgo_tac.specs.Tac.{TacState, tac, tac_start}
 use Rattle.rgo_code.specs.Code.{Code}
-use Rattle.rgo_lower.specs.Lowered.{IsLowered}
+use Rattle.rgo_code.specs.Erasure.{erased}
 use Rattle.rgo_region_machine.specs.Machine.{Event, region_run}
 use Rattle.rgo_region_machine.specs.States.{RegionState}
 use Rattle.rgo_world.specs.declared.tally.Tally.{Tally}
@@ -21,20 +19,22 @@ use Rattle.rgo_machine.specs.declared.limits.Sizes.{Sizes}
 use Rattle.rgo_machine.specs.declared.turns.Shortage.{Shortage}
 use Rattle.rgo_machine.specs.declared.turns.Shortage.TheVariants as shortage
 use Rattle.rgo_command_line.specs.Commands.{command_of}
+use Rattle.rgo_run.specs.declared.endings.TextKind.{TextKind}
+use Rattle.rgo_run.specs.declared.endings.TextKind.TheVariants as text_kind
 use Rattle.rgo_run.specs.declared.endings.Ending.{Ending}
 use Rattle.rgo_run.specs.declared.endings.Ending.TheVariants.{Valid, Ran, Usage, ReadFault, WriteFault, NoMemory}
 use Rattle.rgo_run.specs.Calls.{AsksRun, Call, Asks, IsRun, IsCheck, IsEmit, IsCode, SourceFailed, SourceHeld, Failed, Held, Grew, IsUntouched}
-use Rattle.rgo_run.specs.Compiled.{Emits, IsCodeText, IsCompiledFrom}
+use Rattle.rgo_run.specs.Compiled.{Emits, IsCodeText}
 use Rattle.rgo_run.specs.Endings.{status_of, status_of_run, line_of, is_fault_status}
 use Rattle.rgo_run.specs.Reports.{Tells}
-use Rattle.rgo_run.specs.Runs.{ProgramRuns, RunsTo, stats_at}
+use Rattle.rgo_run.specs.Runs.{IsCodeFor, IsRunnable, RunOf, Runnable, RunsTo, stats_at}
 use Rattle.rgo_run.specs.CodeVerdicts.{CodePasses}
 use Rattle.rgo_run.specs.Texts.{IsTextOf, RefusedBy, AcceptedBy}
-use Rattle.rgo_run.specs.Verdicts.{Passes, IsProgram}
+use Rattle.rgo_run.specs.Verdicts.{Passes}
 
 -- a run ends so
 abbrev pub EndsRun : Ending → Type 0
-EndsRun (Ran end stats) = Unit {0}
+EndsRun (Ran kind end stats) = Unit {0}
 EndsRun NoMemory = Unit {0}
 EndsRun _ = ⊥
 
@@ -67,12 +67,12 @@ pub record Refusal (call : Call) (text : List ℕ) (ending : Ending) : Type 0 wh
       → (why : Ending) → RefusedBy command text why → (ending ≡ why) ⊎ (ending ≡ NoMemory)
   pub untouched : (MayRun call ending → ⊥) → (MayEmit call ending → ⊥) → IsUntouched call.out
 
--- The bytes given out are the print of a run of the text's program, and the ending reports how that run ended; or memory
--- ran out before the run.
+-- The bytes given out are the print of a run of the text's program, or of the code that is the text, and the ending reports
+-- how that run ended; or memory ran out before the run.
 abbrev pub Print : Call → List ℕ → Ending → Type 0
 Print call text ending =
-    (options : RunOptions) → IsRun call options → EndsRun ending
-    → RunsTo options text ending call.out ⊎ ((ending ≡ NoMemory) × IsUntouched call.out)
+    (kind : TextKind) (options : RunOptions) → IsRun call kind options → EndsRun ending
+    → RunsTo kind options text ending call.out ⊎ ((ending ≡ NoMemory) × IsUntouched call.out)
 
 -- The bytes given out are the text of the code with regions that the text is compiled to, or the first of them where a
 -- write failed.
@@ -81,13 +81,15 @@ Emission call text ending = IsEmit call → EndsEmit ending → Emits text endin
 
 -- a write to `out` failed
 abbrev pub IsWriteFault : Ending → Type 0
-IsWriteFault ending = ((stats : Option Tally) × (ending ≡ Ran run_end.WriteFault stats)) ⊎ (ending ≡ WriteFault)
+IsWriteFault ending =
+    ((kind : TextKind) × (stats : Option Tally) × (ending ≡ Ran kind run_end.WriteFault stats)) ⊎ (ending ≡ WriteFault)
 
 -- The ending has its cause, and its line is on `err` with its status, where `err` took the line.
 pub record End (call : Call) (text : List ℕ) (ending : Ending) : Type 0 where
   pub read_failed : ending ≡ ReadFault → SourceFailed call.source
   pub write_failed : IsWriteFault ending → Failed call.out
-  pub ran : (end : RunEnd) (stats : Option Tally) → ending ≡ Ran end stats → AsksRun call.words
+  pub ran : (kind : TextKind) (end : RunEnd) (stats : Option Tally) → ending ≡ Ran kind end stats
+      → (options : RunOptions) × IsRun call kind options
   pub told : Tells text ending call.status call.err
 
 -- A fault is reported, and no other status comes of one.
@@ -96,27 +98,27 @@ pub record Faults (call : Call) : Type 0 where
   pub write : call.status ≡ 10 → Failed call.out ⊎ Failed call.err
   pub none : is_fault_status call.status ≡ false → SourceHeld call.source × Held call.out × Held call.err
 
--- no run of the program's code within the limits ends so
-abbrev pub NeverEnds : Limits → Typed → RunEnd → Type 0
-NeverEnds limits program end =
-    (code : Tac) → IsLowered program code → (before : ℕ) (picks : List Pick) (t : TacState)
-    → LeadsWithin (tac code) limits (tac_start code) picks t
-    → Ends (tac code) limits before (length picks) t end → ⊥
+-- no run of its code within the limits ends so
+abbrev pub NeverEnds : Limits → Runnable → RunEnd → Type 0
+NeverEnds limits what end =
+    (code : Code) → IsCodeFor what code → (before : ℕ) (picks : List Pick) (t : TacState)
+    → LeadsWithin (tac (erased code)) limits (tac_start (erased code)) picks t
+    → Ends (tac (erased code)) limits before (length picks) t end → ⊥
 
--- every run of the program's code with its regions has this room
-abbrev pub AlwaysHas : Sizes → Typed → Shortage → Type 0
-AlwaysHas sizes program why =
-    (code : Code) → IsCompiledFrom program code → (events : List Event) (s : RegionState)
+-- every run of its code with regions has this room
+abbrev pub AlwaysHas : Sizes → Runnable → Shortage → Type 0
+AlwaysHas sizes what why =
+    (code : Code) → IsCodeFor what code → (events : List Event) (s : RegionState)
     → region_run code sizes.page_words events ≡ Some s → LacksIn code sizes why s → ⊥
 
--- no run of the program's code meets a limit, or wants more room than there is
-pub record Suffices (options : RunOptions) (program : Typed) : Type 0 where
-  pub calls : NeverEnds options.limits program run_end.CallsTooDeep
-  pub steps : NeverEnds options.limits program run_end.StepsSpent
-  pub goroutines : NeverEnds options.limits program run_end.GoroutinesSpent
-  pub pages : AlwaysHas options.sizes program shortage.Pages
-  pub regions : AlwaysHas options.sizes program shortage.Regions
-  pub object_size : AlwaysHas options.sizes program shortage.ObjectSize
+-- no run of its code meets a limit, or wants more room than there is
+pub record Suffices (options : RunOptions) (what : Runnable) : Type 0 where
+  pub calls : NeverEnds options.limits what run_end.CallsTooDeep
+  pub steps : NeverEnds options.limits what run_end.StepsSpent
+  pub goroutines : NeverEnds options.limits what run_end.GoroutinesSpent
+  pub pages : AlwaysHas options.sizes what shortage.Pages
+  pub regions : AlwaysHas options.sizes what shortage.Regions
+  pub object_size : AlwaysHas options.sizes what shortage.ObjectSize
 
 -- a run's own end, with nothing that limits it
 abbrev pub IsOwnEnd : RunEnd → Type 0
@@ -124,19 +126,19 @@ IsOwnEnd (run_end.Ended end) = Unit {0}
 IsOwnEnd run_end.Deadlock = Unit {0}
 IsOwnEnd _ = ⊥
 
--- the whole print of a run of the program to its own end, its lines on `err`, and its status: 0, 2 or 3
-pub record RunsWhole (options : RunOptions) (call : Call) (text : List ℕ) (program : Typed) : Type 0 where
+-- the whole print of a run of it to its own end, its lines on `err`, and its status: 0, 2 or 3
+pub record RunsWhole (kind : TextKind) (options : RunOptions) (call : Call) (text : List ℕ) (what : Runnable) : Type 0 where
   pub run_end : RunEnd
   pub is_own : IsOwnEnd run_end
-  pub runs : ProgramRuns program options run_end call.out
-  pub told : Grew call.err (line_of text (Ran run_end (stats_at options.stats run_end runs.regions.state)))
+  pub runs : RunOf what options run_end call.out
+  pub told : Grew call.err (line_of text (Ran kind run_end (stats_at options.stats run_end runs.regions.state)))
   pub status : call.status ≡ status_of_run run_end
 
--- the text's program is run so, where no run of it meets a limit; or memory ran out
-abbrev pub MustRunWhole : RunOptions → Call → List ℕ → Type 0
-MustRunWhole options call text =
-    (program : Typed) → IsProgram text program → Suffices options program
-    → RunsWhole options call text program ⊎ (call.status ≡ 11)
+-- what the text of this kind is, is run so, where no run of it meets a limit; or memory ran out
+abbrev pub MustRunWhole : TextKind → RunOptions → Call → List ℕ → Type 0
+MustRunWhole kind options call text =
+    (what : Runnable) → IsRunnable kind text what → Suffices options what
+    → RunsWhole kind options call text what ⊎ (call.status ≡ 11)
 
 -- nothing on either sink
 pub record IsSilent (call : Call) : Type 0 where
@@ -153,12 +155,13 @@ pub record EmitsWhole (call : Call) (text : List ℕ) : Type 0 where
   pub held : Held call.out
   pub silent : Grew call.err []
 
--- Where nothing failed and memory sufficed, a valid program of which no run meets a limit is run to its own end, and a
--- valid program passes the check and has its code printed. A code text that keeps all rules passes.
+-- Where nothing failed and memory sufficed, a valid program of which no run meets a limit is run to its own end, and so is
+-- the code of a code text that keeps all rules. A valid program passes the check and has its code printed. A code text that
+-- keeps all rules passes.
 pub record Complete (call : Call) (text : List ℕ) : Type 0 where
-  pub run : (options : RunOptions) → IsRun call options
+  pub run : (kind : TextKind) (options : RunOptions) → IsRun call kind options
       → (SourceFailed call.source → ⊥) → (Failed call.out → ⊥) → (Failed call.err → ⊥)
-      → MustRunWhole options call text
+      → MustRunWhole kind options call text
   pub check : IsCheck call → (SourceFailed call.source → ⊥) → (Failed call.err → ⊥)
       → Passes text → IsSilent call ⊎ (call.status ≡ 11)
   pub emit : IsEmit call → (SourceFailed call.source → ⊥) → (Failed call.out → ⊥) → (Failed call.err → ⊥)

@@ -20,8 +20,8 @@ Tells text ending answer err = Writes (line_of text ending) (status_of ending) a
 
 -- an ending whose lines have numbers in them, and so need memory
 abbrev pub HasPlace : Ending → Type 0
-HasPlace (Ran end (Some tally)) = Unit {0}
-HasPlace (Ran (Ended (Trap trap at)) None) = Unit {0}
+HasPlace (Ran kind end (Some tally)) = Unit {0}
+HasPlace (Ran kind (Ended (Trap trap at)) None) = Unit {0}
 HasPlace (Lexical refusal) = Unit {0}
 HasPlace (Syntax at) = Unit {0}
 HasPlace (Nesting at) = Unit {0}

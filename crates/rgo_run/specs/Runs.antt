@@ -1,4 +1,4 @@
--- The run of a text: the ending that reports its end, and what it leaves.
+-- The run of a text, which is that of a program or of code: the ending that reports its end, and what it leaves.
 use Rattle.std.specs.Prelude.{◌≡◌, ℕ, Bool, true, false, List, ◌++◌, Option, Some, None, slice_get}
 use Rattle.rgo_typed.specs.Tree.{Typed}
 use Rattle.rgo_machine.specs.declared.limits.Limits.{Limits}
@@ -11,8 +11,10 @@ use Rattle.rgo_machine.specs.Machines.{Machine, State}
 use Rattle.rgo_meaning.specs.Source.{SourceState, source, source_start}
 use Rattle.rgo_tac.specs.Code.{Tac}
 use Rattle.rgo_tac.specs.Tac.{TacState, tac, tac_start}
+use Rattle.rgo_code.specs.Checked.{IsChecked}
 use Rattle.rgo_code.specs.Code.{Code}
 use Rattle.rgo_code.specs.Erasure.{erased}
+use Rattle.rgo_code.specs.NameRules.{Ascends}
 use Rattle.rgo_lower.specs.Lowered.{IsLowered}
 use Rattle.rgo_region_machine.specs.Counts.{counts_of}
 use Rattle.rgo_region_machine.specs.Machine.{Event, region_run}
@@ -27,9 +29,12 @@ use Rattle.rgo_driver.specs.declared.ends.RunEnd.{RunEnd}
 use Rattle.rgo_driver.specs.declared.ends.RunEnd.TheVariants.{Deadlock, NoMemory, NoRoom, WriteFault}
 use Rattle.rgo_driver.specs.Runs.{RunsFreely}
 use Rattle.rgo_command_line.specs.declared.limits.RunOptions.{RunOptions}
+use Rattle.rgo_run.specs.declared.endings.TextKind.{TextKind}
+use Rattle.rgo_run.specs.declared.endings.TextKind.TheVariants as text_kind
 use Rattle.rgo_run.specs.declared.endings.Ending.{Ending}
 use Rattle.rgo_run.specs.declared.endings.Ending.TheVariants.{Ran}
 use Rattle.rgo_run.specs.Calls.{SinkUse, Failed, Held}
+use Rattle.rgo_run.specs.CodeVerdicts.{IsTextOfCode}
 use Rattle.rgo_run.specs.Compiled.{IsCompiledFrom}
 use Rattle.rgo_run.specs.Verdicts.{IsProgram}
 
@@ -79,13 +84,34 @@ pub record RegionRun (code : Code) (sizes : Sizes) (end : RunEnd) (t : TacState)
   -- why there was no room
   pub lacks : (why : Shortage) → end ≡ NoRoom why → LacksIn code sizes why state
 
--- Some run of the program's code, its steps in any order, ends so and gives out what `out` took. It is why the end is
--- what it is, it does what some run of the program does, and it is a run with regions.
-pub record ProgramRuns (program : Typed) (options : RunOptions) (end : RunEnd) (out : SinkUse) : Type 0 where
+-- what can be run: a program, or code of its own, of any origin
+pub data Runnable : Type 0 where
+  of_program : Typed → Runnable
+  of_code : Code → Runnable
+
+-- the text of this kind is a valid program, and that is run; or it is that of code that keeps all rules
+abbrev pub IsRunnable : TextKind → List ℕ → Runnable → Type 0
+IsRunnable kind text (of_program program) = (kind ≡ text_kind.Go) × IsProgram text program
+IsRunnable kind text (of_code code) = (kind ≡ text_kind.Code) × IsTextOfCode text code × IsChecked code
+
+-- the code with regions that a run executes: what the program is compiled to; or the given code itself, which keeps all
+-- rules, and in whose lists the names ascend
+abbrev pub IsCodeFor : Runnable → Code → Type 0
+IsCodeFor (of_program program) code = IsCompiledFrom program code
+IsCodeFor (of_code given) code = (code ≡ given) × IsChecked code × Ascends code
+
+-- a run of the program, if it is one, that has printed and ended as this state of its code
+abbrev pub HasSourceRun : Runnable → Limits → RunEnd → TacState → Type 0
+HasSourceRun (of_program program) limits end t = SourceRun limits program end t
+HasSourceRun (of_code code) limits end t = Unit {0}
+
+-- Some run of the code, its steps in any order, ends so and gives out what `out` took. It is why the end is what it is, and
+-- it is a run with regions. Where the code is that of a program, it does what some run of the program does.
+pub record RunOf (what : Runnable) (options : RunOptions) (end : RunEnd) (out : SinkUse) : Type 0 where
   pub code : Code
-  pub compiled : IsCompiledFrom program code
+  pub is_code : IsCodeFor what code
   pub runs : RunsFreely (tac (erased code)) options.limits (tac_start (erased code)) end out.old out.new
-  pub source : SourceRun options.limits program end runs.state
+  pub source : HasSourceRun what options.limits end runs.state
   pub regions : RegionRun code options.sizes end runs.state
 
 -- what is said of a run that has ended so, if it was asked for: nothing where memory ran out or a write failed
@@ -95,14 +121,14 @@ stats_at asked WriteFault s = None
 stats_at true _ s = Some (tally_of (counts_of s))
 stats_at false _ s = None
 
--- some run of the text's program, whose end the ending reports, gave out what `out` took
-pub record RunsTo (options : RunOptions) (text : List ℕ) (ending : Ending) (out : SinkUse) : Type 0 where
-  pub program : Typed
-  pub is_program : IsProgram text program
+-- some run of what the text of this kind is, whose end the ending reports, gave out what `out` took
+pub record RunsTo (kind : TextKind) (options : RunOptions) (text : List ℕ) (ending : Ending) (out : SinkUse) : Type 0 where
+  pub what : Runnable
+  pub is_what : IsRunnable kind text what
   pub run_end : RunEnd
   pub stats : Option Tally
-  pub is_end : ending ≡ Ran run_end stats
-  pub runs : ProgramRuns program options run_end out
+  pub is_end : ending ≡ Ran kind run_end stats
+  pub runs : RunOf what options run_end out
   pub stats_are : stats ≡ stats_at options.stats run_end runs.regions.state
   pub failed : run_end ≡ WriteFault → Failed out
   pub held : (run_end ≡ WriteFault → ⊥) → Held out

@@ -1,6 +1,5 @@
--- How many pages and regions are enough for every run of a program.
+-- How many pages and regions are enough for every run of a program, or of code of its own.
 use Rattle.std.specs.Prelude.{◌≡◌, ◌≤◌, ◌+◌, ◌*◌, List, Some}
-use Rattle.rgo_typed.specs.Tree.{Typed}
 use Rattle.rgo_machine.specs.declared.limits.Sizes.{Sizes}
 use Rattle.rgo_machine.specs.declared.turns.Shortage.TheVariants as shortage
 use Rattle.rgo_code.specs.Code.{Code}
@@ -8,13 +7,13 @@ use Rattle.rgo_region_machine.specs.Counts.{counts_of}
 use Rattle.rgo_region_machine.specs.Machine.{Event, region_run}
 use Rattle.rgo_region_machine.specs.States.{RegionState}
 use Rattle.rgo_sound.specs.Safety.{most_names}
-use Rattle.rgo_run.specs.Compiled.{IsCompiledFrom}
 use Rattle.rgo_run.specs.Headline.{AlwaysHas}
+use Rattle.rgo_run.specs.Runs.{IsCodeFor, Runnable}
 
--- every state of every run of the program's code with its regions is so
-abbrev pub Always : Sizes → Typed → (Code → RegionState → Type 0) → Type 0
-Always sizes program Holds =
-    (code : Code) (events : List Event) (s : RegionState) → IsCompiledFrom program code
+-- every state of every run of its code with regions is so
+abbrev pub Always : Sizes → Runnable → (Code → RegionState → Type 0) → Type 0
+Always sizes what Holds =
+    (code : Code) (events : List Event) (s : RegionState) → IsCodeFor what code
     → region_run code sizes.page_words events ≡ Some s → Holds code s
 
 -- objects and goroutines together are at most the pages
@@ -28,7 +27,7 @@ FewSteps sizes code s = ((counts_of s).steps + (counts_of s).goroutines) * most_
 -- Where every run makes as few objects, no run wants a page that there is not; where every run takes as few steps, none
 -- wants a region.
 pub record FewSuffice : Type 0 where
-  pub pages : (sizes : Sizes) (program : Typed) → Always sizes program (FewObjects sizes)
-      → AlwaysHas sizes program shortage.Pages
-  pub regions : (sizes : Sizes) (program : Typed) → Always sizes program (FewSteps sizes)
-      → AlwaysHas sizes program shortage.Regions
+  pub pages : (sizes : Sizes) (what : Runnable) → Always sizes what (FewObjects sizes)
+      → AlwaysHas sizes what shortage.Pages
+  pub regions : (sizes : Sizes) (what : Runnable) → Always sizes what (FewSteps sizes)
+      → AlwaysHas sizes what shortage.Regions

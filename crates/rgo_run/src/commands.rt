@@ -3,22 +3,20 @@
 ghost use Rattle.std.specs.Prelude.{◌≡◌, ℕ, List};
 ghost use Rattle.rgo_command_line.specs.Commands.{KeepsBounds};
 ghost use Rattle.rgo_command_line.specs.Limits.{LiesIn, worker_bounds};
-ghost use Rattle.rgo_command_line.specs.declared.commands.Command.TheVariants.{Check, Emit, Run};
-ghost use Rattle.rgo_run.specs.Calls.{sink_use};
-ghost use Rattle.rgo_run.specs.CodeVerdicts.{IsTextOfCode};
+ghost use Rattle.rgo_command_line.specs.declared.commands.Command.TheVariants.{Check, Emit};
+ghost use Rattle.rgo_run.specs.declared.endings.TextKind.TheVariants as text_kind;
+ghost use Rattle.rgo_run.specs.Calls.{kind_of, sink_use};
 ghost use Rattle.rgo_run.specs.Compiled.{IsCompiled, WritesCode};
 ghost use Rattle.rgo_run.specs.Endings.{status_of};
-ghost use Rattle.rgo_run.specs.Runs.{stats_at};
+ghost use Rattle.rgo_run.specs.Runs.{IsCodeFor, IsRunnable, Runnable, stats_at};
 ghost use Rattle.rgo_region_machine.specs.States.{RegionState};
 ghost use Rattle.rgo_world.specs.Worlds.{Shown};
-ghost use Rattle.rgo_run.specs.Texts.{Checks, ChecksCode, Performs, limit_of};
+ghost use Rattle.rgo_run.specs.Texts.{Checks, Performs, RunsOrFails};
 
-use crate::endings::Ending;
-use crate::pipeline::{TEXT_LIMIT, check_text, compile};
-use rgo_checker::check_code;
-use rgo_code::{Checked, Code};
+use crate::endings::{Ending, TextKind};
+use crate::pipeline::{check_text, compile, read_checked};
+use rgo_code::Checked;
 use rgo_code_printing::print_code;
-use rgo_code_text::read_code;
 use rgo_command_line::{Command, RunOptions};
 use rgo_driver::{RunEnd, run_with_workers};
 use rgo_outside::{Gate, Sink, write_all};
@@ -27,22 +25,19 @@ use std::alloc::Global;
 use std::sync::Wait;
 use std::thread::Threads;
 
-/// The most bytes of a code text.
-const CODE_LIMIT: usize = 67_108_864;
-
-/// The most bytes that a command reads.
-pub(crate) fn limit_of(command: Command) -> usize
-    ensures { result ≡ limit_of command }
+/// The kind of text that a command is about.
+pub(crate) fn kind_of(command: Command) -> TextKind
+    ensures { result ≡ kind_of command }
 {
     match command {
-        Command::Code => CODE_LIMIT,
-        _ => TEXT_LIMIT,
+        Command::Code | Command::RunCode(_) => TextKind::Code,
+        _ => TextKind::Go,
     }
 }
 
 // Checks a text.
 fn check_only(alloc: Global, text: &[u8]) -> Ending
-    ensures { Checks text.now result }
+    ensures { Checks text_kind.Go text.now result }
 {
     match check_text(alloc, text) {
         Ok(_) => Ending::Valid,
@@ -62,18 +57,19 @@ fn stats_of(options: RunOptions, end: RunEnd, world: &World<'_>) -> Option<Tally
     }
 }
 
-// Runs code with its regions.
+// Runs the code with regions of a text of this kind.
 fn run_code<H: Threads + Wait + Sync, K: Sink, G: Gate + Sync>(
     rt: &H,
     alloc: Global,
+    kind: TextKind,
     options: RunOptions,
     code: &Checked,
     out: &mut K,
     gate: &G,
 ) -> Ending
     requires { LiesIn worker_bounds options.workers }
-    ensures performs { (text : List ℕ) → IsCompiled text code.now
-        → Performs (Run options) text result (sink_use (K.contents out.old) (K.contents out.new)
+    ensures performs { (text : List ℕ) (what : Runnable) → IsRunnable kind text what → IsCodeFor what code.now
+        → RunsOrFails kind options text result (sink_use (K.contents out.old) (K.contents out.new)
         (K.faults out.old) (K.faults out.new) (K.broken out.new)) }
     ensures refused { status_of result ≡ 1 → out.new ≡ out.old }
 {
@@ -89,6 +85,7 @@ fn run_code<H: Threads + Wait + Sync, K: Sink, G: Gate + Sync>(
                 gate,
             );
             Ending::Ran {
+                kind,
                 end,
                 stats: stats_of(options, end, &world),
             }
@@ -107,12 +104,32 @@ fn run_text<H: Threads + Wait + Sync, K: Sink, G: Gate + Sync>(
     gate: &G,
 ) -> Ending
     requires { LiesIn worker_bounds options.workers }
-    ensures performs { Performs (Run options) text.now result (sink_use (K.contents out.old)
+    ensures performs { RunsOrFails text_kind.Go options text.now result (sink_use (K.contents out.old)
         (K.contents out.new) (K.faults out.old) (K.faults out.new) (K.broken out.new)) }
     ensures refused { status_of result ≡ 1 → out.new ≡ out.old }
 {
     match compile(alloc, text) {
-        Ok(code) => run_code(rt, alloc, options, &code, out, gate),
+        Ok(code) => run_code(rt, alloc, TextKind::Go, options, &code, out, gate),
+        Err(why) => why,
+    }
+}
+
+// Runs the code of a code text.
+fn run_code_text<H: Threads + Wait + Sync, K: Sink, G: Gate + Sync>(
+    rt: &H,
+    alloc: Global,
+    options: RunOptions,
+    text: &[u8],
+    out: &mut K,
+    gate: &G,
+) -> Ending
+    requires { LiesIn worker_bounds options.workers }
+    ensures performs { RunsOrFails text_kind.Code options text.now result (sink_use (K.contents out.old)
+        (K.contents out.new) (K.faults out.old) (K.faults out.new) (K.broken out.new)) }
+    ensures refused { status_of result ≡ 1 → out.new ≡ out.old }
+{
+    match read_checked(alloc, text) {
+        Ok(code) => run_code(rt, alloc, TextKind::Code, options, &code, out, gate),
         Err(why) => why,
     }
 }
@@ -153,26 +170,13 @@ fn emit_text<K: Sink>(alloc: Global, text: &[u8], out: &mut K) -> Ending
     }
 }
 
-// Checks code that was read.
-fn check_rules(alloc: Global, code: &Code) -> Ending
-    ensures { (text : List ℕ) → IsTextOfCode text code.now → ChecksCode text result }
-{
-    match check_code(alloc, code) {
-        Ok(()) => Ending::Valid,
-        Err(error) => Ending::from(error),
-    }
-}
-
 // Checks a code text.
 fn check_code_text(alloc: Global, text: &[u8]) -> Ending
-    ensures { ChecksCode text.now result }
+    ensures { Checks text_kind.Code text.now result }
 {
-    if text.len() > CODE_LIMIT {
-        return Ending::CodeTooLong;
-    }
-    match read_code(alloc, text) {
-        Ok(code) => check_rules(alloc, &code),
-        Err(error) => Ending::from(error),
+    match read_checked(alloc, text) {
+        Ok(_) => Ending::Valid,
+        Err(why) => why,
     }
 }
 
@@ -197,5 +201,6 @@ pub(crate) fn perform<H: Threads + Wait + Sync, K: Sink, G: Gate + Sync>(
         Command::Emit => emit_text(alloc, text, out),
         Command::Code => check_code_text(alloc, text),
         Command::Big(_) => run_text(rt, alloc, RunOptions::default(), text, out, gate),
+        Command::RunCode(options) => run_code_text(rt, alloc, options, text, out, gate),
     }
 }

@@ -14,14 +14,28 @@ use rgo_typing_rules::{TypeError, TypeRefusal};
 use rgo_world::Tally;
 use std::alloc::AllocError;
 
+/// What kind of text a command is about, which determines how places of it are reported.
+#[derive(Clone, Copy, Debug, PartialEq, Eq)]
+pub enum TextKind {
+    /// A text of Go, the source of a program. Its places are bytes from its beginning, and are reported as a line and a column.
+    Go,
+    /// A code text. Its places are the numbers that its instructions have after their `@`, and are reported as they are.
+    Code,
+}
+
 /// How a call ended, which determines its status and its line on `err`. Places are those of the
-/// text, in bytes from its beginning.
+/// text, in bytes from its beginning; after the run of a code text, those of its instructions.
 #[derive(Clone, Copy, Debug, PartialEq, Eq)]
 pub enum Ending {
     /// The text was to be checked, or its code to be printed: it is valid, and that is done.
     Valid,
-    /// The text's program was run: how its run ended, and what it has made, where that was asked for.
-    Ran { end: RunEnd, stats: Option<Tally> },
+    /// The program or the code of a text of this kind was run: how its run ended, and what it has made, where that was
+    /// asked for.
+    Ran {
+        kind: TextKind,
+        end: RunEnd,
+        stats: Option<Tally>,
+    },
     /// The words name no command.
     Usage,
     /// A read of the source failed.
@@ -33,13 +47,19 @@ pub enum Ending {
     /// The text has no lexemes: what is wrong first, and where.
     Lexical(LexRefusal),
     /// The text is not a program: where the first token is with which no program continues.
-    Syntax { at: Place },
+    Syntax {
+        at: Place,
+    },
     /// The program is nested too deep: where the first token is after which it is.
-    Nesting { at: Place },
+    Nesting {
+        at: Place,
+    },
     /// The program breaks a typing rule: the first that it breaks, and where.
     Typing(TypeRefusal),
     /// The text is that of no code: the number of its first line without form, from 1.
-    NoForm { line: u32 },
+    NoForm {
+        line: u32,
+    },
     /// The code breaks a rule: the least that it breaks, and the number of the first line that does.
     Breaks(CodeRefusal),
     /// A write of the code to `out` failed.

@@ -10,7 +10,7 @@ mod positions;
 mod report;
 mod top;
 
-pub use endings::Ending;
+pub use endings::{Ending, TextKind};
 pub use laws::{
     emitted_passes, few_suffice, one_code_verdict, one_compiled, one_verdict,
     programs_are_well_formed,

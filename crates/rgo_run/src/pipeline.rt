@@ -1,4 +1,5 @@
-//! From a text to its program and the code of that, first without regions, then with them; or why it is none.
+//! From a text to its program and the code of that, first without regions, then with them; or why it is none. From a code
+//! text to its code.
 
 ghost use Rattle.std.specs.Prelude.{◌≡◌, ◌≤◌, length, IfErr, IfOk};
 ghost use Rattle.rgo_lexer.specs.Lexing.{LexesAs};
@@ -6,14 +7,18 @@ ghost use Rattle.rgo_ast.specs.Views.{program_of};
 ghost use Rattle.rgo_typed.specs.Views.{typed_of};
 ghost use Rattle.rgo_parser.specs.Parsing.{Fails as ParseFails};
 ghost use Rattle.rgo_run.specs.Compiled.{IsCompiled};
+ghost use Rattle.rgo_run.specs.CodeVerdicts.{IsCheckedText};
+ghost use Rattle.rgo_run.specs.declared.endings.TextKind.TheVariants as text_kind;
 ghost use Rattle.rgo_run.specs.Positions.{place_of};
 ghost use Rattle.rgo_run.specs.Runs.{IsCodeOf};
-ghost use Rattle.rgo_run.specs.Texts.{Fails};
+ghost use Rattle.rgo_run.specs.Texts.{Fails, FailsAs, limit_of};
 ghost use Rattle.rgo_run.specs.Verdicts.{IsTree, IsProgram, text_limit};
 
-use crate::endings::Ending;
+use crate::endings::{Ending, TextKind};
 use rgo_ast::{Place, Program};
+use rgo_checker::check_code;
 use rgo_code::Checked;
+use rgo_code_text::read_code;
 use rgo_insert::insert;
 use rgo_lexer::{Lexeme, lex};
 use rgo_lower::lower;
@@ -25,7 +30,20 @@ use rgo_types::check;
 use std::alloc::Global;
 
 /// The most bytes of a text.
-pub(crate) const TEXT_LIMIT: usize = 1_048_576;
+const TEXT_LIMIT: usize = 1_048_576;
+
+/// The most bytes of a code text.
+const CODE_LIMIT: usize = 67_108_864;
+
+/// The most bytes of a text of this kind.
+pub(crate) fn limit_of(kind: TextKind) -> usize
+    ensures { result ≡ limit_of kind }
+{
+    match kind {
+        TextKind::Go => TEXT_LIMIT,
+        TextKind::Code => CODE_LIMIT,
+    }
+}
 
 // Where a lexeme begins; for the number of lexemes, the text's end.
 fn place_of(text: &[u8], lexemes: &[Lexeme<'_>], k: usize) -> Place
@@ -107,6 +125,20 @@ pub fn compile(alloc: Global, text: &[u8]) -> Result<Checked, Ending>
     let tac = lower_text(alloc, text)?;
     let summaries = summaries(alloc, &tac)?;
     let code = insert(alloc, &tac, &summaries)?;
+    code.ascends();
+    Ok(Checked::new(code))
+}
+
+/// The code of a code text, which keeps all rules; or why there is none.
+pub(crate) fn read_checked(alloc: Global, text: &[u8]) -> Result<Checked, Ending>
+    ensures ok { IfOk result (IsCheckedText text.now) }
+    ensures err { IfErr result (FailsAs text_kind.Code text.now) }
+{
+    if text.len() > CODE_LIMIT {
+        return Err(Ending::CodeTooLong);
+    }
+    let code = read_code(alloc, text)?;
+    check_code(alloc, &code)?;
     code.ascends();
     Ok(Checked::new(code))
 }

@@ -3,22 +3,25 @@
 ghost use Rattle.std.specs.Prelude.{◌≡◌, ◌<◌, ◌^◌, ◌++◌, [], None, codes, length, IfOk, MatchResult, string_bytes};
 ghost use Rattle.rgo_run.specs.Calls.{sink_use};
 ghost use Rattle.rgo_run.specs.Endings.{line_of, line_of_run, line_of_shortage, numbered, numbered_line, positioned};
-ghost use Rattle.rgo_run.specs.Endings.{others_made, regions_made, stats_lines, status_of_run, status_of_shortage};
+ghost use Rattle.rgo_run.specs.Endings.{others_made, placed, regions_made, stats_lines, status_of_run, status_of_shortage};
 ghost use Rattle.rgo_run.specs.Reports.{Reports, Writes};
+ghost use Rattle.rgo_driver.specs.declared.ends.RunEnd.TheVariants.{Ended};
+ghost use Rattle.rgo_machine.specs.declared.picks.End.TheVariants as the_end;
 ghost use Rattle.rgo_run.specs.declared.endings.Ending.TheVariants.{Breaks, Ran};
 
-use crate::endings::Ending;
+use crate::endings::{Ending, TextKind};
 use crate::positions::position_of;
 use rgo_ast::Place;
 use rgo_code::CodeRefusal;
 use rgo_driver::RunEnd;
 use rgo_machine::{End, Shortage};
+use rgo_memory::Trap;
 use rgo_outside::{Sink, write_all};
 use rgo_world::Tally;
 use std::alloc::{AllocError, Global};
 
 const USAGE: &[u8] =
-    b"usage: rgo run [--steps N] [--pages N] [--page-words N] [--regions N] [--goroutines N] [--workers N] [--stats] | check | emit | code | big N\n";
+    b"usage: rgo run [--steps N] [--pages N] [--page-words N] [--regions N] [--goroutines N] [--workers N] [--stats] | check | emit | code | big N | runcode [--steps N] [--pages N] [--page-words N] [--regions N] [--goroutines N] [--workers N] [--stats]\n";
 
 // What is wrong at a place.
 fn line_at(alloc: Global, text: &[u8], at: Place, message: &str) -> Result<String, AllocError>
@@ -49,6 +52,37 @@ fn numbered_line_at(
     let line = position.line;
     let column = position.column;
     format!(in alloc; "rgo: {line}:{column}: {kind} {number} {name}\n")
+}
+
+// What is wrong at an instruction of a code text, by the number and the name of its kind.
+fn numbered_line_of_code(
+    alloc: Global,
+    at: Place,
+    kind: &str,
+    number: u8,
+    name: &str,
+) -> Result<String, AllocError>
+    ensures { IfOk result (λ line.
+        string_bytes line ≡ placed at (numbered kind.now number name.now)) }
+{
+    format!(in alloc; "rgo: @{at}: {kind} {number} {name}\n")
+}
+
+// Why a goroutine trapped, and where in a text of this kind.
+fn trap_line(
+    alloc: Global,
+    kind: TextKind,
+    text: &[u8],
+    trap: Trap,
+    at: Place,
+) -> Result<String, AllocError>
+    requires { length text.now < 2 ^ 63 }
+    ensures { IfOk result (λ line. string_bytes line ≡ line_of_run kind text.now (Ended (the_end.Trap trap at))) }
+{
+    match kind {
+        TextKind::Go => { numbered_line_at(alloc, text, at, "trap", trap.number(), trap.name()) }
+        TextKind::Code => numbered_line_of_code(alloc, at, "trap", trap.number(), trap.name()),
+    }
 }
 
 // What is wrong with a line of a code text.
@@ -114,15 +148,15 @@ fn write_shortage<E: Sink>(err: &mut E, shortage: Shortage) -> u8
 }
 
 // Writes how a run ended.
-fn report_end<E: Sink>(alloc: Global, text: &[u8], end: RunEnd, err: &mut E) -> u8
+fn report_end<E: Sink>(alloc: Global, kind: TextKind, text: &[u8], end: RunEnd, err: &mut E) -> u8
     requires { length text.now < 2 ^ 63 }
-    ensures { Reports text.now (Ran end None) result (sink_use (E.contents err.old)
+    ensures { Reports text.now (Ran kind end None) result (sink_use (E.contents err.old)
         (E.contents err.new) (E.faults err.old) (E.faults err.new) (E.broken err.new)) }
 {
     match end {
         RunEnd::Ended(End::Exit) => 0,
         RunEnd::Ended(End::Trap(trap, at)) => {
-            let line = numbered_line_at(alloc, text, at, "trap", trap.number(), trap.name());
+            let line = trap_line(alloc, kind, text, trap, at);
             write_or_no_memory(err, line, 2)
         }
         RunEnd::Deadlock => write(err, b"rgo: deadlock\n", 3),
@@ -136,15 +170,13 @@ fn report_end<E: Sink>(alloc: Global, text: &[u8], end: RunEnd, err: &mut E) -> 
 }
 
 // The line of a run's end; nothing where `main` returned.
-fn end_line(alloc: Global, text: &[u8], end: RunEnd) -> Result<String, AllocError>
+fn end_line(alloc: Global, kind: TextKind, text: &[u8], end: RunEnd) -> Result<String, AllocError>
     requires { length text.now < 2 ^ 63 }
-    ensures { IfOk result (λ line. string_bytes line ≡ line_of_run text.now end) }
+    ensures { IfOk result (λ line. string_bytes line ≡ line_of_run kind text.now end) }
 {
     match end {
         RunEnd::Ended(End::Exit) => String::from_str(alloc, ""),
-        RunEnd::Ended(End::Trap(trap, at)) => {
-            numbered_line_at(alloc, text, at, "trap", trap.number(), trap.name())
-        }
+        RunEnd::Ended(End::Trap(trap, at)) => trap_line(alloc, kind, text, trap, at),
         RunEnd::Deadlock => String::from_str(alloc, "rgo: deadlock\n"),
         RunEnd::NoRoom(Shortage::Pages) => String::from_str(alloc, "rgo: pages spent\n"),
         RunEnd::NoRoom(Shortage::Regions) => String::from_str(alloc, "rgo: regions spent\n"),
@@ -198,34 +230,41 @@ fn others_made(alloc: Global, tally: Tally) -> Result<String, AllocError>
 }
 
 // What a run has made, and below it how the run ended.
-fn stats_lines(alloc: Global, text: &[u8], end: RunEnd, tally: Tally) -> Result<String, AllocError>
+fn stats_lines(
+    alloc: Global,
+    kind: TextKind,
+    text: &[u8],
+    end: RunEnd,
+    tally: Tally,
+) -> Result<String, AllocError>
     requires { length text.now < 2 ^ 63 }
-    ensures { IfOk result (λ lines. string_bytes lines ≡ stats_lines tally (line_of_run text.now end)) }
+    ensures { IfOk result (λ lines. string_bytes lines ≡ stats_lines tally (line_of_run kind text.now end)) }
 {
     let regions = regions_made(alloc, tally)?;
     let others = others_made(alloc, tally)?;
-    let line = end_line(alloc, text, end)?;
+    let line = end_line(alloc, kind, text, end)?;
     format!(in alloc; "rgo: {regions}{others}{line}")
 }
 
 // Writes how a run ended, and before it what it has made, if that was asked for.
 fn report_run<E: Sink>(
     alloc: Global,
+    kind: TextKind,
     text: &[u8],
     end: RunEnd,
     stats: Option<Tally>,
     err: &mut E,
 ) -> u8
     requires { length text.now < 2 ^ 63 }
-    ensures { Reports text.now (Ran end stats) result (sink_use (E.contents err.old)
+    ensures { Reports text.now (Ran kind end stats) result (sink_use (E.contents err.old)
         (E.contents err.new) (E.faults err.old) (E.faults err.new) (E.broken err.new)) }
 {
     match stats {
         Some(tally) => {
-            let lines = stats_lines(alloc, text, end, tally);
+            let lines = stats_lines(alloc, kind, text, end, tally);
             write_or_no_memory(err, lines, status_of(end))
         }
-        None => report_end(alloc, text, end, err),
+        None => report_end(alloc, kind, text, end, err),
     }
 }
 
@@ -238,7 +277,7 @@ pub(crate) fn report<E: Sink>(alloc: Global, text: &[u8], ending: Ending, err: &
 {
     match ending {
         Ending::Valid => 0,
-        Ending::Ran { end, stats } => report_run(alloc, text, end, stats, err),
+        Ending::Ran { kind, end, stats } => report_run(alloc, kind, text, end, stats, err),
         Ending::Usage => write(err, USAGE, 64),
         Ending::ReadFault => write(err, b"rgo: read failed\n", 9),
         Ending::TooLong => write(err, b"rgo: text longer than 1048576 bytes\n", 1),

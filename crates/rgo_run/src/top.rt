@@ -11,8 +11,9 @@ ghost use Rattle.rgo_run.specs.Calls.{AsksRun, sink_use, source_use};
 ghost use Rattle.rgo_run.specs.Endings.{is_fault_status, is_run_status};
 ghost use Rattle.rgo_run.specs.Headline.{Headline};
 
-use crate::commands::{limit_of, perform};
-use crate::endings::Ending;
+use crate::commands::{kind_of, perform};
+use crate::endings::{Ending, TextKind};
+use crate::pipeline::limit_of;
 use crate::report::report;
 use rgo_big::big_source;
 use rgo_command_line::{Command, read_words};
@@ -21,15 +22,15 @@ use std::alloc::Global;
 use std::sync::Wait;
 use std::thread::Threads;
 
-// Why no text was read for the command.
-fn read_ending(command: Command, end: ReadEnd) -> Ending
-    ensures { result ≡ read_error command end }
+// Why no text of this kind was read.
+fn read_ending(kind: TextKind, end: ReadEnd) -> Ending
+    ensures { result ≡ read_error kind end }
 {
     match end {
         ReadEnd::Fault => Ending::ReadFault,
-        ReadEnd::TooLong => match command {
-            Command::Code => Ending::CodeTooLong,
-            _ => Ending::TooLong,
+        ReadEnd::TooLong => match kind {
+            TextKind::Go => Ending::TooLong,
+            TextKind::Code => Ending::CodeTooLong,
         },
         ReadEnd::NoMemory => Ending::NoMemory,
     }
@@ -53,9 +54,9 @@ fn read<S: Source>(
     let command = read_words(alloc, words)?;
     match command {
         Command::Big(n) => Ok((command, big_source(alloc, n)?)),
-        _ => match read_all(alloc, source, limit_of(command)) {
+        _ => match read_all(alloc, source, limit_of(kind_of(command))) {
             Ok(text) => Ok((command, text)),
-            Err(end) => Err(read_ending(command, end)),
+            Err(end) => Err(read_ending(kind_of(command), end)),
         },
     }
 }
@@ -63,12 +64,13 @@ fn read<S: Source>(
 /// All that the program does: reads the words and the text, checks it, runs it or prints its code, and
 /// returns the status.
 ///
-/// The words are the program's name, which is ignored, and `check`, `emit`, `code`, or `run` with its
-/// options `--steps N`, `--goroutines N`, `--pages N`, `--page-words N`, `--regions N`, `--workers N` and
+/// The words are the program's name, which is ignored, and `check`, `emit`, `code`, or `run` or `runcode` with
+/// the options `--steps N`, `--goroutines N`, `--pages N`, `--page-words N`, `--regions N`, `--workers N` and
 /// `--stats`, followed by nothing or a `--`; or `big` and a number, as `read_words` says. The text is what
 /// the source has left, at most 1,048,576 bytes. `run` writes its print to `out`; `emit`
 /// writes the text of the code with regions; `check` leaves `out` as it was. `code` reads such a text of
-/// code, at most 67,108,864 bytes, checks it, and leaves `out` as it was. `big N` leaves the source as
+/// code, at most 67,108,864 bytes, checks it, and leaves `out` as it was. `runcode` reads and checks a code
+/// text as `code` does, and runs its code as `run` runs that of a program. `big N` leaves the source as
 /// it was, and does what `run` without options does with the large text of `rgo_big` that starts `N`
 /// goroutines. At most one line is written to `err`, and before it, with `--stats`, one that counts what
 /// the run has made. After a failed write nothing more is written to that sink.
@@ -83,8 +85,8 @@ fn read<S: Source>(
 /// | status | where |
 /// |---|---|
 /// | 0 | `main` returned; for `check` and `emit` the text is a valid program; for `code` the code keeps all rules |
-/// | 1 | the text is too long, or breaks a rule: `err` says which, and at which line and column |
-/// | 2 | a goroutine trapped: `err` says why, and at which line and column |
+/// | 1 | the text is too long, or breaks a rule: `err` says which, and at which line and column; for a code text, at which line |
+/// | 2 | a goroutine trapped: `err` says why, and at which line and column; for a code text, at which of its places |
 /// | 3 | no goroutine can step, alone or with another, and `main` has not returned |
 /// | 4 | a page is wanted, and all that `--pages` allows are in use |
 /// | 5 | as many regions are live as `--regions` allows, and one more is to be created |

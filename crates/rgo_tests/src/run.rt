@@ -2,6 +2,7 @@
 
 mod broken_texts;
 mod calls;
+mod codes;
 mod emitting;
 mod ends;
 mod examples;
@@ -93,6 +94,12 @@ fn code_is_emitted(rt: HostRuntime) -> Result<(), Fail> {
 #[test]
 fn code_texts_are_checked(rt: HostRuntime) -> Result<(), Fail> {
     are_called(&rt, "", emitting::CHECKED, "")
+}
+
+#[test]
+fn code_texts_are_run(rt: HostRuntime) -> Result<(), Fail> {
+    are_called(&rt, "", codes::RUN, "")?;
+    are_called(&rt, "", codes::REFUSED, "")
 }
 
 #[test]

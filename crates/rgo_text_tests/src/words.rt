@@ -1,7 +1,7 @@
 //! Command lines with the commands that they ask for. A `|` separates two words.
 //!
-//! A line of a table has a command, a `:`, and the command line. Of `run` it has the steps, the goroutines, the pages, the
-//! words of a page, the regions, the workers, and whether it has `--stats`. Lines that begin with `#` are remarks.
+//! A line of a table has a command, a `:`, and the command line. Of `run` and `runcode` it has the steps, the goroutines, the
+//! pages, the words of a page, the regions, the workers, and whether it has `--stats`. Lines that begin with `#` are remarks.
 
 use crate::checks::same;
 use crate::lines::words_of;
@@ -10,7 +10,7 @@ use std::alloc::{AllocError, Global};
 use std::process::Abort;
 use std::test::Fail;
 
-fn shown_options(alloc: Global, options: RunOptions) -> Result<String, AllocError> {
+fn shown_options(alloc: Global, name: &str, options: RunOptions) -> Result<String, AllocError> {
     let RunOptions {
         limits,
         sizes,
@@ -18,7 +18,7 @@ fn shown_options(alloc: Global, options: RunOptions) -> Result<String, AllocErro
         stats,
     } = options;
     format!(in alloc;
-        "run {} {} {} {} {} {workers} {stats}",
+        "{name} {} {} {} {} {} {workers} {stats}",
         limits.steps, limits.goroutines, sizes.pages, sizes.page_words, sizes.regions
     )
 }
@@ -26,7 +26,8 @@ fn shown_options(alloc: Global, options: RunOptions) -> Result<String, AllocErro
 /// A command as the tables write it.
 fn shown(alloc: Global, found: Result<Command, WordsError>) -> Result<String, AllocError> {
     match found {
-        Ok(Command::Run(options)) => shown_options(alloc, options),
+        Ok(Command::Run(options)) => shown_options(alloc, "run", options),
+        Ok(Command::RunCode(options)) => shown_options(alloc, "runcode", options),
         Ok(Command::Big(number)) => format!(in alloc; "big {number}"),
         Ok(Command::Check) => String::from_str(alloc, "check"),
         Ok(Command::Emit) => String::from_str(alloc, "emit"),
@@ -185,6 +186,16 @@ big 10000: rgo|big|--|10000
 big 7: rgo|big|007
 big 10: rgo|big|--|0010
 big 10000: rgo|big|0010000|--
+# `runcode` has the options of `run`.
+runcode 4398046511104 100000 4096 256 65536 4 false: rgo|runcode
+runcode 4398046511104 100000 4096 256 65536 4 false: rgo|runcode|--
+runcode 4398046511104 100000 4096 256 65536 4 false: |runcode
+runcode 4398046511104 100000 4096 256 65536 4 false: run|runcode
+runcode 5 100000 4096 256 65536 4 false: rgo|runcode|--steps|5
+runcode 4398046511104 5 4096 256 65536 4 false: rgo|runcode|--goroutines=5
+runcode 4398046511104 100000 4096 256 65536 4 true: rgo|runcode|--stats
+runcode 1 2 5 32 7 9 true: rgo|runcode|--workers|9|--stats|--pages=5|--regions=7|--page-words|32|--goroutines=2|--steps|1|--
+runcode 4398046511104 100000 65536 256 65536 64 false: rgo|runcode|--pages=65536|--page-words=256|--workers=0064
 big 9: rgo|big|00000000000000000000000000000000000000009
 ";
 
@@ -528,6 +539,34 @@ usage: rgo|--big|5
 usage: rgo|--big=5
 usage: rgo|big=5
 usage: rgo|big5
+# `runcode`: other names, options out of their ranges or twice, and further words.
+usage: rgo|runcod
+usage: rgo|runcodes
+usage: rgo|run-code
+usage: rgo|run|code
+usage: rgo|code|run
+usage: rgo|Runcode
+usage: rgo|--runcode
+usage: rgo|runcode|
+usage: rgo|runcode|x
+usage: rgo|runcode|5
+usage: rgo|runcode|runcode
+usage: rgo|runcode|--|x
+usage: rgo|runcode|--help
+usage: rgo|runcode|--steps
+usage: rgo|runcode|--steps|0
+usage: rgo|runcode|--steps=4398046511105
+usage: rgo|runcode|--goroutines=1000001
+usage: rgo|runcode|--pages=0
+usage: rgo|runcode|--page-words=15
+usage: rgo|runcode|--regions=65537
+usage: rgo|runcode|--workers=65
+usage: rgo|runcode|--workers|+4
+usage: rgo|runcode|--pages=65536|--page-words=257
+usage: rgo|runcode|--stats=true
+usage: rgo|runcode|--stats|--stats
+usage: rgo|runcode|--steps=5|--steps|5
+usage: rgo|--steps=5|runcode
 ";
 
 fn asks<R: Abort + AllocGlobal>(rt: &R, row: &str) -> Result<(), Fail> {

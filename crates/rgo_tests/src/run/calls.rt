@@ -94,19 +94,33 @@ fn expect_of_words<R: Threads + Wait + Abort + AllocGlobal + Sync>(
 /// The numbers of workers with which a run is called that names none, as words.
 static WORKERS: [&str; 4] = [" --workers 1", " --workers 2", " --workers 7", ""];
 
-/// Calls a run with each number of workers.
+/// Calls a command that runs something with each number of workers.
 fn expect_of_workers<R: Threads + Wait + Abort + AllocGlobal + Sync>(
     rt: &R,
+    command: &str,
     options: &str,
     text: &[u8],
     outside: Outside,
     wanted: Wanted<'_>,
 ) -> Result<(), AllocError> {
     for workers in &WORKERS {
-        let words = format!(in rt.alloc(); "rgo run{workers}{options}")?;
+        let words = format!(in rt.alloc(); "rgo {command}{workers}{options}")?;
         expect_of_words(rt, &words, text, outside, wanted)?;
     }
     Ok(())
+}
+
+/// The command of a line that runs something, and the rest of the line.
+fn run_in(words: &str) -> Option<(&str, &str)> {
+    for command in ["runcode", "run"] {
+        if let Some(options) = words
+            .strip_prefix("rgo ")
+            .and_then(|w| w.strip_prefix(command))
+        {
+            return Some((command, options));
+        }
+    }
+    None
 }
 
 /// Calls `rgo` with a text, and compares what is printed and reported, and the status. A run that names no number of
@@ -118,12 +132,25 @@ pub(super) fn expect<R: Threads + Wait + Abort + AllocGlobal + Sync>(
     outside: Outside,
     wanted: Wanted<'_>,
 ) -> Result<(), AllocError> {
-    match words.strip_prefix("rgo run") {
-        Some(options) if !options.contains("--workers") => {
-            expect_of_workers(rt, options, text, outside, wanted)
+    match run_in(words) {
+        Some((command, options)) if !options.contains("--workers") => {
+            expect_of_workers(rt, command, options, text, outside, wanted)
         }
         _ => expect_of_words(rt, words, text, outside, wanted),
     }
+}
+
+/// The code text of a program, as `emit` writes it.
+pub(super) fn emitted<R: Threads + Wait + AllocGlobal + Sync>(
+    rt: &R,
+    text: &[u8],
+) -> Result<Vec<u8>, AllocError> {
+    let alloc = rt.alloc();
+    let mut source = MemSource::new(text.to_vec(alloc)?, 1000, Vec::new(alloc));
+    let mut out = sink(alloc, 0)?;
+    let mut err = sink(alloc, 0)?;
+    let _ = status_of(rt, "rgo emit", &mut source, &mut out, &mut err, &NoGate)?;
+    out.bytes().to_vec(alloc)
 }
 
 /// The status of a run of a text, and the number of bytes that it prints.

@@ -10,9 +10,9 @@ use std::test::Fail;
 use std::thread::Threads;
 
 const USAGE: &str =
-    "usage: rgo run [--steps N] [--pages N] [--page-words N] [--regions N] [--goroutines N] [--workers N] [--stats] | check | emit | code | big N\n";
+    "usage: rgo run [--steps N] [--pages N] [--page-words N] [--regions N] [--goroutines N] [--workers N] [--stats] | check | emit | code | big N | runcode [--steps N] [--pages N] [--page-words N] [--regions N] [--goroutines N] [--workers N] [--stats]\n";
 
-static OTHER_WORDS: [&str; 12] = [
+static OTHER_WORDS: [&str; 15] = [
     "rgo",
     "rgo big 0",
     "rgo help",
@@ -25,6 +25,9 @@ static OTHER_WORDS: [&str; 12] = [
     "rgo run ",
     "rgo run run",
     "rgo  run",
+    "rgo run code",
+    "rgo runcode --steps 0",
+    "rgo runcode code",
 ];
 
 /// Calls `rgo` over a source that it shall not read, and compares what is printed and reported, and the status.

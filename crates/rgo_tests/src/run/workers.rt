@@ -1,6 +1,6 @@
 //! Runs on several workers: that they run beside one another, and the large text.
 
-use super::calls::{SOUND, expect, status_of, with_head};
+use super::calls::{SOUND, emitted, expect, status_of, with_head};
 use super::running::ECHO;
 use crate::checks::same;
 use rgo_big::big_source;
@@ -78,5 +78,13 @@ fn the_large_text_runs_on_any_number_of_workers(rt: HostRuntime) -> Result<(), F
             expect(&rt, words, &text, SOUND, (print, "", 0))?;
         }
     }
+    Ok(())
+}
+
+#[test]
+fn the_code_of_the_large_text_does_what_the_text_does(rt: HostRuntime) -> Result<(), Fail> {
+    let text = big_source(rt.alloc(), 100)?;
+    let code = emitted(&rt, &text)?;
+    expect(&rt, "rgo runcode", &code, SOUND, ("100 1650\n", "", 0))?;
     Ok(())
 }

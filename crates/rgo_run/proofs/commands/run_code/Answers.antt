@@ -15,7 +15,7 @@ run_with_workers-world-requires-clause-begins g c κs within = record {
 }
 
 pub returns-in-Ok-clause-performs : goal.returns-in-Ok-clause-performs
-returns-in-Ok-clause-performs g c = λ text is_code.
+returns-in-Ok-clause-performs g c = λ text what is_what is_code.
     let code = c.args.code.now in
     let options = c.args.options in
     let start = tac_start (erased code) in
@@ -38,5 +38,5 @@ returns-in-Ok-clause-performs g c = λ text is_code.
     let tallied = region_run code options.sizes world went.before went.runs.state end options.stats c.stats_of.result
     (call.ensures.fixed ∙ (λ i. (starts.code_is i, starts.sizes_are i))) went.whole went.ended
     (c.stats_of.ensures went.ended.reaches.state went.ended.shown) in
-    ran options text code end c.stats_of.result _ is_code went.runs tallied.0 tallied.1
+    ran c.args.kind options text what code end c.stats_of.result _ is_what is_code went.runs tallied.0 tallied.1
     (λ e. record { counted = call.ensures.fault e; broken = call.ensures.broken e }) call.ensures.kept

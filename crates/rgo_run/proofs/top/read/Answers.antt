@@ -17,8 +17,8 @@ returns-in-Err-clause-err g c =
     let end = c.in-Err in
     let source = source_use (g.S.Source.left c.args.source.now) (g.S.Source.faults c.args.source.now)
     (g.S.Source.faults c.read_all.new.source) in
-    rw c.read_ending.ensures
+    rw (c.read_ending.ensures, c.kind_of-in-Err.ensures)
     (no_text c.in_ok-command.command (map string_bytes c.args.words.now) source (g.S.Source.left c.read_all.new.source)
     end.end c.in_ok-command.ensures.asked (λ n is. c.in_default.not-Big n is) (λ e. end.ensures.fault (ap Err e))
-    (λ e. (end.ensures.kept_too_long (ap Err e), rw c.limit_of.ensures at (end.ensures.too_long (ap Err e))))
+    (λ e. (end.ensures.kept_too_long (ap Err e), rw (c.limit_of.ensures, c.kind_of.ensures) at (end.ensures.too_long (ap Err e))))
     (λ e. ap g.S.Source.faults (end.ensures.no_memory (ap Err e))))
