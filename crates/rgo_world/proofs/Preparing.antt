@@ -21,6 +21,7 @@ use Rattle.rgo_code.specs.Erasure.{erased_op}
 use Rattle.rgo_code.specs.Lists.{creates_in, passes_of, protects_of}
 use Rattle.rgo_region_machine.specs.Owed.{current, current_in, duties_before, duties_of_op, next_duties}
 use Rattle.rgo_region_machine.specs.Owed.{regions_named}
+use Rattle.rgo_region_machine.specs.Room.{live_regions}
 use Rattle.rgo_region_machine.specs.States as spec
 use Rattle.rgo_region_machine.specs.States.{Create, Duty, Protect, RegionState, Share, frames_in, frames_of}
 use Rattle.rgo_sound.proofs.Places.{get_some}

@@ -14,7 +14,7 @@ use Rattle.rgo_code.specs.Code.{CodeInstr, CodeFn, Code}
 use Rattle.rgo_code.specs.Lists.{creates_in, removes_in, otherwise_in}
 use Rattle.rgo_code.specs.NameRules.{Ascends}
 use Rattle.rgo_code.specs.Names.{region_parameters}
-use Rattle.rgo_region_machine.specs.Counts.{Counts, counts_of}
+use Rattle.rgo_region_machine.specs.Counts.{Counts}
 use Rattle.rgo_region_machine.specs.Machine.{Event, TakePage, plain_step, region_step}
 use Rattle.rgo_region_machine.specs.declared.regions.Region.TheVariants.{Numbered}
 use Rattle.rgo_region_machine.specs.Objects.{fill_of}

@@ -1,4 +1,4 @@
-use Rattle.std.proofs.Common.{arith, refl, sym, ap, ◌∙◌, subst}
+use Rattle.std.proofs.Common.{arith, refl, sym, ap, ◌∙◌}
 use Rattle.rgo_region_machine.specs.Objects.{fits}
 use Rattle.rgo_world.proofs.Rooms.{has_room_now, has_room_then, never_none, no_page_large_enough, no_page_left}
 use Rattle.rgo_world.proofs.worlds.World.make_room.Goals as goal
