@@ -16,7 +16,7 @@ use Rattle.rgo_run.specs.declared.endings.Ending.TheVariants.{Valid, Ran, Usage,
 use Rattle.rgo_run.specs.declared.endings.Ending.TheVariants.{WriteFault, NoMemory}
 use Rattle.rgo_command_line.specs.declared.commands.Command.{Command}
 use Rattle.rgo_command_line.specs.declared.commands.Command.TheVariants.{Run, Check, Emit, Code, Big, RunCode}
-use Rattle.rgo_run.specs.Calls.{Call, Asks, IsRun, IsEmit, AsksRun, SinkUse, SourceHeld, Failed, Held, Grew}
+use Rattle.rgo_run.specs.Calls.{Call, Asks, IsRun, IsEmit, SinkUse, SourceHeld, Failed, Held, Grew}
 use Rattle.rgo_run.specs.Calls.{IsUntouched, kind_of, run_of}
 use Rattle.rgo_run.specs.Compiled.{Emits, IsCodeText, WritesCode}
 use Rattle.rgo_run.specs.Endings.{status_of, status_of_run, is_fault_status, line_of}

@@ -18,3 +18,14 @@ returns-in_err-check_code-clause-err c =
       written = c.in_ok-code.ensures.1;
       text_is = c.in_ok-code.ensures.0;
     }) c.in_err-check_code.ensures)
+
+pub returns-clause-ok : goal.returns-clause-ok
+returns-clause-ok c = rw c.new.ensures (record {
+  is_text = record {
+    within = omega (arith, c.if-text-gt-CODE_LIMIT.false);
+    written = c.in_ok-code.ensures.1;
+    text_is = c.in_ok-code.ensures.0;
+  };
+  checked = c.in_ok-check_code.ensures;
+  ascends = c.ascends.ensures;
+})

@@ -1,0 +1,9 @@
+use Rattle.std.proofs.Common.{refl}
+use Rattle.rgo_run.specs.Runs.{of_code}
+use Rattle.rgo_run.proofs.commands.run_code_text.Goals as goal
+
+pub returns-in-Ok-clause-performs : goal.returns-in-Ok-clause-performs
+returns-in-Ok-clause-performs g c =
+    let is = c.in-Ok.ensures.ok in
+    c.run_code.ensures.performs c.args.text.now (of_code c.in-Ok.code) (refl, is.is_text, is.checked)
+    (refl, is.checked, is.ascends)
