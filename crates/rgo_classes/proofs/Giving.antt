@@ -1,14 +1,14 @@
 -- Labels are given classes, one member after another.
-use Rattle.std.proofs.Common.{◌≡◌, ◌≢◌, ◌⊎◌, ⊎_elim, ◌↔◌, ℕ, ◌<◌, ◌+◌, false, List, [], ◌∷◌, ◌++◌, Some, length, set, replicate, slice_get, refl, sym, ap, ◌∙◌, subst, arith}
-use Rattle.std.proofs.lemmas.Bool.{cases_Bool, cases_lt, cond-false, cond-true}
+use Rattle.std.proofs.Common.{◌≡◌, ◌≢◌, ◌⊎◌, ⊎_elim, ◌↔◌, ℕ, ◌<◌, ◌≤◌, ◌+◌, false, List, [], ◌∷◌, ◌++◌, Some, length, set, replicate, slice_get, refl, sym, ap, ◌∙◌, subst, arith}
+use Rattle.std.proofs.lemmas.Bool.{cases_Bool, cases_lt, cond-false, cond-true, false≢true}
 use Rattle.std.proofs.lemmas.List.{get_or-replicate, get_or-set_other, get_or-set_same, get_or_past, length-replicate, length_push}
-use Rattle.std.proofs.lemmas.Option.{none-some, slice_get_within}
+use Rattle.std.proofs.lemmas.Option.{none-some, slice_get_past, slice_get_within}
 use Rattle.rgo_tac.specs.declared.regions.Class.{Class}
 use Rattle.rgo_tac.specs.declared.regions.Class.TheVariants as class
 use Rattle.rgo_tac.specs.declared.regions.Member.{Member}
-use Rattle.rgo_tac.specs.declared.regions.Member.TheVariants.{Global}
+use Rattle.rgo_tac.specs.declared.regions.Member.TheVariants.{Global, Variable}
 use Rattle.rgo_tac.specs.Code.{TacFn}
-use Rattle.rgo_tac.specs.Joins.{is_pointer_like_in}
+use Rattle.rgo_tac.specs.Joins.{is_pointer_like_in, is_pointer_like_type}
 use Rattle.rgo_classes.specs.Classes.{AreNumbered}
 use Rattle.rgo_classes.specs.Joins.{IsPointerLike}
 use Rattle.rgo_classes.specs.Labels.{label_of}
@@ -236,3 +236,13 @@ module _ (labels : List ℕ) (f : TacFn) (members : List Member) (classes given 
       (naming_kept c (k.class_is ∙ sym (class_yes given labels f m like)) (λ l. k.some)))
       (λ g. rw (g.given_is, g.next_is, g.class_is) (naming_new like inside g.none))
       h
+
+-- a variable that the function does not have has no class
+pub naming_past : (labels : List ℕ) (f : TacFn) (members : List Member) (classes given : List Class) (next v : ℕ)
+    → length f.variables ≤ v → Naming labels f members classes given next
+    → Naming labels f (members ++ Variable v ∷ []) (classes ++ class.NoClass ∷ []) given next
+naming_past labels f members classes given next v past n =
+    let plain : is_pointer_like_in f (Variable v) ≡ false =
+    ap is_pointer_like_type (slice_get_past f.variables v past) in
+    naming_kept labels f members classes given next n (Variable v) class.NoClass
+    (sym (class_no given labels f (Variable v) plain)) (λ like. absurd (false≢true (sym plain ∙ like)))

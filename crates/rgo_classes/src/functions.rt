@@ -14,7 +14,7 @@ use std::alloc::{AllocError, Global};
 ///
 /// # Errors
 ///
-/// On allocation failure, and if the function's variables are too many to have numbers of 32 bits.
+/// On allocation failure.
 pub fn classes_of(
     alloc: Global,
     function: &TacFn,

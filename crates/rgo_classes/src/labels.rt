@@ -12,9 +12,9 @@ use std::marker::Model;
 /// A label for each member of a function.
 #[derive(Drop)]
 pub struct Labels {
-    labels: Vec<u32>,
+    labels: Vec<usize>,
     /// The members of each label, by their places in `labels`.
-    members: Vec<Vec<u32>>,
+    members: Vec<Vec<usize>>,
 }
 
 impl Model for Labels {
@@ -40,17 +40,13 @@ fn number_of(member: Member) -> usize
 }
 
 /// How many members a function has.
-fn count_members(function: &TacFn) -> Result<u32, AllocError>
-    ensures { IfOk result (λ n. n ≡ length function.now.variables + 2) }
+fn count_members(function: &TacFn) -> usize
+    ensures { result ≡ length function.now.variables + 2 }
 {
-    let variables = function.variables().len();
-    if variables > 4294967293 {
-        return Err(AllocError);
-    }
-    Ok(variables as u32 + 2)
+    function.variable_count() as usize + 2
 }
 
-fn own_labels(alloc: Global, count: u32) -> Result<Vec<u32>, AllocError>
+fn own_labels(alloc: Global, count: usize) -> Result<Vec<usize>, AllocError>
     ensures len { IfOk result (λ labels. vec_len labels ≡ count) }
     ensures own { IfOk result (λ labels. (m : ℕ) → m < count → slice_index labels.items m ≡ m) }
 {
@@ -61,7 +57,7 @@ fn own_labels(alloc: Global, count: u32) -> Result<Vec<u32>, AllocError>
     Ok(labels)
 }
 
-fn own_row(alloc: Global, member: u32) -> Result<Vec<u32>, AllocError>
+fn own_row(alloc: Global, member: usize) -> Result<Vec<usize>, AllocError>
     ensures { IfOk result (λ row. row.items ≡ member ∷ []) }
 {
     let mut row = Vec::new(alloc);
@@ -69,7 +65,7 @@ fn own_row(alloc: Global, member: u32) -> Result<Vec<u32>, AllocError>
     Ok(row)
 }
 
-fn own_rows(alloc: Global, count: u32) -> Result<Vec<Vec<u32>>, AllocError>
+fn own_rows(alloc: Global, count: usize) -> Result<Vec<Vec<usize>>, AllocError>
     ensures len { IfOk result (λ rows. vec_len rows ≡ count) }
     ensures own { IfOk result (λ rows. (m : ℕ) → m < count → row_at (rows_of rows.items) m ≡ m ∷ []) }
 {
@@ -81,12 +77,12 @@ fn own_rows(alloc: Global, count: u32) -> Result<Vec<Vec<u32>>, AllocError>
 }
 
 /// Gives members a label.
-fn relabel(labels: &mut [u32], members: &[u32], label: u32)
+fn relabel(labels: &mut [usize], members: &[usize], label: usize)
     requires inside { (m : ℕ) → Contains members.now m → m < length labels.old }
     ensures relabels { Relabels labels.old labels.new members.now label }
 {
     for m in members {
-        labels[*m as usize] = label;
+        labels[*m] = label;
     }
 }
 
@@ -97,10 +93,10 @@ fn relabel(labels: &mut [u32], members: &[u32], label: u32)
 /// On allocation failure.
 pub fn merge(
     alloc: Global,
-    labels: &mut [u32],
-    rows: &mut [Vec<u32>],
-    from: u32,
-    to: u32,
+    labels: &mut [usize],
+    rows: &mut [Vec<usize>],
+    from: usize,
+    to: usize,
 ) -> Result<(), AllocError>
     requires from { from < length rows.old }
     requires to { to < length rows.old }
@@ -111,9 +107,9 @@ pub fn merge(
     ensures merged { OnOk result (MovesTo labels.old labels.new from to) }
     ensures rows { AreRows labels.new (rows_of rows.new) }
 {
-    let moved = Vec::from_slice(alloc, &rows[from as usize])?;
-    rows[to as usize].extend_from_slice(&moved)?;
-    rows[from as usize].clear();
+    let moved = Vec::from_slice(alloc, &rows[from])?;
+    rows[to].extend_from_slice(&moved)?;
+    rows[from].clear();
     relabel(labels, &moved, to);
     Ok(())
 }
@@ -122,8 +118,8 @@ pub fn merge(
 /// Joins the classes of two members.
 fn join_numbers(
     alloc: Global,
-    labels: &mut [u32],
-    rows: &mut [Vec<u32>],
+    labels: &mut [usize],
+    rows: &mut [Vec<usize>],
     a: usize,
     b: usize,
 ) -> Result<(), AllocError>
@@ -139,7 +135,7 @@ fn join_numbers(
     if from == to {
         return Ok(());
     }
-    if rows[from as usize].len() <= rows[to as usize].len() {
+    if rows[from].len() <= rows[to].len() {
         merge(alloc, labels, rows, from, to)
     } else {
         merge(alloc, labels, rows, to, from)
@@ -151,19 +147,19 @@ impl Labels {
     ///
     /// # Errors
     ///
-    /// On allocation failure, and if the function's variables are too many to have numbers of 32 bits.
+    /// On allocation failure.
     pub fn new(alloc: Global, function: &TacFn) -> Result<Labels, AllocError>
         ensures fits { IfOk result (AreFor function.now) }
         ensures apart { IfOk result (AreLabels NoJoins) }
     {
-        let count = count_members(function)?;
+        let count = count_members(function);
         let labels = own_labels(alloc, count)?;
         let members = own_rows(alloc, count)?;
         Ok(Labels { labels, members })
     }
 
     /// These labels. Row l has the members of label l, by their places in `labels`.
-    pub fn of(labels: Vec<u32>, rows: Vec<Vec<u32>>) -> Labels
+    pub fn of(labels: Vec<usize>, rows: Vec<Vec<usize>>) -> Labels
         requires { AreRows labels.items (rows_of rows.items) }
         ensures { result ≡ labels.items }
     {
@@ -200,7 +196,7 @@ impl Labels {
         )
     }
 
-    pub fn label(&self, member: Member) -> u32
+    pub fn label(&self, member: Member) -> usize
         requires { IsIn self.now member }
         ensures label { result ≡ label_of self.now member }
         ensures below { result < length self.now }

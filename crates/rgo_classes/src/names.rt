@@ -1,6 +1,6 @@
 //! Names of classes, in the order of their first members.
 
-ghost use Rattle.std.specs.Prelude.{◌≡◌, ◌⊎◌, ◌<◌, ◌≤◌, ◌+◌, ◌^◌, ◌++◌, ◌∷◌, [], List, length, vec_len, set, replicate, IfOk, OnOk};
+ghost use Rattle.std.specs.Prelude.{◌≡◌, ◌⊎◌, ◌<◌, ◌≤◌, ◌+◌, ◌^◌, ◌++◌, ◌∷◌, [], ℕ, List, length, vec_len, set, replicate, IfOk, OnOk};
 ghost use Rattle.rgo_tac.specs.declared.regions.Class.{Class as AnyClass};
 ghost use Rattle.rgo_tac.specs.declared.regions.Class.TheVariants as class;
 ghost use Rattle.rgo_tac.specs.declared.regions.Member.{Member as AnyMember};
@@ -16,7 +16,7 @@ use rgo_typed::Row;
 use std::alloc::{AllocError, Global};
 
 /// The class of a label, which is given the next name if it has none.
-fn class_of(given: &mut [Class], next: &mut u32, label: u32) -> Class
+fn class_of(given: &mut [Class], next: &mut u32, label: usize) -> Class
     requires label { label < length given.old }
     requires next { next.old + 1 < 2 ^ 32 }
     ensures len { length given.new ≡ length given.old }
@@ -24,10 +24,10 @@ fn class_of(given: &mut [Class], next: &mut u32, label: u32) -> Class
     ensures class { Knows given.old next.old label given.new next.new result
         ⊎ Gives given.old next.old label given.new next.new result }
 {
-    match given[label as usize] {
+    match given[label] {
         Class::NoClass => {
             let class = Class::Name(*next);
-            given[label as usize] = class;
+            given[label] = class;
             *next += 1;
             class
         }
@@ -93,27 +93,50 @@ fn only_global(alloc: Global, labels: &Labels) -> Result<Vec<Class>, AllocError>
     ensures below { OnOk result (label_of labels.now member.Global < length labels.now) }
 {
     let mut given = vec![in alloc; Class::NoClass; labels.len()]?;
-    given[labels.label(Member::Global) as usize] = Class::Global;
+    given[labels.label(Member::Global)] = Class::Global;
     Ok(given)
 }
 
-/// The classes of the first variables and of the result.
+/// Adds the classes of the variables from one number up to another. The function has none of them, so they have no class.
+fn add_missing(
+    function: &TacFn,
+    classes: &mut Vec<Class>,
+    from: usize,
+    to: usize,
+) -> Result<(), AllocError>
+    requires order { from ≤ to }
+    requires past { from < to → length function.now.variables ≤ from }
+    ensures { OnOk result ((labels : List ℕ) (given : List AnyClass) (next : ℕ)
+        → Naming labels function.now (variables_before from []) classes.old.items given next
+        → Naming labels function.now (variables_before to []) classes.new.items given next) }
+{
+    for v in from..to {
+        classes.push(Class::NoClass)?;
+    }
+    Ok(())
+}
+
+/// The classes of the first variables and of the result. The variables below `inside` are those that the function has.
 fn name_outer(
     alloc: Global,
     function: &TacFn,
     labels: &Labels,
     given: &mut [Class],
-    count: u32,
+    inside: u32,
+    count: usize,
 ) -> Result<Classes, AllocError>
     requires fits { AreFor function.now labels.now }
     requires size { length given.old ≡ length labels.now }
-    requires count { count + 1 < 2 ^ 32 }
+    requires few { inside + 1 < 2 ^ 32 }
+    requires order { inside ≤ count }
+    requires past { inside < count → length function.now.variables ≤ inside }
     requires none { Naming labels.now function.now [] [] given.old 0 }
     ensures { IfOk result (λ c. AreNamed (AreLike labels.now) function.now
         (variables_before count (member.Result ∷ [])) (c.variables ++ c.result ∷ [])) }
 {
     let mut next = 0;
-    let variables = name_variables(alloc, function, labels, given, &mut next, count)?;
+    let mut variables = name_variables(alloc, function, labels, given, &mut next, inside)?;
+    add_missing(function, &mut variables, inside as usize, count)?;
     let result = name_member(function, labels, given, &mut next, Member::Result);
     Ok(Classes {
         variables: Row::new(variables),
@@ -121,21 +144,11 @@ fn name_outer(
     })
 }
 
-/// The number, if it is not the greatest of 32 bits.
-fn narrow(n: usize) -> Result<u32, AllocError>
-    ensures { IfOk result (λ m. (m ≡ n) × (m + 1 < 2 ^ 32)) }
-{
-    if n >= 4294967295 {
-        return Err(AllocError);
-    }
-    Ok(n as u32)
-}
-
 /// The classes of the first `count` variables and of the result: one for each label.
 ///
 /// # Errors
 ///
-/// On allocation failure, and if the variables are too many to have numbers of 32 bits.
+/// On allocation failure.
 pub fn name(
     alloc: Global,
     function: &TacFn,
@@ -147,11 +160,6 @@ pub fn name(
         (variables_before count (member.Result ∷ [])) (c.variables ++ c.result ∷ [])) }
 {
     let mut given = only_global(alloc, labels)?;
-    name_outer(
-        alloc,
-        function,
-        labels,
-        given.as_mut_slice(),
-        narrow(count)?,
-    )
+    let inside = count.min(function.variable_count() as usize) as u32;
+    name_outer(alloc, function, labels, given.as_mut_slice(), inside, count)
 }

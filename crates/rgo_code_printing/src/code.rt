@@ -49,7 +49,7 @@ fn print_functions(out: &mut Vec<u8>, code: &Code) -> Result<(), AllocError>
 ///
 /// # Errors
 ///
-/// On allocation failure, which a function with more than 4294967296 variables counts as, too.
+/// On allocation failure.
 #[tactic(auto, unfolding(crate::specs::Text::text_of))]
 pub fn print_code(alloc: Global, code: &Code) -> Result<Vec<u8>, AllocError>
     ensures { IfOk result (λ text. text.items ≡ text_of code.now) }

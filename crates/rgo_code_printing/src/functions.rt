@@ -63,28 +63,18 @@ fn print_variable_line(
     print(out, b"\n")
 }
 
-/// The number, if it has 32 bits.
-fn narrow(n: usize) -> Result<u32, AllocError>
-    ensures { IfOk result (λ m. m ≡ n) }
-{
-    if n > 4294967295 {
-        return Err(AllocError);
-    }
-    Ok(n as u32)
-}
-
 /// The line of the variable of number i.
 fn print_variable_at(
     out: &mut Vec<u8>,
     code: &Code,
     f: &CodeFn<'_>,
-    i: usize,
+    i: u32,
 ) -> Result<(), AllocError>
     ensures { OnOk result (out.new.items ≡ out.old.items
         ++ flat_map line (slot_lines (names_of code.now) (slice_get f.now.variables i))) }
 {
-    match item_at(f.tac().variables(), i) {
-        Some(ty) => print_variable_line(out, code, ty, f.class_of(narrow(i)?)),
+    match item_at(f.tac().variables(), i as usize) {
+        Some(ty) => print_variable_line(out, code, ty, f.class_of(i)),
         None => Ok(()),
     }
 }
@@ -97,7 +87,7 @@ pub(crate) fn print_variables(
     ensures { OnOk result (out.new.items ≡ out.old.items
         ++ flat_map line (map (slot_words (names_of code.now)) f.now.variables)) }
 {
-    for i in 0..f.tac().variables().len() {
+    for i in 0..f.tac().variable_count() {
         print_variable_at(out, code, f, i)?;
     }
     Ok(())

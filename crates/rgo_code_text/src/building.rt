@@ -3,6 +3,7 @@
 ghost use Rattle.std.specs.Prelude.{◌≡◌, ◌++◌, ◌∷◌, [], length, map, drop, All, OnOk, IfOk};
 ghost use Rattle.std.specs.Option.{option_map};
 ghost use Rattle.rgo_code.specs.Views.{slot, code_fn};
+ghost use Rattle.rgo_tac.specs.Views.{body_of};
 ghost use Rattle.rgo_code_text.specs.Building as spec;
 ghost use Rattle.rgo_code_text.specs.Building.{names_now, names_in, declared_in, CountsAre, code_of, numbered};
 ghost use Rattle.rgo_code_text.specs.CodeLines as lines;
@@ -227,6 +228,29 @@ fn add_instr(
     push_op(current, instr, named)
 }
 
+/// A function, if it is not too large.
+fn made(
+    alloc: Global,
+    name: Name,
+    params: usize,
+    result_type: Option<Type>,
+    types: Row<Type>,
+    body: Body,
+) -> Result<TacFn, AllocError>
+    ensures { IfOk result (λ f. f ≡ record {
+      name = name;
+      params = params;
+      result_type = result_type;
+      variables = types;
+      body = body_of body.lists body.pieces body.instrs body.places;
+    }) }
+{
+    match TacFn::new(alloc, name, params, result_type, types, body) {
+        Ok(function) => Ok(function),
+        Err(_) => Err(AllocError),
+    }
+}
+
 /// A function that is complete, and what it says of regions.
 fn completed(alloc: Global, current: Open) -> Result<(TacFn, Regions), AllocError>
     ensures { IfOk result (λ f. code_fn f.0 f.1 ≡ open_of current) }
@@ -251,7 +275,7 @@ fn completed(alloc: Global, current: Open) -> Result<(TacFn, Regions), AllocErro
         lists: Row::new(lists),
         pieces: Row::new(pieces),
     };
-    let function = TacFn::new(alloc, name, params, result_type, Row::new(types), body)?;
+    let function = made(alloc, name, params, result_type, Row::new(types), body)?;
     let regions = Regions {
         classes: Row::new(classes),
         result,

@@ -1,14 +1,13 @@
 -- Ranges that cover what they are to cover.
 use Rattle.std.proofs.Common.{◌≡◌, ◌⊎◌, ⊎_elim, inl, inr, ◌<◌, ◌≤◌, ◌+◌, ◌-◌, max, ℕ, List, [], ◌∷◌, ◌++◌, length, take, get_or, refl, sym, subst, arith}
 use Rattle.std.specs.Prelude.{◌↔◌}
-use Rattle.std.specs.List.{Contains}
 use Rattle.std.proofs.lemmas.List.{take_all}
 use Rattle.std.proofs.lemmas.List.Elements.{Contains-push, Contains-push_cases, Contains-append_left, Contains-get_or}
 use Rattle.rgo_graphs.proofs.Lists.{no_member, take_cases, take_more_left, take_more_here}
 use Rattle.rgo_graphs.specs.Rows.{IsAscending}
 use Rattle.rgo_flow.proofs.Choices.{value_of}
 use Rattle.rgo_flow.specs.declared.ranges.Range.{Range}
-use Rattle.rgo_flow.specs.Ranges.{IsInside, IsCovered, AddsPoints, IsUnwritten, IsStart, IsBetween, ForSome}
+use Rattle.rgo_flow.specs.Ranges.{IsInside, IsCovered, AddsPoints, IsStart, IsBetween, ForSome}
 
 pub not_empty : (at : ℕ) → IsCovered [] at → ⊥
 not_empty at h = no_member h.range h.among

@@ -1,5 +1,5 @@
 -- A variable is live exactly in the ranges that end with its readers, and in those that end with blocks that it leaves.
-use Rattle.std.proofs.Common.{◌≡◌, ◌⊎◌, ⊎_elim, inl, inr, ◌<◌, ◌≤◌, ◌+◌, ℕ, List, [], Vec, vec_len, length, get_or, refl, sym, ap, subst, ◌∙◌, arith}
+use Rattle.std.proofs.Common.{◌≡◌, ◌⊎◌, ⊎_elim, inl, inr, ◌<◌, ◌≤◌, ℕ, List, [], Vec, vec_len, length, get_or, refl, sym, ap, subst, ◌∙◌, arith}
 use Rattle.std.specs.Global.{Global}
 use Rattle.std.specs.List.{Contains}
 use Rattle.std.specs.Prelude.{◌↔◌, nat_eq, Bool, true, false}
@@ -12,8 +12,7 @@ use Rattle.rgo_flow.specs.declared.ranges.Range.{Range}
 use Rattle.rgo_flow.specs.declared.table.Liveness.{Liveness}
 use Rattle.rgo_flow.specs.Ranges.{IsCovered, AddsPoints, IsKeptFor, IsKeptOut, ForSome}
 use Rattle.rgo_flow.specs.Table.{IsLive}
-use Rattle.rgo_flow.specs.Solved.{IsLiveFrom, PassesInto}
-use Rattle.rgo_flow.specs.Uses.{IsRead, IsWritten, IsUnused}
+use Rattle.rgo_flow.specs.Solved.{IsLiveFrom}
 use Rattle.rgo_flow.proofs.Covering.{not_empty}
 use Rattle.rgo_flow.proofs.Choices.{FirstUses, is_read, is_written, is_unused, some_first_use}
 

@@ -128,7 +128,7 @@ pub fn cut(alloc: Global, successors: &[Vec<u32>]) -> Result<Parts, AllocError>
     ensures exits { IfOk result (λ parts.
         AreExits (rows_of successors.now) parts.first.items parts.last.items (rows_of parts.exits.items)) }
 {
-    let before = transposed(alloc, successors, successors.len() as u32)?;
+    let before = transposed(alloc, successors, successors.len())?;
     let joins = joins(alloc, successors, &before)?;
     let first = firsts(alloc, &joins)?;
     let last = lasts(alloc, &joins)?;

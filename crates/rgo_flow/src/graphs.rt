@@ -17,7 +17,7 @@ pub struct Graph {
     pub reads: Vec<Vec<u32>>,
     pub writes: Vec<Vec<u32>>,
     /// The numbers of all variables are below it.
-    pub variables: u32,
+    pub variables: usize,
 }
 
 /// Targets past the last instruction are left out: nothing is read there.
@@ -67,11 +67,10 @@ fn variable_row(alloc: Global, variables: ReadVariables<'_>) -> Result<Vec<u32>,
 }
 
 fn successor_row(alloc: Global, function: &TacFn, at: usize) -> Result<Vec<u32>, AllocError>
-    requires few { length function.now.body < 2 ^ 32 }
     ensures { IfOk result (λ row. (j : ℕ) → Contains row.items j ↔ LeadsInside function.now at j) }
 {
     match function.op(at) {
-        Some(op) => target_row(alloc, leads_to(op, at), function.len()),
+        Some(op) => target_row(alloc, leads_to(op, at), function.instr_count() as usize),
         None => Ok(Vec::new(alloc)),
     }
 }
@@ -125,33 +124,19 @@ fn width(rows: &[Vec<u32>]) -> usize
     width
 }
 
-fn row_count(function: &TacFn) -> Result<usize, AllocError>
-    ensures { IfOk result (λ count. (count ≡ length function.now.body) × (count + 1 < 2 ^ 32)) }
+/// One more than the greatest number of a variable that is read or written.
+fn variable_count(reads: &[Vec<u32>], writes: &[Vec<u32>]) -> usize
+    ensures read { (i x : ℕ) → Relates (rows_of reads.now) i x → x < result }
+    ensures written { (i x : ℕ) → Relates (rows_of writes.now) i x → x < result }
 {
-    let count = function.len();
-    if count >= u32::MAX as usize {
-        return Err(AllocError);
-    }
-    Ok(count)
+    width(reads).max(width(writes))
 }
 
-fn variable_count(reads: &[Vec<u32>], writes: &[Vec<u32>]) -> Result<u32, AllocError>
-    ensures read { IfOk result (λ count. (i x : ℕ) → Relates (rows_of reads.now) i x → x < count) }
-    ensures written { IfOk result (λ count. (i x : ℕ) → Relates (rows_of writes.now) i x → x < count) }
-{
-    let count = width(reads).max(width(writes));
-    if count > u32::MAX as usize {
-        return Err(AllocError);
-    }
-    Ok(count as u32)
-}
-
-/// The graph of a function. Functions of 2³² - 1 instructions or more, or with a variable of such a number, are
-/// refused as if there were no memory for them.
+/// The graph of a function.
 pub fn graph_of(alloc: Global, function: &TacFn) -> Result<Graph, AllocError>
     ensures { IfOk result (λ graph. IsGraphOf function.now graph) }
 {
-    let count = row_count(function)?;
+    let count = function.instr_count() as usize;
     let mut successors: Vec<Vec<u32>> = Vec::new(alloc);
     let mut reads: Vec<Vec<u32>> = Vec::new(alloc);
     let mut writes: Vec<Vec<u32>> = Vec::new(alloc);
@@ -163,7 +148,7 @@ pub fn graph_of(alloc: Global, function: &TacFn) -> Result<Graph, AllocError>
         let row = write_row(alloc, function, at)?;
         writes.push(row)?;
     }
-    let variables = variable_count(&reads, &writes)?;
+    let variables = variable_count(&reads, &writes);
     Ok(Graph {
         successors,
         reads,

@@ -18,9 +18,8 @@ fn live_in(alloc: Global, graph: &Graph) -> Result<Liveness, AllocError>
     requires graph { IsGraph graph.now }
     ensures { IfOk result (λ live. (v i : ℕ) → IsLive live v i ↔ IsLiveIn graph.now v i) }
 {
-    let n = graph.successors.len() as u32;
     let parts = cut(alloc, &graph.successors)?;
-    let before = transposed(alloc, &parts.exits, n)?;
+    let before = transposed(alloc, &parts.exits, graph.successors.len())?;
     let readers = transposed(alloc, &graph.reads, graph.variables)?;
     let writers = transposed(alloc, &graph.writes, graph.variables)?;
     let mut marks = vec![in alloc; 0; parts.first.len()]?;
@@ -48,7 +47,7 @@ fn live_in(alloc: Global, graph: &Graph) -> Result<Liveness, AllocError>
 ///
 /// # Errors
 ///
-/// On allocation failure, and for a function with 2³² - 1 instructions or more, or with a variable of such a number.
+/// On allocation failure.
 pub fn live(alloc: Global, function: &TacFn) -> Result<Liveness, AllocError>
     ensures { IfOk result (λ live. (v at : ℕ) → IsLive live v at ↔ Live function.now v at) }
 {

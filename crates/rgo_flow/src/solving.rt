@@ -63,8 +63,8 @@ fn solve(
     last: &[u32],
     readers: &[u32],
     writers: &[u32],
-    marks: &mut [u32],
-    stamp: u32,
+    marks: &mut [usize],
+    stamp: usize,
 ) -> Result<Vec<u32>, AllocError>
     requires read { IsAscending readers.now }
     requires written { IsAscending writers.now }
@@ -114,9 +114,8 @@ pub fn solve_all(
     last: &[u32],
     readers: &[Vec<u32>],
     writers: &[Vec<u32>],
-    marks: &mut [u32],
+    marks: &mut [usize],
 ) -> Result<Vec<Vec<u32>>, AllocError>
-    requires few { length readers.now < 2 ^ 32 }
     requires written { length writers.now ≡ length readers.now }
     requires read_up { AllAscending (rows_of readers.now) }
     requires written_up { AllAscending (rows_of writers.now) }
@@ -145,7 +144,7 @@ pub fn solve_all(
             &readers[v],
             &writers[v],
             marks,
-            v as u32 + 1,
+            v + 1,
         )?;
         solved.push(row)?;
     }

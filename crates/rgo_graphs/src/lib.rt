@@ -5,4 +5,4 @@ mod reach;
 mod rows;
 
 pub use reach::reached;
-pub use rows::transposed;
+pub use rows::{add_row, empty_rows, transposed};

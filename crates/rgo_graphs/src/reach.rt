@@ -7,7 +7,7 @@ ghost use Rattle.rgo_graphs.specs.Visits.{Bars, Visits};
 
 use std::alloc::{AllocError, Global};
 
-fn visit(found: &mut Vec<u32>, marks: &mut [u32], stamp: u32, p: u32) -> Result<(), AllocError>
+fn visit(found: &mut Vec<u32>, marks: &mut [usize], stamp: usize, p: u32) -> Result<(), AllocError>
     requires inside { p < length marks.old }
     ensures len { length marks.new ≡ length marks.old }
     ensures most { All (λ m. m ≤ stamp) marks.old → All (λ m. m ≤ stamp) marks.new }
@@ -22,8 +22,8 @@ fn visit(found: &mut Vec<u32>, marks: &mut [u32], stamp: u32, p: u32) -> Result<
 
 fn visit_all(
     found: &mut Vec<u32>,
-    marks: &mut [u32],
-    stamp: u32,
+    marks: &mut [usize],
+    stamp: usize,
     these: &[u32],
 ) -> Result<(), AllocError>
     requires inside { (p : ℕ) → Contains these.now p → p < length marks.old }
@@ -40,7 +40,7 @@ fn visit_all(
     Ok(())
 }
 
-fn bar_all(marks: &mut [u32], stamp: u32, these: &[u32])
+fn bar_all(marks: &mut [usize], stamp: usize, these: &[u32])
     requires inside { (p : ℕ) → Contains these.now p → p < length marks.old }
     ensures bars { Bars stamp marks.old marks.new these.now }
 {
@@ -56,8 +56,8 @@ pub fn reached(
     before: &[Vec<u32>],
     seeds: &[u32],
     barriers: &[u32],
-    marks: &mut [u32],
-    stamp: u32,
+    marks: &mut [usize],
+    stamp: usize,
 ) -> Result<Vec<u32>, AllocError>
     requires size { length marks.old ≡ length before.now }
     requires rows { (j p : ℕ) → Relates (rows_of before.now) j p → p < length before.now }

@@ -17,7 +17,8 @@ fn push_at(rows: &mut Vec<Vec<u32>>, at: u32, item: u32) -> Result<(), AllocErro
     Ok(())
 }
 
-fn add_row(rows: &mut Vec<Vec<u32>>, these: &[u32], item: u32) -> Result<(), AllocError>
+/// Adds a number to these rows.
+pub fn add_row(rows: &mut Vec<Vec<u32>>, these: &[u32], item: u32) -> Result<(), AllocError>
     requires inside { (x : ℕ) → Contains these.now x → x < vec_len rows.old }
     ensures len { vec_len rows.new ≡ vec_len rows.old }
     ensures added { OnOk result (Adds (rows_of rows.old.items) (rows_of rows.new.items)
@@ -31,7 +32,8 @@ fn add_row(rows: &mut Vec<Vec<u32>>, these: &[u32], item: u32) -> Result<(), All
     Ok(())
 }
 
-fn empty_rows(alloc: Global, count: u32) -> Result<Vec<Vec<u32>>, AllocError>
+/// So many rows without numbers.
+pub fn empty_rows(alloc: Global, count: usize) -> Result<Vec<Vec<u32>>, AllocError>
     ensures len { IfOk result (λ rows. vec_len rows ≡ count) }
     ensures empty { IfOk result (λ rows. (i x : ℕ) → Relates (rows_of rows.items) i x → ⊥) }
 {
@@ -43,7 +45,11 @@ fn empty_rows(alloc: Global, count: u32) -> Result<Vec<Vec<u32>>, AllocError>
 }
 
 /// The same relation from the other side: row x has i where row i had x, in ascending order.
-pub fn transposed(alloc: Global, rows: &[Vec<u32>], count: u32) -> Result<Vec<Vec<u32>>, AllocError>
+pub fn transposed(
+    alloc: Global,
+    rows: &[Vec<u32>],
+    count: usize,
+) -> Result<Vec<Vec<u32>>, AllocError>
     requires few { length rows.now < 2 ^ 32 }
     requires below { (i x : ℕ) → Relates (rows_of rows.now) i x → x < count }
     ensures len { IfOk result (λ transposed. vec_len transposed ≡ count) }

@@ -55,7 +55,7 @@ fn with_regions(alloc: Global, code: &Tac, regions: Vec<Regions>) -> Result<Code
 ///
 /// # Errors
 ///
-/// On allocation failure, and for a function with 2³² - 1 instructions or variables or more.
+/// On allocation failure.
 pub fn insert(alloc: Global, code: &Tac, summaries: &Summaries) -> Result<Code, AllocError>
     requires typed { IsTypedCode code.now }
     requires family { IsFamily code.now summaries.now.functions }

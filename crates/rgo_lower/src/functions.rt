@@ -2,6 +2,7 @@
 
 ghost use Rattle.std.specs.Prelude.{◌≡◌, ◌<◌, ◌≤◌, ℕ, IfOk, length, get_or};
 ghost use Rattle.rgo_typed.specs.Views.{function_of};
+ghost use Rattle.rgo_tac.specs.Views.{body_of};
 ghost use Rattle.rgo_lower.specs.Lowered.{closing_op};
 ghost use Rattle.rgo_lower.specs.Emitted.{made_of, always, OpIsAdded, Begins, finished, FunctionIsLowered};
 
@@ -9,7 +10,7 @@ use crate::blocks::lower_stmts;
 use crate::builder::Builder;
 use crate::encode::narrow;
 use crate::targets::{instrs_of, places_of};
-use rgo_ast::Place;
+use rgo_ast::{Name, Place};
 use rgo_tac::{Body, TacFn, copy_name, copy_result, copy_types};
 use rgo_typed::{Function, Row, Type};
 use std::alloc::{AllocError, Global};
@@ -56,6 +57,29 @@ fn close(b: &mut Builder, result_type: &Option<Type>, end: Place) -> Result<(), 
     }
 }
 
+/// A function, if it is not too large.
+fn made(
+    alloc: Global,
+    name: Name,
+    params: usize,
+    result_type: Option<Type>,
+    types: Row<Type>,
+    body: Body,
+) -> Result<TacFn, AllocError>
+    ensures { IfOk result (λ f. f ≡ record {
+      name = name;
+      params = params;
+      result_type = result_type;
+      variables = types;
+      body = body_of body.lists body.pieces body.instrs body.places;
+    }) }
+{
+    match TacFn::new(alloc, name, params, result_type, types, body) {
+        Ok(function) => Ok(function),
+        Err(_) => Err(AllocError),
+    }
+}
+
 /// The function with this code.
 fn finish(b: Builder, function: &Function) -> Result<TacFn, AllocError>
     ensures { IfOk result (λ f. f ≡ finished (function_of function.now) (made_of b)) }
@@ -70,7 +94,7 @@ fn finish(b: Builder, function: &Function) -> Result<TacFn, AllocError>
         lists: Row::new(b.lists),
         pieces: Row::new(b.pieces),
     };
-    TacFn::new(
+    made(
         b.alloc,
         name,
         function.params,

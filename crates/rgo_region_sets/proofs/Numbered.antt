@@ -1,20 +1,15 @@
--- The names of spans that are listed by their numbers, and what dies on the way from a branch.
-use Rattle.std.proofs.Common.{◌≡◌, true, false, ◌⊎◌, ⊎_elim, inl, inr, ◌<◌, ◌≤◌, ◌+◌, ℕ, zero, suc, List, [], ◌∷◌, ◌++◌, Option, Some, None, Vec, length, take, get_or, slice_get, refl, sym, ap, subst, ◌∙◌}
+-- What dies on the way from a branch.
+use Rattle.std.proofs.Common.{◌≡◌, true, false, ◌⊎◌, ⊎_elim, inl, inr, ℕ, zero, suc, List, [], ◌∷◌, Option, Some, None, Vec, slice_get, refl, sym, ap, subst}
 use Rattle.std.specs.Prelude.{◌↔◌}
 use Rattle.std.specs.Global.{Global}
 use Rattle.std.specs.List.{Contains}
 use Rattle.std.specs.Option.{is_some}
 use Rattle.std.proofs.lemmas.Bool.{false≢true}
-use Rattle.std.proofs.lemmas.List.{take_all}
-use Rattle.std.proofs.lemmas.List.Elements.{Contains-push, Contains-push_cases, Contains-append_left}
 use Rattle.std.proofs.lemmas.Option.{same_Some, none-some}
 use Rattle.rgo_graphs.specs.Rows.{rows_of, row_at}
-use Rattle.rgo_graphs.proofs.Lists.{no_member, take_cases, take_more_left, take_more_here}
 use Rattle.rgo_code.specs.Code.{CodeFn}
 use Rattle.rgo_code.specs.Erasure.{erased_fn}
-use Rattle.rgo_region_sets.specs.declared.spans.Span.{Span}
 use Rattle.rgo_region_sets.specs.declared.table.LiveNames.{LiveNames}
-use Rattle.rgo_region_sets.specs.Dying.{NamesOf}
 use Rattle.rgo_region_sets.specs.Live.{AreLiveNames, HasDying, IsKnown, IsWay, AddsDying}
 use Rattle.rgo_region_sets.specs.Asked.{AreCandidates, AreRemoved, IsDead, Removes}
 use Rattle.rgo_region_sets.specs.Branches.{branch_at}
@@ -22,65 +17,6 @@ use Rattle.rgo_region_sets.specs.Sets.{IsSet}
 use Rattle.rgo_region_sets.specs.Used.{UsesName}
 use Rattle.rgo_region_sets.proofs.Members.{set_with}
 use Rattle.rgo_region_sets.proofs.Removing.{branch_candidates, other_candidates, removed}
-
-pub no_spans : (spans : List Span) (k : ℕ) → NamesOf spans [] k → ⊥
-no_spans spans k h = no_member h.0 h.1
-
-pub none_added : (spans : List Span) (old : List ℕ) (k : ℕ) → Contains old k ↔ (Contains old k ⊎ NamesOf spans [] k)
-none_added spans old k = (λ h. inl h, λ h. ⊎_elim (λ o. o) (λ s. absurd (no_spans spans k s)) h)
-
--- ---- one number more
-
-module _ (spans : List Span) (numbers : List ℕ) (i d : ℕ) (within : i < length numbers) (old mid : List ℕ)
-    (before : (k : ℕ) → Contains mid k ↔ (Contains old k ⊎ NamesOf spans (take i numbers) k)) where
-  still_named : (k : ℕ) → Contains old k ⊎ NamesOf spans (take i numbers) k
-      → Contains old k ⊎ NamesOf spans (take (i + 1) numbers) k
-  still_named k h = ⊎_elim
-      (λ o. inl o)
-      (λ s. inr (s.0, take_more_left numbers i d s.0 within s.1, s.2, s.3, s.4))
-      h
-
-  pub span_more : (new : List ℕ) (span : Span) → slice_get spans (get_or numbers i d) ≡ Some span
-      → new ≡ mid ++ span.name ∷ []
-      → (k : ℕ) → Contains new k ↔ (Contains old k ⊎ NamesOf spans (take (i + 1) numbers) k)
-  span_more new span there is k = (
-    λ h. ⊎_elim
-        (λ m. still_named k ((before k).0 m))
-        (λ e. inr (get_or numbers i d, take_more_here numbers i d within, span, there, e))
-        (Contains-push_cases mid span.name k (subst (λ l. Contains l k) is h)),
-    λ h. subst (λ l. Contains l k) (sym is) (⊎_elim
-        (λ o. earlier (inl o))
-        (λ s. ⊎_elim
-        (λ t. earlier (inr (s.0, t, s.2, s.3, s.4)))
-        (λ same.
-        let e : s.2 ≡ span = same_Some s.2 span (sym s.3 ∙ ap (slice_get spans) (sym same) ∙ there) in
-        subst (Contains (mid ++ span.name ∷ [])) (ap (λ x. x.name) (sym e) ∙ s.4) (Contains-push mid span.name))
-        (take_cases numbers i d s.0 within s.1))
-        h),
-  )
-    where
-      earlier : Contains old k ⊎ NamesOf spans (take i numbers) k → Contains (mid ++ span.name ∷ []) k
-      earlier h = Contains-append_left mid (span.name ∷ []) k ((before k).1 h)
-
-  pub span_none : slice_get spans (get_or numbers i d) ≡ None
-      → (k : ℕ) → Contains mid k ↔ (Contains old k ⊎ NamesOf spans (take (i + 1) numbers) k)
-  span_none none k = (
-    λ h. still_named k ((before k).0 h),
-    λ h. (before k).1 (⊎_elim
-        (λ o. inl o)
-        (λ s. ⊎_elim
-        (λ t. inr (s.0, t, s.2, s.3, s.4))
-        (λ same. absurd (none-some s.2 (sym none ∙ ap (slice_get spans) same ∙ s.3)))
-        (take_cases numbers i d s.0 within s.1))
-        h),
-  )
-
-pub all_added : (spans : List Span) (numbers old new : List ℕ) (i : ℕ) → length numbers ≤ i
-    → ((k : ℕ) → Contains new k ↔ (Contains old k ⊎ NamesOf spans (take i numbers) k))
-    → (k : ℕ) → Contains new k ↔ (Contains old k ⊎ NamesOf spans numbers k)
-all_added spans numbers old new i past h =
-    subst (λ (l : List ℕ). (k : ℕ) → Contains new k ↔ (Contains old k ⊎ NamesOf spans l k))
-    (take_all i numbers past) h
 
 -- ---- from a branch
 
@@ -102,16 +38,16 @@ module _ (live : LiveNames) (rows : List (List ℕ)) (at next b : ℕ) (old new 
   dying_at = subst (λ n. HasDying live rows n at next) same known.dying
 
   pub row_added : (row : List ℕ) → row_at rows b ≡ row
-      → ((k : ℕ) → Contains new k ↔ (Contains old k ⊎ NamesOf live.spans.items row k)) → AddsDying live old new at next
+      → ((k : ℕ) → Contains new k ↔ (Contains old k ⊎ Contains row k)) → AddsDying live old new at next
   row_added row is adds k =
       let dies = dying_at k in (
         λ h. ⊎_elim
             (λ o. inl o)
-            (λ s. inr (dies.0 (subst (λ (l : List ℕ). NamesOf live.spans.items l k) (sym is) s)))
+            (λ s. inr (dies.0 (subst (λ (l : List ℕ). Contains l k) (sym is) s)))
             ((adds k).0 h),
         λ h. (adds k).1 (⊎_elim
             (λ o. inl o)
-            (λ d. inr (subst (λ (l : List ℕ). NamesOf live.spans.items l k) is (dies.1 d)))
+            (λ d. inr (subst (λ (l : List ℕ). Contains l k) is (dies.1 d)))
             h),
       )
 

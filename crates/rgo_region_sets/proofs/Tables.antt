@@ -1,7 +1,6 @@
 -- The tables of the branches, and of what dies on their ways.
-use Rattle.std.proofs.Common.{◌≡◌, ◌⊎◌, ⊎_elim, ◌<◌, ◌≤◌, ◌+◌, ℕ, zero, suc, Bool, true, false, not, nat_lt, nat_le, Decides, List, [], ◌∷◌, ◌++◌, Some, None, length, get_or, slice_get, refl, sym, ap, subst, ◌∙◌, arith, length-append}
-use Rattle.std.specs.Prelude.{◌↔◌, Vec}
-use Rattle.std.specs.Global.{Global}
+use Rattle.std.proofs.Common.{◌≡◌, ◌⊎◌, ⊎_elim, inl, inr, ◌<◌, ◌≤◌, ◌+◌, ℕ, zero, suc, Bool, true, false, not, nat_lt, nat_le, Decides, List, [], ◌∷◌, ◌++◌, Some, None, length, get_or, slice_get, refl, sym, ap, subst, ◌∙◌, arith, length-append}
+use Rattle.std.specs.Prelude.{◌↔◌}
 use Rattle.std.specs.List.{Contains}
 use Rattle.std.specs.List.Sorted.{IsStrictlyIncreasing, IsPartitionPoint}
 use Rattle.std.proofs.lemmas.Bool.{false≢true}
@@ -9,13 +8,12 @@ use Rattle.std.proofs.lemmas.Bool.Decides.{nat_tests}
 use Rattle.std.proofs.lemmas.List.Elements.{Contains-push, Contains-push_cases, Contains-append_left}
 use Rattle.std.proofs.lemmas.List.Kept.{AllPairs-from_increasing}
 use Rattle.std.proofs.lemmas.Option.{same_Some, none-some, slice_get_within, slice_get-get_or, get_or_from_slice_get}
-use Rattle.rgo_graphs.specs.Rows.{IsAscending, IsTransposed, Relates, row_at, rows_of}
-use Rattle.rgo_graphs.specs.RowsTo.{RowsTo}
+use Rattle.rgo_graphs.specs.Rows.{Adds, IsAscending, Relates}
 use Rattle.rgo_tac.specs.Code.{Instr, TacFn}
 use Rattle.rgo_tac.specs.Ops.{op_in}
 use Rattle.rgo_region_sets.specs.declared.spans.Span.{Span}
 use Rattle.rgo_region_sets.specs.Branches.{ways_in, branch_at, IsListed, AreBranches}
-use Rattle.rgo_region_sets.specs.Dying.{AreInSpan, Dies, DiesAt, NamesOf}
+use Rattle.rgo_region_sets.specs.Dying.{AreInSpan, Dies, DiesAt}
 use Rattle.rgo_region_sets.specs.Sets.{pushed_if}
 use Rattle.rgo_region_sets.specs.Spans.{IsSpanned}
 use Rattle.rgo_region_sets.proofs.Apart.{member_at}
@@ -126,30 +124,48 @@ pub every_branch : (f : TacFn) (points targets others : List ℕ) → AreBranche
     → (at : ℕ) (ways : ℕ × ℕ) → branch_at f at ≡ Some ways → (b : ℕ) × IsListed points targets others b at ways
 every_branch f points targets others all at ways is = all.listed at ways (branch_inside f.body at ways is) is
 
+at_least : (xs : List ℕ) → IsStrictlyIncreasing xs → (i : ℕ) → i < length xs → i ≤ get_or xs i 0
+at_least xs rises zero within = omega arith
+at_least xs rises (suc i) within =
+    let before = at_least xs rises i (omega (arith, within)) in
+    let less = AllPairs-from_increasing xs rises i (suc i) 0 (omega arith) within in
+    omega (arith, before, less)
+
+-- there are no more branches than instructions
+pub few_branches : (f : TacFn) (points targets others : List ℕ) (n : ℕ) → AreBranches f points targets others n
+    → length points ≤ n
+few_branches f points targets others n are = by (length points) refl where
+  by : (m : ℕ) → m ≡ length points → length points ≤ n
+  by zero e = omega (arith, e)
+  by (suc m) e =
+      let within : m < length points = omega (arith, e) in
+      let least = at_least points are.rising m within in
+      let below = are.below m (get_or points m 0) (slice_get-get_or points m 0 within) in
+      omega (arith, e, least, below)
+
 -- ---- what dies on a way
 
-module _ (spans : List Span) (points targets : List ℕ) (rows : List (List ℕ)) (rows_are : (b s : ℕ)
-    → Relates rows b s ↔ DiesAt spans points targets b s) where
+module _ (spans : List Span) (points targets : List ℕ) (rows : List (List ℕ)) (rows_are : (b k : ℕ)
+    → Relates rows b k ↔ DiesAt spans points targets b k) where
   pub dying_names : (b at to : ℕ) → slice_get points b ≡ Some at → slice_get targets b ≡ Some to → (k : ℕ)
-      → NamesOf spans (row_at rows b) k ↔ (IsSpanned spans k at × (IsSpanned spans k to → ⊥))
+      → Relates rows b k ↔ (IsSpanned spans k at × (IsSpanned spans k to → ⊥))
   dying_names b at to point target k = (
     λ h.
-        let dies = (rows_are b h.0).0 h.1 in
-        let same : dies.0 ≡ h.2 = same_Some dies.0 h.2 (sym dies.1 ∙ h.3) in
-        let name : dies.0.name ≡ k = ap (λ (s : Span). s.name) same ∙ h.4 in (
+        let dies = (rows_are b k).0 h in (
           record {
             span = dies.0;
-            among = found spans h.0 dies.0 dies.1;
-            spans = (name, omega (arith, dies.2.from, is_at), omega (arith, dies.2.to, is_at));
+            among = dies.1;
+            spans = (dies.2, omega (arith, dies.3.from, is_at), omega (arith, dies.3.to, is_at));
           },
-          λ lives. dies.2.dead (subst (λ n. IsSpanned spans n (get_or targets b 0)) (sym name)
+          λ lives. dies.3.dead (subst (λ n. IsSpanned spans n (get_or targets b 0)) (sym dies.2)
               (subst (IsSpanned spans k) (sym is_to) lives)),
         ),
     λ h.
         let s = h.0.span in
-        let dies : DiesAt spans points targets b h.0.among.0 = (
+        (rows_are b k).1 (
           s,
-          member_at spans s h.0.among,
+          h.0.among,
+          h.0.spans.0,
           record {
             branch = slice_get_within points b at point;
             from = omega (arith, h.0.spans.1, is_at);
@@ -157,8 +173,7 @@ module _ (spans : List Span) (points targets : List ℕ) (rows : List (List ℕ)
             dead = λ lives. h.1 (subst (λ n. IsSpanned spans n to) h.0.spans.0
                 (subst (IsSpanned spans s.name) is_to lives));
           },
-        ) in
-        (h.0.among.0, (rows_are b h.0.among.0).1 dies, s, member_at spans s h.0.among, h.0.spans.0),
+        ),
   )
     where
       is_at : get_or points b 0 ≡ at
@@ -167,25 +182,50 @@ module _ (spans : List Span) (points targets : List ℕ) (rows : List (List ℕ)
       is_to : get_or targets b 0 ≡ to
       is_to = get_or_from_slice_get targets b to 0 target
 
--- the rows from the other side
-pub dies_at : (spans : List Span) (points targets : List ℕ) (i : ℕ) (d : Span) (ends : List ℕ) → i < length spans
-    → ((b : ℕ) → Contains ends b ↔ Dies spans points targets (get_or spans i d) b)
-    → (b : ℕ) → Contains ends b ↔ DiesAt spans points targets b i
-dies_at spans points targets i d ends within are b =
-    let there = slice_get-get_or spans i d within in (
-      λ h. (get_or spans i d, there, (are b).0 h),
-      λ h. (are b).1
-          (subst (λ s. Dies spans points targets s b) (same_Some h.0 (get_or spans i d) (sym h.1 ∙ there)) h.2),
-    )
+module _ (spans : List Span) (points targets : List ℕ) where
+  -- the same of one of the first n spans
+  abbrev pub DiesAmong : ℕ → (b k : ℕ) → Type 0
+  DiesAmong n b k =
+      (s : ℕ) × (s < n) × (span : Span) × (slice_get spans s ≡ Some span) × (span.name ≡ k)
+      × Dies spans points targets span b
 
--- all rows, from the other side
-pub dying_rows : (spans : List Span) (points targets : List ℕ) (rows : List (Vec ℕ Global)) (n : ℕ) (t : List (List ℕ))
-    → length spans ≤ n → RowsTo rows (λ s b. DiesAt spans points targets b s) n → IsTransposed (rows_of rows) t
-    → (b s : ℕ) → Relates t b s ↔ DiesAt spans points targets b s
-dying_rows spans points targets rows n t done all moved b s = (
-  λ h. ((all s b).0 ((moved s b).1 h)).1,
-  λ d. (moved s b).0 ((all s b).1 (omega (arith, slice_get_within spans s d.0 d.1, done), d)),
-)
+  pub none_dying : (rows : List (List ℕ)) → ((i x : ℕ) → Relates rows i x → ⊥) → (b k : ℕ)
+      → Relates rows b k ↔ DiesAmong 0 b k
+  none_dying rows none b k = (λ h. absurd (none b k h), λ h. absurd (omega (arith, h.1)))
+
+  pub dying_more : (n : ℕ) (d : Span) (ends : List ℕ) (old new : List (List ℕ)) → n < length spans
+      → ((b : ℕ) → Contains ends b ↔ Dies spans points targets (get_or spans n d) b)
+      → ((b k : ℕ) → Relates old b k ↔ DiesAmong n b k)
+      → Adds old new (λ b k. Contains ends b × (k ≡ (get_or spans n d).name))
+      → (b k : ℕ) → Relates new b k ↔ DiesAmong (n + 1) b k
+  dying_more n d ends old new within are before adds b k =
+      let span = get_or spans n d in
+      let there = slice_get-get_or spans n d within in (
+        λ h. ⊎_elim
+            (λ o. let e = (before b k).0 o in (e.0, omega (arith, e.1), e.2, e.3, e.4, e.5))
+            (λ m. (n, omega arith, span, there, sym m.1, (are b).0 m.0))
+            ((adds b k).0 h),
+        λ h. (adds b k).1 (⊎_elim
+            (λ l. inl ((before b k).1 (h.0, l, h.2, h.3, h.4, h.5)))
+            (λ g.
+            let same : h.0 ≡ n = omega (arith, g, h.1) in
+            let e : h.2 ≡ span = same_Some h.2 span (sym h.3 ∙ ap (slice_get spans) same ∙ there) in
+            inr (
+              (are b).1 (subst (λ s. Dies spans points targets s b) e h.5),
+              sym h.4 ∙ ap (λ (s : Span). s.name) e,
+            ))
+            (less_or h.0 n)),
+      )
+
+  pub all_dying : (rows : List (List ℕ)) (n : ℕ) → length spans ≤ n
+      → ((b k : ℕ) → Relates rows b k ↔ DiesAmong n b k)
+      → (b k : ℕ) → Relates rows b k ↔ DiesAt spans points targets b k
+  all_dying rows n done are b k = (
+    λ h. let e = (are b k).0 h in (e.2, found spans e.0 e.2 e.3, e.4, e.5),
+    λ d.
+        let at = member_at spans d.0 d.1 in
+        (are b k).1 (d.1.0, omega (arith, slice_get_within spans d.1.0 d.0 at, done), d.0, at, d.2, d.3),
+  )
 
 -- ---- the branches of a span
 

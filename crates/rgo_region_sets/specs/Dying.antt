@@ -1,5 +1,5 @@
 -- Names that are live into a branch and not into one of its targets.
-use Rattle.std.specs.Prelude.{◌≡◌, ◌<◌, ◌≤◌, ℕ, List, length, Contains, Some, slice_get, slice_index}
+use Rattle.std.specs.Prelude.{◌≡◌, ◌<◌, ◌≤◌, ℕ, List, length, Contains, slice_index}
 use Rattle.rgo_region_sets.specs.declared.spans.Span.{Span}
 use Rattle.rgo_region_sets.specs.Spans.{IsSpanned}
 
@@ -17,11 +17,7 @@ pub record Dies (spans : List Span) (points targets : List ℕ) (span : Span) (b
   pub to : slice_index points b ≤ span.to
   pub dead : IsSpanned spans span.name (slice_index targets b) → ⊥
 
--- the same of the span of this number
-abbrev pub DiesAt : List Span → (points targets : List ℕ) → (b s : ℕ) → Type 0
-DiesAt spans points targets b s = (span : Span) × (slice_get spans s ≡ Some span) × Dies spans points targets span b
-
--- the names of the spans of these numbers
-abbrev pub NamesOf : List Span → List ℕ → ℕ → Type 0
-NamesOf spans numbers k =
-    (s : ℕ) × Contains numbers s × (span : Span) × (slice_get spans s ≡ Some span) × (span.name ≡ k)
+-- a span of name k has branch b, whose target is in no span of that name
+abbrev pub DiesAt : List Span → (points targets : List ℕ) → (b k : ℕ) → Type 0
+DiesAt spans points targets b k =
+    (span : Span) × Contains spans span × (span.name ≡ k) × Dies spans points targets span b

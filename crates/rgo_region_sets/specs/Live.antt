@@ -1,23 +1,22 @@
 -- What the tables say of the live names of a function.
 use Rattle.std.specs.Prelude.{◌≡◌, ◌⊎◌, ◌↔◌, ℕ, List, Some, None, Contains, slice_get}
-use Rattle.rgo_graphs.specs.Rows.{rows_of, row_at}
+use Rattle.rgo_graphs.specs.Rows.{Relates, rows_of}
 use Rattle.rgo_flow.specs.Live.{Leads}
 use Rattle.rgo_code.specs.Code.{CodeFn}
 use Rattle.rgo_code.specs.Erasure.{erased_fn}
 use Rattle.rgo_code.specs.Names.{IsLiveName}
 use Rattle.rgo_region_sets.specs.declared.table.LiveNames.{LiveNames}
 use Rattle.rgo_region_sets.specs.Branches.{branch_at}
-use Rattle.rgo_region_sets.specs.Dying.{NamesOf}
 use Rattle.rgo_region_sets.specs.Spans.{IsSpanned}
 
 -- name k is live just before instruction `at`
 abbrev pub IsLiveIn : LiveNames → (k at : ℕ) → Type 0
 IsLiveIn live k at = IsSpanned live.spans.items k at
 
--- the row of the branch has the spans of the names that are live at one instruction and not at the other
+-- the row of the branch has the names that are live at one instruction and not at the other
 abbrev pub HasDying : LiveNames → (rows : List (List ℕ)) → (b from to : ℕ) → Type 0
 HasDying live rows b from to =
-    (k : ℕ) → NamesOf live.spans.items (row_at rows b) k ↔ (IsLiveIn live k from × (IsLiveIn live k to → ⊥))
+    (k : ℕ) → Relates rows b k ↔ (IsLiveIn live k from × (IsLiveIn live k to → ⊥))
 
 -- branch b of the tables is this branch
 pub record IsRecorded (live : LiveNames) (b at : ℕ) (ways : ℕ × ℕ) : Type 0 where

@@ -65,14 +65,8 @@ pub(crate) fn branches_of(alloc: Global, function: &TacFn) -> Result<Branches, A
         targets: Vec::new(alloc),
         others: Vec::new(alloc),
     };
-    if function.len() > u32::MAX as usize {
-        return Err(AllocError);
-    }
-    for point in 0..function.len() as u32 {
+    for point in 0..function.instr_count() {
         add_branch(&mut branches, function, point)?;
-    }
-    if branches.points.len() > u32::MAX as usize {
-        return Err(AllocError);
     }
     Ok(branches)
 }

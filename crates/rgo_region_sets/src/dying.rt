@@ -7,7 +7,7 @@ ghost use Rattle.rgo_region_sets.specs.Spans.{AreApart};
 
 use crate::names::push_if;
 use crate::spans::{Span, is_spanned};
-use rgo_graphs::transposed;
+use rgo_graphs::{add_row, empty_rows};
 use std::alloc::{AllocError, Global};
 
 /// Where the branches that are in a span begin and end.
@@ -44,7 +44,7 @@ fn ends_of(
     Ok(ends)
 }
 
-/// For each branch the spans of the names that are live into it and not into its target.
+/// For each branch the names that are live into it and not into its target.
 pub(crate) fn dying(
     alloc: Global,
     spans: &[Span],
@@ -56,16 +56,13 @@ pub(crate) fn dying(
     requires len { length targets.now ≡ length points.now }
     requires few { length points.now < 2 ^ 32 }
     ensures len { IfOk result (λ rows. vec_len rows ≡ length points.now) }
-    ensures rows { IfOk result (λ rows. (b s : ℕ) → Relates (rows_of rows.items) b s
-        ↔ DiesAt spans.now points.now targets.now b s) }
+    ensures rows { IfOk result (λ rows. (b k : ℕ) → Relates (rows_of rows.items) b k
+        ↔ DiesAt spans.now points.now targets.now b k) }
 {
-    if spans.len() > u32::MAX as usize {
-        return Err(AllocError);
-    }
-    let mut rows: Vec<Vec<u32>> = Vec::new(alloc);
+    let mut rows = empty_rows(alloc, points.len())?;
     for span in spans {
         let ends = ends_of(alloc, spans, points, targets, *span)?;
-        rows.push(ends)?;
+        add_row(&mut rows, &ends, span.name)?;
     }
-    transposed(alloc, &rows, points.len() as u32)
+    Ok(rows)
 }

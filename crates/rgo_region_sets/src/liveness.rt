@@ -24,7 +24,7 @@ impl LiveNames {
 ///
 /// # Errors
 ///
-/// On allocation failure, and for a function with 2³² - 1 instructions or variables or more.
+/// On allocation failure.
 pub fn live_names(alloc: Global, f: &CodeFn<'_>) -> Result<LiveNames, AllocError>
     ensures { IfOk result (λ live. AreLiveNames live f.now) }
 {

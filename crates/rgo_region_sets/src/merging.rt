@@ -88,12 +88,8 @@ fn all_spans(alloc: Global, f: &CodeFn<'_>) -> Result<Vec<Span>, AllocError>
     ensures { IfOk result (λ spans. (k at : ℕ) → IsSpanned spans.items k at ↔ IsLiveName f.now k at) }
 {
     let liveness = live(alloc, f.tac())?;
-    let count = f.tac().variables().len();
-    if count > u32::MAX as usize {
-        return Err(AllocError);
-    }
     let mut spans = Vec::new(alloc);
-    for variable in 0..count as u32 {
+    for variable in 0..f.tac().variable_count() {
         add_variable(alloc, &mut spans, f, &liveness, variable)?;
     }
     Ok(spans)

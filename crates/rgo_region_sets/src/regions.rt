@@ -15,10 +15,7 @@ pub fn parameter_classes(alloc: Global, f: &CodeFn<'_>) -> Result<Vec<Class>, Al
     ensures { IfOk result (λ classes. classes.items ≡ names.parameter_classes f.now.params f.now.variables) }
 {
     let mut classes = Vec::new(alloc);
-    let count = f.tac().params().min(f.tac().variables().len());
-    if count > u32::MAX as usize {
-        return Err(AllocError);
-    }
+    let count = f.tac().params().min(f.tac().variable_count() as usize);
     for variable in 0..count as u32 {
         classes.push(f.class_of(variable))?;
     }
@@ -62,7 +59,7 @@ fn distinct_names(alloc: Global, classes: &[Class]) -> Result<Vec<Class>, AllocE
 ///
 /// # Errors
 ///
-/// On allocation failure, and for more than 2³² - 1 parameters.
+/// On allocation failure.
 pub fn region_parameters(alloc: Global, f: &CodeFn<'_>) -> Result<Vec<Class>, AllocError>
     ensures { IfOk result (λ regions. regions.items ≡ names.region_parameters f.now) }
 {

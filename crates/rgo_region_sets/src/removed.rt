@@ -4,14 +4,12 @@ ghost use Rattle.std.specs.Prelude.{Decides, ◌≡◌, ◌⊎◌, ◌↔◌, �
 ghost use Rattle.std.specs.List.Sorted.{IsStrictlyIncreasing};
 ghost use Rattle.rgo_graphs.specs.Rows.{rows_of};
 ghost use Rattle.rgo_region_sets.specs.Asked.{AreCandidates, AreRemoved, IsDead, way};
-ghost use Rattle.rgo_region_sets.specs.Dying.{NamesOf};
 ghost use Rattle.rgo_region_sets.specs.Live.{AddsDying, AreLiveNames, IsKnown, IsWay};
 ghost use Rattle.rgo_region_sets.specs.Sets.{IsSet};
 
 use crate::branches::branch_at;
 use crate::names::{is_own, push_if};
 use crate::sets::{has, set_of};
-use crate::spans::Span;
 use crate::table::LiveNames;
 use crate::used::used_names;
 use rgo_code::CodeFn;
@@ -26,16 +24,11 @@ pub struct RemovedNames {
     pub otherwise: Vec<u32>,
 }
 
-/// The names of spans.
-fn add_spans(names: &mut Vec<u32>, spans: &[Span], these: &[u32]) -> Result<(), AllocError>
+fn add_all(names: &mut Vec<u32>, these: &[u32]) -> Result<(), AllocError>
     ensures { OnOk result ((k : ℕ) → Contains names.new.items k
-        ↔ (Contains names.old.items k ⊎ NamesOf spans.now these.now k)) }
+        ↔ (Contains names.old.items k ⊎ Contains these.now k)) }
 {
-    for n in these {
-        if let Some(span) = spans.get(*n as usize) {
-            names.push(span.name)?;
-        }
-    }
+    names.extend_from_slice(these)?;
     Ok(())
 }
 
@@ -65,7 +58,7 @@ fn add_dying(
 {
     match place_of(&live.points, at) {
         Some(b) => match rows.get(b) {
-            Some(row) => add_spans(names, &live.spans, row),
+            Some(row) => add_all(names, row),
             None => Ok(()),
         },
         None => Ok(()),

@@ -98,7 +98,7 @@ module _ (old new : Nodes) (is_seen : Bool) (row : Vec ℕ Global) (o : IsNodes 
     (first : is_seen ≡ true → old.width ≡ size_of old) (g : Grows old new is_seen)
     (rows : new.rows.items ≡ old.rows.items ++ row ∷ []) (alone : row.items ≡ size_of old ∷ [])
     (seen : new.seen.items ≡ old.seen.items ++ seen_if is_seen (size_of old) ∷ [])
-    (few : size_of old + 1 < 2 ^ 32) where
+    (few : size_of old + 1 < 2 ^ 64) where
   size_more : size_of new ≡ size_of old + 1
   size_more = ap (λ (l : List ℕ). length l) g.labels ∙ length-append old.labels.items (size_of old ∷ [])
 

@@ -1,6 +1,7 @@
 pub mod Adding
 pub mod Carried
 pub mod Chains
+pub mod Few
 pub mod Growing
 pub mod Hearing
 pub mod Joining

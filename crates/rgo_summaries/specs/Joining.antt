@@ -25,7 +25,7 @@ seen_if is_seen n = if is_seen then Some n else None
 
 -- each label has its nodes and, where there is one, a node that callers see
 pub record IsNodes (n : Nodes) : Type 0 where
-  pub few : size_of n < 2 ^ 32
+  pub few : size_of n < 2 ^ 64
   pub rows : AreRows n.labels.items (rows_of n.rows.items)
   pub seen_len : length n.seen.items ≡ size_of n
   pub width : n.width ≤ size_of n

@@ -18,11 +18,11 @@ use std::alloc::{AllocError, Global};
 /// A call in the function of this number, whose nodes for the callee are numbered from a base on.
 #[derive(Clone, Copy)]
 struct Calling<'a> {
-    caller: u32,
+    caller: usize,
     function: &'a TacFn,
     call: Call<'a>,
     callee: &'a TacFn,
-    base: u32,
+    base: usize,
 }
 
 /// A node for each member of a function.
@@ -53,17 +53,17 @@ fn grow(alloc: Global, nodes: &mut Nodes, count: usize) -> Result<(), AllocError
 fn grow_in(
     alloc: Global,
     progress: &mut Progress,
-    function: u32,
+    function: usize,
     count: usize,
-) -> Result<u32, AllocError>
+) -> Result<usize, AllocError>
     requires is { IsProgress progress.old }
     requires inside { function < length progress.old.nodes.items }
     ensures is { OnOk result (IsProgress progress.new) }
     ensures grows { OnOk result (GrowsIn progress.old progress.new function count) }
     ensures base { IfOk result (λ base. base ≡ size_in progress.old.nodes.items function) }
 {
-    let nodes = &mut progress.nodes[function as usize];
-    let base = nodes.labels.len() as u32;
+    let nodes = &mut progress.nodes[function];
+    let base = nodes.labels.len();
     grow(alloc, nodes, count)?;
     Ok(base)
 }
@@ -87,7 +87,7 @@ fn pass(
             if is_pointer_like(calling.callee, number)
                 && is_pointer_like(calling.function, actual)
             {
-                let node = calling.base as usize + number;
+                let node = calling.base + number;
                 return join_in(alloc, progress, calling.caller, node, actual);
             }
             Ok(())
@@ -123,7 +123,7 @@ fn own_joins(function: &TacFn, at: usize) -> Option<(Member, Member)>
 fn begin_own(
     alloc: Global,
     progress: &mut Progress,
-    n: u32,
+    n: usize,
     function: &TacFn,
     at: usize,
 ) -> Result<(), AllocError>
@@ -139,11 +139,11 @@ fn begin_own(
 }
 
 /// Lists a call of a function.
-fn list(sites: &mut Vec<Vec<Site>>, function: u32, site: Site) -> Result<(), AllocError>
+fn list(sites: &mut Vec<Vec<Site>>, function: usize, site: Site) -> Result<(), AllocError>
     requires { function < vec_len sites.old }
     ensures { OnOk result (Lists sites.old.items sites.new.items function site) }
 {
-    sites[function as usize].push(site)?;
+    sites[function].push(site)?;
     Ok(())
 }
 
@@ -152,7 +152,7 @@ fn begin_call(
     alloc: Global,
     progress: &mut Progress,
     sites: &mut Vec<Vec<Site>>,
-    caller: u32,
+    caller: usize,
     function: &TacFn,
     call: Call<'_>,
     callee: &TacFn,
@@ -165,7 +165,7 @@ fn begin_call(
         progress.old.nodes.items progress.new.nodes.items sites.old.items sites.new.items) }
 {
     let base = grow_in(alloc, progress, caller, width_of(callee))?;
-    list(sites, call.function, Site { caller, base })?;
+    list(sites, call.function as usize, Site { caller, base })?;
     let calling = Calling {
         caller,
         function,
@@ -182,7 +182,7 @@ fn begin_at(
     code: &Tac,
     progress: &mut Progress,
     sites: &mut Vec<Vec<Site>>,
-    n: u32,
+    n: usize,
     function: &TacFn,
     at: usize,
 ) -> Result<(), AllocError>
@@ -217,7 +217,7 @@ fn begin(
     code: &Tac,
     progress: &mut Progress,
     sites: &mut Vec<Vec<Site>>,
-    n: u32,
+    n: usize,
     function: &TacFn,
 ) -> Result<(), AllocError>
     requires is { IsProgress progress.old }
@@ -257,22 +257,19 @@ pub(crate) struct Begun {
 ///
 /// # Errors
 ///
-/// On allocation failure, and if the functions, or the nodes of one, are too many to have numbers of 32 bits.
+/// On allocation failure.
 pub(crate) fn begin_all(alloc: Global, code: &Tac) -> Result<Begun, AllocError>
     ensures is { IfOk result (λ begun. IsProgress begun.progress) }
     ensures begun { IfOk result (λ begun. AreBegun code.now begun.progress.nodes.items begun.sites.items) }
 {
     let functions = code.functions();
-    if functions.len() > u32::MAX as usize {
-        return Err(AllocError);
-    }
     let mut progress = Progress {
         nodes: Vec::new(alloc),
         log: Vec::new(alloc),
     };
     let mut sites = no_sites(alloc, functions.len())?;
     for (n, function) in functions.iter().enumerate() {
-        begin(alloc, code, &mut progress, &mut sites, n as u32, function)?;
+        begin(alloc, code, &mut progress, &mut sites, n, function)?;
     }
     Ok(Begun { progress, sites })
 }

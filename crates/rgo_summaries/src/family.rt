@@ -16,7 +16,7 @@ use std::alloc::{AllocError, Global};
 ///
 /// # Errors
 ///
-/// On allocation failure, and if the functions, or the nodes of one, are too many to have numbers of 32 bits.
+/// On allocation failure.
 pub fn summaries(alloc: Global, code: &Tac) -> Result<Summaries, AllocError>
     ensures { IfOk result (λ family. IsLeastFamily code.now family.functions) }
 {

@@ -10,13 +10,13 @@ use std::alloc::{AllocError, Global};
 /// Nodes, identified by number. Two nodes are joined if they have the same label.
 #[derive(Drop)]
 pub(crate) struct Nodes {
-    pub labels: Vec<u32>,
+    pub labels: Vec<usize>,
     /// The nodes of each label.
-    pub rows: Vec<Vec<u32>>,
+    pub rows: Vec<Vec<usize>>,
     /// For each label, a node that callers see, if there is one.
-    pub seen: Vec<Option<u32>>,
+    pub seen: Vec<Option<usize>>,
     /// Callers see the nodes with smaller numbers.
-    pub width: u32,
+    pub width: usize,
 }
 
 pub(crate) fn no_nodes(alloc: Global) -> Nodes
@@ -32,7 +32,7 @@ pub(crate) fn no_nodes(alloc: Global) -> Nodes
     }
 }
 
-fn row_of(alloc: Global, node: u32) -> Result<Vec<u32>, AllocError>
+fn row_of(alloc: Global, node: usize) -> Result<Vec<usize>, AllocError>
     ensures { IfOk result (λ row. row.items ≡ node ∷ []) }
 {
     let mut row = Vec::new(alloc);
@@ -40,7 +40,7 @@ fn row_of(alloc: Global, node: u32) -> Result<Vec<u32>, AllocError>
     Ok(row)
 }
 
-fn seen_if(is_seen: bool, node: u32) -> Option<u32>
+fn seen_if(is_seen: bool, node: usize) -> Option<usize>
     ensures { result ≡ spec.seen_if is_seen node }
 {
     if is_seen { Some(node) } else { None }
@@ -50,7 +50,7 @@ fn seen_if(is_seen: bool, node: u32) -> Option<u32>
 ///
 /// # Errors
 ///
-/// On allocation failure, and if the nodes are too many to have numbers of 32 bits.
+/// On allocation failure.
 pub(crate) fn add(alloc: Global, nodes: &mut Nodes, is_seen: bool) -> Result<(), AllocError>
     requires is { IsNodes nodes.old }
     requires seen { is_seen ≡ true → nodes.old.width ≡ size_of nodes.old }
@@ -58,10 +58,6 @@ pub(crate) fn add(alloc: Global, nodes: &mut Nodes, is_seen: bool) -> Result<(),
     ensures is { OnOk result (IsNodes nodes.new) }
 {
     let node = nodes.labels.len();
-    if node >= u32::MAX as usize {
-        return Err(AllocError);
-    }
-    let node = node as u32;
     nodes.labels.push(node)?;
     nodes.rows.push(row_of(alloc, node)?)?;
     nodes.seen.push(seen_if(is_seen, node))?;
@@ -72,7 +68,7 @@ pub(crate) fn add(alloc: Global, nodes: &mut Nodes, is_seen: bool) -> Result<(),
 }
 
 /// The first node if it exists, else the second.
-fn either(had: Option<u32>, given: Option<u32>) -> Option<u32>
+fn either(had: Option<usize>, given: Option<usize>) -> Option<usize>
     ensures { result ≡ spec.either had given }
 {
     match had {
@@ -81,7 +77,7 @@ fn either(had: Option<u32>, given: Option<u32>) -> Option<u32>
     }
 }
 
-fn both(given: Option<u32>, had: Option<u32>) -> Option<(u32, u32)>
+fn both(given: Option<usize>, had: Option<usize>) -> Option<(usize, usize)>
     ensures { result ≡ spec.both given had }
 {
     match (given, had) {
@@ -92,15 +88,15 @@ fn both(given: Option<u32>, had: Option<u32>) -> Option<(u32, u32)>
 
 /// Moves the node that callers see from one label to another that has none. If both have one, it returns the two, so
 /// that they are reported to callers.
-fn hand_over(seen: &mut [Option<u32>], from: u32, to: u32) -> Option<(u32, u32)>
+fn hand_over(seen: &mut [Option<usize>], from: usize, to: usize) -> Option<(usize, usize)>
     requires from { from < length seen.old }
     requires to { to < length seen.old }
     ensures seen { seen.new ≡ handed seen.old from to }
     ensures news { result ≡ spec.both (seen_at seen.old from) (seen_at seen.old to) }
 {
-    let (given, had) = (seen[from as usize], seen[to as usize]);
-    seen[from as usize] = None;
-    seen[to as usize] = either(had, given);
+    let (given, had) = (seen[from], seen[to]);
+    seen[from] = None;
+    seen[to] = either(had, given);
     both(given, had)
 }
 
@@ -108,9 +104,9 @@ fn hand_over(seen: &mut [Option<u32>], from: u32, to: u32) -> Option<(u32, u32)>
 fn go_over(
     alloc: Global,
     nodes: &mut Nodes,
-    from: u32,
-    to: u32,
-) -> Result<Option<(u32, u32)>, AllocError>
+    from: usize,
+    to: usize,
+) -> Result<Option<(usize, usize)>, AllocError>
     requires is { IsNodes nodes.old }
     requires from { from < size_of nodes.old }
     requires to { to < size_of nodes.old }
@@ -127,7 +123,7 @@ fn go_over(
     Ok(hand_over(nodes.seen.as_mut_slice(), from, to))
 }
 
-fn label_of(nodes: &Nodes, node: usize) -> u32
+fn label_of(nodes: &Nodes, node: usize) -> usize
     requires is { IsNodes nodes.now }
     requires inside { node < size_of nodes.now }
     ensures label { result ≡ label_at nodes.now node }
@@ -143,7 +139,7 @@ pub(crate) fn join(
     nodes: &mut Nodes,
     one: usize,
     other: usize,
-) -> Result<Option<(u32, u32)>, AllocError>
+) -> Result<Option<(usize, usize)>, AllocError>
     requires is { IsNodes nodes.old }
     requires one { one < size_of nodes.old }
     requires other { other < size_of nodes.old }
@@ -154,7 +150,7 @@ pub(crate) fn join(
     if from == to {
         return Ok(None);
     }
-    if nodes.rows[from as usize].len() <= nodes.rows[to as usize].len() {
+    if nodes.rows[from].len() <= nodes.rows[to].len() {
         go_over(alloc, nodes, from, to)
     } else {
         go_over(alloc, nodes, to, from)

@@ -9,17 +9,17 @@ use std::alloc::{AllocError, Global};
 /// Two nodes of a function that callers see were joined.
 #[derive(Clone, Copy)]
 pub(crate) struct Event {
-    pub function: u32,
-    pub one: u32,
-    pub other: u32,
+    pub function: usize,
+    pub one: usize,
+    pub other: usize,
 }
 
 /// A call of a function: the caller, and the number from which on the caller has nodes for the members of the callee
 /// that callers see.
 #[derive(Clone, Copy)]
 pub(crate) struct Site {
-    pub caller: u32,
-    pub base: u32,
+    pub caller: usize,
+    pub base: usize,
 }
 
 #[derive(Drop)]
@@ -32,7 +32,7 @@ pub(crate) struct Progress {
 pub(crate) fn join_in(
     alloc: Global,
     progress: &mut Progress,
-    function: u32,
+    function: usize,
     one: usize,
     other: usize,
 ) -> Result<(), AllocError>
@@ -42,7 +42,7 @@ pub(crate) fn join_in(
     ensures is { OnOk result (IsProgress progress.new) }
     ensures adds { OnOk result (Adds progress.old progress.new (Two function one other)) }
 {
-    match join(alloc, &mut progress.nodes[function as usize], one, other)? {
+    match join(alloc, &mut progress.nodes[function], one, other)? {
         Some((one, other)) => {
             progress.log.push(Event {
                 function,

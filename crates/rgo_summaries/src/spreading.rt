@@ -26,8 +26,8 @@ fn carry(
             alloc,
             progress,
             site.caller,
-            site.base as usize + event.one as usize,
-            site.base as usize + event.other as usize,
+            site.base + event.one,
+            site.base + event.other,
         )?;
     }
     Ok(())
@@ -48,7 +48,7 @@ pub(crate) fn spread(
     let mut next = 0;
     while next < progress.log.len() {
         let event = progress.log[next];
-        carry(alloc, progress, &sites[event.function as usize], event)?;
+        carry(alloc, progress, &sites[event.function], event)?;
         next += 1;
     }
     Ok(())

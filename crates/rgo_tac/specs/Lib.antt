@@ -5,6 +5,7 @@ pub mod Joins
 pub mod Making
 pub mod Ops
 pub mod Quick
+pub mod Sizes
 pub mod Steps
 pub mod Stretches
 pub mod Tac

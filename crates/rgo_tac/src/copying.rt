@@ -55,7 +55,7 @@ fn copy_function(alloc: Global, function: &TacFn) -> Result<TacFn, AllocError>
     let result_type = copy_result(alloc, &function.result_type)?;
     let variables = copy_types(alloc, function.variables.items())?;
     let body = copy_body(alloc, &function.body)?;
-    TacFn::new(
+    TacFn::of(
         alloc,
         name,
         function.params,

@@ -1,12 +1,15 @@
 //! Functions of three-address code.
 
-ghost use Rattle.std.specs.Prelude.{◌≡◌, map, length, get_or, slice_get, ◌<◌, ◌^◌, IfOk, IfSome};
+ghost use Rattle.std.specs.Prelude.{◌≡◌, ◌↔◌, ◌+◌, Err, map, length, get_or, slice_get, ◌<◌, ◌^◌, IfOk, IfSome};
 ghost use Rattle.std.specs.Option.{option_map};
 ghost use Rattle.rgo_memory.specs.Values.{zero_of};
+ghost use Rattle.rgo_tac.specs.declared.errors.FunctionError.TheVariants.{TooLarge};
 ghost use Rattle.rgo_tac.specs.Ops.{kind_of, operation_of, op_in, place_in};
+ghost use Rattle.rgo_tac.specs.Sizes.{AreTooMany};
 ghost use Rattle.rgo_tac.specs.Views.{body_of};
 
 use crate::code::{Body, Instr};
+use crate::errors::FunctionError;
 use crate::ops::{Kind, Op, decode, instr_kind};
 use crate::widths::width_of_all;
 use rgo_ast::{Name, Place};
@@ -30,7 +33,7 @@ pub struct TacFn {
 }
 
 impl Model for TacFn {
-    ghost use Rattle.std.specs.Prelude.{◌≡◌, map};
+    ghost use Rattle.std.specs.Prelude.{◌≡◌, ◌<◌, ◌+◌, ◌^◌, length, map};
     ghost use Rattle.rgo_memory.specs.Values.{zero_of};
     ghost use Rattle.rgo_tac.specs.Code as spec;
 
@@ -48,7 +51,8 @@ impl Model for TacFn {
     } };
 
     ghost invariant = { λ f. (f.zeros ≡ map zero_of f.variables)
-        × AllFit f.body.lists f.body.pieces f.width f.body.instrs };
+        × AllFit f.body.lists f.body.pieces f.width f.body.instrs
+        × (length f.variables + 2 < 2 ^ 32) × (length f.body.instrs + 1 < 2 ^ 32) };
 }
 
 fn zeros_of(alloc: Global, types: &[Type]) -> Result<Vec<Value>, AllocError>
@@ -72,13 +76,19 @@ fn place_at(places: &[Place], n: usize) -> Place
     places.get(n).copied().unwrap_or(0)
 }
 
+/// The most variables that a function may have.
+const MOST_VARIABLES: usize = u32::MAX as usize - 2;
+
+/// The most instructions that a function may have.
+const MOST_INSTRS: usize = u32::MAX as usize - 1;
+
 impl TacFn {
     /// A function: how many of its variables are parameters, the types of its variables with the parameters first, and
     /// its instructions.
     ///
     /// # Errors
     ///
-    /// On allocation failure.
+    /// `TooLarge` if it has 2³² - 2 variables or more, or 2³² - 1 instructions or more; `NoMemory` on allocation failure.
     pub fn new(
         alloc: Global,
         name: Name,
@@ -86,7 +96,36 @@ impl TacFn {
         result_type: Option<Type>,
         variables: Row<Type>,
         body: Body,
+    ) -> Result<TacFn, FunctionError>
+        ensures made { IfOk result (λ f. f ≡ record {
+          name = name;
+          params = params;
+          result_type = result_type;
+          variables = variables;
+          body = body_of body.lists body.pieces body.instrs body.places;
+        }) }
+        ensures large { (result ≡ Err TooLarge) ↔ AreTooMany (length variables) (length body.instrs) }
+    {
+        if variables.items().len() > MOST_VARIABLES || body.instrs.items().len() > MOST_INSTRS {
+            return Err(FunctionError::TooLarge);
+        }
+        match TacFn::of(alloc, name, params, result_type, variables, body) {
+            Ok(function) => Ok(function),
+            Err(_) => Err(FunctionError::NoMemory),
+        }
+    }
+
+    /// The same of so few variables and instructions that they have numbers.
+    pub(crate) fn of(
+        alloc: Global,
+        name: Name,
+        params: usize,
+        result_type: Option<Type>,
+        variables: Row<Type>,
+        body: Body,
     ) -> Result<TacFn, AllocError>
+        requires variables { length variables + 2 < 2 ^ 32 }
+        requires instrs { length body.instrs + 1 < 2 ^ 32 }
         ensures { IfOk result (λ f. f ≡ record {
           name = name;
           params = params;
@@ -134,11 +173,27 @@ impl TacFn {
         self.variables.items()
     }
 
+    /// How many variables it has.
+    pub fn variable_count(&self) -> u32
+        ensures count { result ≡ length self.now.variables }
+        ensures few { result + 2 < 2 ^ 32 }
+    {
+        self.variables.items().len() as u32
+    }
+
     /// How many instructions it has.
     pub fn len(&self) -> usize
         ensures { result ≡ length self.now.body }
     {
         self.body.instrs.items().len()
+    }
+
+    /// The same in 32 bits.
+    pub fn instr_count(&self) -> u32
+        ensures count { result ≡ length self.now.body }
+        ensures few { result + 1 < 2 ^ 32 }
+    {
+        self.body.instrs.items().len() as u32
     }
 
     /// What the instruction of this number does; `None` where there is none.

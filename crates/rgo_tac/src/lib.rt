@@ -6,9 +6,11 @@ mod cases;
 mod code;
 mod copies;
 mod copying;
+mod errors;
 mod flow;
 mod frames;
 mod functions;
+mod laws;
 mod machine;
 mod makes;
 mod marks;
@@ -27,9 +29,11 @@ pub use copies::{
     copy_items, copy_name, copy_pieces, copy_result, copy_structs, copy_type, copy_types,
     copy_variables,
 };
+pub use errors::FunctionError;
 pub use flow::{ReadVariables, Targets, leads_to, reads, writes};
 pub use frames::Frame;
 pub use functions::TacFn;
+pub use laws::examples;
 pub use machine::{TacMachine, start};
 pub use makes::make_object;
 pub use marks::Mark;

@@ -12,6 +12,11 @@ bounds-labels-m c =
       c.requires.inside _ (Contains-get_or c.args.members.now c.loop-m.m-index 0 c.loop-m-test.true),
     )
 
+pub offset_bounds-labels-m : goal.offset_bounds-labels-m
+offset_bounds-labels-m c =
+    let inside = bounds-labels-m c in
+    record { fits = omega (arith, inside, c.loop-m.invariant.size) }
+
 pub loop-m-preserved : goal.loop-m-preserved
 loop-m-preserved c =
     rw (take_more c.args.members.now c.loop-m.m-index 0 c.loop-m-test.true)

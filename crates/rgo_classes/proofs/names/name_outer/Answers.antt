@@ -8,5 +8,5 @@ pub returns : goal.returns
 returns c =
     rw (c.new.ensures, before_after c.args.count (Result ∷ []))
     (labels_named c.args.labels.now c.args.function.now _ _ _ _
-    (c.name_member-result.ensures.class (variables_before c.args.count []) c.in_ok-variables.variables.items
-    c.in_ok-variables.ensures.classes))
+    (c.name_member-result.ensures.class (variables_before c.args.count []) c.add_missing.new.classes.items
+    (c.in_ok-add_missing.ensures c.args.labels.now _ _ c.in_ok-variables.ensures.classes)))

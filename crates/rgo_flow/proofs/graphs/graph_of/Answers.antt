@@ -35,30 +35,30 @@ pub returns : goal.returns
 returns c =
     let f = c.args.function.now in
     let all = c.loop-at.invariant in
-    let counted = c.in_ok-count.ensures in
+    let counted = c.instr_count-count.ensures in
     record {
       graph = record {
-        few = omega (arith, counted.1, all.successors_len, c.loop-at-test.false, c.loop-at.auto.at-end);
+        few = omega (arith, counted.few, all.successors_len, c.loop-at-test.false, c.loop-at.auto.at-end);
         reads = omega (arith, all.successors_len, all.reads_len);
         writes = omega (arith, all.successors_len, all.writes_len);
         targets = λ i j r.
             let t = (all.leads i j).0 r in
-            omega (arith, t.1.1, counted.0, all.successors_len, c.loop-at-test.false);
-        read = λ i v r. c.in_ok-variables.ensures.read i v
+            omega (arith, t.1.1, counted.count, all.successors_len, c.loop-at-test.false);
+        read = λ i v r. c.variable_count-variables.ensures.read i v
             (subst (λ (l : List (Vec ℕ Global)). Relates (rows_of l) i v) (sym c.deref.ensures.value) r);
-        written = λ i v r. c.in_ok-variables.ensures.written i v
+        written = λ i v r. c.variable_count-variables.ensures.written i v
             (subst (λ (l : List (Vec ℕ Global)). Relates (rows_of l) i v) (sym c.deref-2.ensures.value) r);
       };
       leads = λ i j. (
         λ h. ((all.leads i j).0 h).1,
-        λ h. (all.leads i j).1 (omega (arith, leads_inside f i j h.0, counted.0, c.loop-at-test.false), h),
+        λ h. (all.leads i j).1 (omega (arith, leads_inside f i j h.0, counted.count, c.loop-at-test.false), h),
       );
       reads = λ i v. (
         λ h. ((all.reads i v).0 h).1,
-        λ h. (all.reads i v).1 (omega (arith, reads_inside f i v h, counted.0, c.loop-at-test.false), h),
+        λ h. (all.reads i v).1 (omega (arith, reads_inside f i v h, counted.count, c.loop-at-test.false), h),
       );
       writes = λ i v. (
         λ h. ((all.writes i v).0 h).1,
-        λ h. (all.writes i v).1 (omega (arith, writes_inside f i v h, counted.0, c.loop-at-test.false), h),
+        λ h. (all.writes i v).1 (omega (arith, writes_inside f i v h, counted.count, c.loop-at-test.false), h),
       );
     }

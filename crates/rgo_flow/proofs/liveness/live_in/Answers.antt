@@ -24,7 +24,7 @@ transposed-requires-clause-below c =
     rw c.deref-2.ensures.value (λ i j r. omega (
       arith,
       c.requires.graph.targets _ j ((x i j).0 r).1,
-      c.len-n.ensures,
+      c.len.ensures,
       c.requires.graph.few,
     ))
 
@@ -93,7 +93,7 @@ solve_all-requires-clause-rows c =
       b.firsts,
       ls,
       c.in_ok-before.ensures.len,
-      c.len-n.ensures,
+      c.len.ensures,
       c.requires.graph.few,
     ))
 
@@ -201,7 +201,7 @@ invariant_of-result c =
           ls,
           rows_long c.in_ok-before.before.items,
           c.in_ok-before.ensures.len,
-          c.len-n.ensures,
+          c.len.ensures,
           c.requires.graph.few,
         );
       };

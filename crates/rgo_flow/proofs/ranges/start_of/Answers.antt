@@ -1,4 +1,4 @@
-use Rattle.std.proofs.Common.{arith, rules, of_calls, ltb, get_or, ℕ, ◌<◌, ◌≤◌, ◌-◌}
+use Rattle.std.proofs.Common.{arith, rules, of_calls, ltb, get_or, ◌<◌, ◌-◌}
 use Rattle.std.proofs.lemmas.Fn.{always_returns_same}
 use Rattle.std.proofs.lemmas.Bool.{ltb-true}
 use Rattle.std.proofs.lemmas.List.Sorted.{IsNonDecreasingBy-from_default, IsPartitionedBy-ltb}

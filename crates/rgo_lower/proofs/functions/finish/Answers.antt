@@ -16,9 +16,9 @@ returns c =
     c.in_ok-instrs.ensures
     ∙ (λ i. map (λ (x : Line). resolved (leads_by (labels i)) x.instr) (lines i)) in
     let places = c.in_ok-places.ensures ∙ ap (map (λ (x : Line). x.place)) same in
-    IfOk-weaker c.new-4.result _ _
+    IfOk-weaker c.made.result _ _
     (λ f h. function_is (function_of c.args.function.now) (made_of b) f c.in_ok-name.name
     c.in_ok-result_type.result_type c.new-3.result c.in_ok-instrs.instrs c.in_ok-places.places c.new.result
     c.new-2.result
     h c.in_ok-name.ensures c.in_ok-result_type.ensures c.new-3.ensures instrs places c.new.ensures c.new-2.ensures)
-    c.new-4.ensures
+    c.made.ensures

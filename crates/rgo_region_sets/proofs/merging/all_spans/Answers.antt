@@ -24,8 +24,8 @@ pub returns : goal.returns
 returns c =
     let live = subst (λ (t : TacFn). (v at : ℕ) → IsLive c.in_ok-liveness.liveness v at ↔ Live t v at)
     c.tac.ensures c.in_ok-liveness.ensures in
-    let long : length c.variables-count.result.now ≡ length c.args.f.now.variables =
-    ap length (c.variables-count.ensures ∙ ap (λ (t : TacFn). t.variables) c.tac-2.ensures)
+    let long : c.variable_count-variable-end.result ≡ length c.args.f.now.variables =
+    c.variable_count-variable-end.ensures.count ∙ ap (λ (t : TacFn). length t.variables) c.tac-2.ensures
     ∙ length-map c.args.f.now.variables (λ (s : Slot). s.ty) in
     all_variables c.args.f.now c.in_ok-liveness.liveness c.loop-variable.spans.items c.loop-variable.variable
     (omega (arith, long, c.loop-variable-test.false)) live c.loop-variable.invariant

@@ -16,7 +16,7 @@ pub loop-variable-preserved : goal.loop-variable-preserved
 loop-variable-preserved c =
     let f = c.args.f.now in
     let v = c.loop-variable.variable in
-    let many = ap length c.variables.ensures ∙ as_many f c.tac-2.result.now c.tac-2.ensures in
+    let many = c.variable_count.ensures.count ∙ as_many f c.tac-2.result.now c.tac-2.ensures in
     let more = classes_more v f.variables (omega (arith, many, c.min-count.ensures)) in
     c.in_ok-push.ensures.items ∙ ap (λ (l : List Class). l ++ c.class_of.result ∷ []) c.loop-variable.invariant
     ∙ ap (λ class. parameter_classes v f.variables ++ class ∷ []) c.class_of.ensures ∙ sym more
@@ -24,7 +24,7 @@ loop-variable-preserved c =
 pub returns : goal.returns
 returns c =
     let f = c.args.f.now in
-    let many = ap length c.variables.ensures ∙ as_many f c.tac-2.result.now c.tac-2.ensures in
+    let many = c.variable_count.ensures.count ∙ as_many f c.tac-2.result.now c.tac-2.ensures in
     let params = c.params.ensures ∙ ap (λ (t : TacFn). t.params) c.tac.ensures in
     c.loop-variable.invariant
     ∙ classes_all f.params c.loop-variable.variable f.variables (omega (arith, many, params, c.min-count.ensures))

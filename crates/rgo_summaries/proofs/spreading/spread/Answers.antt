@@ -21,6 +21,11 @@ bounds-sites-event c =
       c.requires.len,
     )
 
+pub offset_bounds-sites-event : goal.offset_bounds-sites-event
+offset_bounds-sites-event c =
+    let within = bounds-sites-event c in
+    record { fits = omega (arith, within) }
+
 pub carry-requires-clause-room : goal.carry-requires-clause-room
 carry-requires-clause-room c =
     let now = c.loop-next.progress in
