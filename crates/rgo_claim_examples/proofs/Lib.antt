@@ -1,0 +1,15 @@
+pub mod Checked
+pub mod Codes
+pub mod Compiled
+pub mod Ends
+pub mod Enough
+pub mod Fits
+pub mod Lowered
+pub mod Names
+pub mod ObjectClasses
+pub mod PlainRuns
+pub mod ProgramsSuffice
+pub mod Quiet
+pub mod RegionRuns
+pub mod Search
+pub mod StateExamples
