@@ -1,5 +1,5 @@
 -- The three-address code of the programs.
-use Rattle.std.specs.Prelude.{ℕ, codes, pos, List, [], ◌∷◌, Option, Some, None}
+use Rattle.std.specs.Prelude.{ℕ, codes, pos, true, List, [], ◌∷◌, Option, Some, None}
 use Rattle.rgo_ast.specs.declared.ops.BinaryOp.TheVariants.{Add, Eq, Lt, Sub}
 use Rattle.rgo_typed.specs.declared.actions.Action.TheVariants as action
 use Rattle.rgo_typed.specs.declared.programs.Struct.{Struct}
@@ -129,3 +129,11 @@ endless_code = code_of [] (
     code_fn (codes "main") 0 None [] (
     at 29 (Jump 0)
     ∷ at 38 (Return None) ∷ []) ∷ [])
+
+-- the code of `no_object`
+abbrev pub no_object_code : Tac
+no_object_code = code_of [] (
+    code_fn (codes "main") 0 None (bool ∷ []) (
+        at 55 (Do (Some 0) (action.Bool true) [])
+        ∷ at 54 (Print (piece.Value ∷ []) (0 ∷ []))
+        ∷ at 61 (Return None) ∷ []) ∷ [])

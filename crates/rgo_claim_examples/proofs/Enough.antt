@@ -38,7 +38,7 @@ use Rattle.rgo_claim_examples.proofs.Quiet.{quiet, quiet_is_of, quiet_of, quiet_
 use Rattle.rgo_claim_examples.proofs.Search.{found}
 
 -- what passes for all of a list passes at each place
-all_at : {X : Type 0} (test : X → Bool) (xs : List X) (i : ℕ) (x : X) → list_all test xs ≡ true
+pub all_at : {X : Type 0} (test : X → Bool) (xs : List X) (i : ℕ) (x : X) → list_all test xs ≡ true
     → slice_get xs i ≡ Some x → test x ≡ true
 all_at test [] i x all at = absurd cc
 all_at test (y ∷ ys) zero x all at =

@@ -6,6 +6,7 @@ pub mod Enough
 pub mod Fits
 pub mod Lowered
 pub mod Names
+pub mod NoRoom
 pub mod ObjectClasses
 pub mod PlainRuns
 pub mod ProgramsSuffice

@@ -18,6 +18,7 @@ use Rattle.rgo_claim_examples.specs.Sufficing.{ProgramsSuffice, with_limits}
 use Rattle.rgo_claim_examples.proofs.Codes.{one_object_code, linked_list_code, binary_tree_code, sender_code, endless_code}
 use Rattle.rgo_claim_examples.proofs.Enough.{suffices}
 use Rattle.rgo_claim_examples.proofs.Fits.{fits}
+use Rattle.rgo_claim_examples.proofs.NoRoom.{needs_no_room}
 use Rattle.rgo_claim_examples.proofs.Lowered.{one_object_lowered, linked_list_lowered, binary_tree_lowered, sender_lowered}
 use Rattle.rgo_claim_examples.proofs.Lowered.{endless_lowered}
 
@@ -98,6 +99,7 @@ programs_suffice = record {
     lowered = sender_lowered;
     suffices = suffices default_options sender_code 20 sender_fits sender sender_lowered;
   };
+  no_room = needs_no_room;
   never_ends = never_ends;
   too_few_steps = too_few_steps;
   too_few_goroutines = too_few_goroutines;

@@ -1,5 +1,5 @@
 -- Small programs as typed trees, with the places that their nodes have in a text in the usual layout.
-use Rattle.std.specs.Prelude.{ℕ, codes, pos, List, [], ◌∷◌, Option, Some, None}
+use Rattle.std.specs.Prelude.{ℕ, codes, pos, true, List, [], ◌∷◌, Option, Some, None}
 use Rattle.rgo_ast.specs.declared.ops.BinaryOp.TheVariants.{Add, Eq, Lt, Sub}
 use Rattle.rgo_typed.specs.declared.actions.Action.{Action}
 use Rattle.rgo_typed.specs.declared.actions.Action.TheVariants as action
@@ -137,6 +137,13 @@ sender = program [] (
     tree.Declare 0 (chan_of int) (apply action.Chan (number 0 83 ∷ []) (chan_of int) 83) 80
     ∷ tree.Go 0 (terms_of (local 0 ∷ [])) 99
     ∷ print (apply action.Recv (local 0 ∷ []) int 123) 122 ∷ []) 128 ∷ [])
+
+-- ---- no object
+
+-- func main() { fmt.Println(true) }
+abbrev pub no_object : Typed
+no_object =
+    program [] (function (codes "main") 0 [] None (print (apply (action.Bool true) [] bool 55) 54 ∷ []) 61 ∷ [])
 
 -- ---- no end
 

@@ -6,7 +6,7 @@ use Rattle.rgo_lower.specs.Lowered.{IsLowered}
 use Rattle.rgo_command_line.specs.Limits.{default_options}
 use Rattle.rgo_command_line.specs.declared.limits.RunOptions.{RunOptions}
 use Rattle.rgo_run.specs.Headline.{Suffices}
-use Rattle.rgo_claim_examples.specs.Programs.{one_object, linked_list, binary_tree, sender, endless}
+use Rattle.rgo_claim_examples.specs.Programs.{one_object, linked_list, binary_tree, sender, endless, no_object}
 
 -- The program has code, and the options that `run` has without words suffice for it.
 pub record SufficesByDefault (program : Typed) : Type 0 where
@@ -18,6 +18,9 @@ abbrev pub with_limits : (steps goroutines : ℕ) → RunOptions
 with_limits steps goroutines =
     record default_options { limits = record { steps = steps; goroutines = goroutines } }
 
+abbrev pub without_room : RunOptions
+without_room = record default_options { sizes = record { page_words = 0; pages = 0; regions = 0 } }
+
 -- An object, a list that is built and summed, a tree that is built and counted, and a goroutine that sends: for each the
 -- default options suffice, so `run` must end with 0, 2 or 3, or with 11.
 pub record ProgramsSuffice : Type 0 where
@@ -25,6 +28,8 @@ pub record ProgramsSuffice : Type 0 where
   pub list : SufficesByDefault linked_list
   pub tree : SufficesByDefault binary_tree
   pub goroutines : SufficesByDefault sender
+  -- a program that makes no object needs neither a page nor a region
+  pub no_room : Suffices without_room no_object
   -- no options suffice for a program that never ends
   pub never_ends : (options : RunOptions) → Suffices options endless → ⊥
   -- the run of five steps meets a limit of four, and that of two goroutines a limit of one
