@@ -134,6 +134,6 @@ endless_code = code_of [] (
 abbrev pub no_object_code : Tac
 no_object_code = code_of [] (
     code_fn (codes "main") 0 None (bool ∷ []) (
-        at 55 (Do (Some 0) (action.Bool true) [])
-        ∷ at 54 (Print (piece.Value ∷ []) (0 ∷ []))
-        ∷ at 61 (Return None) ∷ []) ∷ [])
+    at 55 (Do (Some 0) (action.Bool true) [])
+    ∷ at 54 (Print (piece.Value ∷ []) (0 ∷ []))
+    ∷ at 61 (Return None) ∷ []) ∷ [])

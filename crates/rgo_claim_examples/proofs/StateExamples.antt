@@ -1,5 +1,5 @@
 -- The examples of states and of room, by computation.
-use Rattle.std.proofs.Common.{◌≡◌, ℕ, zero, suc, ◌+◌, ◌≤◌, ◌<◌, [], ◌∷◌, Option, Some, None, refl, sym, ap}
+use Rattle.std.proofs.Common.{◌≡◌, ◌⊎◌, inl, inr, ◌∙◌, ℕ, zero, suc, ◌+◌, ◌≤◌, ◌<◌, [], ◌∷◌, Option, Some, None, refl, sym, ap}
 use Rattle.std.proofs.Common.{subst, arith, true≢false, slice_get, Contains}
 use Rattle.std.specs.Prelude.{IsSome, unwrap_or}
 use Rattle.std.proofs.lemmas.Bool.{leb-true, ltb-true}
@@ -14,11 +14,14 @@ use Rattle.rgo_region_machine.specs.declared.regions.Region.{Region}
 use Rattle.rgo_region_machine.specs.declared.regions.Region.TheVariants.{Numbered}
 use Rattle.rgo_region_machine.specs.Examples.{one_object}
 use Rattle.rgo_region_machine.specs.Machine.{TakePage, plain_step, region_run, region_start, region_step}
-use Rattle.rgo_region_machine.specs.Objects.{new_object, words}
+use Rattle.rgo_region_machine.specs.Objects.{making_region, new_object, touched, words}
+use Rattle.rgo_tac.specs.Frames.{Frame}
+use Rattle.rgo_code.specs.Code.{CodeInstr}
+use Rattle.rgo_region_machine.specs.Owed.{current, function_at}
 use Rattle.rgo_region_machine.specs.Regions.{RegionInfo}
-use Rattle.rgo_region_machine.specs.States.{Holder, RegionState, Remove}
+use Rattle.rgo_region_machine.specs.States.{Holder, RegionState, Remove, top_names}
 use Rattle.rgo_sound.specs.Holding.{OneHoldingName, held}
-use Rattle.rgo_sound.specs.NextNames.{HasStake, NextNames}
+use Rattle.rgo_sound.specs.NextNames.{HasStake, InstructionNames, NextNames}
 use Rattle.rgo_sound.specs.Progress.{MakesTooLarge}
 use Rattle.rgo_sound.specs.Safety.{IsSafe, PointersStay, cells_of}
 use Rattle.rgo_sound.specs.Stakes.{HasEnded, holders_of, pending_of}
@@ -123,9 +126,85 @@ removing_twice live = let has = live 0 _ (Numbered 0) refl refl in true≢false 
 removing_anothers : NamesLive one_object example.removing_anothers → ⊥
 removing_anothers live = let has = live 0 _ (Numbered 0) refl refl in let none = has.1.1 in omega (arith, none)
 
+-- ---- what an instruction names
+
+-- a region that this one is
+is_first : (s : RegionState) (h : Holder) → HasStake s h (Numbered 0) → (r : Region) → Some (Numbered 0) ≡ Some r
+    → HasStake s h r
+is_first s h has r e = subst (HasStake s h) (same_Some (Numbered 0) r e) has
+
+abbrev maker : Holder
+maker = example.holder (0 ∷ []) ((0, Numbered 0) ∷ []) []
+
+no_region : (r : Region) → ◌≡◌ {A = Option Region} None (Some r) → ⊥
+no_region r e = cc
+
+no_object : (o : ℕ) → ◌≡◌ {A = Option ℕ} None (Some o) → ⊥
+no_object o e = cc
+
+-- what an instruction of `one_object` names is region 0, with a stake of the goroutine
+abbrev NamesFirst : RegionState → Frame → CodeInstr → Type 0
+NamesFirst s frame i =
+    (r : Region)
+    → (making_region (function_at one_object frame) (top_names maker.environments) i.op ≡ Some r)
+    ⊎ ((o : ℕ) × (touched frame i.op ≡ Some o) × (slice_get s.owners o ≡ Some r))
+    → HasStake s maker r
+
+of_instr : (s : RegionState) (frame : Frame) (i : CodeInstr) → current one_object frame ≡ Some i → NamesFirst s frame i
+    → (r : Region) → InstructionNames one_object s maker (frame ∷ []) r → HasStake s maker r
+of_instr s frame i is names r named =
+    subst (NamesFirst s frame) (same_Some i named.0 (sym is ∙ named.1)) names r named.2
+
+abbrev first_frame : Frame
+first_frame = record { function = 0; next = 0; variables = value.Nil ∷ value.Nil ∷ value.Nil ∷ [] }
+
+abbrev load_frame : Frame
+load_frame = record { function = 0; next = 2; variables = value.Object 0 ∷ value.Object 0 ∷ value.Nil ∷ [] }
+
+made : (i : CodeInstr) → current one_object first_frame ≡ Some i → NamesFirst example.at_home first_frame i
+made i is = subst (NamesFirst example.at_home first_frame) (same_Some _ i is) by
+  where
+    by : (r : Region) → (Some (Numbered 0) ≡ Some r)
+        ⊎ ((o : ℕ) × (◌≡◌ {A = Option ℕ} None (Some o)) × (slice_get example.at_home.owners o ≡ Some r))
+        → HasStake example.at_home maker r
+    by r (inl e) = is_first example.at_home maker (refl, contains_here 0 []) r e
+    by r (inr t) = absurd (no_object t.0 t.1)
+
+making : NamesLive one_object example.at_home
+making zero h r at =
+    subst (λ (k : Holder). NextNames one_object example.at_home 0 k k.duties k.offer r → HasStake example.at_home k r)
+    (same_Some maker h at) (of_instr example.at_home first_frame _ refl (made _ refl) r)
+making (suc g) h r at = absurd cc
+
+read : (i : CodeInstr) → current one_object load_frame ≡ Some i → NamesFirst example.loading load_frame i
+read i is = subst (NamesFirst example.loading load_frame) (same_Some _ i is) by
+  where
+    owned : (o : ℕ) (r : Region) → 0 ≡ o → slice_get example.loading.owners o ≡ Some r → Some (Numbered 0) ≡ Some r
+    owned o r is e = subst (λ p. slice_get example.loading.owners p ≡ Some r) (sym is) e
+
+    by : (r : Region) → (◌≡◌ {A = Option Region} None (Some r))
+        ⊎ ((o : ℕ) × (Some 0 ≡ Some o) × (slice_get example.loading.owners o ≡ Some r))
+        → HasStake example.loading maker r
+    by r (inl e) = absurd (no_region r e)
+    by r (inr t) =
+        is_first example.loading maker (refl, contains_here 0 []) r (owned t.0 r (same_Some 0 t.0 t.1) t.2)
+
+loading : NamesLive one_object example.loading
+loading zero h r at =
+    subst (λ (k : Holder). NextNames one_object example.loading 0 k k.duties k.offer r → HasStake example.loading k r)
+    (same_Some maker h at) (of_instr example.loading load_frame _ refl (read _ refl) r)
+loading (suc g) h r at = absurd cc
+
+loading_removed : NamesLive one_object example.loading_removed → ⊥
+loading_removed live =
+    let has = live 0 _ (Numbered 0) refl (_, refl, inr (0, refl, refl)) in true≢false (sym has.0)
+
+acknowledging : NamesLive one_object example.acknowledging → ⊥
+acknowledging live = let has = live 0 _ (Numbered 0) refl refl in true≢false (sym has.0)
+
 pub state_examples : StateExamples
 state_examples = record {
-  at_home = at_home;
+  safe = at_home;
   astray = astray;
   overcounted = overcounted;
   unnamed = unnamed;
@@ -134,6 +213,10 @@ state_examples = record {
   removing = removing;
   removing_twice = removing_twice;
   removing_anothers = removing_anothers;
+  making = making;
+  loading = loading;
+  loading_removed = loading_removed;
+  acknowledging = acknowledging;
 }
 
 -- ---- room

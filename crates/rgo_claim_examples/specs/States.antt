@@ -1,7 +1,7 @@
 -- States of the region machine in which something is wrong, states in which nothing is, and what each definition says of
 -- them. The code is that of `rgo_region_machine`'s examples.
-use Rattle.std.specs.Prelude.{◌≡◌, ℕ, List, [], ◌∷◌, Some, None}
-use Rattle.rgo_memory.specs.Memory.{Object, StructObject}
+use Rattle.std.specs.Prelude.{◌≡◌, ℕ, false, List, [], ◌∷◌, Some, None}
+use Rattle.rgo_memory.specs.Memory.{Channel, Object, StructObject}
 use Rattle.rgo_memory.specs.declared.values.Value.TheVariants as value
 use Rattle.rgo_machine.specs.declared.limits.Sizes.{Sizes}
 use Rattle.rgo_machine.specs.declared.turns.Shortage.TheVariants as shortage
@@ -13,7 +13,7 @@ use Rattle.rgo_region_machine.specs.declared.regions.Region.TheVariants.{Numbere
 use Rattle.rgo_region_machine.specs.Examples.{one_object}
 use Rattle.rgo_region_machine.specs.Machine.{Attend, Event, region_run, region_start}
 use Rattle.rgo_region_machine.specs.Regions.{Bindings, RegionInfo}
-use Rattle.rgo_region_machine.specs.States.{Duty, Holder, NoOffer, RegionState, Remove}
+use Rattle.rgo_region_machine.specs.States.{Duty, Holder, NoOffer, RegionState, Remove, Taken}
 use Rattle.rgo_sound.specs.Safety.{IsSafe}
 use Rattle.rgo_world.specs.Worlds.{LacksIn}
 use Rattle.rgo_run.specs.Runs.{NamesLive}
@@ -43,11 +43,11 @@ holder stakes names duties = record {
 abbrev pub region : (stakes pages : ℕ) → RegionInfo
 region stakes pages = record { stakes = stakes; pages = pages }
 
--- `main` alone, with these objects in these regions
-abbrev pub state : List Object → List Region → List RegionInfo → Holder → RegionState
-state heap owners regions main = record {
+-- `main` alone, at these frames, with these objects in these regions
+abbrev pub state_at : List Frame → List Object → List Region → List RegionInfo → Holder → RegionState
+state_at frames heap owners regions main = record {
   plain =
-      record { memory = record { heap = heap; variables = [] }; goroutines = main_at 0 ∷ []; printed = []; ended = None };
+      record { memory = record { heap = heap; variables = [] }; goroutines = frames ∷ []; printed = []; ended = None };
   owners = owners;
   regions = regions;
   global_pages = 0;
@@ -55,6 +55,10 @@ state heap owners regions main = record {
   steps = 1;
   mark = None;
 }
+
+-- the same before its first instruction
+abbrev pub state : List Object → List Region → List RegionInfo → Holder → RegionState
+state heap owners regions main = state_at (main_at 0) heap owners regions main
 
 -- ---- states
 
@@ -95,8 +99,30 @@ removing_twice = state [] [] (region 0 0 ∷ []) (holder [] ((0, Numbered 0) ∷
 abbrev pub removing_anothers : RegionState
 removing_anothers = state [] [] (region 1 0 ∷ []) (holder [] ((0, Numbered 0) ∷ []) (Remove 0 ∷ []))
 
+-- `main` before its load of the first field of an object, with these regions and stakes
+abbrev pub before_load : List RegionInfo → List ℕ → RegionState
+before_load regions stakes =
+    state_at (record {
+      function = 0;
+      next = 2;
+      variables = value.Object 0 ∷ value.Object 0 ∷ value.Nil ∷ [];
+    } ∷ []) (StructObject (value.Nil ∷ []) ∷ []) (Numbered 0 ∷ []) regions (holder stakes ((0, Numbered 0) ∷ []) [])
+
+-- the region of the object is live; it has been removed
+abbrev pub loading : RegionState
+loading = before_load (region 1 1 ∷ []) (0 ∷ [])
+
+abbrev pub loading_removed : RegionState
+loading_removed = before_load (region 0 1 ∷ []) []
+
+-- an offer was taken on a channel whose region has been removed
+abbrev pub acknowledging : RegionState
+acknowledging =
+    state (Channel 0 [] false ∷ []) (Numbered 0 ∷ []) (region 0 1 ∷ [])
+    (record (holder [] [] []) { offer = Taken 0 })
+
 pub record StateExamples : Type 0 where
-  pub at_home : IsSafe one_object at_home
+  pub safe : IsSafe one_object at_home
   pub astray : IsSafe one_object astray → ⊥
   pub overcounted : IsSafe one_object overcounted → ⊥
   pub unnamed : IsSafe one_object unnamed → ⊥
@@ -105,6 +131,11 @@ pub record StateExamples : Type 0 where
   pub removing : NamesLive one_object removing
   pub removing_twice : NamesLive one_object removing_twice → ⊥
   pub removing_anothers : NamesLive one_object removing_anothers → ⊥
+  -- an object is made, or read
+  pub making : NamesLive one_object at_home
+  pub loading : NamesLive one_object loading
+  pub loading_removed : NamesLive one_object loading_removed → ⊥
+  pub acknowledging : NamesLive one_object acknowledging → ⊥
 
 -- ---- room
 
