@@ -9,8 +9,10 @@ pub mod Names
 pub mod NoRoom
 pub mod ObjectClasses
 pub mod PlainRuns
+pub mod ProgramTexts
 pub mod ProgramsSuffice
 pub mod Quiet
 pub mod RegionRuns
 pub mod Search
 pub mod StateExamples
+pub mod Texts

@@ -1,27 +1,24 @@
 -- A program that makes no object needs no page, no region and no room for an object.
-use Rattle.std.proofs.Common.{◌≡◌, ◌≢◌, ◌≤◌, ◌<◌, ◌+◌, ◌*◌, ℕ, zero, suc, max, Bool, true, false, not, ◌&&◌, List, [], ◌∷◌, ◌++◌, length, map}
-use Rattle.std.proofs.Common.{Option, Some, None, refl, sym, ap, ◌∙◌, subst, arith, true≢false, slice_get, if◌then◌else◌}
+use Rattle.std.proofs.Common.{◌≡◌, ◌+◌, ◌*◌, ℕ, suc, max, Bool, true, false, not, ◌&&◌, List, [], ◌∷◌, ◌++◌, length, map}
+use Rattle.std.proofs.Common.{Option, Some, None, refl, sym, ap, ◌∙◌, subst, arith, true≢false, slice_get}
 use Rattle.std.specs.Prelude.{IsSome, nat_le, option_and_then}
 use Rattle.std.specs.Option.{is_some, option_map}
 use Rattle.std.specs.List.{list_all}
 use Rattle.std.proofs.lemmas.Bool.{and_parts, and_right, leb-true}
 use Rattle.std.proofs.lemmas.Option.{slice_get-map, slice_get_past}
 use Rattle.rgo_typed.specs.Types.{is_pointer_like}
-use Rattle.rgo_typed.specs.declared.types.Type.{«Type»}
 use Rattle.rgo_memory.specs.Memory.{Object}
 use Rattle.rgo_machine.specs.declared.picks.Pick.TheVariants.{One}
-use Rattle.rgo_machine.specs.declared.turns.Shortage.TheVariants as shortage
 use Rattle.rgo_tac.specs.declared.regions.Class.{Class}
 use Rattle.rgo_tac.specs.declared.regions.Class.TheVariants.{Global, Name, NoClass}
 use Rattle.rgo_tac.specs.Code.{Tac, TacFn}
 use Rattle.rgo_tac.specs.Frames.{Frame}
 use Rattle.rgo_tac.specs.Tac.{TacState, tac, tac_start}
 use Rattle.rgo_lower.proofs.Determined.{lowering_is_determined}
-use Rattle.rgo_code.specs.Checked.{IsChecked}
 use Rattle.rgo_code.specs.ClassRules.{SlotFits}
 use Rattle.rgo_code.specs.Code.{Code, CodeFn, CodeInstr, Slot}
 use Rattle.rgo_code.specs.Erasure.{erased, erased_fn}
-use Rattle.rgo_code.specs.Names.{distinct_names, result_class, slot_class}
+use Rattle.rgo_code.specs.Names.{distinct_names, slot_class}
 use Rattle.rgo_code.specs.declared.rules.Line.TheVariants as line
 use Rattle.rgo_code.specs.declared.rules.Rule.TheVariants as rule
 use Rattle.rgo_region_machine.specs.Machine.{Event, TakePage, next_object, object_made, page_for, page_taken, plain_step}
@@ -32,11 +29,11 @@ use Rattle.rgo_region_machine.specs.Duties.{may_go}
 use Rattle.rgo_region_machine.specs.Regions.{is_live}
 use Rattle.rgo_region_machine.specs.States.{Holder, RegionState, frames_of}
 use Rattle.rgo_region_machine.specs.declared.regions.Region.{Region}
-use Rattle.rgo_sound.proofs.ErasureLemmas.{Yields, yields_is, yields_none, yields_then, yields_where}
+use Rattle.rgo_sound.proofs.ErasureLemmas.{Yields, yields_none, yields_then, yields_where}
 use Rattle.rgo_sound.specs.Safety.{most_names, name_count}
 use Rattle.rgo_command_line.specs.Limits.{default_options}
 use Rattle.rgo_run.specs.Compiled.{IsCompiledFrom}
-use Rattle.rgo_run.specs.Headline.{AlwaysHas, Suffices}
+use Rattle.rgo_run.specs.Headline.{Suffices}
 use Rattle.rgo_run.proofs.Sufficing.{few_suffice}
 use Rattle.rgo_claim_examples.specs.Programs.{no_object}
 use Rattle.rgo_claim_examples.specs.Sufficing.{without_room}

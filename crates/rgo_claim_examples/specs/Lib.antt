@@ -4,3 +4,4 @@ pub mod Programs
 pub mod RegionRuns
 pub mod States
 pub mod Sufficing
+pub mod Texts

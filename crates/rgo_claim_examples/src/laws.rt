@@ -5,6 +5,7 @@ ghost use Rattle.rgo_claim_examples.specs.Ends.{EndExamples};
 ghost use Rattle.rgo_claim_examples.specs.RegionRuns.{RegionRunExamples};
 ghost use Rattle.rgo_claim_examples.specs.States.{RoomExamples, StateExamples};
 ghost use Rattle.rgo_claim_examples.specs.Sufficing.{ProgramsSuffice};
+ghost use Rattle.rgo_claim_examples.specs.Texts.{TextExamples};
 
 /// No run of the four programs meets a default limit, or lacks a page, a region or the room for an object. For a program
 /// that never ends no options are enough, and too low a limit is not enough for one of the four.
@@ -36,4 +37,9 @@ pub fn end_examples()
 /// A run with regions to its exit, and one to a state in which a region is missing; and what no run with regions comes to.
 pub fn region_run_examples()
     ensures { RegionRunExamples }
+{}
+
+/// A text that is a program, this one and no other, and a text that is refused.
+pub fn text_examples()
+    ensures { TextExamples }
 {}
