@@ -16,3 +16,4 @@ pub mod RegionRuns
 pub mod Search
 pub mod StateExamples
 pub mod Texts
+pub mod Whole

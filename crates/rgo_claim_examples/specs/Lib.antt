@@ -5,3 +5,4 @@ pub mod RegionRuns
 pub mod States
 pub mod Sufficing
 pub mod Texts
+pub mod Whole

@@ -6,6 +6,7 @@ ghost use Rattle.rgo_claim_examples.specs.RegionRuns.{RegionRunExamples};
 ghost use Rattle.rgo_claim_examples.specs.States.{RoomExamples, StateExamples};
 ghost use Rattle.rgo_claim_examples.specs.Sufficing.{ProgramsSuffice};
 ghost use Rattle.rgo_claim_examples.specs.Texts.{TextExamples};
+ghost use Rattle.rgo_claim_examples.specs.Whole.{TextsRun};
 
 /// No run of the four programs meets a default limit, or lacks a page, a region or the room for an object. For a program
 /// that never ends no options are enough, and too low a limit is not enough for one of the four.
@@ -42,4 +43,10 @@ pub fn region_run_examples()
 /// A text that is a program, this one and no other, and a text that is refused.
 pub fn text_examples()
     ensures { TextExamples }
+{}
+
+/// By the headline, a call that runs one of the four texts with the default options, and in which nothing fails, ends with
+/// status 0, or with 11.
+pub fn texts_run()
+    ensures { TextsRun }
 {}
