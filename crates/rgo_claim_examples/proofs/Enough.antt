@@ -1,0 +1,177 @@
+-- From the search to the claim: where each state that a program's code comes to has room, no run meets a limit, and none
+-- wants more room than there is.
+use Rattle.std.proofs.Common.{◌≡◌, ℕ, zero, suc, ◌+◌, ◌*◌, ◌<◌, ◌≤◌, Bool, true, List, [], ◌∷◌, length, Some, ap}
+use Rattle.std.proofs.Common.{subst, arith, slice_get}
+use Rattle.std.specs.Prelude.{nat_le, nat_lt, option_and_then}
+use Rattle.std.specs.List.{list_all}
+use Rattle.std.proofs.Math.Nat.{le-max_right}
+use Rattle.std.proofs.lemmas.Bool.{and_parts, ltb-true, leb-true}
+use Rattle.std.proofs.lemmas.Nat.{mul-le}
+use Rattle.std.proofs.lemmas.Option.{same_Some}
+use Rattle.rgo_typed.specs.Tree.{Typed}
+use Rattle.rgo_memory.specs.Memory.{Object}
+use Rattle.rgo_machine.specs.declared.picks.Pick.{Pick}
+use Rattle.rgo_machine.specs.declared.picks.Pick.TheVariants.{One}
+use Rattle.rgo_machine.specs.Limits.{LeadsWithin, deepest}
+use Rattle.rgo_machine.specs.Runs.{run}
+use Rattle.rgo_tac.specs.Code.{Tac}
+use Rattle.rgo_tac.specs.Frames.{Frame}
+use Rattle.rgo_tac.specs.Tac.{TacState, tac, tac_start}
+use Rattle.rgo_lower.specs.Lowered.{IsLowered}
+use Rattle.rgo_lower.proofs.Determined.{lowering_is_determined}
+use Rattle.rgo_code.specs.Code.{Code}
+use Rattle.rgo_code.specs.Erasure.{erased}
+use Rattle.rgo_region_machine.specs.Machine.{Event, plain_step, region_run, region_start}
+use Rattle.rgo_region_machine.specs.Objects.{new_object, words}
+use Rattle.rgo_region_machine.specs.States.{RegionState}
+use Rattle.rgo_sound.specs.Safety.{most_names}
+use Rattle.rgo_driver.specs.declared.ends.RunEnd.TheVariants as run_end
+use Rattle.rgo_command_line.specs.declared.limits.RunOptions.{RunOptions}
+use Rattle.rgo_run.specs.Compiled.{IsCompiledFrom}
+use Rattle.rgo_run.specs.Headline.{NeverEnds, Suffices}
+use Rattle.rgo_run.specs.Sufficing.{FewObjects, FewSteps}
+use Rattle.rgo_run.proofs.Sufficing.{few_suffice}
+use Rattle.rgo_claim_examples.proofs.Fits.{fits, has_room, is_shallow, is_small, most_variables}
+use Rattle.rgo_claim_examples.proofs.Names.{names_bounded}
+use Rattle.rgo_claim_examples.proofs.PlainRuns.{PlainRun, joined, plain_run}
+use Rattle.rgo_claim_examples.proofs.Quiet.{quiet, quiet_is_of, quiet_of, quiet_run, quiet_step}
+use Rattle.rgo_claim_examples.proofs.Search.{found}
+
+-- what passes for all of a list passes at each place
+pub all_at : {X : Type 0} (test : X → Bool) (xs : List X) (i : ℕ) (x : X) → list_all test xs ≡ true
+    → slice_get xs i ≡ Some x → test x ≡ true
+all_at test [] i x all at = absurd cc
+all_at test (y ∷ ys) zero x all at =
+    subst (λ z. test z ≡ true) (same_Some y x at) (and_parts (test y) (list_all test ys) all).0
+all_at test (y ∷ ys) (suc i) x all at = all_at test ys i x (and_parts (test y) (list_all test ys) all).1 at
+
+module _ (options : RunOptions) (code : Tac) (steps : ℕ) where
+  -- what the search finds of a state
+  record HasRoom (t : TacState) (picks : List Pick) : Type 0 where
+    short : length picks < steps
+    shallow : (g : ℕ) (frames : List Frame) → slice_get t.goroutines g ≡ Some frames → length frames < deepest
+    few : length t.goroutines < options.limits.goroutines
+    objects : length t.memory.heap + length t.goroutines ≤ options.sizes.pages
+    small : (o : ℕ) (object : Object) → slice_get t.memory.heap o ≡ Some object → words object ≤ options.sizes.page_words
+    regions : (steps + length t.goroutines) * most_variables code.functions ≤ options.sizes.regions
+
+  of_test : (t : TacState) (picks : List Pick) → length picks < steps
+      → has_room options.limits options.sizes steps (most_variables code.functions) t ≡ true → HasRoom t picks
+  of_test t picks short passes =
+      let a = and_parts (list_all is_shallow t.goroutines) _ passes in
+      let b = and_parts (nat_lt (length t.goroutines) options.limits.goroutines) _ a.1 in
+      let c = and_parts (nat_le (length t.memory.heap + length t.goroutines) options.sizes.pages) _ b.1 in
+      let d = and_parts (list_all (is_small options.sizes) t.memory.heap) _ c.1 in
+      record {
+        short = short;
+        shallow = λ g frames at. ltb-true (length frames) deepest (all_at is_shallow t.goroutines g frames a.0 at);
+        few = ltb-true (length t.goroutines) options.limits.goroutines b.0;
+        objects = leb-true (length t.memory.heap + length t.goroutines) options.sizes.pages c.0;
+        small =
+            λ o object at. leb-true (words object) options.sizes.page_words
+            (all_at (is_small options.sizes) t.memory.heap o object d.0 at);
+        regions =
+            leb-true ((steps + length t.goroutines) * most_variables code.functions) options.sizes.regions d.1;
+      }
+
+  module _ (search : fits options.limits options.sizes steps code ≡ true) where
+    within_limit : steps ≤ options.limits.steps
+    within_limit = leb-true steps options.limits.steps (and_parts (nat_le steps options.limits.steps) _ search).0
+
+    room_at : (picks : List Pick) (t : TacState) → run (quiet_step (tac code)) (tac_start code) picks ≡ Some (quiet t)
+        → HasRoom t picks
+    room_at picks t leads =
+        let all = (and_parts (nat_le steps options.limits.steps) _ search).1 in
+        let f = found (tac code) (quiet_step (tac code)) (quiet_is_of (tac code))
+        (has_room options.limits options.sizes steps (most_variables code.functions)) steps
+        picks (tac_start code) (quiet t) all leads in
+        of_test t picks f.1 f.0
+
+    module _ (program : Typed) (lowered : IsLowered program code) where
+      -- ---- runs of the three-address code
+
+      room_within : (other : Tac) → IsLowered program other → (picks : List Pick) (t : TacState)
+          → LeadsWithin (tac other) options.limits (tac_start other) picks t → HasRoom t picks
+      room_within other is picks t leads =
+          let same = lowering_is_determined program code other lowered is in
+          room_at picks t (quiet_run (tac code) options.limits picks (tac_start code) t
+          (subst (λ c. LeadsWithin (tac c) options.limits (tac_start c) picks t) same leads))
+
+      calls : NeverEnds options.limits program run_end.CallsTooDeep
+      calls other is before picks t leads end =
+          let room = room_within other is picks t leads in
+          let deep = end.1 in
+          let less = room.shallow deep.goroutine (deep.frame ∷ deep.callers) deep.frames in
+          omega (arith, less, deep.deep)
+
+      never_spent : NeverEnds options.limits program run_end.StepsSpent
+      never_spent other is before picks t leads end =
+          let room = room_within other is picks t leads in
+          omega (arith, room.short, within_limit, end.1)
+
+      goroutines : NeverEnds options.limits program run_end.GoroutinesSpent
+      goroutines other is before picks t leads end =
+          let room = room_within other is picks t leads in
+          let full = end.1 in
+          let least = le-max_right 1 options.limits.goroutines in
+          omega (arith, room.few, full.full, least)
+
+      -- ---- runs with regions
+
+      module _ (made : Code) (compiled : IsCompiledFrom program made) (events : List Event) (s : RegionState)
+          (is_run : region_run made options.sizes.page_words events ≡ Some s) where
+        same : erased made ≡ code
+        same = lowering_is_determined program code (erased made) lowered compiled.lowered
+
+        plain : PlainRun made options.sizes.page_words (region_start made) s
+        plain = plain_run made options.sizes.page_words events (region_start made) s is_run
+
+        room_by : (picks : List Pick) (t : TacState)
+            → run (quiet_step (tac (erased made))) (tac_start (erased made)) picks ≡ Some (quiet t) → HasRoom t picks
+        room_by picks t leads =
+            room_at picks t (subst (λ c. run (quiet_step (tac c)) (tac_start c) picks ≡ Some (quiet t)) same leads)
+
+        room_in : HasRoom s.plain (PlainRun.picks plain)
+        room_in = room_by (PlainRun.picks plain) s.plain (PlainRun.leads plain)
+
+        few_objects : FewObjects options.sizes made s
+        few_objects = HasRoom.objects room_in
+
+        few_steps : FewSteps options.sizes made s
+        few_steps =
+            let most = names_bounded made.functions in
+            let same_most = ap (λ (c : Tac). most_variables c.functions) same in
+            let taken = PlainRun.steps plain in
+            let short = HasRoom.short room_in in
+            let product = mul-le (s.steps + length s.plain.goroutines) (most_names made.functions)
+            (steps + length s.plain.goroutines) (most_variables code.functions) (omega (arith, taken, short))
+            (omega (arith, most, same_most)) in
+            omega (arith, product, HasRoom.regions room_in)
+
+        -- the object that a step makes from here is in a state of a longer run
+        no_large : (g : ℕ) (next : TacState) (object : Object) → plain_step made s.plain (One g) ≡ Some next
+            → new_object s.plain next ≡ Some object → words object ≤ options.sizes.page_words
+        no_large g next object e at =
+            let one = quiet_of (tac (erased made)) s.plain (One g) next e in
+            let longer = joined made options.sizes.page_words (PlainRun.picks plain) (One g ∷ [])
+            (tac_start (erased made)) (quiet s.plain) (quiet next) (PlainRun.leads plain)
+            (ap (option_and_then (λ u. Some u)) one) in
+            HasRoom.small (room_by longer.0 next longer.1) (length s.plain.memory.heap) object at
+
+      -- every run of the program has what it needs
+      pub suffices : Suffices options program
+      suffices = record {
+        calls = calls;
+        steps = never_spent;
+        goroutines = goroutines;
+        pages =
+            few_suffice.pages options.sizes program
+            (λ made events s compiled is_run. few_objects made compiled events s is_run);
+        regions =
+            few_suffice.regions options.sizes program
+            (λ made events s compiled is_run. few_steps made compiled events s is_run);
+        object_size =
+            λ made compiled events s is_run lacks.
+            let fits = no_large made compiled events s is_run lacks.0 lacks.1 lacks.3.0 lacks.2 lacks.3.1 in
+            omega (arith, fits, lacks.3.2);
+      }

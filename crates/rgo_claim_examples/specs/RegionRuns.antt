@@ -1,0 +1,28 @@
+-- A run with regions, and what is none.
+use Rattle.std.specs.Prelude.{◌≡◌, [], ◌∷◌, Some, length}
+use Rattle.rgo_machine.specs.declared.limits.Sizes.{Sizes}
+use Rattle.rgo_machine.specs.declared.picks.End.TheVariants.{Exit}
+use Rattle.rgo_machine.specs.declared.turns.Shortage.TheVariants as shortage
+use Rattle.rgo_tac.specs.Tac.{TacState}
+use Rattle.rgo_code.specs.Code.{Code}
+use Rattle.rgo_driver.specs.declared.ends.RunEnd.{RunEnd}
+use Rattle.rgo_driver.specs.declared.ends.RunEnd.TheVariants as run_end
+use Rattle.rgo_command_line.specs.Limits.{default_options}
+use Rattle.rgo_run.specs.Runs.{RegionRun}
+use Rattle.rgo_claim_examples.specs.CompiledCode.{code_with}
+use Rattle.rgo_claim_examples.specs.States.{sizes}
+
+-- the code of `one_object`
+abbrev pub code : Code
+code = code_with (0 ∷ [])
+
+pub record RegionRunExamples : Type 0 where
+  -- it runs to its exit
+  pub exits : (t : TacState) × (t.ended ≡ Some Exit) × RegionRun code default_options.sizes (run_end.Ended Exit) t
+  -- it wants a region, where there is none
+  pub no_region : (t : TacState) × RegionRun code (sizes 16 1 0) (run_end.NoRoom shortage.Regions) t
+  -- with the default sizes it never wants one that there is not
+  pub has_region : (t : TacState) → RegionRun code default_options.sizes (run_end.NoRoom shortage.Regions) t → ⊥
+  -- it never comes to a state with a second goroutine
+  pub no_second : (page_sizes : Sizes) (end : RunEnd) (t : TacState) → length t.goroutines ≡ 2
+      → RegionRun code page_sizes end t → ⊥

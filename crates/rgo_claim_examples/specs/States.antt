@@ -1,0 +1,164 @@
+-- States of the region machine in which something is wrong, states in which nothing is, and what each definition says of
+-- them. The code is that of `rgo_region_machine`'s examples.
+use Rattle.std.specs.Prelude.{◌≡◌, ℕ, false, List, [], ◌∷◌, Some, None}
+use Rattle.rgo_memory.specs.Memory.{Channel, Object, StructObject}
+use Rattle.rgo_memory.specs.declared.values.Value.TheVariants as value
+use Rattle.rgo_machine.specs.declared.limits.Sizes.{Sizes}
+use Rattle.rgo_machine.specs.declared.turns.Shortage.TheVariants as shortage
+use Rattle.rgo_tac.specs.declared.regions.Class.TheVariants.{NoClass}
+use Rattle.rgo_tac.specs.Frames.{Frame}
+use Rattle.rgo_code.specs.Code.{Code}
+use Rattle.rgo_region_machine.specs.declared.regions.Region.{Region}
+use Rattle.rgo_region_machine.specs.declared.regions.Region.TheVariants.{Numbered}
+use Rattle.rgo_region_machine.specs.Examples.{one_object}
+use Rattle.rgo_region_machine.specs.Machine.{Attend, Event, region_run, region_start}
+use Rattle.rgo_region_machine.specs.Regions.{Bindings, RegionInfo}
+use Rattle.rgo_region_machine.specs.States.{Duty, Holder, NoOffer, RegionState, Remove, Taken}
+use Rattle.rgo_sound.specs.Safety.{IsSafe}
+use Rattle.rgo_world.specs.Worlds.{LacksIn}
+use Rattle.rgo_run.specs.Runs.{NamesLive}
+
+-- ---- parts of states
+
+-- `main` of `one_object` before its instruction `next`
+abbrev pub main_at : (next : ℕ) → List Frame
+main_at next = record {
+  function = 0;
+  next = next;
+  variables = value.Nil ∷ value.Nil ∷ value.Nil ∷ [];
+} ∷ []
+
+-- a goroutine with these stakes, for whose regions these names stand, and with these duties
+abbrev pub holder : List ℕ → Bindings → List Duty → Holder
+holder stakes names duties = record {
+  stakes = stakes;
+  pending = [];
+  environments = record { lent = NoClass; names = names; protections = [] } ∷ [];
+  base = [];
+  fills = [];
+  duties = duties;
+  offer = NoOffer;
+}
+
+abbrev pub region : (stakes pages : ℕ) → RegionInfo
+region stakes pages = record { stakes = stakes; pages = pages }
+
+-- `main` alone, at these frames, with these objects in these regions
+abbrev pub state_at : List Frame → List Object → List Region → List RegionInfo → Holder → RegionState
+state_at frames heap owners regions main = record {
+  plain =
+      record { memory = record { heap = heap; variables = [] }; goroutines = frames ∷ []; printed = []; ended = None };
+  owners = owners;
+  regions = regions;
+  global_pages = 0;
+  holders = main ∷ [];
+  steps = 1;
+  mark = None;
+}
+
+-- the same before its first instruction
+abbrev pub state : List Object → List Region → List RegionInfo → Holder → RegionState
+state heap owners regions main = state_at (main_at 0) heap owners regions main
+
+-- ---- states
+
+-- an object of region 0 that points into itself, and that of a live region
+abbrev pub at_home : RegionState
+at_home =
+    state (StructObject (value.Object 0 ∷ []) ∷ []) (Numbered 0 ∷ []) (region 1 1 ∷ [])
+    (holder (0 ∷ []) ((0, Numbered 0) ∷ []) [])
+
+-- an object of region 0 points into region 1
+abbrev pub astray : RegionState
+astray =
+    state (StructObject (value.Object 1 ∷ []) ∷ StructObject [] ∷ []) (Numbered 0 ∷ Numbered 1 ∷ [])
+    (region 1 1 ∷ region 1 1 ∷ []) (holder (0 ∷ 1 ∷ []) ((0, Numbered 0) ∷ (1, Numbered 1) ∷ []) [])
+
+-- one goroutine has a stake, and two are counted
+abbrev pub overcounted : RegionState
+overcounted = state [] [] (region 2 0 ∷ []) (holder (0 ∷ []) ((0, Numbered 0) ∷ []) [])
+
+-- a stake that no name keeps, and one that two names keep
+abbrev pub unnamed : RegionState
+unnamed = state [] [] (region 1 0 ∷ []) (holder (0 ∷ []) [] [])
+
+abbrev pub named_twice : RegionState
+named_twice = state [] [] (region 1 0 ∷ []) (holder (0 ∷ []) ((0, Numbered 0) ∷ (1, Numbered 0) ∷ []) [])
+
+-- two pages, with no object and one goroutine
+abbrev pub too_many_pages : RegionState
+too_many_pages = state [] [] (region 1 2 ∷ []) (holder (0 ∷ []) ((0, Numbered 0) ∷ []) [])
+
+-- a region is removed next: it is live; it has been removed before; it is that of another goroutine
+abbrev pub removing : RegionState
+removing = state [] [] (region 1 0 ∷ []) (holder (0 ∷ []) ((0, Numbered 0) ∷ []) (Remove 0 ∷ []))
+
+abbrev pub removing_twice : RegionState
+removing_twice = state [] [] (region 0 0 ∷ []) (holder [] ((0, Numbered 0) ∷ []) (Remove 0 ∷ []))
+
+abbrev pub removing_anothers : RegionState
+removing_anothers = state [] [] (region 1 0 ∷ []) (holder [] ((0, Numbered 0) ∷ []) (Remove 0 ∷ []))
+
+-- `main` before its load of the first field of an object, with these regions and stakes
+abbrev pub before_load : List RegionInfo → List ℕ → RegionState
+before_load regions stakes =
+    state_at (record {
+      function = 0;
+      next = 2;
+      variables = value.Object 0 ∷ value.Object 0 ∷ value.Nil ∷ [];
+    } ∷ []) (StructObject (value.Nil ∷ []) ∷ []) (Numbered 0 ∷ []) regions (holder stakes ((0, Numbered 0) ∷ []) [])
+
+-- the region of the object is live; it has been removed
+abbrev pub loading : RegionState
+loading = before_load (region 1 1 ∷ []) (0 ∷ [])
+
+abbrev pub loading_removed : RegionState
+loading_removed = before_load (region 0 1 ∷ []) []
+
+-- an offer was taken on a channel whose region has been removed
+abbrev pub acknowledging : RegionState
+acknowledging =
+    state (Channel 0 [] false ∷ []) (Numbered 0 ∷ []) (region 0 1 ∷ [])
+    (record (holder [] [] []) { offer = Taken 0 })
+
+pub record StateExamples : Type 0 where
+  pub safe : IsSafe one_object at_home
+  pub astray : IsSafe one_object astray → ⊥
+  pub overcounted : IsSafe one_object overcounted → ⊥
+  pub unnamed : IsSafe one_object unnamed → ⊥
+  pub named_twice : IsSafe one_object named_twice → ⊥
+  pub too_many_pages : IsSafe one_object too_many_pages → ⊥
+  pub removing : NamesLive one_object removing
+  pub removing_twice : NamesLive one_object removing_twice → ⊥
+  pub removing_anothers : NamesLive one_object removing_anothers → ⊥
+  -- an object is made, or read
+  pub making : NamesLive one_object at_home
+  pub loading : NamesLive one_object loading
+  pub loading_removed : NamesLive one_object loading_removed → ⊥
+  pub acknowledging : NamesLive one_object acknowledging → ⊥
+
+-- ---- room
+
+abbrev pub sizes : (page_words pages regions : ℕ) → Sizes
+sizes page_words pages regions = record { page_words = page_words; pages = pages; regions = regions }
+
+-- its region is created
+abbrev pub created : List Event
+created = Attend 0 ∷ []
+
+-- these events lead to a state that is so
+abbrev pub Comes : Code → (page_words : ℕ) → List Event → (RegionState → Type 0) → Type 0
+Comes code page_words events Holds =
+    (s : RegionState) × (region_run code page_words events ≡ Some s) × Holds s
+
+-- The run of `one_object` creates a region, and then takes a page of that.
+pub record RoomExamples : Type 0 where
+  pub no_region : LacksIn one_object (sizes 16 1 0) shortage.Regions (region_start one_object)
+  pub one_region : LacksIn one_object (sizes 16 1 1) shortage.Regions (region_start one_object) → ⊥
+  pub no_page : Comes one_object 16 created (LacksIn one_object (sizes 16 0 1) shortage.Pages)
+  pub one_page : Comes one_object 16 created (λ s. LacksIn one_object (sizes 16 1 1) shortage.Pages s → ⊥)
+  -- no page is wanted before the region is there
+  pub no_page_yet : LacksIn one_object (sizes 16 0 1) shortage.Pages (region_start one_object) → ⊥
+  -- the object has two words
+  pub one_word : Comes one_object 1 created (LacksIn one_object (sizes 1 1 1) shortage.ObjectSize)
+  pub two_words : Comes one_object 2 created (λ s. LacksIn one_object (sizes 2 1 1) shortage.ObjectSize s → ⊥)

@@ -1,0 +1,37 @@
+-- Programs of which no run meets a limit or lacks room, and programs of which some run does.
+use Rattle.std.specs.Prelude.{ℕ}
+use Rattle.rgo_typed.specs.Tree.{Typed}
+use Rattle.rgo_tac.specs.Code.{Tac}
+use Rattle.rgo_lower.specs.Lowered.{IsLowered}
+use Rattle.rgo_command_line.specs.Limits.{default_options}
+use Rattle.rgo_command_line.specs.declared.limits.RunOptions.{RunOptions}
+use Rattle.rgo_run.specs.Headline.{Suffices}
+use Rattle.rgo_claim_examples.specs.Programs.{one_object, linked_list, binary_tree, sender, endless, no_object}
+
+-- The program has code, and the options that `run` has without words suffice for it.
+pub record SufficesByDefault (program : Typed) : Type 0 where
+  pub code : Tac
+  pub lowered : IsLowered program code
+  pub suffices : Suffices default_options program
+
+abbrev pub with_limits : (steps goroutines : ℕ) → RunOptions
+with_limits steps goroutines =
+    record default_options { limits = record { steps = steps; goroutines = goroutines } }
+
+abbrev pub without_room : RunOptions
+without_room = record default_options { sizes = record { page_words = 0; pages = 0; regions = 0 } }
+
+-- An object, a list that is built and summed, a tree that is built and counted, and a goroutine that sends: for each the
+-- default options suffice, so `run` must end with 0, 2 or 3, or with 11.
+pub record ProgramsSuffice : Type 0 where
+  pub object : SufficesByDefault one_object
+  pub list : SufficesByDefault linked_list
+  pub tree : SufficesByDefault binary_tree
+  pub goroutines : SufficesByDefault sender
+  -- a program that makes no object needs neither a page nor a region
+  pub no_room : Suffices without_room no_object
+  -- no options suffice for a program that never ends
+  pub never_ends : (options : RunOptions) → Suffices options endless → ⊥
+  -- the run of five steps meets a limit of four, and that of two goroutines a limit of one
+  pub too_few_steps : Suffices (with_limits 4 1) one_object → ⊥
+  pub too_few_goroutines : Suffices (with_limits 1000 1) sender → ⊥

@@ -1,0 +1,52 @@
+//! What holds of the examples.
+
+ghost use Rattle.rgo_claim_examples.specs.CompiledCode.{CompiledExamples};
+ghost use Rattle.rgo_claim_examples.specs.Ends.{EndExamples};
+ghost use Rattle.rgo_claim_examples.specs.RegionRuns.{RegionRunExamples};
+ghost use Rattle.rgo_claim_examples.specs.States.{RoomExamples, StateExamples};
+ghost use Rattle.rgo_claim_examples.specs.Sufficing.{ProgramsSuffice};
+ghost use Rattle.rgo_claim_examples.specs.Texts.{TextExamples};
+ghost use Rattle.rgo_claim_examples.specs.Whole.{TextsRun};
+
+/// No run of the four programs meets a default limit, or lacks a page, a region or the room for an object. For a program
+/// that never ends no options are enough, and too low a limit is not enough for one of the four.
+pub fn programs_suffice()
+    ensures { ProgramsSuffice }
+{}
+
+/// A program and the code to which it is compiled; code to which it is not; and sizes of which some run wants more.
+pub fn compiled_examples()
+    ensures { CompiledExamples }
+{}
+
+/// States that are safe, and states in which a stake, a name, a pointer or a page is wrong; regions that a goroutine may
+/// name next, and regions that it may not.
+pub fn state_examples()
+    ensures { StateExamples }
+{}
+
+/// States in which a page, a region or the room for an object is missing, and states in which it is not.
+pub fn room_examples()
+    ensures { RoomExamples }
+{}
+
+/// A deadlock, and states that are none; the one end and the one print of a run, and others.
+pub fn end_examples()
+    ensures { EndExamples }
+{}
+
+/// A run with regions to its exit, and one to a state in which a region is missing; and what no run with regions comes to.
+pub fn region_run_examples()
+    ensures { RegionRunExamples }
+{}
+
+/// A text that is a program, this one and no other, and a text that is refused.
+pub fn text_examples()
+    ensures { TextExamples }
+{}
+
+/// By the headline, a call that runs one of the four texts with the default options, and in which nothing fails, ends with
+/// status 0, or with 11.
+pub fn texts_run()
+    ensures { TextsRun }
+{}
