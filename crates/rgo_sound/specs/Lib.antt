@@ -3,9 +3,12 @@ pub mod Erasure
 pub mod Good
 pub mod Holding
 pub mod Invariant
+pub mod Leaving
 pub mod NextNames
 pub mod Offers
+pub mod Owners
 pub mod Progress
+pub mod Running
 pub mod Safety
 pub mod Stakes
 pub mod Tally

@@ -2,8 +2,11 @@
 
 ghost use Rattle.rgo_sound.specs.Erasure.{Erasure};
 ghost use Rattle.rgo_sound.specs.Good.{StartIsGood, StepsKeepGood};
+ghost use Rattle.rgo_sound.specs.Leaving.{OffersStay, OthersStay};
 ghost use Rattle.rgo_sound.specs.NextNames.{NamesOnlyLive};
+ghost use Rattle.rgo_sound.specs.Owners.{OwnersStayMade};
 ghost use Rattle.rgo_sound.specs.Progress.{NoStepMissing};
+ghost use Rattle.rgo_sound.specs.Running.{RunsOn};
 ghost use Rattle.rgo_sound.specs.Safety.{Safety, RemovedStays};
 ghost use Rattle.rgo_sound.specs.Tally.{TallyAdds};
 ghost use Rattle.rgo_sound.specs.Types.{TypesKeep};
@@ -51,4 +54,24 @@ pub fn no_step_missing()
 /// Stakes are counted, each is kept by one name, pointers stay in their regions, and all is removed in the end.
 pub fn safety()
     ensures { Safety }
+{}
+
+/// A step leaves the goroutines that take no part in it as they were.
+pub fn others_stay()
+    ensures { OthersStay }
+{}
+
+/// An instruction, a duty and a page leave their goroutine's offer.
+pub fn offers_stay()
+    ensures { OffersStay }
+{}
+
+/// The owner of an object is a region that was created.
+pub fn owners_stay_made()
+    ensures { OwnersStayMade }
+{}
+
+/// The three-address machine's part of a region run never ends.
+pub fn runs_on()
+    ensures { RunsOn }
 {}
