@@ -131,7 +131,7 @@ alone code m (frame ∷ callers) = act_at code m (instr_of code frame) frame cal
 
 -- ---- the machine's step, as an act
 
-set_same : {X : Type 0} (xs : List X) (i : ℕ) (x : X) → slice_get xs i ≡ Some x → slice_set xs i x ≡ xs
+pub set_same : {X : Type 0} (xs : List X) (i : ℕ) (x : X) → slice_get xs i ≡ Some x → slice_set xs i x ≡ xs
 set_same [] i x e = refl
 set_same (y ∷ ys) zero x e = ap (λ z. z ∷ ys) (same_Some x y (sym e))
 set_same (y ∷ ys) (suc i) x e = ap (λ zs. y ∷ zs) (set_same ys i x e)

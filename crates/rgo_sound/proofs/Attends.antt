@@ -163,7 +163,7 @@ pub lent_names : (lent : Class) (j : ℕ) → lent ≡ Name j → is_mine lent j
 lent_names lent j e = ap (λ x. is_mine x j) e ∙ ap (λ x. not x) (nat_eq_refl j)
 
 -- what is protected behind the end of a protection was protected before it
-any_removed : (p : Region → Bool) (q : Region) (ss : List Region) → list_any p (removed_once q ss) ≡ true
+pub any_removed : (p : Region → Bool) (q : Region) (ss : List Region) → list_any p (removed_once q ss) ≡ true
     → list_any p ss ≡ true
 any_removed p q [] e = e
 any_removed p q (s ∷ ss) e = go (same_region q s) e (any_removed p q ss)

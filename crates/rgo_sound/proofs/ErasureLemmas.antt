@@ -68,6 +68,11 @@ pub yields_from : {X : Type 0} → {P Q : X → Type 0} → (o : Option X) → Y
 yields_from None y f = record { fact = tt }
 yields_from (Some x) y f = record { fact = f x y.fact }
 
+-- what is yielded, with the fact that it is
+pub yields_itself : {X : Type 0} → {P : X → Type 0} → (o : Option X) → Yields P o → Yields (λ x. P x × (o ≡ Some x)) o
+yields_itself None y = record { fact = tt }
+yields_itself (Some x) y = record { fact = (y.fact, refl) }
+
 -- a step from what is found, with the fact that it is found
 pub yields_at : {X Y : Type 0} → {P : Y → Type 0} → (o : Option X) (f : X → Option Y)
     → ((x : X) → o ≡ Some x → Yields P (f x)) → Yields P (option_and_then f o)

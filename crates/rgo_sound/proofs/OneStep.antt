@@ -5,7 +5,7 @@ use Rattle.std.proofs.Common.{option_and_then, Contains}
 use Rattle.std.proofs.lemmas.Option.{slice_get-map}
 use Rattle.rgo_sound.proofs.Places.{contains_here, get_set_other, get_set_same}
 use Rattle.rgo_sound.proofs.Tests.{and_split, nat_ne_sym}
-use Rattle.rgo_sound.proofs.ErasureLemmas.{Yields, yields_none, yields_with, yields_where}
+use Rattle.rgo_sound.proofs.ErasureLemmas.{Yields, yields_none, yields_itself, yields_with, yields_where}
 use Rattle.rgo_code.specs.Code.{Branch, Call, Code, CodeFn, CodeInstr, CodeOp, Do, Go, Jump, Print, Return}
 use Rattle.rgo_code.specs.Erasure.{erased, erased_fn, erased_instr, erased_op}
 use Rattle.rgo_code.specs.Names.{edges}
@@ -291,7 +291,7 @@ side_is code h frames next x =
     ∙ after_simple code h x.frame x.callers x.instr.op next x.simple
     ∙ ap (λ n. record h { duties = map Remove (removes_behind x.frame x.instr.op) ++ next_duties code n }) x.next_is
 
-allotted_is : (page_words : ℕ) (h : Holder) (region : Option Region) (object : Option Object)
+pub allotted_is : (page_words : ℕ) (h : Holder) (region : Option Region) (object : Option Object)
     → Yields (λ (given : Holder × List Region). SameHolder h given.0 × Allots region object given.1)
     (allotted page_words h region object)
 allotted_is page_words h region None = record { fact = (record { fills = h.fills; same = refl }, refl) }
@@ -343,6 +343,8 @@ pub record OneDone (code : Code) (page_words : ℕ) (s : RegionState) (g : ℕ) 
   pub same : SameHolder h given.0
   pub allots : Allots (making_region (function_at code frame) (top_names h.environments) instr.op)
       (new_object s.plain (after s.plain g a)) given.1
+  pub fits : allotted page_words h (making_region (function_at code frame) (top_names h.environments) instr.op)
+      (new_object s.plain (after s.plain g a)) ≡ Some given
   pub is : t ≡ instructed_with code s g frame callers instr (after s.plain g a) given
 
 -- a step of one goroutine, unfolded
@@ -363,12 +365,14 @@ one_done code page_words s g = runs s.plain.ended refl
             (instructed code page_words s g h frame callers (after s.plain g a)) o)
         at None c r = yields_none
         at (Some instr) c r =
-            yields_with (λ (given : Holder × List Region). SameHolder h given.0
+            yields_with (λ (given : Holder × List Region). (SameHolder h given.0
             × Allots (making_region (function_at code frame) (top_names h.environments) instr.op)
             (new_object s.plain (after s.plain g a)) given.1)
+            × (allotted page_words h (making_region (function_at code frame) (top_names h.environments) instr.op)
+            (new_object s.plain (after s.plain g a)) ≡ Some given))
             (some_instructed code s g frame callers instr (after s.plain g a)) _
-            (allotted_is page_words h (making_region (function_at code frame) (top_names h.environments) instr.op)
-            (new_object s.plain (after s.plain g a)))
+            (yields_itself _ (allotted_is page_words h (making_region (function_at code frame)
+            (top_names h.environments) instr.op) (new_object s.plain (after s.plain g a))))
             (λ given x. record {
               fact = record {
                 running = e0;
@@ -385,8 +389,9 @@ one_done code page_words s g = runs s.plain.ended refl
                 acts = e;
                 given =
                     given;
-                same = x.0;
-                allots = x.1;
+                same = x.0.0;
+                allots = x.0.1;
+                fits = x.1;
                 is = refl;
               };
             })

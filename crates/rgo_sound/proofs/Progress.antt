@@ -87,7 +87,7 @@ running_of code p pick next e = go p.ended refl e
     go None q e = q
     go (Some end) q e = cc
 
-one_step : (code : Code) (p : TacState) (g : ℕ) (frames : List Frame) → p.ended ≡ None → slice_get p.goroutines g
+pub one_step : (code : Code) (p : TacState) (g : ℕ) (frames : List Frame) → p.ended ≡ None → slice_get p.goroutines g
     ≡ Some frames → plain_step code p (One g) ≡ option_map (after p g) (alone (erased code) p.memory frames)
 one_step code p g frames running at =
     ap (λ e. unless_ended e (picked (tac (erased code)) p (One g))) running
@@ -146,7 +146,7 @@ module _ (s : RegionState) (g : ℕ) (k : Holder) where
       q refl refl)
   done_attends (EndBase r) = removal_attends (record k { base = removed_once r k.base }) r refl refl
 
-live_of : (s : RegionState) (h : Holder) (r : Region) → HasStake s h r → is_live s.regions r ≡ true
+pub live_of : (s : RegionState) (h : Holder) (r : Region) → HasStake s h r → is_live s.regions r ≡ true
 live_of s h GlobalRegion x = refl
 live_of s h (Numbered q) x = x.0
 
@@ -626,13 +626,13 @@ module _ (code : Code) (page_words : ℕ) (checked : IsChecked code) (written : 
 
 -- ---- a meeting
 
-frames_some : (o : Option (List Frame)) (frame : Frame) (callers : List Frame) → frames_in o ≡ frame ∷ callers → o
+pub frames_some : (o : Option (List Frame)) (frame : Frame) (callers : List Frame) → frames_in o ≡ frame ∷ callers → o
     ≡ Some (frame ∷ callers)
 frames_some None frame callers e = cc
 frames_some (Some fs) frame callers e = ap Some e
 
 -- where a goroutine stands that is to send
-stand_of : (code : Code) (p : TacState) (g o : ℕ) (st : StandsAtSend code p g o) → stand (erased code) st.frame
+pub stand_of : (code : Code) (p : TacState) (g o : ℕ) (st : StandsAtSend code p g o) → stand (erased code) st.frame
     ≡ AtSend (value_at st.frame st.channel) (value_at st.frame st.sent) st.instr.place (going st.frame st.to value.Nil)
 stand_of code p g o st =
     ap (stand_at (erased code) st.frame) (current_erased code st.frame ∙ ap (option_map erased_instr) st.cur)

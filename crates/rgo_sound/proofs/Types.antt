@@ -75,10 +75,10 @@ same_slice t u e = inner_of layer.Slice layer.Slice t u e
 pub same_chan : (t u : «Type») → chan_of t ≡ chan_of u → t ≡ u
 same_chan t u e = inner_of layer.Chan layer.Chan t u e
 
-pointer_no_slice : (n : ℕ) (t : «Type») → pointer_to n ≡ slice_of t → ⊥
+pub pointer_no_slice : (n : ℕ) (t : «Type») → pointer_to n ≡ slice_of t → ⊥
 pointer_no_slice n t e = let x : [] ≡ layer.Slice ∷ t.layers = ap (λ (t : «Type»). t.layers) e in cc
 
-pointer_no_chan : (n : ℕ) (t : «Type») → pointer_to n ≡ chan_of t → ⊥
+pub pointer_no_chan : (n : ℕ) (t : «Type») → pointer_to n ≡ chan_of t → ⊥
 pointer_no_chan n t e = let x : [] ≡ layer.Chan ∷ t.layers = ap (λ (t : «Type»). t.layers) e in cc
 
 slice_no_chan : (t u : «Type») → slice_of t ≡ chan_of u → ⊥

@@ -3,10 +3,13 @@ pub mod Erasure
 pub mod Good
 pub mod Holding
 pub mod Invariant
+pub mod Leaving
 pub mod NextNames
 pub mod Offers
+pub mod Owners
 pub mod Progress
 pub mod Room
+pub mod Running
 pub mod Safety
 pub mod Stakes
 pub mod Tally

@@ -2,9 +2,12 @@
 
 ghost use Rattle.rgo_sound.specs.Erasure.{Erasure};
 ghost use Rattle.rgo_sound.specs.Good.{StartIsGood, StepsKeepGood};
+ghost use Rattle.rgo_sound.specs.Leaving.{OffersStay, OthersStay};
 ghost use Rattle.rgo_sound.specs.NextNames.{NamesOnlyLive};
+ghost use Rattle.rgo_sound.specs.Owners.{OwnersStayMade};
 ghost use Rattle.rgo_sound.specs.Progress.{NoStepMissing};
 ghost use Rattle.rgo_sound.specs.Room.{RoomIsKept};
+ghost use Rattle.rgo_sound.specs.Running.{RunsOn};
 ghost use Rattle.rgo_sound.specs.Safety.{Safety, RemovedStays};
 ghost use Rattle.rgo_sound.specs.Tally.{TallyAdds};
 ghost use Rattle.rgo_sound.specs.Types.{TypesKeep};
@@ -58,4 +61,24 @@ pub fn safety()
 /// has no more of either in any of its states.
 pub fn room_is_kept()
     ensures { RoomIsKept }
+{}
+
+/// A step leaves the goroutines that take no part in it as they were.
+pub fn others_stay()
+    ensures { OthersStay }
+{}
+
+/// An instruction, a duty and a page leave their goroutine's offer.
+pub fn offers_stay()
+    ensures { OffersStay }
+{}
+
+/// The owner of an object is a region that was created.
+pub fn owners_stay_made()
+    ensures { OwnersStayMade }
+{}
+
+/// The three-address machine's part of a region run never ends.
+pub fn runs_on()
+    ensures { RunsOn }
 {}

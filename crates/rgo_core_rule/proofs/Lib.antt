@@ -1,0 +1,13 @@
+pub mod Lists
+pub mod Histories
+pub mod Rows
+pub mod Accounts
+pub mod Owning
+pub mod Awareness
+pub mod Lift
+pub mod Meetings
+pub mod Still
+pub mod Passes
+pub mod Settled
+pub mod Adding
+pub mod Examples

@@ -1,0 +1,7 @@
+pub mod Lists
+pub mod Histories
+pub mod Views
+pub mod Rule
+pub mod Steps
+pub mod Passes
+pub mod Counting

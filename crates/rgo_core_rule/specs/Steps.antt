@@ -1,0 +1,83 @@
+-- What an access has to do to words, records and runs, and what its seat then knows.
+use Rattle.std.specs.Prelude.{◌≡◌, ◌<◌, ◌⊎◌, ℕ, suc, List, [], ◌∷◌, ◌++◌, length, slice_index, slice_set}
+use mathlib.Core.Option.{some}
+use lib.ListN.{get_elem?}
+use Rattle.rgo_core_rule.specs.Histories.{access, glance, accesses_by}
+use Rattle.rgo_core_rule.specs.Views.{Me}
+use Rattle.rgo_core_rule.specs.declared.accesses.Access.{Access}
+use Rattle.rgo_core_rule.specs.declared.accesses.Kind.{Kind}
+use Rattle.rgo_core_rule.specs.declared.accesses.Kind.TheVariants.{Load}
+
+module _ {E R : Type 0} (accesses : R → ℕ) (Explains : List ℕ → List R → List E → Type 0) where
+  -- Goroutine g, whose record is c, leaves f n on a word i on which it finds n. Its record is then d, the run is longer by
+  -- `gain`, and explains the words and records after the access.
+  pub record Moved (words : List ℕ) (recs : List R) (run : List E) (g : ℕ) (c : R) (i : ℕ) (f : ℕ → ℕ) (tells : ℕ → R → Type 0) : Type 0 where
+    pub after : R
+    pub gain : List E
+    pub explains : Explains (slice_set words i (f (slice_index words i))) (slice_set recs g after) (run ++ gain)
+    pub counts : accesses after ≡ suc (accesses c)
+    pub tells_so : tells (slice_index words i) after
+
+  -- the same, where the access starts a goroutine, whose number is what was found
+  pub record MovedChild (words : List ℕ) (recs : List R) (run : List E) (g : ℕ) (c : R) (i : ℕ) (f : ℕ → ℕ) (tells : ℕ → R → R → Type 0) : Type 0 where
+    pub after : R
+    pub child : R
+    pub gain : List E
+    pub explains : Explains (slice_set words i (f (slice_index words i))) (slice_set recs g after ++ child ∷ []) (run ++ gain)
+    pub counts : accesses after ≡ suc (accesses c)
+    pub new : accesses child ≡ 0
+    pub number : slice_index words i ≡ length recs
+    pub tells_so : tells (slice_index words i) after child
+
+  -- this holds whatever the words, the other records and the run are
+  abbrev pub Whatever : ℕ → R → ℕ → (List ℕ → List R → List E → Type 0) → Type 0
+  Whatever g c i P = (words : List ℕ) (recs : List R) (run : List E) → Explains words recs run
+      → get_elem? recs g ≡ some c → slice_index words i < 18446744073709551616 → P words recs run
+
+  -- An access that goroutine g may make while its record is c: whatever run explains the table before it, that run with some
+  -- gain explains the table after it.
+  abbrev pub Move : ℕ → R → ℕ → (ℕ → ℕ) → (ℕ → R → Type 0) → Type 0
+  Move g c i f tells = Whatever g c i (λ words recs run. Moved words recs run g c i f tells)
+
+  -- the same of an access that may start a goroutine
+  abbrev pub MoveEither : ℕ → R → ℕ → (ℕ → ℕ) → (ℕ → R → Type 0) → (ℕ → R → R → Type 0) → Type 0
+  MoveEither g c i f tells tells_child =
+      Whatever g c i (λ words recs run. Moved words recs run g c i f tells ⊎ MovedChild words recs run g c i f tells_child)
+
+  -- the record c of goroutine g may become d without an access
+  abbrev pub Still : ℕ → R → R → Type 0
+  Still g c d = (words : List ℕ) (recs : List R) (run : List E) → Explains words recs run → get_elem? recs g ≡ some c
+      → (gain : List E) × Explains words (slice_set recs g d) (run ++ gain)
+
+module _ {R : Type 0} (accesses : R → ℕ) where
+  -- What a seat knows after an access of its goroutine, from m to w: the record, all accesses that others have made since it
+  -- last looked, none of them its own, and then this one.
+  pub record Told (g : ℕ) (kind : Kind) (i : ℕ) (f : ℕ → ℕ) (tells : ℕ → R → Type 0) (m : Me R) (n : ℕ) (w : Me R) : Type 0 where
+    pub after : R
+    pub between : List Access
+    pub tells_so : tells n after
+    pub alone : (w.0.records ≡ (g, after) ∷ []) × (w.1 ≡ [])
+    pub seen : w.0.seen ≡ (m.0.seen ++ between) ++ access g kind i n (f n) ∷ []
+    pub others : accesses_by g between ≡ 0
+    pub counts : accesses after ≡ accesses_by g w.0.seen
+
+  -- the same of an access that started a goroutine, whose record the seat then has, too
+  pub record ToldChild (g : ℕ) (kind : Kind) (i : ℕ) (f : ℕ → ℕ) (tells : ℕ → R → R → Type 0) (m : Me R) (n : ℕ) (w : Me R) : Type 0 where
+    pub after : R
+    pub child : R
+    pub between : List Access
+    pub tells_so : tells n after child
+    pub later : g < n
+    pub both : (w.0.records ≡ (g, after) ∷ (n, child) ∷ []) × (w.1 ≡ [])
+    pub seen : w.0.seen ≡ (m.0.seen ++ between) ++ access g kind i n (f n) ∷ []
+    pub others : accesses_by g between ≡ 0
+    pub counts : accesses after ≡ accesses_by g w.0.seen
+    pub new : accesses_by n w.0.seen ≡ 0
+
+module _ {R : Type 0} where
+  -- what a seat with any records knows after a load of word 0
+  pub record Glanced (m : Me R) (n : ℕ) (w : Me R) : Type 0 where
+    pub between : List Access
+    pub records : w.0.records ≡ m.0.records
+    pub slots : w.1 ≡ m.1
+    pub seen : w.0.seen ≡ (m.0.seen ++ between) ++ glance Load n ∷ []

@@ -1,0 +1,5 @@
+use Rattle.rgo_sound.proofs.OwnersMade as lemmas
+use Rattle.rgo_sound.proofs.laws.owners_stay_made.Goals as goal
+
+pub returns : goal.returns
+returns c = lemmas.owners_stay_made
