@@ -118,6 +118,7 @@ no_line_run kind options text call e r no_fault = record {
       is = r.runs.regions.is;
       printed = r.runs.regions.printed;
       safe = r.runs.regions.safe;
+      within = r.runs.regions.within;
       lacks = λ why x. cc;
     };
   };

@@ -13,7 +13,7 @@ use Rattle.rgo_region_machine.specs.Machine.{Acknowledge, Attend, Event, Finish,
 use Rattle.rgo_region_machine.specs.Machine.{plain_step, region_start, region_step}
 use Rattle.rgo_region_machine.specs.Regions.{RegionInfo, bound, removed_once, unbind}
 use Rattle.rgo_region_machine.specs.Room.{FitsIn, has_room, has_room_for, has_room_for_first, has_room_to_attend}
-use Rattle.rgo_region_machine.specs.Room.{live_regions, pages_in_use, roomy_run, roomy_step}
+use Rattle.rgo_region_machine.specs.Room.{live_regions, pages_in_use, roomy_step}
 use Rattle.rgo_region_machine.specs.States.{Create, Duty, EndBase, Holder, Protect, RegionState, Remove, Share, Unprotect}
 use Rattle.rgo_region_machine.specs.States.{top_names, with_top}
 use Rattle.rgo_region_machine.specs.declared.regions.Region.{Region}
