@@ -189,4 +189,11 @@ module _ (before : List Item) (place : Place) (fit : All ItemFits before) (leads
 
 pub refuses : (text : List ℕ) (e : ReadError) → StopsIn text e → Refuses text e
 refuses text error.NoMemory s = tt
+refuses text error.TooLarge s = record {
+  before = map item_line s.before;
+  tail = s.tail;
+  lines = lines_are s.before s.fit;
+  cut = s.cut ∙ ap (λ t. t ++ s.tail) (sym (ended_is s.before));
+  many = omega (arith, s.many, length-map s.before item_line);
+}
 refuses text (error.Refused r) s = refused s.before s.place s.fit s.leads text r.line s.tail s.cut s.number s.stops

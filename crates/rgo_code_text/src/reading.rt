@@ -60,7 +60,7 @@ pub(crate) fn items(alloc: Global, text: &[u8]) -> Result<Vec<Item<'_>>, ReadErr
         }
         at = at + len + 1;
     }
-    Err(ReadError::NoMemory)
+    Err(ReadError::TooLarge)
 }
 
 /// The code of these lines, whose names are numbered in tables that have none yet.
@@ -90,7 +90,8 @@ fn code_in(alloc: Global, items: Vec<Item<'_>>) -> Result<Code, AllocError>
 ///
 /// # Errors
 ///
-/// If it is not the text of code, with the number of the first line that has no form in its place; on allocation failure.
+/// If it is not the text of code, with the number of the first line that has no form in its place; if it has 2³² - 2 lines
+/// or more, `TooLarge`; on allocation failure.
 pub fn read_code(alloc: Global, text: &[u8]) -> Result<Code, ReadError>
     ensures { MatchResult result (λ code. (text.now ≡ text_of code) × IsWritten code) (λ e. Refuses text.now e) }
 {

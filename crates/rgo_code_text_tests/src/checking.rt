@@ -22,7 +22,7 @@ fn reported(alloc: Global, text: &str) -> Result<(u8, u32), Fail> {
     match read_code(alloc, text.as_bytes()) {
         Ok(code) => checked(alloc, &code),
         Err(ReadError::Refused(refusal)) => Ok((0, refusal.line)),
-        Err(ReadError::NoMemory) => Err(Fail::from("out of memory")),
+        Err(ReadError::NoMemory | ReadError::TooLarge) => Err(Fail::from("out of memory")),
     }
 }
 

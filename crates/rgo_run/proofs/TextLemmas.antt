@@ -291,6 +291,7 @@ emitted text code bytes e out is is_text writes =
 pub read_fails : (text : List ℕ) (error : ReadError) → length text ≤ code_limit → ReadFails text error
     → FailsAs text_kind.Code text (reading_error error)
 read_fails text reading.NoMemory within fails = tt
+read_fails text reading.TooLarge within fails = tt
 read_fails text (reading.Refused refusal) within fails = (within, fails)
 
 pub check_fails : (text : List ℕ) (c : code.Code) (error : CheckError) → IsTextOfCode text c → CheckFails error c

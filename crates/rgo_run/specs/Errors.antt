@@ -35,6 +35,7 @@ read_error kind read.NoMemory = NoMemory
 abbrev pub reading_error : ReadError → Ending
 reading_error (reading.Refused refusal) = NoForm refusal.line
 reading_error reading.NoMemory = NoMemory
+reading_error reading.TooLarge = NoMemory
 
 abbrev pub check_error : CheckError → Ending
 check_error (check.Refused refusal) = Breaks refusal

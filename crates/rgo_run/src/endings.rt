@@ -85,7 +85,8 @@ impl From<ReadError> for Ending {
     fn from(error: ReadError) -> Ending {
         match error {
             ReadError::Refused(refusal) => Ending::NoForm { line: refusal.line },
-            ReadError::NoMemory => Ending::NoMemory,
+            // A text of at most CODE_LIMIT bytes does not have so many lines that it is too large.
+            ReadError::NoMemory | ReadError::TooLarge => Ending::NoMemory,
         }
     }
 }

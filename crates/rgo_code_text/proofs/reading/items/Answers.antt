@@ -1,4 +1,4 @@
-use Rattle.std.proofs.Common.{◌-◌, map, length, take, drop, Option, true≢false, sym, ap, ◌∙◌, subst}
+use Rattle.std.proofs.Common.{◌-◌, map, length, take, drop, Option, true≢false, sym, ap, ◌∙◌, subst, arith}
 use Rattle.std.specs.Option.{option_map}
 use Rattle.std.proofs.lemmas.List.{map_push}
 use Rattle.rgo_code_text.specs.declared.items.Item.{Item as CodeItem}
@@ -44,3 +44,12 @@ loop-line-preserved c =
     (take c.len_to-len.result (take (length c.args.text.now - c.loop-line.at) (drop c.loop-line.at c.args.text.now)))
     (option_map (λ s. (item_of s.0, s.1)) o)) c.in-Some.is c.in_ok-item.ensures)
     (ap (map item_of) c.in_ok-push-in-Some.ensures.items ∙ map_push item_of c.loop-line.items.items c.in-Some.item)
+
+pub returns : goal.returns
+returns c = record {
+  before = map item_of c.loop-line.items.items;
+  tail = drop c.loop-line.at c.args.text.now;
+  fit = c.loop-line.invariant.fit;
+  cut = c.loop-line.invariant.cut;
+  many = omega (arith, c.loop-line.invariant.number, c.loop-line-test.false);
+}
