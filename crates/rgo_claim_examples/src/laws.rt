@@ -45,8 +45,8 @@ pub fn text_examples()
     ensures { TextExamples }
 {}
 
-/// By the headline, a call that runs one of the four texts with the default options, and in which nothing fails, ends with
-/// status 0, or with 11.
+/// By the headline, a call that runs one of the four texts with the default options, and in which nothing fails, prints the
+/// one number of that text and ends with status 0, or ends with 11.
 pub fn texts_run()
     ensures { TextsRun }
 {}
