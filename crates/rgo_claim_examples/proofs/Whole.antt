@@ -100,11 +100,13 @@ module _ (program : Typed) (code : Tac) (steps : ℕ) (print : List ℕ) (lowere
       (refl, subst (Appends old new) (same_bytes run.state.printed print right) run.gives)
   exits other is (run_end.Ended (Trap trap place)) old new own run =
       let passes = well_at other is run.picks run.state run.ran in
-      absurd (true≢false (sym (subst (λ e. goes_well (bytes_eq run.state.printed print) e (all_next (step_by (tac other)) never run.state) ≡ true) run.ends
-      passes)))
+      let trapped = subst (λ e. goes_well (bytes_eq run.state.printed print) e
+      (all_next (step_by (tac other)) never run.state) ≡ true) run.ends passes in
+      absurd (true≢false (sym trapped))
   exits other is run_end.Deadlock old new own run =
       let passes = well_at other is run.picks run.state run.ran in
-      let going = subst (λ e. goes_well (bytes_eq run.state.printed print) e (all_next (step_by (tac other)) never run.state) ≡ true) run.ends.0 passes in
+      let going = subst (λ e. goes_well (bytes_eq run.state.printed print) e
+      (all_next (step_by (tac other)) never run.state) ≡ true) run.ends.0 passes in
       absurd (true≢false (sym (subst (λ b. not b ≡ true) (blocked_passes other run.state run.ends.1) going)))
   exits other is run_end.CallsTooDeep old new own run = absurd own
   exits other is run_end.StepsSpent old new own run = absurd own
