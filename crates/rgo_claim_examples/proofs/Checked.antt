@@ -17,8 +17,10 @@ use Rattle.rgo_tac.specs.Code as tac
 use Rattle.rgo_tac.specs.Code.{Op, TacFn}
 use Rattle.rgo_tac.specs.Flow.{reads, writes}
 use Rattle.rgo_flow.specs.Live.{IsReadAfter}
-use Rattle.rgo_code.specs.Checked.{IsChecked, KeptAt, KeptAfterLast, KeptByEnd, KeptByEntry, KeptByHead, KeptByInstr, KeptBySlot, KeptByStruct}
-use Rattle.rgo_code.specs.Code.{Code, CodeFn}
+use Rattle.rgo_code.specs.Checked.{IsChecked, KeptAt, KeptAfterLast, KeptByEnd, KeptByEntry, KeptByHead}
+use Rattle.rgo_code.specs.Checked.{KeptByInstr, KeptBySlot, KeptByStruct}
+use Rattle.rgo_code.specs.NameRules.{LendsResult}
+use Rattle.rgo_code.specs.Code.{Code, CodeFn, CodeInstr}
 use Rattle.rgo_code.specs.Erasure.{erased_fn}
 use Rattle.rgo_code.specs.Exists.{Uses}
 use Rattle.rgo_code.specs.Names.{Holds, Names, class_of}
@@ -213,7 +215,11 @@ exist = (
     last = λ e. absurd (not_five 1 e (leb-true 1 4 refl));
   },
   (
-    record { variables = λ v uses. used_below 3 (tac.Do (Some 1) action.Copy (0 ∷ [])) v refl uses; exists = (tt, tt); last = λ e. absurd (not_five 2 e (leb-true 2 4 refl)) },
+    record {
+      variables = λ v uses. used_below 3 (tac.Do (Some 1) action.Copy (0 ∷ [])) v refl uses;
+      exists = (tt, tt);
+      last = λ e. absurd (not_five 2 e (leb-true 2 4 refl));
+    },
     (
       record {
         variables = λ v uses. used_below 3 (tac.Do (Some 2) (action.Load 0) (1 ∷ [])) v refl uses;
@@ -221,7 +227,11 @@ exist = (
         last = λ e. absurd (not_five 3 e (leb-true 3 4 refl));
       },
       (
-        record { variables = λ v uses. used_below 3 (tac.Print (piece.Value ∷ []) (2 ∷ [])) v refl uses; exists = tt; last = λ e. absurd (not_five 4 e (leb-true 4 4 refl)) },
+        record {
+          variables = λ v uses. used_below 3 (tac.Print (piece.Value ∷ []) (2 ∷ [])) v refl uses;
+          exists = tt;
+          last = λ e. absurd (not_five 4 e (leb-true 4 4 refl));
+        },
         (record { variables = λ v uses. used_below 3 (tac.Return None) v refl uses; exists = tt; last = λ e. refl }, tt),
       ),
     ),
@@ -313,19 +323,27 @@ removed = (
   ),
 )
 
+-- no result, so no region is lent
+lends : {i : ℕ} (instr : CodeInstr) → LendsResult main i instr
+lends instr =
+    record { creates = λ k e c. no_name k e; removes = λ k j removes e c d. no_name k e }
+
 instrs : (r : Rule) → AllAt (KeptByInstr code r main) main.body
 instrs rule.Exists = exist
 instrs rule.Types = typed
 instrs rule.Classes = (tt, (tt, (tt, (tt, (tt, tt)))))
 instrs rule.Joins = (λ e. tt, (λ e. refl, (λ e. tt, (tt, (tt, tt)))))
-instrs rule.Globals = (λ e. absurd (true≢false (sym e)), (λ e. absurd (true≢false (sym e)), (λ e. absurd (true≢false (sym e)), (tt, (tt, tt)))))
+instrs rule.Globals = (
+  λ e. absurd (true≢false (sym e)),
+  (λ e. absurd (true≢false (sym e)), (λ e. absurd (true≢false (sym e)), (tt, (tt, tt)))),
+)
 instrs rule.Calls = (tt, (tt, (tt, (tt, (tt, tt)))))
 instrs rule.Starts = (tt, (tt, (tt, (tt, (tt, tt)))))
 instrs rule.Entry = (tt, (tt, (tt, (tt, (tt, tt)))))
 instrs rule.Creations = created
 instrs rule.Protections = (tt, (tt, (tt, (tt, (tt, tt)))))
 instrs rule.Returns = (tt, (tt, (tt, (tt, (tt, tt)))))
-instrs rule.Lending = (record { creates = λ k e c. no_name k e; removes = λ k j removes e c d. no_name k e }, (record { creates = λ k e c. no_name k e; removes = λ k j removes e c d. no_name k e }, (record { creates = λ k e c. no_name k e; removes = λ k j removes e c d. no_name k e }, (record { creates = λ k e c. no_name k e; removes = λ k j removes e c d. no_name k e }, (record { creates = λ k e c. no_name k e; removes = λ k j removes e c d. no_name k e }, tt)))))
+instrs rule.Lending = (lends _, (lends _, (lends _, (lends _, (lends _, tt)))))
 instrs rule.Removals = removed
 instrs rule.Endings = (tt, (tt, (tt, (tt, (record { creates = refl; holds = not_at_4 }, tt)))))
 
@@ -384,7 +402,10 @@ head_kept rule.Endings = tt
 slots : (r : Rule) → AllAt (λ v s. KeptBySlot code r s) main.variables
 slots rule.Exists = (ltb-true 0 1 refl, (ltb-true 0 1 refl, (tt, tt)))
 slots rule.Types = (tt, (tt, (tt, tt)))
-slots rule.Classes = ((λ p. refl, λ p e. no_class 0 e), ((λ p. refl, λ p e. no_class 0 e), ((λ p. absurd (p refl), λ e. absurd (true≢false (sym e))), tt)))
+slots rule.Classes = (
+  (λ p. refl, λ p e. no_class 0 e),
+  ((λ p. refl, λ p e. no_class 0 e), ((λ p. absurd (p refl), λ e. absurd (true≢false (sym e))), tt)),
+)
 slots rule.Joins = (tt, (tt, (tt, tt)))
 slots rule.Globals = (tt, (tt, (tt, tt)))
 slots rule.Calls = (tt, (tt, (tt, tt)))

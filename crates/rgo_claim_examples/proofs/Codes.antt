@@ -37,7 +37,9 @@ one_object_code = code_of (node ∷ []) (
 -- the code of `linked_list`
 abbrev pub linked_list_code : Tac
 linked_list_code = code_of (node ∷ []) (
-    code_fn (codes "main") 0 None (pointer_to 0 ∷ int ∷ int ∷ int ∷ bool ∷ pointer_to 0 ∷ int ∷ int ∷ int ∷ int ∷ bool ∷ bool ∷ int ∷ int ∷ pointer_to 0 ∷ []) (
+    code_fn (codes "main") 0 None (
+    pointer_to 0 ∷ int ∷ int ∷ int ∷ bool ∷ pointer_to 0 ∷ int ∷ int ∷ int ∷ int ∷ bool ∷ bool ∷ int ∷ int
+    ∷ pointer_to 0 ∷ []) (
     at 93 (Do (Some 0) action.Nil [])
     ∷ at 114 (Do (Some 1) (action.Int (pos 1)) [])
     ∷ at 111 (Do (Some 2) action.Copy (1 ∷ []))
@@ -69,7 +71,8 @@ linked_list_code = code_of (node ∷ []) (
 -- the code of `binary_tree`
 abbrev pub binary_tree_code : Tac
 binary_tree_code = code_of (tree_node ∷ []) (
-    code_fn (codes "build") 1 (Some (pointer_to 0)) (int ∷ int ∷ bool ∷ pointer_to 0 ∷ int ∷ int ∷ pointer_to 0 ∷ int ∷ int ∷ pointer_to 0 ∷ pointer_to 0 ∷ []) (
+    code_fn (codes "build") 1 (Some (pointer_to 0)) (
+    int ∷ int ∷ bool ∷ pointer_to 0 ∷ int ∷ int ∷ pointer_to 0 ∷ int ∷ int ∷ pointer_to 0 ∷ pointer_to 0 ∷ []) (
     at 119 (Do (Some 1) (action.Int (pos 0)) [])
     ∷ at 116 (Do (Some 2) (action.Binary Eq) (0 ∷ 1 ∷ []))
     ∷ at 107 (Branch 2 3 5)
@@ -86,7 +89,8 @@ binary_tree_code = code_of (tree_node ∷ []) (
     ∷ at 147 (Do None (action.Store 1) (10 ∷ 9 ∷ []))
     ∷ at 140 (Return (Some 10))
     ∷ at 189 (Jump 15) ∷ [])
-    ∷ code_fn (codes "count") 1 (Some int) (pointer_to 0 ∷ bool ∷ int ∷ int ∷ pointer_to 0 ∷ int ∷ int ∷ pointer_to 0 ∷ int ∷ int ∷ []) (
+    ∷ code_fn (codes "count") 1 (Some int) (
+    pointer_to 0 ∷ bool ∷ int ∷ int ∷ pointer_to 0 ∷ int ∷ int ∷ pointer_to 0 ∷ int ∷ int ∷ []) (
     at 230 (Do (Some 1) action.IsNil (0 ∷ []))
     ∷ at 222 (Branch 1 2 4)
     ∷ at 248 (Do (Some 2) (action.Int (pos 0)) [])

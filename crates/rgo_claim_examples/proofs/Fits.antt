@@ -37,4 +37,5 @@ has_room limits sizes steps names s =
 abbrev pub fits : Limits → Sizes → (steps : ℕ) → Tac → Bool
 fits limits sizes steps code =
     nat_le steps limits.steps
-    && all_within (quiet_step (tac code)) (has_room limits sizes steps (most_variables code.functions)) steps (tac_start code)
+    && all_within (quiet_step (tac code)) (has_room limits sizes steps (most_variables code.functions)) steps
+    (tac_start code)

@@ -220,7 +220,8 @@ name_of class.NoClass = 0
 name_of class.Global = 0
 
 numbered : AreNumbered classes
-numbered zero k j e less = let is : 0 ≡ k = ap name_of (same_Some (class.Name 0) (class.Name k) e) in absurd (omega (arith, is, less))
+numbered zero k j e less =
+    let is : 0 ≡ k = ap name_of (same_Some (class.Name 0) (class.Name k) e) in absurd (omega (arith, is, less))
 numbered (suc zero) k j e less =
     let is : 0 ≡ k = ap name_of (same_Some (class.Name 0) (class.Name k) e) in absurd (omega (arith, is, less))
 numbered (suc (suc zero)) k j e less = absurd (none_name k (same_Some class.NoClass (class.Name k) e))

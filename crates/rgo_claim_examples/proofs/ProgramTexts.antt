@@ -193,7 +193,8 @@ list_lexed =
     (piece Dot 1 refl (piece Name 4 refl (newline 1 refl (blank 1 refl (piece CloseBrace 1 refl (newline 1 refl
     (blank 1 refl (piece Name 3 refl (piece Dot 1 refl (piece Name 7 refl (piece OpenParen 1 refl
     (piece Name 3 refl (piece CloseParen 1 refl (newline 1 refl (piece CloseBrace 1 refl (newline 1 refl
-    (finish refl))))))))))))))))))))))))))))))))))))))))))))))))))))))))))))))))))))))))))))))))))))))))))))))))))))))))))))))))))))))))))))))))))))))))))))
+    (finish refl))))))))))))))))))))))))))))))))))))))))))))))))))))))))))))))))))))))))))))))))))))))))))))))
+    ))))))))))))))))))))))))))))))))))))))))))))))
 
 abbrev list_lexemes : List Lexeme
 list_lexemes = with_package_name list_found
@@ -327,7 +328,8 @@ tree_lexed =
     (piece Name 5 refl (piece OpenParen 1 refl (piece Name 5 refl (piece OpenParen 1 refl (piece (Number 2) 1 refl
     (piece CloseParen 1 refl (piece CloseParen 1 refl (piece CloseParen 1 refl (newline 1 refl
     (piece CloseBrace 1 refl (newline 1 refl
-    (finish refl)))))))))))))))))))))))))))))))))))))))))))))))))))))))))))))))))))))))))))))))))))))))))))))))))))))))))))))))))))))))))))))))))))))))))))))))))))))))))))))))))))))))))))))))))))))
+    (finish refl))))))))))))))))))))))))))))))))))))))))))))))))))))))))))))))))))))))))))))))))))))))))))))))
+    )))))))))))))))))))))))))))))))))))))))))))))))))))))))))))))))))))))))))))))))))))))))
 
 abbrev tree_lexemes : List Lexeme
 tree_lexemes = with_package_name tree_found

@@ -49,7 +49,8 @@ so_many (suc n) = let e = so_many n in omega (arith, e)
 module _ (limits : Limits) where
   step_back : limited_step (tac endless_code) limits (tac_start endless_code) (One 0) ≡ Some (tac_start endless_code)
   step_back =
-      let room : nat_le 1 (most_goroutines limits) ≡ true = le-leb 1 (max 1 limits.goroutines) (le-max_left 1 limits.goroutines) in
+      let room : nat_le 1 (most_goroutines limits) ≡ true =
+      le-leb 1 (max 1 limits.goroutines) (le-max_left 1 limits.goroutines) in
       ap (λ b. if b && true then Some (tac_start endless_code) else None) room
 
   goes_on : (n : ℕ) → LeadsWithin (tac endless_code) limits (tac_start endless_code) (again n) (tac_start endless_code)

@@ -1,19 +1,20 @@
 -- What the headline says of calls that run the texts of these programs.
-use Rattle.std.specs.Prelude.{◌≡◌, ◌⊎◌, ℕ, List}
+use Rattle.std.specs.Prelude.{◌≡◌, ◌⊎◌, ℕ, List, codes}
 use Rattle.rgo_command_line.specs.Limits.{default_options}
-use Rattle.rgo_run.specs.Calls.{Call, Failed, IsRun, SourceFailed}
+use Rattle.rgo_run.specs.Calls.{Call, Failed, Grew, IsRun, SourceFailed}
 use Rattle.rgo_run.specs.Headline.{Headline}
 use Rattle.rgo_claim_examples.specs.Texts.{object_text, list_text, tree_text, sender_text}
 
--- A call that runs this text with the default options exits with status 0, where nothing failed; or memory ran out.
-abbrev pub RunsToExit : List ℕ → Type 0
-RunsToExit text =
+-- A call that runs this text with the default options prints this and exits with status 0, where nothing failed; or
+-- memory ran out.
+abbrev pub RunsToExit : (text print : List ℕ) → Type 0
+RunsToExit text print =
     (call : Call) (claim : Headline call) → claim.text ≡ text → IsRun call default_options
     → (SourceFailed call.source → ⊥) → (Failed call.out → ⊥) → (Failed call.err → ⊥)
-    → (call.status ≡ 0) ⊎ (call.status ≡ 11)
+    → ((call.status ≡ 0) × Grew call.out print) ⊎ (call.status ≡ 11)
 
 pub record TextsRun : Type 0 where
-  pub object : RunsToExit object_text
-  pub list : RunsToExit list_text
-  pub tree : RunsToExit tree_text
-  pub goroutines : RunsToExit sender_text
+  pub object : RunsToExit object_text (codes "0\n")
+  pub list : RunsToExit list_text (codes "6\n")
+  pub tree : RunsToExit tree_text (codes "3\n")
+  pub goroutines : RunsToExit sender_text (codes "7\n")

@@ -8,8 +8,9 @@ ghost use Rattle.rgo_claim_examples.specs.Sufficing.{ProgramsSuffice};
 ghost use Rattle.rgo_claim_examples.specs.Texts.{TextExamples};
 ghost use Rattle.rgo_claim_examples.specs.Whole.{TextsRun};
 
-/// No run of the four programs meets a default limit, or lacks a page, a region or the room for an object. For a program
-/// that never ends no options are enough, and too low a limit is not enough for one of the four.
+/// No run of the four programs meets a default limit, or lacks a page, a region or the room for an object; one that makes
+/// no object needs no room at all. For a program that never ends no options are enough, and there are limits that are too
+/// low for two of the four.
 pub fn programs_suffice()
     ensures { ProgramsSuffice }
 {}
@@ -35,18 +36,19 @@ pub fn end_examples()
     ensures { EndExamples }
 {}
 
-/// A run with regions to its exit, and one to a state in which a region is missing; and what no run with regions comes to.
+/// A run with regions to its exit, one to a state in which a region is missing, and what no run with regions comes to.
 pub fn region_run_examples()
     ensures { RegionRunExamples }
 {}
 
-/// A text that is a program, this one and no other, and a text that is refused.
+/// The texts of the four programs, and of one that never ends, which has no other program and no refusal; and a text that
+/// is refused and is none.
 pub fn text_examples()
     ensures { TextExamples }
 {}
 
-/// By the headline, a call that runs one of the four texts with the default options, and in which nothing fails, ends with
-/// status 0, or with 11.
+/// By the headline, a call that runs one of the four texts with the default options, and in which nothing fails, prints
+/// the one number of that text and ends with status 0, or ends with 11.
 pub fn texts_run()
     ensures { TextsRun }
 {}
