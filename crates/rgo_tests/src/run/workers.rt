@@ -67,8 +67,13 @@ fn workers_wait_for_one_another(rt: HostRuntime) -> Result<(), Fail> {
     Ok(())
 }
 
-/// How many goroutines the large text starts, and what it prints.
-static LARGE: [(u32, &str); 3] = [(1, "1 0\n"), (20, "20 330\n"), (100, "100 1650\n")];
+/// How many goroutines the large text starts, and what it prints. With at most seven, all run on workers in a round.
+static LARGE: [(u32, &str); 4] = [
+    (1, "1 0\n"),
+    (7, "7 56\n"),
+    (20, "20 330\n"),
+    (100, "100 1650\n"),
+];
 
 #[test]
 fn the_large_text_runs_on_any_number_of_workers(rt: HostRuntime) -> Result<(), Fail> {
