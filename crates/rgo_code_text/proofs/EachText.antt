@@ -10,7 +10,7 @@ use Rattle.rgo_code_text.specs.Forms.{IsText, IsFirstWithoutForm}
 use Rattle.rgo_code_text.specs.Items.{Item, ItemFits, item_line, after}
 use Rattle.rgo_code_text.specs.Laws.{OneOfBoth}
 use Rattle.rgo_code_text.specs.Order.{IsLast}
-use Rattle.rgo_code_text.specs.Readers.{IsRead}
+use Rattle.rgo_code_words.specs.Readers.{IsRead}
 use Rattle.rgo_code_text.specs.Walk.{AreItems, StepIs, StopsAt}
 use Rattle.rgo_code_text.proofs.EachLine.{ReadOf, item_of_line}
 use Rattle.rgo_code_text.proofs.EachPrint.{same_or_not, first_within}

@@ -25,7 +25,8 @@ use Rattle.rgo_code.specs.Types as types
 use Rattle.rgo_code_printing.specs.Text.{action_words}
 use Rattle.rgo_code_text.specs.Laws.{RulesSuffice}
 use Rattle.rgo_code_text.specs.Printable.{ActionPrints, OpPrints, InstrPrints, FnPrints, IsPrintable}
-use Rattle.rgo_code_text.specs.Written.{AreRegions, AreSmall, OperatorFits, ActionFits, IsInstruction, OpFits, InstrFits, FnFits, no_names}
+use Rattle.rgo_code_text.specs.Written.{ActionFits, IsInstruction, OpFits, InstrFits, FnFits, no_names}
+use Rattle.rgo_code_words.specs.Worded.{AreRegions, AreSmall, OperatorFits}
 use Rattle.rgo_code_text.proofs.RuledUses.{each, kind, structs_first, variables_first, functions_first}
 
 -- ---- an action has words

@@ -21,7 +21,8 @@ use Rattle.rgo_code.specs.Code.{Slot, CodeOp, CodeFn, Code, Do, Call, Go, Print,
 use Rattle.rgo_code.specs.Erasure.{erased_op, erased_fn, erased}
 use Rattle.rgo_code.specs.Exists.{declared_by, TypeExists, IsNew, ActionExists, OpExists}
 use Rattle.rgo_code_printing.specs.Words.{name_at}
-use Rattle.rgo_code_text.specs.Written.{AreNames, base_uses, type_uses, result_uses, struct_in, variable_in, function_in, naming_of, struct_named, variable_named, fn_structs, fn_variables, fn_functions, uses_of, is_among, number_of, AreFirst, unknown, KindIsWritten}
+use Rattle.rgo_code_text.specs.Written.{base_uses, type_uses, result_uses, struct_in, variable_in, function_in, naming_of, struct_named, variable_named, fn_structs, fn_variables, fn_functions, uses_of, number_of, AreFirst, unknown, KindIsWritten}
+use Rattle.rgo_code_words.specs.Worded.{AreNames, is_among}
 use Rattle.rgo_code_text.proofs.Firsts.{among_is}
 
 -- ---- lists

@@ -4,7 +4,8 @@ use Rattle.std.specs.Prelude.{◌≡◌, ◌≤◌, ◌^◌, ℕ, List, map, len
 use Rattle.rgo_typed.specs.declared.actions.Action.{Action}
 use Rattle.rgo_typed.specs.declared.actions.Action.TheVariants as action
 use Rattle.rgo_code.specs.Code.{CodeOp, CodeInstr, CodeFn, Code, Do, Call, Go, Print, Jump, Branch, Return}
-use Rattle.rgo_code_text.specs.Written.{AreNames, IsSmall, AreSmall, ClassFits, SlotFits, IntFits, PieceFits, ValueFits, values_in}
+use Rattle.rgo_code_text.specs.Written.{SlotFits}
+use Rattle.rgo_code_words.specs.Worded.{AreNames, IsSmall, AreSmall, ClassFits, IntFits, PieceFits, ValueFits, values_in}
 
 abbrev pub ActionPrints : Action → Type 0
 ActionPrints (action.Int k) = IntFits k
