@@ -26,6 +26,7 @@ pub mod Opening
 pub mod OpsBack
 pub mod PlainInstrs
 pub mod PrintWords
+pub mod PrintableExamples
 pub mod Refusing
 pub mod Ruled
 pub mod RuledUses

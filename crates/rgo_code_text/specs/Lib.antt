@@ -1,6 +1,7 @@
 pub mod Actions
 pub mod Building
 pub mod CodeLines
+pub mod Examples
 pub mod Forms
 pub mod Items
 pub mod Laws

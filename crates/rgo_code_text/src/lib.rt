@@ -15,6 +15,6 @@ mod prints;
 mod reading;
 mod refusals;
 
-pub use laws::{one_of_both, one_refusal, one_text, rules_suffice};
+pub use laws::{examples, one_of_both, one_refusal, one_text, rules_suffice};
 pub use reading::read_code;
 pub use refusals::{CodeText, ReadError};
