@@ -20,6 +20,7 @@ use Rattle.rgo_code_text.specs.Actions.{NamedAction}
 use Rattle.rgo_code_text.specs.Items.{NamedSlot, Item, Head, Struct, Global, Function, Slot, Entry, Instr, End}
 use Rattle.rgo_code_text.specs.Ops.{NamedOp, Callee}
 use Rattle.rgo_code_words.specs.Readers.{NamedType}
+use Rattle.rgo_code_words.specs.Views.{named_type_of}
 
 abbrev pub callee_of : CodeCallee → Callee
 callee_of c = record { name = c.name.now; from = c.from }
