@@ -1,12 +1,11 @@
 -- The examples of printable code.
-use Rattle.std.proofs.Common.{◌≡◌, ℕ, ◌^◌, true, true≢false, List, [], ◌∷◌, None, refl, sym, arith, codes, map}
-use Rattle.std.specs.List.{All}
+use Rattle.std.proofs.Common.{◌≡◌, ℕ, true, true≢false, List, [], ◌∷◌, None, refl, sym, arith, codes}
 use Rattle.std.proofs.lemmas.List.Elements.{All-nil, All-cons, All-head}
-use Rattle.rgo_code.specs.Code.{CodeOp, CodeFn, CodeInstr, Code}
+use Rattle.rgo_code.specs.Code.{CodeOp, CodeFn}
 use Rattle.rgo_code_text.specs.Examples.{Examples, one_function}
 use Rattle.rgo_code_text.specs.Printable.{IsPrintable, InstrPrints, FnPrints}
 use Rattle.rgo_code_text.specs.Written.{SlotFits}
-use Rattle.rgo_code_words.specs.Worded.{is_name, AreNames, IsSmall}
+use Rattle.rgo_code_words.specs.Worded.{is_name, IsSmall}
 
 main_is_name : is_name (codes "main") ≡ true
 unfolding is_name
