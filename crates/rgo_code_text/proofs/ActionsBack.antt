@@ -10,13 +10,14 @@ use Rattle.rgo_typed.specs.declared.actions.Action.TheVariants as action
 use Rattle.rgo_tac.specs.Code as tac
 use Rattle.rgo_code_text.specs.Actions.{NamedAction, named, with_one, with_two, with_three, with_operator, giving, taking, read_action}
 use Rattle.rgo_code_text.specs.Items.{only, ActionIsNamed}
-use Rattle.rgo_code_text.specs.Readers.{on_some, read_number, read_operator}
+use Rattle.rgo_code_words.specs.Readers.{on_some, read_number, read_operator}
 use Rattle.rgo_code_printing.specs.Text.{action_words}
 use Rattle.rgo_code_printing.specs.Words.{variable_word, operator_word}
-use Rattle.rgo_code_text.specs.Written.{is_name, IsSmall, AreSmall, ValueFits, ActionFits, OperatorFits, IsInstruction}
-use Rattle.rgo_code_text.proofs.Integers.{int_back}
-use Rattle.rgo_code_text.proofs.Numerals.{number_back}
-use Rattle.rgo_code_text.proofs.WordsBack.{operator_back}
+use Rattle.rgo_code_text.specs.Written.{ActionFits, IsInstruction}
+use Rattle.rgo_code_words.specs.Worded.{is_name, IsSmall, AreSmall, ValueFits, OperatorFits}
+use Rattle.rgo_code_words.proofs.Integers.{int_back}
+use Rattle.rgo_code_words.proofs.Numerals.{number_back}
+use Rattle.rgo_code_words.proofs.WordsBack.{operator_back}
 
 -- ---- by shape
 

@@ -8,17 +8,18 @@ use Rattle.rgo_typed.specs.declared.actions.Action.{Action}
 use Rattle.rgo_typed.specs.declared.actions.Action.TheVariants as action
 use Rattle.rgo_tac.specs.Code as tac
 use Rattle.rgo_code_text.specs.Actions.{NamedAction, with_one, with_two, with_three, with_operator, giving, taking, two_words, three_words, four_words, five_words, setting, read_action}
-use Rattle.rgo_code_text.specs.Cuts.{word_at}
+use Rattle.rgo_code_words.specs.Cuts.{word_at}
 use Rattle.rgo_code_text.specs.Items.{only, ActionIsNamed}
-use Rattle.rgo_code_text.specs.Readers.{read_number, read_int, read_operator, read_truth, read_variable}
+use Rattle.rgo_code_words.specs.Readers.{read_number, read_int, read_operator, read_truth, read_variable}
 use Rattle.rgo_code_printing.specs.Text.{action_words}
 use Rattle.rgo_code_printing.specs.Words.{variable_word, operator_word}
-use Rattle.rgo_code_text.specs.Written.{is_name, IsSmall, AreSmall, ValueFits, ActionFits, OperatorFits, IsInstruction}
-use Rattle.rgo_code_text.proofs.Cutting.{two_of, three_of, four_of, five_of}
-use Rattle.rgo_code_text.proofs.Integers.{int_sound}
-use Rattle.rgo_code_text.proofs.Numerals.{number_sound}
-use Rattle.rgo_code_text.proofs.Options.{some_same, not_none, under, after_some, by_word, either}
-use Rattle.rgo_code_text.proofs.WordsBack.{lettered_is, truth_is, operator_is}
+use Rattle.rgo_code_text.specs.Written.{ActionFits, IsInstruction}
+use Rattle.rgo_code_words.specs.Worded.{is_name, IsSmall, AreSmall, ValueFits, OperatorFits}
+use Rattle.rgo_code_words.proofs.Cutting.{two_of, three_of, four_of, five_of}
+use Rattle.rgo_code_words.proofs.Integers.{int_sound}
+use Rattle.rgo_code_words.proofs.Numerals.{number_sound}
+use Rattle.rgo_code_words.proofs.Options.{some_same, not_none, under, after_some, by_word, either}
+use Rattle.rgo_code_words.proofs.WordsBack.{lettered_is, truth_is, operator_is}
 
 -- an action that fits has these words
 pub record IsAction (words : List (List ℕ)) (a : NamedAction) : Type 0 where

@@ -11,9 +11,9 @@ use Rattle.rgo_code_text.specs.declared.places.Place.{Place}
 use Rattle.rgo_code_text.specs.declared.places.Place.TheVariants.{First, Structs, Globals, Functions, Slots, Body}
 use Rattle.rgo_code_text.specs.CodeLines.{Line, Head, Struct, Global, Function, Var, Entry, Instr, End, instrs_from, lines_of_fn, line_kind, Building, nothing, no_function, with_line, with_lines}
 use Rattle.rgo_code_text.specs.Order.{after_kind, after_kinds}
-use Rattle.rgo_code_text.specs.Readers.{on_some}
-use Rattle.rgo_code_text.proofs.ListFacts.{flat_push}
-use Rattle.rgo_code_text.proofs.Options.{some_same, not_none}
+use Rattle.rgo_code_words.specs.Readers.{on_some}
+use Rattle.rgo_code_words.proofs.ListFacts.{flat_push}
+use Rattle.rgo_code_words.proofs.Options.{some_same, not_none}
 
 -- ---- the lines of code that is not complete
 

@@ -7,10 +7,10 @@ use Rattle.rgo_tac.specs.declared.regions.Class.{Class}
 use Rattle.rgo_code.specs.declared.notes.Note.{Note}
 use Rattle.rgo_tac.specs.Code as tac
 use Rattle.rgo_code.specs.Code.{Call, Go, Jump}
-use Rattle.rgo_code_text.specs.Cuts.{word_at}
+use Rattle.rgo_code_words.specs.Cuts.{word_at}
 use Rattle.rgo_code_text.specs.Ops.{NamedOp, Callee, callee_at, call_note, go_note, removing, read_callee, calling, starting, jumping, branching, branch_of, with_ways, unnamed, of_length}
-use Rattle.rgo_code_text.specs.Readers.{on_some, inside, read_lettered, read_number, read_value, read_passes, read_regions, read_within}
-use Rattle.rgo_code_text.specs.Written.{is_name}
+use Rattle.rgo_code_words.specs.Readers.{on_some, inside, read_lettered, read_number, read_value, read_passes, read_regions, read_within}
+use Rattle.rgo_code_words.specs.Worded.{is_name}
 
 abbrev pub call_of : Option (Option ℕ) → Option Callee → Option Note → Option NamedOp
 call_of None c n = None

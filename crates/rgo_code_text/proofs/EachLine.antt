@@ -1,14 +1,14 @@
 -- Each line is that of one item, or of none.
-use Rattle.std.proofs.Common.{◌≡◌, ◌≢◌, ◌⊎◌, inl, inr, ℕ, Bool, true, false, List, [], ◌∷◌, ◌++◌, length, take, drop, Option, Some, None, refl, sym, ap, subst, ◌∙◌, codes}
+use Rattle.std.proofs.Common.{◌≡◌, ◌≢◌, ◌⊎◌, inl, inr, ℕ, Bool, true, false, List, length, take, drop, Option, Some, None, refl, subst, codes}
 use Rattle.std.specs.List.{before_first}
 use Rattle.std.specs.Str.{bytes_eq}
 use Rattle.std.proofs.lemmas.Slice.Eq.{bytes_eq-Decides}
-use Rattle.rgo_code_text.specs.Cuts.{is_space, cut, word_at}
-use Rattle.rgo_code_text.specs.Items.{Item, Head, End, ItemFits, item_line}
+use Rattle.rgo_code_words.specs.Cuts.{is_space, cut, word_at}
+use Rattle.rgo_code_text.specs.Items.{Head, End, ItemFits, item_line}
 use Rattle.rgo_code_text.specs.Lines.{InstrFits, instr_with, struct_of, global_of, function_of, slot_of, entry_of}
 use Rattle.rgo_code_text.specs.Ops.{NamedOp, NamedOpFits, op_text, read_op}
-use Rattle.rgo_code_text.specs.Readers.{IsRead, read_number, read_lettered, read_regions}
-use Rattle.rgo_code_text.proofs.EachPrint.{PrintOf, print_of, same_or_not}
+use Rattle.rgo_code_words.specs.Readers.{IsRead, read_number, read_lettered, read_regions}
+use Rattle.rgo_code_text.proofs.EachPrint.{print_of, same_or_not}
 use Rattle.rgo_code_text.proofs.Instrs.{wrong_count, wrong_index, wrong_place, wrong_creates, wrong_op, instr_is}
 use Rattle.rgo_code_text.proofs.LinesBack.{head_read, end_read, struct_read, global_read, function_read, slot_read, entry_read, instr_read}
 use Rattle.rgo_code_text.proofs.OpTexts.{print_front, text_read}

@@ -1,5 +1,5 @@
 -- What follows `print` is read: it is that of an operation, or of none.
-use Rattle.std.proofs.Common.{◌≡◌, ◌≢◌, ◌⊎◌, inl, inr, ℕ, zero, suc, ◌+◌, ◌-◌, ◌<◌, ◌≤◌, ◌^◌, ◌==◌, Bool, true, false, List, [], ◌∷◌, ◌++◌, length, take, drop, get_or, Option, Some, None, refl, sym, ap, subst, ◌∙◌, arith, codes, length-drop}
+use Rattle.std.proofs.Common.{◌≡◌, ◌≢◌, ◌⊎◌, inl, inr, ℕ, zero, suc, ◌+◌, ◌-◌, ◌<◌, ◌≤◌, ◌^◌, ◌==◌, Bool, true, false, List, [], ◌∷◌, ◌++◌, length, take, drop, get_or, Option, Some, None, refl, sym, ap, ◌∙◌, arith, codes, length-drop}
 use Rattle.std.specs.Bool.{Decides}
 use Rattle.std.specs.List.{position_or_len}
 use Rattle.std.proofs.lemmas.Bool.{cases_lt}
@@ -9,13 +9,13 @@ use Rattle.std.proofs.lemmas.List.Elements.{All-nil}
 use Rattle.rgo_typed.specs.declared.statements.Piece.{Piece}
 use Rattle.rgo_typed.specs.declared.statements.Piece.TheVariants as piece
 use Rattle.rgo_code.specs.Code.{Print}
-use Rattle.rgo_code_text.specs.Cuts.{is_space}
+use Rattle.rgo_code_words.specs.Cuts.{is_space}
 use Rattle.rgo_code_text.specs.Ops.{NamedOp, op_text, NamedOpFits, LastWord}
-use Rattle.rgo_code_text.specs.Pieces.{string_byte, IsInside, Fronts, NoneFronts, ArePieces, value_list}
-use Rattle.rgo_code_text.specs.Readers.{IsRead, read_regions, read_variable}
-use Rattle.rgo_code_text.proofs.ListFacts.{drop_here}
-use Rattle.rgo_code_text.proofs.PieceFronts.{Inside, inside_more, byte_some, is_comma, string_fronts, string_none, variable_fronts, variable_none}
-use Rattle.rgo_code_text.proofs.PieceLists.{Leads, leads_start, leads_none, leads_end, leads_wrong, leads_more}
+use Rattle.rgo_code_words.specs.Pieces.{string_byte, IsInside, Fronts, NoneFronts, ArePieces, value_list}
+use Rattle.rgo_code_words.specs.Readers.{IsRead, read_regions, read_variable}
+use Rattle.rgo_code_words.proofs.ListFacts.{drop_here}
+use Rattle.rgo_code_words.proofs.PieceFronts.{Inside, inside_more, byte_some, is_comma, string_fronts, string_none, variable_fronts, variable_none}
+use Rattle.rgo_code_words.proofs.PieceLists.{Leads, leads_start, leads_none, leads_end, leads_wrong, leads_more}
 use Rattle.rgo_code_text.proofs.PrintWords.{space_here, print_none, print_plain, print_pieces, print_wrong}
 
 -- two numbers are the same, or they are not

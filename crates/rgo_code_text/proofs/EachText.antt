@@ -1,6 +1,6 @@
 -- Each text is the text of code, or has a first line without form.
-use Rattle.std.proofs.Common.{◌≡◌, ◌≢◌, ◌⊎◌, inl, inr, ℕ, zero, suc, ◌+◌, ◌<◌, ◌≤◌, List, [], ◌∷◌, ◌++◌, length, take, drop, Option, Some, None, true≢false, refl, sym, ap, subst, ◌∙◌, arith, length-drop}
-use Rattle.std.specs.List.{All, position_or_len}
+use Rattle.std.proofs.Common.{◌≡◌, ◌≢◌, ◌⊎◌, inl, inr, ℕ, zero, suc, ◌+◌, ◌<◌, ◌≤◌, List, [], ◌∷◌, ◌++◌, length, take, drop, Option, Some, None, true≢false, refl, sym, ap, subst, ◌∙◌, arith}
+use Rattle.std.specs.List.{position_or_len}
 use Rattle.std.specs.Option.{IsSome}
 use Rattle.std.proofs.lemmas.List.Elements.{All-nil}
 use Rattle.rgo_code_text.specs.declared.places.Place.{Place}
@@ -10,9 +10,9 @@ use Rattle.rgo_code_text.specs.Forms.{IsText, IsFirstWithoutForm}
 use Rattle.rgo_code_text.specs.Items.{Item, ItemFits, item_line, after}
 use Rattle.rgo_code_text.specs.Laws.{OneOfBoth}
 use Rattle.rgo_code_text.specs.Order.{IsLast}
-use Rattle.rgo_code_text.specs.Readers.{IsRead}
+use Rattle.rgo_code_words.specs.Readers.{IsRead}
 use Rattle.rgo_code_text.specs.Walk.{AreItems, StepIs, StopsAt}
-use Rattle.rgo_code_text.proofs.EachLine.{ReadOf, item_of_line}
+use Rattle.rgo_code_text.proofs.EachLine.{item_of_line}
 use Rattle.rgo_code_text.proofs.EachPrint.{same_or_not, first_within}
 use Rattle.rgo_code_text.proofs.ItemsOne.{items_one}
 use Rattle.rgo_code_text.proofs.Refusing.{read_is, refused}

@@ -5,8 +5,9 @@ use Rattle.std.proofs.lemmas.Bool.Decides.{Decides-ltb, nat_tests, not_from_Deci
 use Rattle.std.proofs.lemmas.List.Folds.{position_or_len_push}
 use Rattle.std.proofs.lemmas.Slice.Eq.{bytes_eq-Decides}
 use Rattle.rgo_code_text.specs.Numbers.{first_of}
-use Rattle.rgo_code_text.specs.Written.{is_among, number_of}
-use Rattle.rgo_code_text.proofs.Options.{not_none}
+use Rattle.rgo_code_text.specs.Written.{number_of}
+use Rattle.rgo_code_words.specs.Worded.{is_among}
+use Rattle.rgo_code_words.proofs.Options.{not_none}
 
 pub number_within : (names : List (List ℕ)) (name : List ℕ) → number_of names name ≤ length names
 number_within [] name = omega arith

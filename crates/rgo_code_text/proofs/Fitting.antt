@@ -14,7 +14,8 @@ use Rattle.rgo_code_text.specs.Building.{numbered, numbered_slot, numbered_actio
 use Rattle.rgo_code_text.specs.CodeLines.{Building, nothing, no_function, with_line, with_lines}
 use Rattle.rgo_code_text.specs.Items.{NamedSlot, Item, Head, Struct, Global, Function, Slot as SlotLine, Entry, Instr, End, ItemFits, NamedSlotFits}
 use Rattle.rgo_code_printing.specs.Text.{Names}
-use Rattle.rgo_code_text.specs.Written.{IsSmall, AreRegions, IsInstruction, ActionFits, OpFits, InstrFits, SlotFits}
+use Rattle.rgo_code_text.specs.Written.{IsInstruction, ActionFits, OpFits, InstrFits, SlotFits}
+use Rattle.rgo_code_words.specs.Worded.{IsSmall, AreRegions}
 
 -- ---- lists
 

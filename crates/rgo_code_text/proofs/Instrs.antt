@@ -2,21 +2,22 @@
 use Rattle.std.proofs.Common.{◌≡◌, ◌≢◌, ℕ, ◌<◌, List, [], ◌∷◌, ◌++◌, length, Some, None, refl, sym, ap, ◌∙◌, arith, decimal}
 use Rattle.std.specs.List.{join_with_byte}
 use Rattle.rgo_code.specs.Code.{CodeInstr, CodeOp, Do, Call, Go, Print, Jump, Branch, Return}
-use Rattle.rgo_code_text.specs.Cuts.{cut, word_at}
+use Rattle.rgo_code_words.specs.Cuts.{cut, word_at}
 use Rattle.rgo_code_text.specs.Items.{Item, Head, Struct, Global, Function, Slot, Entry, Instr, End, ItemFits, item_line, only, OpIsNamed}
 use Rattle.rgo_code_text.specs.Lines.{instr_with, InstrFits}
 use Rattle.rgo_code_text.specs.Ops.{NamedOp, NamedOpFits, op_text}
-use Rattle.rgo_code_text.specs.Readers.{IsRead, read_number, read_lettered, read_regions}
+use Rattle.rgo_code_words.specs.Readers.{IsRead, read_number, read_lettered, read_regions}
 use Rattle.rgo_code_printing.specs.Text.{op_words}
 use Rattle.rgo_code_printing.specs.Words.{place_word, creates_word}
-use Rattle.rgo_code_text.specs.Written.{OpFits, IsSmall, AreRegions}
-use Rattle.rgo_code_text.proofs.Cutting.{cut_more, cut_joined, four_of}
-use Rattle.rgo_code_text.proofs.Lacks.{lacks_from, lettered_from}
-use Rattle.rgo_code_text.proofs.Numerals.{number_back, number_sound}
-use Rattle.rgo_code_text.proofs.Options.{some_same, not_none}
+use Rattle.rgo_code_text.specs.Written.{OpFits}
+use Rattle.rgo_code_words.specs.Worded.{IsSmall, AreRegions}
+use Rattle.rgo_code_words.proofs.Cutting.{cut_more, cut_joined, four_of}
+use Rattle.rgo_code_words.proofs.Lacks.{lacks_from, lettered_from}
+use Rattle.rgo_code_words.proofs.Numerals.{number_back, number_sound}
+use Rattle.rgo_code_words.proofs.Options.{some_same, not_none}
 use Rattle.rgo_code_text.proofs.OpTexts.{op_one}
 use Rattle.rgo_code_text.proofs.OpWords.{op_worded, number_from}
-use Rattle.rgo_code_text.proofs.WordsBack.{lettered_back, lettered_is, regions_back, regions_is, regions_from}
+use Rattle.rgo_code_words.proofs.WordsBack.{lettered_back, lettered_is, regions_back, regions_is, regions_from}
 
 some_words : (o : NamedOp) → NamedOpFits o → 0 < length (op_words (only o.name) o.op)
 some_words o f = by o.op f

@@ -2,13 +2,13 @@
 use Rattle.std.proofs.Common.{◌≡◌, ℕ, List, sym, ap, ◌∙◌, refl, arith, codes, decimal}
 use Rattle.std.specs.List.{before_first}
 use Rattle.rgo_code.specs.Code.{CodeInstr}
-use Rattle.rgo_code_text.specs.Cuts.{is_space, cut}
+use Rattle.rgo_code_words.specs.Cuts.{is_space, cut}
 use Rattle.rgo_code_text.specs.Items.{Item, Head, Struct, Global, Function, Slot, Entry, Instr, End, ItemFits, item_line}
 use Rattle.rgo_code_text.specs.Lines.{struct_of, global_of, function_of, slot_of, entry_of}
 use Rattle.rgo_code_text.proofs.Instrs.{instrs_one}
 use Rattle.rgo_code_text.proofs.LineWords.{first_word, line_first, number_differs}
 use Rattle.rgo_code_text.proofs.LinesBack.{struct_back, global_back, function_back, slot_line_back, entry_back}
-use Rattle.rgo_code_text.proofs.Options.{some_same, differ}
+use Rattle.rgo_code_words.proofs.Options.{some_same, differ}
 
 only_head : (x : Item) → ItemFits x → first_word x ≡ codes "rgo" → x ≡ Head
 only_head Head f e = refl

@@ -11,9 +11,10 @@ use Rattle.rgo_code_text.specs.Building.{with_names}
 use Rattle.rgo_code_text.specs.Items.{IsName}
 use Rattle.rgo_code_text.specs.Numbers.{with_name}
 use Rattle.rgo_code_printing.specs.Words.{name_at}
-use Rattle.rgo_code_text.specs.Written.{is_among, number_of, unknown, AreNames, AreFirst, KindIsWritten}
+use Rattle.rgo_code_text.specs.Written.{number_of, unknown, AreFirst, KindIsWritten}
+use Rattle.rgo_code_words.specs.Worded.{is_among, AreNames}
 use Rattle.rgo_code_text.proofs.Firsts.{among_is}
-use Rattle.rgo_code_text.proofs.ListFacts.{front_all, back_all}
+use Rattle.rgo_code_words.proofs.ListFacts.{front_all, back_all}
 use Rattle.rgo_code_text.proofs.Naming.{IsKnown, AreKnown}
 
 -- ---- names that are known

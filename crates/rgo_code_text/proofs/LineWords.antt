@@ -7,18 +7,18 @@ use Rattle.rgo_typed.specs.declared.types.Base.{Base}
 use Rattle.rgo_typed.specs.declared.types.Base.TheVariants as base
 use Rattle.rgo_typed.specs.declared.types.Layer.{Layer}
 use Rattle.rgo_typed.specs.declared.types.Layer.TheVariants as layer
-use Rattle.rgo_code_text.specs.Cuts.{is_space}
+use Rattle.rgo_code_words.specs.Cuts.{is_space}
 use Rattle.rgo_code_text.specs.Items.{NamedSlot, Item, Head, Struct, Global, Function, Slot, Entry, Instr, End, ItemFits, IsName, item_line, BaseFits, TypeFits, NamedSlotFits, named_type_word, named_slot_words, named_result_words, only}
 use Rattle.rgo_code_printing.specs.Text.{op_words}
-use Rattle.rgo_code_text.specs.Readers.{NamedType, read_type}
+use Rattle.rgo_code_words.specs.Readers.{NamedType, read_type}
 use Rattle.rgo_code_printing.specs.Words.{layer_word, base_word, class_word, creates_word, place_word, removes_word}
-use Rattle.rgo_code_text.specs.Written.{IsSmall}
-use Rattle.rgo_code_text.proofs.Cutting.{first_of_joined}
-use Rattle.rgo_code_text.proofs.Lacks.{Lacks, From, AllFrom, from_test, from_both, from_cons, from_less, from_nil, name_from, lacks_from}
-use Rattle.rgo_code_text.proofs.ListWords.{Reads}
+use Rattle.rgo_code_words.specs.Worded.{IsSmall}
+use Rattle.rgo_code_words.proofs.Cutting.{first_of_joined}
+use Rattle.rgo_code_words.proofs.Lacks.{Lacks, From, AllFrom, from_test, from_both, from_cons, from_less, from_nil, name_from, lacks_from}
+use Rattle.rgo_code_words.proofs.ListWords.{Reads}
 use Rattle.rgo_code_text.proofs.OpWords.{no_words, and_word, number_from}
 use Rattle.rgo_code_text.proofs.TypeWords.{type_back, type_is}
-use Rattle.rgo_code_text.proofs.WordsBack.{class_from}
+use Rattle.rgo_code_words.proofs.WordsBack.{class_from}
 
 -- ---- types
 

@@ -6,21 +6,21 @@ use Rattle.std.specs.Str.{bytes_eq}
 use Rattle.std.proofs.lemmas.Bool.Decides.{Decides-eqb, not_from_Decides}
 use Rattle.std.proofs.lemmas.List.Elements.{All-nil}
 use Rattle.std.proofs.lemmas.Slice.Eq.{bytes_eq-Decides}
-use Rattle.rgo_code_text.specs.Cuts.{is_space, cut, word_at}
+use Rattle.rgo_code_words.specs.Cuts.{is_space, cut, word_at}
 use Rattle.rgo_code_text.specs.Items.{NamedSlot, Item, Head, Struct, Global, Function, Slot, Entry, Instr, End, ItemFits, IsName, item_line, TypeFits, NamedSlotFits, named_type_word, named_slot_words, named_result_words}
 use Rattle.rgo_code_text.specs.Lines.{read_fields, read_slot, read_result, struct_of, global_of, function_of, slot_of, entry_of, InstrFits}
-use Rattle.rgo_code_text.specs.Readers.{NamedType, IsRead, on_some, read_class, read_number, read_regions, read_type}
+use Rattle.rgo_code_words.specs.Readers.{NamedType, IsRead, on_some, read_class, read_number, read_regions, read_type}
 use Rattle.rgo_code_printing.specs.Words.{class_word, removes_word}
-use Rattle.rgo_code_text.specs.Written.{is_name}
-use Rattle.rgo_code_text.proofs.Cutting.{cut_words, cut_more, cut_joined, cut_short, first_of_cut, two_of, three_of, five_of}
-use Rattle.rgo_code_text.proofs.Lacks.{Lacks, from_test, lacks_from, all_lack_from, both_true}
+use Rattle.rgo_code_words.specs.Worded.{is_name}
+use Rattle.rgo_code_words.proofs.Cutting.{cut_words, cut_more, cut_joined, cut_short, first_of_cut, two_of, three_of, five_of}
+use Rattle.rgo_code_words.proofs.Lacks.{Lacks, from_test, lacks_from, all_lack_from, both_true}
 use Rattle.rgo_code_text.proofs.LineWords.{type_reads, type_from, slot_from, result_from, named_from, first_word, line_first, number_differs}
-use Rattle.rgo_code_text.proofs.ListWords.{words_back, words_is, words_some}
-use Rattle.rgo_code_text.proofs.Numerals.{number_back, number_sound}
-use Rattle.rgo_code_text.proofs.Options.{some_same, not_none, under, after_some, mapped, either, either_way, differ}
+use Rattle.rgo_code_words.proofs.ListWords.{words_back, words_is, words_some}
+use Rattle.rgo_code_words.proofs.Numerals.{number_back, number_sound}
+use Rattle.rgo_code_words.proofs.Options.{some_same, not_none, under, after_some, mapped, either, either_way, differ}
 use Rattle.rgo_code_text.proofs.OpWords.{no_words, and_word, number_from, removes_from}
 use Rattle.rgo_code_text.proofs.TypeWords.{type_back, type_is}
-use Rattle.rgo_code_text.proofs.WordsBack.{class_back, class_is, regions_back, regions_is}
+use Rattle.rgo_code_words.proofs.WordsBack.{class_back, class_is, regions_back, regions_is}
 
 -- ---- lines by their first word
 

@@ -11,11 +11,11 @@ use Rattle.rgo_code_text.specs.declared.places.Place.{Place}
 use Rattle.rgo_code_text.specs.declared.places.Place.TheVariants.{First, Structs, Globals, Functions, Slots, Body}
 use Rattle.rgo_code_text.specs.CodeLines.{Line, Head, Struct, Global, Var, Entry, Instr, End, instrs_from, lines_of_fn, lines_of, line_kind, line_words, LineFits, line_struct, line_variable, line_function, uses_structs, uses_variables, uses_functions}
 use Rattle.rgo_code_text.specs.Order.{Kind, after_kind, after_kinds, IsLast}
-use Rattle.rgo_code_text.specs.Readers.{on_some}
+use Rattle.rgo_code_words.specs.Readers.{on_some}
 use Rattle.rgo_code_printing.specs.Text.{Names, struct_words, global_words, slot_words, body_lines, fn_lines, lines_with}
 use Rattle.rgo_code_text.specs.Written.{type_uses, struct_in, variable_in, function_in, fn_structs, fn_variables, fn_functions, uses_of, FnFits, SlotFits, InstrFits}
 use Rattle.rgo_code_text.proofs.Assembling.{head_of}
-use Rattle.rgo_code_text.proofs.ListFacts.{flat_append, front_all, back_all}
+use Rattle.rgo_code_words.proofs.ListFacts.{flat_append, front_all, back_all}
 
 -- ---- words
 

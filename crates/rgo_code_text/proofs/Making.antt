@@ -15,14 +15,15 @@ use Rattle.rgo_code_text.specs.Building.{numbered, numbered_type, numbered_slot,
 use Rattle.rgo_code_text.specs.CodeLines.{Line, Building, nothing, with_lines, lines_of, line_kind, line_words, LineFits, line_struct, line_variable, line_function, uses_structs, uses_variables, uses_functions}
 use Rattle.rgo_code_text.specs.Items.{NamedSlot, Item, Head, Struct, Global, Function, Slot, Entry, Instr, End, ItemFits, IsName, IsNamed, BaseFits, TypeFits, NamedSlotFits, OpIsNamed, item_kind, item_words, items_text, after_all, named_type_word}
 use Rattle.rgo_code_text.specs.Order.{after_kinds, IsLast}
-use Rattle.rgo_code_text.specs.Readers.{NamedType}
+use Rattle.rgo_code_words.specs.Readers.{NamedType}
 use Rattle.rgo_code_printing.specs.Text.{Names, names_of, line, lines_with, text_of}
 use Rattle.rgo_code_printing.specs.Words.{type_word, place_word, creates_word}
-use Rattle.rgo_code_text.specs.Written.{AreNames, IsWritten, KindIsWritten, uses_of, number_of, SlotFits, OpFits, ActionFits, IsInstruction}
+use Rattle.rgo_code_text.specs.Written.{IsWritten, KindIsWritten, uses_of, number_of, SlotFits, OpFits, ActionFits, IsInstruction}
+use Rattle.rgo_code_words.specs.Worded.{AreNames}
 use Rattle.rgo_code_text.proofs.Assembling.{lines_so_far, whole_lines, all_grow}
 use Rattle.rgo_code_text.proofs.Knowing.{used_known, kind_written, whole_is, all_flat, flat_all}
 use Rattle.rgo_code_text.proofs.LinesOfCode.{code_words, structs_used, variables_used, functions_used, structs_declared, variables_declared, functions_declared, fits_code}
-use Rattle.rgo_code_text.proofs.ListFacts.{front_all, back_all}
+use Rattle.rgo_code_words.proofs.ListFacts.{front_all, back_all}
 use Rattle.rgo_code_text.proofs.Naming.{IsKnown, AreKnown, type_same, slot_same, result_same, op_same}
 use Rattle.rgo_code_text.proofs.Numbering.{type_numbers, fields_numbers, result_numbers, structs_numbers, variables_numbers, functions_numbers}
 

@@ -11,7 +11,7 @@ use Rattle.rgo_code.specs.Code.{CodeOp, Do, Call, Go, Print, Jump, Branch, Retur
 use Rattle.rgo_code_text.specs.Building.{numbered_base, numbered_type, numbered_slot, numbered_action, numbered_op}
 use Rattle.rgo_code_text.specs.Building.{base_names, type_names, slot_names, op_structs, op_variables, op_functions}
 use Rattle.rgo_code_text.specs.Items.{NamedSlot, only, named_type_word, named_slot_words, named_result_words, TypeFits, BaseFits, ActionIsNamed, OpIsNamed, NamedSlotFits}
-use Rattle.rgo_code_text.specs.Readers.{NamedType}
+use Rattle.rgo_code_words.specs.Readers.{NamedType}
 use Rattle.rgo_code_printing.specs.Text.{Names, action_words, value_word, op_words, slot_words, result_words}
 use Rattle.rgo_code_printing.specs.Words.{name_at, base_word, type_word, layer_word, class_word, variable_word, callee_word, removes_word, passes_word, protects_word}
 use Rattle.rgo_code_text.specs.Written.{number_of}

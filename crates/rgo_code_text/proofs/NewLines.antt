@@ -11,12 +11,13 @@ use Rattle.rgo_code_text.specs.Forms.{IsLine}
 use Rattle.rgo_code_text.specs.Items.{Item, Head, Struct, Global, Function, Slot, Entry, Instr, End, ItemFits, TypeFits, item_words, item_line, items_text, only, OpIsNamed, named_type_word, named_slot_words, named_result_words}
 use Rattle.rgo_code_printing.specs.Text.{op_words}
 use Rattle.rgo_code_printing.specs.Words.{hex_digit, byte_word, string_word, piece_word, piece_words, place_word, creates_word, removes_word, in_one, listed, value_count}
-use Rattle.rgo_code_text.specs.Written.{OpFits, AreSmall, values_in}
+use Rattle.rgo_code_text.specs.Written.{OpFits}
+use Rattle.rgo_code_words.specs.Worded.{AreSmall, values_in}
 use Rattle.rgo_code_text.proofs.ItemsOne.{items_one}
-use Rattle.rgo_code_text.proofs.Lacks.{Lacks, From, AllFrom, from_test, from_both, from_cons, from_less, from_nil, joined_from, lacks_from, lettered_from}
+use Rattle.rgo_code_words.proofs.Lacks.{Lacks, From, AllFrom, from_test, from_both, from_cons, from_less, from_nil, joined_from, lacks_from, lettered_from}
 use Rattle.rgo_code_text.proofs.LineWords.{type_from, slot_from, result_from, named_from}
 use Rattle.rgo_code_text.proofs.OpWords.{op_worded, no_words, and_word, number_from, removes_from}
-use Rattle.rgo_code_text.proofs.WordsBack.{each_from, regions_from}
+use Rattle.rgo_code_words.proofs.WordsBack.{each_from, regions_from}
 
 -- ---- strings
 

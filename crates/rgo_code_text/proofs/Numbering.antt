@@ -10,7 +10,7 @@ use Rattle.rgo_code.specs.Code.{CodeOp, Do, Call, Go}
 use Rattle.rgo_code_text.specs.Building.{numbered_base, numbered_type, numbered_slot, numbered_op}
 use Rattle.rgo_code_text.specs.Building.{base_names, type_names, slot_names, op_structs, op_variables, op_functions}
 use Rattle.rgo_code_text.specs.Items.{NamedSlot}
-use Rattle.rgo_code_text.specs.Readers.{NamedType}
+use Rattle.rgo_code_words.specs.Readers.{NamedType}
 use Rattle.rgo_code_printing.specs.Text.{Names}
 use Rattle.rgo_code_text.specs.Written.{number_of, base_uses, type_uses, result_uses, struct_in, variable_in, function_in}
 

@@ -6,22 +6,23 @@ use Rattle.std.proofs.lemmas.List.{take-append-drop}
 use Rattle.std.proofs.lemmas.Slice.Eq.{bytes_eq-Decides}
 use Rattle.rgo_typed.specs.declared.statements.Piece.{Piece}
 use Rattle.rgo_code.specs.Code.{CodeOp, Do, Call, Go, Print, Jump, Branch, Return}
-use Rattle.rgo_code_text.specs.Cuts.{cut}
+use Rattle.rgo_code_words.specs.Cuts.{cut}
 use Rattle.rgo_code_text.specs.Items.{only, OpIsNamed}
 use Rattle.rgo_code_text.specs.Ops.{NamedOp, op_text, NamedOpFits, read_op}
-use Rattle.rgo_code_text.specs.Pieces.{AreListed}
-use Rattle.rgo_code_text.specs.Readers.{IsRead, read_regions}
+use Rattle.rgo_code_words.specs.Pieces.{AreListed}
+use Rattle.rgo_code_words.specs.Readers.{IsRead, read_regions}
 use Rattle.rgo_code_printing.specs.Text.{op_words}
 use Rattle.rgo_code_printing.specs.Words.{listed, piece_words, in_one, removes_word}
-use Rattle.rgo_code_text.specs.Written.{OpFits, AreRegions}
-use Rattle.rgo_code_text.proofs.Cutting.{cut_words, cut_joined, cut_some}
-use Rattle.rgo_code_text.proofs.Lacks.{Lacks, all_lack_from, lacks_from}
+use Rattle.rgo_code_text.specs.Written.{OpFits}
+use Rattle.rgo_code_words.specs.Worded.{AreRegions}
+use Rattle.rgo_code_words.proofs.Cutting.{cut_words, cut_joined, cut_some}
+use Rattle.rgo_code_words.proofs.Lacks.{Lacks, all_lack_from, lacks_from}
 use Rattle.rgo_code_text.proofs.OpWords.{IsPrint, OpWorded, op_worded, removes_from}
 use Rattle.rgo_code_text.proofs.OpsBack.{op_back, op_is}
-use Rattle.rgo_code_text.proofs.Options.{some_same, not_none}
-use Rattle.rgo_code_text.proofs.PieceLists.{listed_one}
+use Rattle.rgo_code_words.proofs.Options.{some_same, not_none}
+use Rattle.rgo_code_words.proofs.PieceLists.{listed_one}
 use Rattle.rgo_code_text.proofs.PrintWords.{only_print, print_text, last_one, contains_space}
-use Rattle.rgo_code_text.proofs.WordsBack.{regions_back}
+use Rattle.rgo_code_words.proofs.WordsBack.{regions_back}
 
 -- whether an operation is a print
 data Kind (op : CodeOp) : Type 0 where

@@ -6,13 +6,14 @@ use Rattle.std.proofs.lemmas.List.Elements.{All-nil, All-cons, All-head, All-tai
 use Rattle.rgo_typed.specs.declared.actions.Action.{Action}
 use Rattle.rgo_typed.specs.declared.actions.Action.TheVariants as action
 use Rattle.rgo_code.specs.Code.{CodeOp, Do, Call, Go, Print, Jump, Branch, Return}
-use Rattle.rgo_code_text.specs.Cuts.{word_at}
+use Rattle.rgo_code_words.specs.Cuts.{word_at}
 use Rattle.rgo_code_text.specs.Items.{only, IsNamed, ActionIsNamed, OpIsNamed}
 use Rattle.rgo_code_printing.specs.Text.{action_words, op_words, value_word}
 use Rattle.rgo_code_printing.specs.Words.{name_at, operator_word, variable_word, removes_word, callee_word, passes_word, protects_word}
-use Rattle.rgo_code_text.specs.Written.{IntFits, IsSmall, AreSmall, AreRegions, ActionFits, ValueFits, IsInstruction, OpFits}
-use Rattle.rgo_code_text.proofs.Lacks.{From, AllFrom, from_test, from_cons, from_both, from_less, decimal_from, lettered_from, name_from}
-use Rattle.rgo_code_text.proofs.WordsBack.{arguments_from, bool_from, operator_from, regions_from, passes_from, value_from}
+use Rattle.rgo_code_text.specs.Written.{ActionFits, IsInstruction, OpFits}
+use Rattle.rgo_code_words.specs.Worded.{IntFits, IsSmall, AreSmall, AreRegions, ValueFits}
+use Rattle.rgo_code_words.proofs.Lacks.{From, AllFrom, from_test, from_cons, from_both, from_less, decimal_from, lettered_from, name_from}
+use Rattle.rgo_code_words.proofs.WordsBack.{arguments_from, bool_from, operator_from, regions_from, passes_from, value_from}
 
 -- the first words of operations that are no actions
 abbrev pub is_keyword : List ℕ → Bool

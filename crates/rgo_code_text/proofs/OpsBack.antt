@@ -10,22 +10,23 @@ use Rattle.rgo_tac.specs.Code as tac
 use Rattle.rgo_code.specs.Code.{CodeOp, Do, Call, Go, Print, Jump, Branch, Return}
 use Rattle.rgo_code.specs.Views.{code_op}
 use Rattle.rgo_code_text.specs.Actions.{NamedAction, read_action}
-use Rattle.rgo_code_text.specs.Cuts.{word_at}
+use Rattle.rgo_code_words.specs.Cuts.{word_at}
 use Rattle.rgo_code_text.specs.Items.{only, IsNamed, OpIsNamed}
 use Rattle.rgo_code_text.specs.Ops.{NamedOp, NamedOpFits, Callee, callee_at, read_callee, removing, read_removes, last_of, acting, calling, starting, jumping, branching, branch_of, with_ways, returning, of_length, read_op}
-use Rattle.rgo_code_text.specs.Readers.{on_some, inside, read_number, read_variable, read_value, read_lettered, read_within, read_regions, read_passes}
+use Rattle.rgo_code_words.specs.Readers.{on_some, inside, read_number, read_variable, read_value, read_lettered, read_within, read_regions, read_passes}
 use Rattle.rgo_code_printing.specs.Text.{op_words, action_words, value_word}
 use Rattle.rgo_code_printing.specs.Words.{name_at, variable_word, listed, callee_word, passes_word, protects_word, removes_word}
-use Rattle.rgo_code_text.specs.Written.{is_name, AreSmall, AreRegions, OpFits}
+use Rattle.rgo_code_text.specs.Written.{OpFits}
+use Rattle.rgo_code_words.specs.Worded.{is_name, AreSmall, AreRegions}
 use Rattle.rgo_code_text.proofs.ActionsBack.{action_back}
 use Rattle.rgo_code_text.proofs.ActionsIs.{action_is}
-use Rattle.rgo_code_text.proofs.Cutting.{two_of, three_of, four_of, six_of}
-use Rattle.rgo_code_text.proofs.Lacks.{Lacks, lacks_from, name_from}
-use Rattle.rgo_code_text.proofs.ListWords.{inside_back, inside_is}
-use Rattle.rgo_code_text.proofs.Numerals.{number_back, number_sound}
-use Rattle.rgo_code_text.proofs.Options.{some_same, not_none, under, after_some, mapped, by_word}
+use Rattle.rgo_code_words.proofs.Cutting.{two_of, three_of, four_of, six_of}
+use Rattle.rgo_code_words.proofs.Lacks.{Lacks, lacks_from, name_from}
+use Rattle.rgo_code_words.proofs.ListWords.{inside_back, inside_is}
+use Rattle.rgo_code_words.proofs.Numerals.{number_back, number_sound}
+use Rattle.rgo_code_words.proofs.Options.{some_same, not_none, under, after_some, mapped, by_word}
 use Rattle.rgo_code_text.proofs.OpWords.{is_keyword, IsPrint, Worded, action_worded}
-use Rattle.rgo_code_text.proofs.WordsBack.{value_back, value_is, lettered_is, numbers_back, numbers_is, regions_back, regions_is, passes_back, passes_is}
+use Rattle.rgo_code_words.proofs.WordsBack.{value_back, value_is, lettered_is, numbers_back, numbers_is, regions_back, regions_is, passes_back, passes_is}
 
 -- ---- callees
 

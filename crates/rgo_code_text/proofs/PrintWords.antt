@@ -7,20 +7,21 @@ use Rattle.std.proofs.lemmas.List.Elements.{All-head, All-tail, All-nil, All-fro
 use Rattle.std.proofs.lemmas.List.Sums.{fails_before_first, passes_at_first}
 use Rattle.rgo_typed.specs.declared.statements.Piece.{Piece}
 use Rattle.rgo_code.specs.Code.{CodeOp, Do, Call, Go, Print, Jump, Branch, Return}
-use Rattle.rgo_code_text.specs.Cuts.{is_space}
+use Rattle.rgo_code_words.specs.Cuts.{is_space}
 use Rattle.rgo_code_text.specs.Items.{only, OpIsNamed}
 use Rattle.rgo_code_text.specs.Ops.{NamedOp, op_text, NamedOpFits, LastWord}
-use Rattle.rgo_code_text.specs.Pieces.{AreListed, ArePieces}
-use Rattle.rgo_code_text.specs.Readers.{read_regions, IsRead}
+use Rattle.rgo_code_words.specs.Pieces.{AreListed, ArePieces}
+use Rattle.rgo_code_words.specs.Readers.{read_regions, IsRead}
 use Rattle.rgo_code_printing.specs.Text.{op_words}
 use Rattle.rgo_code_printing.specs.Words.{listed, piece_words, in_one, removes_word}
-use Rattle.rgo_code_text.specs.Written.{OpFits, AreRegions, PieceFits, IsSmall}
-use Rattle.rgo_code_text.proofs.Cutting.{first_of_two, first_of_joined}
-use Rattle.rgo_code_text.proofs.Lacks.{Lacks, From, from_test, lacks_from}
-use Rattle.rgo_code_text.proofs.ListFacts.{drop_here}
+use Rattle.rgo_code_text.specs.Written.{OpFits}
+use Rattle.rgo_code_words.specs.Worded.{AreRegions, PieceFits, IsSmall}
+use Rattle.rgo_code_words.proofs.Cutting.{first_of_two, first_of_joined}
+use Rattle.rgo_code_words.proofs.Lacks.{Lacks, From, from_test, lacks_from}
+use Rattle.rgo_code_words.proofs.ListFacts.{drop_here}
 use Rattle.rgo_code_text.proofs.OpWords.{OpWorded, op_worded, removes_from}
-use Rattle.rgo_code_text.proofs.Options.{not_none, differ}
-use Rattle.rgo_code_text.proofs.WordsBack.{regions_back, regions_is}
+use Rattle.rgo_code_words.proofs.Options.{not_none, differ}
+use Rattle.rgo_code_words.proofs.WordsBack.{regions_back, regions_is}
 
 -- the space before what is left
 pub space_here : (bytes rest : List ℕ) (at n : ℕ) → rest ≡ drop at bytes → n ≡ position_or_len is_space rest → n < length rest

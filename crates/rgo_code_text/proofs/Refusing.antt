@@ -14,15 +14,16 @@ use Rattle.rgo_code_text.specs.Forms.{IsLine, ended, Begins, HasNoForm, EndsEarl
 use Rattle.rgo_code_text.specs.Items.{Item, Head, Entry, End, ItemFits, item_kind, item_line, items_text, after, after_all}
 use Rattle.rgo_code_text.specs.Laws.{OneText}
 use Rattle.rgo_code_text.specs.Order.{after_kinds, IsLast}
-use Rattle.rgo_code_text.specs.Readers.{on_some}
+use Rattle.rgo_code_words.specs.Readers.{on_some}
 use Rattle.rgo_code_printing.specs.Text.{text_of}
 use Rattle.rgo_code_text.specs.Walk.{AreItems, Stops, Ends, StopsIn, Refuses}
-use Rattle.rgo_code_text.specs.Written.{IsWritten, AreRegions}
+use Rattle.rgo_code_text.specs.Written.{IsWritten}
+use Rattle.rgo_code_words.specs.Worded.{AreRegions}
 use Rattle.rgo_code_text.proofs.LinesOfCode.{after_both}
-use Rattle.rgo_code_text.proofs.ListFacts.{back_all, flat_append}
+use Rattle.rgo_code_words.proofs.ListFacts.{back_all, flat_append}
 use Rattle.rgo_code_text.proofs.Making.{made}
 use Rattle.rgo_code_text.proofs.NewLines.{line_lacks, is_line, lacks_newline, begins_with, first_line_is, texts_one, text_cons}
-use Rattle.rgo_code_text.proofs.Options.{some_same, not_none}
+use Rattle.rgo_code_words.proofs.Options.{some_same, not_none}
 use Rattle.rgo_code_text.proofs.Unmaking.{lined}
 
 -- ---- no two codes have one text

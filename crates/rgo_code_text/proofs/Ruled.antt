@@ -1,5 +1,5 @@
 -- Code that keeps the rules, and whose parts are printable, has a text.
-use Rattle.std.proofs.Common.{◌≡◌, ◌≢◌, ℕ, zero, suc, ◌+◌, ◌<◌, ◌≤◌, List, [], ◌∷◌, ◌++◌, map, length, Option, Some, None, slice_get, refl, sym, ap, ◌∙◌, subst, arith}
+use Rattle.std.proofs.Common.{◌≡◌, ◌≢◌, ℕ, zero, suc, ◌+◌, List, [], ◌∷◌, map, length, Option, Some, None, slice_get, refl, sym, ap, ◌∙◌, subst, arith}
 use Rattle.std.specs.List.{All, Contains}
 use Rattle.std.specs.List.Sorted.{IsStrictlyIncreasing}
 use Rattle.std.proofs.lemmas.List.{length-map}
@@ -10,22 +10,21 @@ use Rattle.rgo_ast.specs.declared.ops.BinaryOp.TheVariants as binary
 use Rattle.rgo_typed.specs.declared.actions.Action.{Action}
 use Rattle.rgo_typed.specs.declared.actions.Action.TheVariants as action
 use Rattle.rgo_typed.specs.declared.types.Type.{«Type»}
-use Rattle.rgo_wellformed.specs.TypeRules.{Declared, Computes, Takes}
+use Rattle.rgo_wellformed.specs.TypeRules.{Computes, Takes}
 use Rattle.rgo_tac.specs.Code.{Tac, TacFn}
 use Rattle.rgo_code.specs.declared.rules.Line.TheVariants as line
 use Rattle.rgo_code.specs.declared.rules.Rule.TheVariants as rule
-use Rattle.rgo_code.specs.Checked.{IsChecked}
-use Rattle.rgo_code.specs.Code.{CodeOp, CodeInstr, CodeFn, Code, Do, Call, Go, Print, Jump, Branch, Return}
+use Rattle.rgo_code.specs.Code.{CodeOp, CodeInstr, CodeFn, Do, Call, Go, Print, Jump, Branch, Return}
 use Rattle.rgo_code.specs.Erasure.{erased_op, erased_fn, erased}
 use Rattle.rgo_code.specs.Exists.{declared_by}
-use Rattle.rgo_code.specs.NameRules.{Ascends, InstrAscends, protected_names}
+use Rattle.rgo_code.specs.NameRules.{InstrAscends, protected_names}
 use Rattle.rgo_code.specs.Names.{edges}
 use Rattle.rgo_code.specs.Types.{HaveTypes, ReturnsType, DoFits}
 use Rattle.rgo_code.specs.Types as types
-use Rattle.rgo_code_printing.specs.Text.{action_words}
 use Rattle.rgo_code_text.specs.Laws.{RulesSuffice}
-use Rattle.rgo_code_text.specs.Printable.{ActionPrints, OpPrints, InstrPrints, FnPrints, IsPrintable}
-use Rattle.rgo_code_text.specs.Written.{AreRegions, AreSmall, OperatorFits, ActionFits, IsInstruction, OpFits, InstrFits, FnFits, no_names}
+use Rattle.rgo_code_text.specs.Printable.{ActionPrints, OpPrints, InstrPrints, FnPrints}
+use Rattle.rgo_code_text.specs.Written.{ActionFits, IsInstruction, OpFits, InstrFits, FnFits}
+use Rattle.rgo_code_words.specs.Worded.{OperatorFits}
 use Rattle.rgo_code_text.proofs.RuledUses.{each, kind, structs_first, variables_first, functions_first}
 
 -- ---- an action has words

@@ -1,12 +1,12 @@
 -- Code that keeps the first rule uses names that it declares, each once.
-use Rattle.std.proofs.Common.{◌≡◌, ◌≢◌, ℕ, zero, suc, ◌+◌, ◌<◌, ◌≤◌, ◌==◌, Bool, true, false, List, [], ◌∷◌, ◌++◌, map, length, get_or, Option, Some, None, slice_get, bytes_eq, refl, sym, ap, ◌∙◌, subst, arith, append-nil}
+use Rattle.std.proofs.Common.{◌≡◌, ℕ, zero, suc, ◌<◌, Bool, true, false, List, [], ◌∷◌, ◌++◌, map, length, get_or, Option, Some, None, slice_get, bytes_eq, refl, sym, ap, ◌∙◌, subst, arith, append-nil}
 use Rattle.std.specs.List.{All, flat_map}
 use Rattle.std.specs.Option.{option_map}
-use Rattle.std.proofs.lemmas.Bool.Decides.{Decides-ltb, not_from_Decides}
+use Rattle.std.proofs.lemmas.Bool.Decides.{Decides-ltb}
 use Rattle.std.proofs.lemmas.List.{length-map}
 use Rattle.std.proofs.lemmas.List.Elements.{All-nil, All-cons, All-head, All-tail, All-append}
 use Rattle.std.proofs.lemmas.List.Sums.{position_or_len_is}
-use Rattle.std.proofs.lemmas.Option.{same_Some, none-some, slice_get-map, slice_get-get_or, slice_get_within}
+use Rattle.std.proofs.lemmas.Option.{slice_get-get_or, slice_get_within}
 use Rattle.std.proofs.lemmas.Slice.Eq.{bytes_eq-Decides}
 use Rattle.rgo_typed.specs.declared.actions.Action.{Action}
 use Rattle.rgo_typed.specs.declared.actions.Action.TheVariants as action
@@ -21,7 +21,8 @@ use Rattle.rgo_code.specs.Code.{Slot, CodeOp, CodeFn, Code, Do, Call, Go, Print,
 use Rattle.rgo_code.specs.Erasure.{erased_op, erased_fn, erased}
 use Rattle.rgo_code.specs.Exists.{declared_by, TypeExists, IsNew, ActionExists, OpExists}
 use Rattle.rgo_code_printing.specs.Words.{name_at}
-use Rattle.rgo_code_text.specs.Written.{AreNames, base_uses, type_uses, result_uses, struct_in, variable_in, function_in, naming_of, struct_named, variable_named, fn_structs, fn_variables, fn_functions, uses_of, is_among, number_of, AreFirst, unknown, KindIsWritten}
+use Rattle.rgo_code_text.specs.Written.{base_uses, type_uses, result_uses, struct_in, variable_in, function_in, naming_of, struct_named, variable_named, fn_structs, fn_variables, fn_functions, uses_of, number_of, AreFirst, unknown, KindIsWritten}
+use Rattle.rgo_code_words.specs.Worded.{AreNames, is_among}
 use Rattle.rgo_code_text.proofs.Firsts.{among_is}
 
 -- ---- lists

@@ -12,11 +12,12 @@ use denote.Ref.{Bor}
 use Rattle.indexmap.specs.IndexMap.{IndexMap, get_by, UpdatesBy}
 use Rattle.rgo_code_text.specs.Building.{with_names, with_structs, with_declared, with_used, all_declared, all_used, names_in, declared_in}
 use Rattle.rgo_code_text.specs.Building.{declared_struct, declared_variable, declared_function, used_structs, used_variables, used_functions}
-use Rattle.rgo_code_text.specs.Cuts.{nows}
+use Rattle.rgo_code_words.specs.Cuts.{nows}
 use Rattle.rgo_code_text.specs.Items.{Item}
 use Rattle.rgo_code_text.specs.Numbers.{first_of, with_name}
 use Rattle.rgo_code_printing.specs.Text.{Names}
-use Rattle.rgo_code_text.specs.Written.{is_among, no_names, number_of}
+use Rattle.rgo_code_text.specs.Written.{no_names, number_of}
+use Rattle.rgo_code_words.specs.Worded.{is_among}
 
 below_next : (m n : ℕ) → nat_lt (1 + m) (suc n) ≡ nat_lt m n
 below_next m n = by (nat_lt (1 + m) (suc n)) (nat_lt m n) (Decides-ltb (1 + m) (suc n)) (Decides-ltb m n)

@@ -9,10 +9,10 @@ use Rattle.rgo_typed.specs.declared.types.Base.TheVariants as base
 use Rattle.rgo_typed.specs.declared.types.Layer.{Layer}
 use Rattle.rgo_typed.specs.declared.types.Layer.TheVariants as layer
 use Rattle.rgo_code_text.specs.Items.{BaseFits, TypeFits, named_type_word}
-use Rattle.rgo_code_text.specs.Readers.{NamedType, named, read_base, read_layer, with_layer, by_layer, type_after, read_type}
+use Rattle.rgo_code_words.specs.Readers.{NamedType, named, read_base, read_layer, with_layer, by_layer, type_after, read_type}
 use Rattle.rgo_code_printing.specs.Words.{layer_word, base_word}
-use Rattle.rgo_code_text.specs.Written.{is_name}
-use Rattle.rgo_code_text.proofs.Options.{some_same, not_none, by_word}
+use Rattle.rgo_code_words.specs.Worded.{is_name}
+use Rattle.rgo_code_words.proofs.Options.{some_same, not_none, by_word}
 
 pub type_back : (layers : List Layer) (b : Base) (name : List ℕ) → BaseFits b name
     → read_type (flat_map layer_word layers ++ base_word (name ∷ []) b) ≡ Some (named layers b name)

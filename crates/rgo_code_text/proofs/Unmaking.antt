@@ -17,14 +17,15 @@ use Rattle.rgo_code_text.specs.CodeLines.{Line, Building, nothing, with_lines, l
 use Rattle.rgo_code_text.specs.CodeLines as line
 use Rattle.rgo_code_text.specs.Items.{NamedSlot, Item, Head, Struct, Global, Function, Slot, Entry, Instr, End, ItemFits, IsName, BaseFits, TypeFits, NamedSlotFits, ActionIsNamed, OpIsNamed, item_kind, items_text, after_all}
 use Rattle.rgo_code_text.specs.Order.{after_kinds, IsLast}
-use Rattle.rgo_code_text.specs.Readers.{NamedType}
+use Rattle.rgo_code_words.specs.Readers.{NamedType}
 use Rattle.rgo_code_printing.specs.Text.{Names, names_of, text_of}
 use Rattle.rgo_code_printing.specs.Words.{name_at}
-use Rattle.rgo_code_text.specs.Written.{unknown, AreNames, AreFirst, IsWritten, KindIsWritten, uses_of, number_of, base_uses, type_uses, result_uses, struct_in, variable_in, function_in, SlotFits, OpFits}
+use Rattle.rgo_code_text.specs.Written.{unknown, AreFirst, IsWritten, KindIsWritten, uses_of, number_of, base_uses, type_uses, result_uses, struct_in, variable_in, function_in, SlotFits, OpFits}
+use Rattle.rgo_code_words.specs.Worded.{AreNames}
 use Rattle.rgo_code_text.proofs.Assembling.{code_again}
 use Rattle.rgo_code_text.proofs.Knowing.{names_are, all_flat}
 use Rattle.rgo_code_text.proofs.LinesOfCode.{structs_used, variables_used, functions_used, structs_declared, variables_declared, functions_declared, code_fits, code_ordered}
-use Rattle.rgo_code_text.proofs.ListFacts.{front_all, back_all}
+use Rattle.rgo_code_words.proofs.ListFacts.{front_all, back_all}
 use Rattle.rgo_code_text.proofs.Making.{made, op_fits}
 
 -- ---- names in place of numbers

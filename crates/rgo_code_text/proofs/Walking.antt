@@ -10,7 +10,7 @@ use Rattle.rgo_code_text.specs.declared.places.Place.TheVariants.{First}
 use Rattle.rgo_code_text.specs.Forms.{IsLine}
 use Rattle.rgo_code_text.specs.Items.{Item, ItemFits, item_words, item_line, after, after_all, items_text}
 use Rattle.rgo_code_text.specs.Order.{IsLast}
-use Rattle.rgo_code_text.specs.Readers.{on_some}
+use Rattle.rgo_code_words.specs.Readers.{on_some}
 use Rattle.rgo_code_printing.specs.Text.{line}
 use Rattle.rgo_code_text.specs.Walk.{AreItems, HasNoItem, StepIs, StopsAt}
 

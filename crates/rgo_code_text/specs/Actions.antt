@@ -6,9 +6,9 @@ use Rattle.rgo_ast.specs.declared.ops.BinaryOp.TheVariants as binary
 use Rattle.rgo_typed.specs.declared.actions.Action.{Action}
 use Rattle.rgo_typed.specs.declared.actions.Action.TheVariants as action
 use Rattle.rgo_tac.specs.Code as tac
-use Rattle.rgo_code_text.specs.Cuts.{word_at}
-use Rattle.rgo_code_text.specs.Written.{is_name}
-use Rattle.rgo_code_text.specs.Readers.{read_number, read_int, read_variable, read_truth, read_operator, on_some}
+use Rattle.rgo_code_words.specs.Cuts.{word_at}
+use Rattle.rgo_code_words.specs.Worded.{is_name}
+use Rattle.rgo_code_words.specs.Readers.{read_number, read_int, read_variable, read_truth, read_operator, on_some}
 
 -- an action with its operands, and what it names, if that is anything
 pub record NamedAction : Type 0 where

@@ -15,7 +15,7 @@ use Rattle.rgo_code_text.specs.CodeLines as line
 use Rattle.rgo_code_text.specs.Items.{NamedSlot, Item}
 use Rattle.rgo_code_text.specs.Items as item
 use Rattle.rgo_code_text.specs.Numbers.{with_name}
-use Rattle.rgo_code_text.specs.Readers.{NamedType}
+use Rattle.rgo_code_words.specs.Readers.{NamedType}
 use Rattle.rgo_code_printing.specs.Text.{Names}
 use Rattle.rgo_code_text.specs.Written.{Naming, NamesNothing, NamesStruct, NamesVariable, naming_of, number_of}
 

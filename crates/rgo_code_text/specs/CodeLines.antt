@@ -6,7 +6,8 @@ use Rattle.rgo_typed.specs.declared.programs.Variable.{Variable}
 use Rattle.rgo_code.specs.Code.{Slot, CodeInstr, CodeFn, Code}
 use Rattle.rgo_code_text.specs.Order.{Kind, OfHead, OfStruct, OfGlobal, OfFunction, OfSlot, OfEntry, OfInstr, OfEnd}
 use Rattle.rgo_code_printing.specs.Text.{Names, struct_words, global_words, result_words, slot_words, entry_words, instr_words}
-use Rattle.rgo_code_text.specs.Written.{type_uses, result_uses, struct_in, variable_in, function_in, IsSmall, SlotFits, AreRegions, InstrFits}
+use Rattle.rgo_code_text.specs.Written.{type_uses, result_uses, struct_in, variable_in, function_in, SlotFits, InstrFits}
+use Rattle.rgo_code_words.specs.Worded.{IsSmall, AreRegions}
 
 pub data Line : Type 0 where
   Head : Line

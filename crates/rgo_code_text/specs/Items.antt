@@ -8,10 +8,11 @@ use Rattle.rgo_tac.specs.declared.regions.Class.{Class}
 use Rattle.rgo_code.specs.Code.{CodeOp, CodeInstr, Do, Call, Go, Print, Jump, Branch, Return}
 use Rattle.rgo_code_text.specs.declared.places.Place.{Place}
 use Rattle.rgo_code_text.specs.Order.{Kind, OfHead, OfStruct, OfGlobal, OfFunction, OfSlot, OfEntry, OfInstr, OfEnd, after_kind, after_kinds}
-use Rattle.rgo_code_text.specs.Readers.{NamedType}
+use Rattle.rgo_code_words.specs.Readers.{NamedType}
 use Rattle.rgo_code_printing.specs.Text.{Names, line, entry_words, instr_words}
 use Rattle.rgo_code_printing.specs.Words.{type_word, class_word}
-use Rattle.rgo_code_text.specs.Written.{is_name, AreRegions, ClassFits, InstrFits, IsSmall, Naming, NamesNothing, NamesStruct, NamesVariable, naming_of}
+use Rattle.rgo_code_text.specs.Written.{InstrFits, Naming, NamesNothing, NamesStruct, NamesVariable, naming_of}
+use Rattle.rgo_code_words.specs.Worded.{is_name, AreRegions, ClassFits, IsSmall}
 
 pub record NamedSlot : Type 0 where
   pub ty : NamedType

@@ -1,7 +1,7 @@
 pub mod Actions
 pub mod Building
 pub mod CodeLines
-pub mod Cuts
+pub mod Examples
 pub mod Forms
 pub mod Items
 pub mod Laws
@@ -10,9 +10,7 @@ pub mod Numbers
 pub mod Opened
 pub mod Ops
 pub mod Order
-pub mod Pieces
 pub mod Printable
-pub mod Readers
 pub mod Views
 pub mod Walk
 pub mod Written

@@ -3,11 +3,11 @@ use Rattle.std.specs.Prelude.{◌≡◌, ℕ, ◌==◌, ◌&&◌, ◌||◌, fals
 use Rattle.std.specs.Option.{option_map}
 use Rattle.std.specs.List.{slice_split, before_first}
 use Rattle.std.specs.Str.{bytes_eq}
-use Rattle.rgo_code_text.specs.Cuts.{is_space, cut, word_at}
+use Rattle.rgo_code_words.specs.Cuts.{is_space, cut, word_at}
 use Rattle.rgo_code_text.specs.Items.{NamedSlot, Item, Struct, Global, Function, Slot, Entry, Instr, ItemFits}
 use Rattle.rgo_code_text.specs.Ops.{NamedOp}
-use Rattle.rgo_code_text.specs.Readers.{NamedType, on_some, read_class, read_each, read_number, read_regions, read_type}
-use Rattle.rgo_code_text.specs.Written.{is_name}
+use Rattle.rgo_code_words.specs.Readers.{NamedType, on_some, read_class, read_each, read_number, read_regions, read_type}
+use Rattle.rgo_code_words.specs.Worded.{is_name}
 
 abbrev pub read_fields : List ℕ → Option (List NamedType)
 read_fields list = read_each read_type (slice_split is_space list)

@@ -1,6 +1,7 @@
 -- The numbers of names: where each is first among the names of its kind.
 use Rattle.std.specs.Prelude.{ℕ, nat_lt, if◌then◌else◌, List, [], ◌∷◌, ◌++◌, length, Option, Some, None}
-use Rattle.rgo_code_text.specs.Written.{is_among, number_of}
+use Rattle.rgo_code_text.specs.Written.{number_of}
+use Rattle.rgo_code_words.specs.Worded.{is_among}
 
 -- the number of a name, if it is among the names
 abbrev pub first_of : List (List ℕ) → List ℕ → Option ℕ

@@ -8,11 +8,12 @@ use Rattle.rgo_code.specs.declared.notes.Note.{Note}
 use Rattle.rgo_code.specs.Code.{CodeOp, Call, Go, Jump, Return}
 use Rattle.rgo_code.specs.Views.{code_op}
 use Rattle.rgo_code_text.specs.Actions.{read_action}
-use Rattle.rgo_code_text.specs.Cuts.{is_space, word_at}
+use Rattle.rgo_code_words.specs.Cuts.{is_space, word_at}
 use Rattle.rgo_code_text.specs.Items.{only, OpIsNamed}
-use Rattle.rgo_code_text.specs.Readers.{on_some, read_number, read_lettered, read_variable, read_value, read_regions, read_passes, read_within, inside}
+use Rattle.rgo_code_words.specs.Readers.{on_some, read_number, read_lettered, read_variable, read_value, read_regions, read_passes, read_within, inside}
 use Rattle.rgo_code_printing.specs.Text.{op_words}
-use Rattle.rgo_code_text.specs.Written.{is_name, OpFits}
+use Rattle.rgo_code_text.specs.Written.{OpFits}
+use Rattle.rgo_code_words.specs.Worded.{is_name}
 
 pub record NamedOp : Type 0 where
   pub op : CodeOp

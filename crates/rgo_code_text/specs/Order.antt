@@ -2,7 +2,7 @@
 use Rattle.std.specs.Prelude.{ℕ, ◌+◌, ◌==◌, if◌then◌else◌, Option, Some, None, List, [], ◌∷◌, ⊤}
 use Rattle.rgo_code_text.specs.declared.places.Place.{Place}
 use Rattle.rgo_code_text.specs.declared.places.Place.TheVariants.{First, Structs, Globals, Functions, Slots, Body}
-use Rattle.rgo_code_text.specs.Readers.{on_some}
+use Rattle.rgo_code_words.specs.Readers.{on_some}
 
 -- what kind of line it is; of an instruction also its number
 pub data Kind : Type 0 where

@@ -1,10 +1,11 @@
 -- What the rules of code leave open of its parts, and a text needs: names are words, numbers have 32 bits, integers 64,
 -- strings are bytes, and a print has a variable for each piece that prints one.
-use Rattle.std.specs.Prelude.{◌≡◌, ◌≤◌, ◌^◌, ℕ, List, map, length, IfSome, All, ⊤}
+use Rattle.std.specs.Prelude.{◌≡◌, ◌≤◌, ◌^◌, map, length, IfSome, All, ⊤}
 use Rattle.rgo_typed.specs.declared.actions.Action.{Action}
 use Rattle.rgo_typed.specs.declared.actions.Action.TheVariants as action
 use Rattle.rgo_code.specs.Code.{CodeOp, CodeInstr, CodeFn, Code, Do, Call, Go, Print, Jump, Branch, Return}
-use Rattle.rgo_code_text.specs.Written.{AreNames, IsSmall, AreSmall, ClassFits, SlotFits, IntFits, PieceFits, ValueFits, values_in}
+use Rattle.rgo_code_text.specs.Written.{SlotFits}
+use Rattle.rgo_code_words.specs.Worded.{AreNames, IsSmall, AreSmall, ClassFits, IntFits, PieceFits, ValueFits, values_in}
 
 abbrev pub ActionPrints : Action → Type 0
 ActionPrints (action.Int k) = IntFits k

@@ -1,31 +1,20 @@
 -- What the code's parts of lines are, as plain data.
-use Rattle.std.specs.Prelude.{ℕ, List, [], ◌∷◌, map}
+use Rattle.std.specs.Prelude.{[], ◌∷◌, map}
 use Rattle.std.specs.Option.{option_map}
-use Rattle.std.specs.declared.alloc.Global.{Global as Memory}
-use Rattle.std.specs.declared.vec.Vec.{Vec}
 use Rattle.rgo_tac.specs.Views.{op_of}
 use Rattle.rgo_code_text.specs.declared.actions.Action.{Action}
 use Rattle.rgo_code_text.specs.declared.items.Item.{Item as CodeItem}
 use Rattle.rgo_code_text.specs.declared.items.Item.TheVariants as code
 use Rattle.rgo_code_text.specs.declared.items.NamedInstr.{NamedInstr as CodeNamedInstr}
 use Rattle.rgo_code_text.specs.declared.items.NamedSlot.{NamedSlot as CodeSlot}
-use Rattle.rgo_code_text.specs.declared.types.NamedType.{NamedType as CodeType}
 use Rattle.rgo_code_text.specs.declared.calls.Callee.{Callee as CodeCallee}
 use Rattle.rgo_code_text.specs.declared.ops.NamedOp.{NamedOp as CodeNamedOp}
-use Rattle.rgo_code_text.specs.declared.pieces.Pieces.{Pieces}
-use Rattle.rgo_typed.specs.declared.statements.Piece.{Piece}
 use Rattle.rgo_code.specs.Code.{CodeInstr}
 use Rattle.rgo_code.specs.Views.{code_op}
 use Rattle.rgo_code_text.specs.Actions.{NamedAction}
 use Rattle.rgo_code_text.specs.Items.{NamedSlot, Item, Head, Struct, Global, Function, Slot, Entry, Instr, End}
 use Rattle.rgo_code_text.specs.Ops.{NamedOp, Callee}
-use Rattle.rgo_code_text.specs.Readers.{NamedType}
-
-abbrev pub named_type_of : CodeType → NamedType
-named_type_of t = record { ty = t.ty; name = t.name.now }
-
-abbrev pub types_of : Vec CodeType Memory → List NamedType
-types_of ts = map named_type_of ts.items
+use Rattle.rgo_code_words.specs.Views.{named_type_of}
 
 abbrev pub callee_of : CodeCallee → Callee
 callee_of c = record { name = c.name.now; from = c.from }
@@ -35,9 +24,6 @@ named_op_of o = record {
   op = code_op (op_of (o.from.items ∷ []) (o.pieces.items ∷ []) o.instr) o.note;
   name = o.name.now;
 }
-
-abbrev pub pieces_of : Pieces → List Piece × List ℕ
-pieces_of p = (p.pieces.items, p.from.items)
 
 abbrev pub action_of : Action → NamedAction
 action_of a = record { op = op_of [] [] a.instr; name = a.name.now }

@@ -1,84 +1,18 @@
 -- Code that has a text: its names are words, its numbers small, and each name that it uses has one number.
-use Rattle.std.specs.Prelude.{◌≡◌, ◌≢◌, ◌<◌, ◌≤◌, ◌^◌, ◌+◌, ℕ, ℤ, Bool, true, false, not, ◌&&◌, ◌||◌, ◌==◌, nat_le, List, [], ◌∷◌, ◌++◌, map, length, Option, Some, None, All, IfSome, pos, negsuc, if◌then◌else◌, codes, ⊤}
-use Rattle.std.specs.List.{flat_map, list_all, list_any, position_or_len}
-use Rattle.std.specs.List.Sorted.{IsStrictlyIncreasing}
+use Rattle.std.specs.Prelude.{◌≡◌, ◌≢◌, ◌<◌, ◌≤◌, ◌^◌, ℕ, List, [], ◌∷◌, ◌++◌, map, length, Option, Some, None, All, IfSome, if◌then◌else◌, ⊤}
+use Rattle.std.specs.List.{flat_map, position_or_len}
 use Rattle.std.specs.Str.{bytes_eq}
-use Rattle.rgo_ast.specs.declared.ops.BinaryOp.{BinaryOp}
-use Rattle.rgo_ast.specs.declared.ops.BinaryOp.TheVariants as binary
 use Rattle.rgo_typed.specs.declared.actions.Action.{Action}
 use Rattle.rgo_typed.specs.declared.actions.Action.TheVariants as action
-use Rattle.rgo_typed.specs.declared.statements.Piece.{Piece}
-use Rattle.rgo_typed.specs.declared.statements.Piece.TheVariants as piece
 use Rattle.rgo_typed.specs.declared.types.Base.{Base}
 use Rattle.rgo_typed.specs.declared.types.Base.TheVariants as base
 use Rattle.rgo_typed.specs.declared.types.Type.{«Type»}
-use Rattle.rgo_tac.specs.declared.regions.Class.{Class}
-use Rattle.rgo_tac.specs.declared.regions.Class.TheVariants as class
 use Rattle.rgo_code.specs.Code.{Slot, CodeOp, CodeInstr, CodeFn, Code, Do, Call, Go, Print, Jump, Branch, Return}
-use Rattle.rgo_code_printing.specs.Words.{name_at, value_count}
+use Rattle.rgo_code_printing.specs.Words.{name_at}
 use Rattle.rgo_code_printing.specs.Text.{Names, action_words}
-
--- ---- names
-
--- a letter or `_`
-abbrev pub is_letter : ℕ → Bool
-is_letter b = (nat_le 65 b && nat_le b 90) || (nat_le 97 b && nat_le b 122) || b == 95
-
-abbrev pub is_word_byte : ℕ → Bool
-is_word_byte b = is_letter b || (nat_le 48 b && nat_le b 57)
-
--- the keywords of Go
-abbrev pub keywords : List (List ℕ)
-keywords =
-    codes "break" ∷ codes "case" ∷ codes "chan" ∷ codes "const" ∷ codes "continue" ∷ codes "default" ∷ codes "defer"
-    ∷ codes "else" ∷ codes "fallthrough" ∷ codes "for" ∷ codes "func" ∷ codes "go" ∷ codes "goto" ∷ codes "if"
-    ∷ codes "import" ∷ codes "interface" ∷ codes "map" ∷ codes "package" ∷ codes "range" ∷ codes "return"
-    ∷ codes "select" ∷ codes "struct" ∷ codes "switch" ∷ codes "type" ∷ codes "var" ∷ []
-
--- these bytes are among the names
-abbrev pub is_among : List (List ℕ) → List ℕ → Bool
-is_among names name = list_any (λ known. bytes_eq known name) names
-
--- a word of letters, digits and `_` that begins with no digit
-abbrev pub is_word : List ℕ → Bool
-is_word [] = false
-is_word (b ∷ bytes) = is_letter b && list_all is_word_byte bytes
-
--- a word that is no keyword
-unfoldable pub is_name : List ℕ → Bool
-is_name bytes = is_word bytes && not (is_among keywords bytes)
-
-abbrev pub AreNames : List (List ℕ) → Type 0
-AreNames names = All (λ name. is_name name ≡ true) names
-
--- ---- numbers
-
-abbrev pub IsSmall : ℕ → Type 0
-IsSmall k = k < 2 ^ 32
-
-abbrev pub AreSmall : List ℕ → Type 0
-AreSmall ks = All IsSmall ks
-
--- a list of names of regions
-abbrev pub AreRegions : List ℕ → Type 0
-AreRegions names = IsStrictlyIncreasing names × AreSmall names
-
-abbrev pub ClassFits : Class → Type 0
-ClassFits (class.Name k) = IsSmall k
-ClassFits class.NoClass = ⊤
-ClassFits class.Global = ⊤
+use Rattle.rgo_code_words.specs.Worded.{is_among, AreNames, IsSmall, AreSmall, AreRegions, ClassFits, OperatorFits, IntFits, PieceFits, ValueFits, values_in}
 
 -- ---- instructions
-
-abbrev pub OperatorFits : BinaryOp → Type 0
-OperatorFits binary.And = ⊥
-OperatorFits binary.Or = ⊥
-OperatorFits op = ⊤
-
--- an integer of 64 bits
-abbrev pub IntFits : ℤ → Type 0
-IntFits (pos n) = n < 2 ^ 63
-IntFits (negsuc n) = n < 2 ^ 63
 
 abbrev pub ActionFits : Action → Type 0
 ActionFits (action.Int k) = IntFits k
@@ -110,19 +44,6 @@ no_names = record { structs = []; variables = []; functions = [] }
 -- the action with these operands is an instruction
 abbrev pub IsInstruction : Action → Option ℕ → List ℕ → Type 0
 IsInstruction action to from = action_words no_names action to from ≢ []
-
--- how many variables are printed
-abbrev pub values_in : List Piece → ℕ
-values_in [] = 0
-values_in (p ∷ pieces) = value_count p + values_in pieces
-
--- a string consists of bytes
-abbrev pub PieceFits : Piece → Type 0
-PieceFits (piece.Text bytes) = All (λ b. b < 2 ^ 8) bytes
-PieceFits piece.Value = ⊤
-
-abbrev pub ValueFits : Option ℕ → Type 0
-ValueFits value = IfSome value IsSmall
 
 abbrev pub OpFits : CodeOp → Type 0
 OpFits (Do to action from removes) =

@@ -4,12 +4,11 @@ ghost use Rattle.std.specs.Prelude.{◌≡◌, [], Some};
 ghost use Rattle.std.specs.Option.{option_map};
 ghost use Rattle.rgo_tac.specs.Views.{op_of};
 ghost use Rattle.rgo_code_text.specs.Actions as spec;
-ghost use Rattle.rgo_code_text.specs.Cuts.{nows};
+ghost use Rattle.rgo_code_words.specs.Cuts.{nows};
 ghost use Rattle.rgo_code_text.specs.Views.{action_of};
 
-use crate::cuts::word_at;
-use crate::words::{int, is, is_name, number, operator, truth, variable};
 use rgo_ast::BinaryOp;
+use rgo_code_words::{int, is, is_name, number, operator, truth, variable, word_at};
 use rgo_tac::Instr;
 
 /// An instruction without lists, and what it names.

@@ -11,15 +11,16 @@ ghost use Rattle.rgo_code_text.specs.CodeLines.{no_function, nothing, with_line,
 ghost use Rattle.rgo_code_text.specs.Items.{ItemFits};
 ghost use Rattle.rgo_code_text.specs.Opened.{open_of, IsAligned, IsNumbered, building_of, AllAligned};
 ghost use Rattle.rgo_code_text.specs.Opened.{HasCode, HasOneMore, with_slot, with_instr};
-ghost use Rattle.rgo_code_text.specs.Views.{item_of, instr_of, named_slot_of, named_type_of};
+ghost use Rattle.rgo_code_text.specs.Views.{item_of, instr_of, named_slot_of};
+ghost use Rattle.rgo_code_words.specs.Views.{named_type_of};
 
 use crate::items::{Item, NamedInstr, NamedSlot};
 use crate::numbered::{narrow, numbered_instr, numbered_type, numbered_types};
 use crate::numbers::{Counts, Tables};
 use crate::ops::NamedOp;
-use crate::types::NamedType;
 use rgo_ast::{Name, Place};
 use rgo_code::{Class, Code, Note, Regions, Undeclared};
+use rgo_code_words::NamedType;
 use rgo_tac::{Body, Instr, Tac, TacFn};
 use rgo_typed::{Piece, Row, Struct, Type, Variable};
 use std::alloc::{AllocError, Global};

@@ -2,21 +2,22 @@
 
 ghost use Rattle.std.specs.Prelude.{◌≡◌, ℕ, List, IfOk};
 ghost use Rattle.std.specs.Option.{option_map};
-ghost use Rattle.rgo_code_text.specs.Cuts as cuts;
-ghost use Rattle.rgo_code_text.specs.Cuts.{nows};
+ghost use Rattle.rgo_code_words.specs.Cuts as cuts;
+ghost use Rattle.rgo_code_words.specs.Cuts.{nows};
 ghost use Rattle.rgo_code_text.specs.Items.{ItemFits, item_line};
 ghost use Rattle.rgo_code_text.specs.Lines as lines;
 ghost use Rattle.rgo_code_text.specs.Lines.{read_fields, read_slot, read_result, instr_with, InstrFits, IsCut};
 ghost use Rattle.rgo_code_text.specs.Lines.{struct_of, global_of, function_of, slot_of, entry_of};
-ghost use Rattle.rgo_code_text.specs.Readers.{IsRead};
-ghost use Rattle.rgo_code_text.specs.Views.{item_of, instr_of, named_op_of, named_slot_of, types_of};
+ghost use Rattle.rgo_code_words.specs.Readers.{IsRead};
+ghost use Rattle.rgo_code_text.specs.Views.{item_of, instr_of, named_op_of, named_slot_of};
+ghost use Rattle.rgo_code_words.specs.Views.{types_of};
 
-use crate::cuts::{cut, len_to, word_at};
-use crate::lists::{regions, removes};
 use crate::ops::{NamedOp, named_op};
-use crate::types::{NamedType, named_type};
-use crate::words::{class, is, is_name, lettered, number};
 use rgo_code::Class;
+use rgo_code_words::{
+    NamedType, class, cut, is, is_name, len_to, lettered, named_type, number, regions, removes,
+    word_at,
+};
 use rgo_typed::Row;
 use std::alloc::{AllocError, Global};
 

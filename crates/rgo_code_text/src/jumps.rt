@@ -5,15 +5,13 @@ ghost use Rattle.std.specs.Option.{option_map};
 ghost use Rattle.rgo_typed.specs.declared.statements.Piece.{Piece};
 ghost use Rattle.rgo_tac.specs.Code as tac;
 ghost use Rattle.rgo_tac.specs.Views.{op_of};
-ghost use Rattle.rgo_code_text.specs.Cuts.{nows};
+ghost use Rattle.rgo_code_words.specs.Cuts.{nows};
 ghost use Rattle.rgo_code_text.specs.Ops as spec;
 ghost use Rattle.rgo_code_text.specs.Ops.{of_length, jumping, branching, returning};
 ghost use Rattle.rgo_code_text.specs.Views.{named_op_of};
 
-use crate::cuts::word_at;
-use crate::lists::removes;
 use crate::ops::{NamedOp, removals, simple};
-use crate::words::{number, value, variable};
+use rgo_code_words::{number, removes, value, variable, word_at};
 use rgo_tac::Instr;
 use rgo_typed::Row;
 use std::alloc::{AllocError, Global};

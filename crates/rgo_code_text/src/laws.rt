@@ -1,5 +1,6 @@
 //! What holds of code texts.
 
+ghost use Rattle.rgo_code_text.specs.Examples.{Examples};
 ghost use Rattle.rgo_code_text.specs.Laws.{OneOfBoth, OneRefusal, OneText, RulesSuffice};
 
 /// No two codes have one text.
@@ -20,4 +21,9 @@ pub fn one_of_both()
 /// Code that keeps all rules and declares what it uses has a text, if its names are words and its numbers are printable.
 pub fn rules_suffice()
     ensures { RulesSuffice }
+{}
+
+/// Small code whose parts are printable, and code that has one part that is not.
+pub fn examples()
+    ensures { Examples }
 {}

@@ -4,22 +4,17 @@
 mod actions;
 mod building;
 mod calls;
-mod cuts;
 mod items;
 mod jumps;
 mod laws;
-mod lists;
 mod numbered;
 mod numbers;
 mod ops;
-mod pieces;
 mod places;
 mod prints;
 mod reading;
 mod refusals;
-mod types;
-mod words;
 
-pub use laws::{one_of_both, one_refusal, one_text, rules_suffice};
+pub use laws::{examples, one_of_both, one_refusal, one_text, rules_suffice};
 pub use reading::read_code;
 pub use refusals::{CodeText, ReadError};

@@ -4,11 +4,11 @@ ghost use Rattle.std.specs.Prelude.{◌≡◌, map, IfOk};
 ghost use Rattle.rgo_code_text.specs.Building as spec;
 ghost use Rattle.rgo_code_text.specs.Building.{names_now};
 ghost use Rattle.rgo_code_text.specs.Opened.{IsCopy, IsNumbered};
-ghost use Rattle.rgo_code_text.specs.Views.{named_type_of};
+ghost use Rattle.rgo_code_words.specs.Views.{named_type_of};
 
 use crate::numbers::Tables;
 use crate::ops::NamedOp;
-use crate::types::NamedType;
+use rgo_code_words::NamedType;
 use rgo_tac::Instr;
 use rgo_typed::{Base, Type};
 use std::alloc::{AllocError, Global};

@@ -7,14 +7,15 @@ ghost use Rattle.rgo_code_text.specs.Building.{names_now, with_structs, with_dec
 ghost use Rattle.rgo_code_text.specs.Building.{names_in, declared_in, CountsAre, type_names, slot_names};
 ghost use Rattle.rgo_code_text.specs.Building.{op_structs, op_variables, op_functions, with_names};
 ghost use Rattle.rgo_code_text.specs.Numbers.{with_name};
-ghost use Rattle.rgo_code_text.specs.Views.{item_of, named_type_of, named_slot_of, named_op_of};
+ghost use Rattle.rgo_code_text.specs.Views.{item_of, named_slot_of, named_op_of};
+ghost use Rattle.rgo_code_words.specs.Views.{named_type_of};
 ghost use Rattle.rgo_code_text.specs.Written.{no_names, number_of};
 
 use crate::items::{Item, NamedSlot};
 use crate::ops::NamedOp;
-use crate::types::NamedType;
 use indexmap::IndexMap;
 use rgo_ast::Name;
+use rgo_code_words::NamedType;
 use rgo_tac::Instr;
 use rgo_typed::{Base, Row};
 use std::alloc::{AllocError, Global};
@@ -30,7 +31,7 @@ pub(crate) struct Numbers<'t> {
 impl<'t> Model for Numbers<'t> {
     ghost use Rattle.std.specs.Prelude.{◌≡◌, ℕ, List, bytes_eq};
     ghost use Rattle.indexmap.specs.IndexMap.{get_by};
-    ghost use Rattle.rgo_code_text.specs.Cuts.{nows};
+    ghost use Rattle.rgo_code_words.specs.Cuts.{nows};
     ghost use Rattle.rgo_code_text.specs.Numbers.{first_of};
 
     ghost Value = { List (List ℕ) };

@@ -3,19 +3,17 @@
 ghost use Rattle.std.specs.Prelude.{◌≡◌, [], bytes_eq, codes, take, IfOk};
 ghost use Rattle.std.specs.Option.{option_map};
 ghost use Rattle.rgo_code.specs.Views.{code_op};
-ghost use Rattle.rgo_code_text.specs.Cuts.{nows};
+ghost use Rattle.rgo_code_words.specs.Cuts.{nows};
 ghost use Rattle.rgo_code_text.specs.Ops.{acting, read_op, removing, op_text, NamedOpFits};
-ghost use Rattle.rgo_code_text.specs.Readers.{IsRead};
+ghost use Rattle.rgo_code_words.specs.Readers.{IsRead};
 ghost use Rattle.rgo_code_text.specs.Views.{action_of, named_op_of};
 
 use crate::actions::{Action, read_action};
 use crate::calls::{call, go};
-use crate::cuts::{cut, word_at};
 use crate::jumps::{branch, give_back, jump};
-use crate::lists::removes;
 use crate::prints::print;
-use crate::words::is;
 use rgo_code::{Class, Note};
+use rgo_code_words::{cut, is, removes, word_at};
 use rgo_tac::Instr;
 use rgo_typed::{Piece, Row};
 use std::alloc::{AllocError, Global};

@@ -4,13 +4,11 @@ ghost use Rattle.std.specs.Prelude.{◌≡◌, ◌++◌, [], codes, IfOk};
 ghost use Rattle.std.specs.Option.{option_map};
 ghost use Rattle.rgo_code.specs.Code.{Print};
 ghost use Rattle.rgo_code_text.specs.Ops.{LastWord, op_text, NamedOpFits};
-ghost use Rattle.rgo_code_text.specs.Readers.{IsRead};
+ghost use Rattle.rgo_code_words.specs.Readers.{IsRead};
 ghost use Rattle.rgo_code_text.specs.Views.{named_op_of};
 
-use crate::cuts::len_to;
-use crate::lists::removes;
 use crate::ops::{NamedOp, removals};
-use crate::pieces::{Pieces, read_pieces};
+use rgo_code_words::{Pieces, len_to, read_pieces, removes};
 use rgo_tac::Instr;
 use rgo_typed::Row;
 use std::alloc::{AllocError, Global};

@@ -10,12 +10,12 @@ ghost use Rattle.rgo_code_text.specs.Views.{item_of};
 ghost use Rattle.rgo_code_text.specs.Written.{IsWritten, no_names};
 
 use crate::building::code;
-use crate::cuts::len_to;
 use crate::items::{Item, read_item};
 use crate::numbers::{Tables, no_tables, number_names};
 use crate::places::Place;
 use crate::refusals::{CodeText, ReadError};
 use rgo_code::Code;
+use rgo_code_words::len_to;
 use std::alloc::{AllocError, Global};
 
 /// The item of a line and the place after it, if the line has a form in its place.

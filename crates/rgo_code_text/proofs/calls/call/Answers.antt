@@ -3,9 +3,9 @@ use Rattle.std.specs.Option.{option_map}
 use Rattle.std.proofs.lemmas.List.{length-map}
 use Rattle.rgo_tac.specs.Code as tac
 use Rattle.rgo_code.specs.Views.{code_op}
-use Rattle.rgo_code_text.specs.Cuts.{nows, word_at}
+use Rattle.rgo_code_words.specs.Cuts.{nows, word_at}
 use Rattle.rgo_code_text.specs.Ops.{call_note, read_callee}
-use Rattle.rgo_code_text.specs.Readers.{read_value}
+use Rattle.rgo_code_words.specs.Readers.{read_value}
 use Rattle.rgo_code_text.specs.Views.{callee_of}
 use Rattle.rgo_code_text.proofs.CallNotes.{call_is}
 use Rattle.rgo_code_text.proofs.calls.call.Goals as goal

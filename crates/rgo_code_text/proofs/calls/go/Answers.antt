@@ -1,7 +1,7 @@
 use Rattle.std.proofs.Common.{◌≡◌, length, Some, None, sym, ap, ◌∙◌, refl}
 use Rattle.std.specs.Option.{option_map}
 use Rattle.std.proofs.lemmas.List.{length-map}
-use Rattle.rgo_code_text.specs.Cuts.{nows, word_at}
+use Rattle.rgo_code_words.specs.Cuts.{nows, word_at}
 use Rattle.rgo_code_text.specs.Ops.{go_note, read_callee}
 use Rattle.rgo_code_text.specs.Views.{callee_of}
 use Rattle.rgo_code_text.proofs.CallNotes.{go_is}

@@ -1,9 +1,9 @@
 use Rattle.std.proofs.Common.{◌≡◌, ◌-◌, true, length, take, drop, Some, None, codes, sym, ap, ◌∙◌}
 use Rattle.std.specs.Option.{option_map}
-use Rattle.rgo_code_text.specs.Readers.{inside, seen}
-use Rattle.rgo_code_text.specs.Written.{is_name}
+use Rattle.rgo_code_words.specs.Readers.{inside, seen}
+use Rattle.rgo_code_words.specs.Worded.{is_name}
 use Rattle.rgo_code_text.proofs.CallNotes.{callee_by}
-use Rattle.rgo_code_text.proofs.ListFacts.{rest_of}
+use Rattle.rgo_code_words.proofs.ListFacts.{rest_of}
 use Rattle.rgo_code_text.proofs.calls.read_callee.Goals as goal
 
 pub returns-in_default : goal.returns-in_default

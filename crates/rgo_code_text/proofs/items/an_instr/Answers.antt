@@ -1,11 +1,11 @@
 use Rattle.std.proofs.Common.{◌≡◌, length, Some, None, sym, ap, ◌∙◌, subst}
 use Rattle.std.specs.Option.{option_map}
 use Rattle.std.proofs.lemmas.List.{length-map}
-use Rattle.rgo_code_text.specs.Cuts.{cut, word_at}
+use Rattle.rgo_code_words.specs.Cuts.{cut, word_at}
 use Rattle.rgo_code_text.specs.Items.{item_line}
 use Rattle.rgo_code_text.specs.Lines.{InstrFits}
 use Rattle.rgo_code_text.specs.Ops.{op_text, NamedOpFits}
-use Rattle.rgo_code_text.specs.Readers.{IsRead, read_number, read_lettered, read_regions}
+use Rattle.rgo_code_words.specs.Readers.{IsRead, read_number, read_lettered, read_regions}
 use Rattle.rgo_code_text.specs.Views.{named_op_of}
 use Rattle.rgo_code_text.proofs.Instrs.{wrong_count, wrong_index, wrong_place, wrong_creates, wrong_op, instr_is}
 use Rattle.rgo_code_text.proofs.items.an_instr.Goals as goal

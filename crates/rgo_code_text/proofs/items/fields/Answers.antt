@@ -1,10 +1,10 @@
 use Rattle.std.proofs.Common.{◌-◌, map, length, take, drop, arith, length-drop, ap, ◌∙◌}
 use Rattle.std.specs.Option.{option_map}
 use Rattle.std.proofs.lemmas.List.{map_push}
-use Rattle.rgo_code_text.specs.Readers.{read_type}
-use Rattle.rgo_code_text.specs.Views.{named_type_of, types_of}
-use Rattle.rgo_code_text.proofs.ListFacts.{rest_of}
-use Rattle.rgo_code_text.proofs.Listing.{list_none, list_last, list_more}
+use Rattle.rgo_code_words.specs.Readers.{read_type}
+use Rattle.rgo_code_words.specs.Views.{named_type_of, types_of}
+use Rattle.rgo_code_words.proofs.ListFacts.{rest_of}
+use Rattle.rgo_code_words.proofs.Listing.{list_none, list_last, list_more}
 use Rattle.rgo_code_text.proofs.items.fields.Goals as goal
 
 pub returns-in-None : goal.returns-in-None

@@ -1,7 +1,7 @@
 use Rattle.std.proofs.Common.{◌≡◌, ◌≤◌, ◌-◌, length, drop}
 use Rattle.rgo_code_text.specs.Lines.{read_fields}
-use Rattle.rgo_code_text.specs.Views.{types_of}
-use Rattle.rgo_code_text.proofs.Listing.{added}
+use Rattle.rgo_code_words.specs.Views.{types_of}
+use Rattle.rgo_code_words.proofs.Listing.{added}
 use Rattle.rgo_code_text.proofs.items.fields.Given as goal
 
 abbrev pub invariant-types : goal.invariant-types

@@ -2,12 +2,12 @@ use Rattle.std.proofs.Common.{◌≡◌, Option, sym, ap, ◌∙◌, take}
 use Rattle.std.specs.List.{before_first}
 use Rattle.std.specs.Option.{option_map}
 use Rattle.rgo_code_text.specs.declared.items.Item.{Item as CodeItem}
-use Rattle.rgo_code_text.specs.Cuts.{is_space, cut, nows}
+use Rattle.rgo_code_words.specs.Cuts.{is_space, cut, nows}
 use Rattle.rgo_code_text.specs.Items.{ItemFits, item_line}
-use Rattle.rgo_code_text.specs.Readers.{IsRead}
+use Rattle.rgo_code_words.specs.Readers.{IsRead}
 use Rattle.rgo_code_text.specs.Views.{item_of}
 use Rattle.rgo_code_text.proofs.LinesBack.{head_read, end_read}
-use Rattle.rgo_code_text.proofs.Options.{if_ok}
+use Rattle.rgo_code_words.proofs.Options.{if_ok}
 use Rattle.rgo_code_text.proofs.items.read_item.Goals as goal
 
 pub returns-then-is : goal.returns-then-is

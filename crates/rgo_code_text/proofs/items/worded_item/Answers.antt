@@ -4,13 +4,13 @@ use Rattle.std.specs.Option.{option_map}
 use Rattle.std.specs.Str.{bytes_eq}
 use Rattle.std.proofs.lemmas.Slice.Eq.{bytes_eq-Decides}
 use Rattle.rgo_code_text.specs.declared.items.Item.{Item as CodeItem}
-use Rattle.rgo_code_text.specs.Cuts.{is_space, cut, nows}
+use Rattle.rgo_code_words.specs.Cuts.{is_space, cut, nows}
 use Rattle.rgo_code_text.specs.Items.{Item, ItemFits, item_line}
 use Rattle.rgo_code_text.specs.Lines.{IsCut, InstrFits, spaces, struct_of, global_of, function_of, slot_of, entry_of}
-use Rattle.rgo_code_text.specs.Readers.{IsRead}
+use Rattle.rgo_code_words.specs.Readers.{IsRead}
 use Rattle.rgo_code_text.specs.Views.{item_of}
 use Rattle.rgo_code_text.proofs.LinesBack.{struct_read, global_read, function_read, slot_read, entry_read, instr_read}
-use Rattle.rgo_code_text.proofs.Options.{if_ok}
+use Rattle.rgo_code_words.proofs.Options.{if_ok}
 use Rattle.rgo_code_text.proofs.items.worded_item.Goals as goal
 
 -- a line that begins with this word

@@ -3,9 +3,9 @@ use Rattle.std.specs.Option.{option_map}
 use Rattle.std.proofs.lemmas.List.{length-map}
 use Rattle.rgo_tac.specs.Views.{op_of}
 use Rattle.rgo_code.specs.declared.notes.Note.{Note}
-use Rattle.rgo_code_text.specs.Cuts.{nows, word_at}
+use Rattle.rgo_code_words.specs.Cuts.{nows, word_at}
 use Rattle.rgo_code_text.specs.Ops.{branch_of, removing}
-use Rattle.rgo_code_text.specs.Readers.{read_regions}
+use Rattle.rgo_code_words.specs.Readers.{read_regions}
 use Rattle.rgo_code_text.proofs.ActionOps.{simple_op}
 use Rattle.rgo_code_text.proofs.CallNotes.{branch_is}
 use Rattle.rgo_code_text.proofs.jumps.branch.Goals as goal

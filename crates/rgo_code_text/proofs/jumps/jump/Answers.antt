@@ -1,9 +1,9 @@
 use Rattle.std.proofs.Common.{◌≡◌, length, [], Some, None, sym, ap, ◌∙◌, refl}
 use Rattle.std.proofs.lemmas.List.{length-map}
 use Rattle.rgo_tac.specs.declared.code.Instr.TheVariants as code
-use Rattle.rgo_code_text.specs.Cuts.{nows, word_at}
+use Rattle.rgo_code_words.specs.Cuts.{nows, word_at}
 use Rattle.rgo_code_text.specs.Ops.{removing}
-use Rattle.rgo_code_text.specs.Readers.{read_number, read_regions}
+use Rattle.rgo_code_words.specs.Readers.{read_number, read_regions}
 use Rattle.rgo_code_text.proofs.ActionOps.{simple_op}
 use Rattle.rgo_code_text.proofs.CallNotes.{jump_is}
 use Rattle.rgo_code_text.proofs.jumps.jump.Goals as goal

@@ -3,7 +3,7 @@ use Rattle.std.proofs.lemmas.Iterator.Adapters.{YieldsList-from_vec}
 use Rattle.std.proofs.lemmas.Iterator.Consumers.{YieldsList-end}
 use Rattle.std.proofs.lemmas.List.{map_push}
 use Rattle.rgo_code_text.specs.Building.{names_now, numbered_type}
-use Rattle.rgo_code_text.specs.Views.{named_type_of}
+use Rattle.rgo_code_words.specs.Views.{named_type_of}
 use Rattle.rgo_code_text.proofs.numbered.numbered_types.Goals as goal
 
 pub loop-ty-preserved : goal.loop-ty-preserved

@@ -2,8 +2,8 @@ use Rattle.std.proofs.Common.{◌∙◌, ◌+◌, ◌∷◌, sym, ap, map, drop,
 use Rattle.std.specs.List.{flat_map}
 use Rattle.std.proofs.lemmas.List.{at_drop_more}
 use Rattle.rgo_code_text.specs.Building.{names_now, with_structs, type_names}
-use Rattle.rgo_code_text.specs.Views.{named_type_of}
-use Rattle.rgo_code_text.specs.declared.types.NamedType.{NamedType as CodeType}
+use Rattle.rgo_code_words.specs.Views.{named_type_of}
+use Rattle.rgo_code_words.specs.declared.types.NamedType.{NamedType as CodeType}
 use Rattle.rgo_code_text.proofs.Tables.{structs_append}
 use Rattle.rgo_code_text.proofs.numbers.note_types.Goals as goal
 

@@ -1,7 +1,7 @@
 use Rattle.std.proofs.Common.{◌≡◌, map, drop}
 use Rattle.std.specs.List.{flat_map}
 use Rattle.rgo_code_text.specs.Building.{names_now, with_structs, type_names}
-use Rattle.rgo_code_text.specs.Views.{named_type_of}
+use Rattle.rgo_code_words.specs.Views.{named_type_of}
 use Rattle.rgo_code_text.proofs.numbers.note_types.Given as goal
 
 abbrev pub invariant-loop-named : goal.invariant-loop-named

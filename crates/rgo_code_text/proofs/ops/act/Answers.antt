@@ -3,9 +3,9 @@ use Rattle.std.specs.List.{take-map}
 use Rattle.std.specs.Option.{option_map}
 use Rattle.std.proofs.lemmas.List.{length-map}
 use Rattle.rgo_code_text.specs.Actions.{read_action}
-use Rattle.rgo_code_text.specs.Cuts.{nows, word_at}
+use Rattle.rgo_code_words.specs.Cuts.{nows, word_at}
 use Rattle.rgo_code_text.specs.Ops.{last_of}
-use Rattle.rgo_code_text.specs.Readers.{read_regions}
+use Rattle.rgo_code_words.specs.Readers.{read_regions}
 use Rattle.rgo_code_text.specs.Views.{action_of}
 use Rattle.rgo_code_text.proofs.ops.act.Goals as goal
 

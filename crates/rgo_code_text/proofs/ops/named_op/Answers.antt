@@ -1,12 +1,12 @@
 use Rattle.std.proofs.Common.{◌≡◌, ◌-◌, ◌++◌, Option, IfOk, length, take, drop, sym, ap, ◌∙◌, subst, codes}
 use Rattle.std.specs.Option.{option_map}
-use Rattle.rgo_code_text.specs.Cuts.{nows}
+use Rattle.rgo_code_words.specs.Cuts.{nows}
 use Rattle.rgo_code_text.specs.Ops.{read_op, op_text, NamedOpFits}
-use Rattle.rgo_code_text.specs.Readers.{IsRead}
+use Rattle.rgo_code_words.specs.Readers.{IsRead}
 use Rattle.rgo_code_text.specs.Views.{named_op_of}
 use Rattle.rgo_code_text.specs.declared.ops.NamedOp.{NamedOp as CodeNamedOp}
-use Rattle.rgo_code_text.proofs.ListFacts.{rest_of}
-use Rattle.rgo_code_text.proofs.Options.{if_ok}
+use Rattle.rgo_code_words.proofs.ListFacts.{rest_of}
+use Rattle.rgo_code_words.proofs.Options.{if_ok}
 use Rattle.rgo_code_text.proofs.OpTexts.{print_front, text_read}
 use Rattle.rgo_code_text.proofs.ops.named_op.Goals as goal
 

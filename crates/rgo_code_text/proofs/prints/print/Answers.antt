@@ -3,10 +3,10 @@ use Rattle.std.specs.Option.{option_map}
 use Rattle.rgo_typed.specs.declared.statements.Piece.{Piece}
 use Rattle.rgo_code.specs.Code.{Print}
 use Rattle.rgo_code_text.specs.Ops.{NamedOp, op_text, NamedOpFits}
-use Rattle.rgo_code_text.specs.Pieces.{ArePieces}
-use Rattle.rgo_code_text.specs.Readers.{IsRead, read_regions}
-use Rattle.rgo_code_text.specs.Views.{pieces_of}
-use Rattle.rgo_code_text.proofs.ListFacts.{rest_of}
+use Rattle.rgo_code_words.specs.Pieces.{ArePieces}
+use Rattle.rgo_code_words.specs.Readers.{IsRead, read_regions}
+use Rattle.rgo_code_words.specs.Views.{pieces_of}
+use Rattle.rgo_code_words.proofs.ListFacts.{rest_of}
 use Rattle.rgo_code_text.proofs.PrintWords.{print_none, print_plain, print_pieces, print_wrong}
 use Rattle.rgo_code_text.proofs.prints.print.Goals as goal
 

@@ -5,7 +5,7 @@ use Rattle.rgo_code_printing.specs.Text.{text_of}
 use Rattle.rgo_code_text.specs.Views.{item_of}
 use Rattle.rgo_code_text.specs.Walk.{Refuses}
 use Rattle.rgo_code_text.specs.Written.{IsWritten}
-use Rattle.rgo_code_text.proofs.Options.{handed_on}
+use Rattle.rgo_code_words.proofs.Options.{handed_on}
 use Rattle.rgo_code_text.proofs.Refusing.{read_is, refuses}
 use Rattle.rgo_code_text.proofs.reading.read_code.Goals as goal
 

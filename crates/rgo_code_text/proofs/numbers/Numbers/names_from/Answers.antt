@@ -1,6 +1,6 @@
 use Rattle.std.proofs.Common.{◌∙◌, ◌++◌, ◌∷◌, [], sym, ap, arith, take, drop, ◌-◌, List, ℕ}
 use denote.Ref.{Bor}
-use Rattle.rgo_code_text.specs.Cuts.{nows}
+use Rattle.rgo_code_words.specs.Cuts.{nows}
 use Rattle.rgo_code_text.proofs.Tables.{names_more}
 use Rattle.rgo_code_text.proofs.numbers.Numbers.names_from.Goals as goal
 

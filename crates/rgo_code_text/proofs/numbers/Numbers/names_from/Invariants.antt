@@ -1,5 +1,5 @@
 use Rattle.std.proofs.Common.{◌≡◌, ◌-◌, drop, take}
-use Rattle.rgo_code_text.specs.Cuts.{nows}
+use Rattle.rgo_code_words.specs.Cuts.{nows}
 use Rattle.rgo_code_text.proofs.numbers.Numbers.names_from.Given as goal
 
 abbrev pub invariant-loop-n : goal.invariant-loop-n

@@ -1,6 +1,6 @@
 use Rattle.std.proofs.Common.{◌∙◌, sym, ap, arith}
 use Rattle.std.specs.Option.{option_copied}
-use Rattle.rgo_code_text.specs.Cuts.{nows}
+use Rattle.rgo_code_words.specs.Cuts.{nows}
 use Rattle.rgo_code_text.specs.Written.{number_of}
 use Rattle.rgo_code_text.proofs.Tables.{number_none, nows_length}
 use Rattle.rgo_code_text.proofs.numbers.Numbers.number.Goals as goal

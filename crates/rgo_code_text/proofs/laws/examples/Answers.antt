@@ -1,0 +1,5 @@
+use Rattle.rgo_code_text.proofs.PrintableExamples as printable
+use Rattle.rgo_code_text.proofs.laws.examples.Goals as goal
+
+pub returns : goal.returns
+returns c = printable.examples

@@ -1,0 +1,14 @@
+pub mod Ascending
+pub mod Cutting
+pub mod Integers
+pub mod Lacks
+pub mod ListFacts
+pub mod ListWords
+pub mod Listing
+pub mod Numerals
+pub mod Options
+pub mod PieceBytes
+pub mod PieceFronts
+pub mod PieceLists
+pub mod TypeSteps
+pub mod WordsBack

@@ -1,0 +1,13 @@
+use Rattle.std.proofs.Common.{◌≡◌, ◌≤◌, ◌-◌, length, drop}
+use Rattle.rgo_code_words.specs.Readers.{read_some, read_lettered}
+use Rattle.rgo_code_words.proofs.Listing.{added}
+use Rattle.rgo_code_words.proofs.lists.some_numbers.Given as goal
+
+abbrev pub invariant-words : goal.invariant-words
+invariant-words l = record {
+  within : l.at ≤ length l.list;
+  read : added l.numbers.items (read_some (read_lettered l.letter) (drop l.at l.list)) ≡ read_some (read_lettered l.letter) l.list;
+}
+
+abbrev pub decreases-words : goal.decreases-words
+decreases-words l = length l.list - l.at

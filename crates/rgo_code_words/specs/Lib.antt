@@ -1,0 +1,5 @@
+pub mod Cuts
+pub mod Pieces
+pub mod Readers
+pub mod Views
+pub mod Worded
