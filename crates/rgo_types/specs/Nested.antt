@@ -18,7 +18,7 @@ use Rattle.rgo_typing_expressions.specs.Checking.{nodes}
 use Rattle.rgo_typing_expressions.specs.Packages.{Context}
 use Rattle.rgo_typing_expressions.specs.Terms.{term_of}
 use Rattle.rgo_typing_expressions.specs.Types.{type_of}
-use Rattle.rgo_typing_expressions.specs.declared.results.Checked.{Checked}
+use Rattle.rgo_typing_operations.specs.declared.results.Checked.{Checked}
 use Rattle.rgo_typing_statements.specs.Outcomes.{Outcome, Passes}
 use Rattle.rgo_typing_statements.specs.Statements.{Enclosing, in_block, all_sites, clause_sites, after_all, after_block, after_clause}
 use Rattle.rgo_typing_statements.specs.Statements.{in_a_loop, optional_nodes, optional_type, condition_sites}

@@ -4,7 +4,7 @@ use Rattle.rgo_typed.specs.Tree.{Term}
 use Rattle.rgo_typed.specs.Views.{term_of}
 use Rattle.rgo_typing_rules.specs.Shapes.{Shape}
 use Rattle.rgo_typing_rules.specs.Views.{shape_of}
-use Rattle.rgo_typing_expressions.specs.declared.results.Checked.{Checked}
+use Rattle.rgo_typing_operations.specs.declared.results.Checked.{Checked}
 
 abbrev pub optional_shape_of : Option Checked → Option Shape
 optional_shape_of None = None

@@ -11,11 +11,11 @@ ghost use Rattle.rgo_types.specs.Nested.{Makes, body_outcome, function_from};
 ghost use Rattle.rgo_types.specs.Programs as spec;
 
 use crate::flow::ends;
-use crate::nodes::check_end;
 use crate::statements::check_stmts;
 use rgo_ast::{Decl, Function as Source};
 use rgo_typed::{Function, Stmt, Type};
 use rgo_typing_expressions::{Checker, Scope};
+use rgo_typing_nodes::check_end;
 use rgo_typing_packages::{add_bindings, copied, count, result_kind, types};
 use rgo_typing_rules::{Kind, TypeError};
 use rgo_typing_statements::Enclosing;

@@ -9,10 +9,10 @@ ghost use Rattle.rgo_typing_packages.specs.Packages.{outside_functions};
 ghost use Rattle.rgo_types.specs.Programs.{functions_sites, has_main, sites_of, typed_functions, typed_program};
 
 use crate::bodies::check_bodies;
-use crate::nodes::check_text_end;
 use rgo_ast::Program;
 use rgo_typed::{Function, Row, Typed};
 use rgo_typing_expressions::{Checker, Package};
+use rgo_typing_nodes::check_text_end;
 use rgo_typing_packages::check_package;
 use rgo_typing_rules::{Meaning, TypeError};
 use std::alloc::Global;

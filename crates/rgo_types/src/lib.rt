@@ -5,7 +5,6 @@ mod bodies;
 mod checking;
 mod flow;
 mod nested;
-mod nodes;
 mod statements;
 
 pub use checking::check;

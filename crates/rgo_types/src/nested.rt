@@ -14,7 +14,6 @@ ghost use Rattle.rgo_typing_statements.specs.Statements as spec;
 ghost use Rattle.rgo_typing_statements.specs.TypedStatements as typed;
 ghost use Rattle.rgo_types.specs.Views.{optional_shape_of, optional_term_of};
 
-use crate::nodes;
 use rgo_ast::{Expr, Place};
 use rgo_typed::{Stmt, Term};
 use rgo_typing_expressions::{Checked, Checker};
@@ -82,7 +81,7 @@ pub(crate) fn if_of(
     ensures { ChecksStmt result ((at, Condition (shape_of test.entry.shape)) ∷ [])
         (typed.branches has_other (term_of test.entry.term) (map stmt_of body.items) (map stmt_of other.items) at) }
 {
-    nodes::check_condition(at, test.shape)?;
+    rgo_typing_nodes::check_condition(at, test.shape)?;
     let test = Box::new(alloc, test.term)?;
     if has_other {
         Ok(Stmt::IfElse(test, body, other, at))
@@ -115,7 +114,7 @@ fn check_condition(test: &Option<Checked<'_>>, at: Place) -> Result<(), TypeErro
 {
     match test {
         None => Ok(()),
-        Some(test) => nodes::check_condition(at, test.shape),
+        Some(test) => rgo_typing_nodes::check_condition(at, test.shape),
     }
 }
 

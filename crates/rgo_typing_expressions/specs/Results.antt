@@ -1,7 +1,7 @@
 -- What a check of expressions returns: typed trees and shapes, or the first refusal.
 use Rattle.std.specs.Prelude.{◌≡◌, ℕ, List, map, Option, Some, None, Result, Ok, Err}
 use Rattle.rgo_ast.specs.Tree.{Expr, Exprs, Elements}
-use Rattle.rgo_typed.specs.Tree.{Term, Terms, terms_of}
+use Rattle.rgo_typed.specs.Tree.{Terms, terms_of}
 use Rattle.rgo_typed.specs.Views.{term_of}
 use Rattle.rgo_typed.specs.declared.types.Type.{«Type»}
 use Rattle.rgo_typing_rules.specs.Checks.{Refuses}
@@ -17,21 +17,13 @@ use Rattle.rgo_typing_expressions.specs.Terms.{all_terms, element_terms, element
 use Rattle.rgo_typing_expressions.specs.Types.{type_of, types_of}
 use Rattle.rgo_typing_expressions.specs.declared.fields.Field.{Field}
 use Rattle.rgo_typing_expressions.specs.declared.keyed.Named.{Named}
-use Rattle.rgo_typing_expressions.specs.declared.results.Checked.{Checked}
 use Rattle.rgo_typing_expressions.specs.declared.results.Values.{Values}
-
--- one expression's shape and term
-abbrev pub Matches : Checked → Shape → Term → Type 0
-Matches e shape term = (shape_of e.shape ≡ shape) × (term_of e.term ≡ term)
+use Rattle.rgo_typing_operations.specs.declared.results.Checked.{Checked}
+pub use Rattle.rgo_typing_operations.specs.Results.{Matches, ChecksTo}
 
 -- those of several
 abbrev pub MatchesAll : Values → List Shape → Terms → Type 0
 MatchesAll v shapes terms = (map shape_of v.shapes.items ≡ shapes) × (terms_of (map term_of v.terms.items) ≡ terms)
-
--- a check of these nodes, with the shape and the term of an expression where no node breaks a rule
-abbrev pub ChecksTo : Result Checked TypeError → List Site → Shape → Term → Type 0
-ChecksTo (Ok e) sites shape term = (first_refusal sites ≡ None) × Matches e shape term
-ChecksTo (Err e) sites shape term = Refuses e (first_refusal sites)
 
 -- the same for several expressions
 abbrev pub ChecksToAll : Result Values TypeError → List Site → List Shape → Terms → Type 0

@@ -5,21 +5,16 @@ use Rattle.rgo_ast.specs.Tree as tree
 use Rattle.rgo_typed.specs.declared.types.Type.{«Type»}
 use Rattle.rgo_typed.specs.declared.types.Base.{Base}
 use Rattle.rgo_typed.specs.declared.types.Base.TheVariants.{Int, Bool as Boolean, Pointer}
-use Rattle.rgo_typing_rules.specs.Types.{plain, spelled}
+use Rattle.rgo_typing_rules.specs.Types.{spelled}
 use Rattle.rgo_typing_rules.specs.declared.meanings.Meaning.{Meaning}
 use Rattle.rgo_typing_rules.specs.declared.meanings.Meaning.TheVariants as meaning
 use Rattle.rgo_typing_rules.specs.Meanings.{Signature}
 use Rattle.rgo_scopes.specs.Blocks.{found, declared, entered, left, no_names}
 use Rattle.rgo_typing_expressions.specs.Packages.{Fields, Package, Scope, Context}
+pub use Rattle.rgo_typing_operations.specs.Types.{int, bool}
 
 abbrev pub no_locals : Scope
 no_locals = record { locals = no_names; types = [] }
-
-abbrev pub int : «Type»
-int = plain Int
-
-abbrev pub bool : «Type»
-bool = plain Boolean
 
 abbrev pub no_fields : Fields
 no_fields = record { numbers = no_names; types = [] }

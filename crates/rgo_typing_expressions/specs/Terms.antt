@@ -1,20 +1,13 @@
 -- The typed tree of an expression.
-use Rattle.std.specs.Prelude.{ℕ, zero, suc, ◌++◌, Bool, true, false, ℤ, pos, List, [], ◌∷◌, drop, Option, Some, None}
+use Rattle.std.specs.Prelude.{ℕ, zero, suc, ◌++◌, Bool, pos, List, [], ◌∷◌, drop, Option, Some, None}
 use Rattle.rgo_ast.specs.Tree as tree
 use Rattle.rgo_ast.specs.Tree.{Expr, Exprs, Elements, Capacity}
-use Rattle.rgo_ast.specs.declared.ops.UnaryOp.{UnaryOp}
-use Rattle.rgo_ast.specs.declared.ops.UnaryOp.TheVariants as unary
-use Rattle.rgo_ast.specs.declared.ops.BinaryOp.{BinaryOp}
-use Rattle.rgo_ast.specs.declared.ops.BinaryOp.TheVariants as binary
-use Rattle.rgo_typed.specs.declared.actions.Action.{Action}
 use Rattle.rgo_typed.specs.declared.actions.Action.TheVariants as action
-use Rattle.rgo_typed.specs.declared.actions.Logical.TheVariants as logical
 use Rattle.rgo_typed.specs.declared.types.Type.{«Type»}
-use Rattle.rgo_typed.specs.Tree.{Term, Terms, Local, Apply, Logic, Build, Call, no_terms, a_term}
+use Rattle.rgo_typed.specs.Tree.{Term, Terms, Local, Apply, Build, Call, no_terms, a_term}
 use Rattle.rgo_typing_rules.specs.Types.{plain, slice_of, chan_of}
 use Rattle.rgo_typing_rules.specs.Shapes as shape
-use Rattle.rgo_typing_rules.specs.Shapes.{Shape, is_nil_shape}
-use Rattle.rgo_typing_rules.specs.Constants.{folded_shapes, folded_shape}
+use Rattle.rgo_typing_rules.specs.Shapes.{Shape}
 use Rattle.rgo_typing_rules.specs.declared.meanings.Meaning.{Meaning}
 use Rattle.rgo_typing_rules.specs.declared.meanings.Meaning.TheVariants as meaning
 use Rattle.rgo_typing_expressions.specs.Packages.{Fields, Package, Context}
@@ -23,32 +16,14 @@ use Rattle.rgo_typing_expressions.specs.Scopes.{int, bool, resolved, pointer_bas
 use Rattle.rgo_typing_expressions.specs.declared.callees.Callee.{Callee}
 use Rattle.rgo_typing_expressions.specs.declared.callees.Callee.TheVariants as callee
 use Rattle.rgo_typing_expressions.specs.Callees.{callee_of}
-use Rattle.rgo_typing_expressions.specs.Types.{type_of, field_of, field_in, binary_type}
+use Rattle.rgo_typing_expressions.specs.Types.{type_of, field_of, field_in}
 use Rattle.rgo_typing_expressions.specs.Checking.{field_types, struct_number, struct_fields}
-
--- an action without parts
-abbrev pub atom : Action → «Type» → ℕ → Term
-atom a ty at = Apply a no_terms ty at
-
-abbrev pub one : Term → Terms
-one t = a_term t no_terms
-
-abbrev pub two : Term → Term → Terms
-two a b = a_term a (a_term b no_terms)
-
--- a constant is one `int`
-abbrev pub constant : ℤ → ℕ → Term
-constant n at = atom (action.Int n) int at
+pub use Rattle.rgo_typing_operations.specs.Terms.{atom, one, two, constant, with_type, constant_or_term, element_type, unary_term, negated, compared, operation, binary_term}
 
 -- the type of a value of this shape
 abbrev pub type_in : Shape → «Type»
 type_in (shape.Value t) = t
 type_in _ = int
-
--- `nil` takes the type that is wanted of it
-abbrev pub with_type : «Type» → Term → Term
-with_type ty (Apply action.Nil parts t at) = Apply action.Nil parts ty at
-with_type ty t = t
 
 -- the first of these types
 abbrev pub with_first : List «Type» → Term → Term
@@ -64,40 +39,6 @@ name_term c _ at = atom action.Nil int at
 abbrev pub field_term : Option (ℕ × «Type») → Term → ℕ → Term
 field_term None t at = t
 field_term (Some field) t at = Apply (action.Load field.0) (one t) field.1 at
-
-abbrev pub constant_or_term : Option ℤ → ℕ → Term → Term
-constant_or_term (Some n) at t = constant n at
-constant_or_term None at t = t
-
-abbrev pub element_type : Shape → «Type»
-element_type (shape.Value t) = record { layers = drop 1 t.layers; base = t.base }
-element_type _ = int
-
-abbrev pub unary_term : UnaryOp → Shape → Term → ℕ → Term
-unary_term unary.Plus s t at = t
-unary_term unary.Minus s t at = constant_or_term (folded_shape unary.Minus s) at (Apply action.Neg (one t) int at)
-unary_term unary.Not s t at = Apply action.Not (one t) bool at
-unary_term unary.Receive s t at = Apply action.Recv (one t) (element_type s) at
-
-abbrev pub negated : Bool → Term → ℕ → Term
-negated true t at = Apply action.Not (one t) bool at
-negated false t at = t
-
--- a comparison; with `nil` on one side a test of the other side
-abbrev pub compared : BinaryOp → Bool → Bool → Bool → Term → Term → ℕ → Term
-compared op differs true b_is_nil a b at = negated differs (Apply action.IsNil (one b) bool at) at
-compared op differs false true a b at = negated differs (Apply action.IsNil (one a) bool at) at
-compared op differs false false a b at = Apply (action.Binary op) (two a b) bool at
-
-abbrev pub operation : BinaryOp → Shape → Shape → Term → Term → ℕ → Term
-operation binary.And s t a b at = Logic logical.And a b at
-operation binary.Or s t a b at = Logic logical.Or a b at
-operation binary.Eq s t a b at = compared binary.Eq false (is_nil_shape s) (is_nil_shape t) a b at
-operation binary.Ne s t a b at = compared binary.Ne true (is_nil_shape s) (is_nil_shape t) a b at
-operation op s t a b at = Apply (action.Binary op) (two a b) (binary_type op) at
-
-abbrev pub binary_term : BinaryOp → Shape → Shape → Term → Term → ℕ → Term
-binary_term op s t a b at = constant_or_term (folded_shapes op s t) at (operation op s t a b at)
 
 -- what arguments have to be
 abbrev pub wanted_of : Package → Callee → List «Type»

@@ -1,16 +1,12 @@
 -- The shape of an expression: its type, where it has one.
-use Rattle.std.specs.Prelude.{ℕ, ℤ, pos, List, [], ◌∷◌, get_or, Option, Some, None}
+use Rattle.std.specs.Prelude.{ℕ, pos, List, [], ◌∷◌, get_or, Option, Some, None}
 use Rattle.rgo_ast.specs.Tree as tree
 use Rattle.rgo_ast.specs.Tree.{Expr, Exprs}
-use Rattle.rgo_ast.specs.declared.ops.UnaryOp.{UnaryOp}
-use Rattle.rgo_ast.specs.declared.ops.UnaryOp.TheVariants as unary
-use Rattle.rgo_ast.specs.declared.ops.BinaryOp.{BinaryOp}
-use Rattle.rgo_ast.specs.declared.ops.BinaryOp.TheVariants as binary
 use Rattle.rgo_typed.specs.declared.types.Type.{«Type»}
 use Rattle.rgo_typed.specs.declared.types.Layer.{Layer}
 use Rattle.rgo_typed.specs.declared.types.Base.{Base}
 use Rattle.rgo_typed.specs.declared.types.Base.TheVariants.{Pointer}
-use Rattle.rgo_typing_rules.specs.Types.{plain, slice_of, chan_of, element_of}
+use Rattle.rgo_typing_rules.specs.Types.{plain, slice_of, chan_of}
 use Rattle.rgo_typing_rules.specs.Shapes as shape
 use Rattle.rgo_typing_rules.specs.Shapes.{Shape}
 use Rattle.rgo_typing_rules.specs.Constants.{folded_shapes, folded_shape}
@@ -23,6 +19,7 @@ use Rattle.rgo_typing_expressions.specs.Scopes.{int, bool, resolved, pointer_bas
 use Rattle.rgo_typing_expressions.specs.declared.callees.Callee.{Callee}
 use Rattle.rgo_typing_expressions.specs.declared.callees.Callee.TheVariants as callee
 use Rattle.rgo_typing_expressions.specs.Callees.{callee_of}
+pub use Rattle.rgo_typing_operations.specs.Types.{element_shape, constant_or, unary_shape, binary_type}
 
 abbrev pub shape_of_meaning : Context → Option Meaning → Shape
 shape_of_meaning c (Some (meaning.Local n)) = shape.Value (local_at c.scope n)
@@ -63,30 +60,6 @@ field_of p s name = field_of_struct p (struct_of s) name
 abbrev pub field_shape : Option (ℕ × «Type») → Shape
 field_shape None = shape.Untyped
 field_shape (Some field) = shape.Value field.1
-
-abbrev pub element_shape : Shape → Shape
-element_shape (shape.Value t) = shape.Value (element_of t)
-element_shape _ = shape.Untyped
-
--- a constant where there is a value
-abbrev pub constant_or : Option ℤ → Shape → Shape
-constant_or (Some n) s = shape.Constant n
-constant_or None s = s
-
-abbrev pub unary_shape : UnaryOp → Shape → Shape
-unary_shape unary.Plus s = shape.Value int
-unary_shape unary.Minus s = shape.Value int
-unary_shape unary.Not s = shape.Value bool
-unary_shape unary.Receive s = element_shape s
-
--- the type of the result of a binary operation
-abbrev pub binary_type : BinaryOp → «Type»
-binary_type binary.Mul = int
-binary_type binary.Div = int
-binary_type binary.Rem = int
-binary_type binary.Add = int
-binary_type binary.Sub = int
-binary_type _ = bool
 
 abbrev pub result_shape : Option «Type» → Shape
 result_shape None = shape.NoResult

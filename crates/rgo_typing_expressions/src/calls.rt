@@ -15,14 +15,14 @@ ghost use Rattle.rgo_typing_expressions.specs.Terms as terms;
 ghost use Rattle.rgo_typing_expressions.specs.Types as types;
 
 use crate::callees::Callee;
-use crate::nodes::{
-    check_close, check_length, check_missing, check_nothing, check_print, check_routine,
-};
 use crate::packages::Package;
-use crate::results::{Checked, Values};
-use crate::terms::{atom, plain};
+use crate::results::Values;
 use rgo_ast::Place;
 use rgo_typed::{Action, Base, Term, Type};
+use rgo_typing_nodes::{
+    check_close, check_length, check_missing, check_nothing, check_print, check_routine,
+};
+use rgo_typing_operations::{Checked, atom, plain};
 use rgo_typing_rules::{Kind, Role, Shape, Signature, TypeError};
 use std::alloc::{AllocError, Global};
 

@@ -12,19 +12,21 @@ ghost use Rattle.rgo_typing_expressions.specs.Results.{ChecksExpr, ChecksExprs, 
 ghost use Rattle.rgo_typing_expressions.specs.Scopes.{meaning_of};
 ghost use Rattle.rgo_typing_expressions.specs.Terms as terms;
 
-use crate::binary_operations::binary;
 use crate::callees::Callee;
 use crate::calls::call;
 use crate::checkers::Checker;
+use crate::fields::select;
 use crate::keyed::{find_named, keyed};
 use crate::literals::{kinds_of, literal};
-use crate::made::{make_buffered, make_channel, make_slice, new_object};
-use crate::nodes::check_base_name;
+use crate::made::new_object;
 use crate::operands::{known_term, number, text, wanted_term};
-use crate::operations::{index, select, unary};
 use crate::packages::{Package, no_kinds};
-use crate::results::{Checked, Values};
+use crate::results::Values;
 use rgo_ast::{Element, Expr, Ident, Place, TypeExpr, UnaryOp};
+use rgo_typing_nodes::check_base_name;
+use rgo_typing_operations::{
+    Checked, binary, index, make_buffered, make_channel, make_slice, unary,
+};
 use rgo_typing_rules::{Kind, Meaning, Role, TypeError};
 
 /// The types that arguments of a callee have to have.

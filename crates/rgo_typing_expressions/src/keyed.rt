@@ -17,12 +17,13 @@ ghost use Rattle.rgo_typing_expressions.specs.Types as types;
 
 use crate::fields::{Field, field_in};
 use crate::made::{pointer, struct_number};
-use crate::nodes::check_keyed;
 use crate::packages::{Fields, Package};
-use crate::results::{Checked, Values};
+use crate::results::Values;
 use rgo_ast::{Element, Place};
 use rgo_scopes::Scopes;
 use rgo_typed::{Row, Term};
+use rgo_typing_nodes::check_keyed;
+use rgo_typing_operations::Checked;
 use rgo_typing_rules::{Kind, Meaning, Shape, TypeError};
 use std::alloc::{AllocError, Global};
 

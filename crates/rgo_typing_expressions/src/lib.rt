@@ -1,7 +1,6 @@
 //! The typing of expressions: whether they keep the rules on meaning, and their typed trees.
 #![tactic(auto)]
 
-mod binary_operations;
 mod callees;
 mod calls;
 mod checkers;
@@ -12,13 +11,10 @@ mod laws;
 mod literals;
 mod made;
 mod names;
-mod nodes;
 mod operands;
-mod operations;
 mod packages;
 mod results;
 mod scopes;
-mod terms;
 mod types;
 
 pub use callees::{Callee, bare, named_callee};
@@ -28,6 +24,6 @@ pub use expressions::params_of;
 pub use fields::{Field, find_field};
 pub use laws::typed_where_unbroken;
 pub use packages::{Fields, Package};
-pub use results::{Checked, Values};
+pub use results::Values;
+pub use rgo_typing_operations::{Checked, apply_one, apply_two, atom, constant, plain, with_type};
 pub use scopes::Scope;
-pub use terms::{apply_one, apply_two, atom, constant, plain, with_type};

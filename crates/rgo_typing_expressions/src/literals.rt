@@ -12,11 +12,12 @@ ghost use Rattle.rgo_typing_expressions.specs.Terms as terms;
 ghost use Rattle.rgo_typing_expressions.specs.Types as types;
 
 use crate::made::{pointer, struct_number};
-use crate::nodes::check_literal;
 use crate::packages::{Package, no_kinds};
-use crate::results::{Checked, Values};
+use crate::results::Values;
 use rgo_ast::Place;
 use rgo_typed::{Row, Term};
+use rgo_typing_nodes::check_literal;
+use rgo_typing_operations::Checked;
 use rgo_typing_rules::{Kind, Meaning, TypeError};
 use std::alloc::{AllocError, Global};
 

@@ -13,12 +13,11 @@ ghost use Rattle.rgo_typing_expressions.specs.Terms as terms;
 ghost use Rattle.rgo_typing_expressions.specs.Types as types;
 
 use crate::checkers::Checker;
-use crate::nodes::check_name;
-use crate::results::Checked;
-use crate::terms::{atom, constant, plain, with_type};
 use rgo_ast::{Ident, Place};
 use rgo_typed::{Action, Base, Term};
-use rgo_typing_rules::{Kind, Meaning, Node, Role, Shape, TypeError, check_node};
+use rgo_typing_nodes::{check_name, check_number, check_text};
+use rgo_typing_operations::{Checked, atom, constant, plain, with_type};
+use rgo_typing_rules::{Kind, Meaning, Role, Shape, TypeError};
 use std::alloc::{AllocError, Global};
 
 /// An integer literal.
@@ -27,7 +26,7 @@ pub(crate) fn number<'a>(alloc: Global, value: u64, at: Place) -> Result<Checked
     ensures { ChecksTo result ((at, node.Number value) ∷ [])
         (shape.Constant (pos value)) (terms.constant (pos value) at) }
 {
-    check_node(at, &Node::Number(value))?;
+    check_number(at, value)?;
     let Ok(value) = i64::try_from(value) else {
         unreachable!();
     };
@@ -41,7 +40,7 @@ pub(crate) fn number<'a>(alloc: Global, value: u64, at: Place) -> Result<Checked
 pub(crate) fn text<'a>(alloc: Global, role: Role, at: Place) -> Result<Checked<'a>, TypeError>
     ensures { ChecksTo result ((at, node.Text role) ∷ []) shape.Text (terms.atom Nil int at) }
 {
-    check_node(at, &Node::Text(role))?;
+    check_text(at, role)?;
     Ok(Checked {
         term: atom(alloc, Action::Nil, plain(alloc, Base::Int), at),
         shape: Shape::Text,

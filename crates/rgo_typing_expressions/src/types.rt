@@ -9,9 +9,9 @@ ghost use Rattle.rgo_typing_expressions.specs.Checking.{type_expr_sites};
 ghost use Rattle.rgo_typing_expressions.specs.Scopes.{base_of, basic_base, pointer_base, resolved};
 
 use crate::checkers::Checker;
-use crate::nodes::{check_base_name, check_pointed, check_type_name};
 use rgo_ast::TypeExpr;
 use rgo_typed::Base;
+use rgo_typing_nodes::{check_base_name, check_pointed, check_type_name};
 use rgo_typing_rules::{Kind, Meaning, TypeError};
 
 fn basic_base(meaning: Option<Meaning>) -> Base

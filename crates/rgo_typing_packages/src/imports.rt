@@ -1,21 +1,14 @@
 //! Imports.
 #![tactic(auto)]
 
-ghost use Rattle.std.specs.Prelude.{◌≡◌, [], ◌∷◌, false, IfOk, map};
+ghost use Rattle.std.specs.Prelude.{◌≡◌, false, IfOk, map};
 ghost use Rattle.rgo_ast.specs.Views.{import_of};
 ghost use Rattle.rgo_typing_rules.specs.Checks.{Checks};
-ghost use Rattle.rgo_typing_rules.specs.Nodes as node;
 ghost use Rattle.rgo_typing_packages.specs.Imports as spec;
 
-use rgo_ast::{Import, ImportPath, Place};
-use rgo_typing_rules::{Node, TypeError, check_node, is_fmt};
-
-/// Checks an import.
-fn check_import(at: Place, again: bool, path: &[u8]) -> Result<(), TypeError>
-    ensures { Checks result ((at, node.Import again path.now) ∷ []) }
-{
-    check_node(at, &Node::Import(again, path))
-}
+use rgo_ast::{Import, ImportPath};
+use rgo_typing_nodes::check_import;
+use rgo_typing_rules::{TypeError, is_fmt};
 
 /// Checks imports that are declared together, and returns whether `fmt` was imported before or is
 /// among them.

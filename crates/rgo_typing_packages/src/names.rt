@@ -11,7 +11,8 @@ ghost use Rattle.rgo_typing_packages.specs.Outcomes.{ChecksInto};
 
 use rgo_ast::{Binding, Ident};
 use rgo_typing_expressions::{Checker, Scope};
-use rgo_typing_rules::{Kind, Node, TypeError, check_node};
+use rgo_typing_nodes::check_declared;
+use rgo_typing_rules::{Kind, TypeError};
 use std::alloc::AllocError;
 
 /// How many names were declared so far: the number of the next local variable.
@@ -26,7 +27,7 @@ pub fn check_name(scope: &Scope<'_>, x: &Ident) -> Result<(), TypeError>
     ensures { Checks result (spec.name_site scope.now x.now ∷ []) }
 {
     let again = scope.is_declared_here(x.name.bytes());
-    check_node(x.at, &Node::Declared(again, x.name.bytes()))
+    check_declared(x.at, again, x.name.bytes())
 }
 
 /// Declares a name in the innermost block.

@@ -18,13 +18,13 @@ ghost use Rattle.rgo_typing_statements.specs.Outcomes.{Appends, ChecksStmt, simp
 ghost use Rattle.rgo_typing_statements.specs.Statements as spec;
 ghost use Rattle.rgo_typing_statements.specs.TypedStatements as typed;
 
-use crate::nodes::{self, check_alone, check_close, check_go_nothing, check_missing, check_print};
 use crate::prints::print;
 use rgo_ast::{Expr, Ident, Place};
 use rgo_typed::{Action, Stmt, Term};
 use rgo_typing_expressions::{
     Callee, Checked, Checker, Package, Values, bare, call, named_callee, params_of,
 };
+use rgo_typing_nodes::{check_alone, check_close, check_go_nothing, check_missing, check_print};
 use rgo_typing_rules::{Role, Shape, Signature, TypeError};
 use std::alloc::{AllocError, Global};
 
@@ -140,13 +140,13 @@ fn check_go(
     ensures { Checks result ((at, node.Go (signature_at globals.now number) (map shape_of args.now)) ∷ []) }
 {
     match globals.functions.get(number) {
-        Some(signature) => nodes::check_go(at, signature, args),
+        Some(signature) => rgo_typing_nodes::check_go(at, signature, args),
         None => {
             let signature = Signature {
                 params: Vec::new(alloc),
                 result_type: None,
             };
-            nodes::check_go(at, &signature, args)
+            rgo_typing_nodes::check_go(at, &signature, args)
         }
     }
 }

@@ -4,7 +4,6 @@
 mod assignments;
 mod calls;
 mod locals;
-mod nodes;
 mod prints;
 mod simple;
 mod statements;

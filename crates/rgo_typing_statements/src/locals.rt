@@ -15,10 +15,10 @@ ghost use Rattle.rgo_typing_packages.specs.Outcomes.{ChecksInto};
 ghost use Rattle.rgo_typing_statements.specs.Outcomes.{Appends, var_outcome, vars_outcome, define_outcome, zeros_outcome};
 ghost use Rattle.rgo_typing_statements.specs.Statements as spec;
 
-use crate::nodes::{check_define, check_define_as};
 use rgo_ast::{Binding, Expr, Ident, LocalVar, Place};
 use rgo_typed::{Base, Stmt};
 use rgo_typing_expressions::{Checked, Checker, with_type};
+use rgo_typing_nodes::{check_define, check_define_as};
 use rgo_typing_packages::{check_name, count};
 use rgo_typing_rules::{Kind, Role, Shape, TypeError};
 use std::alloc::{AllocError, Global};

@@ -17,10 +17,10 @@ ghost use Rattle.rgo_typing_statements.specs.TypedStatements as typed;
 
 use crate::assignments::{assign_op, assigned, changed, step_op};
 use crate::locals::kind_in;
-use crate::nodes::{check_assign, check_branch, check_return, check_send, check_update};
 use rgo_ast::{AssignOp, BinaryOp, Expr, Place, StepOp};
 use rgo_typed::{Action, Stmt, Term};
 use rgo_typing_expressions::{Checked, Checker, constant, with_type};
+use rgo_typing_nodes::{check_assign, check_branch, check_return, check_send, check_update};
 use rgo_typing_rules::{Kind, Role, Shape, TypeError};
 use std::alloc::{AllocError, Global};
 

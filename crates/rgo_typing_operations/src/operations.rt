@@ -1,53 +1,35 @@
-//! Unary operations, index expressions and selectors, from their checked operands.
+//! Unary operations and index expressions, from their checked operands.
 #![tactic(auto)]
 
-ghost use Rattle.std.specs.Prelude.{◌≡◌, [], ◌∷◌, IfOk, is_some};
+ghost use Rattle.std.specs.Prelude.{◌≡◌, [], ◌∷◌, IfOk};
 ghost use Rattle.rgo_ast.specs.declared.ops.UnaryOp.TheVariants.{Plus, Minus, Not, Receive};
 ghost use Rattle.rgo_typed.specs.Tree as tree;
 ghost use Rattle.rgo_typed.specs.Views.{term_of};
 ghost use Rattle.rgo_typed.specs.declared.actions.Action.TheVariants as action;
-ghost use Rattle.rgo_typing_rules.specs.Checks.{Checks};
 ghost use Rattle.rgo_typing_rules.specs.Constants.{folded_shape};
 ghost use Rattle.rgo_typing_rules.specs.Nodes as node;
 ghost use Rattle.rgo_typing_rules.specs.Shapes as shape;
 ghost use Rattle.rgo_typing_rules.specs.Views.{shape_of};
-ghost use Rattle.rgo_typing_expressions.specs.Results.{ChecksTo, Matches};
-ghost use Rattle.rgo_typing_expressions.specs.Scopes as scopes;
-ghost use Rattle.rgo_typing_expressions.specs.Terms as terms;
-ghost use Rattle.rgo_typing_expressions.specs.Types as types;
+ghost use Rattle.rgo_typing_operations.specs.Results.{ChecksTo, Matches};
+ghost use Rattle.rgo_typing_operations.specs.Terms as terms;
+ghost use Rattle.rgo_typing_operations.specs.Types as types;
 
-use crate::fields::find_field;
-use crate::nodes::{self, check_index, check_selector};
-use crate::packages::Package;
 use crate::results::{Checked, applied, applied_to_two};
 use crate::terms::{apply_one, constant, plain};
 use rgo_ast::{Place, UnaryOp};
 use rgo_typed::{Action, Base, Term};
-use rgo_typing_rules::{Kind, Shape, TypeError, fold_one};
+use rgo_typing_nodes::{check_index, check_unary};
+use rgo_typing_rules::{Kind, Shape, TypeError};
 use std::alloc::{AllocError, Global};
-
-/// Refuses a unary operation for the first rule that it breaks. Returns its value where it is a
-/// constant.
-#[tactic(auto, unfolding(rgo_typing_rules::specs::Rules::broken))]
-fn check_unary(op: UnaryOp, operand: Shape<'_>, at: Place) -> Result<Option<i64>, TypeError>
-    ensures checked { Checks result ((at, node.Unary op (shape_of operand.entry)) ∷ []) }
-    ensures value { IfOk result (λ n. n ≡ folded_shape op (shape_of operand.entry)) }
-{
-    nodes::check_unary(at, op, operand)?;
-    match operand {
-        Shape::Constant(n) => Ok(fold_one(op, n)),
-        _ => Ok(None),
-    }
-}
 
 /// `+x`: its operand, as an `int`.
 fn plus<'a>(operand: Checked<'a>, at: Place) -> Result<Checked<'a>, TypeError>
     ensures { ChecksTo result ((at, node.Unary Plus (shape_of operand.entry.shape)) ∷ [])
         (types.constant_or (folded_shape Plus (shape_of operand.entry.shape))
-        (shape.Value scopes.int))
+        (shape.Value types.int))
         (term_of operand.entry.term) }
 {
-    let shape = match check_unary(UnaryOp::Plus, operand.shape, at)? {
+    let shape = match check_unary(at, UnaryOp::Plus, operand.shape)? {
         Some(n) => Shape::Constant(n),
         None => Shape::Value(Kind::Plain(Base::Int)),
     };
@@ -64,9 +46,9 @@ fn negated<'a>(
     operand: Term,
     at: Place,
 ) -> Result<Checked<'a>, AllocError>
-    ensures { IfOk result (λ e. Matches e (types.constant_or value (shape.Value scopes.int))
+    ensures { IfOk result (λ e. Matches e (types.constant_or value (shape.Value types.int))
         (terms.constant_or_term value at
-        (tree.Apply action.Neg (terms.one (term_of operand)) scopes.int at))) }
+        (tree.Apply action.Neg (terms.one (term_of operand)) types.int at))) }
 {
     match value {
         Some(n) => Ok(Checked {
@@ -88,10 +70,10 @@ fn negated<'a>(
 fn minus<'a>(alloc: Global, operand: Checked<'a>, at: Place) -> Result<Checked<'a>, TypeError>
     ensures { ChecksTo result ((at, node.Unary Minus (shape_of operand.entry.shape)) ∷ [])
         (types.constant_or (folded_shape Minus (shape_of operand.entry.shape))
-        (shape.Value scopes.int))
+        (shape.Value types.int))
         (terms.unary_term Minus (shape_of operand.entry.shape) (term_of operand.entry.term) at) }
 {
-    let value = check_unary(UnaryOp::Minus, operand.shape, at)?;
+    let value = check_unary(at, UnaryOp::Minus, operand.shape)?;
     Ok(negated(alloc, value, operand.term, at)?)
 }
 
@@ -99,10 +81,10 @@ fn minus<'a>(alloc: Global, operand: Checked<'a>, at: Place) -> Result<Checked<'
 fn not<'a>(alloc: Global, operand: Checked<'a>, at: Place) -> Result<Checked<'a>, TypeError>
     ensures { ChecksTo result ((at, node.Unary Not (shape_of operand.entry.shape)) ∷ [])
         (types.constant_or (folded_shape Not (shape_of operand.entry.shape))
-        (shape.Value scopes.bool))
+        (shape.Value types.bool))
         (terms.unary_term Not (shape_of operand.entry.shape) (term_of operand.entry.term) at) }
 {
-    check_unary(UnaryOp::Not, operand.shape, at)?;
+    check_unary(at, UnaryOp::Not, operand.shape)?;
     let ty = plain(alloc, Base::Bool);
     let term = apply_one(alloc, Action::Not, operand.term, ty, at)?;
     Ok(Checked {
@@ -118,7 +100,7 @@ fn received<'a>(alloc: Global, channel: Checked<'a>, at: Place) -> Result<Checke
         (types.element_shape (shape_of channel.entry.shape))
         (terms.unary_term Receive (shape_of channel.entry.shape) (term_of channel.entry.term) at) }
 {
-    nodes::check_unary(at, UnaryOp::Receive, channel.shape)?;
+    check_unary(at, UnaryOp::Receive, channel.shape)?;
     let Shape::Value(kind) = channel.shape else {
         unreachable!();
     };
@@ -126,7 +108,7 @@ fn received<'a>(alloc: Global, channel: Checked<'a>, at: Place) -> Result<Checke
 }
 
 /// A unary operation.
-pub(crate) fn unary<'a>(
+pub fn unary<'a>(
     alloc: Global,
     op: UnaryOp,
     operand: Checked<'a>,
@@ -147,7 +129,7 @@ pub(crate) fn unary<'a>(
 
 /// An index expression.
 #[tactic(auto, unfolding(rgo_typing_rules::specs::Rules::broken))]
-pub(crate) fn index<'a>(
+pub fn index<'a>(
     alloc: Global,
     slice: Checked<'a>,
     index: Checked<'a>,
@@ -165,26 +147,4 @@ pub(crate) fn index<'a>(
     };
     let element = kind.element();
     Ok(applied_to_two(alloc, Action::At, slice.term, index.term, element, at)?)
-}
-
-/// A selector.
-#[tactic(auto, unfolding(rgo_typing_rules::specs::Rules::broken))]
-pub(crate) fn select<'a>(
-    alloc: Global,
-    globals: &Package<'a>,
-    operand: Checked<'a>,
-    name: &[u8],
-    at: Place,
-) -> Result<Checked<'a>, TypeError>
-    ensures { let field = types.field_of globals.now (shape_of operand.entry.shape) name.now in
-        ChecksTo result ((at, node.Selector (is_some field)) ∷ [])
-        (types.field_shape field) (terms.field_term field (term_of operand.entry.term) at) }
-{
-    let found = find_field(globals, operand.shape, name);
-    check_selector(at, found.is_some())?;
-    let Some(field) = found else {
-        unreachable!();
-    };
-    let read = Action::Load(field.number);
-    Ok(applied(alloc, read, operand.term, field.kind, at)?)
 }

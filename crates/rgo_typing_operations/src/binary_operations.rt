@@ -5,46 +5,23 @@ ghost use Rattle.std.specs.Prelude.{◌≡◌, [], ◌∷◌, IfOk};
 ghost use Rattle.rgo_typed.specs.Tree as tree;
 ghost use Rattle.rgo_typed.specs.Views.{term_of};
 ghost use Rattle.rgo_typed.specs.declared.actions.Action.TheVariants.{IsNil};
-ghost use Rattle.rgo_typing_rules.specs.Checks.{Checks};
 ghost use Rattle.rgo_typing_rules.specs.Constants.{folded_shapes};
 ghost use Rattle.rgo_typing_rules.specs.Nodes as node;
 ghost use Rattle.rgo_typing_rules.specs.Shapes as shape;
 ghost use Rattle.rgo_typing_rules.specs.Shapes.{is_nil_shape};
 ghost use Rattle.rgo_typing_rules.specs.Types.{plain};
 ghost use Rattle.rgo_typing_rules.specs.Views.{shape_of};
-ghost use Rattle.rgo_typing_expressions.specs.Results.{ChecksTo};
-ghost use Rattle.rgo_typing_expressions.specs.Scopes as scopes;
-ghost use Rattle.rgo_typing_expressions.specs.Terms as terms;
-ghost use Rattle.rgo_typing_expressions.specs.Types as types;
+ghost use Rattle.rgo_typing_operations.specs.Results.{ChecksTo};
+ghost use Rattle.rgo_typing_operations.specs.Terms as terms;
+ghost use Rattle.rgo_typing_operations.specs.Types as types;
 
-use crate::nodes;
 use crate::results::Checked;
 use crate::terms::{apply_one, apply_two, constant, plain};
 use rgo_ast::{BinaryOp, Place};
 use rgo_typed::{Action, Base, Logical, Term};
-use rgo_typing_rules::{Kind, Shape, TypeError, fold};
+use rgo_typing_nodes::check_binary;
+use rgo_typing_rules::{Kind, Shape, TypeError};
 use std::alloc::{AllocError, Global};
-
-/// Refuses a binary operation for the first rule that it breaks. Returns its value where it is a
-/// constant.
-#[tactic(auto, unfolding(rgo_typing_rules::specs::Rules::broken))]
-fn check_binary<'a>(
-    op: BinaryOp,
-    left: Shape<'a>,
-    right: Shape<'a>,
-    at: Place,
-) -> Result<Option<i64>, TypeError>
-    ensures checked { Checks result
-        ((at, node.Binary op (shape_of left.entry) (shape_of right.entry)) ∷ []) }
-    ensures value { IfOk result
-        (λ n. n ≡ folded_shapes op (shape_of left.entry) (shape_of right.entry)) }
-{
-    nodes::check_binary(at, op, left, right)?;
-    match (left, right) {
-        (Shape::Constant(a), Shape::Constant(b)) => Ok(fold(op, a, b)),
-        _ => Ok(None),
-    }
-}
 
 /// The type of the result of a binary operation.
 fn binary_base(op: BinaryOp) -> Base
@@ -70,7 +47,7 @@ fn opposite(alloc: Global, differs: bool, test: Term, at: Place) -> Result<Term,
 /// A test for `nil`, or its opposite.
 fn nil_test(alloc: Global, differs: bool, value: Term, at: Place) -> Result<Term, AllocError>
     ensures { IfOk result (λ t. term_of t ≡ terms.negated differs
-        (tree.Apply IsNil (terms.one (term_of value)) scopes.bool at) at) }
+        (tree.Apply IsNil (terms.one (term_of value)) types.bool at) at) }
 {
     let test = apply_one(alloc, Action::IsNil, value, plain(alloc, Base::Bool), at)?;
     opposite(alloc, differs, test, at)
@@ -159,7 +136,7 @@ fn binary_shape<'a>(value: Option<i64>, op: BinaryOp) -> Shape<'a>
 }
 
 /// A binary operation.
-pub(crate) fn binary<'a>(
+pub fn binary<'a>(
     alloc: Global,
     op: BinaryOp,
     left: Checked<'a>,
@@ -174,7 +151,7 @@ pub(crate) fn binary<'a>(
         (terms.binary_term op (shape_of left.entry.shape) (shape_of right.entry.shape)
         (term_of left.entry.term) (term_of right.entry.term) at) }
 {
-    let value = check_binary(op, left.shape, right.shape, at)?;
+    let value = check_binary(at, op, left.shape, right.shape)?;
     let term = constant_or_operation(alloc, value, op, left, right, at)?;
     let shape = binary_shape(value, op);
     Ok(Checked { term, shape })

@@ -6,8 +6,7 @@ ghost use Rattle.rgo_typing_rules.specs.Types.{plain};
 ghost use Rattle.rgo_typing_rules.specs.Views.{kind_of};
 ghost use Rattle.rgo_typed.specs.Tree as tree;
 ghost use Rattle.rgo_typed.specs.Views.{term_of};
-ghost use Rattle.rgo_typing_expressions.specs.Scopes as scopes;
-ghost use Rattle.rgo_typing_expressions.specs.Terms as spec;
+ghost use Rattle.rgo_typing_operations.specs.Terms as spec;
 
 use rgo_ast::Place;
 use rgo_typed::{Action, Base, Row, Term, Type};
