@@ -29,6 +29,7 @@ use Rattle.rgo_driver.specs.declared.ends.RunEnd.TheVariants as run_end
 use Rattle.rgo_command_line.specs.declared.limits.RunOptions.{RunOptions}
 use Rattle.rgo_run.specs.Compiled.{IsCompiledFrom}
 use Rattle.rgo_run.specs.Headline.{NeverEnds, Suffices}
+use Rattle.rgo_run.specs.Runs.{of_program}
 use Rattle.rgo_run.specs.Sufficing.{FewObjects, FewSteps}
 use Rattle.rgo_run.proofs.Sufficing.{few_suffice}
 use Rattle.rgo_claim_examples.proofs.Fits.{fits, has_room, is_shallow, is_small, most_variables}
@@ -97,19 +98,19 @@ module _ (options : RunOptions) (code : Tac) (steps : ℕ) where
           room_at picks t (quiet_run (tac code) options.limits picks (tac_start code) t
           (subst (λ c. LeadsWithin (tac c) options.limits (tac_start c) picks t) same leads))
 
-      calls : NeverEnds options.limits program run_end.CallsTooDeep
+      calls : NeverEnds options.limits (of_program program) run_end.CallsTooDeep
       calls other is before picks t leads end =
           let room = room_within other is picks t leads in
           let deep = end.1 in
           let less = room.shallow deep.goroutine (deep.frame ∷ deep.callers) deep.frames in
           omega (arith, less, deep.deep)
 
-      never_spent : NeverEnds options.limits program run_end.StepsSpent
+      never_spent : NeverEnds options.limits (of_program program) run_end.StepsSpent
       never_spent other is before picks t leads end =
           let room = room_within other is picks t leads in
           omega (arith, room.short, within_limit, end.1)
 
-      goroutines : NeverEnds options.limits program run_end.GoroutinesSpent
+      goroutines : NeverEnds options.limits (of_program program) run_end.GoroutinesSpent
       goroutines other is before picks t leads end =
           let room = room_within other is picks t leads in
           let full = end.1 in
@@ -159,16 +160,16 @@ module _ (options : RunOptions) (code : Tac) (steps : ℕ) where
             HasRoom.small (room_by longer.0 next longer.1) (length s.plain.memory.heap) object at
 
       -- every run of the program has what it needs
-      pub suffices : Suffices options program
+      pub suffices : Suffices options (of_program program)
       suffices = record {
         calls = calls;
         steps = never_spent;
         goroutines = goroutines;
         pages =
-            few_suffice.pages options.sizes program
+            few_suffice.pages options.sizes (of_program program)
             (λ made events s compiled is_run. few_objects made compiled events s is_run);
         regions =
-            few_suffice.regions options.sizes program
+            few_suffice.regions options.sizes (of_program program)
             (λ made events s compiled is_run. few_steps made compiled events s is_run);
         object_size =
             λ made compiled events s is_run lacks.

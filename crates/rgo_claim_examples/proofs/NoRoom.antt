@@ -34,6 +34,7 @@ use Rattle.rgo_sound.specs.Safety.{most_names, name_count}
 use Rattle.rgo_command_line.specs.Limits.{default_options}
 use Rattle.rgo_run.specs.Compiled.{IsCompiledFrom}
 use Rattle.rgo_run.specs.Headline.{Suffices}
+use Rattle.rgo_run.specs.Runs.{of_program}
 use Rattle.rgo_run.proofs.Sufficing.{few_suffice}
 use Rattle.rgo_claim_examples.specs.Programs.{no_object}
 use Rattle.rgo_claim_examples.specs.Sufficing.{without_room}
@@ -193,17 +194,17 @@ module _ (made : Code) (compiled : IsCompiledFrom no_object made) where
           by None y some = true≢false (sym some)
           by (Some t) y some = y.fact
 
-by_default : Suffices default_options no_object
+by_default : Suffices default_options (of_program no_object)
 by_default = suffices default_options no_object_code 4 refl no_object no_object_lowered
 
-pub needs_no_room : Suffices without_room no_object
+pub needs_no_room : Suffices without_room (of_program no_object)
 needs_no_room = record {
   calls = by_default.calls;
   steps = by_default.steps;
   goroutines = by_default.goroutines;
   pages = λ made compiled events s is_run lacks. no_page_some made compiled 0 events s is_run lacks.0 lacks.1;
   regions =
-      few_suffice.regions without_room.sizes no_object (λ made events s compiled is_run.
+      few_suffice.regions without_room.sizes (of_program no_object) (λ made events s compiled is_run.
       let none = none_of made compiled made.functions (no_names made compiled) in
       let product = ap (λ n. (s.steps + length s.plain.goroutines) * n) none in
       omega (arith, product));

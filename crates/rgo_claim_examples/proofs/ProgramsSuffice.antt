@@ -13,6 +13,7 @@ use Rattle.rgo_tac.specs.Tac.{tac, tac_start}
 use Rattle.rgo_command_line.specs.Limits.{default_options}
 use Rattle.rgo_command_line.specs.declared.limits.RunOptions.{RunOptions}
 use Rattle.rgo_run.specs.Headline.{Suffices}
+use Rattle.rgo_run.specs.Runs.{of_program}
 use Rattle.rgo_claim_examples.specs.Programs.{one_object, linked_list, binary_tree, sender, endless}
 use Rattle.rgo_claim_examples.specs.Sufficing.{ProgramsSuffice, with_limits}
 use Rattle.rgo_claim_examples.proofs.Codes.{one_object_code, linked_list_code, binary_tree_code, sender_code, endless_code}
@@ -58,7 +59,7 @@ module _ (limits : Limits) where
   goes_on (suc n) =
       ap (option_and_then (λ s. run (limited_step (tac endless_code) limits) s (again n))) step_back ∙ goes_on n
 
-never_ends : (options : RunOptions) → Suffices options endless → ⊥
+never_ends : (options : RunOptions) → Suffices options (of_program endless) → ⊥
 never_ends options enough =
     let many = so_many options.limits.steps in
     let least = le-max_left 1 options.limits.steps in
@@ -67,13 +68,13 @@ never_ends options enough =
 
 -- ---- runs that meet a limit
 
-too_few_steps : Suffices (with_limits 4 1) one_object → ⊥
+too_few_steps : Suffices (with_limits 4 1) (of_program one_object) → ⊥
 too_few_steps enough =
     enough.steps one_object_code one_object_lowered 0 (One 0 ∷ One 0 ∷ One 0 ∷ One 0 ∷ []) _ refl
     (refl, omega arith, omega arith)
 
 -- `main` stands before the start of the other goroutine
-too_few_goroutines : Suffices (with_limits 1000 1) sender → ⊥
+too_few_goroutines : Suffices (with_limits 1000 1) (of_program sender) → ⊥
 too_few_goroutines enough =
     enough.goroutines sender_code sender_lowered 0 (One 0 ∷ One 0 ∷ One 0 ∷ []) _ refl
     (refl, record { full = refl; goroutine = 0; frame = _; callers = []; frames = refl; starts = tt })

@@ -10,8 +10,10 @@ use Rattle.rgo_machine.specs.declared.turns.Shortage.TheVariants as shortage
 use Rattle.rgo_tac.specs.Tac.{TacState, tac, tac_start}
 use Rattle.rgo_code.specs.Erasure.{erased}
 use Rattle.rgo_region_machine.specs.Machine.{Attend, Event, Instruct, TakePage, region_run, region_start}
+use Rattle.rgo_region_machine.specs.Room.{roomy_run}
 use Rattle.rgo_region_machine.specs.States.{RegionState}
 use Rattle.rgo_sound.specs.Safety.{IsSafe}
+use Rattle.rgo_sound.proofs.Room.{room_is_kept}
 use Rattle.rgo_sound.proofs.Safe.{safety}
 use Rattle.rgo_sound.proofs.Offers.{names_only_live}
 use Rattle.rgo_world.specs.Worlds.{LacksIn, plain_at}
@@ -19,7 +21,7 @@ use Rattle.rgo_driver.specs.declared.ends.RunEnd.{RunEnd}
 use Rattle.rgo_driver.specs.declared.ends.RunEnd.TheVariants as run_end
 use Rattle.rgo_command_line.specs.Limits.{default_options}
 use Rattle.rgo_run.specs.Headline.{Suffices}
-use Rattle.rgo_run.specs.Runs.{NamesLive, RegionRun}
+use Rattle.rgo_run.specs.Runs.{NamesLive, RegionRun, of_program}
 use Rattle.rgo_claim_examples.specs.Programs.{one_object}
 use Rattle.rgo_claim_examples.specs.RegionRuns.{RegionRunExamples, code}
 use Rattle.rgo_claim_examples.specs.States.{sizes}
@@ -62,6 +64,9 @@ exits = record {
   is = refl;
   printed = refl;
   safe = λ before after s e is_run. good 256 before s is_run;
+  within =
+      λ before after s e is_run. room_is_kept.fits code default_options.sizes before after s last
+      (subst (λ es. roomy_run code default_options.sizes es ≡ Some last) e refl) is_run;
   lacks = λ why e. absurd (not_lacking why e);
 }
 
@@ -78,6 +83,9 @@ no_region = record {
   is = refl;
   printed = refl;
   safe = λ before after s e is_run. good 16 before s is_run;
+  within =
+      λ before after s e is_run. room_is_kept.fits code (sizes 16 1 0) before after s (region_start code)
+      (subst (λ es. roomy_run code (sizes 16 1 0) es ≡ Some (region_start code)) e refl) is_run;
   lacks =
       λ why e. subst (λ w. LacksIn code (sizes 16 1 0) w (region_start code)) (wants why e)
       (0, 0, _, [], refl, refl, leb-true 0 0 refl);
@@ -85,7 +93,7 @@ no_region = record {
 
 -- ---- with enough regions
 
-enough : Suffices default_options one_object
+enough : Suffices default_options (of_program one_object)
 enough = suffices default_options one_object_code 6 refl one_object one_object_lowered
 
 has_region : (t : TacState) → RegionRun code default_options.sizes (run_end.NoRoom shortage.Regions) t → ⊥

@@ -28,7 +28,9 @@ use Rattle.rgo_command_line.specs.Limits.{default_options}
 use Rattle.rgo_run.specs.Calls.{Grew}
 use Rattle.rgo_run.specs.Endings.{status_of_run}
 use Rattle.rgo_run.specs.Headline.{Complete, IsOwnEnd, RunsWhole, Suffices}
+use Rattle.rgo_run.specs.Runs.{of_program}
 use Rattle.rgo_run.specs.Verdicts.{IsProgram}
+use Rattle.rgo_run.specs.declared.endings.TextKind.TheVariants as text_kind
 use Rattle.rgo_claim_examples.specs.Programs.{one_object, linked_list, binary_tree, sender}
 use Rattle.rgo_claim_examples.specs.Texts.{object_text, list_text, tree_text, sender_text}
 use Rattle.rgo_claim_examples.specs.Whole.{RunsToExit, TextsRun}
@@ -115,18 +117,18 @@ module _ (program : Typed) (code : Tac) (steps : ℕ) (print : List ℕ) (lowere
   exits other is run_end.WriteFault old new own run = absurd own
   exits other is run_end.NoMemory old new own run = absurd own
 
-  runs_to_exit : (text : List ℕ) → IsProgram text program → Suffices default_options program → RunsToExit text print
+  runs_to_exit : (text : List ℕ) → IsProgram text program → Suffices default_options (of_program program) → RunsToExit text print
   runs_to_exit text is_program enough call claim same asked read out err =
-      by (complete.run default_options asked read out err program is_program enough)
+      by (complete.run text_kind.Go default_options asked read out err (of_program program) (refl, is_program) enough)
     where
       complete : Complete call text
       complete = subst (Complete call) same claim.complete
 
-      by : RunsWhole default_options call text program ⊎ (call.status ≡ 11)
+      by : RunsWhole text_kind.Go default_options call text (of_program program) ⊎ (call.status ≡ 11)
           → ((call.status ≡ 0) × Grew call.out print) ⊎ (call.status ≡ 11)
       by (inr e) = inr e
       by (inl whole) =
-          let x = exits (erased whole.runs.code) whole.runs.compiled.lowered whole.run_end call.out.old call.out.new
+          let x = exits (erased whole.runs.code) whole.runs.is_code.lowered whole.run_end call.out.old call.out.new
           whole.is_own whole.runs.runs in
           inl (whole.status ∙ x.0, x.1)
 

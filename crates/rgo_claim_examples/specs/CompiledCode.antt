@@ -8,6 +8,7 @@ use Rattle.rgo_code.specs.Code.{Code, CodeFn, CodeInstr, CodeOp, Do, Print, Retu
 use Rattle.rgo_region_machine.specs.Examples.{code_of, int_slot, main_of, node_slot}
 use Rattle.rgo_run.specs.Compiled.{IsCompiledFrom}
 use Rattle.rgo_run.specs.Headline.{AlwaysHas}
+use Rattle.rgo_run.specs.Runs.{of_program}
 use Rattle.rgo_claim_examples.specs.Programs.{node, one_object}
 use Rattle.rgo_claim_examples.specs.States.{sizes}
 
@@ -32,6 +33,6 @@ pub record CompiledExamples : Type 0 where
   pub padded : IsCompiledFrom one_object (code_with (0 ∷ 0 ∷ [])) → ⊥
   pub uncreated : IsCompiledFrom one_object (code_with []) → ⊥
   -- without a page, without a region, and in pages of one word, some run lacks room
-  pub no_page : AlwaysHas (sizes 16 0 1) one_object shortage.Pages → ⊥
-  pub no_region : AlwaysHas (sizes 16 1 0) one_object shortage.Regions → ⊥
-  pub one_word : AlwaysHas (sizes 1 1 1) one_object shortage.ObjectSize → ⊥
+  pub no_page : AlwaysHas (sizes 16 0 1) (of_program one_object) shortage.Pages → ⊥
+  pub no_region : AlwaysHas (sizes 16 1 0) (of_program one_object) shortage.Regions → ⊥
+  pub one_word : AlwaysHas (sizes 1 1 1) (of_program one_object) shortage.ObjectSize → ⊥

@@ -6,13 +6,14 @@ use Rattle.rgo_lower.specs.Lowered.{IsLowered}
 use Rattle.rgo_command_line.specs.Limits.{default_options}
 use Rattle.rgo_command_line.specs.declared.limits.RunOptions.{RunOptions}
 use Rattle.rgo_run.specs.Headline.{Suffices}
+use Rattle.rgo_run.specs.Runs.{of_program}
 use Rattle.rgo_claim_examples.specs.Programs.{one_object, linked_list, binary_tree, sender, endless, no_object}
 
 -- The program has code, and the options that `run` has without words suffice for it.
 pub record SufficesByDefault (program : Typed) : Type 0 where
   pub code : Tac
   pub lowered : IsLowered program code
-  pub suffices : Suffices default_options program
+  pub suffices : Suffices default_options (of_program program)
 
 abbrev pub with_limits : (steps goroutines : ℕ) → RunOptions
 with_limits steps goroutines =
@@ -29,9 +30,9 @@ pub record ProgramsSuffice : Type 0 where
   pub tree : SufficesByDefault binary_tree
   pub goroutines : SufficesByDefault sender
   -- a program that makes no object needs neither a page nor a region
-  pub no_room : Suffices without_room no_object
+  pub no_room : Suffices without_room (of_program no_object)
   -- no options suffice for a program that never ends
-  pub never_ends : (options : RunOptions) → Suffices options endless → ⊥
+  pub never_ends : (options : RunOptions) → Suffices options (of_program endless) → ⊥
   -- the run of five steps meets a limit of four, and that of two goroutines a limit of one
-  pub too_few_steps : Suffices (with_limits 4 1) one_object → ⊥
-  pub too_few_goroutines : Suffices (with_limits 1000 1) sender → ⊥
+  pub too_few_steps : Suffices (with_limits 4 1) (of_program one_object) → ⊥
+  pub too_few_goroutines : Suffices (with_limits 1000 1) (of_program sender) → ⊥

@@ -21,7 +21,9 @@ use Rattle.rgo_run.specs.Calls.{IsUntouched, kind_of, run_of}
 use Rattle.rgo_run.specs.Compiled.{Emits, IsCodeText, WritesCode}
 use Rattle.rgo_run.specs.Endings.{status_of, status_of_run, is_fault_status, line_of}
 use Rattle.rgo_run.specs.Reports.{Tells}
-use Rattle.rgo_run.specs.Runs.{IsRunnable, RunOf, Runnable, RunsTo, of_code, of_program, stats_at}
+use Rattle.rgo_code.specs.Code.{Code as RegionCode}
+use Rattle.rgo_code.specs.Erasure.{erased}
+use Rattle.rgo_run.specs.Runs.{IsCodeFor, IsPlainCodeFor, IsRunnable, RunOf, Runnable, RunsTo, of_code, of_program, stats_at}
 use Rattle.rgo_run.specs.Texts.{IsTextOf, AskSome, PassesAs, RefusedAs, RefusedBy, AcceptedBy}
 use Rattle.rgo_run.specs.Verdicts.{Passes, IsProgram}
 use Rattle.rgo_run.specs.Headline.{AlwaysHas, EndsRun, EndsEmit, IsOwnEnd, IsWriteFault, MayRun, MayEmit, NeverEnds, Print, Faults}
@@ -369,6 +371,11 @@ abbrev RunsWith : RunOptions → Runnable → RunEnd → Option Tally → SinkUs
 RunsWith options what end stats out =
     (runs : RunOf what options end out) × (stats ≡ stats_at options.stats end runs.regions.state)
 
+-- without its regions the code that is run is the three-address code of what is run
+plain_code : (what : Runnable) (code : RegionCode) → IsCodeFor what code → IsPlainCodeFor what (erased code)
+plain_code (of_program program) code is = is.lowered
+plain_code (of_code given) code is = ap erased is.0
+
 module _ (kind : TextKind) (options : RunOptions) (call : Call) (text : List ℕ) (what : Runnable) (stats : Option Tally)
     (suffices : Suffices options what) where
   own : (end : RunEnd) → IsOwnEnd end → (r : RunsWith options what end stats call.out)
@@ -388,7 +395,8 @@ module _ (kind : TextKind) (options : RunOptions) (call : Call) (text : List ℕ
       has r.0.code r.0.is_code r.0.regions.events r.0.regions.state r.0.regions.run (r.0.regions.lacks why refl)
 
   never : (end : RunEnd) → NeverEnds options.limits what end → RunsWith options what end stats call.out → ⊥
-  never end n r = n r.0.code r.0.is_code r.0.runs.tested r.0.runs.picks r.0.runs.state r.0.runs.ran r.0.runs.ends
+  never end n r =
+      n (erased r.0.code) (plain_code what r.0.code r.0.is_code) r.0.runs.tested r.0.runs.picks r.0.runs.state r.0.runs.ran r.0.runs.ends
 
   runs_whole : (end : RunEnd) → RunsWith options what end stats call.out
       → (call.status ≡ status_of_run end) × Grew call.err (line_of text (Ran kind end stats))

@@ -2,9 +2,9 @@
 use Rattle.std.specs.Prelude.{◌≡◌, ℕ, ◌⊎◌, false, List, [], None, Option, Some, length}
 use Rattle.rgo_machine.specs.declared.picks.Pick.{Pick}
 use Rattle.rgo_machine.specs.Limits.{LeadsWithin}
+use Rattle.rgo_tac.specs.Code.{Tac}
 use Rattle.rgo_tac.specs.Tac.{TacState, tac, tac_start}
 use Rattle.rgo_code.specs.Code.{Code}
-use Rattle.rgo_code.specs.Erasure.{erased}
 use Rattle.rgo_region_machine.specs.Machine.{Event, region_run}
 use Rattle.rgo_region_machine.specs.States.{RegionState}
 use Rattle.rgo_world.specs.declared.tally.Tally.{Tally}
@@ -26,7 +26,7 @@ use Rattle.rgo_run.specs.Calls.{AsksRun, Call, Asks, IsRun, IsCheck, IsEmit, IsC
 use Rattle.rgo_run.specs.Compiled.{Emits, IsCodeText}
 use Rattle.rgo_run.specs.Endings.{status_of, status_of_run, line_of, is_fault_status}
 use Rattle.rgo_run.specs.Reports.{Tells}
-use Rattle.rgo_run.specs.Runs.{IsCodeFor, IsRunnable, RunOf, Runnable, RunsTo, stats_at}
+use Rattle.rgo_run.specs.Runs.{IsCodeFor, IsPlainCodeFor, IsRunnable, RunOf, Runnable, RunsTo, stats_at}
 use Rattle.rgo_run.specs.CodeVerdicts.{CodePasses}
 use Rattle.rgo_run.specs.Texts.{IsTextOf, RefusedBy, AcceptedBy}
 use Rattle.rgo_run.specs.Verdicts.{Passes}
@@ -100,9 +100,9 @@ pub record Faults (call : Call) : Type 0 where
 -- no run of its code within the limits ends so
 abbrev pub NeverEnds : Limits → Runnable → RunEnd → Type 0
 NeverEnds limits what end =
-    (code : Code) → IsCodeFor what code → (before : ℕ) (picks : List Pick) (t : TacState)
-    → LeadsWithin (tac (erased code)) limits (tac_start (erased code)) picks t
-    → Ends (tac (erased code)) limits before (length picks) t end → ⊥
+    (code : Tac) → IsPlainCodeFor what code → (before : ℕ) (picks : List Pick) (t : TacState)
+    → LeadsWithin (tac code) limits (tac_start code) picks t
+    → Ends (tac code) limits before (length picks) t end → ⊥
 
 -- every run of its code with regions has this room
 abbrev pub AlwaysHas : Sizes → Runnable → Shortage → Type 0

@@ -100,6 +100,11 @@ abbrev pub IsCodeFor : Runnable → Code → Type 0
 IsCodeFor (of_program program) code = IsCompiledFrom program code
 IsCodeFor (of_code given) code = (code ≡ given) × IsChecked code × Ascends code
 
+-- that code without its regions: the program's three-address code, or that of the given code
+abbrev pub IsPlainCodeFor : Runnable → Tac → Type 0
+IsPlainCodeFor (of_program program) code = IsLowered program code
+IsPlainCodeFor (of_code given) code = code ≡ erased given
+
 -- a run of the program, if it is one, that has printed and ended as this state of its code
 abbrev pub HasSourceRun : Runnable → Limits → RunEnd → TacState → Type 0
 HasSourceRun (of_program program) limits end t = SourceRun limits program end t
