@@ -1,21 +1,19 @@
 -- The code of a program without names: `endless` is compiled to its three-address code alone.
-use Rattle.std.proofs.Common.{◌≡◌, ◌↔◌, ◌⊎◌, inl, inr, ◌<◌, ◌≤◌, ◌+◌, ℕ, zero, suc, List, [], ◌∷◌, ◌++◌, Option, Some, None, refl, sym, subst}
+use Rattle.std.proofs.Common.{◌≡◌, ◌↔◌, ◌⊎◌, inl, inr, ℕ, zero, suc, List, [], ◌∷◌, ◌++◌, Some, None, refl, sym, subst}
 use Rattle.std.proofs.Common.{arith, true≢false, slice_get, Contains}
 use Rattle.std.specs.List.Sorted.{IsStrictlyIncreasing}
 use Rattle.std.proofs.lemmas.Bool.{leb-true, ltb-true}
 use Rattle.std.proofs.lemmas.Option.{same_Some}
-use Rattle.rgo_typed.specs.declared.programs.Struct.{Struct}
-use Rattle.rgo_typed.specs.declared.programs.Variable.{Variable}
 use Rattle.rgo_typed.specs.declared.types.Type.{«Type»}
 use Rattle.rgo_tac.specs.declared.regions.Class.TheVariants as class
 use Rattle.rgo_tac.specs.declared.regions.Member.TheVariants.{Result, Global}
 use Rattle.rgo_tac.specs.Code as tac
-use Rattle.rgo_classes.specs.Classes.{AreNamed, Describes, InOneClass, all_members, outer_members}
+use Rattle.rgo_classes.specs.Classes.{Describes, InOneClass, all_members, outer_members}
 use Rattle.rgo_classes.specs.Joins.{IsPointerLike}
 use Rattle.rgo_classes.specs.declared.classes.Summary.{Summary}
 use Rattle.rgo_summaries.specs.Families.{IsFamily, IsLeastFamily, JoinsNoMore, outer_classes}
-use Rattle.rgo_code.specs.Checked.{IsChecked, KeptAt, KeptAfterLast, KeptByEnd, KeptByEntry, KeptByHead, KeptByInstr}
-use Rattle.rgo_code.specs.Code.{CodeFn, CodeInstr, Slot}
+use Rattle.rgo_code.specs.Checked.{KeptAt, KeptAfterLast, KeptByEnd, KeptByEntry, KeptByHead, KeptByInstr}
+use Rattle.rgo_code.specs.Code.{CodeFn, CodeInstr}
 use Rattle.rgo_code.specs.Erasure.{erased, erased_fn}
 use Rattle.rgo_code.specs.NameRules.{Ascends, FnAscends, InstrAscends, LendsResult}
 use Rattle.rgo_code.specs.Names.{Holds, Names}
