@@ -49,12 +49,12 @@ nothing x c = let less = c.1 in omega (arith, less)
 
 -- ---- what instructions use
 
-abbrev below_or_none : ℕ → Option ℕ → Bool
+abbrev pub below_or_none : ℕ → Option ℕ → Bool
 below_or_none n None = true
 below_or_none n (Some v) = nat_lt v n
 
 -- whether an instruction uses only variables below n
-abbrev uses_below : ℕ → Op → Bool
+abbrev pub uses_below : ℕ → Op → Bool
 uses_below n op = list_all (λ v. nat_lt v n) (reads op) && below_or_none n (writes op)
 
 in_all : (test : ℕ → Bool) (xs : List ℕ) (x : ℕ) → list_all test xs ≡ true → Contains xs x → test x ≡ true
@@ -63,7 +63,7 @@ in_all test (y ∷ ys) x all (zero, less, is) = subst (λ z. test z ≡ true) is
 in_all test (y ∷ ys) x all (suc k, less, is) =
     in_all test ys x (and_parts (test y) (list_all test ys) all).1 (k, omega (arith, less), is)
 
-used_below : (n : ℕ) (op : Op) (v : ℕ) → uses_below n op ≡ true → Uses op v → v < n
+pub used_below : (n : ℕ) (op : Op) (v : ℕ) → uses_below n op ≡ true → Uses op v → v < n
 used_below n op v all (inl read) =
     ltb-true v n (in_all (λ v. nat_lt v n) (reads op) v (and_parts (list_all (λ v. nat_lt v n) (reads op)) _ all).0 read)
 used_below n op v all (inr written) =

@@ -12,6 +12,7 @@ use Rattle.rgo_run.specs.Compiled.{IsCompiledFrom}
 use Rattle.rgo_claim_examples.specs.CompiledCode.{CompiledExamples, code_with, main_with}
 use Rattle.rgo_claim_examples.specs.Programs.{one_object}
 use Rattle.rgo_claim_examples.proofs.Checked.{AllAt, all_at, checked, no_name, not_held, nothing, one_edge}
+use Rattle.rgo_claim_examples.proofs.EndlessCode.{endless_compiled}
 use Rattle.rgo_claim_examples.proofs.Lowered.{one_object_lowered}
 use Rattle.rgo_claim_examples.proofs.ObjectClasses.{family, has_classes, least}
 
@@ -91,6 +92,7 @@ uncreated is =
 pub compiled_examples : CompiledExamples
 compiled_examples = record {
   compiled = compiled;
+  endless = endless_compiled;
   padded = padded;
   uncreated = uncreated;
   no_page = λ has. has (code_with (0 ∷ [])) compiled (Attend 0 ∷ []) _ refl (0, refl, leb-true 0 0 refl);

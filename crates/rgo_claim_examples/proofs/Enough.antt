@@ -135,10 +135,10 @@ module _ (options : RunOptions) (code : Tac) (steps : ℕ) where
         room_in : HasRoom s.plain (PlainRun.picks plain)
         room_in = room_by (PlainRun.picks plain) s.plain (PlainRun.leads plain)
 
-        few_objects : FewObjects options.sizes made s
+        pub few_objects : FewObjects options.sizes made s
         few_objects = HasRoom.objects room_in
 
-        few_steps : FewSteps options.sizes made s
+        pub few_steps : FewSteps options.sizes made s
         few_steps =
             let most = names_bounded made.functions in
             let same_most = ap (λ (c : Tac). most_variables c.functions) same in

@@ -1,5 +1,5 @@
 -- The examples of runs with regions.
-use Rattle.std.proofs.Common.{◌≡◌, ℕ, [], ◌∷◌, List, Some, length, refl, ap, subst, arith}
+use Rattle.std.proofs.Common.{◌≡◌, ◌≤◌, ℕ, [], ◌∷◌, List, Some, length, refl, ap, subst, arith}
 use Rattle.std.specs.Prelude.{nat_lt, unwrap_or}
 use Rattle.std.proofs.lemmas.Bool.{leb-true, ltb-true}
 use Rattle.rgo_machine.specs.declared.limits.Sizes.{Sizes}
@@ -9,6 +9,7 @@ use Rattle.rgo_machine.specs.declared.turns.Shortage.{Shortage}
 use Rattle.rgo_machine.specs.declared.turns.Shortage.TheVariants as shortage
 use Rattle.rgo_tac.specs.Tac.{TacState, tac, tac_start}
 use Rattle.rgo_code.specs.Erasure.{erased}
+use Rattle.rgo_region_machine.specs.Counts.{counts_of}
 use Rattle.rgo_region_machine.specs.Machine.{Attend, Event, Instruct, TakePage, region_run, region_start}
 use Rattle.rgo_region_machine.specs.Room.{roomy_run}
 use Rattle.rgo_region_machine.specs.States.{RegionState}
@@ -28,7 +29,7 @@ use Rattle.rgo_claim_examples.specs.States.{sizes}
 use Rattle.rgo_claim_examples.proofs.Checked.{checked}
 use Rattle.rgo_claim_examples.proofs.Codes.{one_object_code}
 use Rattle.rgo_claim_examples.proofs.Compiled.{ascends, compiled}
-use Rattle.rgo_claim_examples.proofs.Enough.{suffices}
+use Rattle.rgo_claim_examples.proofs.Enough.{few_objects, few_steps, suffices}
 use Rattle.rgo_claim_examples.proofs.Lowered.{one_object_lowered}
 use Rattle.rgo_claim_examples.proofs.PlainRuns.{plain_run}
 use Rattle.rgo_claim_examples.proofs.Quiet.{quiet, quiet_is_of, quiet_step}
@@ -99,6 +100,16 @@ enough = suffices default_options one_object_code 6 refl one_object one_object_l
 has_region : (t : TacState) → RegionRun code default_options.sizes (run_end.NoRoom shortage.Regions) t → ⊥
 has_region t r = enough.regions code compiled r.events r.state r.run (r.lacks shortage.Regions refl)
 
+has_room : (events : List Event) (s : RegionState) → region_run code default_options.sizes.page_words events ≡ Some s
+    → ((counts_of s).taken ≤ default_options.sizes.pages) × ((counts_of s).made ≤ default_options.sizes.regions)
+has_room events s is_run =
+    let counts = (good default_options.sizes.page_words events s is_run).0.counts in
+    let objects = few_objects default_options one_object_code 6 refl one_object one_object_lowered code compiled events s
+    is_run in
+    let steps = few_steps default_options one_object_code 6 refl one_object one_object_lowered code compiled events s
+    is_run in
+    (omega (arith, counts.pages, objects), omega (arith, counts.regions, steps))
+
 -- ---- one goroutine
 
 no_second : (page_sizes : Sizes) (end : RunEnd) (t : TacState) → length t.goroutines ≡ 2
@@ -118,5 +129,6 @@ region_run_examples = record {
   exits = (plain_at last last.plain.printed, refl, exits);
   no_region = (tac_start (erased code), no_region);
   has_region = has_region;
+  has_room = has_room;
   no_second = no_second;
 }

@@ -4,12 +4,12 @@ use Rattle.rgo_typed.specs.declared.actions.Action.TheVariants as action
 use Rattle.rgo_typed.specs.declared.statements.Piece.TheVariants as piece
 use Rattle.rgo_machine.specs.declared.turns.Shortage.TheVariants as shortage
 use Rattle.rgo_tac.specs.declared.regions.Class.TheVariants.{Name}
-use Rattle.rgo_code.specs.Code.{Code, CodeFn, CodeInstr, CodeOp, Do, Print, Return}
+use Rattle.rgo_code.specs.Code.{Code, CodeFn, CodeInstr, CodeOp, Do, Jump, Print, Return}
 use Rattle.rgo_region_machine.specs.Examples.{code_of, int_slot, main_of, node_slot}
 use Rattle.rgo_run.specs.Compiled.{IsCompiledFrom}
 use Rattle.rgo_run.specs.Headline.{AlwaysHas}
 use Rattle.rgo_run.specs.Runs.{of_program}
-use Rattle.rgo_claim_examples.specs.Programs.{node, one_object}
+use Rattle.rgo_claim_examples.specs.Programs.{endless, node, one_object}
 use Rattle.rgo_claim_examples.specs.States.{sizes}
 
 abbrev pub at : (place : ℕ) → (creates : List ℕ) → CodeOp → CodeInstr
@@ -27,8 +27,16 @@ main_with creates = main_of (node_slot (Name 0) ∷ node_slot (Name 0) ∷ int_s
 abbrev pub code_with : (creates : List ℕ) → Code
 code_with creates = code_of (node ∷ []) (main_with creates ∷ [])
 
+-- the code of the program that never ends, which has no region
+abbrev pub endless_main : CodeFn
+endless_main = main_of [] (at 29 [] (Jump 0 []) ∷ at 38 [] (Return None) ∷ [])
+
+abbrev pub endless_made : Code
+endless_made = code_of [] (endless_main ∷ [])
+
 pub record CompiledExamples : Type 0 where
   pub compiled : IsCompiledFrom one_object (code_with (0 ∷ []))
+  pub endless : IsCompiledFrom endless endless_made
   -- a region more than one name is created for, and none
   pub padded : IsCompiledFrom one_object (code_with (0 ∷ 0 ∷ [])) → ⊥
   pub uncreated : IsCompiledFrom one_object (code_with []) → ⊥

@@ -1,10 +1,13 @@
 -- A run with regions, and what is none.
-use Rattle.std.specs.Prelude.{◌≡◌, [], ◌∷◌, Some, length}
+use Rattle.std.specs.Prelude.{◌≡◌, ◌≤◌, List, [], ◌∷◌, Some, length}
 use Rattle.rgo_machine.specs.declared.limits.Sizes.{Sizes}
 use Rattle.rgo_machine.specs.declared.picks.End.TheVariants.{Exit}
 use Rattle.rgo_machine.specs.declared.turns.Shortage.TheVariants as shortage
 use Rattle.rgo_tac.specs.Tac.{TacState}
 use Rattle.rgo_code.specs.Code.{Code}
+use Rattle.rgo_region_machine.specs.Counts.{counts_of}
+use Rattle.rgo_region_machine.specs.Machine.{Event, region_run}
+use Rattle.rgo_region_machine.specs.States.{RegionState}
 use Rattle.rgo_driver.specs.declared.ends.RunEnd.{RunEnd}
 use Rattle.rgo_driver.specs.declared.ends.RunEnd.TheVariants as run_end
 use Rattle.rgo_command_line.specs.Limits.{default_options}
@@ -23,6 +26,10 @@ pub record RegionRunExamples : Type 0 where
   pub no_region : (t : TacState) × RegionRun code (sizes 16 1 0) (run_end.NoRoom shortage.Regions) t
   -- with the default sizes it never wants one that there is not
   pub has_region : (t : TacState) → RegionRun code default_options.sizes (run_end.NoRoom shortage.Regions) t → ⊥
+  -- in no state has it more pages, or more regions, than these sizes give
+  pub has_room : (events : List Event) (s : RegionState)
+      → region_run code default_options.sizes.page_words events ≡ Some s
+      → ((counts_of s).taken ≤ default_options.sizes.pages) × ((counts_of s).made ≤ default_options.sizes.regions)
   -- it never comes to a state with a second goroutine
   pub no_second : (page_sizes : Sizes) (end : RunEnd) (t : TacState) → length t.goroutines ≡ 2
       → RegionRun code page_sizes end t → ⊥
