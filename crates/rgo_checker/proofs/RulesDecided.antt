@@ -1,11 +1,10 @@
 -- Of each rule it is known whether it is kept at a line.
-use Rattle.std.proofs.Common.{◌≡◌, ◌≢◌, ◌↔◌, ◌⊎◌, inl, inr, ℕ, zero, suc, ◌+◌, ◌<◌, ◌≤◌, Bool, true, false, List, [], ◌∷◌, ◌++◌, length, map, Option, Some, None, slice_get, nat_le, refl, sym, ap, ◌∙◌, subst, arith, codes, Contains}
+use Rattle.std.proofs.Common.{◌≡◌, ◌≢◌, ◌↔◌, ◌⊎◌, inl, inr, ℕ, zero, suc, ◌+◌, ◌<◌, List, [], ◌∷◌, ◌++◌, length, map, Option, Some, None, slice_get, refl, sym, ap, ◌∙◌, subst, codes, Contains}
 use Rattle.std.proofs.lemmas.List.Elements.{Contains-append_left, Contains-append_right}
 use Rattle.std.proofs.lemmas.Option.{same_Some, none-some, slice_get-map}
 use Rattle.std.specs.Option.{option_map}
 use Rattle.rgo_typed.specs.declared.programs.Struct.{Struct}
 use Rattle.rgo_typed.specs.declared.programs.Variable.{Variable}
-use Rattle.rgo_typed.specs.declared.types.Type.{«Type»}
 use Rattle.rgo_tac.specs.declared.regions.Class.{Class}
 use Rattle.rgo_tac.specs.declared.regions.Class.TheVariants.{NoClass, Global, Name}
 use Rattle.rgo_tac.specs.Code.{Op, TacFn}
@@ -15,7 +14,7 @@ use Rattle.rgo_code.specs.declared.rules.Line.TheVariants as line
 use Rattle.rgo_code.specs.declared.rules.Rule.{Rule}
 use Rattle.rgo_code.specs.declared.rules.Rule.TheVariants as rule
 use Rattle.rgo_code.specs.Checked.{KeptByInstr, KeptByEntry, KeptByHead, KeptBySlot, KeptByStruct, KeptByVariable, KeptByEnd, KeptAfterLast, KeptAt}
-use Rattle.rgo_code.specs.ClassRules.{SlotFits, ResultFits, IsPassedFor, Passes, CallPasses, StartPasses, CallsPass, StartsPass, EntryIsKnown}
+use Rattle.rgo_code.specs.ClassRules.{ResultFits, IsPassedFor, Passes, CallPasses, StartPasses, CallsPass, StartsPass, EntryIsKnown}
 use Rattle.rgo_code.specs.Code.{Slot, CodeOp, CodeInstr, CodeFn, Code, Do, Call, Go, Print, Jump, Branch, Return}
 use Rattle.rgo_code.specs.Erasure.{erased_op, erased_fn, erased}
 use Rattle.rgo_code.specs.Exists.{IsNew, HasMain, Uses, StructExists, VariableExists, HeadExists}

@@ -2,11 +2,9 @@
 use Rattle.std.proofs.Common.{◌≡◌, ◌≢◌, ◌⊎◌, inl, inr, ℕ, zero, suc, ◌+◌, ◌<◌, ◌≤◌, List, [], ◌∷◌, Some, slice_get, refl, sym, ap, ◌∙◌, subst, arith}
 use Rattle.std.proofs.lemmas.Bool.{cases_lt}
 use Rattle.std.proofs.lemmas.Option.{same_Some, none-some}
-use Rattle.rgo_code.specs.declared.rules.Line.{Line}
 use Rattle.rgo_code.specs.declared.rules.Rule.{Rule}
 use Rattle.rgo_code.specs.Checked.{KeptAt, Keeps, IsChecked, IsFirstBroken, rule_number}
 use Rattle.rgo_code.specs.Code.{Code}
-use Rattle.rgo_code.specs.Lines.{line_number}
 use Rattle.rgo_checker.specs.Lines.{lines_of}
 use Rattle.rgo_checker.specs.Outcomes.{SomeOutcome}
 use Rattle.rgo_checker.proofs.Decided.{Decided, same_number}
