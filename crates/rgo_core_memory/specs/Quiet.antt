@@ -1,7 +1,7 @@
 -- Steps of the region machine that change no word of memory, and the start of a goroutine.
 use Rattle.std.specs.Prelude.{◌≡◌, ℕ, true, List, [], ◌∷◌, ◌++◌, Some, slice_get, nat_eq}
 use Rattle.std.specs.List.{list_any}
-use Rattle.rgo_code.specs.Code.{Code, CodeInstr, CodeOp, Go}
+use Rattle.rgo_code.specs.Code.{Branch, Call, Code, CodeInstr, CodeOp, Do, Go, Jump, Print, Return}
 use Rattle.rgo_machine.specs.declared.picks.Pick.TheVariants.{One, Meet}
 use Rattle.rgo_region_machine.specs.Duties.{guards}
 use Rattle.rgo_region_machine.specs.Machine.{Event, Instruct, Attend, TakePage, MakeOffer, Acknowledge, Finish, region_step}
@@ -38,7 +38,12 @@ QuietDuty h (EndBase r) = Spared (record h { base = removed_once r h.base }) r
 
 abbrev pub IsGo : CodeOp → Type 0
 IsGo (Go n from passes removes) = Unit {0}
-IsGo op = ⊥
+IsGo (Do to action from removes) = ⊥
+IsGo (Call to n from passes protects removes) = ⊥
+IsGo (Print pieces from removes) = ⊥
+IsGo (Jump target removes) = ⊥
+IsGo (Branch test target removes other otherwise) = ⊥
+IsGo (Return value) = ⊥
 
 -- the event changes no word of memory; t is the state after it
 abbrev pub IsQuiet : Code → RegionState → RegionState → Event → Type 0
