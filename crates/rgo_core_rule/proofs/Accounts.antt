@@ -12,7 +12,9 @@ use Rattle.rgo_core_rule.specs.declared.accesses.Access.{Access}
 use Rattle.rgo_core_rule.proofs.Histories.{replay_append, sound_more}
 use Rattle.rgo_core_rule.proofs.Lists.{flattened_more, snoc_at}
 
-module _ {E R : Type 0} (accesses : R → ℕ) (Explains : List ℕ → List R → List E → Type 0) (opening : List ℕ) (words : List ℕ) (recs : List R) (history : List Access) (old : Account accesses Explains opening words recs history) (a : Access) (after : List R) (gain : List E) where
+module _ {E R : Type 0} (accesses : R → ℕ) (Explains : List ℕ → List R → List E
+    → Type 0) (opening : List ℕ) (words : List ℕ) (recs : List R) (history : List Access)
+    (old : Account accesses Explains opening words recs history) (a : Access) (after : List R) (gain : List E) where
   abbrev pub now : List Access
   now = history ++ a ∷ []
 

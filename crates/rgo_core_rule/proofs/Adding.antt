@@ -41,7 +41,8 @@ other g h e = go (g == h) (grind (arith, nat_tests))
     go : (t : Bool) → t ≡ false → one_if t ≡ 0
     go t e = rw e refl
 
-draws_set : (recs : List Adder) (g : ℕ) (c d : Adder) → get_elem? recs g ≡ some c → draws (set recs g d) + one_if c.has_drawn ≡ draws recs + one_if d.has_drawn
+draws_set : (recs : List Adder) (g : ℕ) (c d : Adder) → get_elem? recs g ≡ some c
+    → draws (set recs g d) + one_if c.has_drawn ≡ draws recs + one_if d.has_drawn
 draws_set [] g c d e = absurd (some-ne-none c (sym e))
 draws_set (x ∷ recs) zero c d e =
     let a = count_cons (λ (y : Adder). y.has_drawn) d recs in
@@ -54,15 +55,18 @@ draws_set (x ∷ recs) (suc g) c d e =
     let h = draws_set recs g c d e in
     omega arith
 
-module _ (limit g : ℕ) (c : Adder) (words : List ℕ) (recs : List Adder) (run : List Event) (k : Counts limit words recs run) (at : get_elem? recs g ≡ some c) where
+module _ (limit g : ℕ) (c : Adder) (words : List ℕ) (recs : List Adder) (run : List Event) (k : Counts limit words recs run)
+    (at : get_elem? recs g ≡ some c) where
   in_recs : g < length recs
   in_recs = at_below recs g c at
 
   -- the counts of goroutines after an event of g
-  module _ (x : Event) (d : Adder) (p : ℕ → Event → Bool) (f : Adder → ℕ) (was : (h : ℕ) (y : Adder) → get_elem? recs h ≡ some y → f y ≡ count_by (p h) run) (own : f d ≡ f c + one_if (p g x)) (else : (h : ℕ) → h ≢ g → one_if (p h x) ≡ 0) where
+  module _ (x : Event) (d : Adder) (p : ℕ → Event → Bool) (f : Adder → ℕ) (was : (h : ℕ) (y : Adder) → get_elem? recs h ≡ some y
+      → f y ≡ count_by (p h) run) (own : f d ≡ f c + one_if (p g x)) (else : (h : ℕ) → h ≢ g → one_if (p h x) ≡ 0) where
     each : (h : ℕ) (y : Adder) → get_elem? (set recs g d) h ≡ some y → f y ≡ count_by (p h) (run ++ x ∷ [])
     each h y e = ⊎_elim
-        (λ (t : (h ≡ g) × (d ≡ y)). ap f (sym t.1) ∙ (own ∙ (ap (λ (n : ℕ). n + one_if (p g x)) (was g c at) ∙ (sym (count_more (p g) run x) ∙ ap (λ (j : ℕ). count_by (p j) (run ++ x ∷ [])) (sym t.0)))))
+        (λ (t : (h ≡ g) × (d ≡ y)). ap f (sym t.1) ∙ (own ∙ (ap (λ (n : ℕ). n + one_if (p g x)) (was g c at) ∙ (sym (count_more (p g) run x)
+        ∙ ap (λ (j : ℕ). count_by (p j) (run ++ x ∷ [])) (sym t.0)))))
         (λ (t : (h ≢ g) × (get_elem? recs h ≡ some y)). let a = was h y t.1 in let b = count_more (p h) run x in let o = else h t.0 in omega arith)
         (at_set recs g h d y e)
 
@@ -90,10 +94,12 @@ module _ (limit g : ℕ) (c : Adder) (words : List ℕ) (recs : List Adder) (run
       as_many = let e = draws_set recs g c (added c) at in let m : draws (set recs g (added c)) ≡ draws recs = omega arith in
           length-set recs g (added c) ∙ (k.as_many ∙ ap (λ (n : ℕ). min (suc n) limit) (sym m));
       started = let a = count_more is_start run (Adds g) in let l = length-set recs g (added c) in let s = k.started in omega arith;
-      added = each (Adds g) (added c) is_add_of (λ (y : Adder). y.added) k.added (let s = same g g refl in omega arith) (λ h ne. other g h (λ e. ne (sym e)));
+      added = each (Adds g) (added c) is_add_of (λ (y : Adder). y.added) k.added (let s = same g g refl in omega arith) (λ h ne. other g h (λ e. ne
+          (sym e)));
       idled = each (Adds g) (added c) is_idle_of (λ (y : Adder). y.idled) k.idled (omega arith) (λ h ne. refl);
       others = λ h le. let l = length-set recs g (added c) in let o = k.others h (omega arith) in (
-        none (Adds g) (added c) is_add_of (λ (y : Adder). y.added) k.added (let s = same g g refl in omega arith) (λ h ne. other g h (λ e. ne (sym e))) h le o.0,
+        none (Adds g) (added c) is_add_of (λ (y : Adder). y.added) k.added (let s = same g g refl in omega arith) (λ h ne. other g h (λ e. ne
+            (sym e))) h le o.0,
         none (Adds g) (added c) is_idle_of (λ (y : Adder). y.idled) k.idled (omega arith) (λ h ne. refl) h le o.1,
       );
       some_limit = k.some_limit;
@@ -122,10 +128,12 @@ module _ (limit g : ℕ) (c : Adder) (words : List ℕ) (recs : List Adder) (run
           length-set recs g (idled c) ∙ (k.as_many ∙ ap (λ (n : ℕ). min (suc n) limit) (sym m));
       started = let a = count_more is_start run (Idles g) in let l = length-set recs g (idled c) in let s = k.started in omega arith;
       added = each (Idles g) (idled c) is_add_of (λ (y : Adder). y.added) k.added (omega arith) (λ h ne. refl);
-      idled = each (Idles g) (idled c) is_idle_of (λ (y : Adder). y.idled) k.idled (let s = same g g refl in omega arith) (λ h ne. other g h (λ e. ne (sym e)));
+      idled = each (Idles g) (idled c) is_idle_of (λ (y : Adder). y.idled) k.idled (let s = same g g refl in omega arith) (λ h ne. other g h
+          (λ e. ne (sym e)));
       others = λ h le. let l = length-set recs g (idled c) in let o = k.others h (omega arith) in (
         none (Idles g) (idled c) is_add_of (λ (y : Adder). y.added) k.added (omega arith) (λ h ne. refl) h le o.0,
-        none (Idles g) (idled c) is_idle_of (λ (y : Adder). y.idled) k.idled (let s = same g g refl in omega arith) (λ h ne. other g h (λ e. ne (sym e))) h le o.1,
+        none (Idles g) (idled c) is_idle_of (λ (y : Adder). y.idled) k.idled (let s = same g g refl in omega arith) (λ h ne. other g h (λ e. ne
+            (sym e))) h le o.1,
       );
       some_limit = k.some_limit;
       fits = k.fits;
@@ -156,7 +164,8 @@ module _ (limit g : ℕ) (c : Adder) (words : List ℕ) (recs : List Adder) (run
         let z = k.fits in
         here words k.wide ((slice_index words 1 + 1) % 18446744073709551616) ∙ (mod-eq_of_lt (omega arith) ∙ omega arith)
 
-    refused : limit ≤ slice_index words 1 → Moved accesses (Counts limit) words recs run g c 1 (λ n. (n + 1) % 18446744073709551616) (λ n d. (limit ≤ n) × (d ≡ drew c))
+    refused : limit ≤ slice_index words 1
+        → Moved accesses (Counts limit) words recs run g c 1 (λ n. (n + 1) % 18446744073709551616) (λ n d. (limit ≤ n) × (d ≡ drew c))
     refused full = let many = full_many in record {
       after = drew c;
       gain = [];
@@ -179,7 +188,8 @@ module _ (limit g : ℕ) (c : Adder) (words : List ℕ) (recs : List Adder) (run
         full_many : length recs ≡ limit
         full_many = k.as_many ∙ min-eq_right (let d = k.drawn in omega arith)
 
-        stays : (f : Adder → ℕ) (h : ℕ) (y : Adder) → f (drew c) ≡ f c → get_elem? (set recs g (drew c)) h ≡ some y → ((j : ℕ) (z : Adder) → get_elem? recs j ≡ some z → f z ≡ count_by (is_add_of j) run) → f y ≡ count_by (is_add_of h) run
+        stays : (f : Adder → ℕ) (h : ℕ) (y : Adder) → f (drew c) ≡ f c → get_elem? (set recs g (drew c)) h ≡ some y → ((j : ℕ) (z : Adder)
+            → get_elem? recs j ≡ some z → f z ≡ count_by (is_add_of j) run) → f y ≡ count_by (is_add_of h) run
         stays f h y eq e was = ⊎_elim
             (λ (t : (h ≡ g) × (drew c ≡ y)). ap f (sym t.1) ∙ (eq ∙ (was g c at ∙ ap (λ (j : ℕ). count_by (is_add_of j) run) (sym t.0))))
             (λ (t : (h ≢ g) × (get_elem? recs h ≡ some y)). was h y t.1)
@@ -187,11 +197,14 @@ module _ (limit g : ℕ) (c : Adder) (words : List ℕ) (recs : List Adder) (run
 
         stays_idle : (h : ℕ) (y : Adder) → get_elem? (set recs g (drew c)) h ≡ some y → y.idled ≡ count_by (is_idle_of h) run
         stays_idle h y e = ⊎_elim
-            (λ (t : (h ≡ g) × (drew c ≡ y)). ap (λ (z : Adder). z.idled) (sym t.1) ∙ (k.idled g c at ∙ ap (λ (j : ℕ). count_by (is_idle_of j) run) (sym t.0)))
+            (λ (t : (h ≡ g) × (drew c ≡ y)). ap (λ (z : Adder). z.idled) (sym t.1) ∙ (k.idled g c at
+            ∙ ap (λ (j : ℕ). count_by (is_idle_of j) run) (sym t.0)))
             (λ (t : (h ≢ g) × (get_elem? recs h ≡ some y)). k.idled h y t.1)
             (at_set recs g h (drew c) y e)
 
-    begins : slice_index words 1 < limit → MovedChild accesses (Counts limit) words recs run g c 1 (λ n. (n + 1) % 18446744073709551616) (λ n d child. (n < limit) × (d ≡ drew c) × (child ≡ new_adder))
+    begins : slice_index words 1 < limit
+        → MovedChild accesses (Counts limit) words recs run g c 1 (λ n. (n + 1) % 18446744073709551616) (λ n d child. (n < limit) × (d ≡ drew c)
+        × (child ≡ new_adder))
     begins low = record {
       after = drew c;
       child = new_adder;
@@ -200,18 +213,26 @@ module _ (limit g : ℕ) (c : Adder) (words : List ℕ) (recs : List Adder) (run
         wide = wide_set 1 _;
         total = there words k.wide _ ∙ (k.total ∙ ap (λ (n : ℕ). n % 18446744073709551616) (let a = count_more is_add run (Starts g) in omega arith));
         drawn = drawn_more (let m = many in omega arith) ∙ ap suc (sym all);
-        as_many = long ∙ sym (ap (λ (n : ℕ). min (suc n) limit) all ∙ (min-eq_left (let d = k.drawn in omega arith) ∙ (let d = k.drawn in let m = many in omega arith)));
+        as_many = long ∙ sym (ap (λ (n : ℕ). min (suc n) limit) all ∙ (min-eq_left (let d = k.drawn in omega arith)
+            ∙ (let d = k.drawn in let m = many in omega arith)));
         started = long ∙ (let a = count_more is_start run (Starts g) in let s = k.started in omega arith);
         added = λ h y e. ⊎_elim
             (λ t. each (Starts g) (drew c) is_add_of (λ (z : Adder). z.added) k.added (omega arith) (λ h ne. refl) h y t)
-            (λ t. ap (λ (z : Adder). z.added) (sym t.1) ∙ sym (let a = count_more (is_add_of h) run (Starts g) in let l = length-set recs g (drew c) in let o = (k.others h (let q = t.0 in omega arith)).0 in omega arith))
+            (λ t. ap (λ (z : Adder). z.added) (sym t.1)
+            ∙ sym (let a = count_more (is_add_of h) run (Starts g) in let l = length-set recs g (drew c) in let o = (k.others h
+            (let q = t.0 in omega arith)).0 in omega arith))
             (snoc_at (set recs g (drew c)) new_adder y h e);
         idled = λ h y e. ⊎_elim
             (λ t. each (Starts g) (drew c) is_idle_of (λ (z : Adder). z.idled) k.idled (omega arith) (λ h ne. refl) h y t)
-            (λ t. ap (λ (z : Adder). z.idled) (sym t.1) ∙ sym (let a = count_more (is_idle_of h) run (Starts g) in let l = length-set recs g (drew c) in let o = (k.others h (let q = t.0 in omega arith)).1 in omega arith))
+            (λ t. ap (λ (z : Adder). z.idled) (sym t.1)
+            ∙ sym (let a = count_more (is_idle_of h) run (Starts g) in let l = length-set recs g (drew c) in let o = (k.others h
+            (let q = t.0 in omega arith)).1 in omega arith))
             (snoc_at (set recs g (drew c)) new_adder y h e);
-        others = λ h le. let l = long in let o = k.others h (omega arith) in
-            (let a = count_more (is_add_of h) run (Starts g) in let z = o.0 in omega arith, let a = count_more (is_idle_of h) run (Starts g) in let z = o.1 in omega arith);
+        others = λ h le. let l = long in let o = k.others h (omega arith) in (
+          let a = count_more (is_add_of h) run (Starts g) in let z = o.0 in omega arith,
+          let a = count_more (is_idle_of h) run
+              (Starts g) in let z = o.1 in omega arith,
+        );
         some_limit = k.some_limit;
         fits = k.fits;
       };
@@ -231,13 +252,16 @@ module _ (limit g : ℕ) (c : Adder) (words : List ℕ) (recs : List Adder) (run
         all = let a = count_more (λ (y : Adder). y.has_drawn) (set recs g (drew c)) new_adder in let b = more in omega arith
 
     pub draws_number : Moved accesses (Counts limit) words recs run g c 1 (λ n. (n + 1) % 18446744073709551616) (λ n d. (limit ≤ n) × (d ≡ drew c))
-        ⊎ MovedChild accesses (Counts limit) words recs run g c 1 (λ n. (n + 1) % 18446744073709551616) (λ n d child. (n < limit) × (d ≡ drew c) × (child ≡ new_adder))
+        ⊎ MovedChild accesses (Counts limit) words recs run g c 1 (λ n. (n + 1) % 18446744073709551616) (λ n d child. (n < limit) × (d ≡ drew c)
+        × (child ≡ new_adder))
     draws_number = dite (dec_le limit (slice_index words 1)) (λ le. inl (refused le)) (λ gt. inr (begins (omega arith)))
 
 pub add_moves : (limit g : ℕ) (c : Adder) → Move accesses (Counts limit) g c 0 (λ n. (n + 1) % 18446744073709551616) (λ n d. d ≡ added c)
 add_moves limit g c words recs run k at fits = adds limit g c words recs run k at
 
-pub start_moves : (limit g : ℕ) (c : Adder) → c.has_drawn ≡ false → MoveEither accesses (Counts limit) g c 1 (λ n. (n + 1) % 18446744073709551616) (λ n d. (limit ≤ n) × (d ≡ drew c)) (λ n d child. (n < limit) × (d ≡ drew c) × (child ≡ new_adder))
+pub start_moves : (limit g : ℕ) (c : Adder) → c.has_drawn ≡ false
+    → MoveEither accesses (Counts limit) g c 1 (λ n. (n + 1) % 18446744073709551616) (λ n d. (limit ≤ n) × (d ≡ drew c)) (λ n d child. (n < limit)
+    × (d ≡ drew c) × (child ≡ new_adder))
 start_moves limit g c never words recs run k at fits = draws_number limit g c words recs run k at never
 
 pub idle_still : (limit g : ℕ) (c : Adder) → Still accesses (Counts limit) g c (idled c)
@@ -265,7 +289,8 @@ first_counts limit low high = record {
 abbrev pub Drew : ℕ → Me Adder → ℕ → Me Adder → Type 0
 Drew limit m n w =
     Told accesses (number_of m) DrawNumber 1 (λ n. (n + 1) % 18446744073709551616) (λ n d. (limit ≤ n) × (d ≡ drew (record_of new_adder m))) m n w
-    ⊎ ToldChild accesses (number_of m) DrawNumber 1 (λ n. (n + 1) % 18446744073709551616) (λ n d child. (n < limit) × (d ≡ drew (record_of new_adder m)) × (child ≡ new_adder)) m n w
+    ⊎ ToldChild accesses (number_of m) DrawNumber 1 (λ n. (n + 1) % 18446744073709551616) (λ n d child. (n < limit)
+    × (d ≡ drew (record_of new_adder m)) × (child ≡ new_adder)) m n w
 
 pub started_some : (limit : ℕ) (m : Me Adder) (n : ℕ) (w : Me Adder) → n < limit → Drew limit m n w → DidStart limit m (Some n) w
 started_some limit m n w low (inl t) = let h = t.tells_so.0 in absurd (omega arith)

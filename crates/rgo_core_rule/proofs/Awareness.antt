@@ -15,7 +15,8 @@ use Rattle.rgo_core_rule.proofs.Histories.{by_append, by_own, by_another, by_non
 use Rattle.rgo_core_rule.proofs.Lists.{at_below, snoc_at}
 
 module _ {R : Type 0} (accesses : R → ℕ) where
-  pub aware_longer : (views : List (View R)) (history : List Access) (a : Access) → Aware accesses views history → Aware accesses views (history ++ a ∷ [])
+  pub aware_longer : (views : List (View R)) (history : List Access) (a : Access) → Aware accesses views history
+      → Aware accesses views (history ++ a ∷ [])
   aware_longer views history a w = record {
     seen = λ id v at. seen_more v.seen history a (w.seen id v at);
     own = w.own;
@@ -29,7 +30,8 @@ module _ {R : Type 0} (accesses : R → ℕ) where
         (λ (t : (j ≢ id) × (get_elem? views j ≡ some u)). old.seen j u t.1)
         (at_set views id j v u at);
     own = λ j u g c at has. ⊎_elim
-        (λ (t : (j ≡ id) × (v ≡ u)). subst (λ (y : View R). accesses c ≡ accesses_by g y.seen) t.1 (own g c (subst (λ (y : View R). Has y.records g c) (sym t.1) has)))
+        (λ (t : (j ≡ id) × (v ≡ u)). subst (λ (y : View R). accesses c ≡ accesses_by g y.seen) t.1 (own g c (subst (λ
+        (y : View R). Has y.records g c) (sym t.1) has)))
         (λ (t : (j ≢ id) × (get_elem? views j ≡ some u)). old.own j u g c t.1 has)
         (at_set views id j v u at);
   }
@@ -51,7 +53,8 @@ module _ {R : Type 0} (accesses : R → ℕ) where
 
   module _ (recs : List R) (history : List Access) (counted : (h : ℕ) (x : R) → get_elem? recs h ≡ some x → accesses x ≡ accesses_by h history) where
     -- a goroutine that does not exist has made no access
-    pub by_new : (n : ℕ) → length recs ≤ n → ((i : ℕ) (a : Access) (g : ℕ) → get_elem? history i ≡ some a → a.by ≡ Some g → g < length recs) → accesses_by n history ≡ 0
+    pub by_new : (n : ℕ) → length recs ≤ n → ((i : ℕ) (a : Access) (g : ℕ) → get_elem? history i ≡ some a → a.by ≡ Some g → g < length recs)
+        → accesses_by n history ≡ 0
     by_new n h makers = by_nobody history n (λ i a at is. let m = makers i a n at is in omega arith)
 
     module _ (g : ℕ) (kind : Kind) (i n x : ℕ) (c d : R) (at : get_elem? recs g ≡ some c) (more : accesses d ≡ suc (accesses c)) where
@@ -62,7 +65,8 @@ module _ {R : Type 0} (accesses : R → ℕ) where
       counts_own = let b = counted g c at in let a = by_append g history (access g kind i n x ∷ []) in let z = by_own g kind i n x in omega arith
 
       pub counts_other : (h : ℕ) (y : R) → h ≢ g → get_elem? recs h ≡ some y → accesses y ≡ accesses_by h longer
-      counts_other h y ne e = let b = counted h y e in let a = by_append h history (access g kind i n x ∷ []) in let z = by_another g h kind i n x (λ q. ne (sym q)) in omega arith
+      counts_other h y ne e = let b = counted h y e in let a = by_append h history (access g kind i n x ∷ []) in let z = by_another g h kind i n x
+          (λ q. ne (sym q)) in omega arith
 
       pub counted_step : (h : ℕ) (y : R) → get_elem? (set recs g d) h ≡ some y → accesses y ≡ accesses_by h longer
       counted_step h y e = ⊎_elim
@@ -70,7 +74,8 @@ module _ {R : Type 0} (accesses : R → ℕ) where
           (λ (t : (h ≢ g) × (get_elem? recs h ≡ some y)). counts_other h y t.0 t.1)
           (at_set recs g h d y e)
 
-      module _ (child : R) (new : accesses child ≡ 0) (makers : (i : ℕ) (a : Access) (g : ℕ) → get_elem? history i ≡ some a → a.by ≡ Some g → g < length recs) where
+      module _ (child : R) (new : accesses child ≡ 0) (makers : (i : ℕ) (a : Access) (g : ℕ) → get_elem? history i ≡ some a → a.by ≡ Some g
+          → g < length recs) where
         pub by_child : (k : ℕ) → k ≡ length recs → accesses_by k longer ≡ 0
         by_child k is =
             let b = by_new k (omega arith) makers in
@@ -85,5 +90,6 @@ module _ {R : Type 0} (accesses : R → ℕ) where
             (λ t. let b = by_child h (t.0 ∙ length-set recs g d) in ap accesses (sym t.1) ∙ (new ∙ sym b))
             (snoc_at (set recs g d) child y h e)
 
-    pub counted_glance : (kind : Kind) (n : ℕ) (h : ℕ) (y : R) → get_elem? recs h ≡ some y → accesses y ≡ accesses_by h (history ++ glance kind n ∷ [])
+    pub counted_glance : (kind : Kind) (n : ℕ) (h : ℕ) (y : R) → get_elem? recs h ≡ some y
+        → accesses y ≡ accesses_by h (history ++ glance kind n ∷ [])
     counted_glance kind n h y e = counted h y e ∙ sym (by_none h history kind n)

@@ -39,13 +39,18 @@ no_third : (g : ℕ) (c : Adder) → get_elem? recs (suc (suc g)) ≡ some c →
 no_third g c e = some-ne-none c (sym e)
 
 in_row : (g : ℕ) (c : Adder) (h : ℕ) (x : Adder) → Has ((g, c) ∷ []) h x → (g ≡ h) × (c ≡ x)
-in_row g c h x (zero, e) = let q : ℕ × Adder = (g, c) in let r : ℕ × Adder = (h, x) in let p : q ≡ r = some-injective q r e in (ap (λ (z : ℕ × Adder). z.0) p, ap (λ (z : ℕ × Adder). z.1) p)
+in_row g c h x (zero, e) = let q : ℕ × Adder = (g, c) in let r : ℕ × Adder = (h, x) in let p : q ≡ r = some-injective q r e in (
+  ap (λ (z : ℕ
+      × Adder). z.0) p,
+  ap (λ (z : ℕ × Adder). z.1) p,
+)
 in_row g c h x (suc k, e) = let r : ℕ × Adder = (h, x) in absurd (some-ne-none r (sym e))
 
 views : List (View Adder)
 views = main_view ∷ child_view ∷ []
 
-each_view : (P : ℕ → View Adder → Type 0) → P 0 main_view → P 1 child_view → (id : ℕ) (v : View Adder) → get_elem? (main_view ∷ child_view ∷ []) id ≡ some v → P id v
+each_view : (P : ℕ → View Adder → Type 0) → P 0 main_view → P 1 child_view → (id : ℕ) (v : View Adder)
+    → get_elem? (main_view ∷ child_view ∷ []) id ≡ some v → P id v
 each_view P p q zero v e = subst (P 0) (some-injective main_view v e) p
 each_view P p q (suc zero) v e = subst (P 1) (some-injective child_view v e) q
 each_view P p q (suc (suc id)) v e = absurd (some-ne-none v (sym e))
@@ -77,7 +82,8 @@ miscounts_here k = apart 1 2 (sym k.total) (omega arith)
 
 -- ---- accounts
 
-each_access : (P : ℕ → Access → Type 0) → P 0 (adds 0 0) → P 1 (starts 0 1) → P 2 (adds 1 1) → P 3 (glance Join 2) → (i : ℕ) (a : Access) → get_elem? four i ≡ some a → P i a
+each_access : (P : ℕ → Access → Type 0) → P 0 (adds 0 0) → P 1 (starts 0 1) → P 2 (adds 1 1) → P 3 (glance Join 2) → (i : ℕ) (a : Access)
+    → get_elem? four i ≡ some a → P i a
 each_access P p q r s zero a e = subst (P 0) (some-injective (adds 0 0) a e) p
 each_access P p q r s (suc zero) a e = subst (P 1) (some-injective (starts 0 1) a e) q
 each_access P p q r s (suc (suc zero)) a e = subst (P 2) (some-injective (adds 1 1) a e) r
@@ -151,7 +157,8 @@ account_here = record {
   replayed = refl;
   sound = (refl, (refl, (refl, (refl, tt))));
   counted = each_of_two (λ g c. accesses c ≡ accesses_by g four) refl refl;
-  makers = λ i a g e. each_access Makes (below_two 0 (omega arith)) (below_two 0 (omega arith)) (below_two 1 (omega arith)) (λ g e. absurd (some_none g (sym e))) i a e g;
+  makers = λ i a g e. each_access Makes (below_two 0 (omega arith)) (below_two 0 (omega arith)) (below_two 1 (omega arith)) (λ g e. absurd
+      (some_none g (sym e))) i a e g;
   glances = each_access Same (λ e. absurd (some_none 0 e)) (λ e. absurd (some_none 0 e)) (λ e. absurd (some_none 1 e)) (λ e. refl);
 }
 
@@ -207,14 +214,17 @@ counting_examples = record {
   owned_by_nobody = owned_by_nobody_here;
   aware = aware_here;
   not_aware = λ w. apart 0 1 (sym (w.own 0 (view ((1, child_record) ∷ []) two) 1 child_record refl (0, refl))) (omega arith);
-  not_a_beginning = λ w. let p = w.seen 0 (view [] stale) refl in apart 0 1 (ap (λ (a : Access). a.found) (some-injective (adds 1 0) (adds 1 1) (at (stale ++ p.0) four p.1 2))) (omega arith);
+  not_a_beginning = λ w. let p = w.seen 0 (view [] stale) refl in apart 0 1 (ap (λ (a : Access). a.found) (some-injective (adds 1 0) (adds 1 1) (at
+      (stale ++ p.0) four p.1 2))) (omega arith);
   pass = refl;
   after = refl;
   all = (refl, (refl, tt));
   not_all = λ a. apart 3 4 (ap (λ (l : List Access). length l) a.1.0) (omega arith);
   nothing = nothing_changes;
   something = λ s. apart 0 1 (sym (s 0 (adds 0 0) refl)) (omega arith);
-  nothing_by = λ i a e is. absurd (each_access (λ i a. a.by ≡ Some 2 → ⊥) (λ e. apart 0 2 (number 0 2 e) (omega arith)) (λ e. apart 0 2 (number 0 2 e) (omega arith)) (λ e. apart 1 2 (number 1 2 e) (omega arith)) (λ e. some_none 2 (sym e)) i a e is);
+  nothing_by = λ i a e is. absurd (each_access (λ i a. a.by ≡ Some 2
+      → ⊥) (λ e. apart 0 2 (number 0 2 e) (omega arith)) (λ e. apart 0 2 (number 0 2 e) (omega arith)) (λ e. apart 1 2 (number 1 2 e)
+      (omega arith)) (λ e. some_none 2 (sym e)) i a e is);
   something_by = λ s. apart 1 2 (sym (s 2 (adds 1 1) refl refl)) (omega arith);
   looked = record {
     front = [];
@@ -227,8 +237,10 @@ counting_examples = record {
 }
   where
     not_main : Has rows 1 main_record → ⊥
-    not_main (zero, e) = let q : ℕ × Adder = (0, main_record) in let r : ℕ × Adder = (1, main_record) in apart 0 1 (ap (λ (z : ℕ × Adder). z.0) (some-injective q r e)) (omega arith)
-    not_main (suc zero, e) = let q : ℕ × Adder = (1, child_record) in let r : ℕ × Adder = (1, main_record) in apart 1 2 (ap (λ (z : ℕ × Adder). z.1.accesses) (some-injective q r e)) (omega arith)
+    not_main (zero, e) = let q : ℕ × Adder = (0, main_record) in let r : ℕ × Adder = (1, main_record) in apart 0 1 (ap (λ (z : ℕ
+        × Adder). z.0) (some-injective q r e)) (omega arith)
+    not_main (suc zero, e) = let q : ℕ × Adder = (1, child_record) in let r : ℕ × Adder = (1, main_record) in apart 1 2 (ap (λ (z : ℕ
+        × Adder). z.1.accesses) (some-injective q r e)) (omega arith)
     not_main (suc (suc k), e) = let r : ℕ × Adder = (1, main_record) in some-ne-none r (sym e)
 
     nothing_changes : ChangesNothing (glance Load 2 ∷ access 1 Load 0 2 2 ∷ [])
@@ -236,7 +248,8 @@ counting_examples = record {
     nothing_changes (suc zero) a e = subst (λ (x : Access). x.left ≡ x.found) (some-injective (access 1 Load 0 2 2) a e) refl
     nothing_changes (suc (suc i)) a e = absurd (some-ne-none a (sym e))
 
-    looks : (front rest : List Access) → three ≡ (two ++ front) ++ rest → accesses child_record ≡ accesses_by 1 (two ++ front) → ChangesNothingBy 1 front → ⊥
+    looks : (front rest : List Access) → three ≡ (two ++ front) ++ rest → accesses child_record ≡ accesses_by 1 (two ++ front)
+        → ChangesNothingBy 1 front → ⊥
     looks [] rest is own still = apart 0 1 (sym own) (omega arith)
     looks (a ∷ front) rest is own still =
         let same : adds 1 1 ≡ a = some-injective (adds 1 1) a (at three ((two ++ a ∷ front) ++ rest) is 2) in
@@ -272,7 +285,8 @@ rule_examples = record {
     owned_by_main rs owner o c e = let t = o.there 0 c e in go (owner 0) t.0 t.1 t.2
       where
         go : (id : ℕ) (v : View Adder) → get_elem? (child_view ∷ []) id ≡ some v → Has v.records 0 c → ⊥
-        go zero v e has = let s = in_row 1 child_record 0 c (subst (λ (u : View Adder). Has u.records 0 c) (sym (some-injective child_view v e)) has) in apart 0 1 (sym s.0) (omega arith)
+        go zero v e has = let s = in_row 1 child_record 0 c (subst (λ (u : View Adder). Has u.records 0 c) (sym
+            (some-injective child_view v e)) has) in apart 0 1 (sym s.0) (omega arith)
         go (suc id) v e has = some-ne-none v (sym e)
 
     lost : (rs : List Adder) (owner : ℕ → ℕ) → Owned (child_view ∷ []) rs owner → length rs ≡ min (suc (draws rs)) 8 → 2 ≡ suc (draws rs) → ⊥
@@ -282,8 +296,10 @@ rule_examples = record {
 pub move_examples : MoveExamples
 move_examples = record {
   no_draw = λ move. let r = move opening (new_adder ∷ []) [] start refl (omega arith) in not_drawn r.after r.tells_so r.explains.drawn;
-  no_child = λ move. ⊎_elim (λ (r : Moved accesses (Counts 8) opening (new_adder ∷ []) [] 0 new_adder 1 (λ n. suc n) (λ n d. (8 ≤ n) × (d ≡ drew new_adder))). let h = r.tells_so.0 in absurd (omega arith))
-      (λ (r : MovedChild accesses (Counts 8) opening (new_adder ∷ []) [] 0 new_adder 1 (λ n. suc n) (λ n d child. (d ≡ drew new_adder) × (child ≡ added new_adder))). apart 0 1 (sym (ap accesses (sym r.tells_so.1) ∙ r.new)) (omega arith))
+  no_child = λ move. ⊎_elim (λ (r : Moved accesses (Counts 8) opening (new_adder ∷ []) [] 0 new_adder 1 (λ n. suc n) (λ n d. (8 ≤ n)
+      × (d ≡ drew new_adder))). let h = r.tells_so.0 in absurd (omega arith))
+      (λ (r : MovedChild accesses (Counts 8) opening (new_adder ∷ []) [] 0 new_adder 1 (λ n. suc n) (λ n d child. (d ≡ drew new_adder)
+      × (child ≡ added new_adder))). apart 0 1 (sym (ap accesses (sym r.tells_so.1) ∙ r.new)) (omega arith))
       (move opening (new_adder ∷ []) [] start refl (omega arith));
   no_quiet_draw = λ still. let r = still opening (new_adder ∷ []) [] start refl in not_drawn (drew new_adder) refl r.1.drawn;
   told = record {

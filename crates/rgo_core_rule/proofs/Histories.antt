@@ -16,7 +16,8 @@ pub replay_append : (words : List ℕ) (xs ys : List Access) → replay words (x
 replay_append words [] ys = refl
 replay_append words (x ∷ xs) ys = replay_append (set words x.word x.left) xs ys
 
-pub sound_more : (words : List ℕ) (xs : List Access) (a : Access) → Sound words xs → a.found ≡ slice_index (replay words xs) a.word → Sound words (xs ++ a ∷ [])
+pub sound_more : (words : List ℕ) (xs : List Access) (a : Access) → Sound words xs → a.found ≡ slice_index (replay words xs) a.word
+    → Sound words (xs ++ a ∷ [])
 sound_more words [] a s f = (f, tt)
 sound_more words (x ∷ xs) a s f = (s.0, sound_more (set words x.word x.left) xs a s.1 f)
 
@@ -85,7 +86,8 @@ by_some (x ∷ xs) g zero a e is =
 by_some (x ∷ xs) g (suc i) a e is = let b = by_append g (x ∷ []) xs in let c = by_some xs g i a e is in omega arith
 
 pub by_prefix : (g : ℕ) (xs history : List Access) → IsPrefix xs history → accesses_by g xs ≤ accesses_by g history
-by_prefix g xs history p = let a = by_append g xs p.0 in let e : accesses_by g (xs ++ p.0) ≡ accesses_by g history = ap (accesses_by g) p.1 in omega arith
+by_prefix g xs history p = let a = by_append g xs p.0 in let e : accesses_by g (xs ++ p.0) ≡ accesses_by g history = ap
+    (accesses_by g) p.1 in omega arith
 
 -- ---- of two beginnings of one history the longer has the accesses of both
 
@@ -109,7 +111,8 @@ module _ (g : ℕ) (xs ys history : List Access) (p : IsPrefix xs history) (q : 
   longer_left e = go (ltb (length xs) (length ys)) refl
     where
       go : (b : Bool) → ltb (length xs) (length ys) ≡ b → accesses_by g (if b then ys else xs) ≡ accesses_by g history
-      go true s = let m = by_longer g xs ys p.0 q.0 (p.1 ∙ sym q.1) (let z : length xs < length ys = grind (arith, nat_tests) in omega arith) in let a = by_prefix g ys history q in omega arith
+      go true s = let m = by_longer g xs ys p.0 q.0 (p.1
+          ∙ sym q.1) (let z : length xs < length ys = grind (arith, nat_tests) in omega arith) in let a = by_prefix g ys history q in omega arith
       go false s = e
 
   pub longer_right : accesses_by g ys ≡ accesses_by g history → accesses_by g (longer xs ys) ≡ accesses_by g history
@@ -117,7 +120,8 @@ module _ (g : ℕ) (xs ys history : List Access) (p : IsPrefix xs history) (q : 
     where
       go : (b : Bool) → ltb (length xs) (length ys) ≡ b → accesses_by g (if b then ys else xs) ≡ accesses_by g history
       go true s = e
-      go false s = let m = by_longer g ys xs q.0 p.0 (q.1 ∙ sym p.1) (let z : length ys ≤ length xs = grind (arith, nat_tests) in z) in let a = by_prefix g xs history p in omega arith
+      go false s = let m = by_longer g ys xs q.0 p.0 (q.1
+          ∙ sym p.1) (let z : length ys ≤ length xs = grind (arith, nat_tests) in z) in let a = by_prefix g xs history p in omega arith
 
 pub longer_prefix : (xs ys history : List Access) → IsPrefix xs history → IsPrefix ys history → IsPrefix (longer xs ys) history
 longer_prefix xs ys history p q = go (ltb (length xs) (length ys))

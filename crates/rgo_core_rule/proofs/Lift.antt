@@ -32,7 +32,8 @@ module _ {E R : Type 0} (accesses : R → ℕ) (Explains : List ℕ → List R �
       × Holds (table.stepped s i (f (slice_index s.words i)) id m.1 w a) × told (slice_index s.words i) (w, table.carried_after m.1 a)
 
   -- an account in which a load of word 0 is the last access
-  pub account_glance : (words : List ℕ) (recs : List R) (history : List Access) → Account accesses Explains opening words recs history → (kind : Kind) → Account accesses Explains opening words recs (history ++ glance kind (slice_index words 0) ∷ [])
+  pub account_glance : (words : List ℕ) (recs : List R) (history : List Access) → Account accesses Explains opening words recs history
+      → (kind : Kind) → Account accesses Explains opening words recs (history ++ glance kind (slice_index words 0) ∷ [])
   account_glance words recs history old kind =
       let a = glance kind (slice_index words 0) in
       subst (λ (l : List ℕ). Account accesses Explains opening l recs (history ++ a ∷ [])) (set_own words 0)
@@ -44,7 +45,8 @@ module _ {E R : Type 0} (accesses : R → ℕ) (Explains : List ℕ → List R �
       none_some : (g : ℕ) → None ≡ Some g → ⊥
       none_some g e = cc
 
-  module _ (s : Words R) (kept : Holds s) (id g : ℕ) (c : R) (m : Me R) (i : ℕ) (f : ℕ → ℕ) (kind : Kind) (alone : Alone g c m) (at : get_elem? s.views id ≡ some m.0) where
+  module _ (s : Words R) (kept : Holds s) (id g : ℕ) (c : R) (m : Me R) (i : ℕ) (f : ℕ
+      → ℕ) (kind : Kind) (alone : Alone g c m) (at : get_elem? s.views id ≡ some m.0) where
     abbrev n : ℕ
     n = slice_index s.words i
 
@@ -70,7 +72,8 @@ module _ {E R : Type 0} (accesses : R → ℕ) (Explains : List ℕ → List R �
     seen : after ≡ (m.0.seen ++ (kept.aware.seen id m.0 at).0) ++ its_access ∷ []
     seen = ap (λ (z : List Access). z ++ its_access ∷ []) (sym (kept.aware.seen id m.0 at).1)
 
-    pub lift_at : (tells : ℕ → R → Type 0) → Moved accesses Explains s.words kept.recs (flattened kept.account.gains) g c i f tells → AllowsAt s id m i f (Told accesses g kind i f tells m)
+    pub lift_at : (tells : ℕ → R → Type 0) → Moved accesses Explains s.words kept.recs (flattened kept.account.gains) g c i f tells
+        → AllowsAt s id m i f (Told accesses g kind i f tells m)
     lift_at tells r =
         let w : View R = view ((g, r.after) ∷ []) after in
         let counts = counts_own accesses kept.recs kept.history kept.account.counted g kind i n (f n) c r.after its_record r.counts in (
@@ -80,7 +83,8 @@ module _ {E R : Type 0} (accesses : R → ℕ) (Explains : List ℕ → List R �
           record {
             recs = set kept.recs g r.after;
             history = after;
-            account = account_more accesses Explains opening s.words kept.recs kept.history kept.account its_access (set kept.recs g r.after) r.gain refl r.explains
+            account = account_more accesses Explains opening s.words kept.recs kept.history kept.account its_access
+                (set kept.recs g r.after) r.gain refl r.explains
                 (counted_step accesses kept.recs kept.history kept.account.counted g kind i n (f n) c r.after its_record r.counts)
                 (λ h is. let b = at_below kept.recs g c its_record in let l = length-set kept.recs g r.after in let e = same_number g h is in omega arith)
                 (let l = length-set kept.recs g r.after in omega arith)
@@ -107,13 +111,15 @@ module _ {E R : Type 0} (accesses : R → ℕ) (Explains : List ℕ → List R �
         some_none : (a : ℕ) → Some a ≡ None → ⊥
         some_none a e = cc
 
-    pub lift_child_at : (tells : ℕ → R → R → Type 0) → MovedChild accesses Explains s.words kept.recs (flattened kept.account.gains) g c i f tells → AllowsAt s id m i f (ToldChild accesses g kind i f tells m)
+    pub lift_child_at : (tells : ℕ → R → R → Type 0) → MovedChild accesses Explains s.words kept.recs (flattened kept.account.gains) g c i f tells
+        → AllowsAt s id m i f (ToldChild accesses g kind i f tells m)
     lift_child_at tells r =
         let w : View R = view ((g, r.after) ∷ (n, r.child) ∷ []) after in
         let recs : List R = set kept.recs g r.after ++ r.child ∷ [] in
         let old = kept.account in
         let counts = counts_own accesses kept.recs kept.history old.counted g kind i n (f n) c r.after its_record r.counts in
-        let born = by_child accesses kept.recs kept.history old.counted g kind i n (f n) c r.after its_record r.counts r.child r.new old.makers n r.number in (
+        let born = by_child accesses kept.recs kept.history old.counted g kind i n
+        (f n) c r.after its_record r.counts r.child r.new old.makers n r.number in (
           w,
           table.keeps,
           tt,
@@ -157,18 +163,22 @@ module _ {E R : Type 0} (accesses : R → ℕ) (Explains : List ℕ → List R �
         longer d x = let a = length-append (set kept.recs g d) (x ∷ []) in let b = length-set kept.recs g d in omega arith
 
   -- an access that its goroutine may make
-  pub lifts : (cells id g : ℕ) (c : R) (m : Me R) (i : ℕ) (f : ℕ → ℕ) (tells : ℕ → R → Type 0) (kind : Kind) → Alone g c m → Move accesses Explains g c i f tells → table.Allows Holds cells id m i f (Told accesses g kind i f tells m)
-  lifts cells id g c m i f tells kind alone move s kept homes at fits = lift_at s kept id g c m i f kind alone at tells (move s.words kept.recs (flattened kept.account.gains) kept.account.explains (its_record s kept id g c m i f kind alone at) fits)
+  pub lifts : (cells id g : ℕ) (c : R) (m : Me R) (i : ℕ) (f : ℕ → ℕ) (tells : ℕ → R → Type 0) (kind : Kind) → Alone g c m
+      → Move accesses Explains g c i f tells → table.Allows Holds cells id m i f (Told accesses g kind i f tells m)
+  lifts cells id g c m i f tells kind alone move s kept homes at fits = lift_at s kept id g c m i f kind alone at tells (move s.words kept.recs
+      (flattened kept.account.gains) kept.account.explains (its_record s kept id g c m i f kind alone at) fits)
 
   -- the same of a store, of which it is not told what was found
-  pub untold : (cells id g : ℕ) (c : R) (m : Me R) (i : ℕ) (f : ℕ → ℕ) (tells : ℕ → R → Type 0) (kind : Kind) → Alone g c m → Move accesses Explains g c i f tells
+  pub untold : (cells id g : ℕ) (c : R) (m : Me R) (i : ℕ) (f : ℕ → ℕ) (tells : ℕ → R → Type 0) (kind : Kind) → Alone g c m
+      → Move accesses Explains g c i f tells
       → table.Allows Holds cells id m i f (λ _ w. (n : ℕ) × Told accesses g kind i f tells m n w)
   untold cells id g c m i f tells kind alone move s kept homes at fits =
       let r = lifts cells id g c m i f tells kind alone move s kept homes at fits in
       (r.0, r.1, r.2, r.3, (slice_index s.words i, r.4))
 
   -- one that may start a goroutine
-  pub lifts_either : (cells id g : ℕ) (c : R) (m : Me R) (i : ℕ) (f : ℕ → ℕ) (tells : ℕ → R → Type 0) (tells_child : ℕ → R → R → Type 0) (kind : Kind) → Alone g c m → MoveEither accesses Explains g c i f tells tells_child
+  pub lifts_either : (cells id g : ℕ) (c : R) (m : Me R) (i : ℕ) (f : ℕ → ℕ) (tells : ℕ → R → Type 0) (tells_child : ℕ → R → R
+      → Type 0) (kind : Kind) → Alone g c m → MoveEither accesses Explains g c i f tells tells_child
       → table.Allows Holds cells id m i f (λ n w. Told accesses g kind i f tells m n w ⊎ ToldChild accesses g kind i f tells_child m n w)
   lifts_either cells id g c m i f tells tells_child kind alone move s kept homes at fits = ⊎_elim
       (λ one. let r = lift_at s kept id g c m i f kind alone at tells one in (r.0, r.1, r.2, r.3, inl r.4))
@@ -191,7 +201,8 @@ module _ {E R : Type 0} (accesses : R → ℕ) (Explains : List ℕ → List R �
           account = rw (set_own s.words 0) (account_glance s.words kept.recs kept.history kept.account Load);
           owner = kept.owner;
           owned = owned_same s.views kept.recs kept.owner kept.owned id m.0 w at refl;
-          aware = aware_set accesses s.views history id w (aware_longer accesses s.views kept.history (glance Load n) kept.aware) ([], append-nil history)
+          aware = aware_set accesses s.views history id w (aware_longer accesses s.views kept.history (glance Load n) kept.aware)
+              ([], append-nil history)
               (λ h x has. kept.account.counted h x (kept.owned.here id m.0 h x at has).1 ∙ sym (by_none h kept.history Load n));
         },
         record {

@@ -18,7 +18,8 @@ snoc_at [] a b (suc j) e = absurd (some-ne-none b (sym e))
 snoc_at (x ∷ l) a b zero e = inl e
 snoc_at (x ∷ l) a b (suc j) e = ⊎_elim (λ t. inl t) (λ t. inr (ap suc t.0, t.1)) (snoc_at l a b j e)
 
-pub append_at : {A : Type 0} (xs ys : List A) (i : ℕ) (a : A) → get_elem? (xs ++ ys) i ≡ some a → (get_elem? xs i ≡ some a) ⊎ ((j : ℕ) × (get_elem? ys j ≡ some a))
+pub append_at : {A : Type 0} (xs ys : List A) (i : ℕ) (a : A) → get_elem? (xs ++ ys) i ≡ some a → (get_elem? xs i ≡ some a) ⊎ ((j : ℕ)
+    × (get_elem? ys j ≡ some a))
 append_at [] ys i a e = inr (i, e)
 append_at (x ∷ xs) ys zero a e = inl e
 append_at (x ∷ xs) ys (suc i) a e = append_at xs ys i a e

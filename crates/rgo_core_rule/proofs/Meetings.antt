@@ -23,7 +23,8 @@ module _ {E R : Type 0} (accesses : R → ℕ) (Explains : List ℕ → List R �
   Keeps = Holds accesses Explains opening
 
   -- the record of goroutine g goes to a new seat
-  pub splits : (id : ℕ) (v : View R) (g : ℕ) (c : R) → Has v.records g c → table.Splits Keeps id v (view (rows_but g v.records) v.seen) (view (rows_of g v.records) v.seen)
+  pub splits : (id : ℕ) (v : View R) (g : ℕ) (c : R) → Has v.records g c
+      → table.Splits Keeps id v (view (rows_but g v.records) v.seen) (view (rows_of g v.records) v.seen)
   splits id v g c has s kept at =
       let a = glance Split (slice_index s.words 0) in
       let left : View R = view (rows_but g v.records) v.seen in
@@ -37,7 +38,8 @@ module _ {E R : Type 0} (accesses : R → ℕ) (Explains : List ℕ → List R �
         owner = owner_split s.views kept.recs kept.owner kept.owned id v at g c has v.seen;
         owned = owned_split s.views kept.recs kept.owner kept.owned id v at g c has v.seen;
         aware = aware_snoc accesses (set s.views id left) (kept.history ++ a ∷ []) right
-            (aware_set accesses s.views (kept.history ++ a ∷ []) id left longer prefix (λ h x own. kept.aware.own id v h x at (in_rows_but g v.records h x own).1))
+            (aware_set accesses s.views (kept.history ++ a ∷ []) id left longer prefix (λ h x own. kept.aware.own id v h x at
+            (in_rows_but g v.records h x own).1))
             prefix (λ h x own. kept.aware.own id v h x at (in_rows_of g v.records h x own).1);
       }
 
@@ -61,7 +63,8 @@ module _ {E R : Type 0} (accesses : R → ℕ) (Explains : List ℕ → List R �
       → IsPrefix zs history × ((g : ℕ) → accesses_by g xs ≡ accesses_by g history → accesses_by g zs ≡ accesses_by g history)
       × ((g : ℕ) → accesses_by g ys ≡ accesses_by g history → accesses_by g zs ≡ accesses_by g history)
 
-  joins_as : (id : ℕ) (v : View R) (other : ℕ) (w : View R) (zs : List Access) → Covers v.seen w.seen zs → table.Joins Keeps id v other w (view (v.records ++ w.records) zs) (view [] [])
+  joins_as : (id : ℕ) (v : View R) (other : ℕ) (w : View R) (zs : List Access) → Covers v.seen w.seen zs
+      → table.Joins Keeps id v other w (view (v.records ++ w.records) zs) (view [] [])
   joins_as id v other w zs covers s kept at ne at' =
       let a = glance Join (slice_index s.words 0) in
       let both : View R = view (v.records ++ w.records) zs in
@@ -78,8 +81,10 @@ module _ {E R : Type 0} (accesses : R → ℕ) (Explains : List ℕ → List R �
         aware = aware_set accesses (set s.views id both) history other (view [] [])
             (aware_set accesses s.views history id both (aware_longer accesses s.views kept.history a kept.aware) seen
             (λ h x has. ⊎_elim
-            (λ t. let c = kept.account.counted h x (kept.owned.here id v h x at t).1 in let o = kept.aware.own id v h x at t in c ∙ sym (facts.1 h (sym o ∙ c)))
-            (λ t. let c = kept.account.counted h x (kept.owned.here other w h x was t).1 in let o = kept.aware.own other w h x was t in c ∙ sym (facts.2 h (sym o ∙ c)))
+            (λ t. let c = kept.account.counted h x (kept.owned.here id v h x at t).1 in let o = kept.aware.own id v h x at t in c
+            ∙ sym (facts.1 h (sym o ∙ c)))
+            (λ t. let c = kept.account.counted h x (kept.owned.here other w h x was t).1 in let o = kept.aware.own other w h x was t in c
+            ∙ sym (facts.2 h (sym o ∙ c)))
             (in_both v.records w.records h x has)))
             (history, refl) (λ h x has. absurd (none h x has));
       }
@@ -93,7 +98,8 @@ module _ {E R : Type 0} (accesses : R → ℕ) (Explains : List ℕ → List R �
       (λ h p q. (longer_prefix w.seen v.seen h q p, λ g e. longer_right g w.seen v.seen h q p e, λ g e. longer_left g w.seen v.seen h q p e))
 
   -- a new table
-  pub opens : (first : R) → accesses first ≡ 0 → Explains opening (first ∷ []) [] → Keeps (table.opening {S = Unit {0}} opening [] (view ((0, first) ∷ []) []))
+  pub opens : (first : R) → accesses first ≡ 0 → Explains opening (first ∷ []) []
+      → Keeps (table.opening {S = Unit {0}} opening [] (view ((0, first) ∷ []) []))
   opens first new start = record {
     recs = first ∷ [];
     history = [];
@@ -139,7 +145,8 @@ module _ {E R : Type 0} (accesses : R → ℕ) (Explains : List ℕ → List R �
       its_record g c has = let o = only_one 0 first g c has in rw (o.0, o.1) refl
 
   -- a table that is closed with a seat
-  pub closes : (id : ℕ) (v : View R) (words : List ℕ) (xs : List (Unit {0})) → table.Final (table.Seen Keeps id v) words xs → Closing accesses Explains opening words v
+  pub closes : (id : ℕ) (v : View R) (words : List ℕ) (xs : List (Unit {0})) → table.Final (table.Seen Keeps id v) words xs
+      → Closing accesses Explains opening words v
   closes id v words xs f = let k = f.1.0 in record {
     recs = k.recs;
     history = k.history;

@@ -22,7 +22,8 @@ module _ {R : Type 0} where
 
   -- ---- a step of the seat `id`, which has the record c of goroutine g
 
-  module _ (views : List (View R)) (recs : List R) (owner : ℕ → ℕ) (o : Owned views recs owner) (id g : ℕ) (c : R) (v : View R) (at : get_elem? views id ≡ some v) (one : v.records ≡ (g, c) ∷ []) where
+  module _ (views : List (View R)) (recs : List R) (owner : ℕ
+      → ℕ) (o : Owned views recs owner) (id g : ℕ) (c : R) (v : View R) (at : get_elem? views id ≡ some v) (one : v.records ≡ (g, c) ∷ []) where
     pub its : (owner g ≡ id) × (get_elem? recs g ≡ some c)
     its = o.here id v g c at (0, ap (λ (rs : Rows R). get_elem? rs 0) one)
 
@@ -75,14 +76,27 @@ module _ {R : Type 0} where
             (at_set views id j w u q);
         there = λ h x q. ⊎_elim
             (λ (t : get_elem? (set recs g d) h ≡ some x). ⊎_elim
-            (λ (u : (h ≡ g) × (d ≡ x)). (w, goes h (if_other h n id (owner h) (λ e. old_g (sym u.0 ∙ e)) ∙ (ap owner u.0 ∙ its.0)), rw new (here_first (g, d) ((n, child) ∷ []) h x (sym u.0) u.1)))
+            (λ (u : (h ≡ g) × (d ≡ x)). (
+              w,
+              goes h (if_other h n id (owner h) (λ e. old_g (sym u.0 ∙ e)) ∙ (ap owner u.0
+                  ∙ its.0)),
+              rw new (here_first (g, d) ((n, child) ∷ []) h x (sym u.0) u.1),
+            ))
             (λ (u : (h ≢ g) × (get_elem? recs h ≡ some x)).
-            let p = o.there h x u.1 in
-            (p.0, subst (λ (y : ℕ). get_elem? (set views id w) y ≡ some p.0) (sym (if_other h n id (owner h) (old h x u.1))) (set_else views id (owner h) w (elsewhere h x u.0 u.1) ∙ p.1), p.2))
+            let p = o.there h x u.1 in (
+              p.0,
+              subst (λ (y : ℕ). get_elem? (set views id w) y ≡ some p.0) (sym (if_other h n id (owner h) (old h x u.1))) (set_else views id
+                  (owner h) w (elsewhere h x u.0 u.1) ∙ p.1),
+              p.2,
+            ))
             (at_set recs g h d x t))
             (λ (t : (h ≡ length (set recs g d)) × (child ≡ x)).
-            let is_n : h ≡ n = t.0 ∙ long in
-            (w, goes h (if_same h n id (owner h) is_n), rw new (here_later (g, d) ((n, child) ∷ []) h x (here_first (n, child) [] h x (sym is_n) t.1))))
+            let is_n : h ≡ n = t.0 ∙ long in (
+              w,
+              goes h (if_same h n id (owner h) is_n),
+              rw new (here_later (g, d) ((n, child) ∷ []) h x (here_first (n, child) [] h x
+                  (sym is_n) t.1)),
+            ))
             (snoc_at (set recs g d) child x h q);
       }
         where
@@ -105,26 +119,34 @@ module _ {R : Type 0} where
           goes h e = subst (λ (y : ℕ). get_elem? (set views id w) y ≡ some w) (sym e) (set_here views id w in_views)
 
           two : (h : ℕ) (x : R) → Has w.records h x → ((g ≡ h) × (d ≡ x)) ⊎ ((n ≡ h) × (child ≡ x))
-          two h x has = ⊎_elim (λ t. inl t) (λ t. ⊎_elim (λ u. inr u) (λ u. absurd (none h x u)) (first (n, child) [] h x t)) (first (g, d) ((n, child) ∷ []) h x (subst (λ (l : Rows R). Has l h x) new has))
+          two h x has = ⊎_elim (λ t. inl t) (λ t. ⊎_elim (λ u. inr u) (λ u. absurd (none h x u)) (first (n, child) [] h x t)) (first (g, d)
+              ((n, child) ∷ []) h x (subst (λ (l : Rows R). Has l h x) new has))
 
   -- ---- a view that has the same records and has seen more
 
-  pub owned_same : (views : List (View R)) (recs : List R) (owner : ℕ → ℕ) → Owned views recs owner → (id : ℕ) (v w : View R) → get_elem? views id ≡ some v → w.records ≡ v.records → Owned (set views id w) recs owner
+  pub owned_same : (views : List (View R)) (recs : List R) (owner : ℕ → ℕ) → Owned views recs owner → (id : ℕ) (v w : View R)
+      → get_elem? views id ≡ some v → w.records ≡ v.records → Owned (set views id w) recs owner
   owned_same views recs owner o id v w at same = record {
     here = λ j u h x q has. ⊎_elim
-        (λ (t : (j ≡ id) × (w ≡ u)). let p = o.here id v h x at (subst (λ (l : Rows R). Has l h x) (ap (λ (y : View R). y.records) (sym t.1) ∙ same) has) in (p.0 ∙ sym t.0, p.1))
+        (λ (t : (j ≡ id) × (w ≡ u)). let p = o.here id v h x at (subst (λ (l : Rows R). Has l h x) (ap (λ (y : View R). y.records) (sym t.1)
+        ∙ same) has) in (p.0 ∙ sym t.0, p.1))
         (λ (t : (j ≢ id) × (get_elem? views j ≡ some u)). o.here j u h x t.1 has)
         (at_set views id j w u q);
     there = λ h x q. let p = o.there h x q in dite (ℕ_discrete (owner h) id)
         (λ e.
-        let was : p.0 ≡ v = some-injective p.0 v (sym p.1 ∙ (ap (get_elem? views) e ∙ at)) in
-        (w, rw e (set_here views id w (at_below views id v at)), subst (λ (l : Rows R). Has l h x) (ap (λ (y : View R). y.records) was ∙ sym same) p.2))
+        let was : p.0 ≡ v = some-injective p.0 v (sym p.1 ∙ (ap (get_elem? views) e ∙ at)) in (
+          w,
+          rw e (set_here views id w (at_below views id v at)),
+          subst (λ (l : Rows R). Has l h x) (ap (λ (y : View R). y.records) was
+              ∙ sym same) p.2,
+        ))
         (λ ne. (p.0, set_else views id (owner h) w ne ∙ p.1, p.2));
   }
 
   -- ---- a new seat with no record
 
-  pub owned_empty : (views : List (View R)) (recs : List R) (owner : ℕ → ℕ) → Owned views recs owner → (seen : List Access) → Owned (views ++ view [] seen ∷ []) recs owner
+  pub owned_empty : (views : List (View R)) (recs : List R) (owner : ℕ → ℕ) → Owned views recs owner → (seen : List Access)
+      → Owned (views ++ view [] seen ∷ []) recs owner
   owned_empty views recs owner o seen = record {
     here = λ j u h x q has. ⊎_elim
         (λ t. o.here j u h x t has)
@@ -135,7 +157,9 @@ module _ {R : Type 0} where
 
   -- ---- the record of goroutine g goes to a new seat
 
-  module _ (views : List (View R)) (recs : List R) (owner : ℕ → ℕ) (o : Owned views recs owner) (id : ℕ) (v : View R) (at : get_elem? views id ≡ some v) (g : ℕ) (c : R) (has_g : Has v.records g c) (seen : List Access) where
+  module _ (views : List (View R)) (recs : List R) (owner : ℕ
+      → ℕ) (o : Owned views recs owner) (id : ℕ) (v : View R) (at : get_elem? views id ≡ some v) (g : ℕ) (c : R) (has_g : Has v.records g c)
+      (seen : List Access) where
     abbrev left : View R
     left = view (rows_but g v.records) seen
 
@@ -169,19 +193,23 @@ module _ {R : Type 0} where
           (λ e.
           let same : p.0 ≡ v = some-injective p.0 v (sym p.1 ∙ (ap (get_elem? views) (ap owner e ∙ mine.0) ∙ at)) in (
             right,
-            subst (λ (k : ℕ). get_elem? split_views k ≡ some right) (sym (if_same h g (length views) (owner h) e)) (at_last (set views id left) right (length views) long),
-            subst (λ (k : ℕ). Has (rows_of g v.records) k x) (sym e) (to_rows_of g v.records x (subst (λ (k : ℕ). Has v.records k x) e (subst (λ (y : View R). Has y.records h x) same p.2))),
+            subst (λ (k : ℕ). get_elem? split_views k ≡ some right) (sym (if_same h g (length views) (owner h) e)) (at_last
+                (set views id left) right (length views) long),
+            subst (λ (k : ℕ). Has (rows_of g v.records) k x) (sym e) (to_rows_of g v.records x (subst (λ (k : ℕ). Has v.records k x) e (subst (λ
+                (y : View R). Has y.records h x) same p.2))),
           ))
           (λ ne. dite (ℕ_discrete (owner h) id)
           (λ e.
           let same : p.0 ≡ v = some-injective p.0 v (sym p.1 ∙ (ap (get_elem? views) e ∙ at)) in (
             left,
-            subst (λ (k : ℕ). get_elem? split_views k ≡ some left) (sym (if_other h g (length views) (owner h) ne ∙ e)) (at_longer (set views id left) (right ∷ []) id left (set_here views id left (at_below views id v at))),
+            subst (λ (k : ℕ). get_elem? split_views k ≡ some left) (sym (if_other h g (length views) (owner h) ne
+                ∙ e)) (at_longer (set views id left) (right ∷ []) id left (set_here views id left (at_below views id v at))),
             to_rows_but g v.records h x ne (subst (λ (y : View R). Has y.records h x) same p.2),
           ))
           (λ other. (
             p.0,
-            subst (λ (k : ℕ). get_elem? split_views k ≡ some p.0) (sym (if_other h g (length views) (owner h) ne)) (at_longer (set views id left) (right ∷ []) (owner h) p.0 (set_else views id (owner h) left other ∙ p.1)),
+            subst (λ (k : ℕ). get_elem? split_views k ≡ some p.0) (sym (if_other h g (length views) (owner h) ne)) (at_longer (set views id left)
+                (right ∷ []) (owner h) p.0 (set_else views id (owner h) left other ∙ p.1)),
             p.2,
           )));
     }
@@ -194,7 +222,9 @@ module _ {R : Type 0} where
 
   -- ---- all records of one seat go to another
 
-  module _ (views : List (View R)) (recs : List R) (owner : ℕ → ℕ) (o : Owned views recs owner) (id : ℕ) (v : View R) (at : get_elem? views id ≡ some v) (other : ℕ) (w : View R) (ne : other ≢ id) (at_other : get_elem? views other ≡ some w) (seen seen_spent : List Access) where
+  module _ (views : List (View R)) (recs : List R) (owner : ℕ
+      → ℕ) (o : Owned views recs owner) (id : ℕ) (v : View R) (at : get_elem? views id ≡ some v) (other : ℕ) (w : View R) (ne : other ≢ id)
+      (at_other : get_elem? views other ≡ some w) (seen seen_spent : List Access) where
     abbrev both : View R
     both = view (v.records ++ w.records) seen
 
@@ -216,22 +246,33 @@ module _ {R : Type 0} where
           (λ z. let p = o.here id v h x at z in (if_other (owner h) other id (owner h) (λ e. ne (sym e ∙ p.0)) ∙ (p.0 ∙ sym t.0), p.1))
           (λ z. let p = o.here other w h x at_other z in (if_same (owner h) other id (owner h) p.0 ∙ sym t.0, p.1))
           (in_both v.records w.records h x (subst (λ (y : View R). Has y.records h x) (sym t.1) has)))
-          (λ (t : (j ≢ id) × (get_elem? views j ≡ some u)). let p = o.here j u h x t.1 has in (if_other (owner h) other id (owner h) (λ e. s.0 (sym p.0 ∙ e)) ∙ p.0, p.1))
+          (λ (t : (j ≢ id) × (get_elem? views j ≡ some u)). let p = o.here j u h x t.1 has in (
+            if_other (owner h) other id (owner h) (λ e. s.0
+                (sym p.0 ∙ e)) ∙ p.0,
+            p.1,
+          ))
           (at_set views id j both u s.1))
           (at_set (set views id both) other j spent u q);
       there = λ h x q. let p = o.there h x q in dite (ℕ_discrete (owner h) other)
           (λ e.
           let same : p.0 ≡ w = some-injective p.0 w (sym p.1 ∙ (ap (get_elem? views) e ∙ at_other)) in (
             both,
-            subst (λ (k : ℕ). get_elem? joined_views k ≡ some both) (sym (if_same (owner h) other id (owner h) e)) (set_else (set views id both) other id spent (λ y. ne (sym y)) ∙ set_here views id both (at_below views id v at)),
+            subst (λ (k : ℕ). get_elem? joined_views k ≡ some both) (sym (if_same (owner h) other id (owner h) e)) (set_else
+                (set views id both) other id spent (λ y. ne (sym y)) ∙ set_here views id both (at_below views id v at)),
             to_right v.records w.records h x (subst (λ (y : View R). Has y.records h x) same p.2),
           ))
           (λ n. dite (ℕ_discrete (owner h) id)
           (λ e.
           let same : p.0 ≡ v = some-injective p.0 v (sym p.1 ∙ (ap (get_elem? views) e ∙ at)) in (
             both,
-            subst (λ (k : ℕ). get_elem? joined_views k ≡ some both) (sym (if_other (owner h) other id (owner h) n ∙ e)) (set_else (set views id both) other id spent (λ y. ne (sym y)) ∙ set_here views id both (at_below views id v at)),
+            subst (λ (k : ℕ). get_elem? joined_views k ≡ some both) (sym (if_other (owner h) other id (owner h) n
+                ∙ e)) (set_else (set views id both) other id spent (λ y. ne (sym y)) ∙ set_here views id both (at_below views id v at)),
             to_left v.records w.records h x (subst (λ (y : View R). Has y.records h x) same p.2),
           ))
-          (λ m. (p.0, subst (λ (k : ℕ). get_elem? joined_views k ≡ some p.0) (sym (if_other (owner h) other id (owner h) n)) (set_else (set views id both) other (owner h) spent n ∙ (set_else views id (owner h) both m ∙ p.1)), p.2)));
+          (λ m. (
+            p.0,
+            subst (λ (k : ℕ). get_elem? joined_views k ≡ some p.0) (sym (if_other (owner h) other id (owner h) n)) (set_else
+                (set views id both) other (owner h) spent n ∙ (set_else views id (owner h) both m ∙ p.1)),
+            p.2,
+          )));
     }

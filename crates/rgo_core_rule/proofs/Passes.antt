@@ -38,7 +38,8 @@ grows xs [] = omega arith
 grows xs (ys ∷ yss) = let a = (at_least xs ys).0 in let b = grows (longer xs ys) yss in omega arith
 
 -- a second pass, by one who is at least as long as where the first began
-second : (top xs : List Access) (yss : List (List Access)) → length (after_pass xs yss) ≤ length top → (after_pass top (passed xs yss) ≡ top) × AllAre top (passed top (passed xs yss))
+second : (top xs : List Access) (yss : List (List Access)) → length (after_pass xs yss) ≤ length top → (after_pass top (passed xs yss) ≡ top)
+    × AllAre top (passed top (passed xs yss))
 second top xs [] h = (refl, tt)
 second top xs (ys ∷ yss) h =
     let a = grows (longer xs ys) yss in
@@ -46,7 +47,8 @@ second top xs (ys ∷ yss) h =
     let r = second top (longer xs ys) yss h in
     (ap (λ (z : List Access). after_pass z (passed (longer xs ys) yss)) e ∙ r.0, (e, rw e r.1))
 
-pub two_passes : (xs : List Access) (yss : List (List Access)) → (after_pass (after_pass xs yss) (passed xs yss) ≡ after_pass xs yss) × AllAre (after_pass xs yss) (passed (after_pass xs yss) (passed xs yss))
+pub two_passes : (xs : List Access) (yss : List (List Access)) → (after_pass (after_pass xs yss) (passed xs yss) ≡ after_pass xs yss)
+    × AllAre (after_pass xs yss) (passed (after_pass xs yss) (passed xs yss))
 two_passes xs yss = second (after_pass xs yss) xs yss (omega arith)
 
 -- who has seen what another had, and more, keeps its own
@@ -60,7 +62,9 @@ longer_front xs (e ∷ es) = go (ltb (length xs) (length (xs ++ e ∷ es))) more
     go : (b : Bool) → b ≡ true → pick b xs (xs ++ e ∷ es) ≡ xs ++ e ∷ es
     go b q = ap (λ (z : Bool). pick z xs (xs ++ e ∷ es)) q
 
-pub nobody_ahead : (xs : List Access) (yss : List (List Access)) (i : ℕ) (ys : List Access) → get_elem? yss i ≡ some ys → length ys ≤ length (after_pass xs yss)
+pub nobody_ahead : (xs : List Access) (yss : List (List Access)) (i : ℕ) (ys : List Access) → get_elem? yss i ≡ some ys
+    → length ys ≤ length (after_pass xs yss)
 nobody_ahead xs [] i ys e = absurd (some-ne-none ys (sym e))
-nobody_ahead xs (y ∷ yss) zero ys e = let a = (at_least xs y).1 in let b = grows (longer xs y) yss in let s : length y ≡ length ys = ap length (some-injective y ys e) in omega arith
+nobody_ahead xs (y ∷ yss) zero ys e = let a = (at_least xs y).1 in let b = grows (longer xs y) yss in let s : length y ≡ length ys = ap length
+    (some-injective y ys e) in omega arith
 nobody_ahead xs (y ∷ yss) (suc i) ys e = nobody_ahead (longer xs y) yss i ys e

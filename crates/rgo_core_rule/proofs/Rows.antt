@@ -45,34 +45,50 @@ module _ {R : Type 0} where
   pub in_rows_of : (g : ℕ) (rs : Rows R) (h : ℕ) (x : R) → Has (rows_of g rs) h x → (h ≡ g) × Has rs h x
   in_rows_of g [] h x has = absurd (none h x has)
   in_rows_of g (r ∷ rs) h x has = dite (ℕ_discrete r.0 g)
-      (λ e. ⊎_elim (λ t. (sym t.0 ∙ e, here_first r rs h x t.0 t.1)) (λ t. let q = in_rows_of g rs h x t in (q.0, here_later r rs h x q.1)) (first r (rows_of g rs) h x (subst (λ (l : Rows R). Has l h x) (picks g r rs e).0 has)))
+      (λ e. ⊎_elim (λ t. (
+        sym t.0
+            ∙ e,
+        here_first r rs h x t.0 t.1,
+      )) (λ t. let q = in_rows_of g rs h x t in (q.0, here_later r rs h x q.1)) (first r (rows_of g rs) h x
+      (subst (λ (l : Rows R). Has l h x) (picks g r rs e).0 has)))
       (λ ne. let q = in_rows_of g rs h x (subst (λ (l : Rows R). Has l h x) (skips g r rs ne).0 has) in (q.0, here_later r rs h x q.1))
 
   pub in_rows_but : (g : ℕ) (rs : Rows R) (h : ℕ) (x : R) → Has (rows_but g rs) h x → (h ≢ g) × Has rs h x
   in_rows_but g [] h x has = absurd (none h x has)
   in_rows_but g (r ∷ rs) h x has = dite (ℕ_discrete r.0 g)
       (λ e. let q = in_rows_but g rs h x (subst (λ (l : Rows R). Has l h x) (picks g r rs e).1 has) in (q.0, here_later r rs h x q.1))
-      (λ ne. ⊎_elim (λ t. ((λ e. ne (t.0 ∙ e)), here_first r rs h x t.0 t.1)) (λ t. let q = in_rows_but g rs h x t in (q.0, here_later r rs h x q.1)) (first r (rows_but g rs) h x (subst (λ (l : Rows R). Has l h x) (skips g r rs ne).1 has)))
+      (λ ne. ⊎_elim (λ t. (
+        (λ e. ne (t.0
+            ∙ e)),
+        here_first r rs h x t.0 t.1,
+      )) (λ t. let q = in_rows_but g rs h x t in (q.0, here_later r rs h x q.1)) (first r (rows_but g rs) h x
+      (subst (λ (l : Rows R). Has l h x) (skips g r rs ne).1 has)))
 
   pub to_rows_of : (g : ℕ) (rs : Rows R) (x : R) → Has rs g x → Has (rows_of g rs) g x
   to_rows_of g [] x has = has
   to_rows_of g (r ∷ rs) x has = dite (ℕ_discrete r.0 g)
-      (λ e. subst (λ (l : Rows R). Has l g x) (sym (picks g r rs e).0) (⊎_elim (λ t. here_first r (rows_of g rs) g x t.0 t.1) (λ t. here_later r (rows_of g rs) g x (to_rows_of g rs x t)) (first r rs g x has)))
-      (λ ne. subst (λ (l : Rows R). Has l g x) (sym (skips g r rs ne).0) (⊎_elim (λ t. absurd (ne t.0)) (λ t. to_rows_of g rs x t) (first r rs g x has)))
+      (λ e. subst (λ (l : Rows R). Has l g x) (sym (picks g r rs e).0) (⊎_elim (λ t. here_first r (rows_of g rs) g x t.0 t.1) (λ t. here_later r
+      (rows_of g rs) g x (to_rows_of g rs x t)) (first r rs g x has)))
+      (λ ne. subst (λ (l : Rows R). Has l g x) (sym (skips g r rs ne).0) (⊎_elim (λ t. absurd (ne t.0)) (λ t. to_rows_of g rs x t)
+      (first r rs g x has)))
 
   pub to_rows_but : (g : ℕ) (rs : Rows R) (h : ℕ) (x : R) → h ≢ g → Has rs h x → Has (rows_but g rs) h x
   to_rows_but g [] h x n has = has
   to_rows_but g (r ∷ rs) h x n has = dite (ℕ_discrete r.0 g)
-      (λ e. subst (λ (l : Rows R). Has l h x) (sym (picks g r rs e).1) (⊎_elim (λ t. absurd (n (sym t.0 ∙ e))) (λ t. to_rows_but g rs h x n t) (first r rs h x has)))
-      (λ ne. subst (λ (l : Rows R). Has l h x) (sym (skips g r rs ne).1) (⊎_elim (λ t. here_first r (rows_but g rs) h x t.0 t.1) (λ t. here_later r (rows_but g rs) h x (to_rows_but g rs h x n t)) (first r rs h x has)))
+      (λ e. subst (λ (l : Rows R). Has l h x) (sym (picks g r rs e).1) (⊎_elim (λ t. absurd (n (sym t.0
+      ∙ e))) (λ t. to_rows_but g rs h x n t) (first r rs h x has)))
+      (λ ne. subst (λ (l : Rows R). Has l h x) (sym (skips g r rs ne).1) (⊎_elim (λ t. here_first r (rows_but g rs) h x t.0 t.1) (λ t. here_later r
+      (rows_but g rs) h x (to_rows_but g rs h x n t)) (first r rs h x has)))
 
   pub in_both : (xs ys : Rows R) (h : ℕ) (x : R) → Has (xs ++ ys) h x → Has xs h x ⊎ Has ys h x
   in_both [] ys h x has = inr has
-  in_both (r ∷ xs) ys h x has = ⊎_elim (λ t. inl (here_first r xs h x t.0 t.1)) (λ t. ⊎_elim (λ u. inl (here_later r xs h x u)) (λ u. inr u) (in_both xs ys h x t)) (first r (xs ++ ys) h x has)
+  in_both (r ∷ xs) ys h x has = ⊎_elim (λ t. inl (here_first r xs h x t.0 t.1)) (λ t. ⊎_elim (λ u. inl (here_later r xs h x u)) (λ u. inr u)
+      (in_both xs ys h x t)) (first r (xs ++ ys) h x has)
 
   pub to_left : (xs ys : Rows R) (h : ℕ) (x : R) → Has xs h x → Has (xs ++ ys) h x
   to_left [] ys h x has = absurd (none h x has)
-  to_left (r ∷ xs) ys h x has = ⊎_elim (λ t. here_first r (xs ++ ys) h x t.0 t.1) (λ t. here_later r (xs ++ ys) h x (to_left xs ys h x t)) (first r xs h x has)
+  to_left (r ∷ xs) ys h x has = ⊎_elim (λ t. here_first r (xs ++ ys) h x t.0 t.1) (λ t. here_later r (xs ++ ys) h x (to_left xs ys h x t))
+      (first r xs h x has)
 
   pub to_right : (xs ys : Rows R) (h : ℕ) (x : R) → Has ys h x → Has (xs ++ ys) h x
   to_right [] ys h x has = has

@@ -16,16 +16,20 @@ same_words words a found left = ap (set words a.word) (left ∙ found) ∙ set_o
 
 replay_still : (since : List Access) (words : List ℕ) → Sound words since → ChangesNothing since → replay words since ≡ words
 replay_still [] words s still = refl
-replay_still (a ∷ since) words s still = replay_still since (set words a.word a.left) s.1 (λ i x q. still (suc i) x q) ∙ same_words words a s.0 (still 0 a refl)
+replay_still (a ∷ since) words s still = replay_still since (set words a.word a.left) s.1 (λ i x q. still (suc i) x q)
+    ∙ same_words words a s.0 (still 0 a refl)
 
-found_still : (since : List Access) (words : List ℕ) (a : Access) → Sound words since → ChangesNothing since → (i : ℕ) → get_elem? since i ≡ some a → a.found ≡ slice_index words a.word
+found_still : (since : List Access) (words : List ℕ) (a : Access) → Sound words since → ChangesNothing since → (i : ℕ)
+    → get_elem? since i ≡ some a → a.found ≡ slice_index words a.word
 found_still [] words a s still i q = absurd (some-ne-none a (sym q))
 found_still (x ∷ since) words a s still zero q = subst (λ (y : Access). y.found ≡ slice_index words y.word) (some-injective x a q) s.0
 found_still (x ∷ since) words a s still (suc i) q =
-    found_still since (set words x.word x.left) a s.1 (λ j y r. still (suc j) y r) i q ∙ ap (λ (l : List ℕ). slice_index l a.word) (same_words words x s.0 (still 0 x refl))
+    found_still since (set words x.word x.left) a s.1 (λ j y r. still (suc j) y r) i q
+    ∙ ap (λ (l : List ℕ). slice_index l a.word) (same_words words x s.0 (still 0 x refl))
 
 -- of what came after a history with all accesses of a goroutine, nothing is the goroutine's
-none_after : (g n : ℕ) (front rest history : List Access) → history ≡ front ++ rest → n ≡ accesses_by g front → n ≡ accesses_by g history → accesses_by g rest ≡ 0
+none_after : (g n : ℕ) (front rest history : List Access) → history ≡ front ++ rest → n ≡ accesses_by g front → n ≡ accesses_by g history
+    → accesses_by g rest ≡ 0
 none_after g n front rest history is all count =
     let parts = by_append g front rest in
     let whole : accesses_by g history ≡ accesses_by g (front ++ rest) = ap (accesses_by g) is in
@@ -49,9 +53,13 @@ turn_looks g old new before early later front turn rest history is had all more 
           (append_at front turn i x q);
     }
 
-module _ {E R : Type 0} (accesses : R → ℕ) (Explains : List ℕ → List R → List E → Type 0) (opening words : List ℕ) (v : View R) (end : Closing accesses Explains opening words v) (before since : List Access) (history : end.history ≡ before ++ since) (looked : (g : ℕ) (c : R) → get_elem? end.recs g ≡ some c → HasLooked accesses before end.history g c) where
+module _ {E R : Type 0} (accesses : R → ℕ) (Explains : List ℕ → List R → List E
+    → Type 0) (opening words : List ℕ) (v : View R) (end : Closing accesses Explains opening words v) (before since : List Access)
+    (history : end.history ≡ before ++ since) (looked : (g : ℕ) (c : R) → get_elem? end.recs g ≡ some c
+    → HasLooked accesses before end.history g c) where
   still_by : (by : Option ℕ) (i : ℕ) (a : Access) → get_elem? since i ≡ some a → a.by ≡ by → a.left ≡ a.found
-  still_by None i a q is = let p = at_append before since i a q in end.account.glances p.0 a (subst (λ (l : List Access). get_elem? l p.0 ≡ some a) (sym history) p.1) is
+  still_by None i a q is = let p = at_append before since i a q in end.account.glances p.0 a (subst (λ (l : List Access). get_elem? l p.0 ≡ some a)
+      (sym history) p.1) is
   still_by (Some g) i a q is =
       let p = at_append before since i a q in
       let c = below_at end.recs g (end.account.makers p.0 a g (subst (λ (l : List Access). get_elem? l p.0 ≡ some a) (sym history) p.1) is) in
@@ -68,7 +76,8 @@ module _ {E R : Type 0} (accesses : R → ℕ) (Explains : List ℕ → List R �
   sound = sound_rest opening before since (subst (λ (l : List Access). Sound opening l) history end.account.sound)
 
   pub words_stay : words ≡ replay opening before
-  words_stay = end.account.replayed ∙ (ap (replay opening) history ∙ (replay_append opening before since ∙ replay_still since (replay opening before) sound all_still))
+  words_stay = end.account.replayed ∙ (ap (replay opening) history ∙ (replay_append opening before since
+      ∙ replay_still since (replay opening before) sound all_still))
 
   pub found_stays : (i : ℕ) (a : Access) → get_elem? since i ≡ some a → a.found ≡ slice_index words a.word
   found_stays i a q = found_still since (replay opening before) a sound all_still i q ∙ ap (λ (l : List ℕ). slice_index l a.word) (sym words_stay)

@@ -15,7 +15,8 @@ module _ {E R : Type 0} (accesses : R → ℕ) (Explains : List ℕ → List R �
       let q = more words (set recs g d) (run ++ r.0) r.1 (set_here recs g d (at_below recs g c at)) in
       (r.0 ++ q.0, rw (← set_twice recs g d e, ← append_assoc run r.0 q.0) q.1)
 
-  pub still_move : (g : ℕ) (c d : R) (i : ℕ) (f : ℕ → ℕ) (tells : ℕ → R → Type 0) → Still accesses Explains g c d → accesses d ≡ accesses c → Move accesses Explains g d i f tells → Move accesses Explains g c i f tells
+  pub still_move : (g : ℕ) (c d : R) (i : ℕ) (f : ℕ → ℕ) (tells : ℕ → R → Type 0) → Still accesses Explains g c d → accesses d ≡ accesses c
+      → Move accesses Explains g d i f tells → Move accesses Explains g c i f tells
   still_move g c d i f tells still same move words recs run explains at fits =
       let r = still words recs run explains at in
       let q = move words (set recs g d) (run ++ r.0) r.1 (set_here recs g d (at_below recs g c at)) fits in

@@ -200,7 +200,8 @@ pub record RuleExamples : Type 0 where
 pub record MoveExamples : Type 0 where
   -- a goroutine that starts another has to draw a number
   pub no_draw : Move accesses (Counts 8) 0 new_adder 1 (λ n. n) (λ n d. d ≡ drew new_adder) → ⊥
-  pub no_child : MoveEither accesses (Counts 8) 0 new_adder 1 (λ n. suc n) (λ n d. (8 ≤ n) × (d ≡ drew new_adder)) (λ n d child. (d ≡ drew new_adder) × (child ≡ added new_adder)) → ⊥
+  pub no_child : MoveEither accesses (Counts 8) 0 new_adder 1 (λ n. suc n) (λ n d. (8 ≤ n)
+      × (d ≡ drew new_adder)) (λ n d child. (d ≡ drew new_adder) × (child ≡ added new_adder)) → ⊥
   -- who has not drawn a number cannot come to have done so without an access
   pub no_quiet_draw : Still accesses (Counts 8) 0 new_adder (drew new_adder) → ⊥
   pub told : Told accesses 1 DrawTicket 0 (λ n. suc n) (λ n d. (n ≡ 1) × (d ≡ child_record)) before_add 1 after_add

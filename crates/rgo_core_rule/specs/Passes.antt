@@ -32,7 +32,8 @@ TwoPasses = (xs : List Access) (yss : List (List Access))
 
 -- after a pass nobody has seen more than who went through them
 abbrev pub NobodyAhead : Type 0
-NobodyAhead = (xs : List Access) (yss : List (List Access)) (i : ℕ) (ys : List Access) → get_elem? yss i ≡ some ys → length ys ≤ length (after_pass xs yss)
+NobodyAhead = (xs : List Access) (yss : List (List Access)) (i : ℕ) (ys : List Access) → get_elem? yss i ≡ some ys
+    → length ys ≤ length (after_pass xs yss)
 
 -- ---- what has changed
 

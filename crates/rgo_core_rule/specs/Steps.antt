@@ -19,7 +19,8 @@ module _ {E R : Type 0} (accesses : R → ℕ) (Explains : List ℕ → List R �
     pub tells_so : tells (slice_index words i) after
 
   -- the same, where the access starts a goroutine, whose number is what was found
-  pub record MovedChild (words : List ℕ) (recs : List R) (run : List E) (g : ℕ) (c : R) (i : ℕ) (f : ℕ → ℕ) (tells : ℕ → R → R → Type 0) : Type 0 where
+  pub record MovedChild (words : List ℕ) (recs : List R) (run : List E) (g : ℕ) (c : R) (i : ℕ) (f : ℕ → ℕ) (tells : ℕ → R → R
+      → Type 0) : Type 0 where
     pub after : R
     pub child : R
     pub gain : List E

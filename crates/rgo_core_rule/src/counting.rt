@@ -59,23 +59,29 @@ pub fn examples()
 
 /// The law of an addition: it is one event of the run.
 pub fn add_law()
-    ensures { (limit g : ℕ) (c : adders.Adder) → Move (λ (c : adders.Adder). c.accesses) (Counts limit) g c 0 (λ n. (n + 1) % 2 ^ 64) (λ n d. d ≡ added c) }
+    ensures { (limit g : ℕ) (c : adders.Adder)
+        → Move (λ (c : adders.Adder). c.accesses) (Counts limit) g c 0 (λ n. (n + 1) % 2 ^ 64) (λ n d. d ≡ added c) }
 {}
 
 /// The law of a draw: below the limit it starts a goroutine.
 pub fn start_law()
-    ensures { (limit g : ℕ) (c : adders.Adder) → c.has_drawn ≡ false → MoveEither (λ (c : adders.Adder). c.accesses) (Counts limit) g c 1 (λ n. (n + 1) % 2 ^ 64) (λ n d. (limit ≤ n) × (d ≡ drew c)) (λ n d child. (n < limit) × (d ≡ drew c) × (child ≡ new_adder)) }
+    ensures { (limit g : ℕ) (c : adders.Adder) → c.has_drawn ≡ false
+        → MoveEither (λ (c : adders.Adder). c.accesses) (Counts limit) g c 1 (λ n. (n + 1) % 2 ^ 64)
+        (λ n d. (limit ≤ n) × (d ≡ drew c)) (λ n d child. (n < limit) × (d ≡ drew c) × (child ≡ new_adder)) }
 {}
 
 /// A goroutine may idle without an access.
 pub fn idle_law()
-    ensures { (limit g : ℕ) (c : adders.Adder) → Still (λ (c : adders.Adder). c.accesses) (Counts limit) g c (idled c) }
+    ensures { (limit g : ℕ) (c : adders.Adder)
+        → Still (λ (c : adders.Adder). c.accesses) (Counts limit) g c (idled c) }
 {}
 
 /// A table with the total 0, and the seat of its first goroutine.
 pub fn open(alloc: Global, plan: &Plan) -> Result<(Total, AdderSeat), AllocError>
     requires { (0 < plan.now.limit) × (plan.now.limit < 2 ^ 63) }
-    ensures { IfOk result (λ t. (t.0.shared.table_id.words ≡ 2) × (t.0.shared.table_id.slots ≡ 0) × (t.0.shared.key ≡ plan.now) × (t.1.table_id ≡ t.0.shared.table_id) × (t.1.me ≡ (view ((0, new_adder) ∷ []) [], []))) }
+    ensures { IfOk result (λ t. (t.0.shared.table_id.words ≡ 2) × (t.0.shared.table_id.slots ≡ 0)
+        × (t.0.shared.key ≡ plan.now) × (t.1.table_id ≡ t.0.shared.table_id)
+        × (t.1.me ≡ (view ((0, new_adder) ∷ []) [], []))) }
 {
     seats::open::<Adder, Plan, Counting>(alloc, &[0, 1], plan)
 }
@@ -86,7 +92,8 @@ pub fn add(table: &Total, seat: &mut AdderSeat) -> u64
     requires alone { IsAlone new_adder seat.old.me }
     ensures own { (seat.new.table_id ≡ seat.old.table_id) × (seat.new.id ≡ seat.old.id) }
     ensures alone { IsAlone new_adder seat.new.me }
-    ensures told { Told (λ (c : adders.Adder). c.accesses) (number_of seat.old.me) kind.DrawTicket 0 (λ n. (n + 1) % 2 ^ 64) (λ n d. d ≡ added (record_of new_adder seat.old.me)) seat.old.me result seat.new.me }
+    ensures told { Told (λ (c : adders.Adder). c.accesses) (number_of seat.old.me) kind.DrawTicket 0
+        (λ n. (n + 1) % 2 ^ 64) (λ n d. d ≡ added (record_of new_adder seat.old.me)) seat.old.me result seat.new.me }
 {
     fetch_add::<Adder, Plan, Counting, Brand, _>(table, seat, 0, 1, &())
 }
@@ -108,9 +115,11 @@ pub fn start(table: &Total, seat: &mut AdderSeat, limit: u64) -> Option<u64>
 /// The last words, and the run that explains them.
 pub fn close(table: Total, seat: AdderSeat) -> Closed<(), Global>
     requires { seat.table_id ≡ table.shared.table_id }
-    ensures counts { (slots_len result.words ≡ table.shared.table_id.words) × (slots_len result.slots ≡ table.shared.table_id.slots) }
+    ensures counts { (slots_len result.words ≡ table.shared.table_id.words)
+        × (slots_len result.slots ≡ table.shared.table_id.slots) }
     ensures full { IsFull result.words }
-    ensures end { Closing (λ (c : adders.Adder). c.accesses) (Counts table.shared.key.limit) (0 ∷ 1 ∷ []) (slots_items result.words) seat.me.0 }
+    ensures end { Closing (λ (c : adders.Adder). c.accesses) (Counts table.shared.key.limit) (0 ∷ 1 ∷ [])
+        (slots_items result.words) seat.me.0 }
 {
     seats::close(table, seat)
 }

@@ -29,15 +29,19 @@ pub fn nobody_ahead()
 
 /// What becomes of a record without an access may happen just before the goroutine's next access.
 pub fn still_then_move<R, K, X: Explanation<R, K>, T: Step<R>>()
-    ensures { (key : K) (g : ℕ) (c d : R) (i : ℕ) (f : ℕ → ℕ) → Still X.accesses (X.explains key) g c d → X.accesses d ≡ X.accesses c → Move X.accesses (X.explains key) g d i f T.tells → Move X.accesses (X.explains key) g c i f T.tells }
+    ensures { (key : K) (g : ℕ) (c d : R) (i : ℕ) (f : ℕ → ℕ) → Still X.accesses (X.explains key) g c d
+        → X.accesses d ≡ X.accesses c → Move X.accesses (X.explains key) g d i f T.tells
+        → Move X.accesses (X.explains key) g c i f T.tells }
 {}
 
 /// Several such changes in a row are one.
 pub fn still_then_still<R, K, X: Explanation<R, K>>()
-    ensures { (key : K) (g : ℕ) (c d e : R) → Still X.accesses (X.explains key) g c d → Still X.accesses (X.explains key) g d e → Still X.accesses (X.explains key) g c e }
+    ensures { (key : K) (g : ℕ) (c d e : R) → Still X.accesses (X.explains key) g c d
+        → Still X.accesses (X.explains key) g d e → Still X.accesses (X.explains key) g c e }
 {}
 
 /// A goroutine and one that it has just started are parted into two seats with one record each.
 pub fn two_rows<R>()
-    ensures { (g n : ℕ) (c d : R) → g < n → (rows_of n ((g, c) ∷ (n, d) ∷ []) ≡ (n, d) ∷ []) × (rows_but n ((g, c) ∷ (n, d) ∷ []) ≡ (g, c) ∷ []) }
+    ensures { (g n : ℕ) (c d : R) → g < n → (rows_of n ((g, c) ∷ (n, d) ∷ []) ≡ (n, d) ∷ [])
+        × (rows_but n ((g, c) ∷ (n, d) ∷ []) ≡ (g, c) ∷ []) }
 {}

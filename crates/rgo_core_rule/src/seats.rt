@@ -21,8 +21,10 @@ pub fn open<R, K, X: Explanation<R, K>>(
     requires words { words.now ≡ X.opening about.now }
     requires new { X.accesses (X.first about.now) ≡ 0 }
     requires explains { X.explains about.now (X.opening about.now) (X.first about.now ∷ []) [] }
-    ensures table { IfOk result (λ t. (t.0.shared.table_id.words ≡ length words.now) × (t.0.shared.table_id.slots ≡ 0) × (t.0.shared.key ≡ about.now)) }
-    ensures seat { IfOk result (λ t. (t.1.table_id ≡ t.0.shared.table_id) × (t.1.me ≡ (view ((0, X.first about.now) ∷ []) [], []))) }
+    ensures table { IfOk result (λ t. (t.0.shared.table_id.words ≡ length words.now)
+        × (t.0.shared.table_id.slots ≡ 0) × (t.0.shared.key ≡ about.now)) }
+    ensures seat { IfOk result (λ t. (t.1.table_id ≡ t.0.shared.table_id)
+        × (t.1.me ≡ (view ((0, X.first about.now) ∷ []) [], []))) }
 {
     Table::of_words(alloc, words, about)
 }
@@ -33,9 +35,11 @@ pub fn close<R, K, X: Explanation<R, K>>(
     seat: Chair<R>,
 ) -> Closed<(), Global>
     requires own { seat.table_id ≡ table.shared.table_id }
-    ensures counts { (slots_len result.words ≡ table.shared.table_id.words) × (slots_len result.slots ≡ table.shared.table_id.slots) }
+    ensures counts { (slots_len result.words ≡ table.shared.table_id.words)
+        × (slots_len result.slots ≡ table.shared.table_id.slots) }
     ensures full { IsFull result.words }
-    ensures end { Closing X.accesses (X.explains table.shared.key) (X.opening table.shared.key) (slots_items result.words) seat.me.0 }
+    ensures end { Closing X.accesses (X.explains table.shared.key) (X.opening table.shared.key)
+        (slots_items result.words) seat.me.0 }
 {
     table.close_with(seat)
 }
@@ -62,8 +66,10 @@ fn cut_as<R, K, X: Explanation<R, K>, T: Parting<R>, A>(
     _about: &A,
 ) -> Chair<R>
     requires own { (seat.old.table_id ≡ table.now.shared.table_id) × (0 < table.now.shared.table_id.words) }
-    requires rule { Splits (Explained X.accesses (X.explains table.now.shared.key) (X.opening table.now.shared.key)) seat.old.id seat.old.me.0 (T.left seat.old.me.0) (T.right seat.old.me.0) }
-    ensures old { (seat.new.table_id ≡ seat.old.table_id) × (seat.new.id ≡ seat.old.id) × (seat.new.me ≡ (T.left seat.old.me.0, seat.old.me.1)) }
+    requires rule { Splits (Explained X.accesses (X.explains table.now.shared.key)
+        (X.opening table.now.shared.key)) seat.old.id seat.old.me.0 (T.left seat.old.me.0) (T.right seat.old.me.0) }
+    ensures old { (seat.new.table_id ≡ seat.old.table_id) × (seat.new.id ≡ seat.old.id)
+        × (seat.new.me ≡ (T.left seat.old.me.0, seat.old.me.1)) }
     ensures new { (result.table_id ≡ seat.old.table_id) × (result.me ≡ (T.right seat.old.me.0, [])) }
 {
     table.shared.split_seat::<Cut<R, T>>(seat)
@@ -77,8 +83,10 @@ pub fn part<R, K, X: Explanation<R, K>>(
 ) -> Chair<R>
     requires own { (seat.old.table_id ≡ table.now.shared.table_id) × (0 < table.now.shared.table_id.words) }
     requires has { (c : R) × Has seat.old.me.0.records number c }
-    ensures old { (seat.new.table_id ≡ seat.old.table_id) × (seat.new.id ≡ seat.old.id) × (seat.new.me ≡ (view (rows_but number seat.old.me.0.records) seat.old.me.0.seen, seat.old.me.1)) }
-    ensures new { (result.table_id ≡ seat.old.table_id) × (result.me ≡ (view (rows_of number seat.old.me.0.records) seat.old.me.0.seen, [])) }
+    ensures old { (seat.new.table_id ≡ seat.old.table_id) × (seat.new.id ≡ seat.old.id)
+        × (seat.new.me ≡ (view (rows_but number seat.old.me.0.records) seat.old.me.0.seen, seat.old.me.1)) }
+    ensures new { (result.table_id ≡ seat.old.table_id)
+        × (result.me ≡ (view (rows_of number seat.old.me.0.records) seat.old.me.0.seen, [])) }
 {
     cut_as::<R, K, X, Brand, _>(table, seat, &number)
 }
@@ -89,7 +97,8 @@ pub fn retire<R, K, X: Explanation<R, K>>(
     seat: &mut Chair<R>,
     other: Chair<R>,
 )
-    requires own { (seat.old.table_id ≡ table.now.shared.table_id) × (other.table_id ≡ table.now.shared.table_id) × (0 < table.now.shared.table_id.words) }
+    requires own { (seat.old.table_id ≡ table.now.shared.table_id) × (other.table_id ≡ table.now.shared.table_id)
+        × (0 < table.now.shared.table_id.words) }
     requires empty { other.me.1 ≡ [] }
     ensures own { (seat.new.table_id ≡ seat.old.table_id) × (seat.new.id ≡ seat.old.id) }
     ensures view { seat.new.me ≡ (joined seat.old.me.0 other.me.0, seat.old.me.1) }
@@ -100,7 +109,8 @@ pub fn retire<R, K, X: Explanation<R, K>>(
 /// A new seat with no record, which has seen the same.
 fn note<R, K, X: Explanation<R, K>>(table: &Cells<R, K, X>, seat: &mut Chair<R>) -> Chair<R>
     requires own { (seat.old.table_id ≡ table.now.shared.table_id) × (0 < table.now.shared.table_id.words) }
-    ensures old { (seat.new.table_id ≡ seat.old.table_id) × (seat.new.id ≡ seat.old.id) × (seat.new.me ≡ (seat.old.me.0, seat.old.me.1)) }
+    ensures old { (seat.new.table_id ≡ seat.old.table_id) × (seat.new.id ≡ seat.old.id)
+        × (seat.new.me ≡ (seat.old.me.0, seat.old.me.1)) }
     ensures new { (result.table_id ≡ seat.old.table_id) × (result.me ≡ (view [] seat.old.me.0.seen, [])) }
 {
     cut_as::<R, K, X, Brand, _>(table, seat, &())
@@ -112,10 +122,19 @@ pub fn meet<R, K, X: Explanation<R, K>>(
     seat: &mut Chair<R>,
     other: &mut Chair<R>,
 )
-    requires own { (seat.old.table_id ≡ table.now.shared.table_id) × (other.old.table_id ≡ table.now.shared.table_id) × (0 < table.now.shared.table_id.words) }
+    requires own { (seat.old.table_id ≡ table.now.shared.table_id)
+        × (other.old.table_id ≡ table.now.shared.table_id) × (0 < table.now.shared.table_id.words) }
     ensures own { (seat.new.table_id ≡ seat.old.table_id) × (other.new.table_id ≡ other.old.table_id) }
-    ensures seat { seat.new.me ≡ (view seat.old.me.0.records (longer seat.old.me.0.seen other.old.me.0.seen), seat.old.me.1) }
-    ensures other { other.new.me ≡ (view other.old.me.0.records (longer seat.old.me.0.seen other.old.me.0.seen), other.old.me.1) }
+    ensures seat { seat.new.me ≡ (
+      view seat.old.me.0.records
+          (longer seat.old.me.0.seen other.old.me.0.seen),
+      seat.old.me.1,
+    ) }
+    ensures other { other.new.me ≡ (
+      view other.old.me.0.records
+          (longer seat.old.me.0.seen other.old.me.0.seen),
+      other.old.me.1,
+    ) }
 {
     let word = note(table, seat);
     table.shared.join_seat::<Informed>(other, word);

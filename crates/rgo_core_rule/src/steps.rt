@@ -66,7 +66,8 @@ pub struct Stores<K, X, T> {
 }
 
 impl<R, K, X: Explanation<R, K>, T: Step<R>> Play<(), View<R>> for Stores<K, X, T> {
-    ghost then = { λ s m n w. (found : ℕ) × Told X.accesses (number_of m) T.kind s.word (λ n. s.first) T.tells m found w };
+    ghost then = { λ s m n w. (found : ℕ)
+        × Told X.accesses (number_of m) T.kind s.word (λ n. s.first) T.tells m found w };
 }
 
 /// The first operand is added, modulo 2^64.
@@ -75,7 +76,8 @@ pub struct Adds<K, X, T> {
 }
 
 impl<R, K, X: Explanation<R, K>, T: Step<R>> Play<(), View<R>> for Adds<K, X, T> {
-    ghost then = { λ s m n w. Told X.accesses (number_of m) T.kind s.word (λ n. (n + s.first) % 2 ^ 64) T.tells m n w };
+    ghost then = { λ s m n w. Told X.accesses (number_of m) T.kind s.word
+        (λ n. (n + s.first) % 2 ^ 64) T.tells m n w };
 }
 
 /// The first operand is subtracted, modulo 2^64.
@@ -84,7 +86,8 @@ pub struct Subtracts<K, X, T> {
 }
 
 impl<R, K, X: Explanation<R, K>, T: Step<R>> Play<(), View<R>> for Subtracts<K, X, T> {
-    ghost then = { λ s m n w. Told X.accesses (number_of m) T.kind s.word (λ n. (n + (2 ^ 64 - s.first)) % 2 ^ 64) T.tells m n w };
+    ghost then = { λ s m n w. Told X.accesses (number_of m) T.kind s.word
+        (λ n. (n + (2 ^ 64 - s.first)) % 2 ^ 64) T.tells m n w };
 }
 
 /// The bits of the first operand are set.
@@ -102,7 +105,8 @@ pub struct Exchanges<K, X, T> {
 }
 
 impl<R, K, X: Explanation<R, K>, T: Step<R>> Play<(), View<R>> for Exchanges<K, X, T> {
-    ghost then = { λ s m n w. Told X.accesses (number_of m) T.kind s.word (λ n. either (n == s.first) s.second n) T.tells m n w };
+    ghost then = { λ s m n w. Told X.accesses (number_of m) T.kind s.word
+        (λ n. either (n == s.first) s.second n) T.tells m n w };
 }
 
 /// The first operand is added, modulo 2^64, and a goroutine may start.
@@ -125,10 +129,12 @@ pub fn load<R, K, X: Explanation<R, K>, T: Step<R>, A>(
 ) -> u64
     requires own { (seat.old.table_id ≡ table.now.shared.table_id) × (word < table.now.shared.table_id.words) }
     requires alone { IsAlone (X.first table.now.shared.key) seat.old.me }
-    requires law { Move X.accesses (X.explains table.now.shared.key) (number_of seat.old.me) (record_of (X.first table.now.shared.key) seat.old.me) word (λ n. n) T.tells }
+    requires law { Move X.accesses (X.explains table.now.shared.key) (number_of seat.old.me)
+        (record_of (X.first table.now.shared.key) seat.old.me) word (λ n. n) T.tells }
     ensures own { (seat.new.table_id ≡ seat.old.table_id) × (seat.new.id ≡ seat.old.id) }
     ensures alone { IsAlone (X.first table.now.shared.key) seat.new.me }
-    ensures told { Told X.accesses (number_of seat.old.me) T.kind word (λ n. n) T.tells seat.old.me result seat.new.me }
+    ensures told { Told X.accesses (number_of seat.old.me) T.kind word
+        (λ n. n) T.tells seat.old.me result seat.new.me }
 {
     table.shared.load::<Loads<K, X, T>>(seat, word)
 }
@@ -143,10 +149,12 @@ pub fn store<R, K, X: Explanation<R, K>, T: Step<R>, A>(
 )
     requires own { (seat.old.table_id ≡ table.now.shared.table_id) × (word < table.now.shared.table_id.words) }
     requires alone { IsAlone (X.first table.now.shared.key) seat.old.me }
-    requires law { Move X.accesses (X.explains table.now.shared.key) (number_of seat.old.me) (record_of (X.first table.now.shared.key) seat.old.me) word (λ n. new) T.tells }
+    requires law { Move X.accesses (X.explains table.now.shared.key) (number_of seat.old.me)
+        (record_of (X.first table.now.shared.key) seat.old.me) word (λ n. new) T.tells }
     ensures own { (seat.new.table_id ≡ seat.old.table_id) × (seat.new.id ≡ seat.old.id) }
     ensures alone { IsAlone (X.first table.now.shared.key) seat.new.me }
-    ensures told { (n : ℕ) × Told X.accesses (number_of seat.old.me) T.kind word (λ n. new) T.tells seat.old.me n seat.new.me }
+    ensures told { (n : ℕ)
+        × Told X.accesses (number_of seat.old.me) T.kind word (λ n. new) T.tells seat.old.me n seat.new.me }
 {
     table.shared.store::<Stores<K, X, T>>(seat, word, new);
 }
@@ -161,10 +169,12 @@ pub fn swap<R, K, X: Explanation<R, K>, T: Step<R>, A>(
 ) -> u64
     requires own { (seat.old.table_id ≡ table.now.shared.table_id) × (word < table.now.shared.table_id.words) }
     requires alone { IsAlone (X.first table.now.shared.key) seat.old.me }
-    requires law { Move X.accesses (X.explains table.now.shared.key) (number_of seat.old.me) (record_of (X.first table.now.shared.key) seat.old.me) word (λ n. new) T.tells }
+    requires law { Move X.accesses (X.explains table.now.shared.key) (number_of seat.old.me)
+        (record_of (X.first table.now.shared.key) seat.old.me) word (λ n. new) T.tells }
     ensures own { (seat.new.table_id ≡ seat.old.table_id) × (seat.new.id ≡ seat.old.id) }
     ensures alone { IsAlone (X.first table.now.shared.key) seat.new.me }
-    ensures told { Told X.accesses (number_of seat.old.me) T.kind word (λ n. new) T.tells seat.old.me result seat.new.me }
+    ensures told { Told X.accesses (number_of seat.old.me) T.kind word
+        (λ n. new) T.tells seat.old.me result seat.new.me }
 {
     table.shared.swap::<Swaps<K, X, T>>(seat, word, new)
 }
@@ -179,10 +189,12 @@ pub fn fetch_add<R, K, X: Explanation<R, K>, T: Step<R>, A>(
 ) -> u64
     requires own { (seat.old.table_id ≡ table.now.shared.table_id) × (word < table.now.shared.table_id.words) }
     requires alone { IsAlone (X.first table.now.shared.key) seat.old.me }
-    requires law { Move X.accesses (X.explains table.now.shared.key) (number_of seat.old.me) (record_of (X.first table.now.shared.key) seat.old.me) word (λ n. (n + k) % 2 ^ 64) T.tells }
+    requires law { Move X.accesses (X.explains table.now.shared.key) (number_of seat.old.me)
+        (record_of (X.first table.now.shared.key) seat.old.me) word (λ n. (n + k) % 2 ^ 64) T.tells }
     ensures own { (seat.new.table_id ≡ seat.old.table_id) × (seat.new.id ≡ seat.old.id) }
     ensures alone { IsAlone (X.first table.now.shared.key) seat.new.me }
-    ensures told { Told X.accesses (number_of seat.old.me) T.kind word (λ n. (n + k) % 2 ^ 64) T.tells seat.old.me result seat.new.me }
+    ensures told { Told X.accesses (number_of seat.old.me) T.kind word
+        (λ n. (n + k) % 2 ^ 64) T.tells seat.old.me result seat.new.me }
 {
     table.shared.fetch_add::<Adds<K, X, T>>(seat, word, k)
 }
@@ -197,10 +209,12 @@ pub fn fetch_sub<R, K, X: Explanation<R, K>, T: Step<R>, A>(
 ) -> u64
     requires own { (seat.old.table_id ≡ table.now.shared.table_id) × (word < table.now.shared.table_id.words) }
     requires alone { IsAlone (X.first table.now.shared.key) seat.old.me }
-    requires law { Move X.accesses (X.explains table.now.shared.key) (number_of seat.old.me) (record_of (X.first table.now.shared.key) seat.old.me) word (λ n. (n + (2 ^ 64 - k)) % 2 ^ 64) T.tells }
+    requires law { Move X.accesses (X.explains table.now.shared.key) (number_of seat.old.me)
+        (record_of (X.first table.now.shared.key) seat.old.me) word (λ n. (n + (2 ^ 64 - k)) % 2 ^ 64) T.tells }
     ensures own { (seat.new.table_id ≡ seat.old.table_id) × (seat.new.id ≡ seat.old.id) }
     ensures alone { IsAlone (X.first table.now.shared.key) seat.new.me }
-    ensures told { Told X.accesses (number_of seat.old.me) T.kind word (λ n. (n + (2 ^ 64 - k)) % 2 ^ 64) T.tells seat.old.me result seat.new.me }
+    ensures told { Told X.accesses (number_of seat.old.me) T.kind word
+        (λ n. (n + (2 ^ 64 - k)) % 2 ^ 64) T.tells seat.old.me result seat.new.me }
 {
     table.shared.fetch_sub::<Subtracts<K, X, T>>(seat, word, k)
 }
@@ -215,10 +229,12 @@ pub fn fetch_or<R, K, X: Explanation<R, K>, T: Step<R>, A>(
 ) -> u64
     requires own { (seat.old.table_id ≡ table.now.shared.table_id) × (word < table.now.shared.table_id.words) }
     requires alone { IsAlone (X.first table.now.shared.key) seat.old.me }
-    requires law { Move X.accesses (X.explains table.now.shared.key) (number_of seat.old.me) (record_of (X.first table.now.shared.key) seat.old.me) word (λ n. bit_or n k) T.tells }
+    requires law { Move X.accesses (X.explains table.now.shared.key) (number_of seat.old.me)
+        (record_of (X.first table.now.shared.key) seat.old.me) word (λ n. bit_or n k) T.tells }
     ensures own { (seat.new.table_id ≡ seat.old.table_id) × (seat.new.id ≡ seat.old.id) }
     ensures alone { IsAlone (X.first table.now.shared.key) seat.new.me }
-    ensures told { Told X.accesses (number_of seat.old.me) T.kind word (λ n. bit_or n k) T.tells seat.old.me result seat.new.me }
+    ensures told { Told X.accesses (number_of seat.old.me) T.kind word
+        (λ n. bit_or n k) T.tells seat.old.me result seat.new.me }
 {
     table.shared.fetch_or::<Sets<K, X, T>>(seat, word, k)
 }
@@ -234,10 +250,12 @@ pub fn compare_exchange<R, K, X: Explanation<R, K>, T: Step<R>, A>(
 ) -> u64
     requires own { (seat.old.table_id ≡ table.now.shared.table_id) × (word < table.now.shared.table_id.words) }
     requires alone { IsAlone (X.first table.now.shared.key) seat.old.me }
-    requires law { Move X.accesses (X.explains table.now.shared.key) (number_of seat.old.me) (record_of (X.first table.now.shared.key) seat.old.me) word (λ n. either (n == old) new n) T.tells }
+    requires law { Move X.accesses (X.explains table.now.shared.key) (number_of seat.old.me)
+        (record_of (X.first table.now.shared.key) seat.old.me) word (λ n. either (n == old) new n) T.tells }
     ensures own { (seat.new.table_id ≡ seat.old.table_id) × (seat.new.id ≡ seat.old.id) }
     ensures alone { IsAlone (X.first table.now.shared.key) seat.new.me }
-    ensures told { Told X.accesses (number_of seat.old.me) T.kind word (λ n. either (n == old) new n) T.tells seat.old.me result seat.new.me }
+    ensures told { Told X.accesses (number_of seat.old.me) T.kind word
+        (λ n. either (n == old) new n) T.tells seat.old.me result seat.new.me }
 {
     table
         .shared
@@ -254,9 +272,13 @@ pub fn fetch_add_start<R, K, X: Explanation<R, K>, T: Start<R>, A>(
 ) -> u64
     requires own { (seat.old.table_id ≡ table.now.shared.table_id) × (word < table.now.shared.table_id.words) }
     requires alone { IsAlone (X.first table.now.shared.key) seat.old.me }
-    requires law { MoveEither X.accesses (X.explains table.now.shared.key) (number_of seat.old.me) (record_of (X.first table.now.shared.key) seat.old.me) word (λ n. (n + k) % 2 ^ 64) T.tells T.tells_child }
+    requires law { MoveEither X.accesses (X.explains table.now.shared.key) (number_of seat.old.me)
+        (record_of (X.first table.now.shared.key) seat.old.me) word (λ n. (n + k) % 2 ^ 64) T.tells T.tells_child }
     ensures own { (seat.new.table_id ≡ seat.old.table_id) × (seat.new.id ≡ seat.old.id) }
-    ensures told { Told X.accesses (number_of seat.old.me) T.kind word (λ n. (n + k) % 2 ^ 64) T.tells seat.old.me result seat.new.me ⊎ ToldChild X.accesses (number_of seat.old.me) T.kind word (λ n. (n + k) % 2 ^ 64) T.tells_child seat.old.me result seat.new.me }
+    ensures told { Told X.accesses (number_of seat.old.me) T.kind word
+        (λ n. (n + k) % 2 ^ 64) T.tells seat.old.me result seat.new.me
+        ⊎ ToldChild X.accesses (number_of seat.old.me) T.kind word
+        (λ n. (n + k) % 2 ^ 64) T.tells_child seat.old.me result seat.new.me }
 {
     table.shared.fetch_add::<Draws<K, X, T>>(seat, word, k)
 }

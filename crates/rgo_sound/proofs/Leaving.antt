@@ -1,13 +1,13 @@
 -- What an event leaves as it was.
-use Rattle.std.proofs.Common.{◌≡◌, ℕ, zero, suc, ◌<◌, ◌⊎◌, inl, inr, false, List, [], ◌∷◌, ◌++◌, length, Option, Some, None, refl, sym, ap, subst, ◌∙◌}
+use Rattle.std.proofs.Common.{◌≡◌, ℕ, inl, inr, false, List, [], ◌∷◌, ◌++◌, Option, Some, None, refl, sym, ap, subst, ◌∙◌}
 use Rattle.std.proofs.Common.{slice_get, slice_set, nat_eq, arith}
 use Rattle.std.proofs.lemmas.Bool.Decides.{nat_tests}
 use Rattle.std.proofs.lemmas.Option.{same_Some, slice_get_within}
-use Rattle.rgo_code.specs.Code.{Branch, Call, Code, CodeInstr, CodeOp, Do, Go, Jump, Print, Return}
+use Rattle.rgo_code.specs.Code.{Branch, Call, Code, CodeOp, Do, Go, Jump, Print, Return}
 use Rattle.rgo_machine.specs.declared.picks.End.{End}
 use Rattle.rgo_machine.specs.declared.picks.End.TheVariants.{Exit, Trap}
 use Rattle.rgo_machine.specs.declared.picks.Pick.TheVariants.{Meet, One}
-use Rattle.rgo_region_machine.specs.Duties.{attend, attended, duty_done, protected, removal, shared, unprotected, with_protection}
+use Rattle.rgo_region_machine.specs.Duties.{attend, attended, duty_done, protected, removal, shared, unprotected}
 use Rattle.rgo_region_machine.specs.Instructions.{child_holder, holder_after, last_frames, unless_trapped}
 use Rattle.rgo_region_machine.specs.Machine.{Acknowledge, Attend, Event, Finish, Instruct, MakeOffer, TakePage}
 use Rattle.rgo_region_machine.specs.Machine.{page_for, page_taken, region_step, take_page, takes_page}

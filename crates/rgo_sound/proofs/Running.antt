@@ -1,5 +1,5 @@
 -- The three-address machine's part of a region run has never ended: an end is a mark, and steps may follow it.
-use Rattle.std.proofs.Common.{◌≡◌, ℕ, List, Some, None, refl, ap, ◌∙◌}
+use Rattle.std.proofs.Common.{ℕ, refl, ap, ◌∙◌}
 use Rattle.rgo_code.specs.Code.{Code}
 use Rattle.rgo_region_machine.specs.Machine.{Acknowledge, Attend, Event, Finish, Instruct, MakeOffer, TakePage, region_step}
 use Rattle.rgo_region_machine.specs.States.{RegionState}

@@ -1,5 +1,6 @@
 pub mod Core
 pub mod Erasure
+pub mod Examples
 pub mod Good
 pub mod Holding
 pub mod Invariant

@@ -1,6 +1,8 @@
 //! What holds of every run of checked code with its regions.
 
+ghost use Rattle.rgo_code.specs.Code.{Code};
 ghost use Rattle.rgo_sound.specs.Erasure.{Erasure};
+ghost use Rattle.rgo_sound.specs.Examples.{StepExamples};
 ghost use Rattle.rgo_sound.specs.Good.{StartIsGood, StepsKeepGood};
 ghost use Rattle.rgo_sound.specs.Leaving.{OffersStay, OthersStay};
 ghost use Rattle.rgo_sound.specs.NextNames.{NamesOnlyLive};
@@ -81,4 +83,9 @@ pub fn owners_stay_made()
 /// The three-address machine's part of a region run never ends.
 pub fn runs_on()
     ensures { RunsOn }
+{}
+
+/// Who takes part in an event, what it leaves, and states that it cannot have left.
+pub fn examples()
+    ensures { (code : Code) → StepExamples code }
 {}

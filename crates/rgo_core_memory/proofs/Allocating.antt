@@ -1,0 +1,135 @@
+-- The last opening store of an object's words is the allocation of the region machine.
+use Rattle.std.proofs.Common.{◌≡◌, ℕ, ◌+◌, ◌<◌, ◌≤◌, Bool, true, false, List, [], ◌∷◌, ◌++◌, map, length, set, replicate, pos, Option, Some, None, nat_le, if◌then◌else◌, slice_get, slice_set, refl, ap, sym, subst, ◌∙◌, ⊎_elim}
+use Rattle.std.proofs.lemmas.Option.{same_Some}
+use Rattle.rgo_typed.specs.declared.actions.Action.{Action}
+use Rattle.rgo_typed.specs.declared.actions.Action.TheVariants as action
+use Rattle.rgo_typed.specs.declared.programs.Struct.{Struct}
+use Rattle.rgo_code.specs.Code.{Code, CodeOp, Do}
+use Rattle.rgo_code.specs.Erasure.{erased}
+use Rattle.rgo_machine.specs.declared.picks.Pick.TheVariants.{One}
+use Rattle.rgo_memory.specs.Making.{made as made_effect, made_struct}
+use Rattle.rgo_memory.specs.Memory.{Memory as PlainMemory, Object, StructObject, SliceObject, Channel}
+use Rattle.rgo_memory.specs.Values.{zero_of, element_zero}
+use Rattle.rgo_memory.specs.declared.values.Value.{Value}
+use Rattle.rgo_memory.specs.declared.values.Value.TheVariants as value
+use Rattle.rgo_region_machine.specs.Machine.{Instruct, region_step}
+use Rattle.rgo_region_machine.specs.Objects.{words as words_of, making_region, fill_of, with_fill, allotted, placed}
+use Rattle.rgo_region_machine.specs.Owed.{function_at}
+use Rattle.rgo_region_machine.specs.States.{Holder, RegionState, top_names}
+use Rattle.rgo_region_machine.specs.declared.regions.Region.{Region}
+use Rattle.rgo_sound.proofs.Acting.{performed}
+use Rattle.rgo_sound.proofs.Places.{get_append_last}
+use Rattle.rgo_sound.specs.Good.{AllGood}
+use Rattle.rgo_tac.specs.Steps.{type_of}
+use Rattle.rgo_core_memory.specs.declared.layout.TableSizes.{TableSizes}
+use Rattle.rgo_core_memory.specs.Words.{put, cell_at}
+use Rattle.rgo_core_memory.specs.Encoding.{content, opening, IsPlain}
+use Rattle.rgo_core_memory.specs.Records.{Fill, Rest, Amid, Rec, Has, Within, with_object}
+use Rattle.rgo_core_memory.specs.Ground.{Held, Uses, ground_of, held_of, made}
+use Rattle.rgo_core_memory.specs.Parts.{slot_of, Makes, Covers}
+use Rattle.rgo_core_memory.specs.Image.{Memory, Where}
+use Rattle.rgo_core_memory.specs.Accesses.{Before}
+use Rattle.rgo_core_memory.specs.Allocations.{WordKeeps, AllocationKeeps}
+use Rattle.rgo_core_memory.proofs.Accesses.{image_of}
+use Rattle.rgo_core_memory.proofs.Attending.{makes_used}
+use Rattle.rgo_core_memory.proofs.Making.{object_made}
+use Rattle.rgo_core_memory.proofs.Slots.{one_region, uses_live}
+use Rattle.rgo_core_memory.proofs.Steadies.{steady_of}
+use Rattle.rgo_core_memory.proofs.Stepped.{Acts, acts, map_get}
+use Rattle.rgo_core_memory.proofs.Zeroing.{word_stored}
+
+pub word_keeps : WordKeeps
+word_keeps z words recs s g i c f object stored places k own makes small = word_stored z words recs
+    (ground_of s) places k g c own f object stored makes i small
+
+module _ (code : Code) (z : TableSizes) (words : List ℕ) (recs : List Rec) (s t : RegionState) (g i : ℕ) (h : Holder) (r : Region) (c : Rec)
+    (f : Fill)
+    (object : Object) (stored : List ℕ) (all : AllGood code s) (places : Where) (k : Memory z words recs s places)
+    (hold : slice_get s.holders g ≡ Some h) (own : Has recs g c)
+    (slotted : slot_of z places.slot r ≡ f.slot) (makes : Makes z c f object stored) (small : i < words_of object) (covers : Covers object
+    (i ∷ stored))
+    (e : region_step code z.page_words s (Instruct (One g)) ≡ Some t) where
+  within : Within f c.fills
+  within = ⊎_elim
+      (λ (m : c.make ≡ Amid f object stored). (k.own.amids g c f object stored own m).0)
+      (λ (m : (c.make ≡ Rest) × (stored ≡ []) × Within f c.fills × (f.fill + words_of object ≤ z.page_words) × ((i : ℕ) (v : Value)
+      → content object i ≡ Some v → IsPlain v)). m.2)
+      makes
+
+  abbrev m : PlainMemory
+  m = record (s.plain.memory) { heap = s.plain.memory.heap ++ object ∷ [] }
+
+  module _ (a : Action) (values : List Value) (b : Before code s g a values)
+      (region : making_region (function_at code b.frame) (top_names h.environments) b.instr.op ≡ Some r)
+      (does : performed code.structs a (type_of (erased code) b.frame b.to) values s.plain.memory ≡ Some (made_effect s.plain.memory object)) where
+    used : Uses (held_of h) r
+    used = makes_used code s g h r all hold (b.frame, b.callers, b.instr, b.at, b.cur, region)
+
+    filled : fill_of h.fills r ≡ Some f.fill
+    filled =
+        let q = k.filled.fills g f (c, own, within) in
+        let there = map_get held_of s.holders g h hold in
+        let same : q.0 ≡ held_of h = same_Some q.0 (held_of h) (sym q.2 ∙ there) in
+        let steady = steady_of code s all in
+        let one : q.1 ≡ r = one_region z words recs (ground_of s) places k q.1 r (uses_live z words recs
+        (ground_of s) places k steady g q.0 q.1 q.2 q.3)
+        (uses_live z words recs (ground_of s) places k steady g (held_of h) r there used) (q.4 ∙ sym slotted) in
+        subst (λ (y : Held). fill_of y.fills r ≡ Some f.fill) same (subst (λ (y : Region). fill_of q.0.fills y ≡ Some f.fill) one q.5)
+
+    done : Acts code z.page_words s g b.frame (Do b.to a b.from b.removes) m t
+    done = acts code z.page_words s t g a values m (value.Object (length s.plain.memory.heap)) e b does
+
+    same_holder : done.h ≡ h
+    same_holder = same_Some done.h h (sym done.there ∙ hold)
+
+    given : done.given ≡ (record h { fills = with_fill h.fills r (f.fill + words_of object) }, r ∷ [])
+    given = go (nat_le (f.fill + words_of object) z.page_words)
+        (sym (ap (λ (y : Holder). allotted z.page_words y (making_region (function_at code b.frame) (top_names y.environments)
+        (Do b.to a b.from b.removes)) (slice_get m.heap (length s.plain.memory.heap))) same_holder
+        ∙ ap (λ (op : CodeOp). allotted z.page_words h (making_region (function_at code b.frame) (top_names h.environments) op) (slice_get m.heap
+        (length s.plain.memory.heap))) (sym b.is)
+        ∙ ap (λ (y : Option Region). allotted z.page_words h y (slice_get m.heap (length s.plain.memory.heap))) region
+        ∙ ap (allotted z.page_words h (Some r)) (get_append_last s.plain.memory.heap object (length s.plain.memory.heap) refl)
+        ∙ ap (placed z.page_words h r object) filled) ∙ done.allots)
+      where
+        go : (b : Bool) → (if b then Some (record h { fills = with_fill h.fills r (f.fill + words_of object) }, r ∷ []) else None) ≡ Some done.given
+            → ◌≡◌ {A = Holder × List Region} done.given (record h { fills = with_fill h.fills r (f.fill + words_of object) }, r ∷ [])
+        go true q = sym (same_Some _ done.given q)
+        go false q = cc
+
+    is : ground_of t ≡ made (ground_of s) g (held_of h) r object (f.fill + words_of object)
+    is = done.ground ∙ λ i. record {
+      heap = s.plain.memory.heap ++ object ∷ [];
+      variables = s.plain.memory.variables;
+      owners = ap (λ (y : Holder × List Region). s.owners ++ y.1) given i;
+      regions = s.regions;
+      global_pages = s.global_pages;
+      held = ap (λ (y : Holder × List Region). slice_set (map held_of s.holders) g (held_of y.0)) given i;
+    }
+
+    allocates : Memory z (set words (cell_at z f.page (f.fill + i)) (opening (content object i))) (slice_set recs g (with_object c f.slot
+        (f.fill + words_of object))) t
+        (record places { spot = put places.spot (length s.plain.memory.heap) (λ i. record { page = f.page; offset = f.fill + i }) })
+    allocates = image_of is (object_made z words recs (ground_of s) places k (steady_of code s all) g c own f object stored makes i small covers
+        (held_of h) (map_get held_of s.holders g h hold) r used slotted)
+
+pub allocation_keeps : AllocationKeeps
+allocation_keeps code z words recs s t g i h r c f object stored all places k hold own next slotted makes small covers e = ⊎_elim
+    (λ (u : (n : ℕ) × (made : Struct) × (b : Before code s g (action.New n) []) × (slice_get code.structs n ≡ Some made)
+    × (object ≡ StructObject (map zero_of made.fields)) × (making_region (function_at code b.frame) (top_names h.environments) b.instr.op ≡ Some r)).
+    allocates code z words recs s t g i h r c f object stored all places k hold own slotted makes small covers e (action.New u.0) [] u.2 u.5
+    (ap (λ (y : Option Struct). Some (made_struct y s.plain.memory)) u.3 ∙ ap (λ (y : Object). Some (made_effect s.plain.memory y)) (sym u.4)))
+    (λ v. ⊎_elim
+    (λ (u : (n : ℕ) × (b : Before code s g action.Slice (value.Int (pos n) ∷ []))
+    × (object ≡ SliceObject (replicate n (element_zero (type_of (erased code) b.frame b.to))))
+    × (making_region (function_at code b.frame) (top_names h.environments) b.instr.op ≡ Some r)).
+    allocates code z words recs s t g i h r c f object stored all places k hold own slotted makes small covers e action.Slice (value.Int
+    (pos u.0) ∷ []) u.1 u.3
+    (ap (λ (y : Object). Some (made_effect s.plain.memory y)) (sym u.2)))
+    (λ (u : (n : ℕ) × (b : Before code s g action.Chan (value.Int (pos n) ∷ []))
+    × (object ≡ Channel n [] false) × (making_region (function_at code b.frame) (top_names h.environments) b.instr.op ≡ Some r)).
+    allocates code z words recs s t g i h r c f object stored all places k hold own slotted makes small covers e action.Chan (value.Int
+    (pos u.0) ∷ []) u.1 u.3
+    (ap (λ (y : Object). Some (made_effect s.plain.memory y)) (sym u.2)))
+    v)
+    next

@@ -1,0 +1,25 @@
+-- What the image says to the layers above.
+use Rattle.rgo_core_memory.specs.Facts.{OneAddress, WordsFollow, WordsDiffer, AllFound}
+use Rattle.rgo_core_memory.specs.Ground.{ground_of}
+use Rattle.rgo_core_memory.proofs.Addresses.{one_address, word_behind, word_inside, words_apart, free_apart}
+use Rattle.rgo_core_memory.proofs.Causes.{pages_spent, slots_spent}
+
+pub addresses : OneAddress
+addresses z words recs s places k = one_address z words recs (ground_of s) places k
+
+pub follow : WordsFollow
+follow z words recs s places k o i object r t l = (
+  word_behind z words recs (ground_of s) places k o i object r t l,
+  word_inside z words recs
+      (ground_of s) places k o i object r t l,
+)
+
+pub found_all : AllFound
+found_all z words recs s places k g c own = (
+  pages_spent z words recs (ground_of s) places k g c own,
+  slots_spent z words recs
+      (ground_of s) places k g c own,
+)
+
+pub differ : WordsDiffer
+differ z words recs x places k = (words_apart z words recs x places k, free_apart z words recs x places k)

@@ -1,0 +1,5 @@
+use Rattle.rgo_core_memory.proofs.Elsewhere as lemmas
+use Rattle.rgo_core_memory.proofs.laws.ground_law.Goals as goal
+
+pub returns : goal.returns
+returns c = lemmas.ground_keeps

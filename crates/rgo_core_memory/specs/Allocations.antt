@@ -1,0 +1,61 @@
+-- What the stores of a new object's words keep: the last of them makes the object.
+use Rattle.std.specs.Prelude.{◌≡◌, ◌⊎◌, ℕ, ◌+◌, ◌<◌, false, List, [], ◌∷◌, length, map, replicate, pos, Some, slice_get, slice_set}
+use Rattle.rgo_typed.specs.declared.actions.Action.TheVariants as action
+use Rattle.rgo_typed.specs.declared.programs.Struct.{Struct}
+use Rattle.rgo_code.specs.Code.{Code}
+use Rattle.rgo_code.specs.Erasure.{erased}
+use Rattle.rgo_machine.specs.declared.picks.Pick.TheVariants.{One}
+use Rattle.rgo_memory.specs.Memory.{Object, StructObject, SliceObject, Channel}
+use Rattle.rgo_memory.specs.Values.{zero_of, element_zero}
+use Rattle.rgo_memory.specs.declared.values.Value.TheVariants as value
+use Rattle.rgo_region_machine.specs.Machine.{Instruct, region_step}
+use Rattle.rgo_region_machine.specs.Objects.{words as words_in, making_region}
+use Rattle.rgo_region_machine.specs.Owed.{function_at}
+use Rattle.rgo_region_machine.specs.States.{Holder, RegionState, top_names}
+use Rattle.rgo_region_machine.specs.declared.regions.Region.{Region}
+use Rattle.rgo_sound.specs.Good.{AllGood}
+use Rattle.rgo_tac.specs.Steps.{type_of}
+use Rattle.rgo_core_memory.specs.declared.layout.TableSizes.{TableSizes}
+use Rattle.rgo_core_memory.specs.Words.{put, cell_at}
+use Rattle.rgo_core_memory.specs.Encoding.{content, opening}
+use Rattle.rgo_core_memory.specs.Records.{Fill, Rec, Has, with_word, with_object}
+use Rattle.rgo_core_memory.specs.Parts.{slot_of, Makes, Covers}
+use Rattle.rgo_core_memory.specs.Image.{Where, Memory}
+use Rattle.rgo_core_memory.specs.Accesses.{Before}
+
+-- the object that the goroutine makes next
+abbrev pub MakesNext : (code : Code) (s : RegionState) (g : ℕ) (h : Holder) (r : Region) (object : Object) → Type 0
+MakesNext code s g h r object =
+    ((n : ℕ) × (made : Struct) × (b : Before code s g (action.New n) []) × (slice_get code.structs n ≡ Some made)
+    × (object ≡ StructObject (map zero_of made.fields))
+    × (making_region (function_at code b.frame) (top_names h.environments) b.instr.op ≡ Some r))
+    ⊎ ((n : ℕ) × (b : Before code s g action.Slice (value.Int (pos n) ∷ []))
+    × (object ≡ SliceObject (replicate n (element_zero (type_of (erased code) b.frame b.to))))
+    × (making_region (function_at code b.frame) (top_names h.environments) b.instr.op ≡ Some r))
+    ⊎ ((n : ℕ) × (b : Before code s g action.Chan (value.Int (pos n) ∷ []))
+    × (object ≡ Channel n [] false)
+    × (making_region (function_at code b.frame) (top_names h.environments) b.instr.op ≡ Some r))
+
+-- a store before the last
+abbrev pub WordKeeps : Type 0
+WordKeeps = (z : TableSizes) (words : List ℕ) (recs : List Rec) (s : RegionState) (g i : ℕ) (c : Rec) (f : Fill)
+    (object : Object) (stored : List ℕ)
+    → (places : Where) → Memory z words recs s places → Has recs g c → Makes z c f object stored → i < words_in object
+    → Memory z (slice_set words (cell_at z f.page (f.fill + i)) (opening (content object i))) (slice_set recs g
+    (with_word c f object (i ∷ stored))) s places
+
+-- the last one
+abbrev pub AllocationKeeps : Type 0
+AllocationKeeps = (code : Code) (z : TableSizes) (words : List ℕ) (recs : List Rec) (s t : RegionState) (g i : ℕ)
+    (h : Holder) (r : Region) (c : Rec) (f : Fill)
+    (object : Object) (stored : List ℕ) → AllGood code s → (places : Where) → Memory z words recs s places
+    → slice_get s.holders g ≡ Some h → Has recs g c
+    → MakesNext code s g h r object → slot_of z places.slot r ≡ f.slot → Makes z c f object stored
+    → i < words_in object → Covers object (i ∷ stored)
+    → region_step code z.page_words s (Instruct (One g)) ≡ Some t
+    → Memory z (slice_set words (cell_at z f.page (f.fill + i)) (opening (content object i)))
+    (slice_set recs g (with_object c f.slot (f.fill + words_in object))) t
+    (record places {
+      spot = put places.spot (length s.plain.memory.heap)
+          (λ i. record { page = f.page; offset = f.fill + i });
+    })

@@ -1,0 +1,49 @@
+-- How values are encoded in words, and what each word of an object holds.
+use Rattle.std.specs.Prelude.{◌≡◌, ℕ, zero, suc, ◌+◌, ◌*◌, length, pos, Option, Some, None, slice_get}
+use Rattle.std.specs.Int.{w64, cast_unsigned, from_bool}
+use Rattle.rgo_memory.specs.declared.values.Value.{Value}
+use Rattle.rgo_memory.specs.declared.values.Value.TheVariants as value
+use Rattle.rgo_memory.specs.Memory.{Object, StructObject, SliceObject, Channel}
+use Rattle.rgo_core_memory.specs.declared.layout.TableSizes.{TableSizes}
+
+-- a word of a page
+pub record Spot : Type 0 where
+  pub page : ℕ
+  pub offset : ℕ
+
+-- the address of an object less one, by the spots of its words
+abbrev pub address : TableSizes → (ℕ → ℕ → Spot) → ℕ → ℕ
+address z spot o = (spot o 0).page * z.page_words + (spot o 0).offset
+
+abbrev pub encode : (ℕ → ℕ) → Value → ℕ
+encode address (value.Int n) = cast_unsigned w64 n
+encode address (value.Bool b) = from_bool b
+encode address value.Nil = 0
+encode address (value.Object o) = suc (address o)
+
+-- What a word of an object holds, if the object determines it. Of a channel's words it determines the capacity alone; the only
+-- word of a struct without fields holds nothing.
+abbrev pub content : Object → ℕ → Option Value
+content (StructObject cells) i = slice_get cells i
+content (SliceObject cells) zero = Some (value.Int (pos (length cells)))
+content (SliceObject cells) (suc i) = slice_get cells i
+content (Channel capacity queue closed) zero = None
+content (Channel capacity queue closed) (suc zero) = Some (value.Int (pos capacity))
+content (Channel capacity queue closed) (suc (suc i)) = None
+
+-- a value that is no pointer
+abbrev pub IsPlain : Value → Type 0
+IsPlain (value.Int n) = Unit {0}
+IsPlain (value.Bool b) = Unit {0}
+IsPlain value.Nil = Unit {0}
+IsPlain (value.Object o) = ⊥
+
+-- the first value of such a word
+abbrev pub opening : Option Value → ℕ
+opening None = 0
+opening (Some v) = encode (λ o. 0) v
+
+-- the object that is the other with another value in one word
+pub record Changes (object : Object) (i : ℕ) (v : Value) (after : Object) : Type 0 where
+  pub here : content after i ≡ Some v
+  pub there : (j : ℕ) → (j ≡ i → ⊥) → content after j ≡ content object j

@@ -1,0 +1,93 @@
+-- A small table: where its words are, how it opens, and what is no image.
+use Rattle.std.specs.Prelude.{◌≡◌, ℕ, suc, ◌==◌, true, false, if◌then◌else◌, List, [], ◌∷◌, Some, None, pos, negsuc, length, replicate, slice_index}
+use Rattle.rgo_memory.specs.Memory.{Channel, SliceObject, StructObject}
+use Rattle.rgo_memory.specs.declared.values.Value.TheVariants as value
+use Rattle.rgo_region_machine.specs.States.{RegionState}
+use Rattle.rgo_core_memory.specs.declared.layout.TableSizes.{TableSizes}
+use Rattle.rgo_core_memory.specs.Encoding.{Spot, address, content, encode}
+use Rattle.rgo_core_memory.specs.Image.{Memory}
+use Rattle.rgo_core_memory.specs.Opening.{first_record, first_words, nowhere}
+use Rattle.rgo_core_memory.specs.Owed.{owed}
+use Rattle.rgo_core_memory.specs.Pages.{Chain}
+use Rattle.rgo_core_memory.specs.Parts.{Closing, Living, Use, Vacant, pages_at}
+use Rattle.rgo_core_memory.specs.Records.{Calm, Claims, Closes, Fill, Giving, Gives, Got, Idle, Owes, Owns, Past, Rec, with_page, without_slot}
+use Rattle.rgo_core_memory.specs.Words.{Shows, Words, all_words, base, cell_at, clock_at, count_at, head_at, made_at, next_at, state_at, variable_at}
+
+-- one page of four words, one slot for a region, one package variable
+abbrev pub small : TableSizes
+small = record { pages = 1; page_words = 4; slots = 1; variables = 1 }
+
+abbrev pub no_words : List ℕ
+no_words = replicate 107 0
+
+-- page 0 leads to page 1, which is the last
+abbrev pub link : ℕ → ℕ
+link p = if p == 0 then 2 else 0
+
+-- the words of the only object begin at word 1 of page 2
+abbrev pub spot : ℕ → ℕ → Spot
+spot o i = record { page = 2; offset = suc i }
+
+-- slot 0 is given back by goroutine 5, slot 1 has region 7, the others are free
+abbrev pub uses : ℕ → Use
+uses s = if s == 0 then Closing 5 else (if s == 1 then Living 7 else Vacant)
+
+-- pages 0 and 2 are claimed for slot 0, page 1 for slot 1
+abbrev pub states : ℕ → ℕ
+states p = if p == 1 then 2 else 1
+
+abbrev pub with_one : Rec
+with_one = with_page first_record 3 1
+
+pub record MemoryExamples : Type 0 where
+  -- ---- where the words are
+  pub clock : clock_at ≡ 0
+  pub made : made_at ≡ 16
+  pub state : state_at small 0 ≡ 32
+  pub next : next_at small 0 ≡ 49
+  pub count : count_at small 0 ≡ 66
+  pub head : head_at small 0 ≡ 84
+  pub first : base small ≡ 102
+  pub cell : cell_at small 0 3 ≡ 105
+  pub variable : variable_at small 0 ≡ 106
+  pub all : all_words small ≡ 107
+  pub object : address small spot 0 ≡ 9
+  -- ---- how the table opens
+  pub wide : length (first_words small) ≡ 107
+  pub none : slice_index (first_words small) clock_at ≡ 0
+  pub one : slice_index (first_words small) made_at ≡ 1
+  pub free : slice_index (first_words small) (count_at small 0) ≡ 0
+  pub global : slice_index (first_words small) (count_at small 1) ≡ 2
+  -- without Global's count, and without `main`, the words are no image
+  pub no_global : (s : RegionState) → Memory small no_words (first_record ∷ []) s nowhere → ⊥
+  pub no_main : (w : Words) → w.made ≡ 1 → Shows small no_words w → ⊥
+  -- ---- values and words
+  pub minus_one : encode (λ o. 0) (value.Int (negsuc 0)) ≡ 18446744073709551615
+  pub truth : encode (λ o. 0) (value.Bool true) ≡ 1
+  pub nil : encode (λ o. 0) value.Nil ≡ 0
+  pub pointer : encode (address small spot) (value.Object 0) ≡ 10
+  pub field : content (StructObject (value.Int (pos 3) ∷ [])) 0 ≡ Some (value.Int (pos 3))
+  pub no_field : content (StructObject (value.Int (pos 3) ∷ [])) 1 ≡ None
+  pub amount : content (SliceObject (value.Bool true ∷ [])) 0 ≡ Some (value.Int (pos 1))
+  pub element : content (SliceObject (value.Bool true ∷ [])) 1 ≡ Some (value.Bool true)
+  pub control : content (Channel 2 (value.Nil ∷ []) false) 0 ≡ None
+  pub capacity : content (Channel 2 (value.Nil ∷ []) false) 1 ≡ Some (value.Int (pos 2))
+  pub buffer : content (Channel 2 (value.Nil ∷ []) false) 2 ≡ None
+  -- ---- pages and chains
+  pub chain : Chain link 1 (0 ∷ 1 ∷ [])
+  pub no_chain : Chain link 2 (0 ∷ 1 ∷ []) → ⊥
+  pub short_chain : Chain link 1 (0 ∷ []) → ⊥
+  pub claimed : pages_at states 3 0 ≡ 2
+  pub claimed_other : pages_at states 3 1 ≡ 1
+  pub to_give : owed uses states 3 2 ≡ 2
+  -- ---- records
+  pub owns : Owns (with_one ∷ []) 0 (record { slot = 1; page = 3; fill = 0 })
+  pub owns_not : (f : Fill) → Owns (first_record ∷ []) 0 f → ⊥
+  pub drops : (without_slot with_one 1).fills ≡ []
+  pub keeps : (without_slot with_one 0).fills ≡ with_one.fills
+  pub claims : Claims (Got 3 1) 1
+  pub claims_not : Claims Idle 1 → ⊥
+  pub closes : Closes (Owes 4) 4
+  pub closes_not : Closes Calm 4 → ⊥
+  pub gives : Gives (Giving 4 2) 4 2
+  pub gives_not : Gives (Past 4 2 0) 4 3 → ⊥

@@ -1,0 +1,50 @@
+-- When the region machine has the step of an access, an allocation or a claim.
+use Rattle.std.specs.Prelude.{◌≡◌, ℕ, ◌+◌, ◌<◌, ◌≤◌, true, List, [], length, Some, None, slice_get}
+use Rattle.rgo_typed.specs.declared.actions.Action.{Action}
+use Rattle.rgo_code.specs.Checked.{IsChecked}
+use Rattle.rgo_code.specs.Code.{Code}
+use Rattle.rgo_code.specs.Erasure.{erased}
+use Rattle.rgo_machine.specs.declared.picks.Pick.TheVariants.{One}
+use Rattle.rgo_memory.specs.Effects.{Does}
+use Rattle.rgo_memory.specs.Memory.{Memory, Object}
+use Rattle.rgo_sound.proofs.Acting.{performed}
+use Rattle.rgo_tac.specs.Steps.{type_of}
+use Rattle.rgo_memory.specs.declared.values.Value.{Value}
+use Rattle.rgo_region_machine.specs.Duties.{may_go}
+use Rattle.rgo_region_machine.specs.Machine.{Instruct, TakePage, region_step}
+use Rattle.rgo_region_machine.specs.Objects.{words, fill_of}
+use Rattle.rgo_region_machine.specs.States.{Holder, RegionState}
+use Rattle.rgo_region_machine.specs.declared.regions.Region.{Region}
+use Rattle.rgo_sound.specs.Good.{AllGood}
+use Rattle.rgo_core_memory.specs.Accesses.{Before}
+use Rattle.rgo_core_memory.specs.Allocations.{MakesNext}
+
+-- the goroutine owes nothing, and the plain machine has not ended
+pub record Settled (s : RegionState) (g : ℕ) (h : Holder) : Type 0 where
+  pub running : s.plain.ended ≡ None
+  pub there : slice_get s.holders g ≡ Some h
+  pub owes : h.duties ≡ []
+  pub free : may_go h.offer ≡ true
+
+-- an object that fits the own page can be made; for one that does not, but fits a page, a page can be taken
+abbrev pub AllocationExists : Type 0
+AllocationExists = (code : Code) (page_words : ℕ) (s : RegionState) (g n : ℕ) (h : Holder) (r : Region)
+    (object : Object) → AllGood code s → Settled s g h
+    → MakesNext code s g h r object → fill_of h.fills r ≡ Some n → n + words object ≤ page_words
+    → (t : RegionState) × (region_step code page_words s (Instruct (One g)) ≡ Some t)
+
+abbrev pub PageExists : Type 0
+PageExists = (code : Code) (page_words : ℕ) (s : RegionState) (g : ℕ) (h : Holder) (r : Region) (object : Object)
+    → AllGood code s → Settled s g h
+    → MakesNext code s g h r object → words object ≤ page_words → ((n : ℕ) → fill_of h.fills r ≡ Some n
+    → page_words < n + words object)
+    → (t : RegionState) × (region_step code page_words s (TakePage g) ≡ Some t)
+
+-- an action that makes no object, does not trap and need not wait
+abbrev pub AccessExists : Type 0
+AccessExists = (code : Code) (page_words : ℕ) (s : RegionState) (g : ℕ) (h : Holder) (a : Action) (values : List Value)
+    (m : Memory) (u : Value) → IsChecked code → AllGood code s
+    → Settled s g h → (b : Before code s g a values)
+    → performed code.structs a (type_of (erased code) b.frame b.to) values s.plain.memory ≡ Some (Does m u)
+    → length m.heap ≡ length s.plain.memory.heap → (t : RegionState)
+    × (region_step code page_words s (Instruct (One g)) ≡ Some t)

@@ -1,0 +1,113 @@
+-- What the memory of a table shows of a state of the region machine, and what steps do to it.
+use Rattle.std.specs.Prelude.{◌≡◌, ℕ, ◌+◌, ◌<◌, true, List, [], ◌∷◌, ◌++◌, length, map, Some, slice_get, slice_set}
+use Rattle.std.specs.Prelude.{sum_by}
+use Rattle.rgo_memory.specs.declared.values.Value.{Value}
+use Rattle.rgo_memory.specs.declared.values.Value.TheVariants as value
+use Rattle.rgo_memory.specs.Memory.{Object}
+use Rattle.rgo_region_machine.specs.Objects.{with_fill}
+use Rattle.rgo_region_machine.specs.Regions.{RegionInfo, is_live, with_info, one_more, one_fewer, one_page_more, without}
+use Rattle.rgo_region_machine.specs.States.{Holder, RegionState}
+use Rattle.rgo_region_machine.specs.declared.regions.Region.{Region}
+use Rattle.rgo_region_machine.specs.declared.regions.Region.TheVariants.{Global as GlobalRegion, Numbered}
+use Rattle.rgo_sound.specs.Stakes.{is_in}
+use Rattle.rgo_core_memory.specs.Encoding.{content}
+
+-- a goroutine's stakes, and how much of its own pages it has filled
+pub record Held : Type 0 where
+  pub stakes : List ℕ
+  pub fills : List (Region × ℕ)
+
+pub record Ground : Type 0 where
+  pub heap : List Object
+  pub variables : List Value
+  -- the region of each object
+  pub owners : List Region
+  pub regions : List RegionInfo
+  pub global_pages : ℕ
+  pub held : List Held
+
+abbrev pub held_of : Holder → Held
+held_of h = record { stakes = h.stakes; fills = h.fills }
+
+abbrev pub ground_of : RegionState → Ground
+ground_of s = record {
+  heap = s.plain.memory.heap;
+  variables = s.plain.memory.variables;
+  owners = s.owners;
+  regions = s.regions;
+  global_pages = s.global_pages;
+  held = map held_of s.holders;
+}
+
+-- object o is this one, and its region is live
+pub record Stands (heap : List Object) (owners : List Region) (regions : List RegionInfo) (o : ℕ) (object : Object)
+    (r : Region) : Type 0 where
+  pub there : slice_get heap o ≡ Some object
+  pub owner : slice_get owners o ≡ Some r
+  pub live : is_live regions r ≡ true
+
+-- the pages that were taken
+abbrev pub taken_of : Ground → ℕ
+taken_of x = x.global_pages + sum_by (λ info. info.pages) x.regions
+
+-- a region that a goroutine may use: Global, or one in which it has a stake
+abbrev pub Uses : Held → Region → Type 0
+Uses h GlobalRegion = Unit {0}
+Uses h (Numbered k) = is_in k h.stakes ≡ true
+
+-- ---- what steps do
+
+abbrev pub with_held : Ground → ℕ → Held → Ground
+with_held x g h = record x { held = slice_set x.held g h }
+
+abbrev pub stored : Ground → ℕ → Object → Ground
+stored x o object = record x { heap = slice_set x.heap o object }
+
+abbrev pub assigned : Ground → ℕ → Value → Ground
+assigned x n v = record x { variables = slice_set x.variables n v }
+
+-- an object is made in a region; n words of the own page are then filled
+abbrev pub made : Ground → ℕ → Held → Region → Object → ℕ → Ground
+made x g h r object n = record x {
+  heap = x.heap ++ object ∷ [];
+  owners = x.owners ++ r ∷ [];
+  held = slice_set x.held g (record h { fills = with_fill h.fills r n });
+}
+
+abbrev pub page_taken : Ground → ℕ → Held → Region → Ground
+page_taken x g h GlobalRegion = record x {
+  global_pages = x.global_pages + 1;
+  held = slice_set x.held g (record h { fills = with_fill h.fills GlobalRegion 0 });
+}
+page_taken x g h (Numbered k) = record x {
+  regions = with_info x.regions k one_page_more;
+  held = slice_set x.held g (record h { fills = with_fill h.fills (Numbered k) 0 });
+}
+
+abbrev pub created : Ground → ℕ → Held → Ground
+created x g h = record x {
+  regions = x.regions ++ record { stakes = 1; pages = 0 } ∷ [];
+  held = slice_set x.held g (record h { stakes = length x.regions ∷ h.stakes });
+}
+
+abbrev pub shared : Ground → ℕ → Ground
+shared x k = record x { regions = with_info x.regions k one_more }
+
+abbrev pub left : Ground → ℕ → Held → ℕ → Ground
+left x g h k = record x {
+  regions = with_info x.regions k one_fewer;
+  held = slice_set x.held g (record h { stakes = without k h.stakes });
+}
+
+-- ---- what region safety says of it
+
+pub record Steady (x : Ground) : Type 0 where
+  -- each object has a region
+  pub owned : length x.owners ≡ length x.heap
+  -- where a goroutine has a stake, the region is live
+  pub staked : (g k : ℕ) (h : Held) → slice_get x.held g ≡ Some h → is_in k h.stakes ≡ true
+      → is_live x.regions (Numbered k) ≡ true
+  -- pointers lead to objects that were made
+  pub cells : (o i p : ℕ) (object : Object) → slice_get x.heap o ≡ Some object → content object i ≡ Some (value.Object p)
+      → p < length x.heap
+  pub variables : (n p : ℕ) → slice_get x.variables n ≡ Some (value.Object p) → p < length x.heap

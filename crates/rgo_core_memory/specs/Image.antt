@@ -1,0 +1,48 @@
+-- The image: which state of the region machine words and records show.
+use Rattle.std.specs.Prelude.{ℕ, List, length}
+use Rattle.rgo_region_machine.specs.States.{RegionState}
+use Rattle.rgo_core_memory.specs.declared.layout.TableSizes.{TableSizes}
+use Rattle.rgo_core_memory.specs.Words.{Words, Shows, cell_at}
+use Rattle.rgo_memory.specs.declared.values.Value.{Value}
+use Rattle.rgo_core_memory.specs.Encoding.{Spot, address, encode}
+use Rattle.rgo_core_memory.specs.Records.{Rec}
+use Rattle.rgo_core_memory.specs.Ground.{Ground, ground_of, taken_of}
+use Rattle.rgo_core_memory.specs.Pages.{Place, Pages}
+use Rattle.rgo_core_memory.specs.Parts.{Lies, Own, Filled, Use, Counts, Paged, Taken}
+
+-- what the words and records do not say
+pub record Where : Type 0 where
+  -- the slot of each region that was made, and what each slot is used for
+  pub slot : ℕ → ℕ
+  pub uses : ℕ → Use
+  -- the spot of each word of each object
+  pub spot : ℕ → ℕ → Spot
+  -- where each page is, the pages of each chain, the true next of each page and head of each chain
+  pub at : ℕ → Place
+  pub chain : ℕ → List ℕ
+  pub link : ℕ → ℕ
+  pub top : ℕ → ℕ
+  -- the page of each step that took one
+  pub page : ℕ → ℕ
+
+pub record Image (z : TableSizes) (words : List ℕ) (recs : List Rec) (x : Ground) (a : Where) : Type 0 where
+  pub w : Words
+  pub shows : Shows z words w
+  pub lies : Lies z w.variable w.cell x.variables x.heap x.owners x.regions a.spot
+  pub own : Own z w.state w.cell recs x.heap x.owners x.regions a.slot a.spot
+  pub filled : Filled z recs x.held (length x.regions) a.slot
+  pub counts : Counts z w.count a.top recs x.regions a.slot a.uses
+  pub pages : Pages w.state w.next w.head recs a.at a.chain a.link a.top
+  pub paged : Paged z w.state x.regions x.global_pages a.slot
+  pub taken : Taken z w.state w.count recs (taken_of x) (length x.regions) a.slot a.page
+
+-- the same of a state
+abbrev pub Memory : TableSizes → List ℕ → List Rec → RegionState → Where → Type 0
+Memory z words recs s places = Image z words recs (ground_of s) places
+
+-- the position of an object's word, and the word of a value
+abbrev pub word_at : TableSizes → Where → ℕ → ℕ → ℕ
+word_at z places o i = cell_at z (places.spot o i).page (places.spot o i).offset
+
+abbrev pub code_of : TableSizes → Where → Value → ℕ
+code_of z places v = encode (address z places.spot) v

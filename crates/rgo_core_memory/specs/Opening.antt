@@ -1,0 +1,34 @@
+-- The first words of a table, and that they are the image of the region machine's first state.
+use Rattle.std.specs.Prelude.{ℕ, ◌≤◌, List, [], ◌∷◌, length, replicate, slice_set}
+use Rattle.rgo_code.specs.Code.{Code}
+use Rattle.rgo_region_machine.specs.Machine.{region_start}
+use Rattle.rgo_core_memory.specs.declared.layout.TableSizes.{TableSizes}
+use Rattle.rgo_core_memory.specs.Words.{all_words, count_at, made_at}
+use Rattle.rgo_core_memory.specs.Records.{Rec, Rest, Idle, Calm}
+use Rattle.rgo_core_memory.specs.Image.{Where, Memory}
+use Rattle.rgo_core_memory.specs.Pages.{Free}
+use Rattle.rgo_core_memory.specs.Parts.{Vacant}
+
+-- nothing is drawn, `main` is made, no page is claimed, no slot is used, and Global's count is 2
+abbrev pub first_words : TableSizes → List ℕ
+first_words z = slice_set (slice_set (replicate (all_words z) 0) made_at 1) (count_at z z.slots) 2
+
+abbrev pub first_record : Rec
+first_record = record { fills = []; make = Rest; claim = Idle; give = Calm; tried_pages = []; tried_slots = [] }
+
+-- no region, no object, and each page is free
+abbrev pub nowhere : Where
+nowhere = record {
+  slot = λ k. 0;
+  uses = λ s. Vacant;
+  spot = λ o i. record { page = 0; offset = 0 };
+  at = λ p. Free;
+  chain = λ r. [];
+  link = λ p. 0;
+  top = λ r. 0;
+  page = λ n. 0;
+}
+
+abbrev pub Opens : Type 0
+Opens = (code : Code) (z : TableSizes) → length code.variables ≤ z.variables
+    → Memory z (first_words z) (first_record ∷ []) (region_start code) nowhere

@@ -1,0 +1,41 @@
+-- The pages that chains have still to free: the end of a last stake adds those of the region, and each freed page is one less.
+use Rattle.std.specs.Prelude.{◌≡◌, ℕ, zero, suc, ◌+◌, ◌<◌, List, Some, slice_get, slice_set, slice_index}
+use Rattle.rgo_code.specs.Code.{Code}
+use Rattle.rgo_region_machine.specs.Regions.{RegionInfo}
+use Rattle.rgo_region_machine.specs.States.{RegionState}
+use Rattle.rgo_sound.specs.Good.{AllGood}
+use Rattle.rgo_core_memory.specs.declared.layout.TableSizes.{TableSizes}
+use Rattle.rgo_core_memory.specs.Words.{put, state_at, count_at}
+use Rattle.rgo_core_memory.specs.Records.{Past, Gave, Rec, Has}
+use Rattle.rgo_core_memory.specs.Parts.{Use, Vacant, Living, Closing, pages_at}
+use Rattle.rgo_core_memory.specs.Image.{Where, Memory}
+
+-- of a slot with n pages
+abbrev pub owed_at : Use → ℕ → ℕ
+owed_at Vacant n = 0
+owed_at (Living k) n = 0
+owed_at (Closing g) n = n
+
+-- of the first n slots
+abbrev pub owed : (ℕ → Use) → (ℕ → ℕ) → ℕ → ℕ → ℕ
+owed uses states pages zero = 0
+owed uses states pages (suc n) = owed_at (uses n) (pages_at states pages n) + owed uses states pages n
+
+abbrev pub to_free : TableSizes → List ℕ → (ℕ → Use) → ℕ
+to_free z words uses = owed uses (λ p. slice_index words (state_at z p)) z.pages z.slots
+
+-- the end of the last stake, a page that is freed, and a slot that is freed
+pub record StillOwed : Type 0 where
+  pub leave : (z : TableSizes) (words : List ℕ) (recs : List Rec) (s : RegionState) (places : Where)
+      → Memory z words recs s places
+      → (g j n : ℕ) (info : RegionInfo) → slice_get s.regions j ≡ Some info → 0 < info.stakes
+      → to_free z (slice_set words (count_at z (places.slot j)) n) (put places.uses (places.slot j)
+      (Closing g)) ≡ to_free z words places.uses + info.pages
+  pub free : (code : Code) (z : TableSizes) (words : List ℕ) (recs : List Rec) (s : RegionState) (places : Where)
+      → AllGood code s → Memory z words recs s places
+      → (g r p q : ℕ) (c : Rec) → Has recs g c → c.give ≡ Past r (suc p) q
+      → suc (to_free z (slice_set words (state_at z p) 0) places.uses) ≡ to_free z words places.uses
+  pub slot : (code : Code) (z : TableSizes) (words : List ℕ) (recs : List Rec) (s : RegionState) (places : Where)
+      → AllGood code s → Memory z words recs s places
+      → (g r : ℕ) (c : Rec) → Has recs g c → c.give ≡ Gave r
+      → to_free z (slice_set words (count_at z r) 0) (put places.uses r Vacant) ≡ to_free z words places.uses

@@ -1,0 +1,148 @@
+-- The parts of the image: objects, own pages, fills, counts, and the numbering of creations and of pages taken.
+use Rattle.std.specs.Prelude.{◌≡◌, ◌⊎◌, ℕ, zero, suc, ◌==◌, if◌then◌else◌, ◌+◌, ◌<◌, ◌≤◌, List, [], length, Some, slice_get}
+use Rattle.rgo_memory.specs.declared.values.Value.{Value}
+use Rattle.rgo_memory.specs.Memory.{Object}
+use Rattle.rgo_region_machine.specs.Objects.{words, fill_of}
+use Rattle.rgo_region_machine.specs.Regions.{RegionInfo}
+use Rattle.rgo_region_machine.specs.declared.regions.Region.{Region}
+use Rattle.rgo_region_machine.specs.declared.regions.Region.TheVariants.{Global as GlobalRegion, Numbered}
+use Rattle.rgo_core_memory.specs.declared.layout.TableSizes.{TableSizes}
+use Rattle.rgo_core_memory.specs.Encoding.{Spot, address, encode, content, IsPlain, opening}
+use Rattle.rgo_core_memory.specs.Ground.{Held, Stands, Uses}
+use Rattle.rgo_core_memory.specs.Records.{Fill, Rest, Amid, Rec, Has, Within, Owns, Claims, Closes}
+use Rattle.rgo_core_memory.specs.Pages.{times}
+
+-- ---- objects and package variables
+
+pub record Lies (z : TableSizes) (variable : ℕ → ℕ) (cell : ℕ → ℕ
+    → ℕ) (values : List Value) (heap : List Object) (owners : List Region)
+    (regions : List RegionInfo) (spot : ℕ → ℕ → Spot) : Type 0 where
+  -- each word of a live object is a word of a page
+  pub inside : (o i : ℕ) (object : Object) (r : Region) → Stands heap owners regions o object r → i < words object
+      → ((spot o i).page < z.pages) × ((spot o i).offset < z.page_words)
+  -- and holds its value
+  pub shows : (o i : ℕ) (object : Object) (r : Region) (v : Value) → Stands heap owners regions o object r
+      → content object i ≡ Some v → cell (spot o i).page (spot o i).offset ≡ encode (address z spot) v
+  -- no two words share one
+  pub apart : (o p i j : ℕ) (object other : Object) (r s : Region) → Stands heap owners regions o object r
+      → Stands heap owners regions p other s → i < words object → j < words other → (spot o i).page ≡ (spot p j).page
+      → (spot o i).offset ≡ (spot p j).offset → (o ≡ p) × (i ≡ j)
+  -- an object lies in one row
+  pub row : (o i : ℕ) (object : Object) (r : Region) → Stands heap owners regions o object r → i < words object
+      → ((spot o i).page ≡ (spot o 0).page) × ((spot o i).offset ≡ (spot o 0).offset + i)
+  pub variables : (n : ℕ) (v : Value) → slice_get values n ≡ Some v
+      → (n < z.variables) × (variable n ≡ encode (address z spot) v)
+  -- an object's region was made
+  pub made : (o k : ℕ) → slice_get owners o ≡ Some (Numbered k) → k < length regions
+
+-- ---- own pages
+
+-- the slot of a region
+abbrev pub slot_of : TableSizes → (ℕ → ℕ) → Region → ℕ
+slot_of z slot GlobalRegion = z.slots
+slot_of z slot (Numbered k) = slot k
+
+-- an object that is being made: what of it is stored
+pub record Amidst (z : TableSizes) (cell : ℕ → ℕ → ℕ) (f : Fill) (object : Object) (stored : List ℕ) : Type 0 where
+  pub fits : f.fill + words object ≤ z.page_words
+  pub plain : (i : ℕ) (v : Value) → content object i ≡ Some v → IsPlain v
+  pub laid : (i : ℕ) → i < words object → 0 < times i stored → cell f.page (f.fill + i) ≡ opening (content object i)
+
+pub record Own (z : TableSizes) (states : ℕ → ℕ) (cell : ℕ → ℕ
+    → ℕ) (recs : List Rec) (heap : List Object) (owners : List Region)
+    (regions : List RegionInfo) (slot : ℕ → ℕ) (spot : ℕ → ℕ → Spot) : Type 0 where
+  pub ranged : (p : ℕ) → 0 < states p → p < z.pages
+  -- a word of an object lies in a page of its region
+  pub homes : (o i : ℕ) (object : Object) (r : Region) → Stands heap owners regions o object r → i < words object
+      → states (spot o i).page ≡ suc (slot_of z slot r)
+  -- own pages are claimed for their slot, and nobody else's
+  pub claimed : (g : ℕ) (f : Fill) → Owns recs g f → states f.page ≡ suc f.slot
+  pub alone : (g h : ℕ) (e f : Fill) → Owns recs g e → Owns recs h f → e.page ≡ f.page → (g ≡ h) × (e ≡ f)
+  pub room : (g : ℕ) (f : Fill) → Owns recs g f → f.fill ≤ z.page_words
+  -- nothing lies above the fill
+  pub under : (g o i : ℕ) (f : Fill) (object : Object) (r : Region) → Owns recs g f
+      → Stands heap owners regions o object r
+      → i < words object → (spot o i).page ≡ f.page → (spot o i).offset < f.fill
+  pub amids : (g : ℕ) (c : Rec) (f : Fill) (object : Object) (stored : List ℕ) → Has recs g c
+      → c.make ≡ Amid f object stored → Within f c.fills × Amidst z cell f object stored
+
+-- the goroutine makes this object, and these of its words were stored
+abbrev pub Makes : TableSizes → Rec → Fill → Object → List ℕ → Type 0
+Makes z c f object stored = (c.make ≡ Amid f object stored)
+    ⊎ ((c.make ≡ Rest) × (stored ≡ []) × Within f c.fills × (f.fill + words object ≤ z.page_words)
+    × ((i : ℕ) (v : Value) → content object i ≡ Some v → IsPlain v))
+
+-- all of its words
+abbrev pub Covers : Object → List ℕ → Type 0
+Covers object stored = (i : ℕ) → i < words object → 0 < times i stored
+
+-- ---- fills, and where there are stakes
+
+-- the goroutine uses a region of that slot
+abbrev pub StakeAt : TableSizes → List Held → (ℕ → ℕ) → ℕ → ℕ → Type 0
+StakeAt z held slot g s = (h : Held) × (r : Region) × (slice_get held g ≡ Some h) × Uses h r × (slot_of z slot r ≡ s)
+
+-- creations: how many regions were made
+pub record Filled (z : TableSizes) (recs : List Rec) (held : List Held) (creations : ℕ) (slot : ℕ → ℕ) : Type 0 where
+  -- an own page is of a region that the goroutine uses, and filled as the goroutine has filled it
+  pub fills : (g : ℕ) (f : Fill) → Owns recs g f
+      → (h : Held) × (r : Region) × (slice_get held g ≡ Some h) × Uses h r × (slot_of z slot r ≡ f.slot)
+      × (fill_of h.fills r ≡ Some f.fill)
+  -- what it has filled of a region that it uses is an own page
+  pub owned : (g n : ℕ) (h : Held) (r : Region) → slice_get held g ≡ Some h → Uses h r → fill_of h.fills r ≡ Some n
+      → (f : Fill) × Owns recs g f × (f.slot ≡ slot_of z slot r) × (f.fill ≡ n)
+  -- one page of each slot
+  pub single : (g : ℕ) (e f : Fill) → Owns recs g e → Owns recs g f → e.slot ≡ f.slot → e ≡ f
+  -- pages are claimed where there is a stake
+  pub claims : (g s : ℕ) (c : Rec) → Has recs g c → Claims c.claim s → StakeAt z held slot g s
+  -- what was filled was made
+  pub made : (g k n : ℕ) (h : Held) → slice_get held g ≡ Some h → fill_of h.fills (Numbered k) ≡ Some n → k < creations
+
+-- ---- counts
+
+-- what a slot is used for: nothing, a region, or a region that has gone, whose chain a goroutine gives back
+pub data Use : Type 0 where
+  Vacant : Use
+  Living : (region : ℕ) → Use
+  Closing : (goroutine : ℕ) → Use
+
+pub record Counts (z : TableSizes) (counts top : ℕ → ℕ) (recs : List Rec) (regions : List RegionInfo) (slot : ℕ
+    → ℕ) (uses : ℕ → Use) : Type 0 where
+  pub global : counts z.slots ≡ 2
+  pub vacant : (s : ℕ) → s < z.slots → uses s ≡ Vacant → (counts s ≡ 0) × (top s ≡ 0)
+  pub living : (s k : ℕ) → s < z.slots → uses s ≡ Living k
+      → (slot k ≡ s) × (info : RegionInfo) × (slice_get regions k ≡ Some info) × (0 < info.stakes)
+      × (counts s ≡ suc info.stakes)
+  pub closing : (s g : ℕ) → s < z.slots → uses s ≡ Closing g → (counts s ≡ 1) × (c : Rec) × Has recs g c × Closes c.give s
+  pub lives : (k : ℕ) (info : RegionInfo) → slice_get regions k ≡ Some info → 0 < info.stakes
+      → (slot k < z.slots) × (uses (slot k) ≡ Living k)
+  pub closes : (g s : ℕ) (c : Rec) → Has recs g c → Closes c.give s → (s < z.slots) × (uses s ≡ Closing g)
+
+-- ---- how many pages a region has
+
+-- how many of the first n pages are claimed for a slot
+abbrev pub pages_at : (ℕ → ℕ) → ℕ → ℕ → ℕ
+pages_at states zero s = 0
+pages_at states (suc n) s = if states n == suc s then suc (pages_at states n s) else pages_at states n s
+
+-- the pages of a live region, and of Global, are those that are claimed for its slot
+pub record Paged (z : TableSizes) (states : ℕ → ℕ) (regions : List RegionInfo) (global_pages : ℕ) (slot : ℕ
+    → ℕ) : Type 0 where
+  pub live : (k : ℕ) (info : RegionInfo) → slice_get regions k ≡ Some info → 0 < info.stakes
+      → info.pages ≡ pages_at states z.pages (slot k)
+  pub global : global_pages ≡ pages_at states z.pages z.slots
+
+-- ---- what was taken and created
+
+abbrev pub TriedPage : List Rec → ℕ → Type 0
+TriedPage recs p = (g : ℕ) × (c : Rec) × Has recs g c × (0 < times p c.tried_pages)
+
+abbrev pub TriedSlot : List Rec → ℕ → Type 0
+TriedSlot recs s = (g : ℕ) × (c : Rec) × Has recs g c × (0 < times s c.tried_slots)
+
+-- Each page that is claimed, or that a record found claimed, was taken by a step of its own; each slot that is in use, or that a
+-- record found in use, has a region of its own.
+pub record Taken (z : TableSizes) (states counts : ℕ → ℕ) (recs : List Rec) (takes creations : ℕ) (slot page : ℕ
+    → ℕ) : Type 0 where
+  pub pages : (p : ℕ) → (0 < states p) ⊎ TriedPage recs p → (n : ℕ) × (n < takes) × (page n ≡ p)
+  pub slots : (s : ℕ) → s < z.slots → (0 < counts s) ⊎ TriedSlot recs s → (k : ℕ) × (k < creations) × (slot k ≡ s)

@@ -1,0 +1,112 @@
+-- What the record of a goroutine has of memory: its own pages, the object that it makes, the page that it claims, and the
+-- chain that it gives back.
+use Rattle.std.specs.Prelude.{◌≡◌, ℕ, List, [], ◌∷◌, Some, slice_get, nat_eq, if◌then◌else◌}
+use Rattle.rgo_memory.specs.Memory.{Object}
+
+-- an own page, claimed for a slot, and how many words of it are filled
+pub record Fill : Type 0 where
+  pub slot : ℕ
+  pub page : ℕ
+  pub fill : ℕ
+
+-- nothing; or an object behind what is filled of an own page, with the numbers of its words stored so far
+pub data Make : Type 0 where
+  Rest : Make
+  Amid : (fill : Fill) (object : Object) (stored : List ℕ) → Make
+
+-- nothing; a page that is claimed for a slot; or one that was put at its head before `old`, with its next word not yet stored
+pub data Claim : Type 0 where
+  Idle : Claim
+  Got : (page slot : ℕ) → Claim
+  Hung : (page slot old : ℕ) → Claim
+
+-- Nothing; or the chain of a slot is being given back: its head is not loaded yet; the next page is known, by its number plus 1, or
+-- 0 for none; so is the page after it; or all pages are free and the head is 0.
+pub data Give : Type 0 where
+  Calm : Give
+  Owes : (slot : ℕ) → Give
+  Giving : (slot cursor : ℕ) → Give
+  Past : (slot cursor next : ℕ) → Give
+  Gave : (slot : ℕ) → Give
+
+pub record Rec : Type 0 where
+  pub fills : List Fill
+  pub make : Make
+  pub claim : Claim
+  pub give : Give
+  -- the page states and the counts that its call found not 0
+  pub tried_pages : List ℕ
+  pub tried_slots : List ℕ
+
+-- goroutine g has this record
+abbrev pub Has : List Rec → ℕ → Rec → Type 0
+Has recs g c = slice_get recs g ≡ Some c
+
+abbrev pub Within : {A : Type 0} → A → List A → Type 0
+Within x l = (k : ℕ) × (slice_get l k ≡ Some x)
+
+-- the own page is that goroutine's
+abbrev pub Owns : List Rec → ℕ → Fill → Type 0
+Owns recs g f = (c : Rec) × Has recs g c × Within f c.fills
+
+-- the chain of the slot is given back, from this page on
+abbrev pub Gives : Give → ℕ → ℕ → Type 0
+Gives Calm r h = ⊥
+Gives (Owes s) r h = ⊥
+Gives (Gave s) r h = ⊥
+Gives (Giving s c) r h = (s ≡ r) × (c ≡ h)
+Gives (Past s c q) r h = (s ≡ r) × (c ≡ h)
+
+-- the slot is closed by this
+abbrev pub Closes : Give → ℕ → Type 0
+Closes Calm r = ⊥
+Closes (Owes s) r = s ≡ r
+Closes (Giving s c) r = s ≡ r
+Closes (Past s c q) r = s ≡ r
+Closes (Gave s) r = s ≡ r
+
+-- a page is claimed for the slot by this
+abbrev pub Claims : Claim → ℕ → Type 0
+Claims Idle r = ⊥
+Claims (Got p s) r = s ≡ r
+Claims (Hung p s o) r = s ≡ r
+
+-- ---- what steps do to a record
+
+-- the own pages of other slots
+abbrev pub dropped : ℕ → List Fill → List Fill
+dropped s [] = []
+dropped s (f ∷ fs) = if nat_eq s f.slot then dropped s fs else f ∷ dropped s fs
+
+-- a page was claimed, and is its own page there
+abbrev pub with_page : Rec → ℕ → ℕ → Rec
+with_page c p s = record c { fills = record { slot = s; page = p; fill = 0 } ∷ dropped s c.fills; claim = Got p s }
+
+abbrev pub with_claim : Rec → Claim → Rec
+with_claim c claim = record c { claim = claim }
+
+abbrev pub with_give : Rec → Give → Rec
+with_give c give = record c { give = give }
+
+-- a stake there has ended
+abbrev pub without_slot : Rec → ℕ → Rec
+without_slot c s = record c { fills = dropped s c.fills }
+
+-- a page, a slot that was found used
+abbrev pub with_tried_page : Rec → ℕ → Rec
+with_tried_page c p = record c { tried_pages = p ∷ c.tried_pages }
+
+abbrev pub with_tried_slot : Rec → ℕ → Rec
+with_tried_slot c s = record c { tried_slots = s ∷ c.tried_slots }
+
+-- the own page of a slot filled so far
+abbrev pub raised : ℕ → ℕ → List Fill → List Fill
+raised s n [] = []
+raised s n (f ∷ fs) = (if nat_eq s f.slot then record f { fill = n } else f) ∷ raised s n fs
+
+-- a word more of an object was stored; the object was made
+abbrev pub with_word : Rec → Fill → Object → List ℕ → Rec
+with_word c f object stored = record c { make = Amid f object stored }
+
+abbrev pub with_object : Rec → ℕ → ℕ → Rec
+with_object c s n = record c { fills = raised s n c.fills; make = Rest }

@@ -1,0 +1,5 @@
+use Rattle.rgo_sound.proofs.StepExamples as lemmas
+use Rattle.rgo_sound.proofs.laws.examples.Goals as goal
+
+pub returns : goal.returns
+returns c = lemmas.examples
