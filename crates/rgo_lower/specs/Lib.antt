@@ -1,3 +1,4 @@
 pub mod Emitted
 pub mod Laws
 pub mod Lowered
+pub mod Sizes

@@ -7,18 +7,18 @@ ghost use Rattle.rgo_typed.specs.Views.{term_of, boxed_term_of, stmt_of};
 ghost use Rattle.rgo_lower.specs.Emitted.{made_of, StmtIsEmitted, StmtsAreEmitted};
 
 use crate::builder::{Builder, Loop};
+use crate::errors::EmitError;
 use crate::statements::{
     Change, assign, break_out, continue_on, declare, declare_zero, discard, invoke,
     lower_condition, lower_test, perform, print, return_with, start, update,
 };
 use rgo_ast::Place;
 use rgo_typed::{Stmt, Term};
-use std::alloc::AllocError;
 
 /// The code of a statement, where `innermost` is the loop around it, if there is one.
 #[cycle(statements)]
 #[tactic(auto, using(rgo_typed::proofs::Rows::rows))]
-pub fn lower_stmt(b: &mut Builder, innermost: Option<Loop>, stmt: &Stmt) -> Result<(), AllocError>
+pub fn lower_stmt(b: &mut Builder, innermost: Option<Loop>, stmt: &Stmt) -> Result<(), EmitError>
     ensures { IfOk result (λ done. StmtIsEmitted (stmt_of stmt.now) innermost (made_of b.old) (made_of b.new)) }
 {
     match stmt {
@@ -75,7 +75,7 @@ pub fn lower_stmts(
     b: &mut Builder,
     innermost: Option<Loop>,
     stmts: &Vec<Stmt>,
-) -> Result<(), AllocError>
+) -> Result<(), EmitError>
     ensures { IfOk result (λ done. StmtsAreEmitted (stmts_of (map stmt_of stmts.now.items)) innermost
         (made_of b.old)
         (made_of b.new)) }
@@ -94,7 +94,7 @@ fn lower_if(
     test: &Term,
     body: &Vec<Stmt>,
     place: Place,
-) -> Result<(), AllocError>
+) -> Result<(), EmitError>
     ensures { IfOk result (λ done. StmtIsEmitted
         (tree.If (term_of test.now) (stmts_of (map stmt_of body.now.items)) place) innermost (made_of b.old)
         (made_of b.new)) }
@@ -114,7 +114,7 @@ fn lower_if_else(
     body: &Vec<Stmt>,
     other: &Vec<Stmt>,
     place: Place,
-) -> Result<(), AllocError>
+) -> Result<(), EmitError>
     ensures { IfOk result (λ done. StmtIsEmitted (tree.IfElse (term_of test.now)
         (stmts_of (map stmt_of body.now.items))
         (stmts_of (map stmt_of other.now.items)) place) innermost (made_of b.old) (made_of b.new)) }
@@ -138,7 +138,7 @@ fn lower_loop(
     body: &Vec<Stmt>,
     post: &Vec<Stmt>,
     place: Place,
-) -> Result<(), AllocError>
+) -> Result<(), EmitError>
     ensures { IfOk result (λ done. StmtIsEmitted (tree.Loop (boxed_term_of test.now)
         (stmts_of (map stmt_of body.now.items)) (stmts_of (map stmt_of post.now.items)) place) innermost
         (made_of b.old)

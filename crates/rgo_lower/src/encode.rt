@@ -7,17 +7,17 @@ ghost use Rattle.rgo_typed.specs.declared.actions.Action.TheVariants.{Copy};
 ghost use Rattle.rgo_lower.specs.Emitted.{Encodes, acts};
 ghost use Rattle.rgo_lower.specs.Lowered as spec;
 
+use crate::errors::EmitError;
 use rgo_ast::BinaryOp;
 use rgo_tac::Instr;
 use rgo_typed::{Action, Base, Type};
-use std::alloc::AllocError;
 
 /// The number, if it has 32 bits.
-pub fn narrow(n: usize) -> Result<u32, AllocError>
+pub fn narrow(n: usize) -> Result<u32, EmitError>
     ensures { IfOk result (λ m. m ≡ n) }
 {
     if n > 4294967295 {
-        return Err(AllocError);
+        return Err(EmitError::IllFormed);
     }
     Ok(n as u32)
 }
@@ -37,7 +37,7 @@ pub fn copy_instr(ty: &Type, to: u32, from: u32) -> Instr
 }
 
 /// An operator on two variables. It fails for `&&` and `||`, which are terms of their own.
-fn binary_instr(to: u32, op: BinaryOp, a: u32, b: u32) -> Result<Instr, AllocError>
+fn binary_instr(to: u32, op: BinaryOp, a: u32, b: u32) -> Result<Instr, EmitError>
     ensures { IfOk result (λ i. Encodes i (computing to op a b)) }
 {
     match op {
@@ -52,54 +52,54 @@ fn binary_instr(to: u32, op: BinaryOp, a: u32, b: u32) -> Result<Instr, AllocErr
         BinaryOp::Le => Ok(Instr::Le(to, a, b)),
         BinaryOp::Gt => Ok(Instr::Gt(to, a, b)),
         BinaryOp::Ge => Ok(Instr::Ge(to, a, b)),
-        BinaryOp::And | BinaryOp::Or => Err(AllocError),
+        BinaryOp::And | BinaryOp::Or => Err(EmitError::IllFormed),
     }
 }
 
 /// Nothing, of an action that takes no operand. Like `one_operand`, `two_operands` and `three_operands` it fails where
 /// the action has another number of operands, which never happens in a well-formed program.
-fn no_operand(from: &[u32]) -> Result<(), AllocError>
+fn no_operand(from: &[u32]) -> Result<(), EmitError>
     ensures { IfOk result (λ _. from.now ≡ []) }
 {
     match from {
         [] => Ok(()),
-        _ => Err(AllocError),
+        _ => Err(EmitError::IllFormed),
     }
 }
 
 /// The operand of an action that takes one.
-fn one_operand(from: &[u32]) -> Result<u32, AllocError>
+fn one_operand(from: &[u32]) -> Result<u32, EmitError>
     ensures { IfOk result (λ a. from.now ≡ a ∷ []) }
 {
     match from {
         [a] => Ok(*a),
-        _ => Err(AllocError),
+        _ => Err(EmitError::IllFormed),
     }
 }
 
 /// The operands of an action that takes two.
-fn two_operands(from: &[u32]) -> Result<(u32, u32), AllocError>
+fn two_operands(from: &[u32]) -> Result<(u32, u32), EmitError>
     ensures { IfOk result (λ both. from.now ≡ both.0 ∷ both.1 ∷ []) }
 {
     match from {
         [a, b] => Ok((*a, *b)),
-        _ => Err(AllocError),
+        _ => Err(EmitError::IllFormed),
     }
 }
 
 /// The operands of an action that takes three.
-fn three_operands(from: &[u32]) -> Result<(u32, u32, u32), AllocError>
+fn three_operands(from: &[u32]) -> Result<(u32, u32, u32), EmitError>
     ensures { IfOk result (λ all. from.now ≡ all.0 ∷ all.1 ∷ all.2 ∷ []) }
 {
     match from {
         [a, b, c] => Ok((*a, *b, *c)),
-        _ => Err(AllocError),
+        _ => Err(EmitError::IllFormed),
     }
 }
 
 /// The instruction of an action that gives a value of this type. It fails for an action that gives none, and where the
 /// action takes another number of operands: neither happens in a well-formed program.
-pub fn value_instr(to: u32, action: Action, from: &[u32], ty: &Type) -> Result<Instr, AllocError>
+pub fn value_instr(to: u32, action: Action, from: &[u32], ty: &Type) -> Result<Instr, EmitError>
     ensures { IfOk result (λ i. Encodes i (acts action from.now to)) }
 {
     match action {
@@ -141,14 +141,14 @@ pub fn value_instr(to: u32, action: Action, from: &[u32], ty: &Type) -> Result<I
             Ok(Instr::Get(to, narrow(n)?))
         }
         Action::Store(_) | Action::Put | Action::Send | Action::Close | Action::Set(_) => {
-            Err(AllocError)
+            Err(EmitError::IllFormed)
         }
     }
 }
 
 /// The instruction of an action that gives no value. It fails for an action that gives one, and where the action takes
 /// another number of operands.
-pub fn effect_instr(action: Action, from: &[u32]) -> Result<Instr, AllocError>
+pub fn effect_instr(action: Action, from: &[u32]) -> Result<Instr, EmitError>
     ensures { IfOk result (λ i. Encodes i (Do None action from.now)) }
 {
     match action {
@@ -181,7 +181,7 @@ pub fn effect_instr(action: Action, from: &[u32]) -> Result<Instr, AllocError>
         | Action::Slice
         | Action::Chan
         | Action::Recv
-        | Action::Get(_) => { Err(AllocError) }
+        | Action::Get(_) => { Err(EmitError::IllFormed) }
     }
 }
 

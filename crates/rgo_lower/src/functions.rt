@@ -9,14 +9,15 @@ ghost use Rattle.rgo_lower.specs.Emitted.{made_of, always, OpIsAdded, Begins, fi
 use crate::blocks::lower_stmts;
 use crate::builder::Builder;
 use crate::encode::narrow;
+use crate::errors::EmitError;
 use crate::targets::{instrs_of, places_of};
 use rgo_ast::{Name, Place};
-use rgo_tac::{Body, TacFn, copy_name, copy_result, copy_types};
+use rgo_tac::{Body, FunctionError, TacFn, copy_name, copy_result, copy_types};
 use rgo_typed::{Function, Row, Type};
-use std::alloc::{AllocError, Global};
+use std::alloc::Global;
 
 /// The first variable numbers.
-fn first_slots(alloc: Global, count: usize) -> Result<Vec<u32>, AllocError>
+fn first_slots(alloc: Global, count: usize) -> Result<Vec<u32>, EmitError>
     ensures { IfOk result (λ slots. (n : ℕ) → n < count → get_or slots.items n 0 ≡ n) }
 {
     let mut slots = Vec::new(alloc);
@@ -27,7 +28,7 @@ fn first_slots(alloc: Global, count: usize) -> Result<Vec<u32>, AllocError>
 }
 
 /// The local variables of these types, of which the first are parameters: each has the variable of its own number.
-fn begin(alloc: Global, locals: &[Type], params: usize) -> Result<Builder, AllocError>
+fn begin(alloc: Global, locals: &[Type], params: usize) -> Result<Builder, EmitError>
     requires { params ≤ length locals.now }
     ensures { IfOk result (λ b. Begins params locals.now (made_of b)) }
 {
@@ -43,7 +44,7 @@ fn begin(alloc: Global, locals: &[Type], params: usize) -> Result<Builder, Alloc
 }
 
 /// Adds the end of a function: a return, or, where it has a result, a jump to itself, which is never reached.
-fn close(b: &mut Builder, result_type: &Option<Type>, end: Place) -> Result<(), AllocError>
+fn close(b: &mut Builder, result_type: &Option<Type>, end: Place) -> Result<(), EmitError>
     ensures { IfOk result (λ done. OpIsAdded (made_of b.old)
         (always (closing_op result_type.now (length b.old.lines.items))) end (made_of b.new)) }
 {
@@ -65,7 +66,7 @@ fn made(
     result_type: Option<Type>,
     types: Row<Type>,
     body: Body,
-) -> Result<TacFn, AllocError>
+) -> Result<TacFn, EmitError>
     ensures { IfOk result (λ f. f ≡ record {
       name = name;
       params = params;
@@ -76,12 +77,13 @@ fn made(
 {
     match TacFn::new(alloc, name, params, result_type, types, body) {
         Ok(function) => Ok(function),
-        Err(_) => Err(AllocError),
+        Err(FunctionError::NoMemory) => Err(EmitError::NoMemory),
+        Err(FunctionError::TooLarge) => Err(EmitError::IllFormed),
     }
 }
 
 /// The function with this code.
-fn finish(b: Builder, function: &Function) -> Result<TacFn, AllocError>
+fn finish(b: Builder, function: &Function) -> Result<TacFn, EmitError>
     ensures { IfOk result (λ f. f ≡ finished (function_of function.now) (made_of b)) }
 {
     let instrs = instrs_of(b.alloc, &b.lines, &b.labels)?;
@@ -105,7 +107,7 @@ fn finish(b: Builder, function: &Function) -> Result<TacFn, AllocError>
 }
 
 /// The code of a function.
-pub fn lower_function(alloc: Global, function: &Function) -> Result<TacFn, AllocError>
+pub fn lower_function(alloc: Global, function: &Function) -> Result<TacFn, EmitError>
     requires { function.now.params ≤ length function.now.locals }
     ensures { IfOk result (λ f. FunctionIsLowered (function_of function.now) f) }
 {

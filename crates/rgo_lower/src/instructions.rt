@@ -16,10 +16,10 @@ ghost use Rattle.rgo_lower.specs.Emitted.{
 
 use crate::builder::Builder;
 use crate::encode::{copy_instr, effect_instr, narrow, value_instr};
+use crate::errors::EmitError;
 use rgo_ast::Place;
 use rgo_tac::Instr;
 use rgo_typed::{Action, Piece, Type};
-use std::alloc::AllocError;
 
 impl Builder {
     /// An action that gives a new variable of this type its value.
@@ -29,7 +29,7 @@ impl Builder {
         from: &[u32],
         ty: &Type,
         place: Place,
-    ) -> Result<u32, AllocError>
+    ) -> Result<u32, EmitError>
         ensures { IfOk result (λ d. ValueIsAdded (made_of self.old) (acts action from.now) ty.now place d
             (made_of self.new)) }
     {
@@ -40,7 +40,7 @@ impl Builder {
     }
 
     /// An action that gives no value.
-    pub fn act(&mut self, action: Action, from: &[u32], place: Place) -> Result<(), AllocError>
+    pub fn act(&mut self, action: Action, from: &[u32], place: Place) -> Result<(), EmitError>
         ensures { IfOk result (λ done. OpIsAdded (made_of self.old) (always (op.Do None action from.now)) place
             (made_of self.new)) }
     {
@@ -49,7 +49,7 @@ impl Builder {
     }
 
     /// A copy to a variable that is there. It takes the type of that variable.
-    pub fn copy_to(&mut self, to: u32, from: u32, place: Place) -> Result<(), AllocError>
+    pub fn copy_to(&mut self, to: u32, from: u32, place: Place) -> Result<(), EmitError>
         ensures { IfOk result (λ done. OpIsAdded (made_of self.old)
             (always (op.Do (Some to) action.Copy (from ∷ []))) place (made_of self.new)) }
     {
@@ -67,7 +67,7 @@ impl Builder {
         from: Vec<u32>,
         ty: &Type,
         place: Place,
-    ) -> Result<u32, AllocError>
+    ) -> Result<u32, EmitError>
         ensures { IfOk result (λ d. ValueIsAdded (made_of self.old) (calls function from.items) ty.now place d
             (made_of self.new)) }
     {
@@ -79,12 +79,7 @@ impl Builder {
     }
 
     /// A call of a function that has no result.
-    pub fn invoke(
-        &mut self,
-        function: usize,
-        from: Vec<u32>,
-        place: Place,
-    ) -> Result<(), AllocError>
+    pub fn invoke(&mut self, function: usize, from: Vec<u32>, place: Place) -> Result<(), EmitError>
         ensures { IfOk result (λ done. OpIsAdded (made_of self.old) (always (op.Call None function from.items)) place
             (made_of self.new)) }
     {
@@ -94,7 +89,7 @@ impl Builder {
     }
 
     /// The start of a goroutine.
-    pub fn start(&mut self, function: usize, from: Vec<u32>, place: Place) -> Result<(), AllocError>
+    pub fn start(&mut self, function: usize, from: Vec<u32>, place: Place) -> Result<(), EmitError>
         ensures { IfOk result (λ done. OpIsAdded (made_of self.old) (always (op.Go function from.items)) place
             (made_of self.new)) }
     {
@@ -104,12 +99,7 @@ impl Builder {
     }
 
     /// A print of these pieces, with these variables among them.
-    pub fn print(
-        &mut self,
-        pieces: &[Piece],
-        from: Vec<u32>,
-        place: Place,
-    ) -> Result<(), AllocError>
+    pub fn print(&mut self, pieces: &[Piece], from: Vec<u32>, place: Place) -> Result<(), EmitError>
         ensures { IfOk result (λ done. OpIsAdded (made_of self.old) (always (op.Print pieces.now from.items)) place
             (made_of self.new)) }
     {
@@ -119,7 +109,7 @@ impl Builder {
     }
 
     /// A jump to a label.
-    pub fn jump(&mut self, label: u32, place: Place) -> Result<(), AllocError>
+    pub fn jump(&mut self, label: u32, place: Place) -> Result<(), EmitError>
         ensures { IfOk result (λ done. OpIsAdded (made_of self.old) (jump_to label) place (made_of self.new)) }
     {
         self.line(Instr::Jump(label), place)
@@ -132,7 +122,7 @@ impl Builder {
         inside: u32,
         other: u32,
         place: Place,
-    ) -> Result<(), AllocError>
+    ) -> Result<(), EmitError>
         ensures { IfOk result (λ done. OpIsAdded (made_of self.old) (branch_to test inside other) place
             (made_of self.new)) }
     {
@@ -140,7 +130,7 @@ impl Builder {
     }
 
     /// A return of the value of this variable.
-    pub fn return_from(&mut self, value: u32, place: Place) -> Result<(), AllocError>
+    pub fn return_from(&mut self, value: u32, place: Place) -> Result<(), EmitError>
         ensures { IfOk result (λ done. OpIsAdded (made_of self.old) (always (op.Return (Some value))) place
             (made_of self.new)) }
     {
@@ -148,7 +138,7 @@ impl Builder {
     }
 
     /// A return without a value.
-    pub fn leave(&mut self, place: Place) -> Result<(), AllocError>
+    pub fn leave(&mut self, place: Place) -> Result<(), EmitError>
         ensures { IfOk result (λ done. OpIsAdded (made_of self.old) (always (op.Return None)) place
             (made_of self.new)) }
     {

@@ -4,13 +4,16 @@
 mod blocks;
 mod builder;
 mod encode;
+mod errors;
 mod functions;
 mod instructions;
 mod laws;
 mod programs;
+mod sizes;
 mod statements;
 mod targets;
 mod terms;
 
+pub use errors::LowerError;
 pub use laws::{lowering_is_determined, lowering_simulates};
 pub use programs::lower;

@@ -1,22 +1,21 @@
 //! The code of programs.
 
-ghost use Rattle.std.specs.Prelude.{◌≡◌, IfOk};
+ghost use Rattle.std.specs.Prelude.{◌≡◌, ◌↔◌, Err, IfOk};
 ghost use Rattle.rgo_typed.specs.Views.{typed_of};
 ghost use Rattle.rgo_wellformed.specs.WellFormed.{IsWellFormed};
+ghost use Rattle.rgo_lower.specs.declared.errors.LowerError.TheVariants.{TooLarge};
 ghost use Rattle.rgo_lower.specs.Lowered.{IsLowered};
+ghost use Rattle.rgo_lower.specs.Sizes.{IsTooLarge};
 
+use crate::errors::{EmitError, LowerError};
 use crate::functions::lower_function;
+use crate::sizes::is_too_large;
 use rgo_tac::{Tac, copy_structs, copy_variables};
 use rgo_typed::{Row, Typed};
-use std::alloc::{AllocError, Global};
+use std::alloc::Global;
 
-/// The three-address code of a program.
-///
-/// # Errors
-///
-/// On allocation failure; and if the code would have 2^32 or more instructions, variables or lists in a function (or a
-/// struct, field, function or package variable a number of 2^32 or more), which takes more memory than there is.
-pub fn lower(alloc: Global, program: &Typed) -> Result<Tac, AllocError>
+/// The three-address code of a program that is not too large.
+fn emit(alloc: Global, program: &Typed) -> Result<Tac, EmitError>
     requires { IsWellFormed (typed_of program.now) }
     ensures { IfOk result (λ code. IsLowered (typed_of program.now) code) }
 {
@@ -27,4 +26,26 @@ pub fn lower(alloc: Global, program: &Typed) -> Result<Tac, AllocError>
         functions.push(lower_function(alloc, function)?)?;
     }
     Ok(Tac::new(structs, variables, Row::new(functions)))
+}
+
+/// The three-address code of a program.
+///
+/// # Errors
+///
+/// `TooLarge` if the program has 2³² - 2 or more structs, package variables or functions, or a struct as many fields, or if
+/// the code of a function would count as many of instructions, variables, lists of variables, texts and labels, as
+/// `program_size` of `specs/Sizes.antt` counts them: that is known before any code is made. `NoMemory` on allocation failure.
+pub fn lower(alloc: Global, program: &Typed) -> Result<Tac, LowerError>
+    requires { IsWellFormed (typed_of program.now) }
+    ensures code { IfOk result (λ code. IsLowered (typed_of program.now) code) }
+    ensures large { (result ≡ Err TooLarge) ↔ IsTooLarge (typed_of program.now) }
+{
+    if is_too_large(program) {
+        return Err(LowerError::TooLarge);
+    }
+    match emit(alloc, program) {
+        Ok(code) => Ok(code),
+        Err(EmitError::NoMemory) => Err(LowerError::NoMemory),
+        Err(EmitError::IllFormed) => Err(LowerError::IllFormed),
+    }
 }

@@ -8,10 +8,10 @@ ghost use Rattle.rgo_lower.specs.Emitted.{made_of, IsEmitted, StmtIsEmitted, Tes
 
 use crate::builder::{Builder, Loop};
 use crate::encode::zero_action;
+use crate::errors::EmitError;
 use crate::terms::{lower_term, lower_terms};
 use rgo_ast::{BinaryOp, Place};
 use rgo_typed::{Action, Logical, Piece, Term, Type};
-use std::alloc::AllocError;
 
 /// An assignment that computes first.
 #[derive(Clone, Copy)]
@@ -33,7 +33,7 @@ pub fn declare(
     ty: &Type,
     value: &Term,
     place: Place,
-) -> Result<(), AllocError>
+) -> Result<(), EmitError>
     ensures { IfOk result (λ done. IsEmitted (tree.Declare n ty.now (term_of value.now) place)
         (made_of b.old) (made_of b.new)) }
 {
@@ -43,7 +43,7 @@ pub fn declare(
 }
 
 /// A local variable begins with the zero of its type.
-pub fn declare_zero(b: &mut Builder, n: usize, ty: &Type, place: Place) -> Result<(), AllocError>
+pub fn declare_zero(b: &mut Builder, n: usize, ty: &Type, place: Place) -> Result<(), EmitError>
     ensures { IfOk result (λ done. IsEmitted (tree.Zero n ty.now place) (made_of b.old) (made_of b.new)) }
 {
     let variable = b.give(zero_action(ty), &[], ty, place)?;
@@ -51,7 +51,7 @@ pub fn declare_zero(b: &mut Builder, n: usize, ty: &Type, place: Place) -> Resul
 }
 
 /// A local variable is given a value.
-pub fn assign(b: &mut Builder, n: usize, value: &Term, place: Place) -> Result<(), AllocError>
+pub fn assign(b: &mut Builder, n: usize, value: &Term, place: Place) -> Result<(), EmitError>
     ensures { IfOk result (λ done. IsEmitted (tree.Assign n (term_of value.now) place)
         (made_of b.old) (made_of b.new)) }
 {
@@ -66,7 +66,7 @@ pub fn perform(
     action: Action,
     operands: &Vec<Term>,
     place: Place,
-) -> Result<(), AllocError>
+) -> Result<(), EmitError>
     ensures { IfOk result (λ done. IsEmitted (tree.Perform action (terms_of (map term_of operands.now.items)) place)
         (made_of b.old) (made_of b.new)) }
 {
@@ -75,7 +75,7 @@ pub fn perform(
 }
 
 /// An assignment that computes first: the operands, the read, the value, the operation, the write.
-pub fn update(b: &mut Builder, change: &Change<'_>) -> Result<(), AllocError>
+pub fn update(b: &mut Builder, change: &Change<'_>) -> Result<(), EmitError>
     ensures { IfOk result (λ done. IsEmitted (tree.Update (record {
       operands = terms_of (map term_of change.now.operands.now.items);
       read = change.now.read;
@@ -97,7 +97,7 @@ pub fn update(b: &mut Builder, change: &Change<'_>) -> Result<(), AllocError>
 }
 
 /// A value that is not used.
-pub fn discard(b: &mut Builder, value: &Term) -> Result<(), AllocError>
+pub fn discard(b: &mut Builder, value: &Term) -> Result<(), EmitError>
     ensures { IfOk result (λ done. IsEmitted (tree.Discard (term_of value.now)) (made_of b.old) (made_of b.new)) }
 {
     lower_term(b, value)?;
@@ -110,7 +110,7 @@ pub fn invoke(
     function: usize,
     arguments: &Vec<Term>,
     place: Place,
-) -> Result<(), AllocError>
+) -> Result<(), EmitError>
     ensures { IfOk result (λ done. IsEmitted (tree.Invoke function (terms_of (map term_of arguments.now.items)) place)
         (made_of b.old) (made_of b.new)) }
 {
@@ -124,7 +124,7 @@ pub fn start(
     function: usize,
     arguments: &Vec<Term>,
     place: Place,
-) -> Result<(), AllocError>
+) -> Result<(), EmitError>
     ensures { IfOk result (λ done. IsEmitted (tree.Go function (terms_of (map term_of arguments.now.items)) place)
         (made_of b.old) (made_of b.new)) }
 {
@@ -138,7 +138,7 @@ pub fn print(
     pieces: &[Piece],
     values: &Vec<Term>,
     place: Place,
-) -> Result<(), AllocError>
+) -> Result<(), EmitError>
     ensures { IfOk result (λ done. IsEmitted (tree.Print pieces.now (terms_of (map term_of values.now.items)) place)
         (made_of b.old) (made_of b.new)) }
 {
@@ -147,22 +147,22 @@ pub fn print(
 }
 
 /// A jump out of the innermost loop. It fails outside of loops, where no well-formed program has a `break`.
-pub fn break_out(b: &mut Builder, innermost: Option<Loop>, place: Place) -> Result<(), AllocError>
+pub fn break_out(b: &mut Builder, innermost: Option<Loop>, place: Place) -> Result<(), EmitError>
     ensures { IfOk result (λ done. StmtIsEmitted (tree.Break place) innermost (made_of b.old) (made_of b.new)) }
 {
     match innermost {
         Some(labels) => b.jump(labels.break_to, place),
-        None => Err(AllocError),
+        None => Err(EmitError::IllFormed),
     }
 }
 
 /// A jump to the post statement of the innermost loop. It fails as `break_out` does.
-pub fn continue_on(b: &mut Builder, innermost: Option<Loop>, place: Place) -> Result<(), AllocError>
+pub fn continue_on(b: &mut Builder, innermost: Option<Loop>, place: Place) -> Result<(), EmitError>
     ensures { IfOk result (λ done. StmtIsEmitted (tree.Continue place) innermost (made_of b.old) (made_of b.new)) }
 {
     match innermost {
         Some(labels) => b.jump(labels.continue_to, place),
-        None => Err(AllocError),
+        None => Err(EmitError::IllFormed),
     }
 }
 
@@ -171,7 +171,7 @@ pub fn return_with(
     b: &mut Builder,
     value: &Option<Box<Term>>,
     place: Place,
-) -> Result<(), AllocError>
+) -> Result<(), EmitError>
     ensures { IfOk result (λ done. IsEmitted (tree.Return (boxed_term_of value.now) place)
         (made_of b.old) (made_of b.new)) }
 {
@@ -185,7 +185,7 @@ pub fn return_with(
 }
 
 /// A condition, and the branch to a label where it is false.
-pub fn lower_test(b: &mut Builder, test: &Term, other: u32, place: Place) -> Result<(), AllocError>
+pub fn lower_test(b: &mut Builder, test: &Term, other: u32, place: Place) -> Result<(), EmitError>
     ensures { IfOk result (λ done. TestIsEmitted (term_of test.now) other place (made_of b.old) (made_of b.new)) }
 {
     let d = lower_term(b, test)?;
@@ -198,7 +198,7 @@ pub fn lower_condition(
     test: &Option<Box<Term>>,
     other: u32,
     place: Place,
-) -> Result<(), AllocError>
+) -> Result<(), EmitError>
     ensures { IfOk result (λ done. ConditionIsEmitted (boxed_term_of test.now) other place (made_of b.old)
         (made_of b.new)) }
 {

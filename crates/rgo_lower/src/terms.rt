@@ -14,9 +14,10 @@ ghost use Rattle.rgo_lower.specs.Emitted.{
 };
 
 use crate::builder::Builder;
+use crate::errors::EmitError;
 use rgo_ast::Place;
 use rgo_typed::{Action, Base, Logical, Row, Term, Type};
-use std::alloc::{AllocError, Global};
+use std::alloc::Global;
 
 /// The type of truth values.
 fn truth(alloc: Global) -> Type
@@ -47,7 +48,7 @@ impl Builder {
         test: u32,
         other: u32,
         place: Place,
-    ) -> Result<(), AllocError>
+    ) -> Result<(), EmitError>
         ensures { IfOk result (λ done. OpIsAdded (made_of self.old)
             (decides logic test (length self.old.lines.items + 1) other) place (made_of self.new)) }
     {
@@ -67,12 +68,12 @@ impl Builder {
         fields: &[usize],
         from: &[u32],
         place: Place,
-    ) -> Result<(), AllocError>
+    ) -> Result<(), EmitError>
         ensures { IfOk result (λ done. FieldsAreStored object fields.now from.now place (made_of self.old)
             (made_of self.new)) }
     {
         if fields.len() != from.len() {
-            return Err(AllocError);
+            return Err(EmitError::IllFormed);
         }
         for i in 0..fields.len() {
             self.act(Action::Store(fields[i]), &[object, from[i]], place)?;
@@ -83,7 +84,7 @@ impl Builder {
 
 /// The code of a term. The result is the variable with its value.
 #[cycle(terms)]
-pub fn lower_term(b: &mut Builder, term: &Term) -> Result<u32, AllocError>
+pub fn lower_term(b: &mut Builder, term: &Term) -> Result<u32, EmitError>
     ensures { IfOk result (λ d. TermIsEmitted (term_of term.now) (made_of b.old) d (made_of b.new)) }
 {
     match term {
@@ -118,7 +119,7 @@ pub fn lower_term(b: &mut Builder, term: &Term) -> Result<u32, AllocError>
 
 /// The code of several terms, one after the other. The result is the variables with their values.
 #[cycle(terms)]
-pub fn lower_terms(b: &mut Builder, terms: &Vec<Term>) -> Result<Vec<u32>, AllocError>
+pub fn lower_terms(b: &mut Builder, terms: &Vec<Term>) -> Result<Vec<u32>, EmitError>
     ensures { IfOk result (λ ds. TermsAreEmitted (terms_of (map term_of terms.now.items)) (made_of b.old) ds.items
         (made_of b.new)) }
 {

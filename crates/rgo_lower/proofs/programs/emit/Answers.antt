@@ -4,7 +4,7 @@ use Rattle.rgo_wellformed.specs.WellFormed.{declared_by}
 use Rattle.rgo_lower.specs.Lowered.{AreLowered}
 use Rattle.rgo_lower.proofs.Growing.{one_more_before}
 use Rattle.rgo_lower.proofs.Finished.{well_function, next_lowered, end_lowered, program_is}
-use Rattle.rgo_lower.proofs.programs.lower.Goals as goal
+use Rattle.rgo_lower.proofs.programs.emit.Goals as goal
 
 pub lower_function-requires : goal.lower_function-requires
 lower_function-requires c =

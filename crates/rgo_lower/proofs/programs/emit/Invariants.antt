@@ -2,7 +2,7 @@ use Rattle.std.proofs.Common.{List, ◌++◌, map, drop}
 use Rattle.rgo_typed.specs.Views.{function_of}
 use Rattle.rgo_tac.specs.Code.{TacFn}
 use Rattle.rgo_lower.specs.Lowered.{AreLowered}
-use Rattle.rgo_lower.proofs.programs.lower.Given as goal
+use Rattle.rgo_lower.proofs.programs.emit.Given as goal
 
 -- the code of the rest makes the code of all
 abbrev pub invariant-loop-function : goal.invariant-loop-function
