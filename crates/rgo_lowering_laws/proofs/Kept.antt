@@ -8,6 +8,7 @@ use Rattle.rgo_code.specs.Exists.{TypeExists, Uses, OpExists}
 use Rattle.rgo_code.specs.Types.{OpFits}
 use Rattle.rgo_code.specs.TypedCode.{StartFits, IsTypedInstr}
 use Rattle.rgo_lower.specs.Lowered.{Point, after_value, after, OpAt}
+use Rattle.rgo_lowering_laws.specs.Laws.{PrintsFit}
 use Rattle.rgo_lowering_laws.proofs.Lists.{some_is}
 
 module _ (code : Tac) (f : TacFn) where
@@ -17,12 +18,18 @@ module _ (code : Tac) (f : TacFn) where
     pub exists : OpExists code f op
     pub fits : OpFits code f op
     pub start : StartFits code op
+    pub prints : PrintsFit f op
+
+  -- the instruction of number i keeps the rules, and prints a variable for each piece that prints one
+  pub record Right (i : ℕ) (op : Op) : Type 0 where
+    pub typed : IsTypedInstr code f i op
+    pub prints : PrintsFit f op
 
   -- the instructions from p up to q keep the rules, and the types of the variables from p up to q exist
   pub record Kept (p q : Point) : Type 0 where
     pub grows : p.instr ≤ q.instr
     pub instrs : (i : ℕ) (instr : Instr) → p.instr ≤ i → i < q.instr → slice_get f.body i ≡ Some instr
-        → IsTypedInstr code f i instr.op
+        → Right i instr.op
     pub variables : (v : ℕ) (ty : «Type») → p.variable ≤ v → v < q.variable → slice_get f.variables v ≡ Some ty
         → TypeExists code ty
 
@@ -50,22 +57,24 @@ module _ (code : Tac) (f : TacFn) where
 
   -- the instruction at an index
   pub at_place : (i j : ℕ) (op : Op) (place : ℕ) (instr : Instr) → OpAt f i op place → i ≤ j → j < i + 1
-      → slice_get f.body j ≡ Some instr → IsTypedInstr code f i op → IsTypedInstr code f j instr.op
+      → slice_get f.body j ≡ Some instr → Right i op → Right j instr.op
   at_place i j op place instr at from to is h =
       let here : j ≡ i = omega (arith, from, to) in
       let same = some_is (record { op = op; place = place }) instr (sym at ∙ (ap (slice_get f.body) (sym here) ∙ is)) in
-      subst (λ k. IsTypedInstr code f k instr.op) (sym here)
-      (subst (λ z. IsTypedInstr code f i z.op) same h)
+      subst (λ k. Right k instr.op) (sym here) (subst (λ (z : Instr). Right i z.op) same h)
 
-  typed : (i : ℕ) (op : Op) → i + 1 < length f.body → Safe op → IsTypedInstr code f i op
-  typed i op within s = record {
-    exists = record {
-      variables = s.variables;
-      exists = s.exists;
-      last = λ e. absurd (omega (arith, within, e));
+  right : (i : ℕ) (op : Op) → i + 1 < length f.body → Safe op → Right i op
+  right i op within s = record {
+    typed = record {
+      exists = record {
+        variables = s.variables;
+        exists = s.exists;
+        last = λ e. absurd (omega (arith, within, e));
+      };
+      fits = s.fits;
+      start = s.start;
     };
-    fits = s.fits;
-    start = s.start;
+    prints = s.prints;
   }
 
   -- one instruction
@@ -73,7 +82,7 @@ module _ (code : Tac) (f : TacFn) where
       → Kept p (after p)
   one p op place at within s = record {
     grows = omega arith;
-    instrs = λ i instr from to is. at_place p.instr i op place instr at from to is (typed p.instr op within s);
+    instrs = λ i instr from to is. at_place p.instr i op place instr at from to is (right p.instr op within s);
     variables = λ v ty from to is. absurd (omega (arith, from, to));
   }
 
@@ -83,7 +92,7 @@ module _ (code : Tac) (f : TacFn) where
       → Kept p (after_value p)
   one_value p op place ty at within s made known = record {
     grows = omega arith;
-    instrs = λ i instr from to is. at_place p.instr i op place instr at from to is (typed p.instr op within s);
+    instrs = λ i instr from to is. at_place p.instr i op place instr at from to is (right p.instr op within s);
     variables = λ v other from to is.
         let here : v ≡ p.variable = omega (arith, from, to) in
         subst (TypeExists code) (some_is ty other (sym made ∙ (ap (slice_get f.variables) (sym here) ∙ is))) known;

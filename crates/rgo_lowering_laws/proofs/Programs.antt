@@ -1,4 +1,4 @@
--- The code of a well-formed program is typed code.
+-- The code of a well-formed program is typed code, and its prints have the variables that their pieces print.
 use Rattle.std.proofs.Common.{◌≡◌, ⊎_elim, ℕ, zero, suc, ◌<◌, ◌≤◌, Bool, true, false, List, [], length, map}
 use Rattle.std.proofs.Common.{slice_get, nat_eq, if◌then◌else◌, Option, Some, None, refl, sym, ap, ◌∙◌, subst, arith}
 use Rattle.std.specs.List.{AllByRecursion}
@@ -15,10 +15,10 @@ use Rattle.rgo_tac.specs.Code.{Instr, TacFn, Tac}
 use Rattle.rgo_lower.specs.Lowered.{Point, found, parameters, closing_op, IsLoweredFn, IsLowered}
 use Rattle.rgo_lower.proofs.follows.Grows.{tested_eq, stmts_grow}
 use Rattle.rgo_code.specs.Exists.{declared_by, TypeExists, StructExists, VariableExists, HasMain}
-use Rattle.rgo_code.specs.TypedCode.{IsTypedInstr, IsTypedFn}
-use Rattle.rgo_lowering_laws.specs.Laws.{LoweredIsTyped}
+use Rattle.rgo_code.specs.TypedCode.{IsTypedFn}
+use Rattle.rgo_lowering_laws.specs.Laws.{LoweredIsTyped, LoweredPrints, PrintsFit}
 use Rattle.rgo_lowering_laws.proofs.Lists.{some_is, none_is, holds_there, taken_at}
-use Rattle.rgo_lowering_laws.proofs.Kept.{Kept, at_place}
+use Rattle.rgo_lowering_laws.proofs.Kept.{Kept, Right, at_place}
 use Rattle.rgo_lowering_laws.proofs.Safety.{jump_is_safe, return_is_safe}
 use Rattle.rgo_lowering_laws.proofs.Terms.{Setting, Agrees, inside}
 use Rattle.rgo_lowering_laws.proofs.Statements.{stmts_keep}
@@ -126,24 +126,30 @@ module _ (program : Typed) (code : Tac) (w : IsWellFormed program) (h : IsLowere
         start l.scope l.last l.body body parameters_agree tt at_end
 
     closes : (ty : Option «Type») → f.result_type ≡ ty → (i : ℕ) → i < length f.body
-        → IsTypedInstr code f i (closing_op ty i)
+        → Right code f i (closing_op ty i)
     closes None e i within =
         let s = return_is_safe f code e in
         record {
-          exists = record { variables = s.variables; exists = s.exists; last = λ end. refl };
-          fits = s.fits;
-          start = s.start;
+          typed = record {
+            exists = record { variables = s.variables; exists = s.exists; last = λ end. refl };
+            fits = s.fits;
+            start = s.start;
+          };
+          prints = s.prints;
         }
     closes (Some ty) e i within =
         let s = jump_is_safe f code i within in
         record {
-          exists = record { variables = s.variables; exists = s.exists; last = λ end. refl };
-          fits = s.fits;
-          start = s.start;
+          typed = record {
+            exists = record { variables = s.variables; exists = s.exists; last = λ end. refl };
+            fits = s.fits;
+            start = s.start;
+          };
+          prints = s.prints;
         }
 
-    typed_instr : (i : ℕ) (instr : Instr) → slice_get f.body i ≡ Some instr → IsTypedInstr code f i instr.op
-    typed_instr i instr e =
+    right_instr : (i : ℕ) (instr : Instr) → slice_get f.body i ≡ Some instr → Right code f i instr.op
+    right_instr i instr e =
         let within = slice_get_within f.body i instr e in
         ⊎_elim (λ less. kept.instrs i instr (omega arith) less e)
         (λ more.
@@ -171,7 +177,7 @@ module _ (program : Typed) (code : Tac) (w : IsWellFormed program) (h : IsLowere
       };
       variables = typed_variable;
       has_instr = λ e. let none = ap length e in absurd (omega (arith, none, l.instrs));
-      instrs = typed_instr;
+      instrs = λ i instr e. (right_instr i instr e).typed;
       writes_first = writes_first program.functions f source l;
     }
 
@@ -180,6 +186,11 @@ module _ (program : Typed) (code : Tac) (w : IsWellFormed program) (h : IsLowere
   typed_function : (n : ℕ) (f : TacFn) → slice_get code.functions n ≡ Some f → IsTypedFn code n f
   typed_function n f at =
       let s = source_at n f at in typed_fn f s.source (function_is n s.source s.at) s.lowered n at
+
+  print_fits : (n : ℕ) (f : TacFn) → slice_get code.functions n ≡ Some f → (i : ℕ) (instr : Instr)
+      → slice_get f.body i ≡ Some instr → PrintsFit f instr.op
+  print_fits n f at i instr e =
+      let s = source_at n f at in (right_instr f s.source (function_is n s.source s.at) s.lowered i instr e).prints
 
   typed_struct : (n : ℕ) (s : Struct) → slice_get code.structs n ≡ Some s → StructExists code n s
   typed_struct n s at =
@@ -228,3 +239,6 @@ lowered_is_typed program code w h = record {
   functions = typed_function program code w h;
   has_main = main program code w h;
 }
+
+pub lowered_prints : LoweredPrints
+lowered_prints program code w h = print_fits program code w h

@@ -129,6 +129,7 @@ module _ (f : TacFn) where
       exists = (value_action a ts t r, value_field a ds ts t h r);
       fits = (ts, h, (t, k, r));
       start = tt;
+      prints = tt;
     }
 
     pub copy_is_safe : (d x : ℕ) (t : «Type») → HasType f d t → HasType f x t
@@ -154,6 +155,7 @@ module _ (f : TacFn) where
       exists = (effect_action a ts r, effect_field a ds ts h r);
       fits = (ts, h, r);
       start = tt;
+      prints = tt;
     }
 
     -- ---- calls
@@ -186,6 +188,7 @@ module _ (f : TacFn) where
                 subst (HasType f d) (some_is t u (sym r ∙ e)) k),
           );
           start = tt;
+          prints = tt;
         }
 
         pub invoke_is_safe : (ds : List ℕ) → HaveTypes f ds (signature_of callee).params → callee.result_type ≡ None
@@ -200,6 +203,7 @@ module _ (f : TacFn) where
           };
           fits = (arguments_fit ds h, subst (λ z. TargetFits f z None) (sym at) tt);
           start = tt;
+          prints = tt;
         }
 
         pub start_is_safe : (ds : List ℕ) → HaveTypes f ds (signature_of callee).params → callee.result_type ≡ None
@@ -209,6 +213,7 @@ module _ (f : TacFn) where
           exists = record { callee = callee; declared = at; arguments = arguments_long ds callee le h };
           fits = arguments_fit ds h;
           start = λ g e. subst (λ (z : TacFn). z.result_type ≡ None) (some_is callee g (sym at ∙ e)) r;
+          prints = tt;
         }
 
     -- ---- the others
@@ -226,6 +231,7 @@ module _ (f : TacFn) where
       exists = tt;
       fits = λ v c. each IsPrinted ds ts h (printed pieces ts m) v (among ds v c);
       start = tt;
+      prints = (ts, h, m);
     }
 
     pub jump_is_safe : (target : ℕ) → target < length f.body → Safe code f (op.Jump target)
@@ -234,6 +240,7 @@ module _ (f : TacFn) where
       exists = within;
       fits = tt;
       start = tt;
+      prints = tt;
     }
 
     pub branch_is_safe : (d a b : ℕ) → HasType f d bool → a < length f.body → b < length f.body
@@ -243,10 +250,11 @@ module _ (f : TacFn) where
       exists = (k, l);
       fits = h;
       start = tt;
+      prints = tt;
     }
 
     pub return_is_safe : f.result_type ≡ None → Safe code f (op.Return None)
-    return_is_safe e = record { variables = reads_only [] [] refl; exists = tt; fits = e; start = tt }
+    return_is_safe e = record { variables = reads_only [] [] refl; exists = tt; fits = e; start = tt; prints = tt }
 
     pub result_is_safe : (d : ℕ) (t : «Type») → f.result_type ≡ Some t → HasType f d t
         → Safe code f (op.Return (Some d))
@@ -255,4 +263,5 @@ module _ (f : TacFn) where
       exists = tt;
       fits = (t, e, h);
       start = tt;
+      prints = tt;
     }

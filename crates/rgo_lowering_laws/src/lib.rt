@@ -3,4 +3,4 @@
 
 mod laws;
 
-pub use laws::{examples, lowered_is_typed};
+pub use laws::{examples, lowered_is_typed, lowered_prints};

@@ -1,19 +1,21 @@
 -- What `emit` prints, `code` accepts.
-use Rattle.std.proofs.Common.{ap}
+use Rattle.std.proofs.Common.{refl, ap}
 use Rattle.rgo_code.specs.declared.code.Undeclared.{Undeclared}
 use Rattle.rgo_code_text.proofs.Ruled.{rules_suffice}
 use Rattle.rgo_run.specs.Accepted.{EmittedPasses}
+use Rattle.rgo_run.proofs.Printed.{printable}
 
 pub emitted_passes : EmittedPasses
-emitted_passes text bytes is printable short =
-    let from = is.compiled.from in
+emitted_passes text code is fits short =
+    let from = is.from in
     record {
-      code = is.code;
+      code = code;
       is_text = record {
         within = short;
-        written = rules_suffice is.code from.checked from.ascends (ap (λ (u : Undeclared). u.structs) from.declared)
-            (ap (λ (u : Undeclared). u.variables) from.declared) (ap (λ (u : Undeclared). u.functions) from.declared) printable;
-        text_is = is.is_text;
+        written = rules_suffice code from.checked from.ascends (ap (λ (u : Undeclared). u.structs) from.declared)
+            (ap (λ (u : Undeclared). u.variables) from.declared) (ap (λ (u : Undeclared). u.functions) from.declared)
+            (printable text code is short fits);
+        text_is = refl;
       };
       checked = from.checked;
     }

@@ -2,10 +2,15 @@ pub mod Accepting
 pub mod EndingLemmas
 pub mod ClaimLemmas
 pub mod CodeVerdictLemmas
+pub mod ConstantLemmas
 pub mod HeadlineLemmas
+pub mod NameWords
 pub mod OneCompiled
+pub mod Printed
 pub mod ProgramLemmas
+pub mod RegionNumbers
 pub mod Sufficing
 pub mod TextLemmas
+pub mod TextLengths
 pub mod VerdictLemmas
 pub mod WorldLemmas

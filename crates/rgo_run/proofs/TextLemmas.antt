@@ -1,5 +1,5 @@
 -- What the parts of the compiler say of a text, as the endings that report it.
-use Rattle.std.proofs.Common.{◌≡◌, ℕ, suc, ◌+◌, ◌*◌, ◌<◌, ◌≤◌, inl, Bool, true, false, List, [], ◌∷◌, length, Option, None, Some, IfSome, refl, arith, subst}
+use Rattle.std.proofs.Common.{◌≡◌, ℕ, suc, ◌+◌, ◌*◌, ◌<◌, ◌≤◌, inl, Bool, true, false, List, [], ◌∷◌, length, Option, None, Some, IfSome, refl, arith, subst, sym}
 use Rattle.std.specs.Prelude.{max, nat_le, codes, bytes_eq, if◌then◌else◌}
 use Rattle.std.proofs.lemmas.Bool.Decides.{nat_tests}
 use Rattle.rgo_outside.specs.Moves.{ReadsAll, GivesTooMany}
@@ -67,12 +67,14 @@ use Rattle.rgo_run.specs.declared.endings.TextKind.TheVariants as text_kind
 use Rattle.rgo_run.specs.declared.endings.Ending.{Ending}
 use Rattle.rgo_run.specs.declared.endings.Ending.TheVariants.{Ran, Usage}
 use Rattle.rgo_run.specs.Compiled.{IsCompiled, WritesCode}
+use Rattle.rgo_run.specs.Constants.{ConstantsFit}
 use Rattle.rgo_run.specs.Calls.{SourceUse, SourceFailed, SourceHeld, SinkUse, Failed, Held, kind_of}
 use Rattle.rgo_run.specs.Errors.{command_error, read_error, too_long, lex_error, type_error, reading_error, check_error}
 use Rattle.rgo_run.specs.Runs.{HasSourceRun, IsCodeFor, IsRunnable, RegionRun, Runnable, SourceRun, of_code, of_program, stats_at}
-use Rattle.rgo_run.specs.CodeVerdicts.{IsTextOfCode, code_limit}
+use Rattle.rgo_run.specs.CodeVerdicts.{IsTextOfCode, code_limit, CodePasses}
 use Rattle.rgo_run.specs.Texts.{IsRead, IsTextOf, NotRead, ReadTooMuch, RefusedAs, Fails, FailsAs, Performs, RunsOrFails, limit_of}
 use Rattle.rgo_run.specs.Verdicts.{IsTree, text_limit}
+use Rattle.rgo_run.proofs.Accepting.{emitted_passes}
 
 -- the command reads its text
 abbrev pub Reads : Command → Type 0
@@ -282,9 +284,19 @@ ran kind options text what code end stats out is_what is_code runs regions stats
 -- ---- code that is printed
 
 pub emitted : (text : List ℕ) (code : code.Code) (bytes : List ℕ) (e : Ending) (out : SinkUse) → IsCompiled text code
-    → bytes ≡ text_of code → WritesCode bytes e out → Performs Emit text e out
-emitted text code bytes e out is is_text writes =
-    inl (bytes, record { code = code; compiled = is; is_text = is_text }, writes)
+    → bytes ≡ text_of code → ConstantsFit (erased code) → WritesCode bytes e out → Performs Emit text e out
+emitted text code bytes e out is is_text fits writes = inl (
+  bytes,
+  record {
+    code = code;
+    compiled = is;
+    is_text = is_text;
+    accepted = λ short.
+        subst CodePasses (sym is_text)
+        (emitted_passes text code is fits (subst (λ b. length b ≤ code_limit) is_text short));
+  },
+  writes,
+)
 
 -- ---- code texts
 

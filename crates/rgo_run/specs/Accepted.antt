@@ -1,10 +1,13 @@
 -- What `emit` prints, `code` accepts.
 use Rattle.std.specs.Prelude.{ℕ, ◌≤◌, List, length}
-use Rattle.rgo_code_text.specs.Printable.{IsPrintable}
+use Rattle.rgo_code.specs.Code.{Code}
+use Rattle.rgo_code.specs.Erasure.{erased}
+use Rattle.rgo_code_printing.specs.Text.{text_of}
 use Rattle.rgo_run.specs.CodeVerdicts.{code_limit, CodePasses}
-use Rattle.rgo_run.specs.Compiled.{IsCodeText}
+use Rattle.rgo_run.specs.Compiled.{IsCompiled}
+use Rattle.rgo_run.specs.Constants.{ConstantsFit}
 
--- the text of a program's code passes, if the parts of the code are printable and the text is within the limit
+-- the text of a program's code passes, if a code text can say the constants and places of the code, and is within the limit
 abbrev pub EmittedPasses : Type 0
-EmittedPasses = (text bytes : List ℕ) → (is : IsCodeText text bytes) → IsPrintable is.code → length bytes ≤ code_limit
-    → CodePasses bytes
+EmittedPasses = (text : List ℕ) (code : Code) → IsCompiled text code → ConstantsFit (erased code)
+    → length (text_of code) ≤ code_limit → CodePasses (text_of code)

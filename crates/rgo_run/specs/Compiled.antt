@@ -1,5 +1,5 @@
 -- The code with regions that a text is compiled to, and its text.
-use Rattle.std.specs.Prelude.{◌≡◌, ℕ, List, take}
+use Rattle.std.specs.Prelude.{◌≡◌, ◌≤◌, ℕ, List, take, length}
 use Rattle.rgo_typed.specs.Tree.{Typed}
 use Rattle.rgo_lower.specs.Lowered.{IsLowered}
 use Rattle.rgo_classes.specs.declared.classes.Summary.{Summary}
@@ -14,6 +14,7 @@ use Rattle.rgo_code_printing.specs.Text.{text_of}
 use Rattle.rgo_run.specs.declared.endings.Ending.{Ending}
 use Rattle.rgo_run.specs.declared.endings.Ending.TheVariants.{Valid, WriteFault}
 use Rattle.rgo_run.specs.Calls.{SinkUse, Failed, Grew, Held}
+use Rattle.rgo_run.specs.CodeVerdicts.{code_limit, CodePasses}
 use Rattle.rgo_run.specs.Verdicts.{IsProgram}
 
 -- The code keeps all rules, and in each of its lists the names ascend. Without its regions it is the program's three-address
@@ -36,11 +37,12 @@ pub record IsCompiled (text : List ℕ) (code : Code) : Type 0 where
   pub is_program : IsProgram text program
   pub from : IsCompiledFrom program code
 
--- these bytes are the text of that code
+-- These bytes are the text of that code. If they are no more than a code text may have, then as a code text they pass.
 pub record IsCodeText (text bytes : List ℕ) : Type 0 where
   pub code : Code
   pub compiled : IsCompiled text code
   pub is_text : bytes ≡ text_of code
+  pub accepted : length bytes ≤ code_limit → CodePasses bytes
 
 -- the bytes were written; or a write failed, and the first of them were
 abbrev pub WritesCode : List ℕ → Ending → SinkUse → Type 0

@@ -2,6 +2,7 @@ pub mod Accepted
 pub mod Calls
 pub mod CodeVerdicts
 pub mod Compiled
+pub mod Constants
 pub mod Endings
 pub mod Errors
 pub mod Headline

@@ -1,21 +1,26 @@
 //! What each command does with a text.
 
-ghost use Rattle.std.specs.Prelude.{◌≡◌, ℕ, List};
+ghost use Rattle.std.specs.Prelude.{◌≡◌, ℕ, List, IfErr, IfOk};
+ghost use Rattle.rgo_code.specs.Erasure.{erased};
+ghost use Rattle.rgo_code_printing.specs.Text.{text_of};
 ghost use Rattle.rgo_command_line.specs.Commands.{KeepsBounds};
 ghost use Rattle.rgo_command_line.specs.Limits.{LiesIn, worker_bounds};
 ghost use Rattle.rgo_command_line.specs.declared.commands.Command.TheVariants.{Check, Emit};
 ghost use Rattle.rgo_run.specs.declared.endings.TextKind.TheVariants as text_kind;
 ghost use Rattle.rgo_run.specs.Calls.{kind_of, sink_use};
+ghost use Rattle.rgo_run.specs.declared.endings.Ending.TheVariants.{NoMemory};
 ghost use Rattle.rgo_run.specs.Compiled.{IsCompiled, WritesCode};
+ghost use Rattle.rgo_run.specs.Constants.{ConstantsFit};
 ghost use Rattle.rgo_run.specs.Endings.{status_of};
 ghost use Rattle.rgo_run.specs.Runs.{IsCodeFor, IsRunnable, Runnable, stats_at};
 ghost use Rattle.rgo_region_machine.specs.States.{RegionState};
 ghost use Rattle.rgo_world.specs.Worlds.{Shown};
 ghost use Rattle.rgo_run.specs.Texts.{Checks, Performs, RunsOrFails};
 
+use crate::constants::constants_fit;
 use crate::endings::{Ending, TextKind};
 use crate::pipeline::{check_text, compile, read_checked};
-use rgo_code::Checked;
+use rgo_code::{Checked, Code};
 use rgo_code_printing::print_code;
 use rgo_command_line::{Command, RunOptions};
 use rgo_driver::{RunEnd, run_with_workers};
@@ -146,15 +151,31 @@ fn write_code<K: Sink>(out: &mut K, bytes: &[u8]) -> Ending
     }
 }
 
+// The text of code, which a code text can say. That it cannot, since a place takes more than 32 bits, ends as a want of memory
+// does: no text of at most 1,048,576 bytes has such places.
+fn code_text(alloc: Global, code: &Code) -> Result<Vec<u8>, Ending>
+    ensures text { IfOk result (λ bytes. bytes.items ≡ text_of code.now) }
+    ensures fits { IfOk result (λ bytes. ConstantsFit (erased code.now)) }
+    ensures err { IfErr result (λ why. why ≡ NoMemory) }
+{
+    if !constants_fit(code.tac()) {
+        return Err(Ending::NoMemory);
+    }
+    match print_code(alloc, code) {
+        Ok(bytes) => Ok(bytes),
+        Err(_) => Err(Ending::NoMemory),
+    }
+}
+
 // Prints code.
 fn emit_code<K: Sink>(alloc: Global, code: &Checked, out: &mut K) -> Ending
     ensures performs { (text : List ℕ) → IsCompiled text code.now → Performs Emit text result
         (sink_use (K.contents out.old) (K.contents out.new) (K.faults out.old) (K.faults out.new) (K.broken out.new)) }
     ensures refused { status_of result ≡ 1 → out.new ≡ out.old }
 {
-    match print_code(alloc, code.code()) {
+    match code_text(alloc, code.code()) {
         Ok(bytes) => write_code(out, &bytes),
-        Err(_) => Ending::NoMemory,
+        Err(why) => why,
     }
 }
 

@@ -17,8 +17,8 @@ pub fn one_code_verdict()
     ensures { OneCodeVerdict }
 {}
 
-/// The text that `emit` prints of a program is one that `code` accepts, if the parts of the code are printable (its names are
-/// words, its numbers have 32 bits, ..) and the text is within the limit.
+/// The text of a program's code is one that `code` accepts, if it is within the limit and can say the constants and places
+/// of the code: integers of 64 bits, strings of bytes, and places of 32 bits. Those of the code that `emit` prints it can.
 pub fn emitted_passes()
     ensures { EmittedPasses }
 {}

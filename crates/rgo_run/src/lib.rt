@@ -3,6 +3,7 @@
 #![tactic(auto)]
 
 mod commands;
+mod constants;
 mod endings;
 mod laws;
 mod pipeline;

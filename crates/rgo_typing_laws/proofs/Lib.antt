@@ -10,6 +10,7 @@ pub mod HeaderForms
 pub mod Headers
 pub mod Lists
 pub mod Literals
+pub mod Names
 pub mod Needed
 pub mod Numbering
 pub mod Packages
