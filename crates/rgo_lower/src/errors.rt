@@ -3,7 +3,6 @@
 ghost use Rattle.std.specs.Prelude.{◌≡◌};
 ghost use Rattle.rgo_lower.specs.declared.errors.EmitError.TheVariants as emit;
 
-
 use std::alloc::{AllocError, AllocFailed};
 
 /// Why there is no code.
