@@ -1,6 +1,7 @@
 pub mod Checked
 pub mod Codes
 pub mod Compiled
+pub mod EmittedCode
 pub mod EndlessCode
 pub mod Ends
 pub mod Enough

@@ -1,4 +1,5 @@
 pub mod CompiledCode
+pub mod EmittedCode
 pub mod Ends
 pub mod Programs
 pub mod RegionRuns

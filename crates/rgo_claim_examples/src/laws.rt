@@ -1,6 +1,7 @@
 //! What holds of the examples.
 
 ghost use Rattle.rgo_claim_examples.specs.CompiledCode.{CompiledExamples};
+ghost use Rattle.rgo_claim_examples.specs.EmittedCode.{EmittedExamples};
 ghost use Rattle.rgo_claim_examples.specs.Ends.{EndExamples};
 ghost use Rattle.rgo_claim_examples.specs.RegionRuns.{RegionRunExamples};
 ghost use Rattle.rgo_claim_examples.specs.States.{RoomExamples, StateExamples};
@@ -18,6 +19,12 @@ pub fn programs_suffice()
 /// A program and the code to which it is compiled; code to which it is not; and sizes of which some run wants more.
 pub fn compiled_examples()
     ensures { CompiledExamples }
+{}
+
+/// The code text that `emit` prints of a program, which passes, and a text that it does not print; places that a code text
+/// can say, and one that it cannot.
+pub fn emitted_examples()
+    ensures { EmittedExamples }
 {}
 
 /// States that are safe, and states in which a stake, a name, a pointer or a page is wrong; regions that a goroutine may
