@@ -141,15 +141,17 @@ pub(super) fn expect<R: Threads + Wait + Abort + AllocGlobal + Sync>(
 }
 
 /// The code text of a program, as `emit` writes it.
-pub(super) fn emitted<R: Threads + Wait + AllocGlobal + Sync>(
+pub(super) fn emitted<R: Threads + Wait + Abort + AllocGlobal + Sync>(
     rt: &R,
     text: &[u8],
 ) -> Result<Vec<u8>, AllocError> {
     let alloc = rt.alloc();
     let mut source = MemSource::new(text.to_vec(alloc)?, 1000, Vec::new(alloc));
-    let mut out = sink(alloc, 0)?;
+    // Code texts are longer than what the other tests print.
+    let mut out = MemSink::new(alloc, 100_000, Vec::new(alloc))?;
     let mut err = sink(alloc, 0)?;
-    let _ = status_of(rt, "rgo emit", &mut source, &mut out, &mut err, &NoGate)?;
+    let status = status_of(rt, "rgo emit", &mut source, &mut out, &mut err, &NoGate)?;
+    same(rt, "rgo emit", &status, &0);
     out.bytes().to_vec(alloc)
 }
 
