@@ -1,0 +1,16 @@
+pub mod Buffers
+pub mod Deadlock
+pub mod Decoding
+pub mod Elsewhere
+pub mod Examples
+pub mod Forward
+pub mod Lists
+pub mod Live
+pub mod Locks
+pub mod Meetings
+pub mod Offering
+pub mod Opening
+pub mod Operations
+pub mod Steps
+pub mod Stuck
+pub mod Traps
