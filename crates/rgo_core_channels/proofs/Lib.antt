@@ -11,6 +11,7 @@ pub mod Meetings
 pub mod Offering
 pub mod Opening
 pub mod Operations
+pub mod Quiet
 pub mod Steps
 pub mod Stuck
 pub mod Traps

@@ -94,8 +94,11 @@ module _ (code : Code) (checked : IsChecked code) (s : RegionState) (g : ℕ) (a
         (vars_kinds kinds (erased_fn fits.0.0) frame fits.0.2 n.before.from (chan_of t.0 ∷ t.1)
         (op.1 ∙ ap (map Some) t.2)) in
         let x = object_of code kinds s.plain.memory all.good.typed.memory o (chan_of t.0) h.0.0 in
-        let k = channel_of code.structs kinds t.0 x.0 x.2 in
-        (k.0, x.1 ∙ ap Some k.1)
+        there x.0 x.1 (channel_of code.structs kinds t.0 x.0 x.2)
+      where
+        there : (object : Object) → slice_get s.plain.memory.heap o ≡ Some object → (k : Chan) × (object ≡ channel k)
+            → (k : Chan) × IsChan s.plain.memory o k
+        there object e (k, is) = (k, e ∙ ap Some is)
 
     touches_it : (a : Action) → IsOfChannel a → touched_by a (value.Object o ∷ vs) ≡ Some o
     touches_it a (inl e) = ap (λ a. touched_by a (value.Object o ∷ vs)) e

@@ -1,5 +1,5 @@
 -- Traps at channels are what the region machine does there.
-use Rattle.std.proofs.Common.{◌≡◌, ℕ, true, [], ◌∷◌, Some, slice_get, refl, ap, sym}
+use Rattle.std.proofs.Common.{◌≡◌, ℕ, ◌+◌, true, [], ◌∷◌, Some, None, slice_get, refl, ap, sym}
 use Rattle.std.proofs.Common.{subst, ◌∙◌, inl, inr, ⊎_elim, option_map}
 use Rattle.std.proofs.lemmas.Option.{same_Some}
 use Rattle.rgo_typed.specs.declared.actions.Action.TheVariants.{Send, Close}
@@ -10,7 +10,10 @@ use Rattle.rgo_memory.specs.declared.values.Value.{Value}
 use Rattle.rgo_memory.specs.declared.values.Value.TheVariants as value
 use Rattle.rgo_machine.specs.Machines.{operated}
 use Rattle.rgo_machine.specs.declared.picks.Pick.TheVariants.{One}
+use Rattle.rgo_machine.specs.declared.picks.End.TheVariants as the_end
 use Rattle.rgo_region_machine.specs.Duties.{may_go}
+use Rattle.rgo_region_machine.specs.Instructions.{marked}
+use Rattle.rgo_core_channels.proofs.Quiet.{marked_keeps}
 use Rattle.rgo_region_machine.specs.Machine.{Instruct, region_step}
 use Rattle.rgo_region_machine.specs.States.{Holder}
 use Rattle.rgo_tac.specs.Frames.{going}
@@ -22,39 +25,15 @@ use Rattle.rgo_core_channels.specs.Records.{Rec, Shut, Stranded}
 use Rattle.rgo_core_channels.proofs.Buffers.{no_offer}
 use Rattle.rgo_core_channels.proofs.Forward.{traps}
 use Rattle.rgo_core_channels.proofs.Operations.{send_traps, close_traps}
-use Rattle.rgo_core_channels.proofs.Steps.{at_same, next_same, same_chan, one_place}
+use Rattle.rgo_core_channels.proofs.Steps.{same_chan, one_place}
 use Rattle.rgo_core_channels.proofs.Live.{live_at}
 use Rattle.rgo_core_channels.specs.Standing.{Next}
 
 -- a trap leaves channels, frames and holders as they were
 trap_kept : (T : Moment) (trap : Trap) (at : ℕ)
     → Channels T.code T.encode T.place T.words T.recs (after_trap T.state trap at) T.at
-trap_kept T trap at = let K = T.channels in record {
-  controls = K.controls;
-  capacities = K.capacities;
-  cells = K.cells;
-  buffered = K.buffered;
-  unbuffered = K.unbuffered;
-  small = K.small;
-  inside = K.inside;
-  apart = K.apart;
-  lockers = K.lockers;
-  locks = K.locks;
-  in_cells = K.in_cells;
-  sizes = K.sizes;
-  saws = K.saws;
-  strands = K.strands;
-  knows = λ j a y e q. at_same T.code T.place T.state (after_trap T.state trap at) j y.post a (λ z. (refl, refl)) (K.knows j a y e q);
-  as_many = K.as_many;
-  calm = K.calm;
-  posts = K.posts;
-  offers = K.offers;
-  waits = λ o g k on e. let t = K.waits o g k on e in (
-    t.0,
-    next_same T.code T.state (after_trap T.state trap at) g Send (value.Object o ∷ t.0 ∷ []) (refl, refl) t.1,
-    t.2,
-  );
-}
+trap_kept T trap at = marked_keeps T.code T.encode T.place T.words T.recs T.state T.at T.channels None
+    (marked T.state.mark (Some (the_end.Trap trap at))) (T.state.steps + 1)
 
 module _ (T : Moment) (g : ℕ) (c : Rec) (mine : slice_get T.recs g ≡ Some c) where
   -- what was found closed is closed

@@ -1,16 +1,18 @@
 -- Steps of other kinds: what they have to leave of channels, and how a channel or a goroutine more joins the image.
 use Rattle.std.specs.Prelude.{◌≡◌, ◌⊎◌, ℕ, ◌+◌, ◌<◌, ◌≤◌, false, List, [], ◌∷◌, ◌++◌, length, replicate, Option, Some, None, slice_get}
-use Rattle.std.specs.Prelude.{slice_index}
+use Rattle.std.specs.Prelude.{slice_index, slice_set}
 use Rattle.rgo_typed.specs.declared.actions.Action.TheVariants.{Send}
 use Rattle.rgo_memory.specs.declared.values.Value.{Value}
 use Rattle.rgo_memory.specs.declared.values.Value.TheVariants as value
-use Rattle.rgo_region_machine.specs.Machine.{Event, region_step}
+use Rattle.rgo_code.specs.Code.{Code}
+use Rattle.rgo_region_machine.specs.declared.limits.Limit.{Limit}
+use Rattle.rgo_region_machine.specs.Machine.{Event, finished, region_step}
 use Rattle.rgo_region_machine.specs.States.{Holder, NoOffer, RegionState}
 use Rattle.rgo_sound.specs.Leaving.{ActsAlone}
 use Rattle.rgo_core_channels.specs.Channels.{Calm, Chan, Channels, IsChan, On, Places, Unlocked}
 use Rattle.rgo_core_channels.specs.Controls.{extent}
 use Rattle.rgo_core_channels.specs.Moments.{Moment}
-use Rattle.rgo_core_channels.specs.Records.{at_rest}
+use Rattle.rgo_core_channels.specs.Records.{Rec, at_rest}
 use Rattle.rgo_core_channels.specs.Standing.{Next}
 
 -- Other words, another state, another layout and encoding. Channels lie where they lay, with the words that they had; values in
@@ -54,3 +56,16 @@ EventLaw = (T : Moment) (g : ℕ) (event : Event) (words : List ℕ) (s : Region
     → region_step T.code T.page_words T.state event ≡ Some s
     → Leaves T words s encode place at (IsMade made) children
     → Channels T.code encode place words (T.recs ++ replicate children at_rest) s at
+
+-- the end of a run is a mark
+abbrev pub FinishKeeps : Type 0
+FinishKeeps = (code : Code) (encode : Value → ℕ) (place : ℕ → ℕ) (words : List ℕ) (recs : List Rec) (s : RegionState)
+    (at : Places) (limit : Limit) → Channels code encode place words recs s at
+    → Channels code encode place words recs (finished s limit) at
+
+-- a word may be written that no channel has
+abbrev pub WordKeeps : Type 0
+WordKeeps = (code : Code) (encode : Value → ℕ) (place : ℕ → ℕ) (words : List ℕ) (recs : List Rec) (s : RegionState)
+    (at : Places) (i x : ℕ)
+    → ((o : ℕ) (k : Chan) → On s o k → (i < place o) ⊎ (place o + 2 + extent k.capacity ≤ i))
+    → Channels code encode place words recs s at → Channels code encode place (slice_set words i x) recs s at

@@ -2,7 +2,7 @@
 
 ghost use Rattle.rgo_core_channels.specs.Buffers.{CloseLaw, ReceiveLaw, SendLaw, ZeroLaw};
 ghost use Rattle.rgo_core_channels.specs.Deadlock.{DeadlockLaw};
-ghost use Rattle.rgo_core_channels.specs.Elsewhere.{EventLaw};
+ghost use Rattle.rgo_core_channels.specs.Elsewhere.{EventLaw, FinishKeeps, WordKeeps};
 ghost use Rattle.rgo_core_channels.specs.Examples.{ChannelExamples};
 ghost use Rattle.rgo_core_channels.specs.Live.{OperandIsLive, TakenIsLive};
 ghost use Rattle.rgo_core_channels.specs.Locking.{CellLoadLaw, CellStoreLaw, LockLaw};
@@ -109,6 +109,16 @@ pub fn taken_law()
 /// A step of another kind keeps the image, and a new channel and new goroutines join it.
 pub fn event_law()
     ensures { EventLaw }
+{}
+
+/// The end of a run leaves it.
+pub fn finish_law()
+    ensures { FinishKeeps }
+{}
+
+/// So does an access to a word that no channel has.
+pub fn word_law()
+    ensures { WordKeeps }
 {}
 
 /// It holds at the start.
