@@ -8,6 +8,7 @@ use Rattle.rgo_core_channels.specs.Examples.{ChannelExamples, ring}
 use Rattle.rgo_core_channels.specs.Records.{KnowsOf, Locked, Nothing, Nowhere, Offering, Shut, Sized, Stranded, at_rest, with_hold, with_size}
 use Rattle.rgo_core_channels.specs.Standing.{IsOfChannel}
 use Rattle.rgo_core_channels.proofs.Decoding.{even_control}
+use Rattle.rgo_core_channels.proofs.Ring.{ring_is_shown}
 use Rattle.rgo_core_channels.proofs.Steps.{rest_knows}
 
 not_same : (a b : ℕ) → suc a ≡ b → a ≡ b → ⊥
@@ -80,6 +81,7 @@ examples = record {
   looks_taken = refl;
   locks = refl;
   locks_not = refl;
+  shown = ring_is_shown;
   no_channel = λ code encode place words at k.
       let t = k.locks 0 100 4 (with_hold at_rest (Locked 100 4)) refl (refl, refl) in none_at code t.0 t.1 t.2;
   other_capacity = λ code encode place words recs s at on e k. let c = k.capacities 0 ring on in omega arith;

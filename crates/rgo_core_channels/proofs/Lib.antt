@@ -12,6 +12,7 @@ pub mod Offering
 pub mod Opening
 pub mod Operations
 pub mod Quiet
+pub mod Ring
 pub mod Steps
 pub mod Stuck
 pub mod Traps

@@ -11,8 +11,8 @@ use Rattle.rgo_core_channels.proofs.Steps.{rest_knows}
 nothing_there : {X : Type 0} (o : ℕ) (x : X) → slice_get [] o ≡ Some x → ⊥
 nothing_there o x e = let z : None ≡ Some x = e in cc z
 
--- the one side of the opening
-only : (j : ℕ) (y : Rec) → slice_get (at_rest ∷ []) j ≡ Some y → at_rest ≡ y
+-- the only record of the opening
+pub only : (j : ℕ) (y : Rec) → slice_get (at_rest ∷ []) j ≡ Some y → at_rest ≡ y
 only zero y e = same_Some at_rest y e
 only (suc j) y e = absurd (nothing_there j y e)
 

@@ -5,18 +5,31 @@ use Rattle.rgo_memory.specs.declared.values.Value.TheVariants as value
 use Rattle.rgo_code.specs.Code.{Code}
 use Rattle.rgo_region_machine.specs.Machine.{region_start}
 use Rattle.rgo_core_channels.specs.After.{closed_now, popped, pushed}
-use Rattle.rgo_core_channels.specs.Channels.{Accepted, Calm, Chan, Channels, On, Places, LockedBy, Offered, OfferOf, Unlocked, cell_of, count, holder_offer, lock_bit, phase_number}
+use Rattle.rgo_core_channels.specs.Channels.{Accepted, Calm, Chan, Channels, On, Places, LockedBy, Offered, OfferOf, Unlocked, cell_of, channel, count, holder_offer, lock_bit, phase_number}
 use Rattle.rgo_core_channels.specs.Controls.{bit, closed_of, control, count_of, extent, head_of}
 use Rattle.rgo_core_channels.specs.Locking.{IsSpare}
 use Rattle.rgo_core_channels.specs.Records.{Free, HoldsAt, InCell, KnowsOf, Locked, Read, Wrote, at_rest, offering, with_hold, with_lock, with_look, with_own_look, with_size}
 use Rattle.rgo_core_channels.specs.Records.{Rec, Shut, Stranded}
 use Rattle.rgo_core_channels.specs.Standing.{IsOfChannel}
 use Rattle.rgo_typed.specs.declared.actions.Action.TheVariants as action
-use Rattle.rgo_region_machine.specs.States.{NoOffer, RegionState, Standing, Taken}
+use Rattle.rgo_region_machine.specs.States.{Holder, NoOffer, RegionState, Standing, Taken}
 
 -- a buffer for three values, of which it has two
 abbrev pub ring : Chan
 ring = record { capacity = 3; queue = value.Bool true ∷ value.Nil ∷ []; closed = false }
+
+-- its words: the older value is in the second cell
+abbrev pub ring_words : (Value → ℕ) → List ℕ
+ring_words encode = 4294967304 ∷ 3 ∷ 0 ∷ encode (value.Bool true) ∷ encode value.Nil ∷ []
+
+abbrev pub ring_at : Places
+ring_at = record { head = λ o. 1; lock = λ o. Unlocked; phase = λ o. Calm }
+
+-- they show it, in each state in which it is the only object, whose one goroutine has no offer
+abbrev pub RingIsShown : Type 0
+RingIsShown = (code : Code) (encode : Value → ℕ) (s : RegionState) (h : Holder)
+    → s.plain.memory.heap ≡ channel ring ∷ [] → s.holders ≡ h ∷ [] → h.offer ≡ NoOffer
+    → Channels code encode (λ o. 0) (ring_words encode) (at_rest ∷ []) s ring_at
 
 pub record ChannelExamples : Type 0 where
   -- ---- controls
@@ -70,7 +83,9 @@ pub record ChannelExamples : Type 0 where
   pub looks_taken : with_own_look (offering 100) 100 10 ≡ offering 100
   pub locks : (with_lock at_rest 100 4 4).hold ≡ Locked 100 4
   pub locks_not : with_lock at_rest 100 4 5 ≡ at_rest
-  -- ---- images: a record cannot have locked a channel where there is none, nor words show another capacity or another lock
+  -- ---- images
+  pub shown : RingIsShown
+  -- a record cannot have locked a channel where there is none, nor words show another capacity or another lock
   pub no_channel : (code : Code) (encode : Value → ℕ) (place : ℕ → ℕ) (words : List ℕ) (at : Places)
       → Channels code encode place words (with_hold at_rest (Locked 100 4) ∷ []) (region_start code) at → ⊥
   pub other_capacity : (code : Code) (encode : Value → ℕ) (place : ℕ → ℕ) (words : List ℕ) (recs : List Rec)
