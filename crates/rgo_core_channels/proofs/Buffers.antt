@@ -23,8 +23,8 @@ use Rattle.rgo_core_channels.specs.Controls.{bit, control, closed_of, count_of, 
 use Rattle.rgo_core_channels.specs.Moments.{Moment}
 use Rattle.rgo_core_channels.specs.After.{pushed, popped, closed_now}
 use Rattle.rgo_core_channels.specs.Buffers.{SendLaw, ReceiveLaw, ZeroLaw, CloseLaw}
-use Rattle.rgo_core_channels.specs.Records.{Rec, HoldsAt, InCell, Sized, Unknown, Shut, Stranded}
-use Rattle.rgo_core_channels.specs.Records.{Nothing, Nowhere, Offering, at_rest}
+use Rattle.rgo_core_channels.specs.Records.{Rec, HoldsAt, InCell, Sized}
+use Rattle.rgo_core_channels.specs.Records.{Nowhere, Offering, at_rest}
 use Rattle.rgo_core_channels.specs.Standing.{Next, passed, passed_holder, blank_of}
 use Rattle.rgo_core_channels.specs.After.{after}
 use Rattle.rgo_core_channels.proofs.Decoding.{decode, bit_small, open_or, shut_or, turned}
@@ -32,7 +32,7 @@ use Rattle.rgo_core_channels.proofs.Forward.{does}
 use Rattle.rgo_core_memory.proofs.Rows.{set_else}
 use Rattle.rgo_core_channels.proofs.Operations.{send_does, receive_does, receive_blank, close_does}
 use Rattle.rgo_core_channels.proofs.Steps.{Same, next_same, same_chan, one_place, count_small, control_step}
-use Rattle.rgo_core_channels.proofs.Steps.{one_hold, recs_was, stays, is_mine, they_know, rest_knows}
+use Rattle.rgo_core_channels.proofs.Steps.{recs_was, stays, is_mine, freed, they_know, rest_knows}
 use Rattle.rgo_core_channels.proofs.Live.{live_at}
 
 empty_of : {X : Type 0} (q : List X) → length q ≡ 0 → q ≡ []
@@ -136,14 +136,7 @@ module _ (T : Moment) (g : ℕ) (c : Rec) (mine : slice_get T.recs g ≡ Some c)
             buffered = λ q. let t = buffered q in ((K.buffered o k on q).0, t.0, t.1);
             unbuffered = unbuffered;
             closes = closes;
-            mine_lock = inr lock_is;
-            only = λ a j q. one_hold c.hold (T.place o) n a j held q;
-            lock = λ j q. absurd (let y : Unlocked ≡ LockedBy j = q in cc y);
-            hold = λ a j q. absurd q;
-            no_cell = λ a i u q. q;
-            size = λ a j q. absurd (let y : Unknown ≡ Sized a j = q in cc y);
-            saw = λ a q. absurd (let y : Nothing ≡ Shut a = q in cc y);
-            strand = λ a q. absurd (let y : Nothing ≡ Stranded a = q in cc y);
+            told = freed T.code T.encode T.place T.words T.recs T.state T.at K g c mine Nowhere o n x held lock_is;
             know = they_know T.code T.encode T.place T.words T.recs T.state T.at K g c at_rest mine b
                 (λ a q. absurd (rest_knows a q)) (λ j y ne e q. same_other j ne);
             stranded = λ j q f. f;

@@ -203,14 +203,16 @@ module _ (T : Moment) (g : ℕ) (c : Rec) (mine : slice_get T.recs g ≡ Some c)
               buffered = K.buffered o k on;
               unbuffered = K.unbuffered o k on;
               closes = λ t. t;
-              mine_lock = inl unlocked;
-              only = λ a j q. absurd (subst (λ y. HoldsAt y a j) idle q);
-              lock = λ j q. (let y : LockedBy g ≡ LockedBy j = q in sym (cc y), n, (refl, refl));
-              hold = λ a j q. (sym q.0, refl, ap suc q.1);
-              no_cell = λ a i v q. q;
-              size = λ a j q. q;
-              saw = λ a q. q;
-              strand = λ a q. q;
+              told = record {
+                mine_lock = inl unlocked;
+                only = λ a j q. absurd (subst (λ y. HoldsAt y a j) idle q);
+                lock = λ j q. (let y : LockedBy g ≡ LockedBy j = q in sym (cc y), n, (refl, refl));
+                hold = λ a j q. (sym q.0, refl, ap suc q.1);
+                no_cell = λ a i v q. q;
+                size = λ a j q. q;
+                saw = λ a q. q;
+                strand = λ a q. q;
+              };
               stranded = λ j q f. f;
               know = they_know T.code T.encode T.place T.words T.recs T.state T.at K g c d mine T.state
                   (λ a q. ⊎_elim (λ t. subst (IsAt T.code T.place T.state g c.post) t.1.0 near)

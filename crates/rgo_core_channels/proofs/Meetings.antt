@@ -15,19 +15,19 @@ use Rattle.rgo_region_machine.specs.States.{Holder, NoOffer, Standing, Taken, Re
 use Rattle.rgo_sound.proofs.Places.{get_set_same, get_some, length_set as length_slice_set}
 use Rattle.rgo_sound.proofs.Tests.{split, eq_of}
 use Rattle.rgo_core_channels.specs.Channels.{Chan, channel, On, Phase, Calm, Offered, Accepted, phase_number, OfferOf}
-use Rattle.rgo_core_channels.specs.Channels.{holder_offer, Unlocked, LockedBy, count}
+use Rattle.rgo_core_channels.specs.Channels.{holder_offer, Unlocked, count}
 use Rattle.rgo_core_channels.specs.Controls.{bit, control, closed_of, count_of, head_of}
 use Rattle.rgo_core_channels.specs.Moments.{Gains, Moment}
 use Rattle.rgo_core_channels.specs.After.{after_meeting}
 use Rattle.rgo_core_channels.specs.Meetings.{OfferLaw, MeetLaw, AcknowledgeLaw}
-use Rattle.rgo_core_channels.specs.Records.{Rec, Locked, HoldsAt, InCell, Sized, Unknown, Shut, Stranded}
-use Rattle.rgo_core_channels.specs.Records.{Nothing, Post, Nowhere, Offering, at_rest, offering}
+use Rattle.rgo_core_channels.specs.Records.{Rec, Locked, HoldsAt, InCell}
+use Rattle.rgo_core_channels.specs.Records.{Post, Nowhere, Offering, at_rest, offering}
 use Rattle.rgo_core_channels.specs.Standing.{Next, passed, passed_holder}
 use Rattle.rgo_core_channels.proofs.Buffers.{posted, no_offer, lock_is, n_is, said, capacity_is, cell_is, is_open}
 use Rattle.rgo_core_memory.proofs.Rows.{set_else, set_again}
 use Rattle.rgo_core_channels.proofs.Offering.{is_place, none_there, offers, acknowledges, meets}
-use Rattle.rgo_core_channels.proofs.Steps.{Same, no_buffer, one_offer, control_step, one_hold, recs_was}
-use Rattle.rgo_core_channels.proofs.Steps.{before_same, stays, here, they_know, knows_post, rest_knows}
+use Rattle.rgo_core_channels.proofs.Steps.{Same, no_buffer, one_offer, control_step, recs_was}
+use Rattle.rgo_core_channels.proofs.Steps.{before_same, freed, stays, here, they_know, knows_post, rest_knows}
 use Rattle.rgo_core_channels.proofs.Live.{live_at, offered_at}
 
 calm_of : (p : Phase) → phase_number p ≡ 0 → p ≡ Calm
@@ -103,14 +103,8 @@ offer_is T g c mine o n x v next hold code free sizing shut idle = record {
         buffered = λ q. let e = cap in absurd (omega arith);
         unbuffered = T.channels.unbuffered o k on;
         closes = λ t. t;
-        mine_lock = inr (lock_is T g c mine o n held k on);
-        only = λ a j q. one_hold c.hold (T.place o) n a j held q;
-        lock = λ j q. absurd (let y : Unlocked ≡ LockedBy j = q in cc y);
-        hold = λ a j q. absurd q;
-        no_cell = λ a i u q. q;
-        size = λ a j q. absurd (let y : Unknown ≡ Sized a j = q in cc y);
-        saw = λ a q. absurd (let y : Nothing ≡ Shut a = q in cc y);
-        strand = λ a q. absurd (let y : Nothing ≡ Stranded a = q in cc y);
+        told = freed T.code T.encode T.place T.words T.recs T.state T.at T.channels g c mine (Offering (T.place o)) o n (n + 4) held
+            (lock_is T g c mine o n held k on);
         know = they_know T.code T.encode T.place T.words T.recs T.state T.at T.channels g c (offering (T.place o)) mine b
             (λ a q. inr (knows_post (Offering (T.place o)) a q)) (λ j y ne e q. other_holder T g h j ne);
         stranded = λ j q f. absurd (let y : Calm ≡ Offered j = sym calm ∙ f in cc y);
@@ -209,14 +203,8 @@ acknowledges_at T g c mine o n k on own post gone hold = (
           buffered = λ q. let e = cap in absurd (omega arith);
           unbuffered = T.channels.unbuffered o k on;
           closes = λ t. t;
-          mine_lock = inr (lock_is T g c mine o n held k on);
-          only = λ a j q. one_hold c.hold (T.place o) n a j held q;
-          lock = λ j q. absurd (let y : Unlocked ≡ LockedBy j = q in cc y);
-          hold = λ a j q. absurd q;
-          no_cell = λ a i u q. q;
-          size = λ a j q. absurd (let y : Unknown ≡ Sized a j = q in cc y);
-          saw = λ a q. absurd (let y : Nothing ≡ Shut a = q in cc y);
-          strand = λ a q. absurd (let y : Nothing ≡ Stranded a = q in cc y);
+          told = freed T.code T.encode T.place T.words T.recs T.state T.at T.channels g c mine Nowhere o n (n - 8) held
+              (lock_is T g c mine o n held k on);
           know = they_know T.code T.encode T.place T.words T.recs T.state T.at T.channels g c at_rest mine b
               (λ a q. absurd (rest_knows a q)) (λ j y ne e q. other_holder T g h' j ne);
           stranded = λ j q f. absurd (let y : Accepted g ≡ Offered j = sym accepted ∙ f in cc y);
@@ -320,14 +308,8 @@ meet_is T g c mine o n x next hold free sizing shut up = (
           buffered = λ q. let e = cap in absurd (omega arith);
           unbuffered = T.channels.unbuffered o k on;
           closes = λ z. z;
-          mine_lock = inr (lock_is T g c mine o n held k on);
-          only = λ a j q. one_hold c.hold (T.place o) n a j held q;
-          lock = λ j q. absurd (let y : Unlocked ≡ LockedBy j = q in cc y);
-          hold = λ a j q. absurd q;
-          no_cell = λ a i u q. q;
-          size = λ a j q. absurd (let y : Unknown ≡ Sized a j = q in cc y);
-          saw = λ a q. absurd (let y : Nothing ≡ Shut a = q in cc y);
-          strand = λ a q. absurd (let y : Nothing ≡ Stranded a = q in cc y);
+          told = freed T.code T.encode T.place T.words T.recs T.state T.at T.channels g c mine Nowhere o n (n + 4) held
+              (lock_is T g c mine o n held k on);
           know = they_know T.code T.encode T.place T.words T.recs T.state T.at T.channels g c at_rest mine b
               (λ a q. absurd (rest_knows a q)) (λ j y no e q. same_both j no (λ w.
               let same : y ≡ S.0 = same_Some y S.0 (sym e ∙ (ap (slice_get T.recs) w ∙ S.2)) in

@@ -202,6 +202,17 @@ module _ (code : Code) (encode : Value → ℕ) (place : ℕ → ℕ) (words : L
         (K.knows j a y u.1 q))
         (recs_was j y e)
 
+    -- the record knows what it knew, or less, and has locked or unlocked channel o, whose control becomes x
+    pub record Told (o x : ℕ) (lk : Lock) : Type 0 where
+      pub mine_lock : (at.lock o ≡ Unlocked) ⊎ (at.lock o ≡ LockedBy g)
+      pub only : (a n : ℕ) → HoldsAt c.hold a n → a ≡ place o
+      pub lock : (j : ℕ) → lk ≡ LockedBy j → (j ≡ g) × (n : ℕ) × HoldsAt d.hold (place o) n
+      pub hold : (a n : ℕ) → HoldsAt d.hold a n → (a ≡ place o) × (lk ≡ LockedBy g) × (x ≡ suc n)
+      pub no_cell : (a i v : ℕ) → InCell d.hold a i v → ⊥
+      pub size : (a n : ℕ) → d.size ≡ Sized a n → c.size ≡ Sized a n
+      pub saw : (a : ℕ) → d.saw ≡ Shut a → c.saw ≡ Shut a
+      pub strand : (a : ℕ) → d.saw ≡ Stranded a → c.saw ≡ Stranded a
+
     -- the control of one channel changes, and the offer there
     pub record Change (o : ℕ) (k z : Chan) (x : ℕ) (lk : Lock) (hd : ℕ) (ph : Phase) (b : RegionState) : Type 0 where
       pub heap : b.plain.memory.heap ≡ slice_set m.heap o (channel z)
@@ -213,14 +224,7 @@ module _ (code : Code) (encode : Value → ℕ) (place : ℕ → ℕ) (words : L
       pub buffered : 0 < k.capacity → (ph ≡ Calm) × (length z.queue ≤ k.capacity) × (hd < k.capacity)
       pub unbuffered : k.capacity ≡ 0 → (z.queue ≡ []) × (hd ≡ 0)
       pub closes : k.closed ≡ true → z.closed ≡ true
-      pub mine_lock : (at.lock o ≡ Unlocked) ⊎ (at.lock o ≡ LockedBy g)
-      pub only : (a n : ℕ) → HoldsAt c.hold a n → a ≡ place o
-      pub lock : (j : ℕ) → lk ≡ LockedBy j → (j ≡ g) × (n : ℕ) × HoldsAt d.hold (place o) n
-      pub hold : (a n : ℕ) → HoldsAt d.hold a n → (a ≡ place o) × (lk ≡ LockedBy g) × (x ≡ suc n)
-      pub no_cell : (a i v : ℕ) → InCell d.hold a i v → ⊥
-      pub size : (a n : ℕ) → d.size ≡ Sized a n → c.size ≡ Sized a n
-      pub saw : (a : ℕ) → d.saw ≡ Shut a → c.saw ≡ Shut a
-      pub strand : (a : ℕ) → d.saw ≡ Stranded a → c.saw ≡ Stranded a
+      pub told : Told o x lk
       pub stranded : (j : ℕ) → k.closed ≡ true → at.phase o ≡ Offered j → ph ≡ Offered j
       pub know : (j a : ℕ) (y : Rec) → slice_get (slice_set recs g d) j ≡ Some y → KnowsOf y a
           → IsAt code place b j y.post a
@@ -302,7 +306,7 @@ module _ (code : Code) (encode : Value → ℕ) (place : ℕ → ℕ) (words : L
       holder j p n' y l e q ne w =
           let t : at.lock o ≡ LockedBy j = ap at.lock (sym w) ∙ q in
           ⊎_elim (λ u. absurd (let v : Unlocked ≡ LockedBy j = sym u ∙ t in cc v))
-          (λ u. ne (let v : LockedBy g ≡ LockedBy j = sym u ∙ t in sym (cc v))) X.mine_lock
+          (λ u. ne (let v : LockedBy g ≡ LockedBy j = sym u ∙ t in sym (cc v))) X.told.mine_lock
 
       pub control_step : Channels code encode place more (slice_set recs g d) b at'
       control_step = record {
@@ -354,15 +358,15 @@ module _ (code : Code) (encode : Value → ℕ) (place : ℕ → ℕ) (words : L
         apart = λ p q l l' ne e e'. let r = same_cap p l e in let r' = same_cap q l' e' in
             rw (← r.2, ← r'.2) (K.apart p q r.0 r'.0 ne r.1 r'.1);
         lockers = λ p j l f e. dite (ℕ_discrete p o)
-            (λ w. let q = X.lock j (sym (put_here at.lock o lk p w) ∙ e) in
+            (λ w. let q = X.told.lock j (sym (put_here at.lock o lk p w) ∙ e) in
             (d, q.1, rw q.0 here, subst (λ i. HoldsAt d.hold (place i) q.1) (sym w) q.2))
             (λ ne. let l' = ⊎_elim (λ u. absurd (ne u.0)) (λ u. u.1) (on_was p l f) in
             let q = K.lockers p j l l' (sym (put_else at.lock o lk p ne) ∙ e) in
-            let nj : j ≢ g = λ w. ne (one_place p o l k l' on (X.only (place p) q.1
+            let nj : j ≢ g = λ w. ne (one_place p o l k l' on (X.told.only (place p) q.1
             (subst (λ (y : Rec). HoldsAt y.hold (place p) q.1) (is_mine j q.0 q.2 w) q.3))) in
             (q.0, q.1, stays j q.0 nj q.2, q.3));
         locks = λ j a i y e q. ⊎_elim
-            (λ (u : (j ≡ g) × (d ≡ y)). let t = X.hold a i (subst (λ (r : Rec). HoldsAt r.hold a i) (sym u.1) q) in (
+            (λ (u : (j ≡ g) × (d ≡ y)). let t = X.told.hold a i (subst (λ (r : Rec). HoldsAt r.hold a i) (sym u.1) q) in (
               o,
               z,
               on_here,
@@ -382,7 +386,7 @@ module _ (code : Code) (encode : Value → ℕ) (place : ℕ → ℕ) (words : L
             ))
             (recs_was j y e);
         in_cells = λ j a i v y e q. ⊎_elim
-            (λ (u : (j ≡ g) × (d ≡ y)). absurd (X.no_cell a i v (subst (λ (r : Rec). InCell r.hold a i v) (sym u.1) q)))
+            (λ (u : (j ≡ g) × (d ≡ y)). absurd (X.told.no_cell a i v (subst (λ (r : Rec). InCell r.hold a i v) (sym u.1) q)))
             (λ (u : (j ≢ g) × (slice_get recs j ≡ Some y)). let t = K.in_cells j a i v y u.1 q in
             let hh = held y.hold a i v q in
             let lk' = K.locks j a hh.0 y u.1 hh.1 in
@@ -399,20 +403,20 @@ module _ (code : Code) (encode : Value → ℕ) (place : ℕ → ℕ) (words : L
             (recs_was j y e);
         sizes = λ j a i y e q.
             let t : (p : ℕ) × (l : Chan) × On s p l × (place p ≡ a) × (l.capacity ≡ i) = ⊎_elim
-            (λ (u : (j ≡ g) × (d ≡ y)). K.sizes g a i c mine (X.size a i (ap (λ (r : Rec). r.size) u.1 ∙ q)))
+            (λ (u : (j ≡ g) × (d ≡ y)). K.sizes g a i c mine (X.told.size a i (ap (λ (r : Rec). r.size) u.1 ∙ q)))
             (λ (u : (j ≢ g) × (slice_get recs j ≡ Some y)). K.sizes j a i y u.1 q)
             (recs_was j y e) in
             let r = on_made t.0 t.1 t.2 in (t.0, r.0, r.1, t.3, r.2 ∙ t.4);
         saws = λ j a y e q.
             let t : (p : ℕ) × (l : Chan) × On s p l × (place p ≡ a) × (l.closed ≡ true) = ⊎_elim
-            (λ (u : (j ≡ g) × (d ≡ y)). K.saws g a c mine (X.saw a (ap (λ (r : Rec). r.saw) u.1 ∙ q)))
+            (λ (u : (j ≡ g) × (d ≡ y)). K.saws g a c mine (X.told.saw a (ap (λ (r : Rec). r.saw) u.1 ∙ q)))
             (λ (u : (j ≢ g) × (slice_get recs j ≡ Some y)). K.saws j a y u.1 q)
             (recs_was j y e) in
             let r = on_made t.0 t.1 t.2 in (t.0, r.0, r.1, t.3, r.3 t.4);
         strands = λ j a y e q.
             let t : (p : ℕ) × (l : Chan) × On s p l × (place p ≡ a) × (l.closed ≡ true) × (at.phase p ≡ Offered j) = ⊎_elim
             (λ (u : (j ≡ g) × (d ≡ y)). rw u.0 (K.strands g a c mine
-            (X.strand a (ap (λ (r : Rec). r.saw) u.1 ∙ q))))
+            (X.told.strand a (ap (λ (r : Rec). r.saw) u.1 ∙ q))))
             (λ (u : (j ≢ g) × (slice_get recs j ≡ Some y)). K.strands j a y u.1 q)
             (recs_was j y e) in
             let r = on_made t.0 t.1 t.2 in (
@@ -555,6 +559,21 @@ module _ (code : Code) (encode : Value → ℕ) (place : ℕ → ℕ) (words : L
             (λ ne. (t.0, t.1, stays j t.0 ne t.2, t.3, t.4, t.5));
         waits = K.waits;
       }
+
+  -- a record that had locked channel o, and now knows of its offer alone
+  pub freed : (g : ℕ) (c : Rec) (mine : slice_get recs g ≡ Some c) (post : Post) (o n x : ℕ) → HoldsAt c.hold (place o) n
+      → at.lock o ≡ LockedBy g
+      → Told g c (record { hold = Free; size = Unknown; post = post; saw = Nothing }) mine o x Unlocked
+  freed g c mine post o n x held locked = record {
+    mine_lock = inr locked;
+    only = λ a j q. one_hold c.hold (place o) n a j held q;
+    lock = λ j q. absurd (let y : Unlocked ≡ LockedBy j = q in cc y);
+    hold = λ a j q. absurd q;
+    no_cell = λ a i u q. q;
+    size = λ a j q. absurd (let y : Unknown ≡ Sized a j = q in cc y);
+    saw = λ a q. absurd (let y : Nothing ≡ Shut a = q in cc y);
+    strand = λ a q. absurd (let y : Nothing ≡ Stranded a = q in cc y);
+  }
 
   -- a cell that holds nothing of the queue, and no offer, is stored by the goroutine that has locked the channel
   module _ (g : ℕ) (c : Rec) (mine : slice_get recs g ≡ Some c) (o : ℕ) (k : Chan) (on : On s o k) (n : ℕ)
