@@ -1,0 +1,5 @@
+use Rattle.rgo_core_channels.proofs.Traps as lemmas
+use Rattle.rgo_core_channels.proofs.laws.close_trap_law.Goals as goal
+
+pub returns : goal.returns
+returns c = lemmas.close_trap_is

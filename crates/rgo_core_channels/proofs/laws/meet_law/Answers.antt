@@ -1,0 +1,5 @@
+use Rattle.rgo_core_channels.proofs.Meetings as lemmas
+use Rattle.rgo_core_channels.proofs.laws.meet_law.Goals as goal
+
+pub returns : goal.returns
+returns c = lemmas.meet_is

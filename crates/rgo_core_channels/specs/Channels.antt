@@ -1,0 +1,121 @@
+-- The channels of a table: which state of the region machine its words, and what records have of channels, stand for.
+use Rattle.std.specs.Prelude.{◌≡◌, ◌≢◌, ◌⊎◌, ℕ, suc, ◌+◌, ◌%◌, ◌<◌, ◌≤◌, Bool, true, List, [], ◌∷◌, length}
+use Rattle.std.specs.Prelude.{Some, slice_get, slice_index}
+use Rattle.rgo_typed.specs.declared.actions.Action.TheVariants.{Send}
+use Rattle.rgo_memory.specs.Memory.{Object, Channel, Memory}
+use Rattle.rgo_memory.specs.declared.values.Value.{Value}
+use Rattle.rgo_memory.specs.declared.values.Value.TheVariants as value
+use Rattle.rgo_code.specs.Code.{Code}
+use Rattle.rgo_region_machine.specs.States.{Holder, Offer, NoOffer, Standing, Taken, RegionState}
+use Rattle.rgo_region_machine.specs.Objects.{may_touch}
+use Rattle.rgo_core_channels.specs.Controls.{bit, control, extent}
+use Rattle.rgo_core_channels.specs.Records.{Rec, HoldsAt, InCell, KnowsOf, Sized, Nowhere, Offering, Shut, Stranded}
+use Rattle.rgo_core_channels.specs.Standing.{IsAt, Next}
+
+pub record Chan : Type 0 where
+  pub capacity : ℕ
+  pub queue : List Value
+  pub closed : Bool
+
+abbrev pub channel : Chan → Object
+channel k = Channel k.capacity k.queue k.closed
+
+-- the object of this number is this channel
+abbrev pub IsChan : Memory → ℕ → Chan → Type 0
+IsChan m o k = slice_get m.heap o ≡ Some (channel k)
+
+-- and its region is live. A channel whose region has gone stays in the heap of the state, but its words serve other objects.
+abbrev pub On : RegionState → ℕ → Chan → Type 0
+On s o k = IsChan s.plain.memory o k × (may_touch s (Some o) ≡ true)
+
+-- The offer at a channel: none; one of this goroutine; one of this goroutine, which was taken and is not yet acknowledged.
+pub data Phase : Type 0 where
+  Calm : Phase
+  Offered : (sender : ℕ) → Phase
+  Accepted : (sender : ℕ) → Phase
+
+abbrev pub phase_number : Phase → ℕ
+phase_number Calm = 0
+phase_number (Offered g) = 1
+phase_number (Accepted g) = 2
+
+-- the offer is this goroutine's
+abbrev pub OfferOf : Phase → ℕ → Type 0
+OfferOf Calm g = ⊥
+OfferOf (Offered h) g = h ≡ g
+OfferOf (Accepted h) g = h ≡ g
+
+-- what the holder of that goroutine has, by the channel's number
+abbrev pub holder_offer : ℕ → Phase → Offer
+holder_offer o Calm = NoOffer
+holder_offer o (Offered h) = Standing o
+holder_offer o (Accepted h) = Taken o
+
+pub data Lock : Type 0 where
+  Unlocked : Lock
+  LockedBy : (goroutine : ℕ) → Lock
+
+abbrev pub lock_bit : Lock → ℕ
+lock_bit Unlocked = 0
+lock_bit (LockedBy g) = 1
+
+-- what the words do not say. Of each channel, by its number: the cell of its oldest value, who has locked it, and its offer.
+pub record Places : Type 0 where
+  pub head : ℕ → ℕ
+  pub lock : ℕ → Lock
+  pub phase : ℕ → Phase
+
+-- the number of values, or the phase
+abbrev pub count : Chan → Phase → ℕ
+count k p = length k.queue + phase_number p
+
+-- where value i of the queue lies, behind the first two words
+abbrev pub cell_of : Chan → (head : ℕ) → ℕ → ℕ
+cell_of k head i = (head + i) % k.capacity
+
+-- `place` is the first word of each object; `encode` is how values stand in words
+module _ (code : Code) (encode : Value → ℕ) (place : ℕ → ℕ) where
+  pub record Channels (words : List ℕ) (recs : List Rec) (s : RegionState) (at : Places) : Type 0 where
+    -- what words hold
+    pub controls : (o : ℕ) (k : Chan) → On s o k
+        → slice_index words (place o) ≡ lock_bit (at.lock o) + control (bit k.closed) (count k (at.phase o)) (at.head o)
+    pub capacities : (o : ℕ) (k : Chan) → On s o k → slice_index words (place o + 1) ≡ k.capacity
+    pub cells : (o i : ℕ) (v : Value) (k : Chan) → On s o k → slice_get k.queue i ≡ Some v
+        → slice_index words (place o + 2 + cell_of k (at.head o) i) ≡ encode v
+    pub buffered : (o : ℕ) (k : Chan) → On s o k → 0 < k.capacity
+        → (at.phase o ≡ Calm) × (length k.queue ≤ k.capacity) × (at.head o < k.capacity)
+    pub unbuffered : (o : ℕ) (k : Chan) → On s o k → k.capacity ≡ 0 → (k.queue ≡ []) × (at.head o ≡ 0)
+    pub small : (o : ℕ) (k : Chan) → On s o k → k.capacity < 1073741820
+    pub inside : (o : ℕ) (k : Chan) → On s o k → place o + 2 + extent k.capacity ≤ length words
+    pub apart : (o p : ℕ) (k l : Chan) → o ≢ p → On s o k → On s p l
+        → (place o + 2 + extent k.capacity ≤ place p) ⊎ (place p + 2 + extent l.capacity ≤ place o)
+    -- a control is locked exactly where one goroutine has locked it
+    pub lockers : (o g : ℕ) (k : Chan) → On s o k → at.lock o ≡ LockedBy g
+        → (c : Rec) × (n : ℕ) × (slice_get recs g ≡ Some c) × HoldsAt c.hold (place o) n
+    pub locks : (g a n : ℕ) (c : Rec) → slice_get recs g ≡ Some c → HoldsAt c.hold a n
+        → (o : ℕ) × (k : Chan) × On s o k × (place o ≡ a) × (at.lock o ≡ LockedBy g)
+        × (slice_index words a ≡ suc n)
+    -- what was stored or loaded under the lock is the cell's; the capacity that was read is the channel's; one that was
+    -- found closed is closed
+    pub in_cells : (g a i x : ℕ) (c : Rec) → slice_get recs g ≡ Some c → InCell c.hold a i x
+        → (o : ℕ) × (k : Chan) × On s o k × (place o ≡ a) × (i < extent k.capacity)
+        × (slice_index words (a + 2 + i) ≡ x)
+    pub sizes : (g a n : ℕ) (c : Rec) → slice_get recs g ≡ Some c → c.size ≡ Sized a n
+        → (o : ℕ) × (k : Chan) × On s o k × (place o ≡ a) × (k.capacity ≡ n)
+    pub saws : (g a : ℕ) (c : Rec) → slice_get recs g ≡ Some c → c.saw ≡ Shut a
+        → (o : ℕ) × (k : Chan) × On s o k × (place o ≡ a) × (k.closed ≡ true)
+    pub strands : (g a : ℕ) (c : Rec) → slice_get recs g ≡ Some c → c.saw ≡ Stranded a
+        → (o : ℕ) × (k : Chan) × On s o k × (place o ≡ a) × (k.closed ≡ true) × (at.phase o ≡ Offered g)
+    -- a record that knows of a channel is at that channel
+    pub knows : (g a : ℕ) (c : Rec) → slice_get recs g ≡ Some c → KnowsOf c a → IsAt code place s g c.post a
+    -- an offer is that of one goroutine, whose record stands at the channel; at its send, where it was not taken
+    pub as_many : length recs ≡ length s.holders
+    pub calm : (g : ℕ) (c : Rec) (h : Holder) → slice_get recs g ≡ Some c → slice_get s.holders g ≡ Some h
+        → c.post ≡ Nowhere → h.offer ≡ NoOffer
+    pub posts : (g a : ℕ) (c : Rec) → slice_get recs g ≡ Some c → c.post ≡ Offering a
+        → (o : ℕ) × (k : Chan) × On s o k × (place o ≡ a) × OfferOf (at.phase o) g
+    pub offers : (o g : ℕ) (k : Chan) → On s o k → OfferOf (at.phase o) g
+        → (c : Rec) × (h : Holder) × (slice_get recs g ≡ Some c) × (slice_get s.holders g ≡ Some h)
+        × (c.post ≡ Offering (place o)) × (h.offer ≡ holder_offer o (at.phase o))
+    pub waits : (o g : ℕ) (k : Chan) → On s o k → at.phase o ≡ Offered g
+        → (v : Value) × Next code s g Send (value.Object o ∷ v ∷ []) × (slice_index words (place o + 2) ≡ encode v)

@@ -1,0 +1,24 @@
+-- The control of a channel, its first word: bit 0 is the lock, bit 1 says that it is closed. Then come 30 bits for the number of
+-- values, or for the phase of a channel without a buffer, and the cell of the oldest value.
+use Rattle.std.specs.Prelude.{ℕ, ◌+◌, ◌*◌, ◌/◌, ◌%◌, Bool, true, false, max}
+
+abbrev pub bit : Bool → ℕ
+bit true = 1
+bit false = 0
+
+-- of a channel that is not locked
+abbrev pub control : (closed count head : ℕ) → ℕ
+control closed count head = 2 * closed + 4 * count + 4294967296 * head
+
+abbrev pub closed_of : ℕ → ℕ
+closed_of n = n / 2 % 2
+
+abbrev pub count_of : ℕ → ℕ
+count_of n = n / 4 % 1073741824
+
+abbrev pub head_of : ℕ → ℕ
+head_of n = n / 4294967296
+
+-- how many cells a channel of this capacity has
+abbrev pub extent : ℕ → ℕ
+extent capacity = max 1 capacity

@@ -1,0 +1,71 @@
+-- Steps of other kinds: what they have to leave of channels, and how a channel or a goroutine more joins the image.
+use Rattle.std.specs.Prelude.{◌≡◌, ◌⊎◌, ℕ, ◌+◌, ◌<◌, ◌≤◌, false, List, [], ◌∷◌, ◌++◌, length, replicate, Option, Some, None, slice_get}
+use Rattle.std.specs.Prelude.{slice_index, slice_set}
+use Rattle.rgo_typed.specs.declared.actions.Action.TheVariants.{Send}
+use Rattle.rgo_memory.specs.declared.values.Value.{Value}
+use Rattle.rgo_memory.specs.declared.values.Value.TheVariants as value
+use Rattle.rgo_code.specs.Code.{Code}
+use Rattle.rgo_region_machine.specs.declared.limits.Limit.{Limit}
+use Rattle.rgo_region_machine.specs.Machine.{Event, finished, region_step}
+use Rattle.rgo_region_machine.specs.States.{Holder, NoOffer, RegionState}
+use Rattle.rgo_sound.specs.Leaving.{ActsAlone}
+use Rattle.rgo_core_channels.specs.Channels.{Calm, Chan, Channels, IsChan, On, Places, Unlocked}
+use Rattle.rgo_core_channels.specs.Controls.{extent}
+use Rattle.rgo_core_channels.specs.Moments.{Moment}
+use Rattle.rgo_core_channels.specs.Records.{Rec, at_rest}
+use Rattle.rgo_core_channels.specs.Standing.{Next}
+
+-- Other words, another state, another layout and encoding. Channels lie where they lay, with the words that they had; values in
+-- them are encoded as they were; regions may have gone, and so many goroutines have started.
+pub record Leaves (T : Moment) (words : List ℕ) (s : RegionState) (encode : Value → ℕ) (place : ℕ → ℕ) (at : Places)
+    (IsNew : ℕ → Chan → Type 0) (children : ℕ) : Type 0 where
+  pub long : length words ≡ length T.words
+  pub heap : (o : ℕ) (k : Chan) → On T.state o k → IsChan s.plain.memory o k
+  pub was : (o : ℕ) (k : Chan) → On s o k → On T.state o k ⊎ IsNew o k
+  pub same : (o i : ℕ) (k : Chan) → On T.state o k → i < 2 + extent k.capacity
+      → slice_index words (T.place o + i) ≡ slice_index T.words (T.place o + i)
+  pub places : (o : ℕ) (k : Chan) → On T.state o k → place o ≡ T.place o
+  pub ats : (o : ℕ) (k : Chan) → On T.state o k
+      → (at.head o ≡ T.at.head o) × (at.lock o ≡ T.at.lock o) × (at.phase o ≡ T.at.phase o)
+  pub codes : (o i : ℕ) (v : Value) (k : Chan) → On T.state o k → slice_get k.queue i ≡ Some v
+      → encode v ≡ T.encode v
+  pub sent : (o j : ℕ) (v : Value) → Next T.code T.state j Send (value.Object o ∷ v ∷ []) → encode v ≡ T.encode v
+  -- a goroutine that has started has no offer
+  pub born : length s.holders ≡ length T.state.holders + children
+  pub born_calm : (j : ℕ) (h : Holder) → length T.state.holders ≤ j → slice_get s.holders j ≡ Some h → h.offer ≡ NoOffer
+  -- what is new is open and empty, and apart from all that there was
+  pub fresh : (o : ℕ) (k : Chan) → IsNew o k → (k.queue ≡ []) × (k.closed ≡ false) × (at.head o ≡ 0)
+      × (at.lock o ≡ Unlocked) × (at.phase o ≡ Calm)
+  pub fresh_words : (o : ℕ) (k : Chan) → IsNew o k → (slice_index words (place o) ≡ 0)
+      × (slice_index words (place o + 1) ≡ k.capacity) × (k.capacity < 1073741820)
+      × (place o + 2 + extent k.capacity ≤ length words)
+  pub fresh_apart : (o p : ℕ) (k l : Chan) → IsNew o k → On T.state p l
+      → (place o + 2 + extent k.capacity ≤ T.place p) ⊎ (T.place p + 2 + extent l.capacity ≤ place o)
+  pub one_fresh : (o p : ℕ) (k l : Chan) → IsNew o k → IsNew p l → o ≡ p
+
+-- the channel that a step makes: its number and its capacity
+abbrev pub IsMade : Option (ℕ × ℕ) → ℕ → Chan → Type 0
+IsMade None o k = ⊥
+IsMade (Some made) o k = (o ≡ made.0) × (k ≡ record { capacity = made.1; queue = []; closed = false })
+
+-- A step of one goroutine that concerns no offer, and whose record knows nothing of channels. That the others go on as they
+-- were, and that the channels of which they know are not gone, is region safety's.
+abbrev pub EventLaw : Type 0
+EventLaw = (T : Moment) (g : ℕ) (event : Event) (words : List ℕ) (s : RegionState) (encode : Value → ℕ) (place : ℕ → ℕ)
+    (at : Places) (made : Option (ℕ × ℕ)) (children : ℕ) → slice_get T.recs g ≡ Some at_rest → ActsAlone event g
+    → region_step T.code T.page_words T.state event ≡ Some s
+    → Leaves T words s encode place at (IsMade made) children
+    → Channels T.code encode place words (T.recs ++ replicate children at_rest) s at
+
+-- the end of a run is a mark
+abbrev pub FinishKeeps : Type 0
+FinishKeeps = (code : Code) (encode : Value → ℕ) (place : ℕ → ℕ) (words : List ℕ) (recs : List Rec) (s : RegionState)
+    (at : Places) (limit : Limit) → Channels code encode place words recs s at
+    → Channels code encode place words recs (finished s limit) at
+
+-- a word may be written that no channel has
+abbrev pub WordKeeps : Type 0
+WordKeeps = (code : Code) (encode : Value → ℕ) (place : ℕ → ℕ) (words : List ℕ) (recs : List Rec) (s : RegionState)
+    (at : Places) (i x : ℕ)
+    → ((o : ℕ) (k : Chan) → On s o k → (i < place o) ⊎ (place o + 2 + extent k.capacity ≤ i))
+    → Channels code encode place words recs s at → Channels code encode place (slice_set words i x) recs s at

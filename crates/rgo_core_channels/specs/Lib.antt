@@ -1,0 +1,16 @@
+pub mod After
+pub mod Buffers
+pub mod Channels
+pub mod Controls
+pub mod Deadlock
+pub mod Elsewhere
+pub mod Examples
+pub mod Live
+pub mod Locking
+pub mod Looking
+pub mod Meetings
+pub mod Moments
+pub mod Opening
+pub mod Records
+pub mod Standing
+pub mod Traps

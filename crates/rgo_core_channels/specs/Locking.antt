@@ -1,0 +1,26 @@
+-- Locking a channel, and its cells under the lock.
+use Rattle.std.specs.Prelude.{◌≡◌, ◌≢◌, ℕ, suc, ◌+◌, ◌%◌, ◌<◌, ◌==◌, if◌then◌else◌}
+use Rattle.rgo_core_channels.specs.Controls.{count_of, extent, head_of}
+use Rattle.rgo_core_channels.specs.Moments.{Keeps, Law, Looks}
+use Rattle.rgo_core_channels.specs.Records.{Free, Locked, Read, Sized, Wrote, with_hold, with_lock}
+use Rattle.rgo_core_channels.specs.Standing.{IsAt}
+
+-- by the control and the capacity the cell holds nothing: no value of the queue, and no offer that stands
+abbrev pub IsSpare : (found capacity cell : ℕ) → Type 0
+IsSpare n capacity i = (i < extent capacity)
+    × ((j : ℕ) → j < count_of n → 0 < capacity → (head_of n + j) % capacity ≢ i) × (capacity ≡ 0 → count_of n ≢ 1)
+
+-- an unlocked control is exchanged for the locked one
+abbrev pub LockLaw : Type 0
+LockLaw = Law (λ T g c. (a n : ℕ) → IsAt T.code T.place T.state g c.post a → n % 2 ≡ 0 → c.hold ≡ Free
+    → Keeps T g a (λ w. if w == n then suc n else w) (with_lock c a n))
+
+-- a cell is loaded
+abbrev pub CellLoadLaw : Type 0
+CellLoadLaw = Law (λ T g c. (a n i size : ℕ) → c.hold ≡ Locked a n → c.size ≡ Sized a size → i < extent size
+    → Looks T g (a + 2 + i) (λ w. with_hold c (Read a n i w)))
+
+-- a cell that holds nothing is stored
+abbrev pub CellStoreLaw : Type 0
+CellStoreLaw = Law (λ T g c. (a n i size x : ℕ) → c.hold ≡ Locked a n → c.size ≡ Sized a size → IsSpare n size i
+    → Keeps T g (a + 2 + i) (λ w. x) (λ w. with_hold c (Wrote a n i x)))

@@ -1,0 +1,38 @@
+-- Channels without a buffer: an offer is put up, a receiver takes it, and the sender acknowledges that it was taken.
+use Rattle.std.specs.Prelude.{◌≡◌, ◌≢◌, ℕ, ◌+◌, ◌-◌, [], ◌∷◌, Some, slice_get}
+use Rattle.rgo_typed.specs.declared.actions.Action.TheVariants.{Recv, Send}
+use Rattle.rgo_memory.specs.declared.values.Value.{Value}
+use Rattle.rgo_memory.specs.declared.values.Value.TheVariants as value
+use Rattle.rgo_machine.specs.declared.picks.Pick.TheVariants.{Meet}
+use Rattle.rgo_region_machine.specs.Duties.{attended}
+use Rattle.rgo_region_machine.specs.Machine.{Acknowledge, Instruct, MakeOffer}
+use Rattle.rgo_region_machine.specs.States.{Holder, NoOffer, Standing, Taken}
+use Rattle.rgo_core_channels.specs.After.{after_meeting}
+use Rattle.rgo_core_channels.specs.Controls.{closed_of, count_of}
+use Rattle.rgo_core_channels.specs.Moments.{Gains, Law}
+use Rattle.rgo_core_channels.specs.Records.{Rec, Locked, Nowhere, Offering, Read, Sized, Wrote, at_rest, offering}
+use Rattle.rgo_core_channels.specs.Standing.{Next}
+
+-- an offer: the goroutine and its record stay at the send
+abbrev pub OfferLaw : Type 0
+OfferLaw = Law (λ T g c. (o n x : ℕ) (v : Value) (next : Next T.code T.state g Send (value.Object o ∷ v ∷ []))
+    → c.hold ≡ Wrote (T.place o) n 0 x → T.encode v ≡ x → c.post ≡ Nowhere → c.size ≡ Sized (T.place o) 0
+    → closed_of n ≡ 0 → count_of n ≡ 0
+    → Gains T g (T.place o) (n + 4) (offering (T.place o)) (MakeOffer g)
+    (attended T.state g (record next.holder { offer = Standing o })))
+
+-- A meeting, by the receiver. Goroutine t, whose offer stands, goes on in the state, and its record stays at its send.
+abbrev pub MeetLaw : Type 0
+MeetLaw = Law (λ T g c. (o n x : ℕ) (next : Next T.code T.state g Recv (value.Object o ∷ []))
+    → c.hold ≡ Read (T.place o) n 0 x → c.post ≡ Nowhere → c.size ≡ Sized (T.place o) 0 → closed_of n ≡ 0
+    → count_of n ≡ 1
+    → (t : ℕ) × (v : Value) × (sends : Next T.code T.state t Send (value.Object o ∷ v ∷ [])) × (g ≢ t)
+    × (sends.holder.offer ≡ Standing o) × (T.encode v ≡ x)
+    × (y : Rec) × (slice_get T.recs t ≡ Some y) × (y.post ≡ Offering (T.place o))
+    × Gains T g (T.place o) (n + 4) at_rest (Instruct (Meet g t)) (after_meeting o next sends v))
+
+-- an acknowledgement: the sender's record goes on
+abbrev pub AcknowledgeLaw : Type 0
+AcknowledgeLaw = Law (λ T g c. (a n : ℕ) → c.post ≡ Offering a → c.hold ≡ Locked a n → count_of n ≡ 2
+    → (o : ℕ) × (h : Holder) × (T.place o ≡ a) × (slice_get T.state.holders g ≡ Some h) × (h.offer ≡ Taken o)
+    × Gains T g a (n - 8) at_rest (Acknowledge g) (attended T.state g (record h { offer = NoOffer })))

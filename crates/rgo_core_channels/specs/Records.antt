@@ -1,0 +1,80 @@
+-- What the record of a goroutine has of channels. A channel goes by the word of its control.
+use Rattle.std.specs.Prelude.{◌≡◌, ◌⊎◌, ℕ, ◌==◌, ◌&&◌, if◌then◌else◌}
+use Rattle.rgo_core_channels.specs.Controls.{closed_of, count_of}
+
+-- The channel that it has locked, with the control that it found there; and a value that it has then stored in a cell, or has
+-- loaded from one.
+pub data Hold : Type 0 where
+  Free : Hold
+  Locked : (at found : ℕ) → Hold
+  Wrote : (at found cell value : ℕ) → Hold
+  Read : (at found cell value : ℕ) → Hold
+
+-- the capacity that it has read
+pub data Size : Type 0 where
+  Unknown : Size
+  Sized : (at capacity : ℕ) → Size
+
+-- the channel at which its offer stands, or was taken and is not yet acknowledged
+pub data Post : Type 0 where
+  Nowhere : Post
+  Offering : (at : ℕ) → Post
+
+-- a channel that it has found closed; or found closed while its own offer stands there, which nobody can take any more
+pub data Saw : Type 0 where
+  Nothing : Saw
+  Shut : (at : ℕ) → Saw
+  Stranded : (at : ℕ) → Saw
+
+pub record Rec : Type 0 where
+  pub hold : Hold
+  pub size : Size
+  pub post : Post
+  pub saw : Saw
+
+-- it has locked that channel, whose control was then this
+abbrev pub HoldsAt : Hold → (at found : ℕ) → Type 0
+HoldsAt Free a n = ⊥
+HoldsAt (Locked b m) a n = (b ≡ a) × (m ≡ n)
+HoldsAt (Wrote b m i v) a n = (b ≡ a) × (m ≡ n)
+HoldsAt (Read b m i v) a n = (b ≡ a) × (m ≡ n)
+
+-- and knows what is in that cell
+abbrev pub InCell : Hold → (at cell value : ℕ) → Type 0
+InCell Free a i v = ⊥
+InCell (Locked b m) a i v = ⊥
+InCell (Wrote b m j w) a i v = (b ≡ a) × (j ≡ i) × (w ≡ v)
+InCell (Read b m j w) a i v = (b ≡ a) × (j ≡ i) × (w ≡ v)
+
+-- it knows something of the channel there
+abbrev pub KnowsOf : Rec → ℕ → Type 0
+KnowsOf c a = ((n : ℕ) × HoldsAt c.hold a n) ⊎ (((n : ℕ) × (c.size ≡ Sized a n))
+    ⊎ ((c.saw ≡ Shut a) ⊎ ((c.saw ≡ Stranded a) ⊎ (c.post ≡ Offering a))))
+
+-- ---- what steps do to a record
+
+-- it knows nothing of channels: so it is wherever its goroutine stands at no operation on one
+abbrev pub at_rest : Rec
+at_rest = record { hold = Free; size = Unknown; post = Nowhere; saw = Nothing }
+
+-- its offer stands there
+abbrev pub offering : ℕ → Rec
+offering a = record { hold = Free; size = Unknown; post = Offering a; saw = Nothing }
+
+abbrev pub with_hold : Rec → Hold → Rec
+with_hold c h = record c { hold = h }
+
+abbrev pub with_size : Rec → (at capacity : ℕ) → Rec
+with_size c a n = record c { size = Sized a n }
+
+-- the control was found to be n
+abbrev pub with_look : Rec → (at found : ℕ) → Rec
+with_look c a n = if closed_of n == 1 then record c { saw = Shut a } else c
+
+-- the control of the channel at which its offer stands was found to be n
+abbrev pub with_own_look : Rec → (at found : ℕ) → Rec
+with_own_look c a n = if closed_of n == 1 && count_of n == 1 then record c { saw = Stranded a } else c
+
+-- the control was w, and is locked now if w is n
+abbrev pub with_lock : Rec → (at n w : ℕ) → Rec
+with_lock c a n w = if w == n then with_hold c (Locked a n) else c

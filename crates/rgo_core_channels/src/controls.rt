@@ -1,0 +1,56 @@
+//! Controls of channels: what one says, and the one that an operation leaves.
+ghost use Rattle.std.specs.Prelude.{◌≡◌, ◌<◌, ◌≤◌, ◌^◌, ◌+◌, ◌-◌, ◌%◌, suc};
+ghost use Rattle.rgo_core_channels.specs.Controls.{bit, closed_of, control, count_of, extent, head_of};
+
+/// Whether the channel is locked.
+pub fn is_locked(word: u64) -> bool
+    ensures { bit result ≡ word % 2 }
+{
+    word % 2 == 1
+}
+
+/// Whether the channel is closed.
+pub fn is_closed(word: u64) -> bool
+    ensures { bit result ≡ closed_of word }
+{
+    word / 2 % 2 == 1
+}
+
+/// The number of values in the buffer. Without a buffer: 0 if there is no offer, 1 if one stands, 2 if it was taken.
+pub fn count(word: u64) -> u64
+    ensures { result ≡ count_of word }
+{
+    word / 4 % 1073741824
+}
+
+/// The cell of the oldest value.
+pub fn head(word: u64) -> u64
+    ensures { result ≡ head_of word }
+{
+    word / 4294967296
+}
+
+/// How many cells a channel of this capacity has.
+pub fn cells(capacity: u64) -> u64
+    ensures { result ≡ extent capacity }
+{
+    capacity.max(1)
+}
+
+/// The first cell that is free, where the buffer has room.
+pub fn free_cell(word: u64, capacity: u64) -> u64
+    requires room { count_of word < capacity }
+    ensures { result ≡ (head_of word + count_of word) % capacity }
+{
+    (head(word) + count(word)) % capacity
+}
+
+/// The control after a receive of the oldest value.
+pub fn without_oldest(word: u64, capacity: u64) -> u64
+    requires filled { 0 < count_of word }
+    requires buffer { 0 < capacity }
+    requires small { capacity < 1073741820 }
+    ensures { result ≡ control (closed_of word) (count_of word - 1) ((head_of word + 1) % capacity) }
+{
+    2 * (word / 2 % 2) + 4 * (count(word) - 1) + 4294967296 * ((head(word) + 1) % capacity)
+}

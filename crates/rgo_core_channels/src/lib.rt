@@ -1,0 +1,12 @@
+//! The channels of a table of words: which words, and which records of goroutines, are the image of a state of the region
+//! machine, and what each atomic access does to that image. A channel has a word for its control, one for its capacity, and a
+//! cell for each value of its buffer; without a buffer it has one cell, for the value of an offer. An operation locks the
+//! control, loads or stores a cell, and takes effect with the store that unlocks.
+//!
+//! Each law of [`laws`] is about one state, and computes the region machine's step; that the channel is in a live region
+//! follows from region safety. [`controls`] reads and makes controls.
+#![tactic(auto)]
+
+pub mod controls;
+pub mod laws;
+pub mod records;

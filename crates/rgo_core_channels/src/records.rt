@@ -1,0 +1,13 @@
+//! What the record of a goroutine has of channels, as a type that views can hold.
+ghost use Rattle.rgo_core_channels.specs.Records.{Rec, at_rest};
+
+use std::marker::Model;
+
+/// A record. No value of it is ever made: contracts see one as the record of `specs/Records.antt`.
+pub struct ChannelRecord;
+
+impl Model for ChannelRecord {
+    ghost Value = { Rec };
+
+    ghost view = { λ a. at_rest };
+}
