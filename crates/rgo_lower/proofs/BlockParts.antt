@@ -1,5 +1,5 @@
 -- The code of statements with statements in them, put together from that of their parts.
-use Rattle.std.proofs.Common.{◌≡◌, ℕ, ◌+◌, ◌<◌, ◌≤◌, Bool, true, ◌||◌, List, ◌∷◌, length, map, drop, get_or, refl, sym, ap, ◌∙◌, subst}
+use Rattle.std.proofs.Common.{◌≡◌, arith, ℕ, ◌+◌, ◌<◌, ◌≤◌, Bool, true, ◌||◌, List, ◌∷◌, length, map, drop, get_or, refl, sym, ap, ◌∙◌, subst}
 use Rattle.std.specs.Prelude.{Option, Some, None, slice_get, nat_eq}
 use Rattle.std.proofs.lemmas.List.{at_drop_more, at_drop_all}
 use Rattle.rgo_typed.specs.declared.actions.Logical.TheVariants.{And}
@@ -13,6 +13,7 @@ use Rattle.rgo_lower.specs.declared.builder.Loop.{Loop}
 use Rattle.rgo_lower.specs.Lowered.{Point, after, OpAt, Scope, Target, bool, TestAt, ConditionAt, StmtsAt}
 use Rattle.rgo_lower.specs.Emitted.{Made, point_of, slot, with_placed, Grown, Whole, Completes, OpIsAdded, decides, jump_to}
 use Rattle.rgo_lower.specs.Emitted.{Knows, TermIsEmitted, Leads, environment_of, StmtIsEmitted, StmtsAreEmitted, TestIsEmitted, ConditionIsEmitted}
+use Rattle.rgo_lower.specs.Sizes.{stmt_size, stmts_size}
 use Rattle.rgo_lower.proofs.Growing.{grown_same, grown_trans, earlier}
 use Rattle.rgo_lower.proofs.Labels.{Fresh, Placed, placed, unmade_before, apart, op_moved}
 use Rattle.rgo_lower.proofs.StmtParts.{knows_same, knows_kept}
@@ -32,6 +33,7 @@ stays _ g n h = h
 pub none_emitted : (innermost : Option Loop) (a : Made) → StmtsAreEmitted tree.no_stmts innermost a a
 none_emitted innermost a = record {
   grown = grown_same a;
+  size = omega arith;
   kept = λ e g typed n h. refl;
   code = λ w in_loop g scope targets typed leads knows all. (scope, (refl, refl));
 }
@@ -40,6 +42,7 @@ pub more_emitted : (s : Stmt) (all : Stmts) (innermost : Option Loop) (a b c : M
     → StmtsAreEmitted all innermost b c → StmtsAreEmitted (tree.a_stmt s all) innermost a c
 more_emitted s all innermost a b c h hs = record {
   grown = grown_trans a b c h.grown hs.grown;
+  size = omega (arith, h.size, hs.size);
   kept = λ e g typed n inside.
       hs.kept e (scope_after g s) typed.1 n (stays s g n inside) ∙ h.kept e g typed.0 n inside;
   code = λ w in_loop g scope targets typed leads knows done.
@@ -60,6 +63,14 @@ next_emitted items i x innermost a b new lt is h rest =
     (subst (λ z. StmtsAreEmitted (tree.a_stmt (stmt_of z) (all_stmts (drop (i + 1) items))) innermost a new) is
     (more_emitted (stmt_of x) (all_stmts (drop (i + 1) items)) innermost a b new h rest))
 
+-- what the rest of the statements counts
+pub next_size : (items : List CodeStmt) (i : ℕ) (x : CodeStmt) → i < length items → x ≡ get_or items i x
+    → stmts_size (stmts_of (map stmt_of (drop i items)))
+    ≡ stmt_size (stmt_of x) + stmts_size (stmts_of (map stmt_of (drop (i + 1) items)))
+next_size items i x lt is =
+    at_drop_more (λ l. stmts_size (all_stmts l)) items i x lt
+    ∙ ap (λ z. stmt_size (stmt_of z) + stmts_size (all_stmts (drop (i + 1) items))) (sym is)
+
 pub end_emitted : (items : List CodeStmt) (i : ℕ) (innermost : Option Loop) (a : Made) → length items ≤ i
     → StmtsAreEmitted (stmts_of (map stmt_of (drop i items))) innermost a a
 end_emitted items i innermost a le =
@@ -69,6 +80,7 @@ pub block_emitted : (all : Stmts) (innermost : Option Loop) (a b : Made) → Stm
     → StmtIsEmitted (tree.Block all) innermost a b
 block_emitted all innermost a b h = record {
   grown = h.grown;
+  size = h.size;
   kept = h.kept;
   code = λ w in_loop g scope targets typed leads knows done.
       let inner = h.code w in_loop g scope targets typed leads knows done in (
@@ -84,6 +96,7 @@ pub test_emitted : (t : Term) (d other place : ℕ) (a b c : Made) → TermIsEmi
     → OpIsAdded b (decides And d (length b.lines + 1) other) place c → TestIsEmitted t other place a c
 test_emitted t d other place a b c h o = record {
   grown = grown_trans a b c h.grown o.grown;
+  size = omega (arith, h.size, o.size);
   slots = o.slots ∙ h.slots;
   code = λ w g scope typed knows all.
       (d, point_of b, h.code w g bool scope typed knows (earlier w b c o.grown all), o.instr w all, o.point);
@@ -92,6 +105,7 @@ test_emitted t d other place a b c h o = record {
 pub no_condition : (other place : ℕ) (a : Made) → ConditionIsEmitted None other place a a
 no_condition other place a = record {
   grown = grown_same a;
+  size = omega arith;
   slots = refl;
   code = λ w in_loop g scope typed knows all. refl;
 }
@@ -100,6 +114,7 @@ pub condition_emitted : (t : Term) (other place : ℕ) (a b : Made) → TestIsEm
     → ConditionIsEmitted (Some t) other place a b
 condition_emitted t other place a b h = record {
   grown = h.grown;
+  size = h.size;
   slots = h.slots;
   code = λ w in_loop g scope typed knows all. h.code w g scope typed knows all;
 }
@@ -133,6 +148,7 @@ module _ (test : Term) (body : Stmts) (place end : ℕ) (innermost : Option Loop
   pub if_emitted : StmtIsEmitted (tree.If test body place) innermost a e
   if_emitted = record {
     grown = if_ends.grown a (grown_trans a b d label.grown (grown_trans b c d branch.grown inside.grown)) label.unmade;
+    size = omega (arith, label.size, branch.size, inside.size, if_ends.size);
     kept = λ env g typed n h. if_kept env g typed.1 n h;
     code = λ w in_loop g scope targets typed leads knows all.
         let inner =
@@ -214,6 +230,7 @@ module _ (test : Term) (body other : Stmts) (place away end : ℕ) (innermost : 
         else_ends.grown b0
         (grown_trans b0 b6 b7 (goes_away.grown b0 from_0 first.unmade) outside.grown)
         (unmade_before b0 b1 end first.grown second.unmade);
+    size = omega (arith, first.size, second.size, branch.size, inside.size, jump.size, goes_away.size, outside.size, else_ends.size);
     kept = λ env g typed n h. kept_8 env g typed.1 typed.2 n h;
     code = λ w in_loop g scope targets typed leads knows all.
         let env = environment_of w in_loop in
@@ -360,6 +377,7 @@ module _ (test : Option Term) (body post : Stmts) (place start : ℕ) (l : Loop)
   pub loop_emitted : StmtIsEmitted (tree.Loop test body post place) innermost b0 b10
   loop_emitted = record {
     grown = loop_grown;
+    size = omega (arith, first.size, starts.size, second.size, third.size, condition.size, inside.size, continues.size, behind.size, jump.size, loop_ends.size);
     kept = λ env g typed n h. kept_10 env g typed.1 typed.2 n h;
     code = λ w in_loop g scope targets typed leads knows all.
         let env = environment_of w in_loop in

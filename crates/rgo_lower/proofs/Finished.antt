@@ -17,12 +17,14 @@ use Rattle.rgo_wellformed.specs.TypeRules.{Declared}
 use Rattle.rgo_wellformed.specs.WellFormed.{is_in_scope, first_numbers, IsFunction, IsWellFormed, signature_of, declared_by}
 use Rattle.rgo_tac.specs.Code.{Jump, Instr, TacFn, Tac}
 use Rattle.rgo_tac.specs.declared.code.Instr.{Instr as CodeInstr}
+use Rattle.rgo_tac.specs.declared.code.Instr.TheVariants as instr
 use Rattle.rgo_tac.specs.Views.{op_of, body_of}
 use Rattle.rgo_lower.specs.declared.builder.Line.{Line}
+use Rattle.rgo_lower.specs.Sizes.{function_size, largest_of}
 use Rattle.rgo_lower.specs.Lowered.{Point, after, Scope, found, parameters, closing_op, StmtsAt, IsLoweredFn, AreLowered, IsLowered}
-use Rattle.rgo_lower.specs.Emitted.{Made, point_of, with_placed, Kept, Whole, Completes, OpIsAdded, always, jump_to, resolved}
+use Rattle.rgo_lower.specs.Emitted.{Made, point_of, with_line, with_placed, Kept, Whole, Completes, OpIsAdded, always, jump_to, resolved}
 use Rattle.rgo_lower.specs.Emitted.{Knows, Leads, StmtsAreEmitted, leads_by, number_of, Begins, finished, FunctionIsLowered}
-use Rattle.rgo_lower.proofs.Growing.{grown_trans, earlier, kept_all}
+use Rattle.rgo_lower.proofs.Growing.{grown_trans, earlier, kept_all, op_added, line_count}
 use Rattle.rgo_lower.proofs.Labels.{Fresh, placed, op_moved}
 
 -- ---- parameters
@@ -90,13 +92,15 @@ parameters_known params locals b within h = record {
 
 -- ---- the end
 
-pub loop_closed : (a b c d : Made) (k place : ℕ) → Fresh a k b → c ≡ with_placed b k → OpIsAdded c (jump_to k) place d
-    → OpIsAdded a (always (Jump (length a.lines))) place d
-loop_closed a b c d k place label is jump =
+pub loop_closed : (a b c d : Made) (k place : ℕ) → Fresh a k b → c ≡ with_placed b k
+    → d ≡ with_line c (instr.Jump k) place → OpIsAdded a (always (Jump (length a.lines))) place d
+loop_closed a b c d k place label is last =
+    let jump = op_added c d (instr.Jump k) (jump_to k) place last (λ w all. refl) in
     let there = placed b c k label.waits is in
     let line : length c.lines ≡ length a.lines = ap (λ (z : Point). z.instr) (there.point ∙ label.point) in
     record {
       grown = grown_trans a c d (there.grown a label.grown label.unmade) jump.grown;
+      size = omega (arith, label.size, there.size, line_count c d (instr.Jump k) place last);
       slots = jump.slots ∙ there.slots ∙ label.slots;
       point = jump.point ∙ ap after (there.point ∙ label.point);
       instr = λ w all.
@@ -260,6 +264,15 @@ function_is source b f name result_type variables instrs places lists pieces is 
       variables = v j;
       body = body_of (l j) (t j) (i j) (p j);
     })
+
+-- no function counts more than the largest
+pub within_largest : (items : List CodeFunction) (i : ℕ) (x : CodeFunction) → i < length items
+    → x ≡ get_or items i x → function_size (function_of x) ≤ largest_of (map function_of items)
+within_largest [] i x lt is = absurd (omega (arith, lt))
+within_largest (a ∷ items) zero x lt is =
+    subst (λ z. function_size (function_of z) ≤ largest_of (map function_of (a ∷ items))) (sym is) (omega arith)
+within_largest (a ∷ items) (suc i) x lt is =
+    let later = within_largest items i x (omega (arith, lt)) is in omega (arith, later)
 
 -- one function more
 pub next_lowered : (functions : List Function) (items : List CodeFunction) (i : ℕ) (x : CodeFunction) (f : TacFn)

@@ -1,6 +1,6 @@
 -- Builders that grow: lists, single instructions, and functions that complete what a builder was given.
-use Rattle.std.proofs.Common.{◌≡◌, ℕ, zero, suc, ◌+◌, List, [], ◌∷◌, ◌++◌, length, get_or, refl, sym, ap, ◌∙◌, subst, length-append, append_assoc}
-use Rattle.std.specs.Prelude.{Some, None, Result, Ok, Err, IfOk, slice_get}
+use Rattle.std.proofs.Common.{◌≡◌, ℕ, zero, suc, ◌+◌, ◌≤◌, arith, List, [], ◌∷◌, ◌++◌, length, get_or, refl, sym, ap, ◌∙◌, subst, length-append, append_assoc}
+use Rattle.std.specs.Prelude.{Some, None, Result, Ok, Err, IfOk, slice_get, slice_set}
 use Rattle.std.proofs.lemmas.Option.{get_or_from_slice_get}
 use Rattle.rgo_typed.specs.declared.types.Type.{«Type»}
 use Rattle.rgo_typed.specs.declared.statements.Piece.{Piece}
@@ -9,7 +9,7 @@ use Rattle.rgo_tac.specs.Code.{Op}
 use Rattle.rgo_tac.specs.Views.{op_of}
 use Rattle.rgo_lower.specs.declared.builder.Line.{Line}
 use Rattle.rgo_lower.specs.Lowered.{after, after_value, OpAt}
-use Rattle.rgo_lower.specs.Emitted.{Made, point_of, with_line, with_variable, with_list, with_pieces, resolved}
+use Rattle.rgo_lower.specs.Emitted.{Made, count, point_of, with_line, with_variable, with_list, with_pieces, with_label, with_placed, resolved}
 use Rattle.rgo_lower.specs.Emitted.{Kept, Grown, Whole, Completes, OpIsAdded, ValueIsAdded, always}
 
 -- ---- lists
@@ -105,6 +105,33 @@ grown_pieces a l = record {
   labels = kept_all a.labels;
 }
 
+-- ---- how many there are
+
+pub line_count : (a b : Made) (i : Instr) (place : ℕ) → b ≡ with_line a i place → count b ≡ count a + 1
+line_count a b i place is = ap count is ∙ omega (arith, one_more a.lines (record { instr = i; place = place }))
+
+pub variable_count : (a b : Made) (ty : «Type») → b ≡ with_variable a ty → count b ≡ count a + 1
+variable_count a b ty is = ap count is ∙ omega (arith, one_more a.variables ty)
+
+pub list_count : (a b : Made) (l : List ℕ) → b ≡ with_list a l → count b ≡ count a + 1
+list_count a b l is = ap count is ∙ omega (arith, one_more a.lists l)
+
+pub pieces_count : (a b : Made) (l : List Piece) → b ≡ with_pieces a l → count b ≡ count a + 1
+pieces_count a b l is = ap count is ∙ omega (arith, one_more a.pieces l)
+
+pub label_count : (a b : Made) → b ≡ with_label a → count b ≡ count a + 1
+label_count a b is = ap count is ∙ omega (arith, one_more a.labels None)
+
+same_length : {A : Type 0} (xs : List A) (i : ℕ) (v : A) → length (slice_set xs i v) ≡ length xs
+same_length [] i v = refl
+same_length (x ∷ xs) zero v = refl
+same_length (x ∷ xs) (suc i) v = let rest = same_length xs i v in omega (arith, rest)
+
+pub placed_count : (a b : Made) (k : ℕ) → b ≡ with_placed a k → count b ≡ count a
+placed_count a b k is = ap count is ∙ omega (arith, same_length a.labels k (Some (length a.lines)))
+
+-- ---- instructions with what they name
+
 -- an instruction at the end
 pub op_added : (a b : Made) (i : Instr) (op : Whole → Op) (place : ℕ) → b ≡ with_line a i place
     → ((w : Whole) → Completes w b → op_of w.lists w.pieces (resolved w.leads i) ≡ op w)
@@ -113,6 +140,7 @@ op_added a b i op place is means =
     let line : Line = record { instr = i; place = place } in
     record {
       grown = subst (λ z. Grown a z) (sym is) (grown_line a i place);
+      size = omega (arith, line_count a b i place is);
       slots = ap (λ (z : Made). z.slots) is;
       point =
           ap point_of is
@@ -136,6 +164,7 @@ value_added a b c i op ty place d d_is b_is c_is means =
           subst (λ z. Grown a z) (sym new)
           (grown_trans a (with_variable a ty) (with_line (with_variable a ty) i place)
           (grown_variable a ty) (grown_line (with_variable a ty) i place));
+      size = omega (arith, variable_count a b ty b_is, line_count b c i place c_is);
       slots = ap (λ (z : Made). z.slots) new;
       variable = d_is;
       point =
@@ -152,22 +181,24 @@ value_added a b c i op ty place d d_is b_is c_is means =
 
 -- after a list was added
 pub op_after_list : (a b c : Made) (l : List ℕ) (op : Whole → Op) (place : ℕ) → b ≡ with_list a l
-    → OpIsAdded b op place c → OpIsAdded a op place c
-op_after_list a b c l op place is h =
+    → OpIsAdded b op place c → count c ≤ count a + 3 → OpIsAdded a op place c
+op_after_list a b c l op place is h few =
     let g = subst (λ z. Grown a z) (sym is) (grown_list a l) in
     record {
       grown = grown_trans a b c g h.grown;
+      size = few;
       slots = h.slots ∙ ap (λ (z : Made). z.slots) is;
       point = h.point ∙ ap (λ z. after (point_of z)) is;
       instr = λ w k. subst (λ (z : Made). OpAt w.f (length z.lines) (op w) place) is (h.instr w k);
     }
 
 pub value_after_list : (a b c : Made) (l : List ℕ) (op : ℕ → Op) (ty : «Type») (place d : ℕ) → b ≡ with_list a l
-    → ValueIsAdded b op ty place d c → ValueIsAdded a op ty place d c
-value_after_list a b c l op ty place d is h =
+    → ValueIsAdded b op ty place d c → count c ≤ count a + 3 → ValueIsAdded a op ty place d c
+value_after_list a b c l op ty place d is h few =
     let g = subst (λ z. Grown a z) (sym is) (grown_list a l) in
     record {
       grown = grown_trans a b c g h.grown;
+      size = few;
       slots = h.slots ∙ ap (λ (z : Made). z.slots) is;
       variable = h.variable ∙ ap (λ (z : Made). length z.variables) is;
       point = h.point ∙ ap (λ z. after_value (point_of z)) is;
@@ -203,6 +234,7 @@ op_with_list a b c i op l place n n_is b_is c_is means =
     op_after_list a b c l (always op) place b_is
     (op_added b c i (always op) place c_is (λ w k. means w
     (list_in w a b c l n n_is b_is (subst (λ z. Grown b z) (sym c_is) (grown_line b i place)) k)))
+    (omega (arith, list_count a b l b_is, line_count b c i place c_is))
 
 pub value_with_list : (a b c d : Made) (i : Instr) (op : ℕ → Op) (ty : «Type») (l : List ℕ) (place n to : ℕ)
     → n ≡ length a.lists → b ≡ with_list a l → to ≡ length b.variables → c ≡ with_variable b ty
@@ -213,6 +245,7 @@ value_with_list a b c d i op ty l place n to n_is b_is to_is c_is d_is means =
     value_after_list a b d l op ty place to b_is
     (value_added b c d i op ty place to to_is c_is d_is
     (λ w k. means w (list_in w a b d l n n_is b_is (grown_trans b c d g g2) k)))
+    (omega (arith, list_count a b l b_is, variable_count b c ty c_is, line_count c d i place d_is))
 
 pub op_with_pieces : (a b c d : Made) (i : Instr) (op : Op) (p : List Piece) (l : List ℕ) (place m n : ℕ)
     → m ≡ length a.pieces → b ≡ with_pieces a p → n ≡ length b.lists → c ≡ with_list b l → d ≡ with_line c i place
@@ -225,9 +258,11 @@ op_with_pieces a b c d i op p l place m n m_is b_is n_is c_is d_is means =
     let g3 = subst (λ z. Grown c z) (sym d_is) (grown_line c i place) in
     let all = op_after_list b c d l (always op) place c_is
     (op_added c d i (always op) place d_is (λ w k. means w
-    (pieces_in w a b d p m m_is b_is (grown_trans b c d g2 g3) k) (list_in w b c d l n n_is c_is g3 k))) in
+    (pieces_in w a b d p m m_is b_is (grown_trans b c d g2 g3) k) (list_in w b c d l n n_is c_is g3 k)))
+    (omega (arith, list_count b c l c_is, line_count c d i place d_is)) in
     record {
       grown = grown_trans a b d g all.grown;
+      size = omega (arith, pieces_count a b p b_is, list_count b c l c_is, line_count c d i place d_is);
       slots = all.slots ∙ ap (λ (z : Made). z.slots) b_is;
       point = all.point ∙ ap (λ z. after (point_of z)) b_is;
       instr = λ w k. subst (λ (z : Made). OpAt w.f (length z.lines) op place) b_is (all.instr w k);

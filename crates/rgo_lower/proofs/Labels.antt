@@ -6,8 +6,8 @@ use Rattle.rgo_tac.specs.Code.{Op, TacFn}
 use Rattle.rgo_typed.specs.declared.actions.Logical.{Logical}
 use Rattle.rgo_typed.specs.declared.actions.Logical.TheVariants.{And, Or}
 use Rattle.rgo_lower.specs.Lowered.{Point, after, OpAt, logic_branch}
-use Rattle.rgo_lower.specs.Emitted.{Made, point_of, with_label, with_placed, Grown, Whole, Completes, OpIsAdded, branch_to, decides}
-use Rattle.rgo_lower.proofs.Growing.{kept_all, kept_before, get_last, grown_trans}
+use Rattle.rgo_lower.specs.Emitted.{Made, count, point_of, with_label, with_placed, Grown, Whole, Completes, OpIsAdded, branch_to, decides}
+use Rattle.rgo_lower.proofs.Growing.{kept_all, kept_before, get_last, grown_trans, label_count, placed_count}
 
 set_same : {A : Type 0} (xs : List A) (i : ℕ) (v : A) → i < length xs → slice_get (slice_set xs i v) i ≡ Some v
 set_same [] i v h = absurd (omega (arith, h))
@@ -29,6 +29,7 @@ none_some o x e f = cc
 -- label k was made
 pub record Fresh (a : Made) (k : ℕ) (b : Made) : Type 0 where
   pub grown : Grown a b
+  pub size : count b ≡ count a + 1
   pub slots : b.slots ≡ a.slots
   pub point : point_of b ≡ point_of a
   pub unmade : slice_get a.labels k ≡ None
@@ -43,6 +44,7 @@ fresh a b k k_is is = record {
     pieces = kept_all a.pieces;
     labels = kept_before a.labels (None ∷ []);
   });
+  size = label_count a b is;
   slots = ap (λ (z : Made). z.slots) is;
   point = ap point_of is;
   unmade = slice_get_past a.labels k (omega (arith, k_is));
@@ -67,6 +69,7 @@ apart a j k there unmade e = none_some (slice_get a.labels k) None unmade (ap (s
 
 -- label k, which was open, was placed
 pub record Placed (a : Made) (k : ℕ) (b : Made) : Type 0 where
+  pub size : count b ≡ count a
   pub slots : b.slots ≡ a.slots
   pub point : point_of b ≡ point_of a
   pub completes : (w : Whole) → Completes w b → Completes w a
@@ -112,6 +115,7 @@ module _ (a : Made) (k : ℕ) (waits : slice_get a.labels k ≡ Some None) where
 
   here : Placed a k (with_placed a k)
   here = record {
+    size = placed_count a (with_placed a k) k refl;
     slots = refl;
     point = refl;
     completes = less;
@@ -143,14 +147,15 @@ branches_is And w test next other = refl
 branches_is Or w test next other = refl
 
 pub branch_added : (logic : Logical) (test next other place : ℕ) (a b c d : Made) → Fresh a next b
-    → OpIsAdded b (branches logic test next other) place c → d ≡ with_placed c next
+    → OpIsAdded b (branches logic test next other) place c → count c ≡ count b + 1 → d ≡ with_placed c next
     → OpIsAdded a (decides logic test (length a.lines + 1) other) place d
-branch_added logic test next other place a b c d label branch is =
+branch_added logic test next other place a b c d label branch one is =
     let there = placed c d next (branch.grown.labels next None label.waits) is in
     let line_b : length b.lines ≡ length a.lines = ap (λ (z : Point). z.instr) label.point in
     let line_c : length c.lines ≡ length b.lines + 1 = ap (λ (z : Point). z.instr) branch.point in
     record {
       grown = there.grown a (grown_trans a b c label.grown branch.grown) label.unmade;
+      size = omega (arith, label.size, one, there.size);
       slots = there.slots ∙ branch.slots ∙ label.slots;
       point = there.point ∙ branch.point ∙ ap after label.point;
       instr = λ w k.

@@ -1,5 +1,5 @@
 -- The code of statements without statements in them, put together from that of their parts.
-use Rattle.std.proofs.Common.{◌≡◌, ◌≢◌, ℕ, ◌+◌, ◌<◌, Bool, true, false, ◌||◌, List, [], ◌∷◌, ◌++◌, length, get_or, refl, sym, ap, ◌∙◌, subst}
+use Rattle.std.proofs.Common.{◌≡◌, ◌≢◌, ℕ, ◌+◌, ◌<◌, ◌≤◌, arith, Bool, true, false, ◌||◌, List, [], ◌∷◌, ◌++◌, length, get_or, refl, sym, ap, ◌∙◌, subst}
 use Rattle.std.specs.Prelude.{Option, Some, None, nat_eq, if◌then◌else◌}
 use Rattle.std.proofs.lemmas.Bool.{eqb-true, eqb-false}
 use Rattle.std.proofs.lemmas.List.{get_or-set_same, get_or-set_other}
@@ -12,8 +12,9 @@ use Rattle.rgo_typed.specs.Tree.{Term, Terms, Change, Stmt, Stmts}
 use Rattle.rgo_wellformed.specs.WellFormed.{InScope, is_in_scope, IsStmt, scope_after}
 use Rattle.rgo_tac.specs.Code.{Do, Call, Go, Print, Jump, Return}
 use Rattle.rgo_lower.specs.declared.builder.Loop.{Loop}
+use Rattle.rgo_lower.specs.Sizes.{stmt_size}
 use Rattle.rgo_lower.specs.Lowered.{Point, after, OpAt, ActionAt, Scope, found, Target, zero_action, TermAt, StmtAt}
-use Rattle.rgo_lower.specs.Emitted.{Made, point_of, slot, with_slot, Grown, Whole, Completes, OpIsAdded, ValueIsAdded, always, acts, jump_to}
+use Rattle.rgo_lower.specs.Emitted.{Made, count, point_of, slot, with_slot, Grown, Whole, Completes, OpIsAdded, ValueIsAdded, always, acts, jump_to}
 use Rattle.rgo_lower.specs.Emitted.{Knows, TermIsEmitted, TermsAreEmitted, Leads, environment_of, StmtIsEmitted}
 use Rattle.rgo_lower.proofs.Growing.{grown_trans, earlier, kept_all}
 use Rattle.rgo_lower.proofs.Labels.{op_moved}
@@ -58,6 +59,7 @@ module _ (xs ys : List ℕ) (g : InScope) (scope : Scope) (n d : ℕ) (here : ge
 -- the code of such a statement was added
 pub record PlainIsEmitted (s : Stmt) (innermost : Option Loop) (old new : Made) : Type 0 where
   pub grown : Grown old new
+  pub size : count new ≤ count old + stmt_size s
   pub slots : new.slots ≡ old.slots
   pub code :
       (w : Whole) (in_loop : Bool) (g : InScope) (scope : Scope) (targets : List Target)
@@ -68,6 +70,7 @@ pub plain : (s : Stmt) (innermost : Option Loop) (a b : Made) → ((g : InScope)
     → PlainIsEmitted s innermost a b → StmtIsEmitted s innermost a b
 plain s innermost a b same h = record {
   grown = h.grown;
+  size = h.size;
   kept = λ e g typed n e2. ap (λ z. get_or z n 0) h.slots;
   code = λ w in_loop g scope targets typed leads knows all. (
     scope,
@@ -81,6 +84,7 @@ pub assign_emitted : (n : ℕ) (value : Term) (place d : ℕ) (innermost : Optio
     → StmtIsEmitted (tree.Assign n value place) innermost a c
 assign_emitted n value place d innermost a b c h o = plain _ innermost a c (λ g. refl) (record {
   grown = grown_trans a b c h.grown o.grown;
+  size = omega (arith, h.size, o.size);
   slots = o.slots ∙ h.slots;
   code = λ w in_loop g scope targets typed leads knows all. (
     d,
@@ -99,6 +103,7 @@ pub perform_emitted : (action : Action) (operands : Terms) (place : ℕ) (ds : L
     → StmtIsEmitted (tree.Perform action operands place) innermost a c
 perform_emitted action operands place ds innermost a b c h o = plain _ innermost a c (λ g. refl) (record {
   grown = grown_trans a b c h.grown o.grown;
+  size = omega (arith, h.size, o.size);
   slots = o.slots ∙ h.slots;
   code = λ w in_loop g scope targets typed leads knows all. (
     ds,
@@ -114,6 +119,7 @@ pub discard_emitted : (value : Term) (d : ℕ) (innermost : Option Loop) (a b : 
     → StmtIsEmitted (tree.Discard value) innermost a b
 discard_emitted value d innermost a b h = plain _ innermost a b (λ g. refl) (record {
   grown = h.grown;
+  size = h.size;
   slots = h.slots;
   code = λ w in_loop g scope targets typed leads knows all. (d, h.code w g typed.0 scope typed.1 knows all, refl);
 })
@@ -123,6 +129,7 @@ pub invoke_emitted : (n : ℕ) (arguments : Terms) (place : ℕ) (ds : List ℕ)
     → StmtIsEmitted (tree.Invoke n arguments place) innermost a c
 invoke_emitted n arguments place ds innermost a b c h o = plain _ innermost a c (λ g. refl) (record {
   grown = grown_trans a b c h.grown o.grown;
+  size = omega (arith, h.size, o.size);
   slots = o.slots ∙ h.slots;
   code = λ w in_loop g scope targets typed leads knows all. (
     ds,
@@ -140,6 +147,7 @@ pub go_emitted : (n : ℕ) (arguments : Terms) (place : ℕ) (ds : List ℕ) (in
     → StmtIsEmitted (tree.Go n arguments place) innermost a c
 go_emitted n arguments place ds innermost a b c h o = plain _ innermost a c (λ g. refl) (record {
   grown = grown_trans a b c h.grown o.grown;
+  size = omega (arith, h.size, o.size);
   slots = o.slots ∙ h.slots;
   code = λ w in_loop g scope targets typed leads knows all. (
     ds,
@@ -157,6 +165,7 @@ pub print_emitted : (pieces : List Piece) (values : Terms) (place : ℕ) (ds : L
     → StmtIsEmitted (tree.Print pieces values place) innermost a c
 print_emitted pieces values place ds innermost a b c h o = plain _ innermost a c (λ g. refl) (record {
   grown = grown_trans a b c h.grown o.grown;
+  size = omega (arith, h.size, o.size);
   slots = o.slots ∙ h.slots;
   code = λ w in_loop g scope targets typed leads knows all. (
     ds,
@@ -201,6 +210,7 @@ module _ (change : Change) (innermost : Option Loop) (ds : List ℕ) (x d y : �
   update_is_plain : PlainIsEmitted (tree.Update change) innermost a g
   update_is_plain = record {
     grown = grown_trans a c g to_c c_to_g;
+    size = omega (arith, operands.size, read.size, value.size, compute.size, write.size);
     slots = write.slots ∙ compute.slots ∙ value.slots ∙ slots_c;
     code = λ w in_loop s scope targets typed leads knows all.
         let at_f = earlier w f g write.grown all in
@@ -232,6 +242,7 @@ pub break_emitted : (place : ℕ) (l : Loop) (a b : Made) → OpIsAdded a (jump_
     → StmtIsEmitted (tree.Break place) (Some l) a b
 break_emitted place l a b o = plain _ (Some l) a b (λ g. refl) (record {
   grown = o.grown;
+  size = o.size;
   slots = o.slots;
   code = λ w in_loop g scope targets typed leads knows all.
       let found = leads typed in
@@ -251,6 +262,7 @@ pub continue_emitted : (place : ℕ) (l : Loop) (a b : Made) → OpIsAdded a (ju
     → StmtIsEmitted (tree.Continue place) (Some l) a b
 continue_emitted place l a b o = plain _ (Some l) a b (λ g. refl) (record {
   grown = o.grown;
+  size = o.size;
   slots = o.slots;
   code = λ w in_loop g scope targets typed leads knows all.
       let found = leads typed in
@@ -270,6 +282,7 @@ pub leave_emitted : (place : ℕ) (innermost : Option Loop) (a b : Made) → OpI
     → StmtIsEmitted (tree.Return None place) innermost a b
 leave_emitted place innermost a b o = plain _ innermost a b (λ g. refl) (record {
   grown = o.grown;
+  size = omega (arith, o.size);
   slots = o.slots;
   code = λ w in_loop g scope targets typed leads knows all. (o.instr w all, typed, refl, o.point);
 })
@@ -279,6 +292,7 @@ pub return_emitted : (value : Term) (place d : ℕ) (innermost : Option Loop) (a
     → StmtIsEmitted (tree.Return (Some value) place) innermost a c
 return_emitted value place d innermost a b c h o = plain _ innermost a c (λ g. refl) (record {
   grown = grown_trans a b c h.grown o.grown;
+  size = omega (arith, h.size, o.size);
   slots = o.slots ∙ h.slots;
   code = λ w in_loop g scope targets typed leads knows all. (
     d,
@@ -297,6 +311,7 @@ return_emitted value place d innermost a b c h o = plain _ innermost a c (λ g. 
 -- a local variable comes into scope as the variable x
 pub record Declared (n x : ℕ) (a b : Made) : Type 0 where
   pub grown : Grown a b
+  pub size : count b ≡ count a
   pub point : point_of b ≡ point_of a
   pub here : slot b n ≡ x
   pub others : (m : ℕ) → m ≢ n → slot b m ≡ slot a m
@@ -310,6 +325,7 @@ declared_here n x a lt = record {
     pieces = kept_all a.pieces;
     labels = kept_all a.labels;
   };
+  size = refl;
   point = refl;
   here = get_or-set_same a.slots n x 0 lt;
   others = λ m other. get_or-set_other a.slots n m x 0 other;
@@ -330,6 +346,7 @@ declare_emitted n ty value place d x innermost a b c e h v s =
     let same : (m : ℕ) → slot c m ≡ slot a m = λ m. ap (λ z. get_or z m 0) slots in
     record {
       grown = grown_trans a c e (grown_trans a b c h.grown v.grown) s.grown;
+      size = omega (arith, h.size, v.size, s.size);
       kept = λ env g typed m inside. s.others m (apart g n m typed.0.0 inside) ∙ same m;
       code = λ w in_loop g scope targets typed leads knows all.
           let at_c = earlier w c e s.grown all in (
@@ -355,6 +372,7 @@ zero_emitted n ty place x innermost a b c v s =
     let same : (m : ℕ) → slot b m ≡ slot a m = λ m. ap (λ z. get_or z m 0) v.slots in
     record {
       grown = grown_trans a b c v.grown s.grown;
+      size = omega (arith, v.size, s.size);
       kept = λ env g typed m inside. s.others m (apart g n m typed.0 inside) ∙ same m;
       code = λ w in_loop g scope targets typed leads knows all. (
         (n, length a.variables) ∷ scope,

@@ -16,18 +16,20 @@ use Rattle.rgo_tac.specs.Code.{Do, TacFn}
 use Rattle.rgo_lower.specs.Lowered.{Point, after, after_value, OpAt, ActionAt, bool, pointer_to, logic_branch, result_of, StoresAt, TermAt}
 use Rattle.rgo_lower.specs.Emitted.{Made, point_of, slot, Grown, Whole, Completes, OpIsAdded, ValueIsAdded, always, acts, calls, decides}
 use Rattle.rgo_lower.specs.Emitted.{Knows, TermIsEmitted, TermsAreEmitted, FieldsAreStored}
+use Rattle.rgo_lower.specs.Sizes.{term_size, terms_size}
 use Rattle.rgo_lower.proofs.Growing.{grown_same, grown_trans, earlier}
 use Rattle.rgo_lower.proofs.Labels.{Fresh, Placed, unmade_before, op_moved}
 
 -- ---- several terms
 
 pub none_emitted : (a : Made) → TermsAreEmitted tree.no_terms a [] a
-none_emitted a = record { grown = grown_same a; slots = refl; code = λ w g types scope h k c. (refl, refl) }
+none_emitted a = record { grown = grown_same a; size = omega arith; slots = refl; code = λ w g types scope h k c. (refl, refl) }
 
 pub more_emitted : (t : Term) (ts : Terms) (a b c : Made) (d : ℕ) (ds : List ℕ) → TermIsEmitted t a d b
     → TermsAreEmitted ts b ds c → TermsAreEmitted (tree.a_term t ts) a (d ∷ ds) c
 more_emitted t ts a b c d ds h hs = record {
   grown = grown_trans a b c h.grown hs.grown;
+  size = omega (arith, h.size, hs.size);
   slots = hs.slots ∙ h.slots;
   code = λ w g types scope typed knows all. (
     d,
@@ -44,6 +46,7 @@ more_emitted t ts a b c d ds h hs = record {
 pub local_emitted : (a : Made) (n d : ℕ) → d ≡ slot a n → TermIsEmitted (tree.Local n) a d a
 local_emitted a n d is = record {
   grown = grown_same a;
+  size = omega arith;
   slots = refl;
   code = λ w g ty scope h k c. (k.inside n h.0 ∙ ap Some (sym is), refl);
 }
@@ -59,6 +62,7 @@ pub apply_emitted : (action : Action) (parts : Terms) (ty : «Type») (place d :
     → TermIsEmitted (tree.Apply action parts ty place) a d c
 apply_emitted action parts ty place d from a b c h v = record {
   grown = grown_trans a b c h.grown v.grown;
+  size = omega (arith, h.size, v.size);
   slots = v.slots ∙ h.slots;
   code = λ w g t scope typed knows all. (
     from,
@@ -96,6 +100,7 @@ pub call_emitted : (n : ℕ) (arguments : Terms) (ty : «Type») (place d : ℕ)
     → TermIsEmitted (tree.Call n arguments ty place) a d c
 call_emitted n arguments ty place d from a b c h v = record {
   grown = grown_trans a b c h.grown v.grown;
+  size = omega (arith, h.size, v.size);
   slots = v.slots ∙ h.slots;
   code = λ w g t scope typed knows all. (
     from,
@@ -112,13 +117,14 @@ call_emitted n arguments ty place d from a b c h v = record {
 -- ---- objects
 
 pub none_stored : (object place : ℕ) (a : Made) → FieldsAreStored object [] [] place a a
-none_stored object place a = record { grown = grown_same a; slots = refl; code = λ w c. refl }
+none_stored object place a = record { grown = grown_same a; size = omega arith; slots = refl; code = λ w c. refl }
 
 pub more_stored : (object k d place : ℕ) (fields ds : List ℕ) (a b c : Made)
     → OpIsAdded a (always (Do None (Store k) (object ∷ d ∷ []))) place b → FieldsAreStored object fields ds place b c
     → FieldsAreStored object (k ∷ fields) (d ∷ ds) place a c
 more_stored object k d place fields ds a b c h hs = record {
   grown = grown_trans a b c h.grown hs.grown;
+  size = omega (arith, h.size, hs.size);
   slots = hs.slots ∙ h.slots;
   code = λ w all. (
     h.instr w (earlier w b c hs.grown all),
@@ -131,6 +137,7 @@ pub build_emitted : (n : ℕ) (parts : Terms) (fields : List ℕ) (place d : ℕ
     → FieldsAreStored d fields from place c e → TermIsEmitted (tree.Build n parts fields place) a d e
 build_emitted n parts fields place d from a b c e h v s = record {
   grown = grown_trans a b e h.grown (grown_trans b c e v.grown s.grown);
+  size = omega (arith, h.size, v.size, s.size);
   slots = s.slots ∙ v.slots ∙ h.slots;
   code = λ w g t scope typed knows all.
       let before = earlier w c e s.grown all in (
@@ -191,6 +198,7 @@ module _ (logic : Logical) (left right : Term) (place l d r end : ℕ) (a b c e 
   logic_emitted = record {
     grown = ends.grown a (grown_trans a e h to_e e_to_h) (unmade_before a c end
         (grown_trans a b c first.grown copy.grown) label.unmade);
+    size = omega (arith, first.size, copy.size, label.size, branch.size, second.size, store.size, ends.size);
     slots = ends.slots ∙ store.slots ∙ second.slots ∙ slots_f;
     code = λ w s ty scope typed knows all.
         let at_h = ends.completes w all in
@@ -245,6 +253,14 @@ next_emitted items i x a b new d ds lt is h rest =
     subst (λ z. TermsAreEmitted z a (d ∷ ds) new) (sym (at_drop_more all_terms items i x lt))
     (subst (λ z. TermsAreEmitted (tree.a_term (term_of z) (all_terms (drop (i + 1) items))) a (d ∷ ds) new) is
     (more_emitted (term_of x) (all_terms (drop (i + 1) items)) a b new d ds h rest))
+
+-- what the rest of the terms counts
+pub next_size : (items : List CodeTerm) (i : ℕ) (x : CodeTerm) → i < length items → x ≡ get_or items i x
+    → terms_size (terms_of (map term_of (drop i items)))
+    ≡ term_size (term_of x) + terms_size (terms_of (map term_of (drop (i + 1) items)))
+next_size items i x lt is =
+    at_drop_more (λ l. terms_size (all_terms l)) items i x lt
+    ∙ ap (λ z. term_size (term_of z) + terms_size (all_terms (drop (i + 1) items))) (sym is)
 
 pub end_emitted : (items : List CodeTerm) (i : ℕ) (a : Made) → length items ≤ i
     → TermsAreEmitted (terms_of (map term_of (drop i items))) a [] a

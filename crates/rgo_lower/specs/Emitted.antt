@@ -1,5 +1,5 @@
 -- What a builder has been given: the code of terms and statements, between its state before and its state after.
-use Rattle.std.specs.Prelude.{◌≡◌, ℕ, ◌<◌, Bool, true, false, List, [], ◌∷◌, ◌++◌, length, map, take, get_or, slice_set}
+use Rattle.std.specs.Prelude.{◌≡◌, ℕ, ◌+◌, ◌*◌, ◌<◌, ◌≤◌, Bool, true, false, List, [], ◌∷◌, ◌++◌, length, map, take, get_or, slice_set}
 use Rattle.std.specs.Prelude.{Option, Some, None, slice_get}
 use Rattle.rgo_typed.specs.declared.actions.Action.{Action}
 use Rattle.rgo_typed.specs.declared.actions.Logical.{Logical}
@@ -15,6 +15,7 @@ use Rattle.rgo_tac.specs.Code.{Op, Do, Call, Jump, Branch, TacFn}
 use Rattle.rgo_tac.specs.Views.{op_of, body_of}
 use Rattle.rgo_lower.specs.Lowered.{Point, after, after_value, OpAt, Scope, found, Target}
 use Rattle.rgo_lower.specs.Lowered.{bool, logic_branch, StoresAt, TestAt, ConditionAt, TermAt, TermsAt, StmtAt, StmtsAt, IsLoweredFn}
+use Rattle.rgo_lower.specs.Sizes.{term_size, terms_size, value_size, stmt_size, stmts_size}
 use Rattle.rgo_lower.specs.declared.builder.Builder.{Builder}
 use Rattle.rgo_lower.specs.declared.builder.Line.{Line}
 use Rattle.rgo_lower.specs.declared.builder.Loop.{Loop}
@@ -71,6 +72,10 @@ with_placed b k = record b { labels = slice_set b.labels k (Some (length b.lines
 
 abbrev pub with_slot : Made → ℕ → ℕ → Made
 with_slot b n d = record b { slots = slice_set b.slots n d }
+
+-- how many instructions, variables, lists, texts and labels it has, all together
+abbrev pub count : Made → ℕ
+count b = length b.lines + length b.variables + length b.lists + length b.pieces + length b.labels
 
 -- ---- instructions
 
@@ -164,6 +169,7 @@ pub record Completes (w : Whole) (b : Made) : Type 0 where
 -- an instruction was added; what it does may depend on where labels lead
 pub record OpIsAdded (old : Made) (op : Whole → Op) (place : ℕ) (new : Made) : Type 0 where
   pub grown : Grown old new
+  pub size : count new ≤ count old + 3
   pub slots : new.slots ≡ old.slots
   pub point : point_of new ≡ after (point_of old)
   pub instr : (w : Whole) → Completes w new → OpAt w.f (length old.lines) (op w) place
@@ -185,6 +191,7 @@ decides logic test next other w = logic_branch logic test next (w.leads other)
 -- an instruction was added that gives a new variable of this type its value
 pub record ValueIsAdded (old : Made) (op : ℕ → Op) (ty : «Type») (place d : ℕ) (new : Made) : Type 0 where
   pub grown : Grown old new
+  pub size : count new ≤ count old + 3
   pub slots : new.slots ≡ old.slots
   pub variable : d ≡ length old.variables
   pub point : point_of new ≡ after_value (point_of old)
@@ -209,6 +216,7 @@ pub record Knows (slots : List ℕ) (g : InScope) (scope : Scope) : Type 0 where
 -- the code of a well-formed term was added
 pub record TermIsEmitted (t : Term) (old : Made) (d : ℕ) (new : Made) : Type 0 where
   pub grown : Grown old new
+  pub size : count new ≤ count old + term_size t
   pub slots : new.slots ≡ old.slots
   pub code :
       (w : Whole) (g : InScope) (ty : «Type») (scope : Scope) → HasType w.declared w.locals g t ty
@@ -217,6 +225,7 @@ pub record TermIsEmitted (t : Term) (old : Made) (d : ℕ) (new : Made) : Type 0
 
 pub record TermsAreEmitted (ts : Terms) (old : Made) (ds : List ℕ) (new : Made) : Type 0 where
   pub grown : Grown old new
+  pub size : count new ≤ count old + terms_size ts
   pub slots : new.slots ≡ old.slots
   pub code :
       (w : Whole) (g : InScope) (types : List «Type») (scope : Scope) → HaveTypes w.declared w.locals g ts types
@@ -226,6 +235,7 @@ pub record TermsAreEmitted (ts : Terms) (old : Made) (ds : List ℕ) (new : Made
 -- the values were stored, one in each field of an object
 pub record FieldsAreStored (object : ℕ) (fields ds : List ℕ) (place : ℕ) (old new : Made) : Type 0 where
   pub grown : Grown old new
+  pub size : count new ≤ count old + length fields * 3
   pub slots : new.slots ≡ old.slots
   pub code :
       (w : Whole) → Completes w new
@@ -247,6 +257,7 @@ environment_of w in_loop =
 -- the code of a well-formed statement was added; variables in scope keep their slots
 pub record StmtIsEmitted (s : Stmt) (innermost : Option Loop) (old new : Made) : Type 0 where
   pub grown : Grown old new
+  pub size : count new ≤ count old + stmt_size s
   pub kept :
       (e : Environment) (g : InScope) → IsStmt e g s → (n : ℕ) → is_in_scope g n ≡ true
       → slot new n ≡ slot old n
@@ -259,6 +270,7 @@ pub record StmtIsEmitted (s : Stmt) (innermost : Option Loop) (old new : Made) :
 
 pub record StmtsAreEmitted (all : Stmts) (innermost : Option Loop) (old new : Made) : Type 0 where
   pub grown : Grown old new
+  pub size : count new ≤ count old + stmts_size all
   pub kept :
       (e : Environment) (g : InScope) → AreStmts e g all → (n : ℕ) → is_in_scope g n ≡ true
       → slot new n ≡ slot old n
@@ -271,6 +283,7 @@ pub record StmtsAreEmitted (all : Stmts) (innermost : Option Loop) (old new : Ma
 -- a condition, and the branch to a label where it is false
 pub record TestIsEmitted (t : Term) (other place : ℕ) (old new : Made) : Type 0 where
   pub grown : Grown old new
+  pub size : count new ≤ count old + term_size t + 3
   pub slots : new.slots ≡ old.slots
   pub code :
       (w : Whole) (g : InScope) (scope : Scope) → HasType w.declared w.locals g t bool → Knows old.slots g scope
@@ -279,6 +292,7 @@ pub record TestIsEmitted (t : Term) (other place : ℕ) (old new : Made) : Type 
 -- the same of a loop's condition, if there is one
 pub record ConditionIsEmitted (t : Option Term) (other place : ℕ) (old new : Made) : Type 0 where
   pub grown : Grown old new
+  pub size : count new ≤ count old + value_size t + 3
   pub slots : new.slots ≡ old.slots
   pub code :
       (w : Whole) (in_loop : Bool) (g : InScope) (scope : Scope) → IsCondition (environment_of w in_loop) g t
@@ -304,6 +318,7 @@ leads_by labels k = number_of (slice_get labels k)
 pub record Begins (params : ℕ) (locals : List «Type») (b : Made) : Type 0 where
   pub lines : b.lines ≡ []
   pub variables : b.variables ≡ take params locals
+  pub size : count b ≤ params
   pub slots : (n : ℕ) → n < length locals → slot b n ≡ n
 
 -- the finished function

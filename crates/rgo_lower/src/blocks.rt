@@ -1,10 +1,11 @@
 //! The code of statements, and of those with statements in them.
 
-ghost use Rattle.std.specs.Prelude.{◌≡◌, IfOk, map};
+ghost use Rattle.std.specs.Prelude.{◌≡◌, ◌+◌, ◌<◌, ◌^◌, IfOk, map};
 ghost use Rattle.rgo_typed.specs.Tree as tree;
 ghost use Rattle.rgo_typed.specs.Tree.{stmts_of};
 ghost use Rattle.rgo_typed.specs.Views.{term_of, boxed_term_of, stmt_of};
-ghost use Rattle.rgo_lower.specs.Emitted.{made_of, StmtIsEmitted, StmtsAreEmitted};
+ghost use Rattle.rgo_lower.specs.Sizes.{stmt_size, stmts_size};
+ghost use Rattle.rgo_lower.specs.Emitted.{count, made_of, StmtIsEmitted, StmtsAreEmitted};
 
 use crate::builder::{Builder, Loop};
 use crate::errors::EmitError;
@@ -19,6 +20,7 @@ use rgo_typed::{Stmt, Term};
 #[cycle(statements)]
 #[tactic(auto, using(rgo_typed::proofs::Rows::rows))]
 pub fn lower_stmt(b: &mut Builder, innermost: Option<Loop>, stmt: &Stmt) -> Result<(), EmitError>
+    requires { count (made_of b.now) + stmt_size (stmt_of stmt.now) < 2 ^ 32 }
     ensures { IfOk result (λ done. StmtIsEmitted (stmt_of stmt.now) innermost (made_of b.old) (made_of b.new)) }
 {
     match stmt {
@@ -76,6 +78,7 @@ pub fn lower_stmts(
     innermost: Option<Loop>,
     stmts: &Vec<Stmt>,
 ) -> Result<(), EmitError>
+    requires { count (made_of b.now) + stmts_size (stmts_of (map stmt_of stmts.now.items)) < 2 ^ 32 }
     ensures { IfOk result (λ done. StmtsAreEmitted (stmts_of (map stmt_of stmts.now.items)) innermost
         (made_of b.old)
         (made_of b.new)) }
@@ -95,6 +98,7 @@ fn lower_if(
     body: &Vec<Stmt>,
     place: Place,
 ) -> Result<(), EmitError>
+    requires { count (made_of b.now) + stmt_size (tree.If (term_of test.now) (stmts_of (map stmt_of body.now.items)) place) < 2 ^ 32 }
     ensures { IfOk result (λ done. StmtIsEmitted
         (tree.If (term_of test.now) (stmts_of (map stmt_of body.now.items)) place) innermost (made_of b.old)
         (made_of b.new)) }
@@ -115,6 +119,7 @@ fn lower_if_else(
     other: &Vec<Stmt>,
     place: Place,
 ) -> Result<(), EmitError>
+    requires { count (made_of b.now) + stmt_size (tree.IfElse (term_of test.now) (stmts_of (map stmt_of body.now.items)) (stmts_of (map stmt_of other.now.items)) place) < 2 ^ 32 }
     ensures { IfOk result (λ done. StmtIsEmitted (tree.IfElse (term_of test.now)
         (stmts_of (map stmt_of body.now.items))
         (stmts_of (map stmt_of other.now.items)) place) innermost (made_of b.old) (made_of b.new)) }
@@ -139,6 +144,7 @@ fn lower_loop(
     post: &Vec<Stmt>,
     place: Place,
 ) -> Result<(), EmitError>
+    requires { count (made_of b.now) + stmt_size (tree.Loop (boxed_term_of test.now) (stmts_of (map stmt_of body.now.items)) (stmts_of (map stmt_of post.now.items)) place) < 2 ^ 32 }
     ensures { IfOk result (λ done. StmtIsEmitted (tree.Loop (boxed_term_of test.now)
         (stmts_of (map stmt_of body.now.items)) (stmts_of (map stmt_of post.now.items)) place) innermost
         (made_of b.old)

@@ -1,8 +1,9 @@
 //! The code of a function while it is made.
 
-ghost use Rattle.std.specs.Prelude.{◌≡◌, ◌<◌, [], ◌∷◌, IfOk, length, get_or};
+ghost use Rattle.std.specs.Prelude.{◌≡◌, ◌<◌, ◌^◌, [], ◌∷◌, IfOk, length, get_or};
 ghost use Rattle.rgo_typed.specs.declared.actions.Action.TheVariants as action;
 ghost use Rattle.rgo_lower.specs.Emitted.{
+  count,
   made_of,
   slot,
   with_line,
@@ -14,7 +15,6 @@ ghost use Rattle.rgo_lower.specs.Emitted.{
   with_slot,
 };
 
-use crate::encode::narrow;
 use crate::errors::EmitError;
 use rgo_ast::Place;
 use rgo_tac::{Instr, copy_pieces, copy_type};
@@ -60,49 +60,54 @@ impl Builder {
 
     /// Adds a variable of this type.
     pub fn variable(&mut self, ty: &Type) -> Result<u32, EmitError>
+        requires { count (made_of self.now) < 2 ^ 32 }
         ensures { IfOk result (λ d. (d ≡ length self.old.variables.items)
             × (made_of self.new ≡ with_variable (made_of self.old) ty.now)) }
     {
-        let number = narrow(self.variables.len())?;
+        let number = self.variables.len() as u32;
         self.variables.push(copy_type(self.alloc, ty)?)?;
         Ok(number)
     }
 
     /// Adds a list of variables.
     pub fn list(&mut self, from: Vec<u32>) -> Result<u32, EmitError>
+        requires { count (made_of self.now) < 2 ^ 32 }
         ensures { IfOk result (λ n. (n ≡ length self.old.lists.items)
             × (made_of self.new ≡ with_list (made_of self.old) from.items)) }
     {
-        let number = narrow(self.lists.len())?;
+        let number = self.lists.len() as u32;
         self.lists.push(Row::new(from))?;
         Ok(number)
     }
 
     /// Adds the pieces of a print.
     pub fn text(&mut self, pieces: &[Piece]) -> Result<u32, EmitError>
+        requires { count (made_of self.now) < 2 ^ 32 }
         ensures { IfOk result (λ n. (n ≡ length self.old.pieces.items)
             × (made_of self.new ≡ with_pieces (made_of self.old) pieces.now)) }
     {
-        let number = narrow(self.pieces.len())?;
+        let number = self.pieces.len() as u32;
         self.pieces.push(copy_pieces(self.alloc, pieces)?)?;
         Ok(number)
     }
 
     /// Makes a label, which is to be placed later.
     pub fn label(&mut self) -> Result<u32, EmitError>
+        requires { count (made_of self.now) < 2 ^ 32 }
         ensures { IfOk result (λ n. (n ≡ length self.old.labels.items)
             × (made_of self.new ≡ with_label (made_of self.old))) }
     {
-        let number = narrow(self.labels.len())?;
+        let number = self.labels.len() as u32;
         self.labels.push(None)?;
         Ok(number)
     }
 
     /// Places a label at the next instruction. Does nothing if there is no such label.
     pub fn place(&mut self, label: u32) -> Result<(), EmitError>
+        requires { count (made_of self.now) < 2 ^ 32 }
         ensures { IfOk result (λ done. made_of self.new ≡ with_placed (made_of self.old) label) }
     {
-        let next = narrow(self.lines.len())?;
+        let next = self.lines.len() as u32;
         if (label as usize) < self.labels.len() {
             self.labels[label as usize] = Some(next);
         }

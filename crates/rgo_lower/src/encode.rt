@@ -12,7 +12,8 @@ use rgo_ast::BinaryOp;
 use rgo_tac::Instr;
 use rgo_typed::{Action, Base, Type};
 
-/// The number, if it has 32 bits.
+/// The number of a struct, a field, a function or a package variable, if it has 32 bits. In a well-formed program that is not
+/// too large each of them has.
 pub fn narrow(n: usize) -> Result<u32, EmitError>
     ensures { IfOk result (λ m. m ≡ n) }
 {

@@ -12,8 +12,7 @@ pub enum LowerError {
     /// A count of the program is too large for numbers of 32 bits: of its structs, package variables or functions, of the
     /// fields of a struct, or of what the code of a function has.
     TooLarge,
-    /// The program is not well-formed, or its code is larger than was counted. Neither happens where `lower` may be called,
-    /// but no clause says so.
+    /// The program is not well-formed. That does not happen where `lower` may be called, but no clause says so.
     IllFormed,
 }
 
@@ -21,7 +20,7 @@ pub enum LowerError {
 #[derive(Clone, Copy, Debug, PartialEq, Eq)]
 pub(crate) enum EmitError {
     NoMemory,
-    /// The program is not well-formed, or its code is larger than was counted.
+    /// The program is not well-formed.
     IllFormed,
 }
 

@@ -1,9 +1,10 @@
 //! Single instructions, added to a builder.
 
-ghost use Rattle.std.specs.Prelude.{◌≡◌, [], ◌∷◌, IfOk, Some, None};
+ghost use Rattle.std.specs.Prelude.{◌≡◌, ◌+◌, ◌<◌, ◌^◌, [], ◌∷◌, IfOk, Some, None};
 ghost use Rattle.rgo_typed.specs.declared.actions.Action.TheVariants as action;
 ghost use Rattle.rgo_tac.specs.Code as op;
 ghost use Rattle.rgo_lower.specs.Emitted.{
+  count,
   made_of,
   OpIsAdded,
   ValueIsAdded,
@@ -30,6 +31,7 @@ impl Builder {
         ty: &Type,
         place: Place,
     ) -> Result<u32, EmitError>
+        requires { count (made_of self.now) + 3 < 2 ^ 32 }
         ensures { IfOk result (λ d. ValueIsAdded (made_of self.old) (acts action from.now) ty.now place d
             (made_of self.new)) }
     {
@@ -68,6 +70,7 @@ impl Builder {
         ty: &Type,
         place: Place,
     ) -> Result<u32, EmitError>
+        requires { count (made_of self.now) + 3 < 2 ^ 32 }
         ensures { IfOk result (λ d. ValueIsAdded (made_of self.old) (calls function from.items) ty.now place d
             (made_of self.new)) }
     {
@@ -80,6 +83,7 @@ impl Builder {
 
     /// A call of a function that has no result.
     pub fn invoke(&mut self, function: usize, from: Vec<u32>, place: Place) -> Result<(), EmitError>
+        requires { count (made_of self.now) + 3 < 2 ^ 32 }
         ensures { IfOk result (λ done. OpIsAdded (made_of self.old) (always (op.Call None function from.items)) place
             (made_of self.new)) }
     {
@@ -90,6 +94,7 @@ impl Builder {
 
     /// The start of a goroutine.
     pub fn start(&mut self, function: usize, from: Vec<u32>, place: Place) -> Result<(), EmitError>
+        requires { count (made_of self.now) + 3 < 2 ^ 32 }
         ensures { IfOk result (λ done. OpIsAdded (made_of self.old) (always (op.Go function from.items)) place
             (made_of self.new)) }
     {
@@ -100,6 +105,7 @@ impl Builder {
 
     /// A print of these pieces, with these variables among them.
     pub fn print(&mut self, pieces: &[Piece], from: Vec<u32>, place: Place) -> Result<(), EmitError>
+        requires { count (made_of self.now) + 3 < 2 ^ 32 }
         ensures { IfOk result (λ done. OpIsAdded (made_of self.old) (always (op.Print pieces.now from.items)) place
             (made_of self.new)) }
     {
@@ -124,7 +130,7 @@ impl Builder {
         place: Place,
     ) -> Result<(), EmitError>
         ensures { IfOk result (λ done. OpIsAdded (made_of self.old) (branch_to test inside other) place
-            (made_of self.new)) }
+            (made_of self.new) × (count (made_of self.new) ≡ count (made_of self.old) + 1)) }
     {
         self.line(Instr::Branch(test, inside, other), place)
     }

@@ -1,11 +1,11 @@
 //! The code of programs.
 
-ghost use Rattle.std.specs.Prelude.{◌≡◌, ◌↔◌, Err, IfOk};
+ghost use Rattle.std.specs.Prelude.{◌≡◌, ◌↔◌, ◌+◌, ◌<◌, ◌^◌, Err, IfOk};
 ghost use Rattle.rgo_typed.specs.Views.{typed_of};
 ghost use Rattle.rgo_wellformed.specs.WellFormed.{IsWellFormed};
 ghost use Rattle.rgo_lower.specs.declared.errors.LowerError.TheVariants.{TooLarge};
 ghost use Rattle.rgo_lower.specs.Lowered.{IsLowered};
-ghost use Rattle.rgo_lower.specs.Sizes.{IsTooLarge};
+ghost use Rattle.rgo_lower.specs.Sizes.{IsTooLarge, program_size};
 
 use crate::errors::{EmitError, LowerError};
 use crate::functions::lower_function;
@@ -16,7 +16,8 @@ use std::alloc::Global;
 
 /// The three-address code of a program that is not too large.
 fn emit(alloc: Global, program: &Typed) -> Result<Tac, EmitError>
-    requires { IsWellFormed (typed_of program.now) }
+    requires well { IsWellFormed (typed_of program.now) }
+    requires size { program_size (typed_of program.now) + 2 < 2 ^ 32 }
     ensures { IfOk result (λ code. IsLowered (typed_of program.now) code) }
 {
     let structs = copy_structs(alloc, program.structs.items())?;

@@ -1,6 +1,6 @@
 //! How large the code of a program is at most, counted before it is made.
 
-ghost use Rattle.std.specs.Prelude.{◌≡◌, ◌↔◌, ◌-◌, ◌^◌, true, map, max, min};
+ghost use Rattle.std.specs.Prelude.{◌≡◌, ◌↔◌, ◌+◌, ◌<◌, false, ◌-◌, ◌^◌, true, map, max, min};
 ghost use Rattle.rgo_typed.specs.Tree.{terms_of, stmts_of};
 ghost use Rattle.rgo_typed.specs.Views.{term_of, boxed_term_of, stmt_of, function_of, typed_of};
 ghost use Rattle.rgo_lower.specs.Sizes as spec;
@@ -164,7 +164,8 @@ fn program_size(program: &Typed) -> usize
 
 /// Whether a count of the program is too large for numbers of 32 bits.
 pub fn is_too_large(program: &Typed) -> bool
-    ensures { (result ≡ true) ↔ IsTooLarge (typed_of program.now) }
+    ensures large { (result ≡ true) ↔ IsTooLarge (typed_of program.now) }
+    ensures small { result ≡ false → spec.program_size (typed_of program.now) + 2 < 2 ^ 32 }
 {
     program_size(program) > MOST
 }

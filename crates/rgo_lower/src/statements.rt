@@ -1,10 +1,11 @@
 //! The code of statements without statements in them.
 
-ghost use Rattle.std.specs.Prelude.{◌≡◌, IfOk, map, Some};
+ghost use Rattle.std.specs.Prelude.{◌≡◌, ◌+◌, ◌<◌, ◌^◌, IfOk, map, Some};
 ghost use Rattle.rgo_typed.specs.Tree as tree;
 ghost use Rattle.rgo_typed.specs.Tree.{terms_of};
 ghost use Rattle.rgo_typed.specs.Views.{term_of, boxed_term_of};
-ghost use Rattle.rgo_lower.specs.Emitted.{made_of, IsEmitted, StmtIsEmitted, TestIsEmitted, ConditionIsEmitted};
+ghost use Rattle.rgo_lower.specs.Sizes.{term_size, value_size, stmt_size};
+ghost use Rattle.rgo_lower.specs.Emitted.{count, made_of, IsEmitted, StmtIsEmitted, TestIsEmitted, ConditionIsEmitted};
 
 use crate::builder::{Builder, Loop};
 use crate::encode::zero_action;
@@ -34,6 +35,7 @@ pub fn declare(
     value: &Term,
     place: Place,
 ) -> Result<(), EmitError>
+    requires { count (made_of b.now) + stmt_size (tree.Declare n ty.now (term_of value.now) place) < 2 ^ 32 }
     ensures { IfOk result (λ done. IsEmitted (tree.Declare n ty.now (term_of value.now) place)
         (made_of b.old) (made_of b.new)) }
 {
@@ -44,6 +46,7 @@ pub fn declare(
 
 /// A local variable begins with the zero of its type.
 pub fn declare_zero(b: &mut Builder, n: usize, ty: &Type, place: Place) -> Result<(), EmitError>
+    requires { count (made_of b.now) + 3 < 2 ^ 32 }
     ensures { IfOk result (λ done. IsEmitted (tree.Zero n ty.now place) (made_of b.old) (made_of b.new)) }
 {
     let variable = b.give(zero_action(ty), &[], ty, place)?;
@@ -52,6 +55,7 @@ pub fn declare_zero(b: &mut Builder, n: usize, ty: &Type, place: Place) -> Resul
 
 /// A local variable is given a value.
 pub fn assign(b: &mut Builder, n: usize, value: &Term, place: Place) -> Result<(), EmitError>
+    requires { count (made_of b.now) + term_size (term_of value.now) + 3 < 2 ^ 32 }
     ensures { IfOk result (λ done. IsEmitted (tree.Assign n (term_of value.now) place)
         (made_of b.old) (made_of b.new)) }
 {
@@ -67,6 +71,7 @@ pub fn perform(
     operands: &Vec<Term>,
     place: Place,
 ) -> Result<(), EmitError>
+    requires { count (made_of b.now) + stmt_size (tree.Perform action (terms_of (map term_of operands.now.items)) place) < 2 ^ 32 }
     ensures { IfOk result (λ done. IsEmitted (tree.Perform action (terms_of (map term_of operands.now.items)) place)
         (made_of b.old) (made_of b.new)) }
 {
@@ -76,6 +81,16 @@ pub fn perform(
 
 /// An assignment that computes first: the operands, the read, the value, the operation, the write.
 pub fn update(b: &mut Builder, change: &Change<'_>) -> Result<(), EmitError>
+    requires { count (made_of b.now) + stmt_size (tree.Update (record {
+      operands = terms_of (map term_of change.now.operands.now.items);
+      read = change.now.read;
+      ty = change.now.ty.now;
+      read_at = change.now.read_at;
+      op = change.now.op;
+      value = term_of change.now.value.now;
+      write = change.now.write;
+      at = change.now.at;
+    })) < 2 ^ 32 }
     ensures { IfOk result (λ done. IsEmitted (tree.Update (record {
       operands = terms_of (map term_of change.now.operands.now.items);
       read = change.now.read;
@@ -98,6 +113,7 @@ pub fn update(b: &mut Builder, change: &Change<'_>) -> Result<(), EmitError>
 
 /// A value that is not used.
 pub fn discard(b: &mut Builder, value: &Term) -> Result<(), EmitError>
+    requires { count (made_of b.now) + term_size (term_of value.now) < 2 ^ 32 }
     ensures { IfOk result (λ done. IsEmitted (tree.Discard (term_of value.now)) (made_of b.old) (made_of b.new)) }
 {
     lower_term(b, value)?;
@@ -111,6 +127,7 @@ pub fn invoke(
     arguments: &Vec<Term>,
     place: Place,
 ) -> Result<(), EmitError>
+    requires { count (made_of b.now) + stmt_size (tree.Invoke function (terms_of (map term_of arguments.now.items)) place) < 2 ^ 32 }
     ensures { IfOk result (λ done. IsEmitted (tree.Invoke function (terms_of (map term_of arguments.now.items)) place)
         (made_of b.old) (made_of b.new)) }
 {
@@ -125,6 +142,7 @@ pub fn start(
     arguments: &Vec<Term>,
     place: Place,
 ) -> Result<(), EmitError>
+    requires { count (made_of b.now) + stmt_size (tree.Go function (terms_of (map term_of arguments.now.items)) place) < 2 ^ 32 }
     ensures { IfOk result (λ done. IsEmitted (tree.Go function (terms_of (map term_of arguments.now.items)) place)
         (made_of b.old) (made_of b.new)) }
 {
@@ -139,6 +157,7 @@ pub fn print(
     values: &Vec<Term>,
     place: Place,
 ) -> Result<(), EmitError>
+    requires { count (made_of b.now) + stmt_size (tree.Print pieces.now (terms_of (map term_of values.now.items)) place) < 2 ^ 32 }
     ensures { IfOk result (λ done. IsEmitted (tree.Print pieces.now (terms_of (map term_of values.now.items)) place)
         (made_of b.old) (made_of b.new)) }
 {
@@ -172,6 +191,7 @@ pub fn return_with(
     value: &Option<Box<Term>>,
     place: Place,
 ) -> Result<(), EmitError>
+    requires { count (made_of b.now) + value_size (boxed_term_of value.now) + 3 < 2 ^ 32 }
     ensures { IfOk result (λ done. IsEmitted (tree.Return (boxed_term_of value.now) place)
         (made_of b.old) (made_of b.new)) }
 {
@@ -186,6 +206,7 @@ pub fn return_with(
 
 /// A condition, and the branch to a label where it is false.
 pub fn lower_test(b: &mut Builder, test: &Term, other: u32, place: Place) -> Result<(), EmitError>
+    requires { count (made_of b.now) + term_size (term_of test.now) + 3 < 2 ^ 32 }
     ensures { IfOk result (λ done. TestIsEmitted (term_of test.now) other place (made_of b.old) (made_of b.new)) }
 {
     let d = lower_term(b, test)?;
@@ -199,6 +220,7 @@ pub fn lower_condition(
     other: u32,
     place: Place,
 ) -> Result<(), EmitError>
+    requires { count (made_of b.now) + value_size (boxed_term_of test.now) + 3 < 2 ^ 32 }
     ensures { IfOk result (λ done. ConditionIsEmitted (boxed_term_of test.now) other place (made_of b.old)
         (made_of b.new)) }
 {

@@ -1,15 +1,16 @@
-use Rattle.std.proofs.Common.{◌≡◌, ◌<◌, ◌≤◌, rules, length, map, get_or, sym, ap, ◌∙◌, subst}
+use Rattle.std.proofs.Common.{arith, ◌≡◌, ◌+◌, ◌^◌, ◌<◌, ◌≤◌, rules, length, map, get_or, sym, ap, ◌∙◌, subst}
 use Rattle.rgo_typed.specs.declared.terms.Term.{Term}
 use Rattle.rgo_typed.specs.Tree as tree
 use Rattle.rgo_typed.specs.Tree.{Change, terms_of, stmts_of}
 use Rattle.rgo_typed.specs.Views.{term_of, boxed_term_of, stmt_of}
 use Rattle.rgo_lower.specs.declared.builder.Loop.{Loop}
-use Rattle.rgo_lower.specs.Emitted.{made_of, IsEmitted, StmtIsEmitted}
+use Rattle.rgo_lower.specs.Sizes.{stmt_size}
+use Rattle.rgo_lower.specs.Emitted.{count, made_of, IsEmitted, StmtIsEmitted}
 use Rattle.rgo_lower.proofs.Growing.{ok_map}
 use Rattle.rgo_lower.proofs.Labels.{fresh}
 use Rattle.rgo_lower.proofs.Views.{block_is}
 use Rattle.rgo_lower.proofs.Weights.{lighter}
-use Rattle.rgo_lower.proofs.BlockParts.{block_emitted, if_emitted, if_else_emitted, loop_emitted, next_emitted, end_emitted}
+use Rattle.rgo_lower.proofs.BlockParts.{next_size, block_emitted, if_emitted, if_else_emitted, loop_emitted, next_emitted, end_emitted}
 use Rattle.rgo_lower.proofs.blocks.+statements.Goals as goal
 
 -- ---- one statement
@@ -139,29 +140,37 @@ lower_stmts-lower_stmt-requires t c =
     let i = c.loop-stmt.stmt-index in
     let x = c.stmt-item.result in
     let same : c.deref-stmt-items.result.now ≡ xs = c.deref-stmt-items.ensures.value in
-    let down =
-    lighter xs i x (subst (λ z. x ≡ get_or z i x) same c.stmt-item.is)
-    (subst (λ z. i < length z) same c.loop-stmt-test.true) in
-    search (rules, down)
+    let lt : i < length xs = subst (λ z. i < length z) same c.loop-stmt-test.true in
+    let is : x ≡ get_or xs i x = subst (λ z. x ≡ get_or z i x) same c.stmt-item.is in
+    let down = lighter xs i x is lt in
+    let more = next_size xs i x lt is in
+    let small : count (made_of c.loop-stmt.b) + stmt_size (stmt_of x) < 2 ^ 32 =
+    omega (arith, more, c.loop-stmt.invariant.small) in
+    search (rules, down, small)
 
 pub lower_stmts-loop-stmt-preserved : goal.lower_stmts-loop-stmt-preserved
 lower_stmts-loop-stmt-preserved t c =
-    λ new rest.
     let xs = c.args.stmts.now.items in
     let i = c.loop-stmt.stmt-index in
     let x = c.stmt-item.result in
     let same : c.deref-stmt-items.result.now ≡ xs = c.deref-stmt-items.ensures.value in
-    c.loop-stmt.invariant new
-    (next_emitted xs i x c.args.innermost (made_of c.loop-stmt.b) (made_of c.lower_stmt.new.b) new
-    (subst (λ z. i < length z) same c.loop-stmt-test.true) (subst (λ z. x ≡ get_or z i x) same c.stmt-item.is)
-    c.in_ok-lower_stmt.ensures rest)
+    let lt : i < length xs = subst (λ z. i < length z) same c.loop-stmt-test.true in
+    let is : x ≡ get_or xs i x = subst (λ z. x ≡ get_or z i x) same c.stmt-item.is in
+    let more = next_size xs i x lt is in
+    record {
+      small = omega (arith, more, c.loop-stmt.invariant.small, c.in_ok-lower_stmt.ensures.size);
+      rest = λ new rest.
+          c.loop-stmt.invariant.rest new
+          (next_emitted xs i x c.args.innermost (made_of c.loop-stmt.b) (made_of c.lower_stmt.new.b) new lt is
+          c.in_ok-lower_stmt.ensures rest);
+    }
 
 pub lower_stmts-returns : goal.lower_stmts-returns
 lower_stmts-returns t c =
     let xs = c.args.stmts.now.items in
     let i = c.loop-stmt.stmt-index in
     let same : c.deref-stmt-items.result.now ≡ xs = c.deref-stmt-items.ensures.value in
-    c.loop-stmt.invariant (made_of c.loop-stmt.b)
+    c.loop-stmt.invariant.rest (made_of c.loop-stmt.b)
     (end_emitted xs i c.args.innermost (made_of c.loop-stmt.b)
     (subst (λ z. length z ≤ i) same c.loop-stmt-test.false))
 

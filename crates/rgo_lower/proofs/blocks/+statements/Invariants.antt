@@ -1,16 +1,20 @@
-use Rattle.std.proofs.Common.{◌+◌, suc, drop, map}
+use Rattle.std.proofs.Common.{◌+◌, ◌<◌, ◌^◌, suc, drop, map}
 use Rattle.rgo_typed.specs.Tree.{stmts_of}
 use Rattle.rgo_typed.specs.Views.{stmt_of}
-use Rattle.rgo_lower.specs.Emitted.{Made, made_of, StmtsAreEmitted}
+use Rattle.rgo_lower.specs.Emitted.{Made, count, made_of, StmtsAreEmitted}
+use Rattle.rgo_lower.specs.Sizes.{stmts_size}
 use Rattle.rgo_lower.proofs.Weights.{weight, weights}
 use Rattle.rgo_lower.proofs.blocks.+statements.Given as goal
 
 -- what emits the rest from here emits all from the beginning
 abbrev pub invariant-lower_stmts-loop-stmt : goal.invariant-lower_stmts-loop-stmt
-invariant-lower_stmts-loop-stmt l =
-    (new : Made)
-    → StmtsAreEmitted (stmts_of (map stmt_of (drop l.stmt-index l.stmts.items))) l.innermost (made_of l.b) new
-    → StmtsAreEmitted (stmts_of (map stmt_of l.stmts.items)) l.innermost (made_of l.fn.b) new
+invariant-lower_stmts-loop-stmt l = record {
+  small : count (made_of l.b) + stmts_size (stmts_of (map stmt_of (drop l.stmt-index l.stmts.items))) < 2 ^ 32;
+  rest :
+      (new : Made)
+      → StmtsAreEmitted (stmts_of (map stmt_of (drop l.stmt-index l.stmts.items))) l.innermost (made_of l.b) new
+      → StmtsAreEmitted (stmts_of (map stmt_of l.stmts.items)) l.innermost (made_of l.fn.b) new;
+}
 
 abbrev pub decreases-lower_stmt : goal.decreases-lower_stmt
 decreases-lower_stmt l = weight (stmt_of l.stmt.now)

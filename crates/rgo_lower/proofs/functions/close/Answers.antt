@@ -11,9 +11,9 @@ returns-in_ok-place-in-Some c =
     let a = made_of c.args.b.now in
     let b = made_of c.label.new.self in
     let d = made_of c.place.new.self in
-    let e = made_of c.jump.new.self in
+    let e = made_of c.line.new.self in
     let here = c.in_ok-here-in-Some.here in
     let label = fresh a b here c.in_ok-here-in-Some.ensures.0 c.in_ok-here-in-Some.ensures.1 in
-    ok_map c.jump.result _ _
+    ok_map c.line.result _ _
     (λ h. subst (λ z. OpIsAdded a (always (closing_op z (length a.lines))) c.args.end e) (sym c.in-Some.is)
-    (loop_closed a b d e here c.args.end label c.in_ok-place-in-Some.ensures h)) c.jump.ensures
+    (loop_closed a b d e here c.args.end label c.in_ok-place-in-Some.ensures h)) c.line.ensures

@@ -1,22 +1,33 @@
-use Rattle.std.proofs.Common.{◌≡◌, ◌<◌, ◌≤◌, [], ◌∷◌, length, get_or, map, refl, sym, ◌∙◌, subst, append-nil}
+use Rattle.std.proofs.Common.{arith, ◌≡◌, ◌<◌, ◌≤◌, [], ◌∷◌, length, get_or, map, refl, sym, ◌∙◌, subst, append-nil}
 use Rattle.rgo_typed.specs.Views.{function_of, typed_of}
 use Rattle.rgo_wellformed.specs.WellFormed.{declared_by}
 use Rattle.rgo_lower.specs.Lowered.{AreLowered}
 use Rattle.rgo_lower.proofs.Growing.{one_more_before}
-use Rattle.rgo_lower.proofs.Finished.{well_function, next_lowered, end_lowered, program_is}
+use Rattle.rgo_lower.proofs.Finished.{within_largest, well_function, next_lowered, end_lowered, program_is}
 use Rattle.rgo_lower.proofs.programs.emit.Goals as goal
 
-pub lower_function-requires : goal.lower_function-requires
-lower_function-requires c =
+pub lower_function-requires-clause-params : goal.lower_function-requires-clause-params
+lower_function-requires-clause-params c =
     let xs = c.args.program.now.functions.items in
     let i = c.loop-function.function-index in
     let x = c.function-item.result in
     let same : c.deref-function-items.result.now ≡ xs = c.deref-function-items.ensures.value in
     let well =
-    well_function (typed_of c.args.program.now) xs i x c.requires refl
+    well_function (typed_of c.args.program.now) xs i x c.requires.well refl
     (subst (λ z. i < length z) same c.loop-function-test.true) (subst
     (λ z. x ≡ get_or z i x) same c.function-item.is) in
     well.params
+
+pub lower_function-requires-clause-size : goal.lower_function-requires-clause-size
+lower_function-requires-clause-size c =
+    let xs = c.args.program.now.functions.items in
+    let i = c.loop-function.function-index in
+    let x = c.function-item.result in
+    let same : c.deref-function-items.result.now ≡ xs = c.deref-function-items.ensures.value in
+    let within =
+    within_largest xs i x (subst (λ z. i < length z) same c.loop-function-test.true)
+    (subst (λ z. x ≡ get_or z i x) same c.function-item.is) in
+    omega (arith, within, c.requires.size)
 
 pub loop-function-preserved : goal.loop-function-preserved
 loop-function-preserved c =
@@ -31,7 +42,7 @@ loop-function-preserved c =
     let is : x ≡ get_or xs i x = subst (λ z. x ≡ get_or z i x) same c.function-item.is in
     let lowered =
     c.in_ok-lower_function.ensures (declared_by program) program.functions refl
-    (well_function program xs i x c.requires refl lt is) in
+    (well_function program xs i x c.requires.well refl lt is) in
     subst (λ z. AreLowered (map function_of xs) (map function_of xs) z)
     (one_more_before c.loop-function.functions.items c.push.new.self.items rest f c.in_ok-push.ensures.items)
     (c.loop-function.invariant (f ∷ rest) (next_lowered (map function_of xs) xs i x f rest lt is lowered h))

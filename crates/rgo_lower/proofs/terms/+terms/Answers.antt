@@ -1,4 +1,4 @@
-use Rattle.std.proofs.Common.{◌≡◌, ◌+◌, ◌<◌, ◌≤◌, Some, append-nil, [], ◌∷◌, length, map, get_or, subst, sym, ap, ◌∙◌}
+use Rattle.std.proofs.Common.{arith, ◌≡◌, ◌+◌, ◌<◌, ◌≤◌, Some, append-nil, [], ◌∷◌, length, map, get_or, subst, sym, ap, ◌∙◌}
 use Rattle.std.proofs.lemmas.Result.{IfOk-weaker}
 use Rattle.rgo_typed.specs.declared.actions.Action.TheVariants.{Copy, New}
 use Rattle.rgo_tac.specs.Code.{Do}
@@ -7,7 +7,7 @@ use Rattle.rgo_typed.specs.Views.{term_of}
 use Rattle.rgo_lower.specs.Lowered.{bool, pointer_to}
 use Rattle.rgo_lower.specs.Emitted.{made_of, always, OpIsAdded, ValueIsAdded, FieldsAreStored, TermIsEmitted, TermsAreEmitted, acts, decides}
 use Rattle.rgo_lower.proofs.Growing.{one_more_before}
-use Rattle.rgo_lower.proofs.TermParts.{apply_emitted, call_emitted, build_emitted, logic_emitted, next_emitted, end_emitted, logic_end}
+use Rattle.rgo_lower.proofs.TermParts.{next_size, apply_emitted, call_emitted, build_emitted, logic_emitted, next_emitted, end_emitted, logic_end}
 use Rattle.rgo_lower.proofs.Labels.{fresh, placed}
 use Rattle.rgo_lower.proofs.Views.{apply_is, logic_is, build_is, call_is}
 use Rattle.rgo_lower.proofs.terms.+terms.Goals as goal
@@ -97,19 +97,23 @@ lower_term-returns-in_ok-fill-in-Build t c =
 
 pub lower_terms-loop-term-preserved : goal.lower_terms-loop-term-preserved
 lower_terms-loop-term-preserved t c =
-    λ new ds rest.
     let xs = c.args.terms.now.items in
     let i = c.loop-term.term-index in
     let x = c.term-item.result in
     let d = c.in_ok-lower_term.field-0 in
     let same : c.deref-term-items.result.now ≡ xs = c.deref-term-items.ensures.value in
-    let more =
-    next_emitted xs i x (made_of c.loop-term.b) (made_of c.lower_term.new.b) new d ds
-    (subst (λ z. i < length z) same c.loop-term-test.true) (subst (λ z. x ≡ get_or z i x) same c.term-item.is)
-    c.in_ok-lower_term.ensures rest in
-    subst (λ z. TermsAreEmitted (terms_of (map term_of xs)) (made_of c.args.b.now) z new)
-    (one_more_before c.loop-term.from.items c.push.new.self.items ds d c.in_ok-push.ensures.items)
-    (c.loop-term.invariant new (d ∷ ds) more)
+    let lt : i < length xs = subst (λ z. i < length z) same c.loop-term-test.true in
+    let is : x ≡ get_or xs i x = subst (λ z. x ≡ get_or z i x) same c.term-item.is in
+    let more = next_size xs i x lt is in
+    record {
+      small = omega (arith, more, c.loop-term.invariant.small, c.in_ok-lower_term.ensures.size);
+      rest = λ new ds rest.
+          subst (λ z. TermsAreEmitted (terms_of (map term_of xs)) (made_of c.args.b.now) z new)
+          (one_more_before c.loop-term.from.items c.push.new.self.items ds d c.in_ok-push.ensures.items)
+          (c.loop-term.invariant.rest new (d ∷ ds)
+          (next_emitted xs i x (made_of c.loop-term.b) (made_of c.lower_term.new.b) new d ds lt is
+          c.in_ok-lower_term.ensures rest));
+    }
 
 pub lower_terms-returns : goal.lower_terms-returns
 lower_terms-returns t c =
@@ -118,5 +122,5 @@ lower_terms-returns t c =
     let same : c.deref-term-items.result.now ≡ xs = c.deref-term-items.ensures.value in
     subst (λ z. TermsAreEmitted (terms_of (map term_of xs)) (made_of c.args.b.now) z (made_of c.loop-term.b))
     (append-nil c.loop-term.from.items)
-    (c.loop-term.invariant (made_of c.loop-term.b) []
+    (c.loop-term.invariant.rest (made_of c.loop-term.b) []
     (end_emitted xs i (made_of c.loop-term.b) (subst (λ z. length z ≤ i) same c.loop-term-test.false)))
