@@ -348,7 +348,7 @@ module _ (code : Code) (page_words : ℕ) (slot_of : ℕ → ℕ) (addresses : L
         laid = all.laid;
         slots_differ = slots_apart;
         addresses_differ = λ o q a x y. all.addresses_differ o q a (stood o x) (stood q y);
-      }) (record { memory = refl; printed = refl; owners = refl; global_pages = refl }) refl refl
+      }) (record { memory = refl; printed = refl; owners = refl; global_pages = refl }) refl refl refl
 
 create_duty : (slot_of : ℕ → ℕ) (x : Duty) (k : ℕ) → slot_duty slot_of x ≡ Create k → x ≡ Create k
 create_duty slot_of (Create n) k e = e

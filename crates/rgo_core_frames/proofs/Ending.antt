@@ -99,7 +99,7 @@ module _ (code : Code) (page_words : ℕ) (checked : IsChecked code) (slot_of : 
           owners = append-nil s.owners;
           global_pages = refl;
         })
-        refl refl
+        refl refl refl
 
 pub trap_law : TrapLaw
 trap_law x to action from removes trap is traps =
@@ -119,7 +119,7 @@ finish_law x limit =
       slots_differ = x.all.slots_differ;
       addresses_differ = x.all.addresses_differ;
     })
-    (record { memory = refl; printed = refl; owners = refl; global_pages = refl }) refl refl
+    (record { memory = refl; printed = refl; owners = refl; global_pages = refl }) refl refl refl
   where
     again : (g : ℕ) (c : Rec) → Fits x.code x.slot_of x.addresses x.s g c
         → Fits x.code x.slot_of x.addresses (finished x.s limit) g c

@@ -73,6 +73,8 @@ records = record {
   exits = refl;
   owes = refl;
   returns = refl;
+  counts = refl;
+  counts_none = refl;
   stack = refl;
   table = in_table;
   other_table = λ t. let n : Some (Numbered 5) ≡ None = t 1 in cc;

@@ -24,7 +24,7 @@ use Rattle.rgo_core_frames.specs.LocalLaws.{ConstantsFit, LocalLaw, event_by, ev
 use Rattle.rgo_core_frames.specs.Records.{Rec, after_op}
 use Rattle.rgo_core_frames.specs.Shown.{CallersShow, FramesShow, NewestShows}
 use Rattle.rgo_core_frames.specs.Slots.{slot_duties, slot_duty, slotted}
-use Rattle.rgo_core_frames.specs.Steps.{StaysElse, HasStep, StepsTo}
+use Rattle.rgo_core_frames.specs.Steps.{StaysElse, HasStep, StepsTo, steps_after}
 use Rattle.rgo_core_frames.specs.WordFrames.{WordFrame, bare}
 use Rattle.rgo_core_frames.proofs.Bookkeeping.{current_alike, same_removes}
 use Rattle.rgo_core_frames.proofs.Instructing.{IsReady, changes, done_state, instructs, next_holder, none_allotted, shown_after}
@@ -80,11 +80,12 @@ module _ (code : Code) (page_words : ℕ) (checked : IsChecked code) (constants 
   -- from the step and what it leaves
   steps_to : (event : Event) (end : Option End) (t : RegionState) → region_step code page_words s event ≡ Some t
       → (frames' : List Frame) (h' : Holder) → Changes s t g frames' h' [] [] → (same : StaysElse s t)
-      → t.regions ≡ s.regions → t.mark ≡ marked s.mark end → IsShown code slot_of addresses frames' h' d → Steps event end
-  steps_to event end t e frames' h' changes same regions mark shows =
+      → t.regions ≡ s.regions → t.mark ≡ marked s.mark end → t.steps ≡ steps_after s.steps event
+      → IsShown code slot_of addresses frames' h' d → Steps event end
+  steps_to event end t e frames' h' changes same regions mark counted shows =
       has_step code page_words slot_of addresses s event s.regions (marked s.mark end) (slice_set records g d) t e
       (all_fit_kept code slot_of addresses s t g frames h frames' h' at there changes same.memory regions same.owners
-      records c d all is_c (inl shows)) same regions mark
+      records c d all is_c (inl shows)) same regions mark counted
 
   -- ---- an instruction
 
@@ -162,6 +163,7 @@ module _ (code : Code) (page_words : ℕ) (checked : IsChecked code) (constants 
         a.next after_holder only_one stays refl
         (ap (marked s.mark) (ends_alike code addresses g a.next next a.shown
         ∙ ap (λ (r : Rec). end_by_frames g [] r.frames) d_is))
+        refl
         (subst (IsShown code slot_of addresses a.next after_holder) d_is shows)
 
   instruction : h.duties ≡ [] → (fs : List Frame) (us : List WordFrame) → frames ≡ fs → FramesShow code addresses fs us
@@ -192,6 +194,7 @@ module _ (code : Code) (page_words : ℕ) (checked : IsChecked code) (constants 
       (record { memory = refl; printed = refl; owners = refl; global_pages = refl }) refl
       (sym (ap (marked s.mark) (no_end_owed g (slot_duty slot_of x) (slot_duties slot_of ds) d.frames)
       ∙ mark_stays s.mark))
+      refl
       (subst (IsShown code slot_of addresses frames z.after) y.2
       (record { calm = ap may_go z.same_offer ∙ shown.calm; shown = shown.shown; holder = z.slots }))
 

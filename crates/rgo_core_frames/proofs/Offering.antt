@@ -122,7 +122,7 @@ module _ (x : AtInstruction) (to : Option ℕ) (channel sent : ℕ) (removes : L
         calm = refl;
         shown = subst (FramesShow y.code y.addresses (b.frame ∷ b.callers)) (sym b.frames_are) (b.newest, b.waiting);
         holder = ap (λ (k : Holder). record k { offer = Standing 0 }) b.holder;
-      })))
+      }))) refl
 
 pub offer_law : OfferLaw
 offer_law x to channel sent removes o is at open_there none_on = offers x to channel sent removes o is at open_there none_on
@@ -185,7 +185,7 @@ module _ (code : Code) (page_words : ℕ) (checked : IsChecked code) (slot_of : 
       )
       (all_fit_kept code slot_of addresses s (attended s g (record h { offer = NoOffer })) g frames h frames
       (record h { offer = NoOffer }) at there (held s g frames (record h { offer = NoOffer }) at) refl refl refl records c
-      gone all is_c (inl stands))
+      gone all is_c (inl stands)) refl
 
 pub acknowledge_law : AcknowledgeLaw
 acknowledge_law x w ws instr to from removes o h there taken is_w cur is = go f.fits
@@ -470,7 +470,7 @@ module _ (code : Code) (page_words : ℕ) (checked : IsChecked code) (slot_of : 
         addresses_differ = all.addresses_differ;
       })
       (record { memory = refl; printed = print_stays s.mark s.plain.printed; owners = refl; global_pages = refl })
-      refl (ap (marked s.mark) running ∙ mark_stays s.mark)
+      refl (ap (marked s.mark) running ∙ mark_stays s.mark) refl
 
 pub meet_law : MeetLaw
 meet_law x t to channel removes o word k free is at_channel open_there there standing shows =

@@ -264,7 +264,7 @@ module _ (code : Code) (page_words : ℕ) (slot_of : ℕ → ℕ) (addresses : L
           ∙ ap (λ t. if t then duty_done s g left d else None) shown.calm
           ∙ x.4)
           (fits_with x.3 k (with_info s.regions x.0 change) (λ q l. old x.0 q x.2 l) x.5 x.6)
-          (record { memory = refl; printed = refl; owners = refl; global_pages = refl }) refl refl;
+          (record { memory = refl; printed = refl; owners = refl; global_pages = refl }) refl refl refl;
     }
 
     pub ends : (p : ℕ) (k : Holder) → stake_ended (slotted slot_of left) (slot_duty slot_of d) ≡ Some (p, k)

@@ -224,6 +224,7 @@ module _ (code : Code) (page_words : ℕ) (checked : IsChecked code) (slot_of : 
     regions = refl;
     global_pages = refl;
     mark = ap (marked s.mark) (no_end g (moved_to b.frame (b.frame.next + 1)) b.callers) ∙ mark_stays s.mark;
+    counted = refl;
     fills = fills_are;
   }
 

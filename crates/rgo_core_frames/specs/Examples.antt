@@ -12,7 +12,8 @@ use Rattle.rgo_code.specs.Code.{Code, Do}
 use Rattle.rgo_region_machine.specs.declared.regions.Region.{Region}
 use Rattle.rgo_region_machine.specs.declared.regions.Region.TheVariants.{Numbered}
 use Rattle.rgo_region_machine.specs.Examples.{code_of, int_slot, main_of, passed_twice, plain}
-use Rattle.rgo_region_machine.specs.Machine.{region_start}
+use Rattle.rgo_machine.specs.declared.picks.Pick.TheVariants.{One}
+use Rattle.rgo_region_machine.specs.Machine.{Attend, Instruct, region_start}
 use Rattle.rgo_region_machine.specs.Owed.{function_of}
 use Rattle.rgo_region_machine.specs.Regions.{RegionInfo}
 use Rattle.rgo_region_machine.specs.States.{Create, Duty, Holder, Remove, Share, Standing}
@@ -30,6 +31,7 @@ use Rattle.rgo_core_frames.specs.Shown.{FramesShow, IsAlike}
 use Rattle.rgo_core_frames.specs.Slots.{slotted}
 use Rattle.rgo_core_frames.specs.Stacks.{frames_in}
 use Rattle.rgo_core_frames.specs.Stakes.{stake_ended, stake_shared}
+use Rattle.rgo_core_frames.specs.Steps.{steps_after}
 use Rattle.rgo_core_frames.specs.WordFrames.{WordFrame, word_at, word_going}
 use Rattle.rgo_core_frames.specs.Words.{AllShow, Shows}
 
@@ -132,6 +134,9 @@ pub record RecordExamples : Type 0 where
   pub exits : end_by_frames 0 [] [] ≡ Some Exit
   pub owes : end_by_frames 0 (Remove 3 ∷ []) [] ≡ None
   pub returns : end_by_frames 2 [] [] ≡ None
+  -- an instruction is counted, a duty is not
+  pub counts : steps_after 4 (Instruct (One 0)) ≡ 5
+  pub counts_none : steps_after 4 (Attend 0) ≡ 4
   pub stack : frames_in (1 ∷ 2 ∷ 3 ∷ [])
       (record { function = 1; next = 4; base = 2 } ∷ record { function = 0; next = 9; base = 0 } ∷ [])
       ≡ record { function = 1; next = 4; variables = 3 ∷ [] }

@@ -3,12 +3,12 @@ use Rattle.rgo_code.specs.Code.{Code}
 use Rattle.rgo_machine.specs.declared.picks.Pick.TheVariants.{One}
 use Rattle.rgo_memory.specs.Memory.{Memory}
 use Rattle.rgo_region_machine.specs.Instructions.{printed_if}
-use Rattle.rgo_region_machine.specs.Machine.{Event, Instruct, region_step}
+use Rattle.rgo_region_machine.specs.Machine.{Acknowledge, Attend, Event, Finish, Instruct, MakeOffer, TakePage, region_step}
 use Rattle.rgo_region_machine.specs.Regions.{RegionInfo}
 use Rattle.rgo_region_machine.specs.States.{Holder, Mark, RegionState}
 use Rattle.rgo_region_machine.specs.declared.regions.Region.{Region}
 use Rattle.rgo_sound.specs.Leaving.{ActsAlone, LeavesOthers}
-use Rattle.std.specs.Prelude.{List, Option, Some, slice_get, ℕ, ◌++◌, ◌≡◌}
+use Rattle.std.specs.Prelude.{List, Option, Some, slice_get, ℕ, ◌++◌, ◌≡◌, ◌+◌}
 use Rattle.rgo_core_frames.specs.Fits.{AllFit}
 use Rattle.rgo_core_frames.specs.Records.{Rec}
 use Rattle.rgo_core_frames.specs.States.{AtInstruction, Here}
@@ -18,6 +18,15 @@ pub record LeavesRest (s t : RegionState) (event : Event) : Type 0 where
   pub others : LeavesOthers s t event
   pub offers : (g : ℕ) (h : Holder) → ActsAlone event g → slice_get s.holders g ≡ Some h
       → (k : Holder) × (slice_get t.holders g ≡ Some k) × (k.offer ≡ h.offer)
+
+-- how many instructions were done, a meeting being one
+abbrev pub steps_after : ℕ → Event → ℕ
+steps_after n (Instruct pick) = n + 1
+steps_after n (Attend g) = n
+steps_after n (TakePage g) = n
+steps_after n (MakeOffer g) = n
+steps_after n (Acknowledge g) = n
+steps_after n (Finish limit) = n
 
 -- memory, print, owners and Global's pages stay
 pub record StaysElse (s t : RegionState) : Type 0 where
@@ -38,6 +47,7 @@ pub record HasStep
   pub rest : LeavesRest s state event
   pub regions_are : state.regions ≡ regions
   pub mark_is : state.mark ≡ mark
+  pub counted : state.steps ≡ steps_after s.steps event
 
 -- the same from here
 abbrev pub StepsTo : Here → Event → List RegionInfo → Option Mark → List Rec → Type 0
@@ -58,6 +68,7 @@ pub record HasInstruction
   pub regions : state.regions ≡ s.regions
   pub global_pages : state.global_pages ≡ s.global_pages
   pub mark : state.mark ≡ s.mark
+  pub counted : state.steps ≡ s.steps + 1
   pub fills : (h : Holder) → slice_get state.holders g ≡ Some h → h.fills ≡ given.0.fills
 
 -- the same of the instruction that comes next; `addresses` are those of the objects after it
