@@ -53,7 +53,7 @@ module _ (z : TableSizes) (words : List ℕ) (recs : List Rec) (x : Ground) (pla
       × (child ≡ h)). let q : fill_of [] r ≡ Some n = subst (λ (y : Held). fill_of y.fills r ≡ Some n) (sym t.1) f in absurd (cc q))
       (snoc_at x.held child h g e)
 
-  -- K22, of what is memory
+  -- a number, of what is memory
   pub born : Image z words more (record x { held = held }) places
   born = record {
     w = k.w;

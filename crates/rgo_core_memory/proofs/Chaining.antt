@@ -87,7 +87,7 @@ module _ (z : TableSizes) (words : List ℕ) (recs : List Rec) (x : Ground) (pla
       (λ (u : (m : ℕ) × (r < z.slots) × (places.uses r ≡ Living m)). let l = u.1 in omega arith)
       (stake_slot z words recs x places k steady g r st)
 
-  -- K5
+  -- a page is hung into its chain
   pub hung : (p r : ℕ) → c.claim ≡ Got p r
       → Image z (set words (head_at z r) (suc p)) (slice_set recs g (with_claim c (Hung p r (slice_index words (head_at z r))))) x
       (record places {
@@ -119,7 +119,7 @@ module _ (z : TableSizes) (words : List ℕ) (recs : List Rec) (x : Ground) (pla
         taken = taken_same recs g c d own z k.w.state k.w.count _ _ places.slot places.page k.taken refl refl;
       }
 
-  -- K6
+  -- the link to the next page
   pub linked : (p r o : ℕ) → c.claim ≡ Hung p r o → Image z (set words (next_at z p) o) (slice_set recs g (with_claim c Idle)) x places
   linked p r o before =
       let d : Rec = with_claim c Idle in
@@ -193,7 +193,7 @@ module _ (z : TableSizes) (words : List ℕ) (recs : List Rec) (x : Ground) (pla
   by_closes : (s : ℕ) (give : Give) → c.give ≡ give → Closes c.give s → Closes give s
   by_closes s give e q = subst (λ (y : Give). Closes y s) e q
 
-  -- K12
+  -- the load of a chain's head
   pub head_loaded : (r : ℕ) → c.give ≡ Owes r → Image z words (slice_set recs g (with_give c (Giving r (slice_index words (head_at z r))))) x places
   head_loaded r before =
       let closes = closes_by r (Owes r) before refl in
@@ -203,7 +203,7 @@ module _ (z : TableSizes) (words : List ℕ) (recs : List Rec) (x : Ground) (pla
       (loads_head k.w.state k.w.next k.w.head recs places.at places.chain places.link places.top k.pages g c (with_give c (Giving r n)) own refl r
       (alone r closes) before (ap (Giving r) found))
 
-  -- K13
+  -- the load of a page's next
   pub next_loaded : (r p : ℕ) → c.give ≡ Giving r (suc p)
       → Image z words (slice_set recs g (with_give c (Past r (suc p) (slice_index words (next_at z p))))) x places
   next_loaded r p before =
@@ -218,7 +218,7 @@ module _ (z : TableSizes) (words : List ℕ) (recs : List Rec) (x : Ground) (pla
       (suc p) n)) own refl r (alone r closes) p before (ap (Past r (suc p)) found)
       (unclaimed z words recs x places k steady g r p c own closes at))
 
-  -- K15
+  -- a chain's head is cleared
   pub head_cleared : (r : ℕ) → c.give ≡ Giving r 0 → Image z (set words (head_at z r) 0) (slice_set recs g (with_give c (Gave r))) x places
   head_cleared r before =
       let closes = closes_by r (Giving r 0) before refl in
@@ -228,7 +228,7 @@ module _ (z : TableSizes) (words : List ℕ) (recs : List Rec) (x : Ground) (pla
       (clears_head k.w.state k.w.next k.w.head recs places.at places.chain places.link places.top k.pages g c (with_give c (Gave r)) own refl r
       (alone r closes) before refl)
 
-  -- K14
+  -- a page is freed
   pub page_freed : (r p q : ℕ) → c.give ≡ Past r (suc p) q → Image z (set words (state_at z p) 0) (slice_set recs g (with_give c (Giving r q))) x
       (record places { at = put places.at p Free; chain = put places.chain r (drop 1 (places.chain r)); top = put places.top r q })
   page_freed r p q before =

@@ -90,7 +90,7 @@ module _ (states nexts heads : ℕ → ℕ) (recs : List Rec) (at : ℕ → Plac
     other_page : (q : ℕ) (z : Place) → at q ≡ z → Free ≢ z → q ≢ p
     other_page q z e n same = n (sym was_free ∙ (ap at (sym same) ∙ e))
 
-    -- K4, where it found 0
+    -- a claim, where it found 0
     pub claims : Pages (put states p (suc r)) nexts heads new at' chain link top
     claims = record {
       is_free = λ q e. dite (ℕ_discrete q p) (λ s. absurd (cc (put_here at p (Claimed g) q s, e))) (λ n. word_else states p q (suc r) n
@@ -201,7 +201,7 @@ module _ (states nexts heads : ℕ → ℕ) (recs : List Rec) (at : ℕ → Plac
         (λ n. let t = times_else q p (chain r) n in omega arith)))
         (λ n. rw (put_else chain r (p ∷ chain r) s n) (omega arith))
 
-    -- K5
+    -- a page is hung into its chain
     pub hangs : Pages states nexts (put heads r (suc p)) new at2 chain2 link2 top2
     hangs = record {
       is_free = λ q e. dite (ℕ_discrete q p) (λ s. absurd (cc (put_here at p (Chained r) q s, e))) (λ n. k.is_free q (sym (put_else at p
@@ -285,7 +285,7 @@ module _ (states nexts heads : ℕ → ℕ) (recs : List Rec) (at : ℕ → Plac
     other j x c e e' n s = let same : x ≡ h = same_Some x h (sym e ∙ (ap (λ (i : ℕ). slice_get recs i) s ∙ own)) in n (sym before
         ∙ (ap (λ (y : Rec). y.claim) (sym same) ∙ e'))
 
-    -- K6
+    -- the link to the next page
     pub stores_next : Pages states (put nexts p o) heads new at chain link top
     stores_next = record {
       is_free = k.is_free;
@@ -312,7 +312,7 @@ module _ (states nexts heads : ℕ → ℕ) (recs : List Rec) (at : ℕ → Plac
       gaves = gave_same;
     }
 
--- K14: the first page of the chain is given back
+-- a page is freed: the first page of the chain is given back
 module _ (states nexts heads : ℕ → ℕ) (recs : List Rec) (at : ℕ → Place) (chain : ℕ → List ℕ) (link top : ℕ
     → ℕ) (k : Pages states nexts heads recs at chain link top)
     (g : ℕ) (h d : Rec) (own : Has recs g h) (same_claim : d.claim ≡ h.claim)

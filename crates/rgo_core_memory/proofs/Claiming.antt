@@ -156,7 +156,7 @@ module _ (z : TableSizes) (words : List ℕ) (recs : List Rec) (x : Ground) (pla
         (sym same) taken_claimed);
   }
 
--- K4 that found 0
+-- a claim that found 0
 pub page_claimed : (z : TableSizes) (words : List ℕ) (recs : List Rec) (x : Ground) (places : Where) (k : Image z words recs x places) → Steady x
     → (g : ℕ) (c : Rec) → Has recs g c → (h : Held) → slice_get x.held g ≡ Some h → (r : Region) → Uses h r → (p : ℕ) → p < z.pages
     → slice_index words (state_at z p) ≡ 0 → c.claim ≡ Idle → c.make ≡ Rest

@@ -27,7 +27,7 @@ taken_count z states counts recs takes creations slot page r n some k = record {
 
 module _ (z : TableSizes) (words : List ℕ) (recs : List Rec) (x : Ground) (places : Where) (k : Image z words recs x places) where
   module _ (g : ℕ) (c : Rec) (own : Has recs g c) where
-    -- K16
+    -- a slot is freed
     pub slot_freed : (r : ℕ) → c.give ≡ Gave r
         → Image z (set words (count_at z r) 0) (slice_set recs g (with_give c Calm)) x (record places { uses = put places.uses r Vacant })
     slot_freed r before =

@@ -259,7 +259,7 @@ module _ (z : TableSizes) (words : List ℕ) (recs : List Rec) (x : Ground) (pla
     global = k.paged.global;
   }
 
-  -- K9
+  -- a creation
   pub one_created : Image z (set words (count_at z r) 2) recs (created x g h) (record places {
     slot = put places.slot
         (length x.regions) r;

@@ -313,7 +313,7 @@ set_twice [] i a b = refl
 set_twice (y ∷ l) zero a b = refl
 set_twice (y ∷ l) (suc i) a b = ap (λ m. y ∷ m) (set_twice l i a b)
 
--- the last K3
+-- the last opening store
 pub object_made : (z : TableSizes) (words : List ℕ) (recs : List Rec) (x : Ground) (places : Where) (k : Image z words recs x places) → Steady x
     → (g : ℕ) (c : Rec) → Has recs g c
     → (f : Fill) (object : Object) (stored : List ℕ) → Makes z c f object stored → (i : ℕ) → i < words_of object → Covers object (i ∷ stored)

@@ -94,7 +94,7 @@ module _ (states nexts heads : ℕ → ℕ) (recs : List Rec) (at : ℕ → Plac
       go [] q w = q
       go (x ∷ l) q w = absurd (let v = w.0 in omega arith)
 
-  -- K11 that found the last stake
+  -- a leave that found the last stake
   pub owes_now : (r : ℕ) → h.give ≡ Calm → d.give ≡ Owes r → Pages states nexts heads new at chain link top
   owes_now r before after = give_change heads
       (λ s. still s (λ c q. subst (λ (y : Give). Gives y s c) before q))
@@ -104,7 +104,7 @@ module _ (states nexts heads : ℕ → ℕ) (recs : List Rec) (at : ℕ → Plac
       (λ j s x e z. (k.gaves j s x e z).0)
 
   module _ (r : ℕ) (alone : (j : ℕ) (x : Rec) → Has recs j x → Closes x.give r → j ≡ g) where
-    -- K12
+    -- the load of a chain's head
     pub loads_head : h.give ≡ Owes r → d.give ≡ Giving r (heads r) → Pages states nexts heads new at chain link top
     loads_head before after = give_change heads
         (λ s. still s (λ c q. subst (λ (y : Give). Gives y s c) before q))
@@ -117,7 +117,7 @@ module _ (states nexts heads : ℕ → ℕ) (recs : List Rec) (at : ℕ → Plac
         is_head = ⊎_elim (λ u. u) (λ u. let s = alone u.0 u.1 u.2 (closes_of u.1.give r (top r) u.3) in absurd (subst (λ (y : Give). Gives y r
             (top r)) (ap (λ (y : Rec). y.give) (mine u.0 u.1 s u.2) ∙ before) u.3)) (k.tops r)
 
-    -- K13
+    -- the load of a page's next
     pub loads_next : (p : ℕ) → h.give ≡ Giving r (suc p) → d.give ≡ Past r (suc p) (nexts p) → ((j s o : ℕ) (x : Rec) → Has recs j x
         → x.claim ≡ Hung p s o → ⊥) → Pages states nexts heads new at chain link top
     loads_next p before after unclaimed = give_change heads
@@ -141,7 +141,7 @@ module _ (states nexts heads : ℕ → ℕ) (recs : List Rec) (at : ℕ → Plac
             let o = k.on r p (rw c.1 (let f = times_first p p c.0 refl in omega arith)) in
             ⊎_elim (λ u. sym u) (λ u. absurd (unclaimed u.0 r (link p) u.1 u.2 u.3)) (k.links p r o)
 
-    -- K15
+    -- a chain's head is cleared
     pub clears_head : h.give ≡ Giving r 0 → d.give ≡ Gave r → Pages states nexts (put heads r 0) new at chain link top
     clears_head before after = give_change (put heads r 0)
         (λ s. dite (ℕ_discrete s r)
@@ -157,7 +157,7 @@ module _ (states nexts heads : ℕ → ℕ) (recs : List Rec) (at : ℕ → Plac
         empty : top r ≡ 0
         empty = k.cursors g r 0 h own (rw before (refl, refl))
 
-    -- K14, from what the record knows
+    -- a page is freed, from what the record knows
     pub gives_back : (p q : ℕ) → h.give ≡ Past r (suc p) q → d.give ≡ Giving r q → ((j s o : ℕ) (x : Rec) → Has recs j x → x.claim ≡ Hung p s o → ⊥)
         → (ps : List ℕ) × (chain r ≡ p ∷ ps) × Pages (put states p 0) nexts heads new (put at p Free) (put chain r ps) link (put top r q)
     gives_back p q before after unclaimed =
@@ -169,7 +169,7 @@ module _ (states nexts heads : ℕ → ℕ) (recs : List Rec) (at : ℕ → Plac
               (k.pasts g r p q h own before) alone unclaimed,
         )
 
-  -- K16: nothing is left, and the head is 0
+  -- a slot is freed: nothing is left, and the head is 0
   pub freed : (r : ℕ) → h.give ≡ Gave r → d.give ≡ Calm → (heads r ≡ 0) × (chain r ≡ []) × Pages states nexts heads new at chain link top
   freed r before after =
       let z = k.gaves g r h own before in (

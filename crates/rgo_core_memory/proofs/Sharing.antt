@@ -84,7 +84,7 @@ module _ (z : TableSizes) (words : List ℕ) (recs : List Rec) (x : Ground) (pla
         (taken_count z k.w.state k.w.count more (taken_of x) (length x.regions) places.slot places.page s m
         (λ l. let t = k.counts.living s j slotted.0 slotted.1 in let q = t.4 in omega arith) t))
 
-  -- K10
+  -- a share
   pub one_shared : Image z (set words (count_at z s) (n + 1)) recs (shared x j) places
   one_shared = record {
     w = record k.w { count = put k.w.count s (n + 1) };
@@ -200,7 +200,7 @@ module _ (z : TableSizes) (words : List ℕ) (recs : List Rec) (x : Ground) (pla
           let a = k.own.amids g c f object stored own e in
           (e, subst (λ (l : List Fill). Within f l) (sym fills) (within_dropped s c.fills f a.0 (unmade f object stored e))))
 
-      -- K11, where others have a stake
+      -- a leave, where others have a stake
       pub other_left : d.give ≡ c.give → n ≢ 2 → Image z (set words (count_at z s) (n - 1)) recs2 (left x g h j) places
       other_left give more =
           let f = found in
@@ -229,7 +229,7 @@ module _ (z : TableSizes) (words : List ℕ) (recs : List Rec) (x : Ground) (pla
           one_less : (a m : ℕ) → 0 < m → a ≡ suc m → a - 1 ≡ suc (m - 1)
           one_less a m l e = omega arith
 
-      -- K11, where it was the last: the region goes, and its chain is to be given back
+      -- a leave, where it was the last: the region goes, and its chain is to be given back
       pub last_left : c.give ≡ Calm → d.give ≡ Owes s → n ≡ 2
           → Image z (set words (count_at z s) (n - 1)) recs2 (left x g h j) (record places { uses = put places.uses s (Closing g) })
       last_left calm give last =

@@ -26,7 +26,7 @@ module _ (z : TableSizes) (words : List ℕ) (recs : List Rec) (x : Ground) (pla
   abbrev code : Value → ℕ
   code = encode (address z places.spot)
 
-  -- K1: the word of a cell is its value
+  -- a load: the word of a cell is its value
   pub loads : (o i : ℕ) (object : Object) (r : Region) (v : Value) → Stands x.heap x.owners x.regions o object r
       → content object i ≡ Some v → slice_index words (cell_at z (spot o i).page (spot o i).offset) ≡ code v
   loads o i object r v s c =
@@ -104,7 +104,7 @@ module _ (z : TableSizes) (words : List ℕ) (recs : List Rec) (x : Ground) (pla
         (λ g j f w l. two_else k.w.cell page offset (code v) f.page (f.fill + j)
         (λ a b. let u = k.own.under g o i f object r w s small (sym a) in absurd (omega arith)))
 
-    -- K2
+    -- a store
     pub stores : Image z (set words (cell_at z page offset) (code v)) recs (stored x o after) places
     stores = record {
       w = record k.w { cell = cell };
@@ -122,7 +122,7 @@ module _ (z : TableSizes) (words : List ℕ) (recs : List Rec) (x : Ground) (pla
     inside : n < z.variables
     inside = (k.lies.variables n u there).0
 
-    -- K2 of a package variable
+    -- a store of a package variable
     pub assigns : Image z (set words (variable_at z n) (code v)) recs (assigned x n v) places
     assigns = record {
       w = record k.w { variable = put k.w.variable n (code v) };

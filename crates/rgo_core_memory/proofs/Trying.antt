@@ -35,7 +35,7 @@ module _ (z : TableSizes) (words : List ℕ) (recs : List Rec) (x : Ground) (pla
     taken = taken;
   }
 
-  -- K4 that found another number
+  -- a claim that found another number
   pub page_tried : (p : ℕ) → p < z.pages → slice_index words (state_at z p) ≢ 0 → Image z words (slice_set recs g (with_tried_page c p)) x places
   page_tried p small found = tried d refl refl refl refl (record {
     pages = λ q f. ⊎_elim (λ l. k.taken.pages q (inl l)) (λ u. was_tried q u) f;
@@ -61,7 +61,7 @@ module _ (z : TableSizes) (words : List ℕ) (recs : List Rec) (x : Ground) (pla
           (λ (t : (u.0 ≢ g) × Has recs u.0 u.1). k.taken.pages q (inr (u.0, u.1, t.1, u.3)))
           (was recs g c (with_tried_page c p) own u.0 u.1 u.2)
 
-  -- K9 that found another number
+  -- a creation that found another number
   pub slot_tried : (r : ℕ) → r < z.slots → slice_index words (count_at z r) ≢ 0 → Image z words (slice_set recs g (with_tried_slot c r)) x places
   slot_tried r small found = tried (with_tried_slot c r) refl refl refl refl (record {
     pages = λ q f. k.taken.pages q (⊎_elim (λ l. inl l) (λ u. inr (page_was q u)) f);

@@ -110,7 +110,7 @@ module _ (z : TableSizes) (words : List ℕ) (recs : List Rec) (x : Ground) (pla
               ∙ begun.1.laid n l (let t = times_else n i stored (λ y. ne (sym y)) in omega arith));
         }
 
-    -- K3 before the last
+    -- an opening store before the last
     pub word_stored : Image z (set words (cell_at z f.page (f.fill + i)) word) recs2 x places
     word_stored = record {
       w = record k.w { cell = cell };

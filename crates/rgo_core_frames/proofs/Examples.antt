@@ -1,0 +1,119 @@
+-- The examples, by computation.
+use Rattle.std.proofs.Common.{◌≡◌, ◌∙◌, ℕ, ℤ, zero, suc, List, [], ◌∷◌, Option, Some, None, refl, sym, ap, subst, arith, slice_get, get_or, true, true≢false, FitsSigned, if◌then◌else◌}
+use Rattle.std.proofs.lemmas.Option.{same_Some}
+use Rattle.std.specs.Int.{w64}
+use Rattle.rgo_typed.specs.declared.actions.Action.TheVariants as action
+use Rattle.rgo_code.specs.Code.{CodeFn, CodeInstr, Do}
+use Rattle.rgo_sound.proofs.Tests.{ne_of}
+use Rattle.rgo_region_machine.specs.declared.regions.Region.TheVariants.{Numbered}
+use Rattle.rgo_region_machine.specs.Examples.{int_slot, main_of, plain}
+use Rattle.rgo_region_machine.specs.Regions.{bound, is_live}
+use Rattle.rgo_core_frames.specs.Examples.{FrameExamples, LocalExamples, RecordExamples, WordExamples, one_constant, small_table, two_owners, two_regions}
+use Rattle.rgo_core_frames.specs.Fits.{IsOfLive}
+use Rattle.rgo_core_frames.specs.LocalLaws.{ConstantsFit}
+
+words : WordExamples
+words = record {
+  an_int = (omega arith, refl);
+  other_int = λ e. let q = e.1 in cc;
+  truth = refl;
+  falsehood = λ e. let q : 0 ≡ 1 = e in cc;
+  object = (9, refl, refl);
+  address = λ e. let q : Some 9 ≡ Some e.0 = e.1 in let r = e.2 in cc;
+  unmade = λ w e. let q = e.1 in cc;
+  all = (refl, (refl, tt));
+  fewer = λ e. e;
+  adds = refl;
+  subtracts = refl;
+  traps = refl;
+  touches = refl;
+  prints = refl;
+  prints_none = refl;
+}
+
+-- ---- frames and what is held
+
+live_at : (r : ℕ) → is_live (two_regions 0) (Numbered r) ≡ true → r ≡ 0
+live_at zero e = refl
+live_at (suc zero) e = cc
+live_at (suc (suc r)) e = cc
+
+of_live : (o : ℕ) → IsOfLive (two_regions 0) two_owners o → o ≡ 0
+of_live zero x = refl
+of_live (suc zero) (r, e, l) =
+    absurd (true≢false (sym l ∙ ap (is_live (two_regions 0)) (sym (same_Some (Numbered 1) r e))))
+of_live (suc (suc o)) (r, e, l) = cc
+
+in_table : (k : ℕ) → bound ((1, Numbered 5) ∷ []) k ≡ get_or small_table k None
+in_table zero = refl
+in_table (suc zero) = refl
+in_table (suc (suc k)) =
+    ap (λ t. if t then Some (Numbered 5) else None) (ne_of 1 (suc (suc k)) (λ e. absurd (omega (arith, e))))
+
+records : RecordExamples
+records = record {
+  reads = refl;
+  goes = refl;
+  alike = record { function = refl; next = refl; as_many = refl };
+  elsewhere = λ a. let n : 4 ≡ 5 = a.next in absurd (omega (arith, n));
+  callers = λ code f. f;
+  slots = refl;
+  offers = refl;
+  one_slot = λ d. let n : 0 ≡ 1 = d 0 1 refl refl refl in absurd (omega (arith, n));
+  slot_again = λ r q a b e. live_at r a ∙ sym (live_at q b);
+  one_address = λ d.
+      let n : 0 ≡ 1 = d 0 1 9 (Numbered 0, refl, refl) (Numbered 1, refl, refl) refl refl in absurd (omega (arith, n));
+  address_again = λ o p a x y e f. of_live o x ∙ sym (of_live p y);
+  missing = λ code slot_of a. let n : 0 ≡ 1 = a.as_many in absurd (omega (arith, n));
+  ends = refl;
+  spares = refl;
+  spared = refl;
+  not_spared = refl;
+  shares = refl;
+  exits = refl;
+  owes = refl;
+  returns = refl;
+  counts = refl;
+  counts_none = refl;
+  stack = refl;
+  table = in_table;
+  other_table = λ t. let n : Some (Numbered 5) ≡ None = t 1 in cc;
+  gives = λ code. record { new = refl; old = λ r l. absurd (omega (arith, l)) };
+  keeps = λ code g. let n : 2 ≡ 3 = g.new in absurd (omega (arith, n));
+}
+
+-- ---- local steps
+
+same_constant : (k j : ℤ) (to : Option ℕ) (from removes : List ℕ)
+    → Do (Some 0) (action.Int k) [] [] ≡ Do to (action.Int j) from removes → k ≡ j
+same_constant k j to from removes e = cc
+
+module _ (k : ℤ) (fits : FitsSigned w64 k) where
+  abbrev its_body : List CodeInstr
+  its_body = plain (Do (Some 0) (action.Int k) [] []) ∷ []
+
+  one_fits : (instr : CodeInstr) (to : Option ℕ) (j : ℤ) (from removes : List ℕ)
+      → instr.op ≡ Do to (action.Int j) from removes → (i : ℕ) → slice_get its_body i ≡ Some instr → FitsSigned w64 j
+  one_fits instr to j from removes c zero e =
+      subst (FitsSigned w64) (same_constant k j to from removes
+      (ap (λ (x : CodeInstr). x.op) (same_Some (plain (Do (Some 0) (action.Int k) [] [])) instr e) ∙ c)) fits
+  one_fits instr to j from removes c (suc i) e = cc
+
+  constants_fit : ConstantsFit (one_constant k)
+  constants_fit zero i fn instr to j from removes a b c =
+      one_fits instr to j from removes c i
+      (ap (λ (f : CodeFn). slice_get f.body i) (same_Some (main_of (int_slot ∷ []) its_body) fn a) ∙ b)
+  constants_fit (suc n) i fn instr to j from removes a b c = cc
+
+steps : LocalExamples
+steps = record {
+  begins = refl;
+  computes = refl;
+  waits = refl;
+  constants = constants_fit;
+  unfit = λ k n fit. n (fit 0 0 (main_of (int_slot ∷ []) (plain (Do (Some 0) (action.Int k) [] []) ∷ []))
+      (plain (Do (Some 0) (action.Int k) [] [])) (Some 0) k [] [] refl refl refl);
+}
+
+pub examples : FrameExamples
+examples = record { words = words; records = records; steps = steps }

@@ -1,0 +1,5 @@
+use Rattle.rgo_core_frames.proofs.Sending.{sent_law}
+use Rattle.rgo_core_frames.proofs.laws.sent_law.Goals as goal
+
+pub returns : goal.returns
+returns c = sent_law

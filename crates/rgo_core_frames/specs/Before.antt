@@ -1,0 +1,43 @@
+-- A goroutine before an instruction, and what its record says of it.
+use Rattle.rgo_code.specs.Code.{Code, CodeInstr}
+use Rattle.rgo_code.specs.Erasure.{erased_op}
+use Rattle.rgo_memory.specs.declared.values.Value.TheVariants as value
+use Rattle.rgo_region_machine.specs.Duties.{may_go}
+use Rattle.rgo_region_machine.specs.Owed.{current}
+use Rattle.rgo_region_machine.specs.States.{Holder, RegionState}
+use Rattle.rgo_region_machine.specs.declared.regions.Region.{Region}
+use Rattle.rgo_sound.specs.NextNames.{HasStake}
+use Rattle.rgo_sound.specs.Types.{FramesHaveKinds, MemoryFits}
+use Rattle.rgo_tac.specs.Flow.{reads}
+use Rattle.rgo_tac.specs.Frames.{Frame, value_at}
+use Rattle.rgo_typed.specs.declared.types.Type.{«Type»}
+use Rattle.std.specs.Prelude.{Contains, List, Some, [], slice_get, true, ℕ, ◌∷◌, ◌≡◌}
+use Rattle.rgo_core_frames.specs.Records.{Rec}
+use Rattle.rgo_core_frames.specs.Shown.{CallersShow, NewestShows}
+use Rattle.rgo_core_frames.specs.Slots.{slotted}
+use Rattle.rgo_core_frames.specs.WordFrames.{WordFrame, word_at}
+use Rattle.rgo_core_frames.specs.Words.{Shows}
+
+-- Goroutine g is before this instruction, owes nothing and has nothing to acknowledge; c is its record. What it reads is shown, has
+-- its type, and points into regions in which it has a stake.
+pub record IsBefore
+    (code : Code) (slot_of : ℕ → ℕ) (addresses : List ℕ) (s : RegionState) (g : ℕ) (c : Rec) (w : WordFrame)
+    (ws : List WordFrame) (instr : CodeInstr) : Type 0 where
+  pub frame : Frame
+  pub callers : List Frame
+  pub h : Holder
+  pub at : slice_get s.plain.goroutines g ≡ Some (frame ∷ callers)
+  pub there : slice_get s.holders g ≡ Some h
+  pub cur : current code frame ≡ Some instr
+  pub none : h.duties ≡ []
+  pub free : may_go h.offer ≡ true
+  pub frames_are : c.frames ≡ w ∷ ws
+  pub newest : NewestShows code addresses frame w
+  pub waiting : CallersShow code addresses callers ws
+  pub holder : c.holder ≡ slotted slot_of h
+  pub shown : (v : ℕ) → Contains (reads (erased_op instr.op)) v → Shows addresses (value_at frame v) (word_at w v)
+  pub staked : (v o : ℕ) → Contains (reads (erased_op instr.op)) v → value_at frame v ≡ value.Object o
+      → (r : Region) × (slice_get s.owners o ≡ Some r) × HasStake s h r
+  pub kinds : List «Type»
+  pub memory : MemoryFits code kinds s.plain.memory
+  pub typed : FramesHaveKinds code kinds (frame ∷ callers)

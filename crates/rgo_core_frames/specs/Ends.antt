@@ -1,0 +1,35 @@
+-- Ends of a run but for the return of `main`, which is a local step: a trap, and an end that is no instruction's. The records fit
+-- after each.
+use Rattle.rgo_code.specs.Code.{Do}
+use Rattle.rgo_code.specs.Erasure.{erased}
+use Rattle.rgo_machine.specs.declared.picks.End.TheVariants.{Trap as TrapEnd}
+use Rattle.rgo_machine.specs.declared.picks.Pick.TheVariants.{One}
+use Rattle.rgo_memory.specs.Effects.{Traps}
+use Rattle.rgo_memory.specs.declared.traps.Trap.{Trap}
+use Rattle.rgo_region_machine.specs.Instructions.{marked}
+use Rattle.rgo_region_machine.specs.Machine.{Finish, Instruct, finished}
+use Rattle.rgo_region_machine.specs.declared.limits.Limit.{Limit}
+use Rattle.rgo_sound.proofs.Acting.{performed, trap_place}
+use Rattle.rgo_tac.specs.Frames.{values_of}
+use Rattle.rgo_tac.specs.Steps.{type_of}
+use Rattle.rgo_typed.specs.declared.actions.Action.{Action}
+use Rattle.std.specs.Prelude.{List, Option, Some, ℕ, ◌≡◌}
+use Rattle.rgo_core_frames.specs.States.{AtInstruction, Here}
+use Rattle.rgo_core_frames.specs.Steps.{StepsTo}
+
+-- a trap: the record stays
+abbrev pub TrapLaw : Type 0
+TrapLaw =
+    (x : AtInstruction) (to : Option ℕ) (action : Action) (from removes : List ℕ) (trap : Trap)
+    → x.instr.op ≡ Do to action from removes
+    → performed x.here.code.structs action (type_of (erased x.here.code) x.before.frame to)
+    (values_of x.before.frame from) x.here.s.plain.memory
+    ≡ Some (Traps trap)
+    → StepsTo x.here (Instruct (One x.here.g)) x.here.s.regions
+    (marked x.here.s.mark (Some (TrapEnd trap (trap_place action x.instr.place)))) x.here.records
+
+-- an end that is no instruction's
+abbrev pub FinishLaw : Type 0
+FinishLaw =
+    (x : Here) (limit : Limit)
+    → StepsTo x (Finish limit) x.s.regions (finished x.s limit).mark x.records

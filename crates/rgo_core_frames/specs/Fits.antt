@@ -1,0 +1,74 @@
+-- How records stand for the goroutines of the region machine.
+use Rattle.rgo_code.specs.Code.{Code, CodeInstr, Do}
+use Rattle.rgo_memory.specs.declared.values.Value.TheVariants.{Nil}
+use Rattle.rgo_region_machine.specs.Duties.{may_go}
+use Rattle.rgo_region_machine.specs.Instructions.{holder_after}
+use Rattle.rgo_region_machine.specs.Owed.{current}
+use Rattle.rgo_region_machine.specs.Regions.{RegionInfo, is_live}
+use Rattle.rgo_region_machine.specs.States.{Holder, RegionState, Standing, Taken}
+use Rattle.rgo_region_machine.specs.declared.regions.Region.TheVariants.{Numbered}
+use Rattle.rgo_region_machine.specs.declared.regions.Region.{Region}
+use Rattle.rgo_tac.specs.Frames.{Frame, going}
+use Rattle.rgo_typed.specs.declared.actions.Action.TheVariants.{Send}
+use Rattle.std.specs.Prelude.{List, Option, Some, [], length, slice_get, true, ℕ, ◌∷◌, ◌≡◌, ◌⊎◌}
+use Rattle.rgo_core_frames.specs.Records.{Rec}
+use Rattle.rgo_core_frames.specs.Shown.{FramesShow}
+use Rattle.rgo_core_frames.specs.Slots.{slotted}
+
+-- a goroutine of these frames, which has nothing to acknowledge, and its record
+pub record IsShown
+    (code : Code) (slot_of : ℕ → ℕ) (addresses : List ℕ) (frames : List Frame) (h : Holder) (c : Rec) : Type 0 where
+  pub calm : may_go h.offer ≡ true
+  pub shown : FramesShow code addresses frames c.frames
+  pub holder : c.holder ≡ slotted slot_of h
+
+-- a goroutine whose offer was taken is past its send; its record is still before it
+pub record IsPast
+    (code : Code) (slot_of : ℕ → ℕ) (addresses : List ℕ) (frames : List Frame) (h : Holder) (c : Rec) : Type 0 where
+  pub frame : Frame
+  pub callers : List Frame
+  pub before : Holder
+  pub instr : CodeInstr
+  pub at : current code frame ≡ Some instr
+  pub to : Option ℕ
+  pub channel : ℕ
+  pub sent : ℕ
+  pub removes : List ℕ
+  pub is : instr.op ≡ Do to Send (channel ∷ sent ∷ []) removes
+  pub offer : ℕ
+  pub owes_nothing : before.duties ≡ []
+  pub stood : before.offer ≡ Standing offer
+  pub frames_are : frames ≡ going frame to Nil ∷ callers
+  pub holder_is : h ≡ record (holder_after code before frame callers instr.op frames) { offer = Taken offer }
+  pub shown : IsShown code slot_of addresses (frame ∷ callers) before c
+
+-- the record c stands for goroutine g
+pub record Fits (code : Code) (slot_of : ℕ → ℕ) (addresses : List ℕ) (s : RegionState) (g : ℕ) (c : Rec) : Type 0 where
+  pub frames : List Frame
+  pub at : slice_get s.plain.goroutines g ≡ Some frames
+  pub h : Holder
+  pub there : slice_get s.holders g ≡ Some h
+  pub fits : IsShown code slot_of addresses frames h c ⊎ IsPast code slot_of addresses frames h c
+
+-- two live regions have two slots
+abbrev pub SlotsDiffer : (slot_of : ℕ → ℕ) → List RegionInfo → Type 0
+SlotsDiffer slot_of regions =
+    (r q : ℕ) → is_live regions (Numbered r) ≡ true → is_live regions (Numbered q) ≡ true → slot_of r ≡ slot_of q → r ≡ q
+
+-- an object whose region is live
+abbrev pub IsOfLive : List RegionInfo → (owners : List Region) → ℕ → Type 0
+IsOfLive regions owners o = (r : Region) × (slice_get owners o ≡ Some r) × (is_live regions r ≡ true)
+
+-- two of them have two addresses; that of an object whose region is gone may be another's
+abbrev pub ObjectsDiffer : (addresses : List ℕ) → List RegionInfo → (owners : List Region) → Type 0
+ObjectsDiffer addresses regions owners =
+    (o p a : ℕ) → IsOfLive regions owners o → IsOfLive regions owners p → slice_get addresses o ≡ Some a
+    → slice_get addresses p ≡ Some a → o ≡ p
+
+-- the records stand for the goroutines of the state
+pub record AllFit (code : Code) (slot_of : ℕ → ℕ) (addresses : List ℕ) (s : RegionState) (records : List Rec) : Type 0 where
+  pub as_many : length records ≡ length s.holders
+  pub each : (g : ℕ) (c : Rec) → slice_get records g ≡ Some c → Fits code slot_of addresses s g c
+  pub laid : length addresses ≡ length s.plain.memory.heap
+  pub slots_differ : SlotsDiffer slot_of s.regions
+  pub addresses_differ : ObjectsDiffer addresses s.regions s.owners

@@ -1,0 +1,56 @@
+-- Local steps of a record are steps of the region machine.
+use Rattle.rgo_code.specs.Code.{Code, CodeFn, CodeInstr, Do}
+use Rattle.rgo_machine.specs.declared.picks.End.TheVariants.{Exit}
+use Rattle.rgo_machine.specs.declared.picks.End.{End}
+use Rattle.rgo_machine.specs.declared.picks.Pick.TheVariants.{One}
+use Rattle.rgo_region_machine.specs.Instructions.{marked}
+use Rattle.rgo_region_machine.specs.Machine.{Attend, Event, Instruct}
+use Rattle.rgo_region_machine.specs.States.{Duty}
+use Rattle.rgo_typed.specs.declared.actions.Action.TheVariants as action
+use Rattle.std.specs.Int.{w64}
+use Rattle.std.specs.Prelude.{FitsSigned, List, None, Option, Some, [], slice_get, slice_set, suc, zero, ℕ, ℤ, ◌∷◌, ◌≡◌}
+use Rattle.rgo_core_frames.specs.Local.{local}
+use Rattle.rgo_core_frames.specs.Records.{Rec}
+use Rattle.rgo_core_frames.specs.States.{Here}
+use Rattle.rgo_core_frames.specs.Steps.{StepsTo}
+use Rattle.rgo_core_frames.specs.WordFrames.{WordFrame}
+
+-- each constant is one of 64 bits
+abbrev pub ConstantsFit : Code → Type 0
+ConstantsFit code =
+    (n i : ℕ) (fn : CodeFn) (instr : CodeInstr) (to : Option ℕ) (k : ℤ) (from removes : List ℕ)
+    → slice_get code.functions n ≡ Some fn → slice_get fn.body i ≡ Some instr
+    → instr.op ≡ Do to (action.Int k) from removes → FitsSigned w64 k
+
+-- the event of a goroutine's next local step
+abbrev pub event_by : ℕ → List Duty → Event
+event_by g [] = Instruct (One g)
+event_by g (d ∷ ds) = Attend g
+
+abbrev pub event_of : ℕ → Rec → Event
+event_of g c = event_by g c.holder.duties
+
+-- the end that it marks, by what was owed and the frames after it: `main` returns
+abbrev pub end_by_frames : ℕ → List Duty → List WordFrame → Option End
+end_by_frames zero [] [] = Some Exit
+end_by_frames zero [] (w ∷ ws) = None
+end_by_frames zero (d ∷ ds) ws = None
+end_by_frames (suc g) ds ws = None
+
+abbrev pub end_of : ℕ → (before after : Rec) → Option End
+end_of g c d = end_by_frames g c.holder.duties d.frames
+
+-- a local step of a record is a step of the region machine, after which the records fit again
+abbrev pub LocalLaw : Type 0
+LocalLaw =
+    (x : Here) (d : Rec) → ConstantsFit x.code → local x.code x.c ≡ Some d
+    → StepsTo x (event_of x.g x.c) x.s.regions (marked x.s.mark (end_of x.g x.c d)) (slice_set x.records x.g d)
+
+-- it keeps the stakes, those that are pending, and the offer
+pub record KeepsStakes (c d : Rec) : Type 0 where
+  pub stakes : d.holder.stakes ≡ c.holder.stakes
+  pub pending : d.holder.pending ≡ c.holder.pending
+  pub offer : d.holder.offer ≡ c.holder.offer
+
+abbrev pub StakesStay : Type 0
+StakesStay = (code : Code) (c d : Rec) → local code c ≡ Some d → KeepsStakes c d

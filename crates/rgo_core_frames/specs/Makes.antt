@@ -1,0 +1,23 @@
+-- In which region the next instruction makes an object, told by the record.
+use Rattle.std.specs.Prelude.{Some, true, ◌≡◌}
+use Rattle.rgo_region_machine.specs.Objects.{making_region}
+use Rattle.rgo_region_machine.specs.Owed.{function_at, function_of}
+use Rattle.rgo_region_machine.specs.Regions.{is_live}
+use Rattle.rgo_region_machine.specs.States.{top_names}
+use Rattle.rgo_region_machine.specs.declared.regions.Region.{Region}
+use Rattle.rgo_core_frames.specs.Slots.{slot}
+use Rattle.rgo_core_frames.specs.States.{AtInstruction}
+
+-- the region of this slot, which is live, or Global
+pub record MakesAt (x : AtInstruction) (by_slot : Region) : Type 0 where
+  pub region : Region
+  pub slot_is : slot x.here.slot_of region ≡ by_slot
+  pub makes : making_region (function_at x.here.code x.before.frame) (top_names x.before.h.environments) x.instr.op
+      ≡ Some region
+  pub live : is_live x.here.s.regions region ≡ true
+
+abbrev pub RegionLaw : Type 0
+RegionLaw =
+    (x : AtInstruction) (by_slot : Region)
+    → making_region (function_of x.here.code x.w.function) (top_names x.here.c.holder.environments) x.instr.op
+    ≡ Some by_slot → MakesAt x by_slot

@@ -1,0 +1,30 @@
+-- The record with which a run begins: `main` before its first instruction.
+use Rattle.rgo_code.specs.Code.{Code, CodeFn}
+use Rattle.rgo_code.specs.Erasure.{erased, erased_fn}
+use Rattle.rgo_region_machine.specs.Machine.{main_holder, region_start}
+use Rattle.rgo_tac.specs.Frames.{called}
+use Rattle.rgo_tac.specs.Tac.{main_frames}
+use Rattle.rgo_region_machine.specs.States.{NoOffer}
+use Rattle.std.specs.Prelude.{[], ℕ, ◌∷◌, ◌≡◌}
+use Rattle.rgo_core_frames.specs.Fits.{AllFit}
+use Rattle.rgo_core_frames.specs.Records.{Rec}
+use Rattle.rgo_core_frames.specs.WordFrames.{bare_all, word_called}
+
+abbrev pub main_record : Code → ℕ → CodeFn → Rec
+main_record code n main = record {
+  frames = word_called main n [] ∷ [];
+  holder = main_holder code (bare_all (word_called main n [] ∷ []));
+}
+
+-- a record without frames, which has no part in any region
+abbrev pub no_record : Rec
+no_record = record {
+  frames = [];
+  holder = record { stakes = []; pending = []; environments = []; base = []; fills = []; duties = []; offer = NoOffer };
+}
+
+abbrev pub OpeningLaw : Type 0
+OpeningLaw =
+    (code : Code) (slot_of : ℕ → ℕ) (n : ℕ) (main : CodeFn)
+    → main_frames (erased code).functions 0 ≡ called (erased_fn main) n [] ∷ []
+    → AllFit code slot_of [] (region_start code) (main_record code n main ∷ [])

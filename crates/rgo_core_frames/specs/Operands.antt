@@ -1,0 +1,48 @@
+-- What the words of operands say: which int they are, and which object they point to.
+use Rattle.rgo_code.specs.Code.{CodeFn}
+use Rattle.rgo_code.specs.Erasure.{erased_fn, erased_op}
+use Rattle.rgo_code.specs.Types.{HasType}
+use Rattle.rgo_memory.specs.declared.values.Value.TheVariants as value
+use Rattle.rgo_memory.specs.declared.values.Value.{Value}
+use Rattle.rgo_region_machine.specs.Owed.{function_of}
+use Rattle.rgo_region_machine.specs.States.{Holder, RegionState}
+use Rattle.rgo_region_machine.specs.declared.regions.Region.{Region}
+use Rattle.rgo_sound.specs.NextNames.{HasStake}
+use Rattle.rgo_tac.specs.Flow.{reads}
+use Rattle.rgo_tac.specs.Frames.{value_at}
+use Rattle.rgo_typed.specs.Types.{is_pointer_like}
+use Rattle.rgo_typed.specs.declared.types.Type.{«Type»}
+use Rattle.rgo_wellformed.specs.TypeRules.{int}
+use Rattle.std.specs.Int.{cast_signed, w64}
+use Rattle.std.specs.Prelude.{Contains, List, Some, slice_get, suc, true, ℕ, ◌≡◌}
+use Rattle.rgo_core_frames.specs.States.{AtInstruction}
+use Rattle.rgo_core_frames.specs.WordFrames.{word_at}
+
+-- a variable of this type that the instruction reads
+pub record IsOperand (x : AtInstruction) (v : ℕ) (ty : «Type») : Type 0 where
+  pub fn : CodeFn
+  pub is_fn : function_of x.here.code x.w.function ≡ Some fn
+  pub read : Contains (reads (erased_op x.instr.op)) v
+  pub typed : HasType (erased_fn fn) v ty
+
+abbrev pub IntLaw : Type 0
+IntLaw =
+    (x : AtInstruction) (v : ℕ) → IsOperand x v int
+    → value_at x.before.frame v ≡ value.Int (cast_signed w64 (word_at x.w v))
+
+-- the object at an address, in a region in which the goroutine has a stake
+pub record PointsTo (addresses : List ℕ) (s : RegionState) (h : Holder) (v : Value) (a : ℕ) : Type 0 where
+  pub object : ℕ
+  pub is : v ≡ value.Object object
+  pub at : slice_get addresses object ≡ Some a
+  pub region : Region
+  pub owner : slice_get s.owners object ≡ Some region
+  pub staked : HasStake s h region
+
+-- a pointer, slice or channel: nil, or an object in a region in which the goroutine has a stake
+abbrev pub PointerLaw : Type 0
+PointerLaw =
+    (x : AtInstruction) (v : ℕ) (ty : «Type») → IsOperand x v ty → is_pointer_like ty ≡ true
+    → (word_at x.w v ≡ 0 → value_at x.before.frame v ≡ value.Nil)
+    × ((a : ℕ) → word_at x.w v ≡ suc a
+    → PointsTo x.here.addresses x.here.s x.before.h (value_at x.before.frame v) a)

@@ -1,0 +1,40 @@
+-- A print: its bytes from the words and the static types of its operands.
+use Rattle.rgo_code.specs.Code.{CodeFn, Print, Slot}
+use Rattle.rgo_machine.specs.Lines.{line_of}
+use Rattle.rgo_memory.specs.declared.values.Value.TheVariants as value
+use Rattle.rgo_memory.specs.declared.values.Value.{Value}
+use Rattle.rgo_region_machine.specs.Owed.{function_of}
+use Rattle.rgo_typed.specs.declared.statements.Piece.{Piece}
+use Rattle.rgo_typed.specs.declared.types.Base.TheVariants as base
+use Rattle.rgo_typed.specs.declared.types.Layer.{Layer}
+use Rattle.std.specs.Int.{cast_signed, w64}
+use Rattle.std.specs.Prelude.{List, None, Option, Some, [], map, slice_get, slice_set, ℕ, ◌+◌, ◌∷◌, ◌≡◌}
+use Rattle.rgo_core_frames.specs.Records.{Rec, after_op}
+use Rattle.rgo_typed.specs.declared.types.Base.{Base}
+use Rattle.rgo_core_frames.specs.States.{AtInstruction}
+use Rattle.rgo_core_frames.specs.Steps.{Performs}
+use Rattle.rgo_core_frames.specs.WordFrames.{WordFrame, is_set, word_at, word_moved}
+
+-- the value of an int or a bool that a word shows, by its type
+abbrev pub typed_in : List Layer → Base → ℕ → Value
+typed_in [] base.Int word = value.Int (cast_signed w64 word)
+typed_in [] base.Bool word = value.Bool (is_set word)
+typed_in _ _ word = value.Nil
+
+abbrev pub typed_value : Option Slot → ℕ → Value
+typed_value None word = value.Nil
+typed_value (Some slot) word = typed_in slot.ty.layers slot.ty.base word
+
+abbrev pub printed_values : CodeFn → WordFrame → List ℕ → List Value
+printed_values fn w from = map (λ v. typed_value (slice_get fn.variables v) (word_at w v)) from
+
+-- the record before the next instruction
+abbrev pub gone_on : AtInstruction → Rec
+gone_on x = after_op x.here.code x.here.c.holder x.w x.ws x.instr.op (word_moved x.w (x.w.next + 1) ∷ x.ws)
+
+abbrev pub PrintLaw : Type 0
+PrintLaw =
+    (x : AtInstruction) (fn : CodeFn) (pieces : List Piece) (from removes : List ℕ)
+    → x.instr.op ≡ Print pieces from removes → function_of x.here.code x.w.function ≡ Some fn
+    → Performs x x.here.addresses x.here.s.plain.memory (line_of pieces (printed_values fn x.w from)) (x.before.h, [])
+    (slice_set x.here.records x.here.g (gone_on x))

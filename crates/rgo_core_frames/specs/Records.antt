@@ -1,0 +1,18 @@
+-- The record of a goroutine: its frames in words, and what it has of the regions by their slots.
+use Rattle.rgo_code.specs.Code.{Code, CodeOp}
+use Rattle.rgo_region_machine.specs.Instructions.{holder_after}
+use Rattle.rgo_region_machine.specs.States.{Holder}
+use Rattle.std.specs.Prelude.{List}
+use Rattle.rgo_core_frames.specs.WordFrames.{WordFrame, bare, bare_all}
+
+-- words in place of values, and slots in place of regions
+pub record Rec : Type 0 where
+  pub frames : List WordFrame
+  pub holder : Holder
+
+-- the record after an instruction that leaves these frames: what is owed and known of regions is as in the region machine
+abbrev pub after_op : Code → Holder → WordFrame → List WordFrame → CodeOp → (next : List WordFrame) → Rec
+after_op code h f callers op next = record {
+  frames = next;
+  holder = holder_after code h (bare f) (bare_all callers) op (bare_all next);
+}

@@ -1,0 +1,53 @@
+-- What a goroutine has of the regions, by the slots of these regions in place of their numbers.
+use Rattle.rgo_region_machine.specs.Regions.{Bindings}
+use Rattle.rgo_region_machine.specs.States.{Create, Duty, EndBase, Environment, Holder, NoOffer, Offer, Protect, Remove, Share, Standing, Taken, Unprotect}
+use Rattle.rgo_region_machine.specs.declared.regions.Region.TheVariants.{Global as GlobalRegion, Numbered}
+use Rattle.rgo_region_machine.specs.declared.regions.Region.{Region}
+use Rattle.std.specs.Prelude.{List, [], map, ℕ}
+
+-- `slot_of` has the slot of each region
+module _ (slot_of : ℕ → ℕ) where
+  abbrev pub slot : Region → Region
+  slot GlobalRegion = GlobalRegion
+  slot (Numbered r) = Numbered (slot_of r)
+
+  abbrev pub slot_of_name : ℕ × Region → ℕ × Region
+  slot_of_name b = (b.0, slot b.1)
+
+  abbrev pub slot_names : Bindings → Bindings
+  slot_names names = map slot_of_name names
+
+  abbrev pub slot_environment : Environment → Environment
+  slot_environment e = record { lent = e.lent; names = slot_names e.names; protections = map slot e.protections }
+
+  abbrev pub slot_environments : List Environment → List Environment
+  slot_environments es = map slot_environment es
+
+  abbrev pub slot_duty : Duty → Duty
+  slot_duty (Create k) = Create k
+  slot_duty (Share k) = Share k
+  slot_duty (Protect k) = Protect k
+  slot_duty (Unprotect k) = Unprotect k
+  slot_duty (Remove k) = Remove k
+  slot_duty (EndBase r) = EndBase (slot r)
+
+  abbrev pub slot_duties : List Duty → List Duty
+  slot_duties ds = map slot_duty ds
+
+-- that there is an offer; its channel is a matter of the channels' words
+abbrev pub nameless : Offer → Offer
+nameless NoOffer = NoOffer
+nameless (Standing o) = Standing 0
+nameless (Taken o) = Taken 0
+
+-- the own pages are not said here: a record has more of them than their fills
+abbrev pub slotted : (slot_of : ℕ → ℕ) → Holder → Holder
+slotted slot_of h = record {
+  stakes = map slot_of h.stakes;
+  pending = map slot_of h.pending;
+  environments = slot_environments slot_of h.environments;
+  base = map (slot slot_of) h.base;
+  fills = [];
+  duties = slot_duties slot_of h.duties;
+  offer = nameless h.offer;
+}

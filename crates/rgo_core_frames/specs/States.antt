@@ -1,0 +1,51 @@
+-- States of runs of checked code, as the laws want them; and one record among those that stand for such a state.
+use Rattle.rgo_code.specs.Checked.{IsChecked}
+use Rattle.rgo_code.specs.Code.{Code, CodeInstr}
+use Rattle.rgo_code.specs.NameRules.{Ascends}
+use Rattle.rgo_region_machine.specs.Machine.{Event, region_start, region_step}
+use Rattle.rgo_region_machine.specs.States.{RegionState}
+use Rattle.rgo_sound.specs.Good.{AllGood}
+use Rattle.rgo_sound.specs.Owners.{OwnersMade}
+use Rattle.rgo_sound.specs.Running.{IsRunning}
+use Rattle.std.specs.Prelude.{List, Some, slice_get, ℕ, ◌≡◌}
+use Rattle.rgo_core_frames.specs.Before.{IsBefore}
+use Rattle.rgo_core_frames.specs.Fits.{AllFit}
+use Rattle.rgo_core_frames.specs.Records.{Rec}
+use Rattle.rgo_core_frames.specs.WordFrames.{WordFrame}
+
+-- what each state of a run of checked code has
+pub record IsSound (code : Code) (s : RegionState) : Type 0 where
+  pub checked : IsChecked code
+  pub written : Ascends code
+  pub good : AllGood code s
+  pub running : IsRunning s
+  pub made : OwnersMade s
+
+-- it is so at the start, and each step keeps it
+pub record SoundStays : Type 0 where
+  pub start : (code : Code) → IsChecked code → Ascends code → IsSound code (region_start code)
+  pub step : (code : Code) (page_words : ℕ) (s t : RegionState) (event : Event) → IsSound code s
+      → region_step code page_words s event ≡ Some t → IsSound code t
+
+-- What the laws have in common: c is the record of goroutine g, one of the records that stand for the goroutines of a state. `slot_of`
+-- has the slot of each region, and `addresses` the address of each object.
+pub record Here : Type 0 where
+  pub code : Code
+  pub page_words : ℕ
+  pub slot_of : ℕ → ℕ
+  pub addresses : List ℕ
+  pub s : RegionState
+  pub records : List Rec
+  pub g : ℕ
+  pub c : Rec
+  pub sound : IsSound code s
+  pub all : AllFit code slot_of addresses s records
+  pub is_c : slice_get records g ≡ Some c
+
+-- and it is before an instruction, owes nothing, and has nothing to acknowledge: w is its newest frame, ws are the callers'
+pub record AtInstruction : Type 0 where
+  pub here : Here
+  pub w : WordFrame
+  pub ws : List WordFrame
+  pub instr : CodeInstr
+  pub before : IsBefore here.code here.slot_of here.addresses here.s here.g here.c w ws instr

@@ -1,0 +1,150 @@
+//! What the record of a goroutine says of the region machine, and that records stand for its goroutines after each step.
+
+ghost use Rattle.rgo_core_frames.specs.Actions.{ActionLaw, LoadLaw};
+ghost use Rattle.rgo_core_frames.specs.BeforeLaws.{BeforeLaw};
+ghost use Rattle.rgo_core_frames.specs.Children.{GoLaw};
+ghost use Rattle.rgo_core_frames.specs.Creations.{CreateLaw};
+ghost use Rattle.rgo_core_frames.specs.Ends.{FinishLaw, TrapLaw};
+ghost use Rattle.rgo_core_frames.specs.Examples.{FrameExamples};
+ghost use Rattle.rgo_core_frames.specs.LocalLaws.{LocalLaw, StakesStay};
+ghost use Rattle.rgo_core_frames.specs.Makes.{RegionLaw};
+ghost use Rattle.rgo_core_frames.specs.Meetings.{AcknowledgeLaw, MeetLaw, OfferLaw, SentLaw};
+ghost use Rattle.rgo_core_frames.specs.NameTables.{TableLaws};
+ghost use Rattle.rgo_core_frames.specs.Opening.{OpeningLaw};
+ghost use Rattle.rgo_core_frames.specs.Operands.{IntLaw, PointerLaw};
+ghost use Rattle.rgo_core_frames.specs.Pages.{PageLaw};
+ghost use Rattle.rgo_core_frames.specs.Prints.{PrintLaw};
+ghost use Rattle.rgo_core_frames.specs.Quiet.{QuietLaw};
+ghost use Rattle.rgo_core_frames.specs.Stacks.{StackLaws};
+ghost use Rattle.rgo_core_frames.specs.Stakes.{EndLaw, ShareLaw};
+ghost use Rattle.rgo_core_frames.specs.States.{SoundStays};
+
+/// A state of a run of checked code is sound: the first is, and each step keeps it.
+pub fn sound_stays()
+    ensures { SoundStays }
+{}
+
+/// The record of `main` stands for it as a run begins.
+pub fn opening_law()
+    ensures { OpeningLaw }
+{}
+
+/// What a record says of the machine before an instruction.
+pub fn before_law()
+    ensures { BeforeLaw }
+{}
+
+/// Which int a word is.
+pub fn int_law()
+    ensures { IntLaw }
+{}
+
+/// Which object a word points to.
+pub fn pointer_law()
+    ensures { PointerLaw }
+{}
+
+/// In which region the next instruction makes an object.
+pub fn region_law()
+    ensures { RegionLaw }
+{}
+
+/// A local step of a record is a step of the region machine.
+pub fn local_law()
+    ensures { LocalLaw }
+{}
+
+/// A local step keeps stakes and the offer.
+pub fn stakes_stay()
+    ensures { StakesStay }
+{}
+
+/// Local steps in a row are as many steps of the region machine.
+pub fn quiet_law()
+    ensures { QuietLaw }
+{}
+
+/// An action that touches words, given what memory says of them.
+pub fn action_law()
+    ensures { ActionLaw }
+{}
+
+/// A load, given what memory says of the word that was found.
+pub fn load_law()
+    ensures { LoadLaw }
+{}
+
+/// A print writes the bytes of its words.
+pub fn print_law()
+    ensures { PrintLaw }
+{}
+
+/// A goroutine starts, and its record stands for it.
+pub fn go_law()
+    ensures { GoLaw }
+{}
+
+/// A stake ends.
+pub fn end_law()
+    ensures { EndLaw }
+{}
+
+/// A stake is taken for a coming child.
+pub fn share_law()
+    ensures { ShareLaw }
+{}
+
+/// A region is created at a free slot.
+pub fn create_law()
+    ensures { CreateLaw }
+{}
+
+/// A page is taken.
+pub fn page_law()
+    ensures { PageLaw }
+{}
+
+/// An offer is made.
+pub fn offer_law()
+    ensures { OfferLaw }
+{}
+
+/// Which word a sender sends.
+pub fn sent_law()
+    ensures { SentLaw }
+{}
+
+/// A receiver takes an offer.
+pub fn meet_law()
+    ensures { MeetLaw }
+{}
+
+/// A sender whose offer was taken goes on.
+pub fn acknowledge_law()
+    ensures { AcknowledgeLaw }
+{}
+
+/// An action traps.
+pub fn trap_law()
+    ensures { TrapLaw }
+{}
+
+/// A run ends by no instruction.
+pub fn finish_law()
+    ensures { FinishLaw }
+{}
+
+/// All frames of a goroutine in one stack of words.
+pub fn stack_laws()
+    ensures { StackLaws }
+{}
+
+/// The names of a frame in a table.
+pub fn table_laws()
+    ensures { TableLaws }
+{}
+
+/// Where each definition holds and where it does not, and the local steps of a small code.
+pub fn examples()
+    ensures { FrameExamples }
+{}

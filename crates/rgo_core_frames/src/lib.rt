@@ -1,0 +1,10 @@
+//! The frames of a table of words: how the records of goroutines, with words in place of values and slots in place of regions,
+//! stand for the frames and the stakes of the region machine, and what each step does to a record.
+//!
+//! Each law of [`laws`] is about one state: where the record of a goroutine is before a step, the region machine has that step,
+//! and the records after it stand for the goroutines of the state after it. [`words`] has the operators as they run on words.
+#![tactic(auto)]
+
+pub mod laws;
+pub mod records;
+pub mod words;

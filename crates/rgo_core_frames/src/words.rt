@@ -1,0 +1,42 @@
+//! Operators on words.
+
+ghost use Rattle.std.specs.Prelude.{◌≡◌};
+ghost use Rattle.rgo_core_frames.specs.Operators.{binary_on_words, negated_word, word_of};
+
+use rgo_ast::BinaryOp;
+use rgo_memory::{Value, on_ints};
+
+/// The word of an int or of a bool.
+#[inline(always)]
+pub fn word(value: Value) -> u64
+    ensures { result ≡ word_of value }
+{
+    match value {
+        Value::Int(z) => z.cast_unsigned(),
+        Value::Bool(b) => u64::from(b),
+        Value::Nil | Value::Object(_) => 0,
+    }
+}
+
+/// What a binary operator gives for two words; none where it traps.
+#[inline(always)]
+pub fn binary(op: BinaryOp, x: u64, y: u64) -> Option<u64>
+    ensures { result ≡ binary_on_words op x y }
+{
+    match op {
+        BinaryOp::Eq => Some(u64::from(x == y)),
+        BinaryOp::Ne => Some(u64::from(x != y)),
+        _ => match on_ints(op, x.cast_signed(), y.cast_signed()) {
+            Ok(value) => Some(word(value)),
+            Err(_) => None,
+        },
+    }
+}
+
+/// `-x`, on words.
+#[inline(always)]
+pub fn negated(x: u64) -> u64
+    ensures { result ≡ negated_word x }
+{
+    x.cast_signed().wrapping_neg().cast_unsigned()
+}
