@@ -108,10 +108,11 @@ module _ (code : Code) (page_words : ℕ) (slot_of : ℕ → ℕ) (addresses : L
         mapped (slot slot_of) (bound names k) q
         (sym (bound_slot slot_of names k) ∙ ap (λ (ns : Bindings). bound ns k) (sym (top_slot slot_of h.environments)) ∙ e)
 
-    abbrev Ends : Option RegionState → (RegionInfo → RegionInfo) → ℕ → Holder → Type 0
-    Ends done change p k =
+    abbrev Ends : Option RegionState → Option (ℕ × Holder) → (RegionInfo → RegionInfo) → ℕ → Holder → Type 0
+    Ends done own change p k =
         (r : ℕ) × (slot_of r ≡ p) × (is_live s.regions (Numbered r) ≡ true) × (after : Holder)
         × (done ≡ Some (other_state after (with_info s.regions r change))) × (after.offer ≡ h.offer) × (k ≡ slotted slot_of after)
+        × (own ≡ Some (r, after))
 
     abbrev ended_stake : Holder → ℕ → ℕ × Holder
     ended_stake after r = (slot_of r, record (slotted slot_of after) { stakes = without (slot_of r) (map slot_of after.stakes) })
@@ -143,7 +144,7 @@ module _ (code : Code) (page_words : ℕ) (slot_of : ℕ → ℕ) (addresses : L
     ends_stake : (after : Holder) (r : Region) → after.offer ≡ h.offer → after.stakes ≡ h.stakes → is_live s.regions r ≡ true
         → AllLive slot_of s.regions all.slots_differ after.base → ProtectionsLive slot_of s.regions all.slots_differ after.environments
         → (p : ℕ) (k : Holder) → ended (slotted slot_of after) (slot slot_of r) ≡ Some (p, k)
-        → Ends (removal s g after r) one_fewer p k
+        → Ends (removal s g after r) (ended after r) one_fewer p k
     ends_stake after GlobalRegion o st l b pr p k e = cc
     ends_stake after (Numbered r) o st l b pr p k e = go (guards after.base after.environments (Numbered r)) refl
       where
@@ -157,7 +158,7 @@ module _ (code : Code) (page_words : ℕ) (slot_of : ℕ → ℕ) (addresses : L
         tested : unless (guards after.base after.environments (Numbered r)) (ended_stake after r) ≡ Some (p, k)
         tested = ap (λ t. unless t (ended_stake after r)) (sym same) ∙ e
 
-        go : (t : Bool) → guards after.base after.environments (Numbered r) ≡ t → Ends (removal s g after (Numbered r)) one_fewer p k
+        go : (t : Bool) → guards after.base after.environments (Numbered r) ≡ t → Ends (removal s g after (Numbered r)) (ended after (Numbered r)) one_fewer p k
         go true q = absurd (none_is (p, k) (ap (λ t. unless t (ended_stake after r)) (sym q) ∙ tested))
         go false q =
             let z = some_pair_parts (slot_of r) p (record (slotted slot_of after) { stakes = without (slot_of r) (map slot_of after.stakes) }) k
@@ -170,17 +171,20 @@ module _ (code : Code) (page_words : ℕ) (slot_of : ℕ → ℕ) (addresses : L
                   ∙ ap (λ t. if t then Some (attended s g after) else Some (other_state (record after { stakes = without r after.stakes }) (with_info s.regions r one_fewer))) q,
               o,
               sym z.1 ∙ (λ i. record (slotted slot_of after) { stakes = without_slot r after.stakes l stakes_live i }),
+              ap (λ t. if t then None else Some (r, record after { stakes = without r after.stakes })) q,
             )
 
-    of_named : (f : Region → Option RegionState) (change : RegionInfo → RegionInfo) (k : ℕ) (r : Region) → bound names k ≡ Some r
-        → (p : ℕ) (kept : Holder) → Ends (f r) change p kept → Ends (option_and_then f (bound names k)) change p kept
-    of_named f change k r e p kept x = (x.0, x.1, x.2, x.3, ap (option_and_then f) e ∙ x.4, x.5, x.6)
+    of_named : (f : Region → Option RegionState) (own : Region → Option (ℕ × Holder)) (change : RegionInfo → RegionInfo) (k : ℕ) (r : Region) → bound names k ≡ Some r
+        → (p : ℕ) (kept : Holder) → Ends (f r) (own r) change p kept
+        → Ends (option_and_then f (bound names k)) (option_and_then own (bound names k)) change p kept
+    of_named f own change k r e p kept x =
+        (x.0, x.1, x.2, x.3, ap (option_and_then f) e ∙ x.4, x.5, x.6, ap (option_and_then own) e ∙ x.7)
 
     all_protections : ProtectionsLive slot_of s.regions all.slots_differ h.environments
     all_protections = protections_live code s good.good.fine g h there slot_of all.slots_differ
 
     ends_duty : (e : Duty) → d ≡ e → (p : ℕ) (k : Holder) → stake_ended (slotted slot_of left) (slot_duty slot_of e) ≡ Some (p, k)
-        → Ends (duty_done s g left e) one_fewer p k
+        → Ends (duty_done s g left e) (stake_ended left e) one_fewer p k
     ends_duty (Create n) is p k e = cc
     ends_duty (Share n) is p k e = cc
     ends_duty (Protect n) is p k e = cc
@@ -194,7 +198,7 @@ module _ (code : Code) (page_words : ℕ) (slot_of : ℕ → ℕ) (addresses : L
         let envs : with_top slot_envs (unbind (top_names slot_envs) n) ≡ slot_environments slot_of (with_top h.environments (unbind names n)) =
         ap (λ (ns : Bindings). with_top slot_envs (unbind ns n)) (top_slot slot_of h.environments)
         ∙ ap (with_top slot_envs) (unbind_slot slot_of names n) ∙ with_top_slot slot_of h.environments (unbind names n) in
-        of_named (removal s g after) one_fewer n r.0 r.1 p k
+        of_named (removal s g after) (ended after) one_fewer n r.0 r.1 p k
         (ends_stake after r.0 refl refl l (base_live code s good.good.fine g h there)
         (with_top_live slot_of s.regions all.slots_differ h.environments (unbind names n) all_protections) p k
         (subst (λ q. ended (slotted slot_of after) q ≡ Some (p, k)) (sym r.2)
@@ -209,7 +213,7 @@ module _ (code : Code) (page_words : ℕ) (slot_of : ℕ → ℕ) (addresses : L
 
     -- a stake for a coming child
     shares_stake : (r : Region) → is_live s.regions r ≡ true → (p : ℕ) (k : Holder)
-        → shared_in (slotted slot_of left) (slot slot_of r) ≡ Some (p, k) → Ends (shared s g left r) one_more p k
+        → shared_in (slotted slot_of left) (slot slot_of r) ≡ Some (p, k) → Ends (shared s g left r) (shared_in left r) one_more p k
     shares_stake GlobalRegion l p k e = cc
     shares_stake (Numbered r) l p k e = go (list_any (nat_eq r) h.pending) refl
       where
@@ -218,7 +222,7 @@ module _ (code : Code) (page_words : ℕ) (slot_of : ℕ → ℕ) (addresses : L
             (sym (pending_slot code slot_of s good.good.fine all.slots_differ g h there d ds owed r h.pending l
             (pending_live code s good.good.fine g h there))) ∙ e
 
-        go : (t : Bool) → list_any (nat_eq r) h.pending ≡ t → Ends (shared s g left (Numbered r)) one_more p k
+        go : (t : Bool) → list_any (nat_eq r) h.pending ≡ t → Ends (shared s g left (Numbered r)) (shared_in left (Numbered r)) one_more p k
         go true q = absurd (none_is (p, k) (ap (λ t. unless t (one_pending r)) (sym q) ∙ tested))
         go false q =
             let z = some_pair_parts (slot_of r) p (record (slotted slot_of left) { pending = slot_of r ∷ map slot_of h.pending }) k
@@ -231,15 +235,16 @@ module _ (code : Code) (page_words : ℕ) (slot_of : ℕ → ℕ) (addresses : L
                   ∙ ap (λ t. if t then Some (attended s g left) else Some (other_state (record left { pending = r ∷ h.pending }) (with_info s.regions r one_more))) q,
               refl,
               sym z.1,
+              ap (λ t. if t then None else Some (r, record left { pending = r ∷ h.pending })) q,
             )
 
     shares_duty : (e : Duty) → d ≡ e → (p : ℕ) (k : Holder) → stake_shared (slotted slot_of left) (slot_duty slot_of e) ≡ Some (p, k)
-        → Ends (duty_done s g left e) one_more p k
+        → Ends (duty_done s g left e) (stake_shared left e) one_more p k
     shares_duty (Create n) is p k e = cc
     shares_duty (Share n) is p k e =
         let x = chained (shared_in (slotted slot_of left)) (bound (top_names slot_envs) n) (p, k) e in
         let r = found n x.0 x.1 in
-        of_named (shared s g left) one_more n r.0 r.1 p k
+        of_named (shared s g left) (shared_in left) one_more n r.0 r.1 p k
         (shares_stake r.0 (named_live r.0 (subst (λ y. DutyNames h y r.0) (sym is) r.1)) p k
         (subst (λ q. shared_in (slotted slot_of left) q ≡ Some (p, k)) (sym r.2) x.2))
     shares_duty (Protect n) is p k e = cc
@@ -248,15 +253,22 @@ module _ (code : Code) (page_words : ℕ) (slot_of : ℕ → ℕ) (addresses : L
     shares_duty (EndBase r) is p k e = cc
 
     -- the step
-    changes_with : (change : RegionInfo → RegionInfo) (p : ℕ) (k : Holder)
+    changes_with : (by : Holder → Duty → Option (ℕ × Holder)) (change : RegionInfo → RegionInfo) (p : ℕ) (k : Holder)
         → ((r q : ℕ) → is_live s.regions (Numbered r) ≡ true → is_live (with_info s.regions r change) (Numbered q) ≡ true
         → is_live s.regions (Numbered q) ≡ true)
-        → Ends (duty_done s g left d) change p k
-        → ChangesStakes code page_words slot_of addresses s g p change (slice_set records g (record c { holder = k }))
-    changes_with change p k old x = record {
+        → Ends (duty_done s g left d) (by left d) change p k
+        → ChangesStakes code page_words slot_of addresses s g p by change (slice_set records g (record c { holder = k }))
+    changes_with by change p k old x = record {
       region = x.0;
       slot_is = x.1;
       live = x.2;
+      h = h;
+      there = there;
+      duty = d;
+      others = ds;
+      owed = owed;
+      after = x.3;
+      does = x.7;
       step = has_step code page_words slot_of addresses s (Attend g) (with_info s.regions x.0 change) s.mark
           (slice_set records g (record c { holder = k })) (other_state x.3 (with_info s.regions x.0 change))
           (ap (option_and_then (λ (z : Holder). attend s g z z.duties)) there
@@ -268,12 +280,12 @@ module _ (code : Code) (page_words : ℕ) (slot_of : ℕ → ℕ) (addresses : L
     }
 
     pub ends : (p : ℕ) (k : Holder) → stake_ended (slotted slot_of left) (slot_duty slot_of d) ≡ Some (p, k)
-        → ChangesStakes code page_words slot_of addresses s g p one_fewer (slice_set records g (record c { holder = k }))
-    ends p k e = changes_with one_fewer p k (λ r q l m. fewer_live s.regions r q m) (ends_duty d refl p k e)
+        → ChangesStakes code page_words slot_of addresses s g p stake_ended one_fewer (slice_set records g (record c { holder = k }))
+    ends p k e = changes_with stake_ended one_fewer p k (λ r q l m. fewer_live s.regions r q m) (ends_duty d refl p k e)
 
     pub shares : (p : ℕ) (k : Holder) → stake_shared (slotted slot_of left) (slot_duty slot_of d) ≡ Some (p, k)
-        → ChangesStakes code page_words slot_of addresses s g p one_more (slice_set records g (record c { holder = k }))
-    shares p k e = changes_with one_more p k (λ r q l m. more_live s.regions r q l m) (shares_duty d refl p k e)
+        → ChangesStakes code page_words slot_of addresses s g p stake_shared one_more (slice_set records g (record c { holder = k }))
+    shares p k e = changes_with stake_shared one_more p k (λ r q l m. more_live s.regions r q l m) (shares_duty d refl p k e)
 
 -- ---- the laws
 
@@ -314,7 +326,7 @@ end_law x d ds p k owed e = go f.fits
     f = x.all.each x.g x.c x.is_c
 
     go : IsShown x.code x.slot_of x.addresses f.frames f.h x.c ⊎ IsPast x.code x.slot_of x.addresses f.frames f.h x.c
-        → StakesChange x p one_fewer (slice_set x.records x.g (record x.c { holder = k }))
+        → StakesChange x stake_ended p one_fewer (slice_set x.records x.g (record x.c { holder = k }))
     go (inl shown) =
         let y = owes_first x.slot_of f.h d ds (ap (λ (z : Holder). z.duties) (sym shown.holder) ∙ owed) in
         ends x.code x.page_words x.slot_of x.addresses x.s x.sound.good x.records x.all x.g x.c x.is_c f.frames f.h f.at f.there
@@ -329,7 +341,7 @@ share_law x d ds p k owed e = go f.fits
     f = x.all.each x.g x.c x.is_c
 
     go : IsShown x.code x.slot_of x.addresses f.frames f.h x.c ⊎ IsPast x.code x.slot_of x.addresses f.frames f.h x.c
-        → StakesChange x p one_more (slice_set x.records x.g (record x.c { holder = k }))
+        → StakesChange x stake_shared p one_more (slice_set x.records x.g (record x.c { holder = k }))
     go (inl shown) =
         let y = owes_first x.slot_of f.h d ds (ap (λ (z : Holder). z.duties) (sym shown.holder) ∙ owed) in
         shares x.code x.page_words x.slot_of x.addresses x.s x.sound.good x.records x.all x.g x.c x.is_c f.frames f.h f.at f.there

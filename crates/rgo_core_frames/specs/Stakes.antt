@@ -6,7 +6,7 @@ use Rattle.rgo_region_machine.specs.States.{Create, Duty, EndBase, Holder, Prote
 use Rattle.rgo_region_machine.specs.declared.regions.Region.TheVariants.{Global as GlobalRegion, Numbered}
 use Rattle.rgo_region_machine.specs.declared.regions.Region.{Region}
 use Rattle.std.specs.List.{list_any}
-use Rattle.std.specs.Prelude.{List, None, Option, Some, if◌then◌else◌, nat_eq, option_and_then, slice_set, true, ℕ, ◌∷◌, ◌≡◌}
+use Rattle.std.specs.Prelude.{List, None, Option, Some, if◌then◌else◌, nat_eq, option_and_then, slice_set, true, ℕ, ◌∷◌, ◌≡◌, slice_get}
 use Rattle.rgo_core_frames.specs.Records.{Rec}
 use Rattle.rgo_core_frames.specs.States.{Here}
 use Rattle.rgo_core_frames.specs.Steps.{HasStep}
@@ -46,24 +46,32 @@ stake_shared h (EndBase r) = None
 -- the region machine has the duty, which changes the stakes of the live region of this slot, and the records fit after it
 pub record ChangesStakes
     (code : Code) (page_words : ℕ) (slot_of : ℕ → ℕ) (addresses : List ℕ) (s : RegionState) (g p : ℕ)
-    (change : RegionInfo → RegionInfo) (records : List Rec) : Type 0 where
+    (by : Holder → Duty → Option (ℕ × Holder)) (change : RegionInfo → RegionInfo) (records : List Rec) : Type 0 where
   pub region : ℕ
   pub slot_is : slot_of region ≡ p
   pub live : is_live s.regions (Numbered region) ≡ true
+  -- what the duty does to the record, it does to the goroutine's own holder, with the region's number in place of its slot
+  pub h : Holder
+  pub there : slice_get s.holders g ≡ Some h
+  pub duty : Duty
+  pub others : List Duty
+  pub owed : h.duties ≡ duty ∷ others
+  pub after : Holder
+  pub does : by (record h { duties = others }) duty ≡ Some (region, after)
   pub step : HasStep code page_words slot_of addresses s (Attend g) (with_info s.regions region change) s.mark records
 
-abbrev pub StakesChange : Here → ℕ → (RegionInfo → RegionInfo) → List Rec → Type 0
-StakesChange x p change records =
-    ChangesStakes x.code x.page_words x.slot_of x.addresses x.s x.g p change records
+abbrev pub StakesChange : Here → (Holder → Duty → Option (ℕ × Holder)) → ℕ → (RegionInfo → RegionInfo) → List Rec → Type 0
+StakesChange x by p change records =
+    ChangesStakes x.code x.page_words x.slot_of x.addresses x.s x.g p by change records
 
 abbrev pub EndLaw : Type 0
 EndLaw =
     (x : Here) (d : Duty) (ds : List Duty) (p : ℕ) (k : Holder) → x.c.holder.duties ≡ d ∷ ds
     → stake_ended (record x.c.holder { duties = ds }) d ≡ Some (p, k)
-    → StakesChange x p one_fewer (slice_set x.records x.g (record x.c { holder = k }))
+    → StakesChange x stake_ended p one_fewer (slice_set x.records x.g (record x.c { holder = k }))
 
 abbrev pub ShareLaw : Type 0
 ShareLaw =
     (x : Here) (d : Duty) (ds : List Duty) (p : ℕ) (k : Holder) → x.c.holder.duties ≡ d ∷ ds
     → stake_shared (record x.c.holder { duties = ds }) d ≡ Some (p, k)
-    → StakesChange x p one_more (slice_set x.records x.g (record x.c { holder = k }))
+    → StakesChange x stake_shared p one_more (slice_set x.records x.g (record x.c { holder = k }))
