@@ -1,5 +1,5 @@
 -- The code of statements with statements in them, put together from that of their parts.
-use Rattle.std.proofs.Common.{◌≡◌, arith, ℕ, ◌+◌, ◌<◌, ◌≤◌, Bool, true, ◌||◌, List, ◌∷◌, length, map, drop, get_or, refl, sym, ap, ◌∙◌, subst}
+use Rattle.std.proofs.Common.{◌≡◌, arith, ℕ, ◌+◌, ◌<◌, ◌≤◌, Bool, true, ◌||◌, ◌&&◌, List, ◌∷◌, length, map, drop, get_or, refl, sym, ap, ◌∙◌, subst}
 use Rattle.std.specs.Prelude.{Option, Some, None, slice_get, nat_eq}
 use Rattle.std.proofs.lemmas.List.{at_drop_more, at_drop_all}
 use Rattle.rgo_typed.specs.declared.actions.Logical.TheVariants.{And}
@@ -13,10 +13,12 @@ use Rattle.rgo_lower.specs.declared.builder.Loop.{Loop}
 use Rattle.rgo_lower.specs.Lowered.{Point, after, OpAt, Scope, Target, bool, TestAt, ConditionAt, StmtsAt}
 use Rattle.rgo_lower.specs.Emitted.{Made, point_of, slot, with_placed, Grown, Whole, Completes, OpIsAdded, decides, jump_to}
 use Rattle.rgo_lower.specs.Emitted.{Knows, TermIsEmitted, Leads, environment_of, StmtIsEmitted, StmtsAreEmitted, TestIsEmitted, ConditionIsEmitted}
+use Rattle.rgo_lower.specs.Shapes.{stmt_fits, stmts_fit}
 use Rattle.rgo_lower.specs.Sizes.{stmt_size, stmts_size}
 use Rattle.rgo_lower.proofs.Growing.{grown_same, grown_trans, earlier}
 use Rattle.rgo_lower.proofs.Labels.{Fresh, Placed, placed, unmade_before, apart, op_moved}
 use Rattle.rgo_lower.proofs.StmtParts.{knows_same, knows_kept}
+use Rattle.rgo_lower.proofs.TermParts.{sides}
 
 -- ---- several statements
 
@@ -34,6 +36,7 @@ pub none_emitted : (innermost : Option Loop) (a : Made) → StmtsAreEmitted tree
 none_emitted innermost a = record {
   grown = grown_same a;
   size = omega arith;
+  locals = refl;
   kept = λ e g typed n h. refl;
   code = λ w in_loop g scope targets typed leads knows all. (scope, (refl, refl));
 }
@@ -43,6 +46,7 @@ pub more_emitted : (s : Stmt) (all : Stmts) (innermost : Option Loop) (a b c : M
 more_emitted s all innermost a b c h hs = record {
   grown = grown_trans a b c h.grown hs.grown;
   size = omega (arith, h.size, hs.size);
+  locals = hs.locals ∙ h.locals;
   kept = λ e g typed n inside.
       hs.kept e (scope_after g s) typed.1 n (stays s g n inside) ∙ h.kept e g typed.0 n inside;
   code = λ w in_loop g scope targets typed leads knows done.
@@ -71,6 +75,18 @@ next_size items i x lt is =
     at_drop_more (λ l. stmts_size (all_stmts l)) items i x lt
     ∙ ap (λ z. stmt_size (stmt_of z) + stmts_size (all_stmts (drop (i + 1) items))) (sym is)
 
+-- the first of the rest of the statements fits, and so do those after it
+pub next_fits : (locals : ℕ) (in_loop : Bool) (items : List CodeStmt) (i : ℕ) (x : CodeStmt) → i < length items
+    → x ≡ get_or items i x → stmts_fit locals in_loop (stmts_of (map stmt_of (drop i items))) ≡ true
+    → (stmt_fits locals in_loop (stmt_of x) ≡ true)
+    × (stmts_fit locals in_loop (stmts_of (map stmt_of (drop (i + 1) items))) ≡ true)
+next_fits locals in_loop items i x lt is h =
+    let rest = all_stmts (drop (i + 1) items) in
+    let more =
+    at_drop_more (λ l. stmts_fit locals in_loop (all_stmts l)) items i x lt
+    ∙ ap (λ z. stmt_fits locals in_loop (stmt_of z) && stmts_fit locals in_loop rest) (sym is) in
+    sides (stmt_fits locals in_loop (stmt_of x)) (stmts_fit locals in_loop rest) (sym more ∙ h)
+
 pub end_emitted : (items : List CodeStmt) (i : ℕ) (innermost : Option Loop) (a : Made) → length items ≤ i
     → StmtsAreEmitted (stmts_of (map stmt_of (drop i items))) innermost a a
 end_emitted items i innermost a le =
@@ -81,6 +97,7 @@ pub block_emitted : (all : Stmts) (innermost : Option Loop) (a b : Made) → Stm
 block_emitted all innermost a b h = record {
   grown = h.grown;
   size = h.size;
+  locals = h.locals;
   kept = h.kept;
   code = λ w in_loop g scope targets typed leads knows done.
       let inner = h.code w in_loop g scope targets typed leads knows done in (
@@ -149,6 +166,7 @@ module _ (test : Term) (body : Stmts) (place end : ℕ) (innermost : Option Loop
   if_emitted = record {
     grown = if_ends.grown a (grown_trans a b d label.grown (grown_trans b c d branch.grown inside.grown)) label.unmade;
     size = omega (arith, label.size, branch.size, inside.size, if_ends.size);
+    locals = ap length if_ends.slots ∙ inside.locals ∙ ap length if_slots;
     kept = λ env g typed n h. if_kept env g typed.1 n h;
     code = λ w in_loop g scope targets typed leads knows all.
         let inner =
@@ -231,6 +249,8 @@ module _ (test : Term) (body other : Stmts) (place away end : ℕ) (innermost : 
         (grown_trans b0 b6 b7 (goes_away.grown b0 from_0 first.unmade) outside.grown)
         (unmade_before b0 b1 end first.grown second.unmade);
     size = omega (arith, first.size, second.size, branch.size, inside.size, jump.size, goes_away.size, outside.size, else_ends.size);
+    locals =
+        ap length else_ends.slots ∙ outside.locals ∙ ap length slots_6 ∙ inside.locals ∙ ap length slots_3;
     kept = λ env g typed n h. kept_8 env g typed.1 typed.2 n h;
     code = λ w in_loop g scope targets typed leads knows all.
         let env = environment_of w in_loop in
@@ -378,6 +398,9 @@ module _ (test : Option Term) (body post : Stmts) (place start : ℕ) (l : Loop)
   loop_emitted = record {
     grown = loop_grown;
     size = omega (arith, first.size, starts.size, second.size, third.size, condition.size, inside.size, continues.size, behind.size, jump.size, loop_ends.size);
+    locals =
+        ap length (loop_ends.slots ∙ jump.slots) ∙ behind.locals ∙ ap length continues.slots ∙ inside.locals
+        ∙ ap length slots_5;
     kept = λ env g typed n h. kept_10 env g typed.1 typed.2 n h;
     code = λ w in_loop g scope targets typed leads knows all.
         let env = environment_of w in_loop in

@@ -3,6 +3,7 @@ pub mod AgreeingStatements
 pub mod BlockParts
 pub mod Determined
 pub mod Finished
+pub mod Fitting
 pub mod Growing
 pub mod Labels
 pub mod StmtParts

@@ -2,7 +2,7 @@
 use Rattle.std.proofs.Common.{◌≡◌, ◌≢◌, ℕ, ◌+◌, ◌<◌, ◌≤◌, arith, Bool, true, false, ◌||◌, List, [], ◌∷◌, ◌++◌, length, get_or, refl, sym, ap, ◌∙◌, subst}
 use Rattle.std.specs.Prelude.{Option, Some, None, nat_eq, if◌then◌else◌}
 use Rattle.std.proofs.lemmas.Bool.{eqb-true, eqb-false}
-use Rattle.std.proofs.lemmas.List.{get_or-set_same, get_or-set_other}
+use Rattle.std.proofs.lemmas.List.{get_or-set_same, get_or-set_other, length-set}
 use Rattle.rgo_typed.specs.declared.actions.Action.{Action}
 use Rattle.rgo_typed.specs.declared.actions.Action.TheVariants.{Copy, Binary}
 use Rattle.rgo_typed.specs.declared.statements.Piece.{Piece}
@@ -71,6 +71,7 @@ pub plain : (s : Stmt) (innermost : Option Loop) (a b : Made) → ((g : InScope)
 plain s innermost a b same h = record {
   grown = h.grown;
   size = h.size;
+  locals = ap length h.slots;
   kept = λ e g typed n e2. ap (λ z. get_or z n 0) h.slots;
   code = λ w in_loop g scope targets typed leads knows all. (
     scope,
@@ -312,6 +313,7 @@ return_emitted value place d innermost a b c h o = plain _ innermost a c (λ g. 
 pub record Declared (n x : ℕ) (a b : Made) : Type 0 where
   pub grown : Grown a b
   pub size : count b ≡ count a
+  pub locals : length b.slots ≡ length a.slots
   pub point : point_of b ≡ point_of a
   pub here : slot b n ≡ x
   pub others : (m : ℕ) → m ≢ n → slot b m ≡ slot a m
@@ -326,6 +328,7 @@ declared_here n x a lt = record {
     labels = kept_all a.labels;
   };
   size = refl;
+  locals = length-set a.slots n x;
   point = refl;
   here = get_or-set_same a.slots n x 0 lt;
   others = λ m other. get_or-set_other a.slots n m x 0 other;
@@ -347,6 +350,7 @@ declare_emitted n ty value place d x innermost a b c e h v s =
     record {
       grown = grown_trans a c e (grown_trans a b c h.grown v.grown) s.grown;
       size = omega (arith, h.size, v.size, s.size);
+      locals = s.locals ∙ ap length slots;
       kept = λ env g typed m inside. s.others m (apart g n m typed.0.0 inside) ∙ same m;
       code = λ w in_loop g scope targets typed leads knows all.
           let at_c = earlier w c e s.grown all in (
@@ -373,6 +377,7 @@ zero_emitted n ty place x innermost a b c v s =
     record {
       grown = grown_trans a b c v.grown s.grown;
       size = omega (arith, v.size, s.size);
+      locals = s.locals ∙ ap length v.slots;
       kept = λ env g typed m inside. s.others m (apart g n m typed.0 inside) ∙ same m;
       code = λ w in_loop g scope targets typed leads knows all. (
         (n, length a.variables) ∷ scope,

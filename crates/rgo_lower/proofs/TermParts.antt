@@ -1,5 +1,5 @@
 -- The code of terms, put together from that of their parts.
-use Rattle.std.proofs.Common.{◌≡◌, ℕ, zero, suc, ◌+◌, ◌<◌, ◌≤◌, List, [], ◌∷◌, length, map, drop, get_or, refl, sym, ap, ◌∙◌, subst, arith}
+use Rattle.std.proofs.Common.{◌≡◌, ℕ, zero, suc, ◌+◌, ◌<◌, ◌≤◌, Bool, true, false, ◌&&◌, List, [], ◌∷◌, length, map, drop, get_or, refl, sym, ap, ◌∙◌, subst, arith}
 use Rattle.std.specs.Prelude.{Option, Some, None, slice_get}
 use Rattle.std.proofs.lemmas.List.{drop_more, at_drop_more, at_drop_all}
 use Rattle.rgo_typed.specs.declared.actions.Action.{Action}
@@ -16,6 +16,7 @@ use Rattle.rgo_tac.specs.Code.{Do, TacFn}
 use Rattle.rgo_lower.specs.Lowered.{Point, after, after_value, OpAt, ActionAt, bool, pointer_to, logic_branch, result_of, StoresAt, TermAt}
 use Rattle.rgo_lower.specs.Emitted.{Made, point_of, slot, Grown, Whole, Completes, OpIsAdded, ValueIsAdded, always, acts, calls, decides}
 use Rattle.rgo_lower.specs.Emitted.{Knows, TermIsEmitted, TermsAreEmitted, FieldsAreStored}
+use Rattle.rgo_lower.specs.Shapes.{term_fits, terms_fit}
 use Rattle.rgo_lower.specs.Sizes.{term_size, terms_size}
 use Rattle.rgo_lower.proofs.Growing.{grown_same, grown_trans, earlier}
 use Rattle.rgo_lower.proofs.Labels.{Fresh, Placed, unmade_before, op_moved}
@@ -23,13 +24,20 @@ use Rattle.rgo_lower.proofs.Labels.{Fresh, Placed, unmade_before, op_moved}
 -- ---- several terms
 
 pub none_emitted : (a : Made) → TermsAreEmitted tree.no_terms a [] a
-none_emitted a = record { grown = grown_same a; size = omega arith; slots = refl; code = λ w g types scope h k c. (refl, refl) }
+none_emitted a = record {
+  grown = grown_same a;
+  size = omega arith;
+  values = refl;
+  slots = refl;
+  code = λ w g types scope h k c. (refl, refl);
+}
 
 pub more_emitted : (t : Term) (ts : Terms) (a b c : Made) (d : ℕ) (ds : List ℕ) → TermIsEmitted t a d b
     → TermsAreEmitted ts b ds c → TermsAreEmitted (tree.a_term t ts) a (d ∷ ds) c
 more_emitted t ts a b c d ds h hs = record {
   grown = grown_trans a b c h.grown hs.grown;
   size = omega (arith, h.size, hs.size);
+  values = omega (arith, hs.values);
   slots = hs.slots ∙ h.slots;
   code = λ w g types scope typed knows all. (
     d,
@@ -261,6 +269,24 @@ pub next_size : (items : List CodeTerm) (i : ℕ) (x : CodeTerm) → i < length 
 next_size items i x lt is =
     at_drop_more (λ l. terms_size (all_terms l)) items i x lt
     ∙ ap (λ z. term_size (term_of z) + terms_size (all_terms (drop (i + 1) items))) (sym is)
+
+-- both sides of a conjunction
+pub sides : (a b : Bool) → a && b ≡ true → (a ≡ true) × (b ≡ true)
+sides true b e = (refl, e)
+sides false b e = absurd (false_true e)
+  where
+    false_true : false ≡ true → ⊥
+    false_true e = cc
+
+-- the first of the rest of the terms fits, and so do those after it
+pub next_fits : (items : List CodeTerm) (i : ℕ) (x : CodeTerm) → i < length items → x ≡ get_or items i x
+    → terms_fit (terms_of (map term_of (drop i items))) ≡ true
+    → (term_fits (term_of x) ≡ true) × (terms_fit (terms_of (map term_of (drop (i + 1) items))) ≡ true)
+next_fits items i x lt is h =
+    let rest = all_terms (drop (i + 1) items) in
+    let more =
+    at_drop_more (λ l. terms_fit (all_terms l)) items i x lt ∙ ap (λ z. term_fits (term_of z) && terms_fit rest) (sym is) in
+    sides (term_fits (term_of x)) (terms_fit rest) (sym more ∙ h)
 
 pub end_emitted : (items : List CodeTerm) (i : ℕ) (a : Made) → length items ≤ i
     → TermsAreEmitted (terms_of (map term_of (drop i items))) a [] a

@@ -15,6 +15,7 @@ use Rattle.rgo_tac.specs.Code.{Op, Do, Call, Jump, Branch, TacFn}
 use Rattle.rgo_tac.specs.Views.{op_of, body_of}
 use Rattle.rgo_lower.specs.Lowered.{Point, after, after_value, OpAt, Scope, found, Target}
 use Rattle.rgo_lower.specs.Lowered.{bool, logic_branch, StoresAt, TestAt, ConditionAt, TermAt, TermsAt, StmtAt, StmtsAt, IsLoweredFn}
+use Rattle.rgo_lower.specs.Shapes.{how_many}
 use Rattle.rgo_lower.specs.Sizes.{term_size, terms_size, value_size, stmt_size, stmts_size}
 use Rattle.rgo_lower.specs.declared.builder.Builder.{Builder}
 use Rattle.rgo_lower.specs.declared.builder.Line.{Line}
@@ -226,6 +227,7 @@ pub record TermIsEmitted (t : Term) (old : Made) (d : ℕ) (new : Made) : Type 0
 pub record TermsAreEmitted (ts : Terms) (old : Made) (ds : List ℕ) (new : Made) : Type 0 where
   pub grown : Grown old new
   pub size : count new ≤ count old + terms_size ts
+  pub values : length ds ≡ how_many ts
   pub slots : new.slots ≡ old.slots
   pub code :
       (w : Whole) (g : InScope) (types : List «Type») (scope : Scope) → HaveTypes w.declared w.locals g ts types
@@ -258,6 +260,7 @@ environment_of w in_loop =
 pub record StmtIsEmitted (s : Stmt) (innermost : Option Loop) (old new : Made) : Type 0 where
   pub grown : Grown old new
   pub size : count new ≤ count old + stmt_size s
+  pub locals : length new.slots ≡ length old.slots
   pub kept :
       (e : Environment) (g : InScope) → IsStmt e g s → (n : ℕ) → is_in_scope g n ≡ true
       → slot new n ≡ slot old n
@@ -271,6 +274,7 @@ pub record StmtIsEmitted (s : Stmt) (innermost : Option Loop) (old new : Made) :
 pub record StmtsAreEmitted (all : Stmts) (innermost : Option Loop) (old new : Made) : Type 0 where
   pub grown : Grown old new
   pub size : count new ≤ count old + stmts_size all
+  pub locals : length new.slots ≡ length old.slots
   pub kept :
       (e : Environment) (g : InScope) → AreStmts e g all → (n : ℕ) → is_in_scope g n ≡ true
       → slot new n ≡ slot old n
@@ -319,6 +323,7 @@ pub record Begins (params : ℕ) (locals : List «Type») (b : Made) : Type 0 wh
   pub lines : b.lines ≡ []
   pub variables : b.variables ≡ take params locals
   pub size : count b ≤ params
+  pub locals : length b.slots ≡ length locals
   pub slots : (n : ℕ) → n < length locals → slot b n ≡ n
 
 -- the finished function

@@ -1,26 +1,28 @@
 //! The code of statements, and of those with statements in them.
 
-ghost use Rattle.std.specs.Prelude.{◌≡◌, ◌+◌, ◌<◌, ◌^◌, IfOk, map};
+ghost use Rattle.std.specs.Prelude.{◌≡◌, ◌+◌, ◌<◌, ◌^◌, IfOk, map, length, is_some, true};
 ghost use Rattle.rgo_typed.specs.Tree as tree;
 ghost use Rattle.rgo_typed.specs.Tree.{stmts_of};
 ghost use Rattle.rgo_typed.specs.Views.{term_of, boxed_term_of, stmt_of};
 ghost use Rattle.rgo_lower.specs.Sizes.{stmt_size, stmts_size};
 ghost use Rattle.rgo_lower.specs.Emitted.{count, made_of, StmtIsEmitted, StmtsAreEmitted};
+ghost use Rattle.rgo_lower.specs.Shapes.{stmt_fits, stmts_fit};
 
 use crate::builder::{Builder, Loop};
-use crate::errors::EmitError;
 use crate::statements::{
     Change, assign, break_out, continue_on, declare, declare_zero, discard, invoke,
     lower_condition, lower_test, perform, print, return_with, start, update,
 };
 use rgo_ast::Place;
 use rgo_typed::{Stmt, Term};
+use std::alloc::AllocError;
 
 /// The code of a statement, where `innermost` is the loop around it, if there is one.
 #[cycle(statements)]
 #[tactic(auto, using(rgo_typed::proofs::Rows::rows))]
-pub fn lower_stmt(b: &mut Builder, innermost: Option<Loop>, stmt: &Stmt) -> Result<(), EmitError>
-    requires { count (made_of b.now) + stmt_size (stmt_of stmt.now) < 2 ^ 32 }
+pub fn lower_stmt(b: &mut Builder, innermost: Option<Loop>, stmt: &Stmt) -> Result<(), AllocError>
+    requires room { count (made_of b.now) + stmt_size (stmt_of stmt.now) < 2 ^ 32 }
+    requires shape { stmt_fits (length b.now.slots.items) (is_some innermost) (stmt_of stmt.now) ≡ true }
     ensures { IfOk result (λ done. StmtIsEmitted (stmt_of stmt.now) innermost (made_of b.old) (made_of b.new)) }
 {
     match stmt {
@@ -77,8 +79,9 @@ pub fn lower_stmts(
     b: &mut Builder,
     innermost: Option<Loop>,
     stmts: &Vec<Stmt>,
-) -> Result<(), EmitError>
-    requires { count (made_of b.now) + stmts_size (stmts_of (map stmt_of stmts.now.items)) < 2 ^ 32 }
+) -> Result<(), AllocError>
+    requires room { count (made_of b.now) + stmts_size (stmts_of (map stmt_of stmts.now.items)) < 2 ^ 32 }
+    requires shape { stmts_fit (length b.now.slots.items) (is_some innermost) (stmts_of (map stmt_of stmts.now.items)) ≡ true }
     ensures { IfOk result (λ done. StmtsAreEmitted (stmts_of (map stmt_of stmts.now.items)) innermost
         (made_of b.old)
         (made_of b.new)) }
@@ -97,8 +100,9 @@ fn lower_if(
     test: &Term,
     body: &Vec<Stmt>,
     place: Place,
-) -> Result<(), EmitError>
-    requires { count (made_of b.now) + stmt_size (tree.If (term_of test.now) (stmts_of (map stmt_of body.now.items)) place) < 2 ^ 32 }
+) -> Result<(), AllocError>
+    requires room { count (made_of b.now) + stmt_size (tree.If (term_of test.now) (stmts_of (map stmt_of body.now.items)) place) < 2 ^ 32 }
+    requires shape { stmt_fits (length b.now.slots.items) (is_some innermost) (tree.If (term_of test.now) (stmts_of (map stmt_of body.now.items)) place) ≡ true }
     ensures { IfOk result (λ done. StmtIsEmitted
         (tree.If (term_of test.now) (stmts_of (map stmt_of body.now.items)) place) innermost (made_of b.old)
         (made_of b.new)) }
@@ -118,8 +122,10 @@ fn lower_if_else(
     body: &Vec<Stmt>,
     other: &Vec<Stmt>,
     place: Place,
-) -> Result<(), EmitError>
-    requires { count (made_of b.now) + stmt_size (tree.IfElse (term_of test.now) (stmts_of (map stmt_of body.now.items)) (stmts_of (map stmt_of other.now.items)) place) < 2 ^ 32 }
+) -> Result<(), AllocError>
+    requires room { count (made_of b.now) + stmt_size (tree.IfElse (term_of test.now) (stmts_of (map stmt_of body.now.items)) (stmts_of (map stmt_of other.now.items)) place) < 2 ^ 32 }
+    requires shape { stmt_fits (length b.now.slots.items) (is_some innermost) (tree.IfElse (term_of test.now) (stmts_of (map stmt_of body.now.items))
+        (stmts_of (map stmt_of other.now.items)) place) ≡ true }
     ensures { IfOk result (λ done. StmtIsEmitted (tree.IfElse (term_of test.now)
         (stmts_of (map stmt_of body.now.items))
         (stmts_of (map stmt_of other.now.items)) place) innermost (made_of b.old) (made_of b.new)) }
@@ -143,8 +149,10 @@ fn lower_loop(
     body: &Vec<Stmt>,
     post: &Vec<Stmt>,
     place: Place,
-) -> Result<(), EmitError>
-    requires { count (made_of b.now) + stmt_size (tree.Loop (boxed_term_of test.now) (stmts_of (map stmt_of body.now.items)) (stmts_of (map stmt_of post.now.items)) place) < 2 ^ 32 }
+) -> Result<(), AllocError>
+    requires room { count (made_of b.now) + stmt_size (tree.Loop (boxed_term_of test.now) (stmts_of (map stmt_of body.now.items)) (stmts_of (map stmt_of post.now.items)) place) < 2 ^ 32 }
+    requires shape { stmt_fits (length b.now.slots.items) (is_some innermost) (tree.Loop (boxed_term_of test.now) (stmts_of (map stmt_of body.now.items))
+        (stmts_of (map stmt_of post.now.items)) place) ≡ true }
     ensures { IfOk result (λ done. StmtIsEmitted (tree.Loop (boxed_term_of test.now)
         (stmts_of (map stmt_of body.now.items)) (stmts_of (map stmt_of post.now.items)) place) innermost
         (made_of b.old)

@@ -15,11 +15,10 @@ ghost use Rattle.rgo_lower.specs.Emitted.{
   with_slot,
 };
 
-use crate::errors::EmitError;
 use rgo_ast::Place;
 use rgo_tac::{Instr, copy_pieces, copy_type};
 use rgo_typed::{Piece, Row, Type};
-use std::alloc::Global;
+use std::alloc::{AllocError, Global};
 
 /// An instruction with its place. Targets are numbers of labels.
 #[derive(Clone, Copy)]
@@ -51,7 +50,7 @@ pub struct Builder {
 
 impl Builder {
     /// Adds an instruction.
-    pub fn line(&mut self, instr: Instr, place: Place) -> Result<(), EmitError>
+    pub fn line(&mut self, instr: Instr, place: Place) -> Result<(), AllocError>
         ensures { IfOk result (λ done. made_of self.new ≡ with_line (made_of self.old) instr place) }
     {
         self.lines.push(Line { instr, place })?;
@@ -59,7 +58,7 @@ impl Builder {
     }
 
     /// Adds a variable of this type.
-    pub fn variable(&mut self, ty: &Type) -> Result<u32, EmitError>
+    pub fn variable(&mut self, ty: &Type) -> Result<u32, AllocError>
         requires { count (made_of self.now) < 2 ^ 32 }
         ensures { IfOk result (λ d. (d ≡ length self.old.variables.items)
             × (made_of self.new ≡ with_variable (made_of self.old) ty.now)) }
@@ -70,7 +69,7 @@ impl Builder {
     }
 
     /// Adds a list of variables.
-    pub fn list(&mut self, from: Vec<u32>) -> Result<u32, EmitError>
+    pub fn list(&mut self, from: Vec<u32>) -> Result<u32, AllocError>
         requires { count (made_of self.now) < 2 ^ 32 }
         ensures { IfOk result (λ n. (n ≡ length self.old.lists.items)
             × (made_of self.new ≡ with_list (made_of self.old) from.items)) }
@@ -81,7 +80,7 @@ impl Builder {
     }
 
     /// Adds the pieces of a print.
-    pub fn text(&mut self, pieces: &[Piece]) -> Result<u32, EmitError>
+    pub fn text(&mut self, pieces: &[Piece]) -> Result<u32, AllocError>
         requires { count (made_of self.now) < 2 ^ 32 }
         ensures { IfOk result (λ n. (n ≡ length self.old.pieces.items)
             × (made_of self.new ≡ with_pieces (made_of self.old) pieces.now)) }
@@ -92,7 +91,7 @@ impl Builder {
     }
 
     /// Makes a label, which is to be placed later.
-    pub fn label(&mut self) -> Result<u32, EmitError>
+    pub fn label(&mut self) -> Result<u32, AllocError>
         requires { count (made_of self.now) < 2 ^ 32 }
         ensures { IfOk result (λ n. (n ≡ length self.old.labels.items)
             × (made_of self.new ≡ with_label (made_of self.old))) }
@@ -103,7 +102,7 @@ impl Builder {
     }
 
     /// Places a label at the next instruction. Does nothing if there is no such label.
-    pub fn place(&mut self, label: u32) -> Result<(), EmitError>
+    pub fn place(&mut self, label: u32) -> Result<(), AllocError>
         requires { count (made_of self.now) < 2 ^ 32 }
         ensures { IfOk result (λ done. made_of self.new ≡ with_placed (made_of self.old) label) }
     {
@@ -124,16 +123,11 @@ impl Builder {
         }
     }
 
-    /// Brings a local variable into scope, as this variable. It fails if the function has no local variable of this
-    /// number, which never happens in a well-formed program.
-    pub fn declare(&mut self, n: usize, variable: u32) -> Result<(), EmitError>
-        ensures { IfOk result (λ done. (n < length self.old.slots.items)
-            × (made_of self.new ≡ with_slot (made_of self.old) n variable)) }
+    /// Brings a local variable into scope, as this variable.
+    pub fn declare(&mut self, n: usize, variable: u32)
+        requires { n < length self.now.slots.items }
+        ensures { made_of self.new ≡ with_slot (made_of self.old) n variable }
     {
-        if n >= self.slots.len() {
-            return Err(EmitError::IllFormed);
-        }
         self.slots[n] = variable;
-        Ok(())
     }
 }

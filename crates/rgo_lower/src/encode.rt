@@ -1,27 +1,16 @@
 //! The compact instructions of actions.
 
-ghost use Rattle.std.specs.Prelude.{◌≡◌, [], ◌∷◌, IfOk};
+ghost use Rattle.std.specs.Prelude.{◌≡◌, [], ◌∷◌, length, true};
 ghost use Rattle.rgo_tac.specs.Code.{Do};
 ghost use Rattle.rgo_tac.specs.Views.{computing};
 ghost use Rattle.rgo_typed.specs.declared.actions.Action.TheVariants.{Copy};
 ghost use Rattle.rgo_lower.specs.Emitted.{Encodes, acts};
 ghost use Rattle.rgo_lower.specs.Lowered as spec;
+ghost use Rattle.rgo_lower.specs.Shapes.{is_strict, returns_value, has_effect};
 
-use crate::errors::EmitError;
 use rgo_ast::BinaryOp;
 use rgo_tac::Instr;
 use rgo_typed::{Action, Base, Type};
-
-/// The number of a struct, a field, a function or a package variable, if it has 32 bits. In a well-formed program that is not
-/// too large each of them has.
-pub fn narrow(n: usize) -> Result<u32, EmitError>
-    ensures { IfOk result (λ m. m ≡ n) }
-{
-    if n > 4294967295 {
-        return Err(EmitError::IllFormed);
-    }
-    Ok(n as u32)
-}
 
 /// A copy between variables of a type.
 pub fn copy_instr(ty: &Type, to: u32, from: u32) -> Instr
@@ -37,136 +26,105 @@ pub fn copy_instr(ty: &Type, to: u32, from: u32) -> Instr
     }
 }
 
-/// An operator on two variables. It fails for `&&` and `||`, which are terms of their own.
-fn binary_instr(to: u32, op: BinaryOp, a: u32, b: u32) -> Result<Instr, EmitError>
-    ensures { IfOk result (λ i. Encodes i (computing to op a b)) }
+/// An operator on two variables; `&&` and `||` are terms of their own.
+fn binary_instr(to: u32, op: BinaryOp, a: u32, b: u32) -> Instr
+    requires { is_strict op ≡ true }
+    ensures { Encodes result (computing to op a b) }
 {
     match op {
-        BinaryOp::Add => Ok(Instr::Add(to, a, b)),
-        BinaryOp::Sub => Ok(Instr::Sub(to, a, b)),
-        BinaryOp::Mul => Ok(Instr::Mul(to, a, b)),
-        BinaryOp::Div => Ok(Instr::Div(to, a, b)),
-        BinaryOp::Rem => Ok(Instr::Rem(to, a, b)),
-        BinaryOp::Eq => Ok(Instr::Eq(to, a, b)),
-        BinaryOp::Ne => Ok(Instr::Ne(to, a, b)),
-        BinaryOp::Lt => Ok(Instr::Lt(to, a, b)),
-        BinaryOp::Le => Ok(Instr::Le(to, a, b)),
-        BinaryOp::Gt => Ok(Instr::Gt(to, a, b)),
-        BinaryOp::Ge => Ok(Instr::Ge(to, a, b)),
-        BinaryOp::And | BinaryOp::Or => Err(EmitError::IllFormed),
-    }
-}
-
-/// Nothing, of an action that takes no operand. Like `one_operand`, `two_operands` and `three_operands` it fails where
-/// the action has another number of operands, which never happens in a well-formed program.
-fn no_operand(from: &[u32]) -> Result<(), EmitError>
-    ensures { IfOk result (λ _. from.now ≡ []) }
-{
-    match from {
-        [] => Ok(()),
-        _ => Err(EmitError::IllFormed),
+        BinaryOp::Add => Instr::Add(to, a, b),
+        BinaryOp::Sub => Instr::Sub(to, a, b),
+        BinaryOp::Mul => Instr::Mul(to, a, b),
+        BinaryOp::Div => Instr::Div(to, a, b),
+        BinaryOp::Rem => Instr::Rem(to, a, b),
+        BinaryOp::Eq => Instr::Eq(to, a, b),
+        BinaryOp::Ne => Instr::Ne(to, a, b),
+        BinaryOp::Lt => Instr::Lt(to, a, b),
+        BinaryOp::Le => Instr::Le(to, a, b),
+        BinaryOp::Gt => Instr::Gt(to, a, b),
+        BinaryOp::Ge => Instr::Ge(to, a, b),
+        BinaryOp::And | BinaryOp::Or => unreachable!(),
     }
 }
 
 /// The operand of an action that takes one.
-fn one_operand(from: &[u32]) -> Result<u32, EmitError>
-    ensures { IfOk result (λ a. from.now ≡ a ∷ []) }
+fn one_operand(from: &[u32]) -> u32
+    requires { length from.now ≡ 1 }
+    ensures { from.now ≡ result ∷ [] }
 {
-    match from {
-        [a] => Ok(*a),
-        _ => Err(EmitError::IllFormed),
-    }
+    from[0]
 }
 
 /// The operands of an action that takes two.
-fn two_operands(from: &[u32]) -> Result<(u32, u32), EmitError>
-    ensures { IfOk result (λ both. from.now ≡ both.0 ∷ both.1 ∷ []) }
+fn two_operands(from: &[u32]) -> (u32, u32)
+    requires { length from.now ≡ 2 }
+    ensures { from.now ≡ result.0 ∷ result.1 ∷ [] }
 {
-    match from {
-        [a, b] => Ok((*a, *b)),
-        _ => Err(EmitError::IllFormed),
-    }
+    (from[0], from[1])
 }
 
 /// The operands of an action that takes three.
-fn three_operands(from: &[u32]) -> Result<(u32, u32, u32), EmitError>
-    ensures { IfOk result (λ all. from.now ≡ all.0 ∷ all.1 ∷ all.2 ∷ []) }
+fn three_operands(from: &[u32]) -> (u32, u32, u32)
+    requires { length from.now ≡ 3 }
+    ensures { from.now ≡ result.0 ∷ result.1 ∷ result.2 ∷ [] }
 {
-    match from {
-        [a, b, c] => Ok((*a, *b, *c)),
-        _ => Err(EmitError::IllFormed),
-    }
+    (from[0], from[1], from[2])
 }
 
-/// The instruction of an action that gives a value of this type. It fails for an action that gives none, and where the
-/// action takes another number of operands: neither happens in a well-formed program.
-pub fn value_instr(to: u32, action: Action, from: &[u32], ty: &Type) -> Result<Instr, EmitError>
-    ensures { IfOk result (λ i. Encodes i (acts action from.now to)) }
+/// The instruction of an action that returns a value of this type.
+pub fn value_instr(to: u32, action: Action, from: &[u32], ty: &Type) -> Instr
+    requires { returns_value action (length from.now) ≡ true }
+    ensures { Encodes result (acts action from.now to) }
 {
     match action {
-        Action::Int(k) => {
-            no_operand(from)?;
-            Ok(Instr::Int(to, k))
-        }
-        Action::Bool(b) => {
-            no_operand(from)?;
-            Ok(Instr::Bool(to, b))
-        }
-        Action::Nil => {
-            no_operand(from)?;
-            Ok(Instr::Nil(to))
-        }
-        Action::Copy => Ok(copy_instr(ty, to, one_operand(from)?)),
+        Action::Int(k) => Instr::Int(to, k),
+        Action::Bool(b) => Instr::Bool(to, b),
+        Action::Nil => Instr::Nil(to),
+        Action::Copy => copy_instr(ty, to, one_operand(from)),
         Action::Binary(op) => {
-            let (a, b) = two_operands(from)?;
+            let (a, b) = two_operands(from);
             binary_instr(to, op, a, b)
         }
-        Action::Neg => Ok(Instr::Neg(to, one_operand(from)?)),
-        Action::Not => Ok(Instr::Not(to, one_operand(from)?)),
-        Action::IsNil => Ok(Instr::IsNil(to, one_operand(from)?)),
-        Action::Len => Ok(Instr::Len(to, one_operand(from)?)),
-        Action::Load(k) => Ok(Instr::Load(to, one_operand(from)?, narrow(k)?)),
+        Action::Neg => Instr::Neg(to, one_operand(from)),
+        Action::Not => Instr::Not(to, one_operand(from)),
+        Action::IsNil => Instr::IsNil(to, one_operand(from)),
+        Action::Len => Instr::Len(to, one_operand(from)),
+        Action::Load(k) => Instr::Load(to, one_operand(from), k as u32),
         Action::At => {
-            let (a, i) = two_operands(from)?;
-            Ok(Instr::At(to, a, i))
+            let (a, i) = two_operands(from);
+            Instr::At(to, a, i)
         }
-        Action::New(n) => {
-            no_operand(from)?;
-            Ok(Instr::New(to, narrow(n)?))
-        }
-        Action::Slice => Ok(Instr::Slice(to, one_operand(from)?)),
-        Action::Chan => Ok(Instr::Chan(to, one_operand(from)?)),
-        Action::Recv => Ok(Instr::Recv(to, one_operand(from)?)),
-        Action::Get(n) => {
-            no_operand(from)?;
-            Ok(Instr::Get(to, narrow(n)?))
-        }
+        Action::New(n) => Instr::New(to, n as u32),
+        Action::Slice => Instr::Slice(to, one_operand(from)),
+        Action::Chan => Instr::Chan(to, one_operand(from)),
+        Action::Recv => Instr::Recv(to, one_operand(from)),
+        Action::Get(n) => Instr::Get(to, n as u32),
         Action::Store(_) | Action::Put | Action::Send | Action::Close | Action::Set(_) => {
-            Err(EmitError::IllFormed)
+            unreachable!()
         }
     }
 }
 
-/// The instruction of an action that gives no value. It fails for an action that gives one, and where the action takes
-/// another number of operands.
-pub fn effect_instr(action: Action, from: &[u32]) -> Result<Instr, EmitError>
-    ensures { IfOk result (λ i. Encodes i (Do None action from.now)) }
+/// The instruction of an action that returns no value.
+pub fn effect_instr(action: Action, from: &[u32]) -> Instr
+    requires { has_effect action (length from.now) ≡ true }
+    ensures { Encodes result (Do None action from.now) }
 {
     match action {
         Action::Store(k) => {
-            let (a, b) = two_operands(from)?;
-            Ok(Instr::Store(a, narrow(k)?, b))
+            let (a, b) = two_operands(from);
+            Instr::Store(a, k as u32, b)
         }
         Action::Put => {
-            let (a, i, b) = three_operands(from)?;
-            Ok(Instr::Put(a, i, b))
+            let (a, i, b) = three_operands(from);
+            Instr::Put(a, i, b)
         }
         Action::Send => {
-            let (c, a) = two_operands(from)?;
-            Ok(Instr::Send(c, a))
+            let (c, a) = two_operands(from);
+            Instr::Send(c, a)
         }
-        Action::Close => Ok(Instr::Close(one_operand(from)?)),
-        Action::Set(n) => Ok(Instr::Set(narrow(n)?, one_operand(from)?)),
+        Action::Close => Instr::Close(one_operand(from)),
+        Action::Set(n) => Instr::Set(n as u32, one_operand(from)),
         Action::Int(_)
         | Action::Bool(_)
         | Action::Nil
@@ -182,7 +140,7 @@ pub fn effect_instr(action: Action, from: &[u32]) -> Result<Instr, EmitError>
         | Action::Slice
         | Action::Chan
         | Action::Recv
-        | Action::Get(_) => { Err(EmitError::IllFormed) }
+        | Action::Get(_) => unreachable!(),
     }
 }
 

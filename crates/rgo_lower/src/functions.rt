@@ -1,25 +1,27 @@
 //! The code of functions.
 
-ghost use Rattle.std.specs.Prelude.{◌≡◌, ◌+◌, ◌<◌, ◌≤◌, ◌^◌, ℕ, IfOk, length, get_or};
+ghost use Rattle.std.specs.Prelude.{◌≡◌, ◌+◌, ◌<◌, ◌≤◌, ◌^◌, ℕ, IfOk, length, get_or, true, false};
+ghost use Rattle.rgo_typed.specs.Tree.{stmts_of};
 ghost use Rattle.rgo_typed.specs.Views.{function_of};
 ghost use Rattle.rgo_tac.specs.Views.{body_of};
 ghost use Rattle.rgo_lower.specs.Lowered.{closing_op};
+ghost use Rattle.rgo_lower.specs.Shapes.{stmts_fit};
 ghost use Rattle.rgo_lower.specs.Sizes.{function_size};
 ghost use Rattle.rgo_lower.specs.Emitted.{count, made_of, always, OpIsAdded, Begins, finished, FunctionIsLowered};
 
 use crate::blocks::lower_stmts;
 use crate::builder::Builder;
-use crate::errors::EmitError;
 use crate::targets::{instrs_of, places_of};
 use rgo_ast::{Name, Place};
 use rgo_tac::{Body, FunctionError, Instr, TacFn, copy_name, copy_result, copy_types};
 use rgo_typed::{Function, Row, Type};
-use std::alloc::Global;
+use std::alloc::{AllocError, Global};
 
 /// The first variable numbers.
-fn first_slots(alloc: Global, count: usize) -> Result<Vec<u32>, EmitError>
+fn first_slots(alloc: Global, count: usize) -> Result<Vec<u32>, AllocError>
     requires { count < 2 ^ 32 }
-    ensures { IfOk result (λ slots. (n : ℕ) → n < count → get_or slots.items n 0 ≡ n) }
+    ensures { IfOk result (λ slots. (length slots.items ≡ count)
+        × ((n : ℕ) → n < count → get_or slots.items n 0 ≡ n)) }
 {
     let mut slots = Vec::new(alloc);
     for n in 0..count {
@@ -29,7 +31,7 @@ fn first_slots(alloc: Global, count: usize) -> Result<Vec<u32>, EmitError>
 }
 
 /// The local variables of these types, of which the first are parameters: each has the variable of its own number.
-fn begin(alloc: Global, locals: &[Type], params: usize) -> Result<Builder, EmitError>
+fn begin(alloc: Global, locals: &[Type], params: usize) -> Result<Builder, AllocError>
     requires params { params ≤ length locals.now }
     requires locals { length locals.now < 2 ^ 32 }
     ensures { IfOk result (λ b. Begins params locals.now (made_of b)) }
@@ -46,7 +48,7 @@ fn begin(alloc: Global, locals: &[Type], params: usize) -> Result<Builder, EmitE
 }
 
 /// Adds the end of a function: a return, or, where it has a result, a jump to itself, which is never reached.
-fn close(b: &mut Builder, result_type: &Option<Type>, end: Place) -> Result<(), EmitError>
+fn close(b: &mut Builder, result_type: &Option<Type>, end: Place) -> Result<(), AllocError>
     requires { count (made_of b.now) + 4 < 2 ^ 32 }
     ensures { IfOk result (λ done. OpIsAdded (made_of b.old)
         (always (closing_op result_type.now (length b.old.lines.items))) end (made_of b.new)) }
@@ -69,7 +71,7 @@ fn made(
     result_type: Option<Type>,
     types: Row<Type>,
     body: Body,
-) -> Result<TacFn, EmitError>
+) -> Result<TacFn, AllocError>
     requires variables { length types + 2 < 2 ^ 32 }
     requires instrs { length body.instrs + 1 < 2 ^ 32 }
     ensures { IfOk result (λ f. f ≡ record {
@@ -82,13 +84,13 @@ fn made(
 {
     match TacFn::new(alloc, name, params, result_type, types, body) {
         Ok(function) => Ok(function),
-        Err(FunctionError::NoMemory) => Err(EmitError::NoMemory),
+        Err(FunctionError::NoMemory) => Err(AllocError),
         Err(FunctionError::TooLarge) => unreachable!(),
     }
 }
 
 /// The function with this code.
-fn finish(b: Builder, function: &Function) -> Result<TacFn, EmitError>
+fn finish(b: Builder, function: &Function) -> Result<TacFn, AllocError>
     requires { count (made_of b) + 2 < 2 ^ 32 }
     ensures { IfOk result (λ f. f ≡ finished (function_of function.now) (made_of b)) }
 {
@@ -113,9 +115,10 @@ fn finish(b: Builder, function: &Function) -> Result<TacFn, EmitError>
 }
 
 /// The code of a function.
-pub fn lower_function(alloc: Global, function: &Function) -> Result<TacFn, EmitError>
+pub fn lower_function(alloc: Global, function: &Function) -> Result<TacFn, AllocError>
     requires params { function.now.params ≤ length function.now.locals }
     requires size { function_size (function_of function.now) + 2 < 2 ^ 32 }
+    requires shape { stmts_fit (length function.now.locals) false (stmts_of (function_of function.now).body) ≡ true }
     ensures { IfOk result (λ f. FunctionIsLowered (function_of function.now) f) }
 {
     let mut b = begin(alloc, function.locals.items(), function.params)?;

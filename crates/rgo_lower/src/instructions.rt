@@ -1,6 +1,6 @@
 //! Single instructions, added to a builder.
 
-ghost use Rattle.std.specs.Prelude.{◌≡◌, ◌+◌, ◌<◌, ◌^◌, [], ◌∷◌, IfOk, Some, None};
+ghost use Rattle.std.specs.Prelude.{◌≡◌, ◌+◌, ◌<◌, ◌^◌, [], ◌∷◌, IfOk, Some, None, length, true};
 ghost use Rattle.rgo_typed.specs.declared.actions.Action.TheVariants as action;
 ghost use Rattle.rgo_tac.specs.Code as op;
 ghost use Rattle.rgo_lower.specs.Emitted.{
@@ -14,13 +14,14 @@ ghost use Rattle.rgo_lower.specs.Emitted.{
   jump_to,
   branch_to,
 };
+ghost use Rattle.rgo_lower.specs.Shapes.{returns_value, has_effect};
 
 use crate::builder::Builder;
-use crate::encode::{copy_instr, effect_instr, narrow, value_instr};
-use crate::errors::EmitError;
+use crate::encode::{copy_instr, effect_instr, value_instr};
 use rgo_ast::Place;
 use rgo_tac::Instr;
 use rgo_typed::{Action, Piece, Type};
+use std::alloc::AllocError;
 
 impl Builder {
     /// An action that gives a new variable of this type its value.
@@ -30,28 +31,30 @@ impl Builder {
         from: &[u32],
         ty: &Type,
         place: Place,
-    ) -> Result<u32, EmitError>
-        requires { count (made_of self.now) + 3 < 2 ^ 32 }
+    ) -> Result<u32, AllocError>
+        requires room { count (made_of self.now) + 3 < 2 ^ 32 }
+        requires operands { returns_value action (length from.now) ≡ true }
         ensures { IfOk result (λ d. ValueIsAdded (made_of self.old) (acts action from.now) ty.now place d
             (made_of self.new)) }
     {
         let to = self.variable(ty)?;
-        let instr = value_instr(to, action, from, ty)?;
+        let instr = value_instr(to, action, from, ty);
         self.line(instr, place)?;
         Ok(to)
     }
 
     /// An action that gives no value.
-    pub fn act(&mut self, action: Action, from: &[u32], place: Place) -> Result<(), EmitError>
+    pub fn act(&mut self, action: Action, from: &[u32], place: Place) -> Result<(), AllocError>
+        requires { has_effect action (length from.now) ≡ true }
         ensures { IfOk result (λ done. OpIsAdded (made_of self.old) (always (op.Do None action from.now)) place
             (made_of self.new)) }
     {
-        let instr = effect_instr(action, from)?;
+        let instr = effect_instr(action, from);
         self.line(instr, place)
     }
 
     /// A copy to a variable that is there. It takes the type of that variable.
-    pub fn copy_to(&mut self, to: u32, from: u32, place: Place) -> Result<(), EmitError>
+    pub fn copy_to(&mut self, to: u32, from: u32, place: Place) -> Result<(), AllocError>
         ensures { IfOk result (λ done. OpIsAdded (made_of self.old)
             (always (op.Do (Some to) action.Copy (from ∷ []))) place (made_of self.new)) }
     {
@@ -69,42 +72,42 @@ impl Builder {
         from: Vec<u32>,
         ty: &Type,
         place: Place,
-    ) -> Result<u32, EmitError>
-        requires { count (made_of self.now) + 3 < 2 ^ 32 }
+    ) -> Result<u32, AllocError>
+        requires room { count (made_of self.now) + 3 < 2 ^ 32 }
+        requires number { function < 2 ^ 32 }
         ensures { IfOk result (λ d. ValueIsAdded (made_of self.old) (calls function from.items) ty.now place d
             (made_of self.new)) }
     {
-        let number = narrow(function)?;
         let list = self.list(from)?;
         let to = self.variable(ty)?;
-        self.line(Instr::Call(to, number, list), place)?;
+        self.line(Instr::Call(to, function as u32, list), place)?;
         Ok(to)
     }
 
     /// A call of a function that has no result.
-    pub fn invoke(&mut self, function: usize, from: Vec<u32>, place: Place) -> Result<(), EmitError>
-        requires { count (made_of self.now) + 3 < 2 ^ 32 }
+    pub fn invoke(&mut self, function: usize, from: Vec<u32>, place: Place) -> Result<(), AllocError>
+        requires room { count (made_of self.now) + 3 < 2 ^ 32 }
+        requires number { function < 2 ^ 32 }
         ensures { IfOk result (λ done. OpIsAdded (made_of self.old) (always (op.Call None function from.items)) place
             (made_of self.new)) }
     {
-        let number = narrow(function)?;
         let list = self.list(from)?;
-        self.line(Instr::Invoke(number, list), place)
+        self.line(Instr::Invoke(function as u32, list), place)
     }
 
     /// The start of a goroutine.
-    pub fn start(&mut self, function: usize, from: Vec<u32>, place: Place) -> Result<(), EmitError>
-        requires { count (made_of self.now) + 3 < 2 ^ 32 }
+    pub fn start(&mut self, function: usize, from: Vec<u32>, place: Place) -> Result<(), AllocError>
+        requires room { count (made_of self.now) + 3 < 2 ^ 32 }
+        requires number { function < 2 ^ 32 }
         ensures { IfOk result (λ done. OpIsAdded (made_of self.old) (always (op.Go function from.items)) place
             (made_of self.new)) }
     {
-        let number = narrow(function)?;
         let list = self.list(from)?;
-        self.line(Instr::Go(number, list), place)
+        self.line(Instr::Go(function as u32, list), place)
     }
 
     /// A print of these pieces, with these variables among them.
-    pub fn print(&mut self, pieces: &[Piece], from: Vec<u32>, place: Place) -> Result<(), EmitError>
+    pub fn print(&mut self, pieces: &[Piece], from: Vec<u32>, place: Place) -> Result<(), AllocError>
         requires { count (made_of self.now) + 3 < 2 ^ 32 }
         ensures { IfOk result (λ done. OpIsAdded (made_of self.old) (always (op.Print pieces.now from.items)) place
             (made_of self.new)) }
@@ -115,7 +118,7 @@ impl Builder {
     }
 
     /// A jump to a label.
-    pub fn jump(&mut self, label: u32, place: Place) -> Result<(), EmitError>
+    pub fn jump(&mut self, label: u32, place: Place) -> Result<(), AllocError>
         ensures { IfOk result (λ done. OpIsAdded (made_of self.old) (jump_to label) place (made_of self.new)) }
     {
         self.line(Instr::Jump(label), place)
@@ -128,7 +131,7 @@ impl Builder {
         inside: u32,
         other: u32,
         place: Place,
-    ) -> Result<(), EmitError>
+    ) -> Result<(), AllocError>
         ensures { IfOk result (λ done. OpIsAdded (made_of self.old) (branch_to test inside other) place
             (made_of self.new) × (count (made_of self.new) ≡ count (made_of self.old) + 1)) }
     {
@@ -136,7 +139,7 @@ impl Builder {
     }
 
     /// A return of the value of this variable.
-    pub fn return_from(&mut self, value: u32, place: Place) -> Result<(), EmitError>
+    pub fn return_from(&mut self, value: u32, place: Place) -> Result<(), AllocError>
         ensures { IfOk result (λ done. OpIsAdded (made_of self.old) (always (op.Return (Some value))) place
             (made_of self.new)) }
     {
@@ -144,7 +147,7 @@ impl Builder {
     }
 
     /// A return without a value.
-    pub fn leave(&mut self, place: Place) -> Result<(), EmitError>
+    pub fn leave(&mut self, place: Place) -> Result<(), AllocError>
         ensures { IfOk result (λ done. OpIsAdded (made_of self.old) (always (op.Return None)) place
             (made_of self.new)) }
     {

@@ -15,5 +15,5 @@ mod targets;
 mod terms;
 
 pub use errors::LowerError;
-pub use laws::{lowering_is_determined, lowering_simulates};
+pub use laws::{examples, lowering_is_determined, lowering_simulates};
 pub use programs::lower;

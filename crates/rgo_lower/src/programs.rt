@@ -7,15 +7,15 @@ ghost use Rattle.rgo_lower.specs.declared.errors.LowerError.TheVariants.{TooLarg
 ghost use Rattle.rgo_lower.specs.Lowered.{IsLowered};
 ghost use Rattle.rgo_lower.specs.Sizes.{IsTooLarge, program_size};
 
-use crate::errors::{EmitError, LowerError};
+use crate::errors::LowerError;
 use crate::functions::lower_function;
 use crate::sizes::is_too_large;
 use rgo_tac::{Tac, copy_structs, copy_variables};
 use rgo_typed::{Row, Typed};
-use std::alloc::Global;
+use std::alloc::{AllocError, Global};
 
 /// The three-address code of a program that is not too large.
-fn emit(alloc: Global, program: &Typed) -> Result<Tac, EmitError>
+fn emit(alloc: Global, program: &Typed) -> Result<Tac, AllocError>
     requires well { IsWellFormed (typed_of program.now) }
     requires size { program_size (typed_of program.now) + 2 < 2 ^ 32 }
     ensures { IfOk result (λ code. IsLowered (typed_of program.now) code) }
@@ -46,7 +46,6 @@ pub fn lower(alloc: Global, program: &Typed) -> Result<Tac, LowerError>
     }
     match emit(alloc, program) {
         Ok(code) => Ok(code),
-        Err(EmitError::NoMemory) => Err(LowerError::NoMemory),
-        Err(EmitError::IllFormed) => Err(LowerError::IllFormed),
+        Err(_) => Err(LowerError::NoMemory),
     }
 }

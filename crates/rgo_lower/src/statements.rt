@@ -1,18 +1,19 @@
 //! The code of statements without statements in them.
 
-ghost use Rattle.std.specs.Prelude.{◌≡◌, ◌+◌, ◌<◌, ◌^◌, IfOk, map, Some};
+ghost use Rattle.std.specs.Prelude.{◌≡◌, ◌+◌, ◌<◌, ◌^◌, IfOk, map, Some, length, true, is_some};
 ghost use Rattle.rgo_typed.specs.Tree as tree;
 ghost use Rattle.rgo_typed.specs.Tree.{terms_of};
 ghost use Rattle.rgo_typed.specs.Views.{term_of, boxed_term_of};
 ghost use Rattle.rgo_lower.specs.Sizes.{term_size, value_size, stmt_size};
 ghost use Rattle.rgo_lower.specs.Emitted.{count, made_of, IsEmitted, StmtIsEmitted, TestIsEmitted, ConditionIsEmitted};
+ghost use Rattle.rgo_lower.specs.Shapes.{is_narrow, term_fits, terms_fit, value_fits, has_effect, how_many, change_fits};
 
 use crate::builder::{Builder, Loop};
 use crate::encode::zero_action;
-use crate::errors::EmitError;
 use crate::terms::{lower_term, lower_terms};
 use rgo_ast::{BinaryOp, Place};
 use rgo_typed::{Action, Logical, Piece, Term, Type};
+use std::alloc::AllocError;
 
 /// An assignment that computes first.
 #[derive(Clone, Copy)]
@@ -34,28 +35,34 @@ pub fn declare(
     ty: &Type,
     value: &Term,
     place: Place,
-) -> Result<(), EmitError>
-    requires { count (made_of b.now) + stmt_size (tree.Declare n ty.now (term_of value.now) place) < 2 ^ 32 }
+) -> Result<(), AllocError>
+    requires room { count (made_of b.now) + stmt_size (tree.Declare n ty.now (term_of value.now) place) < 2 ^ 32 }
+    requires shape { term_fits (term_of value.now) ≡ true }
+    requires number { n < length b.now.slots.items }
     ensures { IfOk result (λ done. IsEmitted (tree.Declare n ty.now (term_of value.now) place)
         (made_of b.old) (made_of b.new)) }
 {
     let d = lower_term(b, value)?;
     let variable = b.give(Action::Copy, &[d], ty, place)?;
-    b.declare(n, variable)
+    b.declare(n, variable);
+    Ok(())
 }
 
 /// A local variable begins with the zero of its type.
-pub fn declare_zero(b: &mut Builder, n: usize, ty: &Type, place: Place) -> Result<(), EmitError>
-    requires { count (made_of b.now) + 3 < 2 ^ 32 }
+pub fn declare_zero(b: &mut Builder, n: usize, ty: &Type, place: Place) -> Result<(), AllocError>
+    requires room { count (made_of b.now) + 3 < 2 ^ 32 }
+    requires number { n < length b.now.slots.items }
     ensures { IfOk result (λ done. IsEmitted (tree.Zero n ty.now place) (made_of b.old) (made_of b.new)) }
 {
     let variable = b.give(zero_action(ty), &[], ty, place)?;
-    b.declare(n, variable)
+    b.declare(n, variable);
+    Ok(())
 }
 
 /// A local variable is given a value.
-pub fn assign(b: &mut Builder, n: usize, value: &Term, place: Place) -> Result<(), EmitError>
-    requires { count (made_of b.now) + term_size (term_of value.now) + 3 < 2 ^ 32 }
+pub fn assign(b: &mut Builder, n: usize, value: &Term, place: Place) -> Result<(), AllocError>
+    requires room { count (made_of b.now) + term_size (term_of value.now) + 3 < 2 ^ 32 }
+    requires shape { term_fits (term_of value.now) ≡ true }
     ensures { IfOk result (λ done. IsEmitted (tree.Assign n (term_of value.now) place)
         (made_of b.old) (made_of b.new)) }
 {
@@ -70,8 +77,10 @@ pub fn perform(
     action: Action,
     operands: &Vec<Term>,
     place: Place,
-) -> Result<(), EmitError>
-    requires { count (made_of b.now) + stmt_size (tree.Perform action (terms_of (map term_of operands.now.items)) place) < 2 ^ 32 }
+) -> Result<(), AllocError>
+    requires room { count (made_of b.now) + stmt_size (tree.Perform action (terms_of (map term_of operands.now.items)) place) < 2 ^ 32 }
+    requires shape { terms_fit (terms_of (map term_of operands.now.items)) ≡ true }
+    requires operands { has_effect action (how_many (terms_of (map term_of operands.now.items))) ≡ true }
     ensures { IfOk result (λ done. IsEmitted (tree.Perform action (terms_of (map term_of operands.now.items)) place)
         (made_of b.old) (made_of b.new)) }
 {
@@ -80,8 +89,8 @@ pub fn perform(
 }
 
 /// An assignment that computes first: the operands, the read, the value, the operation, the write.
-pub fn update(b: &mut Builder, change: &Change<'_>) -> Result<(), EmitError>
-    requires { count (made_of b.now) + stmt_size (tree.Update (record {
+pub fn update(b: &mut Builder, change: &Change<'_>) -> Result<(), AllocError>
+    requires room { count (made_of b.now) + stmt_size (tree.Update (record {
       operands = terms_of (map term_of change.now.operands.now.items);
       read = change.now.read;
       ty = change.now.ty.now;
@@ -91,6 +100,16 @@ pub fn update(b: &mut Builder, change: &Change<'_>) -> Result<(), EmitError>
       write = change.now.write;
       at = change.now.at;
     })) < 2 ^ 32 }
+    requires shape { change_fits (record {
+      operands = terms_of (map term_of change.now.operands.now.items);
+      read = change.now.read;
+      ty = change.now.ty.now;
+      read_at = change.now.read_at;
+      op = change.now.op;
+      value = term_of change.now.value.now;
+      write = change.now.write;
+      at = change.now.at;
+    }) ≡ true }
     ensures { IfOk result (λ done. IsEmitted (tree.Update (record {
       operands = terms_of (map term_of change.now.operands.now.items);
       read = change.now.read;
@@ -112,8 +131,9 @@ pub fn update(b: &mut Builder, change: &Change<'_>) -> Result<(), EmitError>
 }
 
 /// A value that is not used.
-pub fn discard(b: &mut Builder, value: &Term) -> Result<(), EmitError>
-    requires { count (made_of b.now) + term_size (term_of value.now) < 2 ^ 32 }
+pub fn discard(b: &mut Builder, value: &Term) -> Result<(), AllocError>
+    requires room { count (made_of b.now) + term_size (term_of value.now) < 2 ^ 32 }
+    requires shape { term_fits (term_of value.now) ≡ true }
     ensures { IfOk result (λ done. IsEmitted (tree.Discard (term_of value.now)) (made_of b.old) (made_of b.new)) }
 {
     lower_term(b, value)?;
@@ -126,8 +146,10 @@ pub fn invoke(
     function: usize,
     arguments: &Vec<Term>,
     place: Place,
-) -> Result<(), EmitError>
-    requires { count (made_of b.now) + stmt_size (tree.Invoke function (terms_of (map term_of arguments.now.items)) place) < 2 ^ 32 }
+) -> Result<(), AllocError>
+    requires room { count (made_of b.now) + stmt_size (tree.Invoke function (terms_of (map term_of arguments.now.items)) place) < 2 ^ 32 }
+    requires shape { terms_fit (terms_of (map term_of arguments.now.items)) ≡ true }
+    requires number { function < 2 ^ 32 }
     ensures { IfOk result (λ done. IsEmitted (tree.Invoke function (terms_of (map term_of arguments.now.items)) place)
         (made_of b.old) (made_of b.new)) }
 {
@@ -141,8 +163,10 @@ pub fn start(
     function: usize,
     arguments: &Vec<Term>,
     place: Place,
-) -> Result<(), EmitError>
-    requires { count (made_of b.now) + stmt_size (tree.Go function (terms_of (map term_of arguments.now.items)) place) < 2 ^ 32 }
+) -> Result<(), AllocError>
+    requires room { count (made_of b.now) + stmt_size (tree.Go function (terms_of (map term_of arguments.now.items)) place) < 2 ^ 32 }
+    requires shape { terms_fit (terms_of (map term_of arguments.now.items)) ≡ true }
+    requires number { function < 2 ^ 32 }
     ensures { IfOk result (λ done. IsEmitted (tree.Go function (terms_of (map term_of arguments.now.items)) place)
         (made_of b.old) (made_of b.new)) }
 {
@@ -156,8 +180,9 @@ pub fn print(
     pieces: &[Piece],
     values: &Vec<Term>,
     place: Place,
-) -> Result<(), EmitError>
-    requires { count (made_of b.now) + stmt_size (tree.Print pieces.now (terms_of (map term_of values.now.items)) place) < 2 ^ 32 }
+) -> Result<(), AllocError>
+    requires room { count (made_of b.now) + stmt_size (tree.Print pieces.now (terms_of (map term_of values.now.items)) place) < 2 ^ 32 }
+    requires shape { terms_fit (terms_of (map term_of values.now.items)) ≡ true }
     ensures { IfOk result (λ done. IsEmitted (tree.Print pieces.now (terms_of (map term_of values.now.items)) place)
         (made_of b.old) (made_of b.new)) }
 {
@@ -165,23 +190,25 @@ pub fn print(
     b.print(pieces, from, place)
 }
 
-/// A jump out of the innermost loop. It fails outside of loops, where no well-formed program has a `break`.
-pub fn break_out(b: &mut Builder, innermost: Option<Loop>, place: Place) -> Result<(), EmitError>
+/// A jump out of the innermost loop.
+pub fn break_out(b: &mut Builder, innermost: Option<Loop>, place: Place) -> Result<(), AllocError>
+    requires { is_some innermost ≡ true }
     ensures { IfOk result (λ done. StmtIsEmitted (tree.Break place) innermost (made_of b.old) (made_of b.new)) }
 {
     match innermost {
         Some(labels) => b.jump(labels.break_to, place),
-        None => Err(EmitError::IllFormed),
+        None => unreachable!(),
     }
 }
 
-/// A jump to the post statement of the innermost loop. It fails as `break_out` does.
-pub fn continue_on(b: &mut Builder, innermost: Option<Loop>, place: Place) -> Result<(), EmitError>
+/// A jump to the post statement of the innermost loop.
+pub fn continue_on(b: &mut Builder, innermost: Option<Loop>, place: Place) -> Result<(), AllocError>
+    requires { is_some innermost ≡ true }
     ensures { IfOk result (λ done. StmtIsEmitted (tree.Continue place) innermost (made_of b.old) (made_of b.new)) }
 {
     match innermost {
         Some(labels) => b.jump(labels.continue_to, place),
-        None => Err(EmitError::IllFormed),
+        None => unreachable!(),
     }
 }
 
@@ -190,8 +217,9 @@ pub fn return_with(
     b: &mut Builder,
     value: &Option<Box<Term>>,
     place: Place,
-) -> Result<(), EmitError>
-    requires { count (made_of b.now) + value_size (boxed_term_of value.now) + 3 < 2 ^ 32 }
+) -> Result<(), AllocError>
+    requires room { count (made_of b.now) + value_size (boxed_term_of value.now) + 3 < 2 ^ 32 }
+    requires shape { value_fits (boxed_term_of value.now) ≡ true }
     ensures { IfOk result (λ done. IsEmitted (tree.Return (boxed_term_of value.now) place)
         (made_of b.old) (made_of b.new)) }
 {
@@ -205,8 +233,9 @@ pub fn return_with(
 }
 
 /// A condition, and the branch to a label where it is false.
-pub fn lower_test(b: &mut Builder, test: &Term, other: u32, place: Place) -> Result<(), EmitError>
-    requires { count (made_of b.now) + term_size (term_of test.now) + 3 < 2 ^ 32 }
+pub fn lower_test(b: &mut Builder, test: &Term, other: u32, place: Place) -> Result<(), AllocError>
+    requires room { count (made_of b.now) + term_size (term_of test.now) + 3 < 2 ^ 32 }
+    requires shape { term_fits (term_of test.now) ≡ true }
     ensures { IfOk result (λ done. TestIsEmitted (term_of test.now) other place (made_of b.old) (made_of b.new)) }
 {
     let d = lower_term(b, test)?;
@@ -219,8 +248,9 @@ pub fn lower_condition(
     test: &Option<Box<Term>>,
     other: u32,
     place: Place,
-) -> Result<(), EmitError>
-    requires { count (made_of b.now) + value_size (boxed_term_of test.now) + 3 < 2 ^ 32 }
+) -> Result<(), AllocError>
+    requires room { count (made_of b.now) + value_size (boxed_term_of test.now) + 3 < 2 ^ 32 }
+    requires shape { value_fits (boxed_term_of test.now) ≡ true }
     ensures { IfOk result (λ done. ConditionIsEmitted (boxed_term_of test.now) other place (made_of b.old)
         (made_of b.new)) }
 {

@@ -1,6 +1,7 @@
 //! The code of terms.
 
-ghost use Rattle.std.specs.Prelude.{◌≡◌, ◌+◌, ◌<◌, ◌^◌, [], ◌∷◌, IfOk, length, map};
+ghost use Rattle.std.specs.Prelude.{◌≡◌, ◌+◌, ◌<◌, ◌^◌, [], ◌∷◌, IfOk, length, map, true};
+ghost use Rattle.std.specs.List.{list_all};
 ghost use Rattle.rgo_typed.specs.Tree.{terms_of};
 ghost use Rattle.rgo_typed.specs.Views.{term_of};
 ghost use Rattle.rgo_lower.specs.Lowered as spec;
@@ -14,12 +15,12 @@ ghost use Rattle.rgo_lower.specs.Emitted.{
   TermIsEmitted,
   TermsAreEmitted,
 };
+ghost use Rattle.rgo_lower.specs.Shapes.{is_narrow, term_fits, terms_fit};
 
 use crate::builder::Builder;
-use crate::errors::EmitError;
 use rgo_ast::Place;
 use rgo_typed::{Action, Base, Logical, Row, Term, Type};
-use std::alloc::Global;
+use std::alloc::{AllocError, Global};
 
 /// The type of truth values.
 fn truth(alloc: Global) -> Type
@@ -50,7 +51,7 @@ impl Builder {
         test: u32,
         other: u32,
         place: Place,
-    ) -> Result<(), EmitError>
+    ) -> Result<(), AllocError>
         requires { count (made_of self.now) + 3 < 2 ^ 32 }
         ensures { IfOk result (λ done. OpIsAdded (made_of self.old)
             (decides logic test (length self.old.lines.items + 1) other) place (made_of self.new)) }
@@ -63,21 +64,19 @@ impl Builder {
         self.place(next)
     }
 
-    /// Stores the values in the fields of an object. It fails if there are not as many, which never happens in a
-    /// well-formed program.
+    /// Stores the values in the fields of an object, one in each.
     fn fill(
         &mut self,
         object: u32,
         fields: &[usize],
         from: &[u32],
         place: Place,
-    ) -> Result<(), EmitError>
+    ) -> Result<(), AllocError>
+        requires values { length fields.now ≡ length from.now }
+        requires numbers { list_all is_narrow fields.now ≡ true }
         ensures { IfOk result (λ done. FieldsAreStored object fields.now from.now place (made_of self.old)
             (made_of self.new)) }
     {
-        if fields.len() != from.len() {
-            return Err(EmitError::IllFormed);
-        }
         for i in 0..fields.len() {
             self.act(Action::Store(fields[i]), &[object, from[i]], place)?;
         }
@@ -88,8 +87,9 @@ impl Builder {
 /// The code of a term. The result is the variable with its value.
 #[cycle(terms)]
 #[tactic(auto, using(rgo_typed::proofs::Rows::rows))]
-pub fn lower_term(b: &mut Builder, term: &Term) -> Result<u32, EmitError>
-    requires { count (made_of b.now) + term_size (term_of term.now) < 2 ^ 32 }
+pub fn lower_term(b: &mut Builder, term: &Term) -> Result<u32, AllocError>
+    requires room { count (made_of b.now) + term_size (term_of term.now) < 2 ^ 32 }
+    requires shape { term_fits (term_of term.now) ≡ true }
     ensures { IfOk result (λ d. TermIsEmitted (term_of term.now) (made_of b.old) d (made_of b.new)) }
 {
     match term {
@@ -124,8 +124,9 @@ pub fn lower_term(b: &mut Builder, term: &Term) -> Result<u32, EmitError>
 
 /// The code of several terms, one after the other. The result is the variables with their values.
 #[cycle(terms)]
-pub fn lower_terms(b: &mut Builder, terms: &Vec<Term>) -> Result<Vec<u32>, EmitError>
-    requires { count (made_of b.now) + terms_size (terms_of (map term_of terms.now.items)) < 2 ^ 32 }
+pub fn lower_terms(b: &mut Builder, terms: &Vec<Term>) -> Result<Vec<u32>, AllocError>
+    requires room { count (made_of b.now) + terms_size (terms_of (map term_of terms.now.items)) < 2 ^ 32 }
+    requires shape { terms_fit (terms_of (map term_of terms.now.items)) ≡ true }
     ensures { IfOk result (λ ds. TermsAreEmitted (terms_of (map term_of terms.now.items)) (made_of b.old) ds.items
         (made_of b.new)) }
 {

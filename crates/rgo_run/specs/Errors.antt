@@ -46,7 +46,7 @@ abbrev pub lex_error : LexError → Ending
 lex_error (lex.Refused refusal) = Lexical refusal
 lex_error lex.NoMemory = NoMemory
 
--- a text within the limit is not too large to be lowered, and the tree of a valid program is well-formed
+-- a text within the limit is not too large to be lowered
 abbrev pub lower_error : LowerError → Ending
 lower_error error = NoMemory
 

@@ -128,8 +128,8 @@ impl From<LowerError> for Ending {
     fn from(error: LowerError) -> Ending {
         match error {
             // A term or statement counts less than 12 and takes a byte of the text at least, so a text of at most TEXT_LIMIT
-            // bytes is far from too large; and the trees of valid programs are well-formed.
-            LowerError::NoMemory | LowerError::TooLarge | LowerError::IllFormed => Ending::NoMemory,
+            // bytes is far from too large.
+            LowerError::NoMemory | LowerError::TooLarge => Ending::NoMemory,
         }
     }
 }

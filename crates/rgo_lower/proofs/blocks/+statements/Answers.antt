@@ -1,16 +1,17 @@
-use Rattle.std.proofs.Common.{arith, ◌≡◌, ◌+◌, ◌^◌, ◌<◌, ◌≤◌, rules, length, map, get_or, sym, ap, ◌∙◌, subst}
+use Rattle.std.proofs.Common.{arith, ◌≡◌, ◌+◌, ◌^◌, ◌<◌, ◌≤◌, rules, true, is_some, length, drop, map, get_or, sym, ap, ◌∙◌, subst}
 use Rattle.rgo_typed.specs.declared.terms.Term.{Term}
 use Rattle.rgo_typed.specs.Tree as tree
 use Rattle.rgo_typed.specs.Tree.{Change, terms_of, stmts_of}
 use Rattle.rgo_typed.specs.Views.{term_of, boxed_term_of, stmt_of}
 use Rattle.rgo_lower.specs.declared.builder.Loop.{Loop}
+use Rattle.rgo_lower.specs.Shapes.{stmts_fit}
 use Rattle.rgo_lower.specs.Sizes.{stmt_size}
 use Rattle.rgo_lower.specs.Emitted.{count, made_of, IsEmitted, StmtIsEmitted}
 use Rattle.rgo_lower.proofs.Growing.{ok_map}
 use Rattle.rgo_lower.proofs.Labels.{fresh}
 use Rattle.rgo_lower.proofs.Views.{block_is}
 use Rattle.rgo_lower.proofs.Weights.{lighter}
-use Rattle.rgo_lower.proofs.BlockParts.{next_size, block_emitted, if_emitted, if_else_emitted, loop_emitted, next_emitted, end_emitted}
+use Rattle.rgo_lower.proofs.BlockParts.{next_size, next_fits, block_emitted, if_emitted, if_else_emitted, loop_emitted, next_emitted, end_emitted}
 use Rattle.rgo_lower.proofs.blocks.+statements.Goals as goal
 
 -- ---- one statement
@@ -146,7 +147,8 @@ lower_stmts-lower_stmt-requires t c =
     let more = next_size xs i x lt is in
     let small : count (made_of c.loop-stmt.b) + stmt_size (stmt_of x) < 2 ^ 32 =
     omega (arith, more, c.loop-stmt.invariant.small) in
-    search (rules, down, small)
+    let fits = (next_fits (length c.loop-stmt.b.slots.items) (is_some c.args.innermost) xs i x lt is c.loop-stmt.invariant.shape).0 in
+    search (rules, down, small, fits)
 
 pub lower_stmts-loop-stmt-preserved : goal.lower_stmts-loop-stmt-preserved
 lower_stmts-loop-stmt-preserved t c =
@@ -159,6 +161,11 @@ lower_stmts-loop-stmt-preserved t c =
     let more = next_size xs i x lt is in
     record {
       small = omega (arith, more, c.loop-stmt.invariant.small, c.in_ok-lower_stmt.ensures.size);
+      shape =
+          subst (λ n. stmts_fit n (is_some c.args.innermost) (stmts_of (map stmt_of (drop (i + 1) xs))) ≡ true)
+          (sym c.in_ok-lower_stmt.ensures.locals)
+          (next_fits (length c.loop-stmt.b.slots.items) (is_some c.args.innermost) xs i x lt is
+          c.loop-stmt.invariant.shape).1;
       rest = λ new rest.
           c.loop-stmt.invariant.rest new
           (next_emitted xs i x c.args.innermost (made_of c.loop-stmt.b) (made_of c.lower_stmt.new.b) new lt is

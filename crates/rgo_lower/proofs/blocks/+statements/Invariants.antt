@@ -1,7 +1,8 @@
-use Rattle.std.proofs.Common.{◌+◌, ◌<◌, ◌^◌, suc, drop, map}
+use Rattle.std.proofs.Common.{◌≡◌, ◌+◌, ◌<◌, ◌^◌, suc, true, is_some, length, drop, map}
 use Rattle.rgo_typed.specs.Tree.{stmts_of}
 use Rattle.rgo_typed.specs.Views.{stmt_of}
 use Rattle.rgo_lower.specs.Emitted.{Made, count, made_of, StmtsAreEmitted}
+use Rattle.rgo_lower.specs.Shapes.{stmts_fit}
 use Rattle.rgo_lower.specs.Sizes.{stmts_size}
 use Rattle.rgo_lower.proofs.Weights.{weight, weights}
 use Rattle.rgo_lower.proofs.blocks.+statements.Given as goal
@@ -10,6 +11,9 @@ use Rattle.rgo_lower.proofs.blocks.+statements.Given as goal
 abbrev pub invariant-lower_stmts-loop-stmt : goal.invariant-lower_stmts-loop-stmt
 invariant-lower_stmts-loop-stmt l = record {
   small : count (made_of l.b) + stmts_size (stmts_of (map stmt_of (drop l.stmt-index l.stmts.items))) < 2 ^ 32;
+  shape :
+      stmts_fit (length l.b.slots.items) (is_some l.innermost)
+      (stmts_of (map stmt_of (drop l.stmt-index l.stmts.items))) ≡ true;
   rest :
       (new : Made)
       → StmtsAreEmitted (stmts_of (map stmt_of (drop l.stmt-index l.stmts.items))) l.innermost (made_of l.b) new

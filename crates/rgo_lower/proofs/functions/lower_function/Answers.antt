@@ -1,9 +1,19 @@
-use Rattle.std.proofs.Common.{subst}
+use Rattle.std.proofs.Common.{◌≡◌, true, false, sym, subst}
 use Rattle.std.proofs.lemmas.Result.{IfOk-weaker}
+use Rattle.rgo_typed.specs.Tree.{stmts_of}
 use Rattle.rgo_typed.specs.Views.{function_of}
 use Rattle.rgo_lower.specs.Emitted.{made_of, Begins}
+use Rattle.rgo_lower.specs.Shapes.{stmts_fit}
 use Rattle.rgo_lower.proofs.Finished.{function_lowered}
 use Rattle.rgo_lower.proofs.functions.lower_function.Goals as goal
+
+pub lower_stmts-requires-clause-shape : goal.lower_stmts-requires-clause-shape
+lower_stmts-requires-clause-shape c =
+    let source = function_of c.args.function.now in
+    let a = made_of c.in_ok-b.b in
+    let begins : Begins source.params source.locals a =
+    subst (λ z. Begins source.params z a) c.items.ensures c.in_ok-b.ensures in
+    subst (λ n. stmts_fit n false (stmts_of source.body) ≡ true) (sym begins.locals) c.requires.shape
 
 pub returns : goal.returns
 returns c =

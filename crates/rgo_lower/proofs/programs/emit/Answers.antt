@@ -4,6 +4,7 @@ use Rattle.rgo_wellformed.specs.WellFormed.{declared_by}
 use Rattle.rgo_lower.specs.Lowered.{AreLowered}
 use Rattle.rgo_lower.proofs.Growing.{one_more_before}
 use Rattle.rgo_lower.proofs.Finished.{within_largest, well_function, next_lowered, end_lowered, program_is}
+use Rattle.rgo_lower.proofs.Fitting.{small_program, function_fits}
 use Rattle.rgo_lower.proofs.programs.emit.Goals as goal
 
 pub lower_function-requires-clause-params : goal.lower_function-requires-clause-params
@@ -28,6 +29,18 @@ lower_function-requires-clause-size c =
     within_largest xs i x (subst (λ z. i < length z) same c.loop-function-test.true)
     (subst (λ z. x ≡ get_or z i x) same c.function-item.is) in
     omega (arith, within, c.requires.size)
+
+pub lower_function-requires-clause-shape : goal.lower_function-requires-clause-shape
+lower_function-requires-clause-shape c =
+    let xs = c.args.program.now.functions.items in
+    let i = c.loop-function.function-index in
+    let x = c.function-item.result in
+    let program = typed_of c.args.program.now in
+    let same : c.deref-function-items.result.now ≡ xs = c.deref-function-items.ensures.value in
+    let well =
+    well_function program xs i x c.requires.well refl (subst (λ z. i < length z) same c.loop-function-test.true)
+    (subst (λ z. x ≡ get_or z i x) same c.function-item.is) in
+    function_fits (declared_by program) (small_program program c.requires.size) (function_of x) well
 
 pub loop-function-preserved : goal.loop-function-preserved
 loop-function-preserved c =

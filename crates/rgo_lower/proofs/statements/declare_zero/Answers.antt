@@ -1,9 +1,11 @@
-use Rattle.std.proofs.Common.{[], subst}
+use Rattle.std.proofs.Common.{◌<◌, [], length, sym, subst}
 use Rattle.rgo_lower.specs.Lowered.{zero_action}
 use Rattle.rgo_lower.specs.Emitted.{made_of, ValueIsAdded, acts}
-use Rattle.rgo_lower.proofs.Growing.{ok_map}
 use Rattle.rgo_lower.proofs.StmtParts.{zero_emitted, declared}
 use Rattle.rgo_lower.proofs.statements.declare_zero.Goals as goal
+
+pub declare-requires : goal.declare-requires
+declare-requires c = subst (λ z. c.args.n < length z) (sym c.in_ok-variable.ensures.slots) c.requires.number
 
 pub returns : goal.returns
 returns c =
@@ -14,6 +16,5 @@ returns c =
     let ty = c.args.ty.now in
     let value : ValueIsAdded a (acts (zero_action ty) []) ty c.args.place x b =
     subst (λ z. ValueIsAdded a (acts z []) ty c.args.place x b) c.zero_action.ensures c.in_ok-variable.ensures in
-    ok_map c.declare.result _ _
-    (λ is l. zero_emitted c.args.n ty c.args.place x l a b e value
-    (declared c.args.n x b e is.0 is.1)) c.declare.ensures
+    λ l. zero_emitted c.args.n ty c.args.place x l a b e value
+    (declared c.args.n x b e (declare-requires c) c.declare.ensures)

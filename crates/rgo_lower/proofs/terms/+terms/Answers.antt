@@ -7,7 +7,7 @@ use Rattle.rgo_typed.specs.Views.{term_of}
 use Rattle.rgo_lower.specs.Lowered.{bool, pointer_to}
 use Rattle.rgo_lower.specs.Emitted.{made_of, always, OpIsAdded, ValueIsAdded, FieldsAreStored, TermIsEmitted, TermsAreEmitted, acts, decides}
 use Rattle.rgo_lower.proofs.Growing.{one_more_before}
-use Rattle.rgo_lower.proofs.TermParts.{next_size, apply_emitted, call_emitted, build_emitted, logic_emitted, next_emitted, end_emitted, logic_end}
+use Rattle.rgo_lower.proofs.TermParts.{next_size, next_fits, apply_emitted, call_emitted, build_emitted, logic_emitted, next_emitted, end_emitted, logic_end}
 use Rattle.rgo_lower.proofs.Labels.{fresh, placed}
 use Rattle.rgo_lower.proofs.Views.{apply_is, logic_is, build_is, call_is}
 use Rattle.rgo_lower.proofs.terms.+terms.Goals as goal
@@ -107,6 +107,7 @@ lower_terms-loop-term-preserved t c =
     let more = next_size xs i x lt is in
     record {
       small = omega (arith, more, c.loop-term.invariant.small, c.in_ok-lower_term.ensures.size);
+      shape = (next_fits xs i x lt is c.loop-term.invariant.shape).1;
       rest = λ new ds rest.
           subst (λ z. TermsAreEmitted (terms_of (map term_of xs)) (made_of c.args.b.now) z new)
           (one_more_before c.loop-term.from.items c.push.new.self.items ds d c.in_ok-push.ensures.items)

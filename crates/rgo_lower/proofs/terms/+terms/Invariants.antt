@@ -1,7 +1,8 @@
-use Rattle.std.proofs.Common.{ℕ, ◌+◌, ◌<◌, ◌^◌, List, ◌++◌, drop, map}
+use Rattle.std.proofs.Common.{◌≡◌, true, ℕ, ◌+◌, ◌<◌, ◌^◌, List, ◌++◌, drop, map}
 use Rattle.rgo_typed.specs.Tree.{terms_of}
 use Rattle.rgo_typed.specs.Views.{term_of}
 use Rattle.rgo_lower.specs.Emitted.{Made, count, made_of, TermsAreEmitted}
+use Rattle.rgo_lower.specs.Shapes.{terms_fit}
 use Rattle.rgo_lower.specs.Sizes.{terms_size}
 use Rattle.rgo_lower.proofs.terms.+terms.Given as goal
 
@@ -9,6 +10,7 @@ use Rattle.rgo_lower.proofs.terms.+terms.Given as goal
 abbrev pub invariant-lower_terms-loop-term : goal.invariant-lower_terms-loop-term
 invariant-lower_terms-loop-term l = record {
   small : count (made_of l.b) + terms_size (terms_of (map term_of (drop l.term-index l.terms.items))) < 2 ^ 32;
+  shape : terms_fit (terms_of (map term_of (drop l.term-index l.terms.items))) ≡ true;
   rest :
       (new : Made) (ds : List ℕ)
       → TermsAreEmitted (terms_of (map term_of (drop l.term-index l.terms.items))) (made_of l.b) ds new

@@ -9,5 +9,5 @@ returns c =
     let a = made_of c.args.self.now in
     let b = made_of c.line.new.self in
     ok_map c.line.result _ _
-    (λ is. op_added a b (c.in_ok-instr.instr) (always (op.Do None c.args.action c.args.from.now)) c.args.place is
-    (λ w k. c.in_ok-instr.ensures w.leads w.lists w.pieces)) c.line.ensures
+    (λ is. op_added a b c.effect_instr-instr.result (always (op.Do None c.args.action c.args.from.now)) c.args.place is
+    (λ w k. c.effect_instr-instr.ensures w.leads w.lists w.pieces)) c.line.ensures

@@ -13,7 +13,7 @@ returns c =
     let e = made_of c.line.new.self in
     let n = c.in_ok-list.list in
     let to = c.in_ok-to.to in
-    value_with_list a b d e (instr.Call to c.in_ok-number.number n)
+    value_with_list a b d e (instr.Call to c.args.function n)
     (calls c.args.function c.args.from.items) c.args.ty.now
     c.args.from.items c.args.place n to c.in_ok-list.ensures.0 c.in_ok-list.ensures.1 c.in_ok-to.ensures.0
-    c.in_ok-to.ensures.1 c.in_ok-line.ensures (λ w l. λ i. op.Call (Some to) (c.in_ok-number.ensures i) (l i))
+    c.in_ok-to.ensures.1 c.in_ok-line.ensures (λ w l. λ i. op.Call (Some to) c.args.function (l i))

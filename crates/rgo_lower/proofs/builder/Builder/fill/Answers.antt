@@ -1,6 +1,12 @@
+use Rattle.std.proofs.lemmas.List.Sums.{AllPass-from_list_all}
+use Rattle.rgo_lower.specs.Shapes.{is_narrow}
 use Rattle.rgo_lower.specs.Emitted.{made_of}
 use Rattle.rgo_lower.proofs.TermParts.{next_stored, end_stored}
 use Rattle.rgo_lower.proofs.builder.Builder.fill.Goals as goal
+
+pub act-requires : goal.act-requires
+act-requires c =
+    AllPass-from_list_all is_narrow c.args.fields.now c.requires.numbers c.loop-i.i 0 c.loop-i-test.true
 
 pub loop-i-preserved : goal.loop-i-preserved
 loop-i-preserved c = record {

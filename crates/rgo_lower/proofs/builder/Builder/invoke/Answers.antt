@@ -12,7 +12,7 @@ returns c =
     let d = made_of c.line.new.self in
     let n = c.in_ok-list.list in
     ok_map c.line.result _ _
-    (λ is. op_with_list a b d (instr.Invoke c.in_ok-number.number n)
+    (λ is. op_with_list a b d (instr.Invoke c.args.function n)
     (op.Call None c.args.function c.args.from.items) c.args.from.items c.args.place n
-    c.in_ok-list.ensures.0 c.in_ok-list.ensures.1 is (λ w l. λ i. op.Call None (c.in_ok-number.ensures i)
+    c.in_ok-list.ensures.0 c.in_ok-list.ensures.1 is (λ w l. λ i. op.Call None c.args.function
     (l i))) c.line.ensures
