@@ -323,7 +323,7 @@ pub record Begins (params : ℕ) (locals : List «Type») (b : Made) : Type 0 wh
   pub lines : b.lines ≡ []
   pub variables : b.variables ≡ take params locals
   pub size : count b ≤ params
-  pub locals : length b.slots ≡ length locals
+  pub slot_count : length b.slots ≡ length locals
   pub slots : (n : ℕ) → n < length locals → slot b n ≡ n
 
 -- the finished function

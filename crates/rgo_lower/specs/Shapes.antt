@@ -1,10 +1,10 @@
--- What lowering requires of the shape of a tree, and what it need not know the types for: each action has as many operands as it
--- takes, and a value where one is used; each number has 32 bits; each local variable that is declared exists; each `break` and
+-- What lowering requires of a tree, which is less than that it is well-formed: each action has as many operands as it takes, and
+-- returns a value where one is used; each number has 32 bits; each local variable that is declared exists; each `break` and
 -- `continue` is in a loop.
-use Rattle.std.specs.Prelude.{ℕ, zero, suc, ◌^◌, Bool, true, false, ◌&&◌, nat_eq, nat_lt, length, Option, Some, None}
+use Rattle.std.specs.Prelude.{ℕ, ◌+◌, ◌^◌, Bool, true, false, ◌&&◌, nat_eq, nat_lt, length, Option, Some, None}
 use Rattle.std.specs.List.{list_all}
 use Rattle.rgo_ast.specs.declared.ops.BinaryOp.{BinaryOp}
-use Rattle.rgo_ast.specs.declared.ops.BinaryOp.TheVariants.{And, Or}
+use Rattle.rgo_ast.specs.declared.ops.BinaryOp.TheVariants as binary
 use Rattle.rgo_typed.specs.declared.actions.Action.{Action}
 use Rattle.rgo_typed.specs.declared.actions.Action.TheVariants as action
 use Rattle.rgo_typed.specs.Tree as tree
@@ -18,8 +18,8 @@ is_narrow n = nat_lt n (2 ^ 32)
 
 -- both operands of the operator are evaluated; `&&` and `||` are terms of their own
 abbrev pub is_strict : BinaryOp → Bool
-is_strict And = false
-is_strict Or = false
+is_strict binary.And = false
+is_strict binary.Or = false
 is_strict _ = true
 
 -- the action takes this many operands and returns a value
@@ -40,7 +40,11 @@ returns_value action.Slice n = nat_eq n 1
 returns_value action.Chan n = nat_eq n 1
 returns_value action.Recv n = nat_eq n 1
 returns_value (action.Get k) n = nat_eq n 0 && is_narrow k
-returns_value _ n = false
+returns_value (action.Store k) n = false
+returns_value action.Put n = false
+returns_value action.Send n = false
+returns_value action.Close n = false
+returns_value (action.Set k) n = false
 
 -- the action takes this many operands and returns none
 abbrev pub has_effect : Action → (operands : ℕ) → Bool
@@ -49,7 +53,22 @@ has_effect action.Put n = nat_eq n 3
 has_effect action.Send n = nat_eq n 2
 has_effect action.Close n = nat_eq n 1
 has_effect (action.Set k) n = nat_eq n 1 && is_narrow k
-has_effect _ n = false
+has_effect (action.Int k) n = false
+has_effect (action.Bool b) n = false
+has_effect action.Nil n = false
+has_effect action.Copy n = false
+has_effect (action.Binary op) n = false
+has_effect action.Neg n = false
+has_effect action.Not n = false
+has_effect action.IsNil n = false
+has_effect action.Len n = false
+has_effect (action.Load k) n = false
+has_effect action.At n = false
+has_effect (action.New k) n = false
+has_effect action.Slice n = false
+has_effect action.Chan n = false
+has_effect action.Recv n = false
+has_effect (action.Get k) n = false
 
 -- ---- terms
 

@@ -85,7 +85,12 @@ impl Builder {
     }
 
     /// A call of a function that has no result.
-    pub fn invoke(&mut self, function: usize, from: Vec<u32>, place: Place) -> Result<(), AllocError>
+    pub fn invoke(
+        &mut self,
+        function: usize,
+        from: Vec<u32>,
+        place: Place,
+    ) -> Result<(), AllocError>
         requires room { count (made_of self.now) + 3 < 2 ^ 32 }
         requires number { function < 2 ^ 32 }
         ensures { IfOk result (λ done. OpIsAdded (made_of self.old) (always (op.Call None function from.items)) place
@@ -107,7 +112,12 @@ impl Builder {
     }
 
     /// A print of these pieces, with these variables among them.
-    pub fn print(&mut self, pieces: &[Piece], from: Vec<u32>, place: Place) -> Result<(), AllocError>
+    pub fn print(
+        &mut self,
+        pieces: &[Piece],
+        from: Vec<u32>,
+        place: Place,
+    ) -> Result<(), AllocError>
         requires { count (made_of self.now) + 3 < 2 ^ 32 }
         ensures { IfOk result (λ done. OpIsAdded (made_of self.old) (always (op.Print pieces.now from.items)) place
             (made_of self.new)) }

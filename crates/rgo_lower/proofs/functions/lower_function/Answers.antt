@@ -13,7 +13,7 @@ lower_stmts-requires-clause-shape c =
     let a = made_of c.in_ok-b.b in
     let begins : Begins source.params source.locals a =
     subst (λ z. Begins source.params z a) c.items.ensures c.in_ok-b.ensures in
-    subst (λ n. stmts_fit n false (stmts_of source.body) ≡ true) (sym begins.locals) c.requires.shape
+    subst (λ n. stmts_fit n false (stmts_of source.body) ≡ true) (sym begins.slot_count) c.requires.shape
 
 pub returns : goal.returns
 returns c =

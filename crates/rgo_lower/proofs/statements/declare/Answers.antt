@@ -17,5 +17,8 @@ returns c =
     let e = made_of c.give.new.self in
     let f = made_of c.declare.new.self in
     let x = c.in_ok-variable.variable in
+    let inside : c.args.n < length e.slots =
+    subst (λ z. c.args.n < length z) (sym (c.in_ok-variable.ensures.slots ∙ c.in_ok-d.ensures.slots))
+    c.requires.number in
     λ l. declare_emitted c.args.n c.args.ty.now (term_of c.args.value.now) c.args.place c.in_ok-d.d x l a b e f
-    c.in_ok-d.ensures c.in_ok-variable.ensures (declared c.args.n x e f (declare-requires c) c.declare.ensures)
+    c.in_ok-d.ensures c.in_ok-variable.ensures (declared c.args.n x e f inside c.declare.ensures)

@@ -16,5 +16,7 @@ returns c =
     let ty = c.args.ty.now in
     let value : ValueIsAdded a (acts (zero_action ty) []) ty c.args.place x b =
     subst (λ z. ValueIsAdded a (acts z []) ty c.args.place x b) c.zero_action.ensures c.in_ok-variable.ensures in
+    let inside : c.args.n < length b.slots =
+    subst (λ z. c.args.n < length z) (sym c.in_ok-variable.ensures.slots) c.requires.number in
     λ l. zero_emitted c.args.n ty c.args.place x l a b e value
-    (declared c.args.n x b e (declare-requires c) c.declare.ensures)
+    (declared c.args.n x b e inside c.declare.ensures)
