@@ -1,5 +1,5 @@
 -- Trees of a shape that can be lowered, and others.
-use Rattle.std.specs.Prelude.{◌≡◌, ◌^◌, true, false, [], ◌∷◌, Some, None}
+use Rattle.std.specs.Prelude.{◌≡◌, true, false, [], ◌∷◌, None}
 use Rattle.rgo_ast.specs.declared.ops.BinaryOp.TheVariants.{Add, And}
 use Rattle.rgo_typed.specs.declared.actions.Action.TheVariants as action
 use Rattle.rgo_typed.specs.Tree.{terms_of, stmts_of}

@@ -6,7 +6,7 @@ ghost use Rattle.rgo_typed.specs.Tree.{terms_of};
 ghost use Rattle.rgo_typed.specs.Views.{term_of, boxed_term_of};
 ghost use Rattle.rgo_lower.specs.Sizes.{term_size, value_size, stmt_size};
 ghost use Rattle.rgo_lower.specs.Emitted.{count, made_of, IsEmitted, StmtIsEmitted, TestIsEmitted, ConditionIsEmitted};
-ghost use Rattle.rgo_lower.specs.Shapes.{is_narrow, term_fits, terms_fit, value_fits, has_effect, how_many, change_fits};
+ghost use Rattle.rgo_lower.specs.Shapes.{term_fits, terms_fit, value_fits, has_effect, how_many, change_fits};
 
 use crate::builder::{Builder, Loop};
 use crate::encode::zero_action;
