@@ -7,5 +7,6 @@ pub mod Parameters
 pub mod Prepared
 pub mod Regions
 pub mod Scan
+pub mod Sizes
 pub mod Tests
 pub mod TypeTests
