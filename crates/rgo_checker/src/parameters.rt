@@ -40,11 +40,7 @@ fn class_at(classes: &[Class], p: usize) -> Option<Class>
     classes.get(p).copied()
 }
 
-fn place_at(
-    places: &mut HashMap<u32, usize>,
-    classes: &[Class],
-    p: usize,
-) -> Result<(), AllocError>
+fn place_at(places: &mut HashMap<u32, usize>, classes: &[Class], p: usize) -> Result<(), AllocError>
     ensures { OnOk result ((class : AnyClass) → slice_get classes.now p ≡ Some class → (q : ℕ)
         → get nat_eq places.new q ≡ placed class p q (get nat_eq places.old q)) }
 {

@@ -48,8 +48,7 @@ joined_long (w ∷ v ∷ words) =
 
 line_long : (words : List (List ℕ)) → (length words ≤ length (line words)) × (1 ≤ length (line words))
 line_long words =
-    let joined = join_with_byte 32 words in
-    (
+    let joined = join_with_byte 32 words in (
       omega (arith, joined_long words, length-append joined (10 ∷ [])),
       omega (arith, length-append joined (10 ∷ [])),
     )
