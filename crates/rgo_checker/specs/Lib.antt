@@ -1,4 +1,5 @@
 pub mod ClassTests
+pub mod Examples
 pub mod Instrs
 pub mod Lines
 pub mod Naming

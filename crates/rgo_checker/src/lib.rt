@@ -24,4 +24,4 @@ mod walking;
 
 pub use check::check_code;
 pub use errors::CheckError;
-pub use laws::{one_outcome, some_outcome};
+pub use laws::{examples, one_outcome, some_outcome};
