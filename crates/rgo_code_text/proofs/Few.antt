@@ -158,6 +158,19 @@ lines_few (x ∷ items) =
       length-append (line (item_words x)) (items_text items),
     )
 
+-- the next line has a number
+pub line_fits : (text : List ℕ) (items : List Item) (at n : ℕ) → text ≡ items_text items ++ drop at text
+    → length items + 1 ≡ n → length text + 2 < 2 ^ 32 → n + 1 < 2 ^ 32
+line_fits text items at n cut number h =
+    omega (
+      arith,
+      h,
+      number,
+      lines_few items,
+      ap length cut,
+      length-append (items_text items) (drop at text),
+    )
+
 pub are_few : (items : List Item) → length (items_text items) + 2 < 2 ^ 32 → AreFew items
 are_few items h = record {
   lines = omega (arith, h, lines_few items);
