@@ -6,6 +6,7 @@ use Rattle.rgo_code_text.specs.declared.places.Place.{Place}
 use Rattle.rgo_code_text.specs.Views.{item_of}
 use Rattle.rgo_code_text.specs.Walk.{StepIs}
 use Rattle.rgo_code_words.proofs.ListFacts.{rest_of}
+use Rattle.rgo_code_text.proofs.Few.{line_fits}
 use Rattle.rgo_code_text.proofs.Walking.{ends_here, stops_here, goes_on}
 use Rattle.rgo_code_text.proofs.reading.items.Goals as goal
 use Rattle.rgo_code_text.proofs.reading.items.Goals.{else-len-eq0-via-then-len-eq0+else-is_last, else-len-eq0-via-else-len-eq0}
@@ -44,3 +45,9 @@ lines-preserved c =
     (take c.len_to-len.result (take (length c.args.text.now - c.lines.at) (drop c.lines.at c.args.text.now)))
     (option_map (λ s. (item_of s.0, s.1)) o)) c.in-Some.is c.in_ok-item.ensures)
     (ap (map item_of) c.in_ok-push-in-Some.ensures.items ∙ map_push item_of c.lines.items.items c.in-Some.item)
+
+pub overflow_add-line : goal.overflow_add-line
+overflow_add-line c =
+    let fits = line_fits c.args.text.now (map item_of c.lines.items.items) c.lines.at c.lines.line c.lines.invariant.cut
+    c.lines.invariant.number c.requires in
+    omega (arith, fits)
