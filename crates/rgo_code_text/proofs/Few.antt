@@ -1,5 +1,5 @@
 -- Why a text that is not too large has few lines, names, variables and instructions.
-use Rattle.std.proofs.Common.{◌≡◌, ◌×◌, ℕ, suc, ◌+◌, ◌<◌, ◌≤◌, ◌^◌, Bool, true, false, not, List, [], ◌∷◌, ◌++◌, map, length, drop, get_or, Option, Some, None, if◌then◌else◌, bytes_eq, ap, ◌∙◌, arith, length-append}
+use Rattle.std.proofs.Common.{◌≡◌, ℕ, suc, ◌+◌, ◌<◌, ◌≤◌, ◌^◌, Bool, true, false, not, List, [], ◌∷◌, ◌++◌, map, length, drop, get_or, Option, Some, None, if◌then◌else◌, bytes_eq, ap, ◌∙◌, arith, length-append}
 use Rattle.std.specs.List.{flat_map, join_with_byte}
 use Rattle.std.proofs.lemmas.List.{length-map, length_push}
 use Rattle.rgo_typed.specs.declared.statements.Piece.{Piece}

@@ -6,6 +6,6 @@ use Rattle.rgo_code_text.proofs.building.next_instr.Goals as goal
 pub returns : goal.returns
 returns c =
     let o = c.args.current.now in
-    let list : c.list ≡ length o.instrs.items = omega (arith, c.len.ensures, o.instrs.ok) in
+    let list : c.len-list.result ≡ length o.instrs.items = omega (arith, c.len-list.ensures, o.instrs.ok) in
     subst (λ (k : ℕ). IsNumbered (names_now c.args.tables.now) c.args.op.now k c.numbered_instr.result) list
     c.numbered_instr.ensures
