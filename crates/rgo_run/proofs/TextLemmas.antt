@@ -75,6 +75,7 @@ use Rattle.rgo_run.specs.CodeVerdicts.{IsTextOfCode, code_limit, CodePasses}
 use Rattle.rgo_run.specs.Texts.{IsRead, IsTextOf, NotRead, ReadTooMuch, RefusedAs, Fails, FailsAs, Performs, RunsOrFails, limit_of}
 use Rattle.rgo_run.specs.Verdicts.{IsTree, text_limit}
 use Rattle.rgo_run.proofs.Accepting.{emitted_passes}
+use Rattle.rgo_run.proofs.CodeLengths.{lines_take_bytes}
 
 -- the command reads its text
 abbrev pub Reads : Command → Type 0
