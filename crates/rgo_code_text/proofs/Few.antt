@@ -1,5 +1,5 @@
 -- Why a text that is not too large has few lines, names, variables and instructions.
-use Rattle.std.proofs.Common.{◌≡◌, ℕ, suc, ◌+◌, ◌<◌, ◌≤◌, ◌^◌, Bool, true, false, not, List, [], ◌∷◌, ◌++◌, map, length, drop, get_or, Option, Some, None, if◌then◌else◌, bytes_eq, ap, ◌∙◌, arith, length-append}
+use Rattle.std.proofs.Common.{◌≡◌, ℕ, suc, ◌+◌, ◌<◌, ◌≤◌, ◌^◌, Bool, true, false, not, List, [], ◌∷◌, ◌++◌, length, drop, Option, Some, None, if◌then◌else◌, bytes_eq, ap, arith, length-append}
 use Rattle.std.specs.List.{flat_map, join_with_byte}
 use Rattle.std.proofs.lemmas.List.{length-map, length_push}
 use Rattle.rgo_typed.specs.declared.statements.Piece.{Piece}
@@ -11,7 +11,7 @@ use Rattle.rgo_tac.specs.declared.regions.Class.{Class}
 use Rattle.rgo_tac.specs.Code.{Instr as TacInstr}
 use Rattle.rgo_tac.specs.Views.{body_of}
 use Rattle.rgo_code.specs.declared.notes.Note.{Note}
-use Rattle.rgo_code.specs.Code.{CodeOp, Do, Call, Go, Print, Jump, Branch, Return}
+use Rattle.rgo_code.specs.Code.{CodeOp, Do, Call, Go}
 use Rattle.rgo_code.specs.Views.{slots, code_body}
 use Rattle.rgo_code_text.specs.declared.building.Building.{Building as CodeBuilding}
 use Rattle.rgo_code_text.specs.Building.{base_names, type_names, slot_names, struct_name, variable_name, op_structs, op_variables, op_functions}

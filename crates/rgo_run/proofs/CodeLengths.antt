@@ -5,7 +5,7 @@ use Rattle.std.proofs.lemmas.List.{length-map}
 use Rattle.rgo_code.specs.declared.rules.Line.TheVariants.{AfterLast}
 use Rattle.rgo_code.specs.Code.{CodeInstr, CodeFn, Code}
 use Rattle.rgo_code.specs.Lines.{function_lines, lines_before, line_number}
-use Rattle.rgo_code_printing.specs.Text.{Names, names_of, struct_words, global_words, head_words, slot_words, entry_words, body_lines, fn_lines, lines_with, line, text_of}
+use Rattle.rgo_code_printing.specs.Text.{Names, names_of, struct_words, global_words, slot_words, entry_words, body_lines, fn_lines, lines_with, line, text_of}
 
 lines_long : (lines : List (List (List ℕ))) → length lines ≤ length (flat_map line lines)
 lines_long [] = omega arith
