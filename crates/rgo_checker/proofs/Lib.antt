@@ -1,5 +1,6 @@
 pub mod ActionLaws
 pub mod ClassLaws
+pub mod Counting
 pub mod Decided
 pub mod Deciding
 pub mod ExistenceLaws

@@ -11,6 +11,7 @@ use Rattle.rgo_code.specs.Code.{Code}
 use Rattle.rgo_checker.specs.declared.scan.Scan.{Scan}
 use Rattle.rgo_checker.specs.Lines.{struct_lines, variable_lines, functions_lines, lines_of}
 use Rattle.rgo_checker.specs.Scan.{IsKept, Scanned, Walks, passed}
+use Rattle.rgo_checker.specs.Sizes.{HasNumbers}
 use Rattle.rgo_checker.proofs.Getting.{IsIn, get_split, first_inv}
 use Rattle.rgo_checker.proofs.Reaching.{structs_long, variables_long}
 use Rattle.rgo_checker.proofs.Scanning.{walks_line, outcome}
@@ -32,15 +33,15 @@ is_first _ h = absurd (omega (arith, h))
 -- ---- the first walk
 
 begins : (code : Code) (from to : ℕ) → Scanned code from to [] (record { line = 2; limit = to; broken = None })
-begins code from to = record { line = refl; kept = λ r place l low high e. absurd (none-some l e); broken = refl }
+begins code from to = record { line = omega arith; kept = λ r place l low high e. absurd (none-some l e); broken = refl }
 
 pub existence : (code : Code) (s t u v : Scan)
-    → Walks code 1 2 (struct_lines code.structs) (record { line = 2; limit = 2; broken = None }) s
+    → HasNumbers code → Walks code 1 2 (struct_lines code.structs) (record { line = 2; limit = 2; broken = None }) s
     → Walks code 1 2 (variable_lines code.variables) s t → Walks code 1 2 (functions_lines 0 code.functions) t u
     → Walks code 1 2 (AfterLast ∷ []) u v
     → MatchOption v.broken (Keeps code rule.Exists) (λ x. IsFirstBroken code x.rule x.line)
-existence code s t u v p q r z =
-    outcome code 1 2 v whole (λ all. all rule.Exists (omega arith) (omega arith))
+existence code s t u v few p q r z =
+    outcome code 1 2 v whole few (λ all. all rule.Exists (omega arith) (omega arith))
     (λ lesser l. absurd (omega (arith, l, at_least lesser)))
   where
     together : (a b c d : List Line) → ((a ++ b) ++ c) ++ d ≡ a ++ (b ++ (c ++ d))
@@ -81,11 +82,12 @@ last_kept code _ h = tt
 abbrev first_of : Code → List Line
 first_of code = struct_lines code.structs ++ variable_lines code.variables
 
-begins_later : (code : Code) (line : ℕ) → line ≡ length code.structs + length code.variables + 2
+begins_later : (code : Code) (line : ℕ) → HasNumbers code → line ≡ length code.structs + length code.variables + 2
     → Scanned code 2 15 (first_of code) (record { line = line; limit = 15; broken = None })
-begins_later code line e = record {
+begins_later code line few e = record {
   line = omega (
     arith,
+    few,
     e,
     structs_long code.structs,
     variables_long code.variables,
@@ -103,12 +105,12 @@ begins_later code line e = record {
     go r place l low (inr (j, h, q)) =
         subst (IsKept code r) (first_inv VariableLine (length code.variables) j l q).1 (variable_kept code r j low)
 
-pub rules : (code : Code) (line : ℕ) (s : Scan) → Keeps code rule.Exists
+pub rules : (code : Code) (line : ℕ) (s : Scan) → HasNumbers code → Keeps code rule.Exists
     → line ≡ length code.structs + length code.variables + 2
     → Walks code 2 15 (functions_lines 0 code.functions) (record { line = line; limit = 15; broken = None }) s
     → MatchOption s.broken (IsChecked code) (λ x. IsFirstBroken code x.rule x.line)
-rules code line s exists e p =
-    outcome code 2 15 (passed s None) whole (λ all r. each all r (cases_lt (rule_number r) 2))
+rules code line s few exists e p =
+    outcome code 2 15 (passed s None) whole few (λ all r. each all r (cases_lt (rule_number r) 2))
     (λ lesser l. subst (Keeps code) (sym (is_first lesser l)) exists)
   where
     together : (a b c d : List Line) → ((a ++ b) ++ c) ++ d ≡ a ++ (b ++ (c ++ d))
@@ -123,7 +125,7 @@ rules code line s exists e p =
         (together (struct_lines code.structs) (variable_lines code.variables) functions (AfterLast ∷ []))
         ((walks_line code 2 15 AfterLast s None (λ few r low high. last_kept code r low)).walks
         (first_of code ++ functions)
-        (p.walks (first_of code) (begins_later code line e)))
+        (p.walks (first_of code) (begins_later code line few e)))
 
     each : ((r : Rule) → 2 ≤ rule_number r → rule_number r < 15 → Keeps code r) → (r : Rule)
         → (rule_number r < 2) ⊎ (2 ≤ rule_number r) → Keeps code r

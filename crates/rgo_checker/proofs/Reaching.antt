@@ -1,5 +1,5 @@
 -- The lines of a code text, by their places and numbers.
-use Rattle.std.proofs.Common.{◌≡◌, ℕ, suc, ◌+◌, ◌<◌, List, [], ◌∷◌, ◌++◌, length, Some, slice_get, ap, ◌∙◌, subst, refl, arith, inl, inr}
+use Rattle.std.proofs.Common.{◌≡◌, ℕ, suc, ◌+◌, ◌<◌, List, [], ◌∷◌, ◌++◌, length, Some, slice_get, ap, ◌∙◌, subst, refl, arith, inl, inr, length-append}
 use Rattle.std.proofs.lemmas.Option.{slice_get_within}
 use Rattle.rgo_typed.specs.declared.programs.Struct.{Struct}
 use Rattle.rgo_typed.specs.declared.programs.Variable.{Variable}
@@ -25,6 +25,19 @@ last_lines code = functions_lines 0 code.functions ++ AfterLast ∷ []
 
 abbrev more_lines : Code → List Line
 more_lines code = variable_lines code.variables ++ last_lines code
+
+-- the number of the last line counts all lines, and the head of the text
+pub lines_long : (code : Code) → length (lines_of code) + 1 ≡ line_number code AfterLast
+lines_long code =
+    omega (
+      arith,
+      structs_long code.structs,
+      variables_long code.variables,
+      functions_long 0 code.functions,
+      length-append (struct_lines code.structs) (more_lines code),
+      length-append (variable_lines code.variables) (last_lines code),
+      length-append (functions_lines 0 code.functions) (AfterLast ∷ []),
+    )
 
 -- the number of the line at each place
 pub number_at : (code : Code) (i : ℕ) (l : Line) → slice_get (lines_of code) i ≡ Some l → line_number code l ≡ i + 2

@@ -1,5 +1,5 @@
 -- Walks over lines, one after the other, and what is known at their end.
-use Rattle.std.proofs.Common.{◌≡◌, ℕ, ◌+◌, ◌<◌, ◌≤◌, List, [], ◌∷◌, ◌++◌, length, Option, Some, None, slice_get, sym, ◌∙◌, subst, refl, arith, ◌⊎◌, inl, inr, length-append, append_assoc, MatchOption}
+use Rattle.std.proofs.Common.{◌≡◌, ℕ, ◌+◌, ◌-◌, ◌^◌, min, ◌<◌, ◌≤◌, List, [], ◌∷◌, ◌++◌, length, Option, Some, None, slice_get, sym, ◌∙◌, subst, refl, arith, ◌⊎◌, inl, inr, length-append, append_assoc, MatchOption}
 use Rattle.std.proofs.lemmas.Bool.{cases_lt}
 use Rattle.std.proofs.lemmas.List.{append-nil}
 use Rattle.std.proofs.lemmas.Option.{slice_get_within}
@@ -11,9 +11,10 @@ use Rattle.rgo_code.specs.Code.{Code}
 use Rattle.rgo_checker.specs.declared.scan.Scan.{Scan}
 use Rattle.rgo_checker.specs.Instrs.{LeastBroken}
 use Rattle.rgo_checker.specs.Lines.{lines_of}
-use Rattle.rgo_checker.specs.Scan.{IsKept, BreaksFirst, IsBroken, BrokenIs, Scanned, Walks, passed}
+use Rattle.rgo_checker.specs.Scan.{IsKept, BreaksFirst, IsBroken, BrokenIs, Scanned, Walks, number_of, passed}
+use Rattle.rgo_checker.specs.Sizes.{HasNumbers}
 use Rattle.rgo_checker.proofs.Getting.{IsIn, get_left, get_right, get_split, get_one}
-use Rattle.rgo_checker.proofs.Reaching.{reach, number_at}
+use Rattle.rgo_checker.proofs.Reaching.{lines_long, reach, number_at}
 
 module _ (code : Code) (from to : ℕ) where
   pub walks_none : (s : Scan) → Walks code from to [] s s
@@ -73,7 +74,7 @@ module _ (code : Code) (from to : ℕ) where
         go (inl q) = q
         go (inr (j, h, q)) = absurd (omega (arith, low, h))
 
-    longer : (n : ℕ) → n ≡ length seen + 2 → n + 1 ≡ length (seen ++ l ∷ []) + 2
+    longer : (n : ℕ) → n ≡ number_of (length seen) → min (n + 1) (2 ^ 32 - 1) ≡ number_of (length (seen ++ l ∷ []))
     longer n e = omega (arith, e, length-append seen (l ∷ []))
 
     pass_line : (s : Scan) (found : Option Rule) → LeastBroken (λ rule. IsKept code rule l) from s.limit found
@@ -113,7 +114,7 @@ module _ (code : Code) (from to : ℕ) where
 
 -- ---- the end of a walk
 
-module _ (code : Code) (from to : ℕ) (s : Scan) (h : Scanned code from to (lines_of code) s) where
+module _ (code : Code) (from to : ℕ) (s : Scan) (h : Scanned code from to (lines_of code) s) (few : HasNumbers code) where
   keeps_below : (rule : Rule) → from ≤ rule_number rule → rule_number rule < s.limit → Keeps code rule
   unfolding IsKept
   keeps_below rule low high line =
@@ -130,15 +131,26 @@ module _ (code : Code) (from to : ℕ) (s : Scan) (h : Scanned code from to (lin
   unfolding IsKept
   first_broken x some before = record {
     at = b.breaks.at;
-    numbered = number_at code b.breaks.place b.breaks.at b.breaks.there ∙ sym b.breaks.numbered;
+    numbered = number_at code b.breaks.place b.breaks.at b.breaks.there ∙ sym numbered;
     is_broken = b.breaks.is_broken;
     least = λ lesser l. go lesser l (cases_lt (rule_number lesser) from);
     first = λ line l. reach code x.rule (λ j. j < b.breaks.place) (λ j m w e. b.breaks.first j m w e) line
-        (λ j e. omega (arith, e, l, b.breaks.numbered));
+        (λ j e. omega (arith, e, l, numbered));
   }
     where
       b : IsBroken code from to (lines_of code) s.limit x
       b = subst (BrokenIs code from to (lines_of code) s.limit) some h.broken
+
+      -- its number has 32 bits, as that of the last line has
+      numbered : x.line ≡ b.breaks.place + 2
+      numbered =
+          omega (
+            arith,
+            few,
+            lines_long code,
+            b.breaks.numbered,
+            slice_get_within (lines_of code) b.breaks.place b.breaks.at b.breaks.there,
+          )
 
       go : (lesser : Rule) → rule_number lesser < rule_number x.rule
           → (rule_number lesser < from) ⊎ (from ≤ rule_number lesser) → Keeps code lesser

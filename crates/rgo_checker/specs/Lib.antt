@@ -1,4 +1,5 @@
 pub mod ClassTests
+pub mod Examples
 pub mod Instrs
 pub mod Lines
 pub mod Naming
@@ -7,5 +8,6 @@ pub mod Parameters
 pub mod Prepared
 pub mod Regions
 pub mod Scan
+pub mod Sizes
 pub mod Tests
 pub mod TypeTests

@@ -1,5 +1,5 @@
 -- What is known after a walk over lines: the least rule that they break, and the first line that breaks it.
-use Rattle.std.specs.Prelude.{◌≡◌, ◌<◌, ◌≤◌, ◌+◌, ℕ, List, ◌++◌, length, Option, Some, None, slice_get}
+use Rattle.std.specs.Prelude.{◌≡◌, ◌<◌, ◌≤◌, ◌+◌, ◌-◌, ◌^◌, min, ℕ, List, ◌++◌, length, Option, Some, None, slice_get}
 use Rattle.rgo_code.specs.declared.rules.CodeRefusal.{CodeRefusal}
 use Rattle.rgo_code.specs.declared.rules.Line.{Line}
 use Rattle.rgo_code.specs.declared.rules.Rule.{Rule}
@@ -17,12 +17,16 @@ AreKept code from to lines =
     (rule : Rule) (place : ℕ) (l : Line) → from ≤ rule_number rule → rule_number rule < to
     → slice_get lines place ≡ Some l → IsKept code rule l
 
--- the line of this number is the first of these that breaks the rule; the first of them has the number 2
+-- the number of the line at a place, if that has 32 bits; the first has the number 2
+abbrev pub number_of : ℕ → ℕ
+number_of place = min (place + 2) (2 ^ 32 - 1)
+
+-- the line of this number is the first of these that breaks the rule
 pub record BreaksFirst (code : Code) (lines : List Line) (rule : Rule) (number : ℕ) : Type 0 where
   pub place : ℕ
   pub at : Line
   pub there : slice_get lines place ≡ Some at
-  pub numbered : number ≡ place + 2
+  pub numbered : number ≡ number_of place
   pub is_broken : IsKept code rule at → ⊥
   pub first : (before : ℕ) (l : Line) → before < place → slice_get lines before ≡ Some l → IsKept code rule l
 
@@ -38,7 +42,7 @@ BrokenIs code from to lines limit (Some x) = IsBroken code from to lines limit x
 
 -- these lines were walked over, with the rules with numbers from `from` up to but not `to`
 pub record Scanned (code : Code) (from to : ℕ) (lines : List Line) (s : Scan) : Type 0 where
-  pub line : s.line ≡ length lines + 2
+  pub line : s.line ≡ number_of (length lines)
   pub kept : AreKept code from s.limit lines
   pub broken : BrokenIs code from to lines s.limit s.broken
 
@@ -48,6 +52,9 @@ pub record Walks (code : Code) (from to : ℕ) (lines : List Line) (old new : Sc
 
 -- the next line is walked over, and breaks this rule
 abbrev pub passed : Scan → Option Rule → Scan
-passed s None = record { line = s.line + 1; limit = s.limit; broken = s.broken }
-passed s (Some rule) =
-    record { line = s.line + 1; limit = rule_number rule; broken = Some (record { rule = rule; line = s.line }) }
+passed s None = record { line = min (s.line + 1) (2 ^ 32 - 1); limit = s.limit; broken = s.broken }
+passed s (Some rule) = record {
+  line = min (s.line + 1) (2 ^ 32 - 1);
+  limit = rule_number rule;
+  broken = Some (record { rule = rule; line = s.line });
+}

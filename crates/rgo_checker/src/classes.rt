@@ -22,6 +22,17 @@ pub(crate) fn same_class(a: Class, b: Class) -> bool
     }
 }
 
+/// The class of the variable of this number; `NoClass` if there is no such variable.
+pub(crate) fn class_at(f: &CodeFn<'_>, v: usize) -> Class
+    ensures { result ≡ names.class_of f.now v }
+{
+    if v < f.tac().variable_count() as usize {
+        f.class_of(v as u32)
+    } else {
+        Class::NoClass
+    }
+}
+
 fn has_class(class: Class) -> bool
     ensures { result ≡ tests.has_class class }
 {

@@ -10,6 +10,7 @@ ghost use Rattle.rgo_checker.specs.Instrs.{InstrKept};
 ghost use Rattle.rgo_checker.specs.Lines as lines;
 ghost use Rattle.rgo_checker.specs.Naming.{AreNames, fn_names};
 ghost use Rattle.rgo_checker.specs.Scan.{Walks, passed};
+ghost use Rattle.rgo_checker.specs.Sizes.{HasNumbers};
 ghost use Rattle.rgo_checker.specs.Tests as tests;
 
 use crate::bools::both;
@@ -23,11 +24,11 @@ use std::alloc::{AllocError, Global};
 use std::collections::HashSet;
 
 /// Notes whether the first rule is kept at the next line.
-fn pass_existence(scan: &mut Scan, kept: bool) -> Result<(), AllocError>
-    ensures { OnOk result (scan.new ≡ passed scan.old (tests.broken_if scan.old.limit rule.Exists kept)) }
+fn pass_existence(scan: &mut Scan, kept: bool)
+    ensures { scan.new ≡ passed scan.old (tests.broken_if scan.old.limit rule.Exists kept) }
 {
     let broken = broken_if(scan.limit, Rule::Exists, kept);
-    pass(scan, broken)
+    pass(scan, broken);
 }
 
 fn walk_struct<'a>(
@@ -44,7 +45,8 @@ fn walk_struct<'a>(
 {
     let is_new = add(names, s.name.bytes())?;
     let exist = types_exist(code.tac(), s.fields.items());
-    pass_existence(scan, both(is_new, exist))
+    pass_existence(scan, both(is_new, exist));
+    Ok(())
 }
 
 fn walk_structs(alloc: Global, code: &Code, scan: &mut Scan) -> Result<(), AllocError>
@@ -72,7 +74,8 @@ fn walk_variable<'a>(
 {
     let is_new = add(names, v.name.bytes())?;
     let exists = type_exists(code.tac(), &v.ty);
-    pass_existence(scan, both(is_new, exists))
+    pass_existence(scan, both(is_new, exists));
+    Ok(())
 }
 
 fn walk_variables(alloc: Global, code: &Code, scan: &mut Scan) -> Result<(), AllocError>
@@ -101,20 +104,20 @@ fn walk_head<'a>(
     let function = f.tac();
     let is_new = add(names, function.name().bytes())?;
     let exists = head_exists(code.tac(), function);
-    pass_existence(scan, both(is_new, exists))
+    pass_existence(scan, both(is_new, exists));
+    Ok(())
 }
 
-fn walk_slots(code: &Code, f: &CodeFn<'_>, scan: &mut Scan) -> Result<(), AllocError>
-    ensures { OnOk result ((n : ℕ) → slice_get code.now.functions n ≡ Some f.now
-        → Walks code.now 1 2 (lines.slot_lines n f.now.variables) scan.old scan.new) }
+fn walk_slots(code: &Code, f: &CodeFn<'_>, scan: &mut Scan)
+    ensures { (n : ℕ) → slice_get code.now.functions n ≡ Some f.now
+        → Walks code.now 1 2 (lines.slot_lines n f.now.variables) scan.old scan.new }
 {
     let program = code.tac();
     let types = f.tac().variables();
     for v in 0..types.len() {
         let exists = type_exists(program, &types[v]);
-        pass_existence(scan, exists)?;
+        pass_existence(scan, exists);
     }
-    Ok(())
 }
 
 fn instr_is_kept(code: &Code, f: &CodeFn<'_>, at: usize) -> bool
@@ -128,15 +131,14 @@ fn instr_is_kept(code: &Code, f: &CodeFn<'_>, at: usize) -> bool
     }
 }
 
-fn walk_body(code: &Code, f: &CodeFn<'_>, scan: &mut Scan) -> Result<(), AllocError>
-    ensures { OnOk result ((n : ℕ) → slice_get code.now.functions n ≡ Some f.now
-        → Walks code.now 1 2 (lines.instr_lines n f.now.body) scan.old scan.new) }
+fn walk_body(code: &Code, f: &CodeFn<'_>, scan: &mut Scan)
+    ensures { (n : ℕ) → slice_get code.now.functions n ≡ Some f.now
+        → Walks code.now 1 2 (lines.instr_lines n f.now.body) scan.old scan.new }
 {
     for at in 0..f.tac().len() {
         let kept = instr_is_kept(code, f, at);
-        pass_existence(scan, kept)?;
+        pass_existence(scan, kept);
     }
-    Ok(())
 }
 
 fn has_body(f: &CodeFn<'_>) -> bool
@@ -145,18 +147,18 @@ fn has_body(f: &CodeFn<'_>) -> bool
     f.tac().len() > 0
 }
 
-fn walk_end(code: &Code, f: &CodeFn<'_>, scan: &mut Scan) -> Result<(), AllocError>
-    ensures { OnOk result ((n : ℕ) → slice_get code.now.functions n ≡ Some f.now
-        → Walks code.now 1 2 (line.End n ∷ []) scan.old scan.new) }
+fn walk_end(code: &Code, f: &CodeFn<'_>, scan: &mut Scan)
+    ensures { (n : ℕ) → slice_get code.now.functions n ≡ Some f.now
+        → Walks code.now 1 2 (line.End n ∷ []) scan.old scan.new }
 {
     let kept = has_body(f);
-    pass_existence(scan, kept)
+    pass_existence(scan, kept);
 }
 
-fn walk_entry(code: &Code, scan: &mut Scan) -> Result<(), AllocError>
-    ensures { OnOk result ((n : ℕ) → Walks code.now 1 2 (line.Entry n ∷ []) scan.old scan.new) }
+fn walk_entry(code: &Code, scan: &mut Scan)
+    ensures { (n : ℕ) → Walks code.now 1 2 (line.Entry n ∷ []) scan.old scan.new }
 {
-    pass(scan, None)
+    pass(scan, None);
 }
 
 fn walk_function<'a>(
@@ -172,10 +174,11 @@ fn walk_function<'a>(
         → Walks code.now 1 2 (lines.fn_lines n f.now) scan.old scan.new) }
 {
     walk_head(code, names, f, scan)?;
-    walk_slots(code, f, scan)?;
-    walk_entry(code, scan)?;
-    walk_body(code, f, scan)?;
-    walk_end(code, f, scan)
+    walk_slots(code, f, scan);
+    walk_entry(code, scan);
+    walk_body(code, f, scan);
+    walk_end(code, f, scan);
+    Ok(())
 }
 
 fn walk_number<'a>(
@@ -224,14 +227,15 @@ fn has_main(code: &Tac) -> bool
     code.functions().iter().any(|f| is_main(f))
 }
 
-fn walk_last(code: &Code, scan: &mut Scan) -> Result<(), AllocError>
-    ensures { OnOk result (Walks code.now 1 2 (line.AfterLast ∷ []) scan.old scan.new) }
+fn walk_last(code: &Code, scan: &mut Scan)
+    ensures { Walks code.now 1 2 (line.AfterLast ∷ []) scan.old scan.new }
 {
-    pass_existence(scan, has_main(code.tac()))
+    pass_existence(scan, has_main(code.tac()));
 }
 
 /// The first line that breaks the first rule.
 pub(crate) fn walk_existence(alloc: Global, code: &Code) -> Result<Option<CodeRefusal>, AllocError>
+    requires { HasNumbers code.now }
     ensures { IfOk result (λ broken. MatchOption broken (Keeps code.now rule.Exists)
         (λ x. IsFirstBroken code.now x.rule x.line)) }
 {
@@ -243,6 +247,6 @@ pub(crate) fn walk_existence(alloc: Global, code: &Code) -> Result<Option<CodeRe
     walk_structs(alloc, code, &mut scan)?;
     walk_variables(alloc, code, &mut scan)?;
     walk_functions(alloc, code, &mut scan)?;
-    walk_last(code, &mut scan)?;
+    walk_last(code, &mut scan);
     Ok(scan.broken)
 }

@@ -13,15 +13,15 @@ mod instructions;
 mod laws;
 mod lending;
 mod naming;
-mod numbers;
 mod parameters;
 mod passing;
 mod regions;
 mod scan;
+mod sizes;
 mod types;
 mod typing;
 mod walking;
 
 pub use check::check_code;
 pub use errors::CheckError;
-pub use laws::{one_outcome, some_outcome};
+pub use laws::{examples, one_outcome, some_outcome};

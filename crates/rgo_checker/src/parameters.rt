@@ -7,7 +7,6 @@ ghost use Rattle.rgo_code.specs.Names as names;
 ghost use Rattle.rgo_checker.specs.ClassTests.{AreDistinct, ArePlaces};
 ghost use Rattle.rgo_checker.specs.Parameters.{placed};
 
-use crate::numbers::number;
 use rgo_code::{Class, CodeFn};
 use rgo_region_sets::region_parameters;
 use std::alloc::{AllocError, Global};
@@ -18,12 +17,12 @@ use std::collections::HashMap;
 pub(crate) struct Parameters {
     pub classes: Vec<Class>,
     /// The place of each name among them.
-    pub places: HashMap<u32, u32>,
+    pub places: HashMap<u32, usize>,
     ghost distinct: { AreDistinct classes.items },
     ghost placed: { ArePlaces classes.items places },
 }
 
-fn place(places: &mut HashMap<u32, u32>, class: Class, p: u32) -> Result<(), AllocError>
+fn place(places: &mut HashMap<u32, usize>, class: Class, p: usize) -> Result<(), AllocError>
     ensures { OnOk result ((q : ℕ) → get nat_eq places.new q ≡ placed class p q (get nat_eq places.old q)) }
 {
     match class {
@@ -41,18 +40,17 @@ fn class_at(classes: &[Class], p: usize) -> Option<Class>
     classes.get(p).copied()
 }
 
-fn place_at(places: &mut HashMap<u32, u32>, classes: &[Class], p: usize) -> Result<(), AllocError>
+fn place_at(places: &mut HashMap<u32, usize>, classes: &[Class], p: usize) -> Result<(), AllocError>
     ensures { OnOk result ((class : AnyClass) → slice_get classes.now p ≡ Some class → (q : ℕ)
         → get nat_eq places.new q ≡ placed class p q (get nat_eq places.old q)) }
 {
-    let number = number(p)?;
     match class_at(classes, p) {
-        Some(class) => place(places, class, number),
+        Some(class) => place(places, class, p),
         None => Ok(()),
     }
 }
 
-fn places_of(alloc: Global, classes: &[Class]) -> Result<HashMap<u32, u32>, AllocError>
+fn places_of(alloc: Global, classes: &[Class]) -> Result<HashMap<u32, usize>, AllocError>
     ensures { IfOk result (λ places. ArePlaces classes.now places) }
 {
     let mut places = HashMap::new(alloc);

@@ -11,24 +11,23 @@ ghost use Rattle.rgo_checker.specs.ClassTests as tests;
 ghost use Rattle.rgo_checker.specs.ClassTests.{ArgumentPasses, ArgumentsPass, TargetPasses, CallPassesBy, StartPassesBy};
 
 use crate::bools::{all_three, both};
-use crate::classes::same_class;
-use crate::numbers::number;
+use crate::classes::{class_at, same_class};
 use crate::parameters::{Parameters, parameters_of};
 use rgo_code::{Class, Code, CodeFn};
 use rgo_tac::Op;
 use std::alloc::{AllocError, Global};
 use std::collections::HashMap;
 
-fn is_class_at(classes: &[Class], p: u32, class: Class) -> bool
+fn is_class_at(classes: &[Class], p: usize, class: Class) -> bool
     ensures { result ≡ tests.is_class (slice_get classes.now p) class }
 {
-    match classes.get(p as usize) {
+    match classes.get(p) {
         Some(found) => same_class(*found, class),
         None => false,
     }
 }
 
-fn is_passed_at(p: Option<u32>, passes: &[Class], class: Class) -> bool
+fn is_passed_at(p: Option<usize>, passes: &[Class], class: Class) -> bool
     ensures { result ≡ tests.is_passed_at p passes.now class }
 {
     match p {
@@ -37,14 +36,14 @@ fn is_passed_at(p: Option<u32>, passes: &[Class], class: Class) -> bool
     }
 }
 
-fn place_of(places: &HashMap<u32, u32>, k: u32) -> Option<u32>
+fn place_of(places: &HashMap<u32, usize>, k: u32) -> Option<usize>
     ensures { result ≡ get nat_eq places.now k }
 {
     places.get(&k).copied()
 }
 
 fn is_passed_by(
-    places: &HashMap<u32, u32>,
+    places: &HashMap<u32, usize>,
     passes: &[Class],
     parameter: Class,
     argument: Class,
@@ -77,17 +76,17 @@ fn argument_passes(
     passes: &[Class],
     i: usize,
     v: u32,
-) -> Result<bool, AllocError>
-    ensures { IfOk result (λ b. Decides b
-        (ArgumentPasses f.now callee.now parameters.now.classes.items passes.now i v)) }
+) -> bool
+    ensures { Decides result
+        (ArgumentPasses f.now callee.now parameters.now.classes.items passes.now i v) }
 {
     let params = callee.tac().params();
     if i >= params {
-        return Ok(true);
+        return true;
     }
-    let parameter = callee.class_of(number(i)?);
+    let parameter = class_at(callee, i);
     let argument = f.class_of(v);
-    Ok(is_passed_for(parameters, passes, parameter, argument))
+    is_passed_for(parameters, passes, parameter, argument)
 }
 
 fn arguments_pass(
@@ -96,17 +95,17 @@ fn arguments_pass(
     parameters: &Parameters,
     passes: &[Class],
     from: &[u32],
-) -> Result<bool, AllocError>
-    ensures { IfOk result (λ b. Decides b
-        (ArgumentsPass f.now callee.now parameters.now.classes.items passes.now from.now)) }
+) -> bool
+    ensures { Decides result
+        (ArgumentsPass f.now callee.now parameters.now.classes.items passes.now from.now) }
 {
     for i in 0..from.len() {
-        let passed = argument_passes(f, callee, parameters, passes, i, from[i])?;
+        let passed = argument_passes(f, callee, parameters, passes, i, from[i]);
         if !passed {
-            return Ok(false);
+            return false;
         }
     }
-    Ok(true)
+    true
 }
 
 fn target_passes(
@@ -142,7 +141,7 @@ fn passes_right(
     ensures { IfOk result (λ b. Decides b (rules.Passes f.now callee.now to from.now passes.now)) }
 {
     let parameters = parameters_of(alloc, callee)?;
-    let arguments = arguments_pass(f, callee, &parameters, passes, from)?;
+    let arguments = arguments_pass(f, callee, &parameters, passes, from);
     let target = target_passes(f, callee, &parameters, passes, to);
     Ok(all_three(same_len(passes, &parameters.classes), arguments, target))
 }

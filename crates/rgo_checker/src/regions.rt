@@ -16,7 +16,7 @@ ghost use Rattle.rgo_region_sets.specs.Asked.{IsGiven};
 ghost use Rattle.rgo_region_sets.specs.Sets.{IsSet};
 
 use crate::bools::both;
-use crate::numbers::number;
+use crate::classes::class_at;
 use rgo_code::{Class, Code, CodeFn};
 use rgo_region_sets::{
     LiveNames, creations, entry_removals, gives, holds_at_entry, protections, removals,
@@ -54,7 +54,7 @@ fn parameter_names(alloc: Global, f: &CodeFn<'_>) -> Result<HashSet<u32>, AllocE
     let types = function.variables();
     let count = params.min(types.len());
     for v in 0..count {
-        add_name(&mut names, f.class_of(number(v)?))?;
+        add_name(&mut names, class_at(f, v))?;
     }
     Ok(names)
 }

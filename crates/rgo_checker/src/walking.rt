@@ -6,46 +6,46 @@ ghost use Rattle.rgo_code.specs.declared.rules.Rule.TheVariants as rule;
 ghost use Rattle.rgo_code.specs.Checked.{IsChecked, IsFirstBroken, Keeps};
 ghost use Rattle.rgo_checker.specs.Lines.{slot_lines, instr_lines, fn_lines, functions_lines};
 ghost use Rattle.rgo_checker.specs.Scan.{Walks, passed};
+ghost use Rattle.rgo_checker.specs.Sizes.{HasNumbers};
 ghost use Rattle.rgo_checker.specs.Tests as tests;
 ghost use Rattle.rgo_code.specs.Code.{CodeFn as AnyFn};
 ghost use Rattle.rgo_code.specs.NameRules.{Ascends, FnAscends};
 ghost use Rattle.rgo_checker.specs.Prepared.{IsPrepared};
 
-use crate::classes::{class_fits, result_fits};
+use crate::classes::{class_at, class_fits, result_fits};
 use crate::entries;
 use crate::instructions::{Site, least_broken};
-use crate::numbers::number;
 use crate::scan::{Scan, broken_if, pass};
+use crate::sizes::first_line;
 use rgo_code::{Code, CodeFn, CodeRefusal, Rule};
 use rgo_region_sets::{LiveNames, live_names};
 use std::alloc::{AllocError, Global};
 
 /// Notes whether the rule on what has a class is kept at the next line.
-fn pass_classes(scan: &mut Scan, kept: bool) -> Result<(), AllocError>
-    ensures { OnOk result (scan.new ≡ passed scan.old (tests.broken_if scan.old.limit rule.Classes kept)) }
+fn pass_classes(scan: &mut Scan, kept: bool)
+    ensures { scan.new ≡ passed scan.old (tests.broken_if scan.old.limit rule.Classes kept) }
 {
     let broken = broken_if(scan.limit, Rule::Classes, kept);
-    pass(scan, broken)
+    pass(scan, broken);
 }
 
-fn walk_head(code: &Code, f: &CodeFn<'_>, scan: &mut Scan) -> Result<(), AllocError>
-    ensures { OnOk result ((n : ℕ) → slice_get code.now.functions n ≡ Some f.now
-        → Walks code.now 2 15 (line.Function n ∷ []) scan.old scan.new) }
+fn walk_head(code: &Code, f: &CodeFn<'_>, scan: &mut Scan)
+    ensures { (n : ℕ) → slice_get code.now.functions n ≡ Some f.now
+        → Walks code.now 2 15 (line.Function n ∷ []) scan.old scan.new }
 {
     let kept = result_fits(f.result_class(), f.tac().result_type());
-    pass_classes(scan, kept)
+    pass_classes(scan, kept);
 }
 
-fn walk_slots(code: &Code, f: &CodeFn<'_>, scan: &mut Scan) -> Result<(), AllocError>
-    ensures { OnOk result ((n : ℕ) → slice_get code.now.functions n ≡ Some f.now
-        → Walks code.now 2 15 (slot_lines n f.now.variables) scan.old scan.new) }
+fn walk_slots(code: &Code, f: &CodeFn<'_>, scan: &mut Scan)
+    ensures { (n : ℕ) → slice_get code.now.functions n ≡ Some f.now
+        → Walks code.now 2 15 (slot_lines n f.now.variables) scan.old scan.new }
 {
     let types = f.tac().variables();
     for v in 0..types.len() {
-        let kept = class_fits(f.class_of(number(v)?), &types[v]);
-        pass_classes(scan, kept)?;
+        let kept = class_fits(class_at(f, v), &types[v]);
+        pass_classes(scan, kept);
     }
-    Ok(())
 }
 
 fn walk_entry(
@@ -60,7 +60,8 @@ fn walk_entry(
         → Walks code.now 2 15 (line.Entry n ∷ []) scan.old scan.new) }
 {
     let broken = entries::least_broken(alloc, scan.limit, f, live)?;
-    pass(scan, broken)
+    pass(scan, broken);
+    Ok(())
 }
 
 fn walk_instr(
@@ -77,7 +78,8 @@ fn walk_instr(
 {
     let site = Site { code, f, live, at };
     let broken = least_broken(alloc, scan.limit, &site)?;
-    pass(scan, broken)
+    pass(scan, broken);
+    Ok(())
 }
 
 fn walk_body(
@@ -97,10 +99,10 @@ fn walk_body(
     Ok(())
 }
 
-fn walk_end(code: &Code, scan: &mut Scan) -> Result<(), AllocError>
-    ensures { OnOk result ((n : ℕ) → Walks code.now 2 15 (line.End n ∷ []) scan.old scan.new) }
+fn walk_end(code: &Code, scan: &mut Scan)
+    ensures { (n : ℕ) → Walks code.now 2 15 (line.End n ∷ []) scan.old scan.new }
 {
-    pass(scan, None)
+    pass(scan, None);
 }
 
 fn walk_function(
@@ -113,12 +115,13 @@ fn walk_function(
     ensures { OnOk result ((n : ℕ) → slice_get code.now.functions n ≡ Some f.now
         → Walks code.now 2 15 (fn_lines n f.now) scan.old scan.new) }
 {
-    walk_head(code, f, scan)?;
-    walk_slots(code, f, scan)?;
+    walk_head(code, f, scan);
+    walk_slots(code, f, scan);
     let live = live_names(alloc, f)?;
     walk_entry(alloc, code, f, &live, scan)?;
     walk_body(alloc, code, f, &live, scan)?;
-    walk_end(code, scan)
+    walk_end(code, scan);
+    Ok(())
 }
 
 fn walk_number(alloc: Global, code: &Code, n: usize, scan: &mut Scan) -> Result<(), AllocError>
@@ -144,16 +147,12 @@ fn walk_functions(alloc: Global, code: &Code, scan: &mut Scan) -> Result<(), All
 
 /// The least rule after the first that is broken, and the first line that breaks it.
 pub(crate) fn walk_rules(alloc: Global, code: &Code) -> Result<Option<CodeRefusal>, AllocError>
-    requires { Keeps code.now rule.Exists }
+    requires numbers { HasNumbers code.now }
+    requires exists { Keeps code.now rule.Exists }
     ensures { IfOk result (λ broken. MatchOption broken (IsChecked code.now)
         (λ x. IsFirstBroken code.now x.rule x.line)) }
 {
-    let program = code.tac();
-    let structs = program.structs();
-    let variables = program.variables();
-    let first = number(structs.len())?;
-    let second = number(variables.len())?;
-    let line = number(first as usize + second as usize + 2)?;
+    let line = first_line(code) as u32;
     let mut scan = Scan {
         line,
         limit: 15,

@@ -7,6 +7,7 @@ pub mod EachLine
 pub mod EachPrint
 pub mod EachText
 pub mod Firsts
+pub mod Few
 pub mod Fitting
 pub mod Instrs
 pub mod ItemsOne

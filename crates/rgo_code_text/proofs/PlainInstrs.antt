@@ -1,6 +1,6 @@
 -- Instructions that name nothing and have no lists keep their form, but for the kinds of copies.
 use Rattle.std.specs.Prelude.{⊤}
-use Rattle.std.proofs.Common.{◌≡◌, ℕ, List, [], ◌∷◌, refl, sym, ap, ◌∙◌}
+use Rattle.std.proofs.Common.{◌≡◌, ℕ, List, refl, sym, ap, ◌∙◌}
 use Rattle.rgo_typed.specs.declared.statements.Piece.{Piece}
 use Rattle.rgo_tac.specs.declared.code.Instr.{Instr}
 use Rattle.rgo_tac.specs.declared.code.Instr.TheVariants as code
@@ -11,6 +11,7 @@ use Rattle.rgo_code_printing.specs.Text.{Names}
 use Rattle.rgo_code_text.specs.declared.ops.NamedOp.{NamedOp}
 use Rattle.rgo_code_text.specs.Building.{numbered_op}
 use Rattle.rgo_code_text.specs.Opened.{IsCopy, IsNumbered, ListsBelow}
+use Rattle.rgo_code_text.specs.Views.{own_op}
 
 -- neither a copy, nor what names something or has lists
 abbrev IsPlain : Instr → Type 0
@@ -45,8 +46,8 @@ plain_below k (code.Go f l) p = absurd p
 plain_below k (code.Print q l) p = absurd p
 plain_below k _ p = tt
 
-module _ (n : Names) (lists one : List (List ℕ)) (pieces ps : List (List Piece)) (note : Note) (name : List ℕ) where
-  plain_op : (i : Instr) → IsPlain i → code_op (op_of lists pieces i) note ≡ numbered_op n (code_op (op_of one ps i) note) name
+module _ (n : Names) (lists : List (List ℕ)) (from : List ℕ) (pieces : List (List Piece)) (ps : List Piece) (note : Note) (name : List ℕ) where
+  plain_op : (i : Instr) → IsPlain i → code_op (op_of lists pieces i) note ≡ numbered_op n (code_op (own_op from ps i) note) name
   plain_op (code.Copy d a) p = absurd p
   plain_op (code.New d k) p = absurd p
   plain_op (code.Get d k) p = absurd p
@@ -66,14 +67,14 @@ plain_numbered n o list x y z w v u t s =
     let p = plain_of o.instr x y z w v u t s in
     record {
       below = λ k l. plain_below k o.instr p;
-      op = λ lists pieces a b. plain_op n lists (o.from.items ∷ []) pieces (o.pieces.items ∷ []) o.note o.name.now o.instr p;
+      op = λ lists pieces a b. plain_op n lists o.from.items pieces o.pieces.items o.note o.name.now o.instr p;
     }
 
 -- ---- copies of any kind
 
-module _ (n : Names) (lists one : List (List ℕ)) (pieces ps : List (List Piece)) (note : Note) (name : List ℕ) where
+module _ (n : Names) (lists : List (List ℕ)) (from : List ℕ) (pieces : List (List Piece)) (ps : List Piece) (note : Note) (name : List ℕ) where
   copy_op : (d a e b : ℕ) → e ≡ d → b ≡ a
-      → code_op (op_of lists pieces (code.Copy e b)) note ≡ numbered_op n (code_op (op_of one ps (code.Copy d a)) note) name
+      → code_op (op_of lists pieces (code.Copy e b)) note ≡ numbered_op n (code_op (own_op from ps (code.Copy d a)) note) name
   copy_op d a e b p q =
       ap (λ x. code_op (op_of lists pieces (code.Copy x b)) note) p
       ∙ ap (λ x. code_op (op_of lists pieces (code.Copy d x)) note) q
@@ -81,10 +82,10 @@ module _ (n : Names) (lists one : List (List ℕ)) (pieces ps : List (List Piece
 module _ (n : Names) (o : NamedOp) (list d a : ℕ) (is : o.instr ≡ code.Copy d a) where
   copy_is : (lists : List (List ℕ)) (pieces : List (List Piece)) (e b : ℕ) → e ≡ d → b ≡ a
       → code_op (op_of lists pieces (code.Copy e b)) o.note
-      ≡ numbered_op n (code_op (op_of (o.from.items ∷ []) (o.pieces.items ∷ []) o.instr) o.note) o.name.now
+      ≡ numbered_op n (code_op (own_op o.from.items o.pieces.items o.instr) o.note) o.name.now
   copy_is lists pieces e b p q =
-      copy_op n lists (o.from.items ∷ []) pieces (o.pieces.items ∷ []) o.note o.name.now d a e b p q
-      ∙ ap (λ i. numbered_op n (code_op (op_of (o.from.items ∷ []) (o.pieces.items ∷ []) i) o.note) o.name.now) (sym is)
+      copy_op n lists o.from.items pieces o.pieces.items o.note o.name.now d a e b p q
+      ∙ ap (λ i. numbered_op n (code_op (own_op o.from.items o.pieces.items i) o.note) o.name.now) (sym is)
 
   pub copy_numbered : (i : Instr) → IsCopy d a i → IsNumbered n o list i
   copy_numbered (code.Copy e b) c = record { below = λ k l. tt; op = λ lists pieces f g. copy_is lists pieces e b c.0 c.1 }

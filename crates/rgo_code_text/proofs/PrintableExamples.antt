@@ -1,4 +1,4 @@
--- The examples of printable code.
+-- Which small code is printable, and how long texts may be.
 use Rattle.std.proofs.Common.{◌≡◌, ℕ, true, true≢false, List, [], ◌∷◌, None, refl, sym, arith, codes}
 use Rattle.std.proofs.lemmas.List.Elements.{All-nil, All-cons, All-head}
 use Rattle.rgo_code.specs.Code.{CodeOp, CodeFn}
@@ -52,4 +52,6 @@ examples = record {
   keyword = λ p. keyword_is_none (name_of _ _ _ p);
   place = λ p. let i = instr_of _ _ _ p in absurd (omega (arith, i.0));
   print = λ p. let i = instr_of _ _ _ p in absurd (omega (arith, i.2.1));
+  longest = λ text e large. omega (arith, e, large);
+  too_long = λ text e. omega (arith, e);
 }

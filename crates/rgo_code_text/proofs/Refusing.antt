@@ -1,5 +1,5 @@
 -- No two codes have one text, and a text is refused at the first line with which no text goes on.
-use Rattle.std.proofs.Common.{◌≡◌, ◌⊎◌, inl, inr, ℕ, ◌+◌, List, [], ◌∷◌, ◌++◌, map, length, Option, Some, None, refl, sym, ap, subst, ◌∙◌, arith, append_assoc, length-append}
+use Rattle.std.proofs.Common.{◌≡◌, ◌↔◌, ◌⊎◌, inl, inr, ℕ, ◌+◌, ◌≤◌, Result, Err, MatchResult, List, [], ◌∷◌, ◌++◌, map, length, Option, Some, None, refl, sym, ap, subst, ◌∙◌, arith, append_assoc, length-append}
 use Rattle.std.specs.List.{All, Contains}
 use Rattle.std.specs.Option.{IsSome}
 use Rattle.std.proofs.lemmas.List.{map-append, length-map, get_or_at}
@@ -14,6 +14,7 @@ use Rattle.rgo_code_text.specs.Forms.{IsLine, ended, Begins, HasNoForm, EndsEarl
 use Rattle.rgo_code_text.specs.Items.{Item, Head, Entry, End, ItemFits, item_kind, item_line, items_text, after, after_all}
 use Rattle.rgo_code_text.specs.Laws.{OneText}
 use Rattle.rgo_code_text.specs.Order.{after_kinds, IsLast}
+use Rattle.rgo_code_text.specs.Sizes.{IsTooLarge}
 use Rattle.rgo_code_words.specs.Readers.{on_some}
 use Rattle.rgo_code_printing.specs.Text.{text_of}
 use Rattle.rgo_code_text.specs.Walk.{AreItems, Stops, Ends, StopsIn, Refuses}
@@ -190,11 +191,14 @@ module _ (before : List Item) (place : Place) (fit : All ItemFits before) (leads
 
 pub refuses : (text : List ℕ) (e : ReadError) → StopsIn text e → Refuses text e
 refuses text error.NoMemory s = tt
-refuses text error.TooLarge s = record {
-  before = map item_line s.before;
-  tail = s.tail;
-  lines = lines_are s.before s.fit;
-  cut = s.cut ∙ ap (λ t. t ++ s.tail) (sym (ended_is s.before));
-  many = omega (arith, s.many, length-map s.before item_line);
-}
+refuses text error.TooLarge s = absurd s
 refuses text (error.Refused r) s = refused s.before s.place s.fit s.leads text r.line s.tail s.cut s.number s.stops
+
+-- what is said of a text that is not too large, also says when the error is that it is too large: never
+pub too_large_exactly : (text : List ℕ) (r : Result Code ReadError)
+    → MatchResult r (λ code. (text ≡ text_of code) × IsWritten code) (Refuses text) → length text ≤ 4294967293
+    → (r ≡ Err error.TooLarge) ↔ IsTooLarge text
+too_large_exactly text r read few = (
+  λ e. subst (λ q. MatchResult q (λ code. (text ≡ text_of code) × IsWritten code) (Refuses text)) e read,
+  λ large. absurd (omega (arith, large, few)),
+)

@@ -1,8 +1,9 @@
--- Code whose parts are printable, and code that has a part that is not.
-use Rattle.std.specs.Prelude.{ℕ, ◌^◌, List, [], ◌∷◌, None, codes}
+-- Code whose parts are printable, and code that has a part that is not; how long texts may be.
+use Rattle.std.specs.Prelude.{◌≡◌, ℕ, ◌-◌, ◌^◌, List, [], ◌∷◌, length, None, codes}
 use Rattle.rgo_typed.specs.declared.statements.Piece.TheVariants.{Value}
 use Rattle.rgo_code.specs.Code.{CodeOp, Code, Print, Return}
 use Rattle.rgo_code_text.specs.Printable.{IsPrintable}
+use Rattle.rgo_code_text.specs.Sizes.{IsTooLarge}
 
 -- code of one function with this name and these instructions, all at this place
 abbrev pub one_function : (name : List ℕ) → CodeOp → (place : ℕ) → Code
@@ -29,3 +30,6 @@ pub record Examples : Type 0 where
   pub place : IsPrintable (one_function (codes "main") (Return None) (2 ^ 32)) → ⊥
   -- a piece prints a variable, and there is none
   pub print : IsPrintable (one_function (codes "main") (Print (Value ∷ []) [] []) 7) → ⊥
+  -- the longest text, and one that has a byte more
+  pub longest : (text : List ℕ) → length text ≡ 2 ^ 32 - 3 → IsTooLarge text → ⊥
+  pub too_long : (text : List ℕ) → length text ≡ 2 ^ 32 - 2 → IsTooLarge text

@@ -1,5 +1,5 @@
 -- The first line of a text that has no form in its place.
-use Rattle.std.specs.Prelude.{◌≡◌, ◌⊎◌, ◌≤◌, ◌+◌, ◌^◌, ℕ, List, [], ◌∷◌, ◌++◌, length, All, Contains}
+use Rattle.std.specs.Prelude.{◌≡◌, ◌⊎◌, ◌+◌, ℕ, List, [], ◌∷◌, ◌++◌, length, All, Contains}
 use Rattle.std.specs.List.{flat_map}
 use Rattle.rgo_code.specs.Code.{Code}
 use Rattle.rgo_code_printing.specs.Text.{text_of}
@@ -12,14 +12,6 @@ IsLine bytes = ¬ (Contains bytes 10)
 -- each line with its newline
 abbrev pub ended : List (List ℕ) → List ℕ
 ended lines = flat_map (λ bytes. bytes ++ 10 ∷ []) lines
-
--- a text that has 2 ^ 32 - 2 lines or more, each with its newline
-pub record HasManyLines (text : List ℕ) : Type 0 where
-  pub before : List (List ℕ)
-  pub tail : List ℕ
-  pub lines : All IsLine before
-  pub cut : text ≡ ended before ++ tail
-  pub many : 2 ^ 32 ≤ length before + 2
 
 -- the text of some code begins with these bytes
 pub record Begins (bytes : List ℕ) : Type 0 where

@@ -11,6 +11,7 @@ pub mod Opened
 pub mod Ops
 pub mod Order
 pub mod Printable
+pub mod Sizes
 pub mod Views
 pub mod Walk
 pub mod Written

@@ -1,5 +1,5 @@
 -- What the code has of functions that are not complete yet.
-use Rattle.std.specs.Prelude.{◌≡◌, ◌<◌, ℕ, List, [], ◌∷◌, ◌++◌, length, get_or, All, ⊤}
+use Rattle.std.specs.Prelude.{◌≡◌, ◌<◌, ◌+◌, ◌^◌, ℕ, List, [], ◌∷◌, ◌++◌, length, get_or, All, ⊤}
 use Rattle.std.specs.Option.{option_map}
 use Rattle.rgo_typed.specs.declared.statements.Piece.{Piece}
 use Rattle.rgo_tac.specs.declared.code.Instr.{Instr}
@@ -86,6 +86,11 @@ pub record HasOneMore (before after : Open) (instr : Instr) (named : NamedInstr)
   pub types : after.types.items ≡ before.types.items
   pub classes : after.classes.items ≡ before.classes.items
   pub others : record (open_of after) { body = [] } ≡ record (open_of before) { body = [] }
+
+-- so few variables and instructions that a function can have them, with numbers of 32 bits
+pub record HasRoom (o : Open) : Type 0 where
+  pub types : length o.types.items + 2 < 2 ^ 32
+  pub instrs : length o.instrs.items + 1 < 2 ^ 32
 
 abbrev pub building_of : CodeBuilding → Building
 building_of b = record {

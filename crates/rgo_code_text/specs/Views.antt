@@ -1,6 +1,10 @@
 -- What the code's parts of lines are, as plain data.
-use Rattle.std.specs.Prelude.{[], ◌∷◌, map}
+use Rattle.std.specs.Prelude.{ℕ, List, [], Some, None, map}
 use Rattle.std.specs.Option.{option_map}
+use Rattle.rgo_typed.specs.declared.statements.Piece.{Piece}
+use Rattle.rgo_tac.specs.declared.code.Instr.{Instr as CodeInstruction}
+use Rattle.rgo_tac.specs.declared.code.Instr.TheVariants as instruction
+use Rattle.rgo_tac.specs.Code as tac
 use Rattle.rgo_tac.specs.Views.{op_of}
 use Rattle.rgo_code_text.specs.declared.actions.Action.{Action}
 use Rattle.rgo_code_text.specs.declared.items.Item.{Item as CodeItem}
@@ -19,9 +23,17 @@ use Rattle.rgo_code_words.specs.Views.{named_type_of}
 abbrev pub callee_of : CodeCallee → Callee
 callee_of c = record { name = c.name.now; from = c.from }
 
+-- what an instruction does with variables and pieces of its own, whatever numbers it has for them
+abbrev pub own_op : List ℕ → List Piece → CodeInstruction → tac.Op
+own_op from pieces (instruction.Call d f n) = tac.Call (Some d) f from
+own_op from pieces (instruction.Invoke f n) = tac.Call None f from
+own_op from pieces (instruction.Go f n) = tac.Go f from
+own_op from pieces (instruction.Print p n) = tac.Print pieces from
+own_op from pieces instr = op_of [] [] instr
+
 abbrev pub named_op_of : CodeNamedOp → NamedOp
 named_op_of o = record {
-  op = code_op (op_of (o.from.items ∷ []) (o.pieces.items ∷ []) o.instr) o.note;
+  op = code_op (own_op o.from.items o.pieces.items o.instr) o.note;
   name = o.name.now;
 }
 

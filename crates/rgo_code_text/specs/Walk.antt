@@ -1,12 +1,13 @@
 -- The lines of a text, read one after the other.
-use Rattle.std.specs.Prelude.{◌≡◌, ◌≢◌, ◌⊎◌, ◌≤◌, ◌+◌, ◌^◌, ℕ, List, [], ◌∷◌, ◌++◌, length, Option, Some, None, IsSome, All, ⊤}
+use Rattle.std.specs.Prelude.{◌≡◌, ◌≢◌, ◌⊎◌, ◌+◌, ℕ, List, [], ◌∷◌, ◌++◌, length, Option, Some, None, IsSome, All, ⊤}
 use Rattle.rgo_code_text.specs.declared.places.Place.{Place}
 use Rattle.rgo_code_text.specs.declared.places.Place.TheVariants.{First}
 use Rattle.rgo_code_text.specs.declared.refusals.ReadError.{ReadError}
 use Rattle.rgo_code_text.specs.declared.refusals.ReadError.TheVariants as error
-use Rattle.rgo_code_text.specs.Forms.{IsLine, HasManyLines, IsFirstWithoutForm}
+use Rattle.rgo_code_text.specs.Forms.{IsLine, IsFirstWithoutForm}
 use Rattle.rgo_code_text.specs.Items.{Item, item_line, ItemFits, after, after_all, items_text}
 use Rattle.rgo_code_text.specs.Order.{IsLast}
+use Rattle.rgo_code_text.specs.Sizes.{IsTooLarge}
 
 -- the text is that of these lines, each in its place
 pub record AreItems (text : List ℕ) (items : List Item) : Type 0 where
@@ -47,21 +48,13 @@ pub record StopsAt (text : List ℕ) (n : ℕ) : Type 0 where
   pub number : length before + 1 ≡ n
   pub stops : Stops place tail ⊎ Ends place tail
 
--- so many lines of the text are those of items that a line more has no number of 32 bits
-pub record HasManyItems (text : List ℕ) : Type 0 where
-  pub before : List Item
-  pub tail : List ℕ
-  pub fit : All ItemFits before
-  pub cut : text ≡ items_text before ++ tail
-  pub many : 2 ^ 32 ≤ length before + 2
-
--- an error is the first line without form, unless memory ran out or the lines are too many
+-- an error of a text that is not too large is the first line without form, unless memory ran out
 abbrev pub StopsIn : List ℕ → ReadError → Type 0
 StopsIn text error.NoMemory = ⊤
-StopsIn text error.TooLarge = HasManyItems text
+StopsIn text error.TooLarge = ⊥
 StopsIn text (error.Refused r) = StopsAt text r.line
 
 abbrev pub Refuses : List ℕ → ReadError → Type 0
 Refuses text error.NoMemory = ⊤
-Refuses text error.TooLarge = HasManyLines text
+Refuses text error.TooLarge = IsTooLarge text
 Refuses text (error.Refused r) = IsFirstWithoutForm text r.line

@@ -1,6 +1,6 @@
 //! Code, made of the items of its text.
 
-ghost use Rattle.std.specs.Prelude.{◌≡◌, ◌++◌, ◌∷◌, [], length, map, drop, All, OnOk, IfOk};
+ghost use Rattle.std.specs.Prelude.{◌≡◌, ◌+◌, ◌<◌, ◌^◌, ◌++◌, ◌∷◌, [], length, map, drop, All, OnOk, IfOk};
 ghost use Rattle.std.specs.Option.{option_map};
 ghost use Rattle.rgo_code.specs.Views.{slot, code_fn};
 ghost use Rattle.rgo_tac.specs.Views.{body_of};
@@ -10,18 +10,19 @@ ghost use Rattle.rgo_code_text.specs.CodeLines as lines;
 ghost use Rattle.rgo_code_text.specs.CodeLines.{no_function, nothing, with_line, with_lines};
 ghost use Rattle.rgo_code_text.specs.Items.{ItemFits};
 ghost use Rattle.rgo_code_text.specs.Opened.{open_of, IsAligned, IsNumbered, building_of, AllAligned};
-ghost use Rattle.rgo_code_text.specs.Opened.{HasCode, HasOneMore, with_slot, with_instr};
+ghost use Rattle.rgo_code_text.specs.Opened.{HasCode, HasOneMore, HasRoom, with_slot, with_instr};
+ghost use Rattle.rgo_code_text.specs.Sizes.{AreFew, HaveNumbers};
 ghost use Rattle.rgo_code_text.specs.Views.{item_of, instr_of, named_slot_of};
 ghost use Rattle.rgo_code_words.specs.Views.{named_type_of};
 
 use crate::items::{Item, NamedInstr, NamedSlot};
-use crate::numbered::{narrow, numbered_instr, numbered_type, numbered_types};
+use crate::numbered::{numbered_instr, numbered_type, numbered_types};
 use crate::numbers::{Counts, Tables};
 use crate::ops::NamedOp;
 use rgo_ast::{Name, Place};
 use rgo_code::{Class, Code, Note, Regions, Undeclared};
 use rgo_code_words::NamedType;
-use rgo_tac::{Body, Instr, Tac, TacFn};
+use rgo_tac::{Body, FunctionError, Instr, Tac, TacFn};
 use rgo_typed::{Piece, Row, Struct, Type, Variable};
 use std::alloc::{AllocError, Global};
 use std::mem;
@@ -207,10 +208,12 @@ fn push_op(current: &mut Open, instr: Instr, named: NamedInstr<'_>) -> Result<()
 }
 
 /// The next instruction of a function, with the numbers of what it names and of its lists.
-fn next_instr(tables: &Tables<'_>, current: &Open, op: &NamedOp<'_>) -> Result<Instr, AllocError>
-    ensures { IfOk result (λ i. IsNumbered (names_now tables.now) op.now (length current.now.instrs.items) i) }
+fn next_instr(tables: &Tables<'_>, current: &Open, op: &NamedOp<'_>) -> Instr
+    requires names { HaveNumbers (names_now tables.now) }
+    requires room { HasRoom current.now }
+    ensures { IsNumbered (names_now tables.now) op.now (length current.now.instrs.items) result }
 {
-    let list = narrow(current.instrs.len())?;
+    let list = current.instrs.len() as u32;
     numbered_instr(tables, &current.types, op, list)
 }
 
@@ -219,17 +222,19 @@ fn add_instr(
     current: &mut Open,
     named: NamedInstr<'_>,
 ) -> Result<(), AllocError>
-    requires { IsAligned current.old }
+    requires names { HaveNumbers (names_now tables.now) }
+    requires aligned { IsAligned current.old }
+    requires room { HasRoom current.old }
     ensures function { OnOk result (open_of current.new
         ≡ with_instr (open_of current.old)
         (spec.numbered_instr (names_now tables.now) (instr_of named.entry) named.entry.op.name.now)) }
     ensures aligned { OnOk result (IsAligned current.new) }
 {
-    let instr = next_instr(tables, current, &named.op)?;
+    let instr = next_instr(tables, current, &named.op);
     push_op(current, instr, named)
 }
 
-/// A function, if it is not too large.
+/// A function that is not too large.
 fn made(
     alloc: Global,
     name: Name,
@@ -238,6 +243,8 @@ fn made(
     types: Row<Type>,
     body: Body,
 ) -> Result<TacFn, AllocError>
+    requires variables { length types + 2 < 2 ^ 32 }
+    requires instrs { length body.instrs + 1 < 2 ^ 32 }
     ensures { IfOk result (λ f. f ≡ record {
       name = name;
       params = params;
@@ -248,12 +255,14 @@ fn made(
 {
     match TacFn::new(alloc, name, params, result_type, types, body) {
         Ok(function) => Ok(function),
-        Err(_) => Err(AllocError),
+        Err(FunctionError::NoMemory) => Err(AllocError),
+        Err(FunctionError::TooLarge) => unreachable!(),
     }
 }
 
 /// A function that is complete, and what it says of regions.
 fn completed(alloc: Global, current: Open) -> Result<(TacFn, Regions), AllocError>
+    requires { HasRoom current }
     ensures { IfOk result (λ f. code_fn f.0 f.1 ≡ open_of current) }
 {
     let Open {
@@ -288,7 +297,8 @@ fn completed(alloc: Global, current: Open) -> Result<(TacFn, Regions), AllocErro
 
 /// Ends the open function.
 fn close(alloc: Global, building: &mut Building) -> Result<(), AllocError>
-    requires { AllAligned building.old }
+    requires aligned { AllAligned building.old }
+    requires room { HasRoom building.old.current }
     ensures ended { OnOk result (building_of building.new ≡ with_line (building_of building.old) lines.End) }
     ensures aligned { OnOk result (AllAligned building.new) }
 {
@@ -306,7 +316,9 @@ fn add(
     building: &mut Building,
     item: Item<'_>,
 ) -> Result<(), AllocError>
-    requires { AllAligned building.old }
+    requires names { HaveNumbers (names_now tables.now) }
+    requires aligned { AllAligned building.old }
+    requires room { HasRoom building.old.current }
     ensures line { OnOk result (building_of building.new
         ≡ with_line (building_of building.old) (numbered (names_now tables.now) (item_of item.entry))) }
     ensures aligned { OnOk result (AllAligned building.new) }
@@ -335,6 +347,8 @@ fn collected(
     tables: &Tables<'_>,
     items: Vec<Item<'_>>,
 ) -> Result<Building, AllocError>
+    requires names { HaveNumbers (names_now tables.now) }
+    requires few { length items.items + 2 < 2 ^ 32 }
     ensures built { IfOk result (λ b. building_of b
         ≡ with_lines nothing (map (numbered (names_now tables.now)) (map item_of items.entry.items))) }
     ensures aligned { IfOk result (λ b. AllAligned b) }
@@ -376,6 +390,7 @@ pub(crate) fn code(
     requires fit { All ItemFits (map item_of items.items) }
     requires names { names_now tables.now ≡ names_in (map item_of items.items) }
     requires counts { CountsAre counts (declared_in (map item_of items.items)) }
+    requires few { AreFew (map item_of items.items) }
     ensures { IfOk result (λ c. c ≡ code_of (map item_of items.entry.items)) }
 {
     let undeclared = undeclared(alloc, tables, counts)?;

@@ -1,15 +1,14 @@
 //! Calls and goroutines' starts in a code text, as they are read.
 
-ghost use Rattle.std.specs.Prelude.{◌≡◌, ℕ, List, [], ◌∷◌, get_or, IfOk};
+ghost use Rattle.std.specs.Prelude.{◌≡◌, ℕ, List, [], IfOk};
 ghost use Rattle.std.specs.Option.{option_map};
 ghost use Rattle.rgo_typed.specs.declared.statements.Piece.{Piece};
 ghost use Rattle.rgo_tac.specs.Code as tac;
-ghost use Rattle.rgo_tac.specs.Views.{op_of};
 ghost use Rattle.rgo_code_words.specs.Cuts.{nows};
 ghost use Rattle.rgo_code.specs.Views.{code_op};
 ghost use Rattle.rgo_code_text.specs.Ops as spec;
 ghost use Rattle.rgo_code_text.specs.Ops.{of_length, calling, starting, removing};
-ghost use Rattle.rgo_code_text.specs.Views.{callee_of, named_op_of};
+ghost use Rattle.rgo_code_text.specs.Views.{callee_of, named_op_of, own_op};
 
 use crate::ops::{NamedOp, no_numbers};
 use rgo_code::{Class, Note};
@@ -43,8 +42,7 @@ fn read_callee(alloc: Global, word: &[u8]) -> Result<Option<Callee<'_>>, AllocEr
 }
 
 fn call_instr(to: Option<u32>) -> Instr
-    ensures { (lists : List (List ℕ)) (pieces : List (List Piece))
-        → op_of lists pieces result ≡ tac.Call to 0 (get_or lists 0 []) }
+    ensures { (from : List ℕ) (pieces : List Piece) → own_op from pieces result ≡ tac.Call to 0 from }
 {
     match to {
         Some(d) => Instr::Call(d, 0, 0),
@@ -97,7 +95,7 @@ fn go_note(alloc: Global, words: &[&[u8]]) -> Result<Option<Note>, AllocError>
 /// An instruction with the arguments of a callee.
 fn with_callee<'t>(alloc: Global, instr: Instr, callee: Callee<'t>, note: Note) -> NamedOp<'t>
     ensures { named_op_of result ≡ record {
-      op = code_op (op_of (callee.entry.from ∷ []) ([] ∷ []) instr) note;
+      op = code_op (own_op callee.entry.from [] instr) note;
       name = callee.entry.name.now;
     } }
 {

@@ -8,7 +8,7 @@ ghost use Rattle.rgo_tac.specs.Views.{op_of};
 ghost use Rattle.rgo_code_words.specs.Cuts.{nows};
 ghost use Rattle.rgo_code_text.specs.Ops as spec;
 ghost use Rattle.rgo_code_text.specs.Ops.{of_length, jumping, branching, returning};
-ghost use Rattle.rgo_code_text.specs.Views.{named_op_of};
+ghost use Rattle.rgo_code_text.specs.Views.{named_op_of, own_op};
 
 use crate::ops::{NamedOp, removals, simple};
 use rgo_code_words::{number, removes, value, variable, word_at};
@@ -75,7 +75,7 @@ pub(crate) fn branch<'t>(
 
 /// The instruction that returns a value, or nothing.
 fn return_instr(value: Option<u32>) -> Instr
-    ensures { (lists : List (List ℕ)) (pieces : List (List Piece)) → op_of lists pieces result ≡ tac.Return value }
+    ensures { (from : List ℕ) (pieces : List Piece) → own_op from pieces result ≡ tac.Return value }
 {
     match value {
         Some(v) => Instr::Return(v),

@@ -23,7 +23,7 @@ pub fn rules_suffice()
     ensures { RulesSuffice }
 {}
 
-/// Small code whose parts are printable, and code that has one part that is not.
+/// Small code whose parts are printable, and code that has one part that is not; how long texts may be.
 pub fn examples()
     ensures { Examples }
 {}

@@ -1,12 +1,14 @@
 //! Types and operations with the numbers of what they name.
 
-ghost use Rattle.std.specs.Prelude.{◌≡◌, map, IfOk};
+ghost use Rattle.std.specs.Prelude.{◌≡◌, ◌<◌, ◌^◌, length, map, IfOk};
 ghost use Rattle.rgo_code_text.specs.Building as spec;
 ghost use Rattle.rgo_code_text.specs.Building.{names_now};
 ghost use Rattle.rgo_code_text.specs.Opened.{IsCopy, IsNumbered};
+ghost use Rattle.rgo_code_text.specs.Sizes.{HaveNumbers};
+ghost use Rattle.rgo_code_text.specs.Written.{number_of};
 ghost use Rattle.rgo_code_words.specs.Views.{named_type_of};
 
-use crate::numbers::Tables;
+use crate::numbers::{Numbers, Tables};
 use crate::ops::NamedOp;
 use rgo_code_words::NamedType;
 use rgo_tac::Instr;
@@ -42,14 +44,12 @@ pub(crate) fn numbered_types(
     Ok(types)
 }
 
-/// The number, if it has 32 bits.
-pub(crate) fn narrow(n: usize) -> Result<u32, AllocError>
-    ensures { IfOk result (λ m. m ≡ n) }
+/// The number of a name, in 32 bits.
+fn small_number(numbers: &Numbers<'_>, name: &[u8]) -> u32
+    requires { length numbers.now < 2 ^ 32 }
+    ensures { result ≡ number_of numbers.now name.now }
 {
-    if n > 4294967295 {
-        return Err(AllocError);
-    }
-    Ok(n as u32)
+    numbers.number(name) as u32
 }
 
 /// Whether a variable has this base and no layers.
@@ -73,43 +73,26 @@ fn copy(types: &[Type], d: u32, a: u32) -> Instr
     }
 }
 
-/// The number in the function of an operation's list. An operation has one of each kind, which is number 0.
-fn own(list: u32, n: u32) -> Result<u32, AllocError>
-    ensures list { IfOk result (λ k. k ≡ list) }
-    ensures first { IfOk result (λ k. n ≡ 0) }
-{
-    if n != 0 {
-        return Err(AllocError);
-    }
-    Ok(list)
-}
-
-/// The instruction with the number of what it names, and that of its variables and pieces.
+/// The instruction with the number of what it names, and with that of its list of variables and its pieces.
 pub(crate) fn numbered_instr(
     tables: &Tables<'_>,
     types: &[Type],
     op: &NamedOp<'_>,
     list: u32,
-) -> Result<Instr, AllocError>
-    ensures { IfOk result (λ instr. IsNumbered (names_now tables.now) op.now list instr) }
+) -> Instr
+    requires { HaveNumbers (names_now tables.now) }
+    ensures { IsNumbered (names_now tables.now) op.now list result }
 {
     let name = op.name;
     match op.instr {
-        Instr::Copy(d, a) => Ok(copy(types, d, a)),
-        Instr::New(d, _) => Ok(Instr::New(d, narrow(tables.structs.number(name))?)),
-        Instr::Get(d, _) => Ok(Instr::Get(d, narrow(tables.globals.number(name))?)),
-        Instr::Set(_, a) => Ok(Instr::Set(narrow(tables.globals.number(name))?, a)),
-        Instr::Call(d, _, n) => Ok(Instr::Call(
-            d,
-            narrow(tables.functions.number(name))?,
-            own(list, n)?,
-        )),
-        Instr::Invoke(_, n) => Ok(Instr::Invoke(
-            narrow(tables.functions.number(name))?,
-            own(list, n)?,
-        )),
-        Instr::Go(_, n) => Ok(Instr::Go(narrow(tables.functions.number(name))?, own(list, n)?)),
-        Instr::Print(p, n) => Ok(Instr::Print(own(list, p)?, own(list, n)?)),
-        other => Ok(other),
+        Instr::Copy(d, a) => copy(types, d, a),
+        Instr::New(d, _) => Instr::New(d, small_number(&tables.structs, name)),
+        Instr::Get(d, _) => Instr::Get(d, small_number(&tables.globals, name)),
+        Instr::Set(_, a) => Instr::Set(small_number(&tables.globals, name), a),
+        Instr::Call(d, _, _) => Instr::Call(d, small_number(&tables.functions, name), list),
+        Instr::Invoke(_, _) => Instr::Invoke(small_number(&tables.functions, name), list),
+        Instr::Go(_, _) => Instr::Go(small_number(&tables.functions, name), list),
+        Instr::Print(_, _) => Instr::Print(list, list),
+        other => other,
     }
 }

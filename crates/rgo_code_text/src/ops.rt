@@ -18,9 +18,10 @@ use rgo_tac::Instr;
 use rgo_typed::{Piece, Row};
 use std::alloc::{AllocError, Global};
 
-/// An instruction with 0 for the number of what it names, of its variables and of its pieces.
+/// An operation, whose numbers in a function are not known yet.
 #[derive(Drop)]
 pub(crate) struct NamedOp<'t> {
+    /// What it does, with 0 for the number of what it names. The numbers of its variables and its pieces mean nothing.
     pub(crate) instr: Instr,
     /// What it names; empty if it names nothing.
     pub(crate) name: &'t [u8],

@@ -1,10 +1,12 @@
 //! A code text, read line by line.
 
-ghost use Rattle.std.specs.Prelude.{◌≡◌, map, All, IfOk, MatchResult};
+ghost use Rattle.std.specs.Prelude.{◌≡◌, ◌↔◌, ◌+◌, ◌<◌, ◌^◌, Err, length, map, All, IfOk, MatchResult};
 ghost use Rattle.std.specs.Option.{option_map};
 ghost use Rattle.rgo_code_printing.specs.Text.{text_of};
+ghost use Rattle.rgo_code_text.specs.declared.refusals.ReadError.TheVariants.{TooLarge};
 ghost use Rattle.rgo_code_text.specs.Building.{code_of, names_now};
 ghost use Rattle.rgo_code_text.specs.Items.{ItemFits};
+ghost use Rattle.rgo_code_text.specs.Sizes.{AreFew, IsTooLarge};
 ghost use Rattle.rgo_code_text.specs.Walk.{AreItems, StepIs, StopsIn, Refuses};
 ghost use Rattle.rgo_code_text.specs.Views.{item_of};
 ghost use Rattle.rgo_code_text.specs.Written.{IsWritten, no_names};
@@ -37,12 +39,14 @@ fn step<'t>(
 
 /// The items of a text's lines.
 pub(crate) fn items(alloc: Global, text: &[u8]) -> Result<Vec<Item<'_>>, ReadError>
+    requires { length text.now + 2 < 2 ^ 32 }
     ensures { MatchResult result (λ items. AreItems text.now (map item_of items.items)) (λ e. StopsIn text.now e) }
 {
     let mut items = Vec::new(alloc);
     let mut place = Place::First;
     let mut at = 0;
-    for line in 1..u32::MAX {
+    let mut line: u32 = 1;
+    'lines: loop {
         let rest = &text[at..];
         let len = len_to(rest, b'\n');
         if len == rest.len() {
@@ -59,8 +63,8 @@ pub(crate) fn items(alloc: Global, text: &[u8]) -> Result<Vec<Item<'_>>, ReadErr
             None => return Err(ReadError::Refused(CodeText { line })),
         }
         at = at + len + 1;
+        line = line + 1;
     }
-    Err(ReadError::TooLarge)
 }
 
 /// The code of these lines, whose names are numbered in tables that have none yet.
@@ -70,6 +74,7 @@ fn assembled<'t>(
     items: Vec<Item<'t>>,
 ) -> Result<Code, AllocError>
     requires fit { All ItemFits (map item_of items.items) }
+    requires few { AreFew (map item_of items.items) }
     requires empty { names_now tables.old ≡ no_names }
     ensures { IfOk result (λ c. c ≡ code_of (map item_of items.entry.items)) }
 {
@@ -79,20 +84,17 @@ fn assembled<'t>(
 
 /// The code of these lines.
 fn code_in(alloc: Global, items: Vec<Item<'_>>) -> Result<Code, AllocError>
-    requires { All ItemFits (map item_of items.items) }
+    requires fit { All ItemFits (map item_of items.items) }
+    requires few { AreFew (map item_of items.items) }
     ensures { IfOk result (λ c. c ≡ code_of (map item_of items.entry.items)) }
 {
     let mut tables = no_tables(alloc);
     assembled(alloc, &mut tables, items)
 }
 
-/// The code of which this is the text.
-///
-/// # Errors
-///
-/// If it is not the text of code, with the number of the first line that has no form in its place; if it has 2³² - 2 lines
-/// or more, `TooLarge`; on allocation failure.
-pub fn read_code(alloc: Global, text: &[u8]) -> Result<Code, ReadError>
+/// The code of a text that is not too large.
+fn read_few(alloc: Global, text: &[u8]) -> Result<Code, ReadError>
+    requires { length text.now + 2 < 2 ^ 32 }
     ensures { MatchResult result (λ code. (text.now ≡ text_of code) × IsWritten code) (λ e. Refuses text.now e) }
 {
     let items = items(alloc, text)?;
@@ -100,4 +102,23 @@ pub fn read_code(alloc: Global, text: &[u8]) -> Result<Code, ReadError>
         Ok(code) => Ok(code),
         Err(_) => Err(ReadError::NoMemory),
     }
+}
+
+/// The most bytes that a code text may have.
+const MOST_BYTES: usize = u32::MAX as usize - 2;
+
+/// The code of which this is the text.
+///
+/// # Errors
+///
+/// `TooLarge` if it has 2³² - 2 bytes or more, which is known before anything is read. Else, if it is not the text of code,
+/// the number of the first line that has no form in its place; `NoMemory` on allocation failure.
+pub fn read_code(alloc: Global, text: &[u8]) -> Result<Code, ReadError>
+    ensures read { MatchResult result (λ code. (text.now ≡ text_of code) × IsWritten code) (λ e. Refuses text.now e) }
+    ensures large { (result ≡ Err TooLarge) ↔ IsTooLarge text.now }
+{
+    if text.len() > MOST_BYTES {
+        return Err(ReadError::TooLarge);
+    }
+    read_few(alloc, text)
 }

@@ -12,12 +12,12 @@ pub struct CodeText {
     pub line: u32,
 }
 
-/// Why no code was read: memory ran out, the text has 2³² - 2 lines or more, or it is refused.
+/// Why no code was read: memory ran out, the text has 2³² - 2 bytes or more, or it is refused.
 #[derive(Clone, Copy, Debug, PartialEq, Eq, Error)]
 pub enum ReadError {
     #[error("out of memory")]
     NoMemory,
-    #[error("the code text has too many lines")]
+    #[error("the code text is too long")]
     TooLarge,
     #[error("line {} of the code text has no form", .0.line)]
     Refused(CodeText),

@@ -13,6 +13,7 @@ fn checked(alloc: Global, code: &Code) -> Result<(u8, u32), Fail> {
     match check_code(alloc, code) {
         Ok(()) => Ok((0, 0)),
         Err(CheckError::Refused(refusal)) => Ok((refusal.rule.number(), refusal.line)),
+        Err(CheckError::TooLarge) => Err(Fail::from("too large")),
         Err(CheckError::NoMemory) => Err(Fail::from("out of memory")),
     }
 }
@@ -22,7 +23,8 @@ fn reported(alloc: Global, text: &str) -> Result<(u8, u32), Fail> {
     match read_code(alloc, text.as_bytes()) {
         Ok(code) => checked(alloc, &code),
         Err(ReadError::Refused(refusal)) => Ok((0, refusal.line)),
-        Err(ReadError::NoMemory | ReadError::TooLarge) => Err(Fail::from("out of memory")),
+        Err(ReadError::TooLarge) => Err(Fail::from("too large")),
+        Err(ReadError::NoMemory) => Err(Fail::from("out of memory")),
     }
 }
 

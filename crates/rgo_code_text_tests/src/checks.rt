@@ -21,7 +21,8 @@ fn shown(alloc: Global, text: &[u8]) -> Result<String, Fail> {
             Ok(String::from_str(alloc, again)?)
         }
         Err(ReadError::Refused(refusal)) => Ok(format!(in alloc; "{}", refusal.line)?),
-        Err(ReadError::NoMemory | ReadError::TooLarge) => Err(Fail::from("out of memory")),
+        Err(ReadError::TooLarge) => Err(Fail::from("too large")),
+        Err(ReadError::NoMemory) => Err(Fail::from("out of memory")),
     }
 }
 

@@ -1,6 +1,7 @@
 pub mod Accepting
 pub mod EndingLemmas
 pub mod ClaimLemmas
+pub mod CodeLengths
 pub mod CodeVerdictLemmas
 pub mod ConstantLemmas
 pub mod HeadlineLemmas

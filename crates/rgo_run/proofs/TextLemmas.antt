@@ -1,5 +1,5 @@
 -- What the parts of the compiler say of a text, as the endings that report it.
-use Rattle.std.proofs.Common.{◌≡◌, ℕ, suc, ◌+◌, ◌*◌, ◌<◌, ◌≤◌, inl, Bool, true, false, List, [], ◌∷◌, length, Option, None, Some, IfSome, refl, arith, subst, sym}
+use Rattle.std.proofs.Common.{◌≡◌, ℕ, suc, ◌+◌, ◌*◌, ◌<◌, ◌≤◌, inl, Bool, true, false, List, [], ◌∷◌, length, Option, None, Some, IfSome, refl, ap, arith, subst, sym}
 use Rattle.std.specs.Prelude.{max, nat_le, codes, bytes_eq, if◌then◌else◌}
 use Rattle.std.proofs.lemmas.Bool.Decides.{nat_tests}
 use Rattle.rgo_outside.specs.Moves.{ReadsAll, GivesTooMany}
@@ -75,6 +75,7 @@ use Rattle.rgo_run.specs.CodeVerdicts.{IsTextOfCode, code_limit, CodePasses}
 use Rattle.rgo_run.specs.Texts.{IsRead, IsTextOf, NotRead, ReadTooMuch, RefusedAs, Fails, FailsAs, Performs, RunsOrFails, limit_of}
 use Rattle.rgo_run.specs.Verdicts.{IsTree, text_limit}
 use Rattle.rgo_run.proofs.Accepting.{emitted_passes}
+use Rattle.rgo_run.proofs.CodeLengths.{lines_take_bytes}
 
 -- the command reads its text
 abbrev pub Reads : Command → Type 0
@@ -303,10 +304,14 @@ emitted text code bytes e out is is_text fits writes = inl (
 pub read_fails : (text : List ℕ) (error : ReadError) → length text ≤ code_limit → ReadFails text error
     → FailsAs text_kind.Code text (reading_error error)
 read_fails text reading.NoMemory within fails = tt
-read_fails text reading.TooLarge within fails = tt
+read_fails text reading.TooLarge within fails = absurd (omega (arith, within, fails))
 read_fails text (reading.Refused refusal) within fails = (within, fails)
 
 pub check_fails : (text : List ℕ) (c : code.Code) (error : CheckError) → IsTextOfCode text c → CheckFails error c
     → FailsAs text_kind.Code text (check_error error)
 check_fails text c check.NoMemory is fails = tt
+check_fails text c check.TooLarge is fails =
+    let long = lines_take_bytes c in
+    let same = ap (λ (t : List ℕ). length t) is.text_is in
+    absurd (omega (arith, fails, long, same, is.within))
 check_fails text c (check.Refused refusal) is fails = record { code = c; is_text = is; broken = fails }

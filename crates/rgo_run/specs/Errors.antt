@@ -36,10 +36,12 @@ read_error kind read.NoMemory = NoMemory
 abbrev pub reading_error : ReadError → Ending
 reading_error (reading.Refused refusal) = NoForm refusal.line
 reading_error reading.NoMemory = NoMemory
-reading_error reading.TooLarge = NoMemory
+reading_error reading.TooLarge = CodeTooLong
 
+-- code of so many lines has a text that is longer than a code text may be
 abbrev pub check_error : CheckError → Ending
 check_error (check.Refused refusal) = Breaks refusal
+check_error check.TooLarge = CodeTooLong
 check_error check.NoMemory = NoMemory
 
 abbrev pub lex_error : LexError → Ending

@@ -86,8 +86,8 @@ impl From<ReadError> for Ending {
     fn from(error: ReadError) -> Ending {
         match error {
             ReadError::Refused(refusal) => Ending::NoForm { line: refusal.line },
-            // A text of at most CODE_LIMIT bytes does not have so many lines that it is too large.
-            ReadError::NoMemory | ReadError::TooLarge => Ending::NoMemory,
+            ReadError::TooLarge => Ending::CodeTooLong,
+            ReadError::NoMemory => Ending::NoMemory,
         }
     }
 }
@@ -98,6 +98,8 @@ impl From<CheckError> for Ending {
     fn from(error: CheckError) -> Ending {
         match error {
             CheckError::Refused(refusal) => Ending::Breaks(refusal),
+            // Each line of a code text takes a byte at least, so the text of such code is longer than a code text may be.
+            CheckError::TooLarge => Ending::CodeTooLong,
             CheckError::NoMemory => Ending::NoMemory,
         }
     }

@@ -17,7 +17,7 @@ loop-at-preserved c = λ n here.
     walks_more c.args.code.now 1 2 (InstrLine n) c.loop-at.at c.args.scan.now c.loop-at.scan c.pass_existence.new.scan
     (c.loop-at.invariant n here)
     (instr_walked c.args.code.now c.loop-at.scan c.pass_existence.new.scan n c.args.f.now here c.loop-at.at
-    c.instr_is_kept-kept.result c.instr_is_kept-kept.ensures c.in_ok-pass_existence.ensures)
+    c.instr_is_kept-kept.result c.instr_is_kept-kept.ensures c.pass_existence.ensures)
 
 pub returns : goal.returns
 returns c = λ n here.

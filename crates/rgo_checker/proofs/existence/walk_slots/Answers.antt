@@ -27,7 +27,7 @@ loop-v-preserved c = λ n here.
     (c.variables-types.ensures ∙ ap (λ x. x.variables) c.tac.ensures)
     (slice_get_read types (length types) v ty refl (omega arith) c.index-types-v.is))
     c.type_exists-exists.result (c.type_exists-exists.ensures ∙ ap (λ x. type_exists x ty) c.tac-program.ensures)
-    c.in_ok-pass_existence.ensures)
+    c.pass_existence.ensures)
 
 pub returns : goal.returns
 returns c = λ n here.

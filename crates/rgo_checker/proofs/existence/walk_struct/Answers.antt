@@ -1,5 +1,4 @@
 use Rattle.std.proofs.Common.{◌∙◌, ◌∷◌, ◌++◌, [], map, take, ap, subst, Contains}
-use Rattle.std.proofs.lemmas.Result.{on_ok_weaker}
 use Rattle.std.specs.Bool.{Decides}
 use Rattle.rgo_code.specs.declared.rules.Rule.TheVariants as rule
 use Rattle.rgo_checker.specs.Naming.{AreNames}
@@ -9,21 +8,16 @@ use Rattle.rgo_checker.proofs.ExistenceWalk.{struct_walked}
 use Rattle.rgo_checker.proofs.existence.walk_struct.Goals as goal
 
 pub returns-clause-names : goal.returns-clause-names
-returns-clause-names c =
-    on_ok_weaker c.pass_existence.result
-    (λ e seen h. subst (λ name. AreNames c.add.new.names (seen ++ name ∷ [])) c.bytes.ensures
-    (c.in_ok-is_new.ensures.names seen h))
-    c.pass_existence.ensures
+returns-clause-names c = λ seen h.
+    subst (λ name. AreNames c.add.new.names (seen ++ name ∷ [])) c.bytes.ensures (c.in_ok-is_new.ensures.names seen h)
 
 pub returns-clause-walks : goal.returns-clause-walks
-returns-clause-walks c =
+returns-clause-walks c = λ n here h.
     let code = c.args.code.now in
     let s = c.args.scan.now in
     let fresh = c.in_ok-is_new.is_new in
-    on_ok_weaker c.pass_existence.result
-    (λ e n here h. struct_walked code s c.pass_existence.new.scan n c.args.s.now here fresh c.types_exist-exist.result
+    struct_walked code s c.pass_existence.new.scan n c.args.s.now here fresh c.types_exist-exist.result
     (subst (λ name. Decides fresh (Contains (take n (map (λ x. x.name) code.structs)) name → ⊥)) c.bytes.ensures
     (c.in_ok-is_new.ensures.is_new (take n (map (λ x. x.name) code.structs)) h))
     (c.types_exist-exist.ensures ∙ (λ j. types_exist (c.tac.ensures j) (c.items.ensures j)))
-    (e ∙ ap (λ b. passed s (broken_if s.limit rule.Exists b)) c.both.ensures))
-    c.pass_existence.ensures
+    (c.pass_existence.ensures ∙ ap (λ b. passed s (broken_if s.limit rule.Exists b)) c.both.ensures)

@@ -1,4 +1,4 @@
-use Rattle.std.proofs.Common.{◌≡◌, ◌∙◌, nat_eq, sym, ap, subst}
+use Rattle.std.proofs.Common.{◌≡◌, ◌∙◌, nat_eq, sym, subst}
 use Rattle.std.proofs.lemmas.Option.{same_Some, none-some}
 use Rattle.std.proofs.lemmas.Result.{on_ok_weaker}
 use Rattle.std.specs.HashMap.{get}
@@ -11,7 +11,7 @@ returns-in-Some c =
     (λ e class there q.
     subst (λ x. get nat_eq c.place.new.places q ≡ placed x c.args.p q (get nat_eq c.args.places.now q))
     (same_Some c.in-Some.class class (sym c.in-Some.is ∙ c.class_at.ensures ∙ there))
-    (e q ∙ ap (λ n. placed c.in-Some.class n q (get nat_eq c.args.places.now q)) c.in_ok-number.ensures))
+    (e q))
     c.place.ensures
 
 pub returns-in-None : goal.returns-in-None

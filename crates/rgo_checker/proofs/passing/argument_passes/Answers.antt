@@ -1,5 +1,4 @@
 use Rattle.std.proofs.Common.{◌≡◌, ◌<◌, ◌∙◌, ap, arith}
-use Rattle.rgo_code.specs.Names.{class_of}
 use Rattle.rgo_checker.proofs.Deciding.{always}
 use Rattle.rgo_checker.proofs.PassingLaws.{argument_decided}
 use Rattle.rgo_checker.proofs.passing.argument_passes.Goals as goal
@@ -16,6 +15,5 @@ returns c =
     c.params-params.ensures ∙ ap (λ x. x.params) c.tac.ensures in
     let inside : c.args.i < c.args.callee.now.params = omega (arith, e, c.if-i-params.false) in
     argument_decided c.args.f.now c.args.callee.now c.args.parameters.now.classes.items c.args.passes.now
-    c.class_of-parameter.result c.class_of-argument.result c.is_passed_for.result c.is_passed_for.ensures c.args.i
-    c.args.v (c.class_of-parameter.ensures ∙ ap (class_of c.args.callee.now) c.in_ok-number.ensures)
-    c.class_of-argument.ensures inside
+    c.class_at-parameter.result c.class_of-argument.result c.is_passed_for.result c.is_passed_for.ensures c.args.i
+    c.args.v c.class_at-parameter.ensures c.class_of-argument.ensures inside

@@ -11,7 +11,7 @@ returns-then-not-passed c =
     let i = c.loop-i.i in
     let v = get_or c.args.from.now i 0 in
     never (λ h. false≢true (sym c.if-not-passed.true
-    ∙ c.in_ok-passed.ensures.1 (λ l. h i v l (slice_get-get_or c.args.from.now i 0 (omega arith)))))
+    ∙ c.argument_passes-passed.ensures.1 (λ l. h i v l (slice_get-get_or c.args.from.now i 0 (omega arith)))))
 
 pub loop-i-preserved : goal.loop-i-preserved
 loop-i-preserved c =
@@ -20,7 +20,7 @@ loop-i-preserved c =
     (λ j v. ArgumentPasses c.args.f.now c.args.callee.now c.args.parameters.now.classes.items c.args.passes.now j v)
     c.args.from.now i (get_or c.args.from.now i 0) c.loop-i.invariant
     (slice_get-get_or c.args.from.now i 0 (omega arith))
-    (c.in_ok-passed.ensures.0 c.if-not-passed.false)
+    (c.argument_passes-passed.ensures.0 c.if-not-passed.false)
 
 pub returns : goal.returns
 returns c =

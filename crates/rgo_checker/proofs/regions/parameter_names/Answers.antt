@@ -5,7 +5,6 @@ use Rattle.std.specs.Bool.{Decides}
 use Rattle.std.specs.HashSet.{contains}
 use Rattle.rgo_typed.specs.declared.types.Type.{«Type»}
 use Rattle.rgo_tac.specs.declared.regions.Class.TheVariants.{Name}
-use Rattle.rgo_code.specs.Names.{class_of}
 use Rattle.rgo_checker.proofs.RegionLaws.{names_more, parameters_all, no_parameters}
 use Rattle.rgo_checker.proofs.regions.parameter_names.Goals as goal
 
@@ -18,8 +17,8 @@ loop-v-preserved c =
     let long = ap (λ (tys : List «Type»). length tys)
     (c.variables-types.ensures ∙ ap (λ x. x.variables) c.tac-function.ensures) ∙ length-map f.variables (λ s. s.ty) in
     names_more f.variables (λ k. contains nat_eq c.loop-v.names k) (λ k. contains nat_eq c.add_name.new.names k)
-    c.loop-v.v c.class_of.result c.loop-v.invariant (omega (arith, long, c.min-count.ensures))
-    (c.class_of.ensures ∙ ap (class_of f) c.in_ok-number.ensures) c.in_ok-add_name.ensures
+    c.loop-v.v c.class_at.result c.loop-v.invariant (omega (arith, long, c.min-count.ensures)) c.class_at.ensures
+    c.in_ok-add_name.ensures
 
 pub returns : goal.returns
 returns c = λ k.

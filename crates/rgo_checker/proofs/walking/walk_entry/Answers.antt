@@ -1,10 +1,7 @@
-use Rattle.std.proofs.lemmas.Result.{on_ok_weaker}
 use Rattle.rgo_checker.proofs.WalkLaws.{entry_walked}
 use Rattle.rgo_checker.proofs.walking.walk_entry.Goals as goal
 
 pub returns : goal.returns
-returns c =
-    on_ok_weaker c.pass.result
-    (λ e n here. entry_walked c.args.code.now n c.args.f.now here c.args.scan.now c.pass.new.scan c.in_ok-broken.broken
-    c.in_ok-broken.ensures e)
-    c.pass.ensures
+returns c = λ n here.
+    entry_walked c.args.code.now n c.args.f.now here c.args.scan.now c.pass.new.scan c.in_ok-broken.broken
+    c.in_ok-broken.ensures c.pass.ensures

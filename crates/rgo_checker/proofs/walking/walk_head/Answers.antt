@@ -1,15 +1,12 @@
 use Rattle.std.proofs.Common.{◌∙◌, ap}
-use Rattle.std.proofs.lemmas.Result.{on_ok_weaker}
 use Rattle.rgo_checker.specs.ClassTests.{result_fits}
 use Rattle.rgo_checker.proofs.WalkLaws.{head_walked}
 use Rattle.rgo_checker.proofs.walking.walk_head.Goals as goal
 
 pub returns : goal.returns
-returns c =
-    on_ok_weaker c.pass_classes.result
-    (λ e n here. head_walked c.args.code.now n c.args.f.now here c.args.scan.now c.pass_classes.new.scan
-    c.result_fits-kept.result
+returns c = λ n here.
+    head_walked c.args.code.now n c.args.f.now here c.args.scan.now c.pass_classes.new.scan c.result_fits-kept.result
     (c.result_fits-kept.ensures
     ∙ (λ j. result_fits (c.result_class.ensures j)
-    ((c.result_type.ensures ∙ ap (λ x. x.result_type) c.tac.ensures) j))) e)
+    ((c.result_type.ensures ∙ ap (λ x. x.result_type) c.tac.ensures) j)))
     c.pass_classes.ensures

@@ -3,7 +3,6 @@ use Rattle.std.proofs.lemmas.List.{length-map}
 use Rattle.std.proofs.lemmas.Option.{slice_get_read}
 use Rattle.rgo_typed.specs.declared.types.Type.{«Type»}
 use Rattle.rgo_code.specs.declared.rules.Line.TheVariants.{Slot as SlotLine}
-use Rattle.rgo_code.specs.Names.{class_of}
 use Rattle.rgo_checker.specs.ClassTests.{class_fits}
 use Rattle.rgo_checker.specs.Lines.{first_lines}
 use Rattle.rgo_checker.specs.Scan.{Walks}
@@ -28,9 +27,8 @@ loop-v-preserved c = λ n here.
     (c.variables-types.ensures ∙ ap (λ x. x.variables) c.tac.ensures)
     (slice_get_read types (length types) v ty refl (omega arith) c.index-types-v.is))
     c.loop-v.scan c.pass_classes.new.scan c.class_fits-kept.result
-    (c.class_fits-kept.ensures
-    ∙ ap (λ x. class_fits x ty) (c.class_of.ensures ∙ ap (class_of f) c.in_ok-number.ensures))
-    c.in_ok-pass_classes.ensures)
+    (c.class_fits-kept.ensures ∙ ap (λ x. class_fits x ty) c.class_at.ensures)
+    c.pass_classes.ensures)
 
 pub returns : goal.returns
 returns c = λ n here.

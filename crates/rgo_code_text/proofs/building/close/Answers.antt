@@ -1,8 +1,8 @@
-use Rattle.std.proofs.Common.{◌≡◌, ◌∙◌, ◌++◌, ◌∷◌, [], ap}
+use Rattle.std.proofs.Common.{◌≡◌, ◌∙◌, ◌++◌, ◌∷◌, [], ap, sym, subst}
 use Rattle.rgo_code.specs.Code.{CodeFn}
 use Rattle.rgo_code.specs.Views.{code_fns}
 use Rattle.rgo_code_text.specs.CodeLines.{Building, no_function}
-use Rattle.rgo_code_text.specs.Opened.{open_of, building_of}
+use Rattle.rgo_code_text.specs.Opened.{open_of, building_of, HasRoom}
 use Rattle.rgo_code_text.proofs.Opening.{fns_push}
 use Rattle.rgo_code_text.proofs.building.close.Goals as goal
 
@@ -17,9 +17,12 @@ returns-clause-ended c =
     let all : code_fns c.push.new.self.items c.push-2.new.self.items ≡ old.functions ++ old.current ∷ [] =
     ap (λ fs. code_fns fs c.push-2.new.self.items) functions
     ∙ ap (code_fns (b.functions.items ++ f ∷ [])) regions
-    ∙ fns_push b.functions.items b.regions.items f r c.requires.regions
+    ∙ fns_push b.functions.items b.regions.items f r c.requires.aligned.regions
     ∙ ap (λ (g : CodeFn). old.functions ++ g ∷ []) (c.in_ok-function.ensures ∙ ap open_of c.replace-complete.ensures.value) in
     let current : open_of c.replace-complete.new.dest ≡ no_function =
     ap open_of c.replace-complete.ensures.after ∙ c.none_open.ensures.function in
     ap (λ fs. record old { functions = fs; current = open_of c.replace-complete.new.dest }) all
     ∙ ap (λ (g : CodeFn). record old { functions = old.functions ++ old.current ∷ []; current = g }) current
+
+pub completed-requires : goal.completed-requires
+completed-requires c = subst HasRoom (sym c.replace-complete.ensures.value) c.requires.room

@@ -1,11 +1,13 @@
-use Rattle.std.proofs.Common.{◌≡◌, ◌∙◌, sym, ap, subst, map, drop, List}
+use Rattle.std.proofs.Common.{◌≡◌, ◌∙◌, sym, ap, arith, subst, map, drop, List}
 use Rattle.std.specs.List.{All}
+use Rattle.std.proofs.lemmas.List.{length-map}
 use Rattle.rgo_tac.specs.Code.{Tac, TacFn}
 use Rattle.rgo_code.specs.declared.code.Undeclared.{Undeclared}
 use Rattle.rgo_code.specs.Views.{code_fns}
 use Rattle.rgo_code_text.specs.Building.{built, names_now, declared_in, numbered}
 use Rattle.rgo_code_text.specs.CodeLines.{Building, nothing, with_lines}
 use Rattle.rgo_code_printing.specs.Text.{Names}
+use Rattle.rgo_code_text.specs.Sizes.{HaveNumbers}
 use Rattle.rgo_code_text.specs.Views.{item_of}
 use Rattle.rgo_code_text.proofs.Fitting.{PartsFit, fits_ascends, all_fit, nothing_fits}
 use Rattle.rgo_code_text.proofs.Opening.{built_same}
@@ -49,3 +51,9 @@ returns c =
     (ap (λ (u : Undeclared). u.variables) c.in_ok-undeclared.ensures ∙ ap (λ k. drop k n.variables) c.requires.counts.variables)
     (ap (λ (u : Undeclared). u.functions) c.in_ok-undeclared.ensures ∙ ap (λ k. drop k n.functions) c.requires.counts.functions)
     ∙ ap (λ (m : Names). built m d (with_lines nothing (map (numbered m) items))) c.requires.names
+
+pub collected-requires-clause-names : goal.collected-requires-clause-names
+collected-requires-clause-names c = subst HaveNumbers (sym c.requires.names) c.requires.few.names
+
+pub collected-requires-clause-few : goal.collected-requires-clause-few
+collected-requires-clause-few c = omega (arith, c.requires.few.lines, length-map c.args.items.items item_of)

@@ -1,10 +1,11 @@
-use Rattle.std.proofs.Common.{◌∙◌, sym, ap, map, map-id, rules}
+use Rattle.std.proofs.Common.{◌∙◌, sym, ap, arith, map, map-id, rules}
 use Rattle.std.proofs.lemmas.Iterator.Adapters.{YieldsList-from_vec}
-use Rattle.std.proofs.lemmas.Iterator.Consumers.{YieldsList-end}
-use Rattle.std.proofs.lemmas.List.{map_push}
+use Rattle.std.proofs.lemmas.Iterator.Consumers.{YieldsList-end, YieldsList-turn}
+use Rattle.std.proofs.lemmas.List.{length-map, map_push}
 use Rattle.rgo_code_text.specs.Building.{names_now, numbered}
 use Rattle.rgo_code_text.specs.CodeLines.{nothing, with_line, with_lines}
 use Rattle.rgo_code_text.specs.Views.{item_of}
+use Rattle.rgo_code_text.proofs.Few.{has_room}
 use Rattle.rgo_code_text.proofs.Opening.{lines_push}
 use Rattle.rgo_code_text.proofs.building.collected.Goals as goal
 
@@ -31,3 +32,12 @@ returns c =
           (sym (map-id c.loop-item.yielded) ∙ end.0);
       aligned = c.loop-item.invariant.aligned;
     }
+
+pub add-requires-clause-room : goal.add-requires-clause-room
+add-requires-clause-room c =
+    let n = names_now c.args.tables.now in
+    let xs = c.loop-item.yielded in
+    let turn = YieldsList-turn (YieldsList-from_vec {s = c.into_iter-item-iterator.result} c.args.items.items (search rules) (search rules))
+    xs c.loop-item.item-iterator c.loop-item.yielded_by c.next.result c.next.new.self c.in-Some.item c.in-Some.is c.next.ensures.steps in
+    has_room c.loop-item.building (map (numbered n) (map item_of xs)) c.loop-item.invariant.built
+    (omega (arith, c.requires.few, turn.0, length-map (map item_of xs) (numbered n), length-map xs item_of))

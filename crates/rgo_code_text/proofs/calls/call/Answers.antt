@@ -1,4 +1,4 @@
-use Rattle.std.proofs.Common.{◌≡◌, [], ◌∷◌, length, Some, None, sym, ap, ◌∙◌, refl}
+use Rattle.std.proofs.Common.{◌≡◌, [], length, Some, None, sym, ap, ◌∙◌, refl}
 use Rattle.std.specs.Option.{option_map}
 use Rattle.std.proofs.lemmas.List.{length-map}
 use Rattle.rgo_tac.specs.Code as tac
@@ -40,7 +40,7 @@ returns-in-Some-3 c =
     ap Some (c.with_callee.ensures ∙ ap (λ (o : tac.Op). record {
       op = code_op o c.in-Some-3.note;
       name = c.in-Some-2.callee.name.now;
-    }) (c.call_instr.ensures (c.in-Some-2.callee.from ∷ []) ([] ∷ [])))
+    }) (c.call_instr.ensures c.in-Some-2.callee.from []))
     ∙ sym (call_is words (Some c.in-Some.to) (Some (callee_of c.in-Some-2.callee)) (Some c.in-Some-3.note) len to callee note)
 
 pub returns : goal.returns

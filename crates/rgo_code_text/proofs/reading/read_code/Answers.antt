@@ -1,24 +1,6 @@
-use Rattle.std.proofs.Common.{◌≡◌, sym, subst, map}
-use Rattle.rgo_code.specs.Code.{Code}
-use Rattle.rgo_code_text.specs.Building.{code_of}
-use Rattle.rgo_code_printing.specs.Text.{text_of}
-use Rattle.rgo_code_text.specs.Views.{item_of}
-use Rattle.rgo_code_text.specs.Walk.{Refuses}
-use Rattle.rgo_code_text.specs.Written.{IsWritten}
-use Rattle.rgo_code_words.proofs.Options.{handed_on}
-use Rattle.rgo_code_text.proofs.Refusing.{read_is, refuses}
+use Rattle.rgo_code_text.proofs.Refusing.{too_large_exactly}
 use Rattle.rgo_code_text.proofs.reading.read_code.Goals as goal
 
-pub returns-in_err-items : goal.returns-in_err-items
-returns-in_err-items c =
-    let text = c.args.text.now in
-    let e = c.in_err-items.field-0.0 in
-    handed_on c.from_residual.result (λ (code : Code). (text ≡ text_of code) × IsWritten code) (Refuses text) e
-    c.from_residual.ensures.1 (refuses text e c.in_err-items.ensures)
-
-pub returns-in-Ok : goal.returns-in-Ok
-returns-in-Ok c =
-    let text = c.args.text.now in
-    let items = map item_of c.in_ok-items.items.items in
-    let made : c.in-Ok.code ≡ code_of items = c.in-Ok.ensures in
-    subst (λ (code : Code). (text ≡ text_of code) × IsWritten code) (sym made) (read_is text items c.in_ok-items.ensures)
+pub returns-clause-large : goal.returns-clause-large
+returns-clause-large c =
+    too_large_exactly c.args.text.now c.read_few.result c.read_few.ensures c.if-text-gt-MOST_BYTES.false
