@@ -6,8 +6,7 @@ use Rattle.rgo_core_rule.proofs.counting.start.Goals as goal
 
 pub fetch_add_start-found-requires-clause-asks : goal.fetch_add_start-found-requires-clause-asks
 fetch_add_start-found-requires-clause-asks c =
-    let me = c.args.seat.now.me in
-    (
+    let me = c.args.seat.now.me in (
       c.requires.alone,
       rw c.requires.limit (start_moves c.args.table.now.shared.key.limit (number_of me) (record_of new_adder me) c.requires.first),
     )
