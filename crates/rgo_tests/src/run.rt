@@ -21,54 +21,68 @@ use calls::{SOUND, called, expect, with_head};
 use rgo_outside::NoGate;
 use rows::{Lines, are_called};
 use std::alloc::{AllocError, Global};
-use std::process::Abort;
-use std::sync::Wait;
 use std::test::Fail;
-use std::thread::Threads;
 
 /// Tables of calls with lines after the head.
-static LINES: [&str; 9] = [
+static REFUSED_OR_PRINTING: [&str; 5] = [
     refusals::LINES,
+    refusals::BY_ALL,
     running::VALUES,
     running::ORDER,
-    running::STATEMENTS,
-    running::GOROUTINES,
-    regions::ROWS,
-    ends::TRAPS,
-    ends::ENDS,
     emitting::CODES,
 ];
 
 #[test]
-fn lines_after_the_head_run_or_are_refused(rt: HostRuntime) -> Result<(), Fail> {
-    for table in &LINES {
+fn lines_are_refused_or_print(rt: HostRuntime) -> Result<(), Fail> {
+    for table in &REFUSED_OR_PRINTING {
         are_called(&rt, Lines::After(""), table)?;
     }
     Ok(())
 }
 
-/// Tables of calls with whole texts.
-static TEXTS: [&str; 5] = [
-    refusals::WHOLE,
-    examples::A_TO_M,
-    examples::N_TO_Z,
-    emitting::CHECKED,
-    codes::OTHERS,
-];
-
 #[test]
-fn whole_texts_run_or_are_refused(rt: HostRuntime) -> Result<(), Fail> {
-    for table in &TEXTS {
-        are_called(&rt, Lines::Whole, table)?;
-    }
-    Ok(())
+fn statements_are_executed(rt: HostRuntime) -> Result<(), Fail> {
+    are_called(&rt, Lines::After(""), running::STATEMENTS)
 }
 
 #[test]
-fn lists_and_changed_codes_run_or_are_refused(rt: HostRuntime) -> Result<(), Fail> {
+fn goroutines_communicate(rt: HostRuntime) -> Result<(), Fail> {
+    are_called(&rt, Lines::After(""), running::GOROUTINES)
+}
+
+#[test]
+fn runs_have_room_for_regions(rt: HostRuntime) -> Result<(), Fail> {
+    are_called(&rt, Lines::After(""), regions::ROWS)
+}
+
+#[test]
+fn runs_end_as_their_last_steps_say(rt: HostRuntime) -> Result<(), Fail> {
+    are_called(&rt, Lines::After(""), ends::TRAPS)?;
+    are_called(&rt, Lines::After(""), ends::ENDS)
+}
+
+#[test]
+fn lists_are_summed_in_their_room(rt: HostRuntime) -> Result<(), Fail> {
     let after_lists = Lines::After(running::LISTS);
     are_called(&rt, after_lists, running::OVER_LISTS)?;
-    are_called(&rt, after_lists, regions::OVER_LISTS)?;
+    are_called(&rt, after_lists, regions::OVER_LISTS)
+}
+
+#[test]
+fn whole_texts_run_or_are_refused(rt: HostRuntime) -> Result<(), Fail> {
+    are_called(&rt, Lines::Whole, refusals::WHOLE)
+}
+
+#[test]
+fn examples_print_their_outputs(rt: HostRuntime) -> Result<(), Fail> {
+    are_called(&rt, Lines::Whole, examples::A_TO_M)?;
+    are_called(&rt, Lines::Whole, examples::N_TO_Z)
+}
+
+#[test]
+fn code_texts_are_checked_and_run(rt: HostRuntime) -> Result<(), Fail> {
+    are_called(&rt, Lines::Whole, emitting::CHECKED)?;
+    are_called(&rt, Lines::Whole, codes::OTHERS)?;
     are_called(&rt, Lines::Edits(codes::ONE_OBJECT), codes::OTHER_OBJECTS)?;
     are_called(&rt, Lines::Edits(codes::DIVISION), codes::OTHER_PLACES)
 }
@@ -81,35 +95,6 @@ fn a_text_has_at_most_one_mebibyte(rt: HostRuntime) -> Result<(), Fail> {
     expect(&rt, "rgo run", most, SOUND, ("", report, 1))?;
     let report = "rgo: text longer than 1048576 bytes\n";
     expect(&rt, "rgo run", &longer, SOUND, ("", report, 1))?;
-    Ok(())
-}
-
-static COMMANDS: [&str; 6] = [
-    "rgo run",
-    "rgo check",
-    "rgo emit",
-    "rgo run --",
-    "rgo check --",
-    "rgo emit --",
-];
-
-fn is_refused_by_all_commands<R: Threads + Wait + Abort + AllocGlobal + Sync>(
-    rt: &R,
-    line: &str,
-    report: &str,
-) -> Result<(), AllocError> {
-    let text = with_head(rt.alloc(), line)?;
-    for words in &COMMANDS {
-        expect(rt, words, &text, SOUND, ("", report, 1))?;
-    }
-    Ok(())
-}
-
-#[test]
-fn all_commands_refuse_what_breaks_a_rule(rt: HostRuntime) -> Result<(), Fail> {
-    for (line, report) in &refusals::BY_ALL {
-        is_refused_by_all_commands(&rt, line, report)?;
-    }
     Ok(())
 }
 

@@ -9,7 +9,8 @@
 //! what is reported
 //! ```
 //!
-//! A row begins after an empty line. The remark may be missing, and so may `!` with what follows.
+//! A row begins after an empty line. The remark may be missing, and so may `!` with what follows. Several calls may stand on
+//! the first line, with `|` between them.
 
 use super::calls::{HEAD, SOUND, expect};
 use std::alloc::Global;
@@ -29,19 +30,19 @@ pub(super) enum Lines<'a> {
     Edits(&'a str),
 }
 
-/// A call, and what is wanted of it.
+/// Calls, and what is wanted of each.
 #[derive(Clone, Copy)]
 struct Row<'a> {
-    words: &'a str,
+    calls: &'a str,
     lines: &'a str,
     status: u8,
     print: &'a str,
     report: &'a str,
 }
 
-fn words_in(first: &str) -> &str {
+fn calls_in(first: &str) -> &str {
     match first.split_once(" // ") {
-        Some((words, _)) => words,
+        Some((calls, _)) => calls,
         None => first,
     }
 }
@@ -52,7 +53,7 @@ fn row_of(row: &str) -> Option<Row<'_>> {
     let (status, output) = rest.split_once('\n')?;
     let (print, report) = output.split_once("!\n").unwrap_or((output, ""));
     Some(Row {
-        words: words_in(first),
+        calls: calls_in(first),
         lines,
         status: status.parse().ok()?,
         print,
@@ -95,7 +96,9 @@ fn is_called<R: Threads + Wait + Abort + AllocGlobal + Sync>(
     };
     let text = text_of(rt.alloc(), kind, found.lines)?;
     let wanted = (found.print, found.report, found.status);
-    expect(rt, found.words, text.as_bytes(), SOUND, wanted)?;
+    for words in found.calls.split(" | ") {
+        expect(rt, words, text.as_bytes(), SOUND, wanted)?;
+    }
     Ok(())
 }
 
