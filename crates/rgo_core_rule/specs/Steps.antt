@@ -3,7 +3,7 @@ use Rattle.std.specs.Prelude.{◌≡◌, ◌<◌, ◌⊎◌, ℕ, suc, List, [],
 use mathlib.Core.Option.{some}
 use lib.ListN.{get_elem?}
 use Rattle.rgo_core_rule.specs.Histories.{access, glance, accesses_by}
-use Rattle.rgo_core_rule.specs.Views.{Me}
+use Rattle.rgo_core_rule.specs.Views.{Me, IsAlone, number_of, record_of}
 use Rattle.rgo_core_rule.specs.declared.accesses.Access.{Access}
 use Rattle.rgo_core_rule.specs.declared.accesses.Kind.{Kind}
 use Rattle.rgo_core_rule.specs.declared.accesses.Kind.TheVariants.{Load}
@@ -45,6 +45,15 @@ module _ {E R : Type 0} (accesses : R → ℕ) (Explains : List ℕ → List R �
   MoveEither g c i f tells tells_child =
       Whatever g c i (λ words recs run. Moved words recs run g c i f tells ⊎ MovedChild words recs run g c i f tells_child)
 
+  -- What a call asks of its seat: it has one record, and while that is what it is, its goroutine may make this access.
+  abbrev pub Asks : R → Me R → ℕ → (ℕ → ℕ) → (ℕ → R → Type 0) → Type 0
+  Asks blank m i f tells = IsAlone blank m × Move (number_of m) (record_of blank m) i f tells
+
+  -- the same of a call that may start a goroutine
+  abbrev pub AsksEither : R → Me R → ℕ → (ℕ → ℕ) → (ℕ → R → Type 0) → (ℕ → R → R → Type 0) → Type 0
+  AsksEither blank m i f tells tells_child =
+      IsAlone blank m × MoveEither (number_of m) (record_of blank m) i f tells tells_child
+
   -- the record c of goroutine g may become d without an access
   abbrev pub Still : ℕ → R → R → Type 0
   Still g c d = (words : List ℕ) (recs : List R) (run : List E) → Explains words recs run → get_elem? recs g ≡ some c
@@ -74,6 +83,10 @@ module _ {R : Type 0} (accesses : R → ℕ) where
     pub others : accesses_by g between ≡ 0
     pub counts : accesses after ≡ accesses_by g w.0.seen
     pub new : accesses_by n w.0.seen ≡ 0
+
+  -- what a call leaves on a seat with one record, where it finds n
+  abbrev pub Leaves : R → Kind → ℕ → (ℕ → ℕ) → (ℕ → R → Type 0) → Me R → ℕ → Me R → Type 0
+  Leaves blank kind i f tells m n w = IsAlone blank w × Told (number_of m) kind i f tells m n w
 
 module _ {R : Type 0} where
   -- what a seat with any records knows after a load of word 0

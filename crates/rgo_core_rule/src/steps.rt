@@ -2,8 +2,8 @@
 //! the rule of the table allows the access then follows.
 ghost use Rattle.std.specs.Prelude.{◌≡◌, ◌⊎◌, ◌+◌, ◌-◌, ◌%◌, ◌^◌, ◌<◌, ◌==◌, ℕ, bit_or};
 ghost use prog.Atomic.{either};
-ghost use Rattle.rgo_core_rule.specs.Steps.{Move, MoveEither, Told, ToldChild};
-ghost use Rattle.rgo_core_rule.specs.Views.{IsAlone, number_of, record_of};
+ghost use Rattle.rgo_core_rule.specs.Steps.{Asks, AsksEither, Leaves, Told, ToldChild};
+ghost use Rattle.rgo_core_rule.specs.Views.{number_of};
 ghost use Rattle.rgo_core_rule.specs.declared.accesses.Kind.{Kind as kinds};
 ghost use Rattle.rgo_core_rule.specs.declared.accesses.Kind.TheVariants as kind;
 
@@ -128,12 +128,10 @@ pub fn load<R, K, X: Explanation<R, K>, T: Step<R>, A>(
     _about: &A,
 ) -> u64
     requires own { (seat.old.table_id ≡ table.now.shared.table_id) × (word < table.now.shared.table_id.words) }
-    requires alone { IsAlone (X.first table.now.shared.key) seat.old.me }
-    requires law { Move X.accesses (X.explains table.now.shared.key) (number_of seat.old.me)
-        (record_of (X.first table.now.shared.key) seat.old.me) word (λ n. n) T.tells }
+    requires asks { Asks X.accesses (X.explains table.now.shared.key) (X.first table.now.shared.key) seat.old.me word
+        (λ n. n) T.tells }
     ensures own { (seat.new.table_id ≡ seat.old.table_id) × (seat.new.id ≡ seat.old.id) }
-    ensures alone { IsAlone (X.first table.now.shared.key) seat.new.me }
-    ensures told { Told X.accesses (number_of seat.old.me) T.kind word
+    ensures leaves { Leaves X.accesses (X.first table.now.shared.key) T.kind word
         (λ n. n) T.tells seat.old.me result seat.new.me }
 {
     table.shared.load::<Loads<K, X, T>>(seat, word)
@@ -148,13 +146,11 @@ pub fn store<R, K, X: Explanation<R, K>, T: Step<R>, A>(
     _about: &A,
 )
     requires own { (seat.old.table_id ≡ table.now.shared.table_id) × (word < table.now.shared.table_id.words) }
-    requires alone { IsAlone (X.first table.now.shared.key) seat.old.me }
-    requires law { Move X.accesses (X.explains table.now.shared.key) (number_of seat.old.me)
-        (record_of (X.first table.now.shared.key) seat.old.me) word (λ n. new) T.tells }
+    requires asks { Asks X.accesses (X.explains table.now.shared.key) (X.first table.now.shared.key) seat.old.me word
+        (λ n. new) T.tells }
     ensures own { (seat.new.table_id ≡ seat.old.table_id) × (seat.new.id ≡ seat.old.id) }
-    ensures alone { IsAlone (X.first table.now.shared.key) seat.new.me }
-    ensures told { (n : ℕ)
-        × Told X.accesses (number_of seat.old.me) T.kind word (λ n. new) T.tells seat.old.me n seat.new.me }
+    ensures leaves { (n : ℕ)
+        × Leaves X.accesses (X.first table.now.shared.key) T.kind word (λ n. new) T.tells seat.old.me n seat.new.me }
 {
     table.shared.store::<Stores<K, X, T>>(seat, word, new);
 }
@@ -168,12 +164,10 @@ pub fn swap<R, K, X: Explanation<R, K>, T: Step<R>, A>(
     _about: &A,
 ) -> u64
     requires own { (seat.old.table_id ≡ table.now.shared.table_id) × (word < table.now.shared.table_id.words) }
-    requires alone { IsAlone (X.first table.now.shared.key) seat.old.me }
-    requires law { Move X.accesses (X.explains table.now.shared.key) (number_of seat.old.me)
-        (record_of (X.first table.now.shared.key) seat.old.me) word (λ n. new) T.tells }
+    requires asks { Asks X.accesses (X.explains table.now.shared.key) (X.first table.now.shared.key) seat.old.me word
+        (λ n. new) T.tells }
     ensures own { (seat.new.table_id ≡ seat.old.table_id) × (seat.new.id ≡ seat.old.id) }
-    ensures alone { IsAlone (X.first table.now.shared.key) seat.new.me }
-    ensures told { Told X.accesses (number_of seat.old.me) T.kind word
+    ensures leaves { Leaves X.accesses (X.first table.now.shared.key) T.kind word
         (λ n. new) T.tells seat.old.me result seat.new.me }
 {
     table.shared.swap::<Swaps<K, X, T>>(seat, word, new)
@@ -188,12 +182,10 @@ pub fn fetch_add<R, K, X: Explanation<R, K>, T: Step<R>, A>(
     _about: &A,
 ) -> u64
     requires own { (seat.old.table_id ≡ table.now.shared.table_id) × (word < table.now.shared.table_id.words) }
-    requires alone { IsAlone (X.first table.now.shared.key) seat.old.me }
-    requires law { Move X.accesses (X.explains table.now.shared.key) (number_of seat.old.me)
-        (record_of (X.first table.now.shared.key) seat.old.me) word (λ n. (n + k) % 2 ^ 64) T.tells }
+    requires asks { Asks X.accesses (X.explains table.now.shared.key) (X.first table.now.shared.key) seat.old.me word
+        (λ n. (n + k) % 2 ^ 64) T.tells }
     ensures own { (seat.new.table_id ≡ seat.old.table_id) × (seat.new.id ≡ seat.old.id) }
-    ensures alone { IsAlone (X.first table.now.shared.key) seat.new.me }
-    ensures told { Told X.accesses (number_of seat.old.me) T.kind word
+    ensures leaves { Leaves X.accesses (X.first table.now.shared.key) T.kind word
         (λ n. (n + k) % 2 ^ 64) T.tells seat.old.me result seat.new.me }
 {
     table.shared.fetch_add::<Adds<K, X, T>>(seat, word, k)
@@ -208,12 +200,10 @@ pub fn fetch_sub<R, K, X: Explanation<R, K>, T: Step<R>, A>(
     _about: &A,
 ) -> u64
     requires own { (seat.old.table_id ≡ table.now.shared.table_id) × (word < table.now.shared.table_id.words) }
-    requires alone { IsAlone (X.first table.now.shared.key) seat.old.me }
-    requires law { Move X.accesses (X.explains table.now.shared.key) (number_of seat.old.me)
-        (record_of (X.first table.now.shared.key) seat.old.me) word (λ n. (n + (2 ^ 64 - k)) % 2 ^ 64) T.tells }
+    requires asks { Asks X.accesses (X.explains table.now.shared.key) (X.first table.now.shared.key) seat.old.me word
+        (λ n. (n + (2 ^ 64 - k)) % 2 ^ 64) T.tells }
     ensures own { (seat.new.table_id ≡ seat.old.table_id) × (seat.new.id ≡ seat.old.id) }
-    ensures alone { IsAlone (X.first table.now.shared.key) seat.new.me }
-    ensures told { Told X.accesses (number_of seat.old.me) T.kind word
+    ensures leaves { Leaves X.accesses (X.first table.now.shared.key) T.kind word
         (λ n. (n + (2 ^ 64 - k)) % 2 ^ 64) T.tells seat.old.me result seat.new.me }
 {
     table.shared.fetch_sub::<Subtracts<K, X, T>>(seat, word, k)
@@ -228,12 +218,10 @@ pub fn fetch_or<R, K, X: Explanation<R, K>, T: Step<R>, A>(
     _about: &A,
 ) -> u64
     requires own { (seat.old.table_id ≡ table.now.shared.table_id) × (word < table.now.shared.table_id.words) }
-    requires alone { IsAlone (X.first table.now.shared.key) seat.old.me }
-    requires law { Move X.accesses (X.explains table.now.shared.key) (number_of seat.old.me)
-        (record_of (X.first table.now.shared.key) seat.old.me) word (λ n. bit_or n k) T.tells }
+    requires asks { Asks X.accesses (X.explains table.now.shared.key) (X.first table.now.shared.key) seat.old.me word
+        (λ n. bit_or n k) T.tells }
     ensures own { (seat.new.table_id ≡ seat.old.table_id) × (seat.new.id ≡ seat.old.id) }
-    ensures alone { IsAlone (X.first table.now.shared.key) seat.new.me }
-    ensures told { Told X.accesses (number_of seat.old.me) T.kind word
+    ensures leaves { Leaves X.accesses (X.first table.now.shared.key) T.kind word
         (λ n. bit_or n k) T.tells seat.old.me result seat.new.me }
 {
     table.shared.fetch_or::<Sets<K, X, T>>(seat, word, k)
@@ -249,12 +237,10 @@ pub fn compare_exchange<R, K, X: Explanation<R, K>, T: Step<R>, A>(
     _about: &A,
 ) -> u64
     requires own { (seat.old.table_id ≡ table.now.shared.table_id) × (word < table.now.shared.table_id.words) }
-    requires alone { IsAlone (X.first table.now.shared.key) seat.old.me }
-    requires law { Move X.accesses (X.explains table.now.shared.key) (number_of seat.old.me)
-        (record_of (X.first table.now.shared.key) seat.old.me) word (λ n. either (n == old) new n) T.tells }
+    requires asks { Asks X.accesses (X.explains table.now.shared.key) (X.first table.now.shared.key) seat.old.me word
+        (λ n. either (n == old) new n) T.tells }
     ensures own { (seat.new.table_id ≡ seat.old.table_id) × (seat.new.id ≡ seat.old.id) }
-    ensures alone { IsAlone (X.first table.now.shared.key) seat.new.me }
-    ensures told { Told X.accesses (number_of seat.old.me) T.kind word
+    ensures leaves { Leaves X.accesses (X.first table.now.shared.key) T.kind word
         (λ n. either (n == old) new n) T.tells seat.old.me result seat.new.me }
 {
     table
@@ -271,9 +257,8 @@ pub fn fetch_add_start<R, K, X: Explanation<R, K>, T: Start<R>, A>(
     _about: &A,
 ) -> u64
     requires own { (seat.old.table_id ≡ table.now.shared.table_id) × (word < table.now.shared.table_id.words) }
-    requires alone { IsAlone (X.first table.now.shared.key) seat.old.me }
-    requires law { MoveEither X.accesses (X.explains table.now.shared.key) (number_of seat.old.me)
-        (record_of (X.first table.now.shared.key) seat.old.me) word (λ n. (n + k) % 2 ^ 64) T.tells T.tells_child }
+    requires asks { AsksEither X.accesses (X.explains table.now.shared.key) (X.first table.now.shared.key) seat.old.me word
+        (λ n. (n + k) % 2 ^ 64) T.tells T.tells_child }
     ensures own { (seat.new.table_id ≡ seat.old.table_id) × (seat.new.id ≡ seat.old.id) }
     ensures told { Told X.accesses (number_of seat.old.me) T.kind word
         (λ n. (n + k) % 2 ^ 64) T.tells seat.old.me result seat.new.me

@@ -2,44 +2,45 @@
 
 use crate::checks::same;
 use rgo_typing_rules::Rule;
+use std::test::Fail;
 
-/// The names from that of rule 1 on.
-pub(crate) static NAMES: [&str; 34] = [
-    "BadImport",
-    "Redeclared",
-    "ReservedName",
-    "NoSuchName",
-    "NotType",
-    "StructByValue",
-    "PointerBase",
-    "NotValue",
-    "StringPlace",
-    "Mismatch",
-    "SliceCompare",
-    "BareNil",
-    "NotAssignable",
-    "NotPlace",
-    "NoSuchField",
-    "NotIndexable",
-    "NotCall",
-    "ArgCount",
-    "NoResult",
-    "NotStatement",
-    "GoTarget",
-    "NotChannel",
-    "NotBool",
-    "NotInt",
-    "ConstRange",
-    "ConstZeroDivisor",
-    "ConstIndex",
-    "ConstSize",
-    "LiteralFields",
-    "PrintType",
-    "ReturnCount",
-    "MissingReturn",
-    "LoopOutside",
-    "NoMain",
-];
+/// A line for each rule.
+pub(crate) const NAMES: &str = "\
+1 BadImport
+2 Redeclared
+3 ReservedName
+4 NoSuchName
+5 NotType
+6 StructByValue
+7 PointerBase
+8 NotValue
+9 StringPlace
+10 Mismatch
+11 SliceCompare
+12 BareNil
+13 NotAssignable
+14 NotPlace
+15 NoSuchField
+16 NotIndexable
+17 NotCall
+18 ArgCount
+19 NoResult
+20 NotStatement
+21 GoTarget
+22 NotChannel
+23 NotBool
+24 NotInt
+25 ConstRange
+26 ConstZeroDivisor
+27 ConstIndex
+28 ConstSize
+29 LiteralFields
+30 PrintType
+31 ReturnCount
+32 MissingReturn
+33 LoopOutside
+34 NoMain
+";
 
 static RULES: [Rule; 34] = [
     Rule::BadImport,
@@ -79,9 +80,10 @@ static RULES: [Rule; 34] = [
 ];
 
 #[test]
-fn rules_have_their_numbers_and_names(rt: HostRuntime) {
-    for ((rule, name), number) in RULES.iter().zip(NAMES.iter()).zip(1_u8..) {
-        same(&rt, name, &rule.number(), &number);
-        same(&rt, name, &rule.name(), name);
+fn rules_have_their_numbers_and_names(rt: HostRuntime) -> Result<(), Fail> {
+    for (rule, line) in RULES.iter().zip(NAMES.lines()) {
+        let found = format!(in rt.alloc(); "{} {}", rule.number(), rule.name())?;
+        same(&rt, "a rule", &found.as_str(), &line);
     }
+    Ok(())
 }

@@ -17,25 +17,74 @@ mod usage;
 mod workers;
 
 use crate::checks::same;
-use calls::{HEAD, SOUND, expect, with_head};
-use rows::are_called;
+use calls::{SOUND, called, expect, with_head};
+use rgo_outside::NoGate;
+use rows::{Lines, are_called};
 use std::alloc::{AllocError, Global};
-use std::process::Abort;
-use std::sync::Wait;
 use std::test::Fail;
-use std::thread::Threads;
+
+/// Tables of calls with lines after the head.
+static REFUSED_OR_PRINTING: [&str; 5] = [
+    refusals::LINES,
+    refusals::BY_ALL,
+    running::VALUES,
+    running::ORDER,
+    emitting::CODES,
+];
 
 #[test]
-fn texts_run_or_are_refused_at_the_first_place(rt: HostRuntime) -> Result<(), Fail> {
-    are_called(&rt, HEAD, refusals::LINES, "\n")?;
-    are_called(&rt, "", refusals::WHOLE, "")
+fn lines_are_refused_or_print(rt: HostRuntime) -> Result<(), Fail> {
+    for table in &REFUSED_OR_PRINTING {
+        are_called(&rt, Lines::After(""), table)?;
+    }
+    Ok(())
 }
 
 #[test]
-fn runs_have_room_for_regions_and_say_what_they_made(rt: HostRuntime) -> Result<(), Fail> {
-    are_called(&rt, HEAD, regions::ROWS, "\n")?;
-    let before = format!(in rt.alloc(); "{HEAD}{}", regions::LISTS)?;
-    are_called(&rt, &before, regions::LIST_ROWS, "\n")
+fn statements_are_executed(rt: HostRuntime) -> Result<(), Fail> {
+    are_called(&rt, Lines::After(""), running::STATEMENTS)
+}
+
+#[test]
+fn goroutines_communicate(rt: HostRuntime) -> Result<(), Fail> {
+    are_called(&rt, Lines::After(""), running::GOROUTINES)
+}
+
+#[test]
+fn runs_have_room_for_regions(rt: HostRuntime) -> Result<(), Fail> {
+    are_called(&rt, Lines::After(""), regions::ROWS)
+}
+
+#[test]
+fn runs_end_as_their_last_steps_say(rt: HostRuntime) -> Result<(), Fail> {
+    are_called(&rt, Lines::After(""), ends::TRAPS)?;
+    are_called(&rt, Lines::After(""), ends::ENDS)
+}
+
+#[test]
+fn lists_are_summed_in_their_room(rt: HostRuntime) -> Result<(), Fail> {
+    let after_lists = Lines::After(running::LISTS);
+    are_called(&rt, after_lists, running::OVER_LISTS)?;
+    are_called(&rt, after_lists, regions::OVER_LISTS)
+}
+
+#[test]
+fn whole_texts_run_or_are_refused(rt: HostRuntime) -> Result<(), Fail> {
+    are_called(&rt, Lines::Whole, refusals::WHOLE)
+}
+
+#[test]
+fn examples_print_their_outputs(rt: HostRuntime) -> Result<(), Fail> {
+    are_called(&rt, Lines::Whole, examples::A_TO_M)?;
+    are_called(&rt, Lines::Whole, examples::N_TO_Z)
+}
+
+#[test]
+fn code_texts_are_checked_and_run(rt: HostRuntime) -> Result<(), Fail> {
+    are_called(&rt, Lines::Whole, emitting::CHECKED)?;
+    are_called(&rt, Lines::Whole, codes::OTHERS)?;
+    are_called(&rt, Lines::Edits(codes::ONE_OBJECT), codes::OTHER_OBJECTS)?;
+    are_called(&rt, Lines::Edits(codes::DIVISION), codes::OTHER_PLACES)
 }
 
 #[test]
@@ -46,101 +95,6 @@ fn a_text_has_at_most_one_mebibyte(rt: HostRuntime) -> Result<(), Fail> {
     expect(&rt, "rgo run", most, SOUND, ("", report, 1))?;
     let report = "rgo: text longer than 1048576 bytes\n";
     expect(&rt, "rgo run", &longer, SOUND, ("", report, 1))?;
-    Ok(())
-}
-
-#[test]
-fn lists_are_summed(rt: HostRuntime) -> Result<(), Fail> {
-    let before = format!(in rt.alloc(); "{HEAD}{}", running::LISTS)?;
-    are_called(&rt, &before, running::OVER_LISTS, "\n")
-}
-
-#[test]
-fn values_are_printed(rt: HostRuntime) -> Result<(), Fail> {
-    are_called(&rt, HEAD, running::VALUES, "\n")
-}
-
-#[test]
-fn operands_are_evaluated_in_order(rt: HostRuntime) -> Result<(), Fail> {
-    are_called(&rt, HEAD, running::ORDER, "\n")
-}
-
-#[test]
-fn statements_are_executed(rt: HostRuntime) -> Result<(), Fail> {
-    are_called(&rt, HEAD, running::STATEMENTS, "\n")
-}
-
-#[test]
-fn goroutines_communicate(rt: HostRuntime) -> Result<(), Fail> {
-    are_called(&rt, HEAD, running::GOROUTINES, "\n")
-}
-
-#[test]
-fn examples_print_their_outputs(rt: HostRuntime) -> Result<(), Fail> {
-    are_called(&rt, "", examples::A_TO_M, "")?;
-    are_called(&rt, "", examples::N_TO_Z, "")
-}
-
-#[test]
-fn traps_are_reported_at_their_places(rt: HostRuntime) -> Result<(), Fail> {
-    are_called(&rt, HEAD, ends::TRAPS, "\n")
-}
-
-#[test]
-fn code_is_emitted(rt: HostRuntime) -> Result<(), Fail> {
-    are_called(&rt, HEAD, emitting::CODES, "\n")
-}
-
-#[test]
-fn code_texts_are_checked(rt: HostRuntime) -> Result<(), Fail> {
-    are_called(&rt, "", emitting::CHECKED, "")
-}
-
-#[test]
-fn code_texts_are_run(rt: HostRuntime) -> Result<(), Fail> {
-    are_called(&rt, "", codes::RUN, "")?;
-    are_called(&rt, "", codes::REFUSED, "")
-}
-
-#[test]
-fn other_ends_are_reported(rt: HostRuntime) -> Result<(), Fail> {
-    are_called(&rt, HEAD, ends::ENDS, "\n")
-}
-
-static COMMANDS: [&str; 6] = [
-    "rgo run",
-    "rgo check",
-    "rgo emit",
-    "rgo run --",
-    "rgo check --",
-    "rgo emit --",
-];
-
-fn is_refused_by_all_commands<R: Threads + Wait + Abort + AllocGlobal + Sync>(
-    rt: &R,
-    line: &str,
-    report: &str,
-) -> Result<(), AllocError> {
-    let text = with_head(rt.alloc(), line)?;
-    for words in &COMMANDS {
-        expect(rt, words, &text, SOUND, ("", report, 1))?;
-    }
-    Ok(())
-}
-
-#[test]
-fn all_commands_refuse_what_breaks_a_rule(rt: HostRuntime) -> Result<(), Fail> {
-    for (line, report) in &refusals::BY_ALL {
-        is_refused_by_all_commands(&rt, line, report)?;
-    }
-    Ok(())
-}
-
-#[test]
-fn a_check_prints_nothing(rt: HostRuntime) -> Result<(), Fail> {
-    let text = with_head(rt.alloc(), "func main() { fmt.Println(1) }")?;
-    expect(&rt, "rgo check", &text, SOUND, ("", "", 0))?;
-    expect(&rt, "any run --", &text, SOUND, ("1\n", "", 0))?;
     Ok(())
 }
 
@@ -170,8 +124,9 @@ fn a_text_is_refused_wherever_it_is_cut(rt: HostRuntime) -> Result<(), Fail> {
     same(&rt, "the length", &text.len(), &99);
     for k in 0..100 {
         let cut = text.as_slice().get(..k).unwrap_or(&[]);
-        let found = calls::answer(&rt, cut)?;
+        let found = called(&rt, "rgo run", cut, SOUND, &NoGate)?;
         let wanted = if k < 98 { (1, 0) } else { (0, 10) };
+        let found = (found.status, found.print.len());
         same(&rt, str::from_utf8(cut).unwrap_or("?"), &found, &wanted);
     }
     Ok(())

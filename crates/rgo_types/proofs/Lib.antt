@@ -1,2 +1,3 @@
+mod Breaks
 pub mod Ends
 pub mod Weights

@@ -35,10 +35,6 @@ pub(super) fn with_head(alloc: Global, line: &str) -> Result<Vec<u8>, AllocError
         .to_vec(alloc)
 }
 
-fn sink(alloc: Global, failing: u64) -> Result<MemSink, AllocError> {
-    MemSink::new(alloc, 1000, vec![in alloc; failing; 1]?)
-}
-
 /// Calls `rgo` with the words of a line, and returns the status. It says nothing of the call, so that the tests are
 /// proved without what `rgo` says of it.
 pub(super) fn status_of<
@@ -59,6 +55,37 @@ pub(super) fn status_of<
     Ok(rgo(rt, rt.alloc(), &words, source, out, err, gate))
 }
 
+/// What a call prints and reports, and the status.
+#[derive(Drop)]
+pub(super) struct Outcome {
+    pub(super) print: Vec<u8>,
+    pub(super) report: Vec<u8>,
+    pub(super) status: u8,
+}
+
+fn sink(alloc: Global, failing: u64) -> Result<MemSink, AllocError> {
+    MemSink::new(alloc, 100_000, vec![in alloc; failing; 1]?)
+}
+
+/// Calls `rgo` with the words of a line, over sinks in memory of which these writes fail.
+pub(super) fn outcome_of<R: Threads + Wait + AllocGlobal + Sync, S: Source, G: Gate + Sync>(
+    rt: &R,
+    line: &str,
+    source: &mut S,
+    failing: (u64, u64),
+    gate: &G,
+) -> Result<Outcome, AllocError> {
+    let alloc = rt.alloc();
+    let mut out = sink(alloc, failing.0)?;
+    let mut err = sink(alloc, failing.1)?;
+    let status = status_of(rt, line, source, &mut out, &mut err, gate)?;
+    Ok(Outcome {
+        print: out.bytes().to_vec(alloc)?,
+        report: err.bytes().to_vec(alloc)?,
+        status,
+    })
+}
+
 /// Ends the test, with the words and the text, unless these bytes were written.
 fn wrote<R: Abort>(rt: &R, words: &str, text: &[u8], found: &[u8], wanted: &str) {
     let text = str::from_utf8(text).unwrap_or("?");
@@ -69,6 +96,38 @@ fn wrote<R: Abort>(rt: &R, words: &str, text: &[u8], found: &[u8], wanted: &str)
     );
 }
 
+/// Ends the test, with the words and the text, unless this was printed and reported, with this status.
+pub(super) fn is_wanted<R: Abort>(
+    rt: &R,
+    words: &str,
+    text: &[u8],
+    found: &Outcome,
+    wanted: Wanted<'_>,
+) {
+    let (print, report, status) = wanted;
+    wrote(rt, words, text, &found.print, print);
+    wrote(rt, words, text, &found.report, report);
+    same(rt, words, &found.status, &status);
+}
+
+/// Calls `rgo` with a text.
+pub(super) fn called<R: Threads + Wait + AllocGlobal + Sync, G: Gate + Sync>(
+    rt: &R,
+    words: &str,
+    text: &[u8],
+    outside: Outside,
+    gate: &G,
+) -> Result<Outcome, AllocError> {
+    let alloc = rt.alloc();
+    let Outside(per_read, read, out, err) = outside;
+    let mut source = MemSource::new(
+        text.to_vec(alloc)?,
+        per_read.max(1),
+        vec![in alloc; read; 1]?,
+    );
+    outcome_of(rt, words, &mut source, (out, err), gate)
+}
+
 /// Calls `rgo` with a text, and compares what is printed and reported, and the status.
 fn expect_of_words<R: Threads + Wait + Abort + AllocGlobal + Sync>(
     rt: &R,
@@ -77,17 +136,8 @@ fn expect_of_words<R: Threads + Wait + Abort + AllocGlobal + Sync>(
     outside: Outside,
     wanted: Wanted<'_>,
 ) -> Result<(), AllocError> {
-    let alloc = rt.alloc();
-    let Outside(per_read, read, out, err) = outside;
-    let (print, report, status) = wanted;
-    assert!(rt; 0 < per_read);
-    let mut source = MemSource::new(text.to_vec(alloc)?, per_read, vec![in alloc; read; 1]?);
-    let mut out = sink(alloc, out)?;
-    let mut err = sink(alloc, err)?;
-    let found = status_of(rt, words, &mut source, &mut out, &mut err, &NoGate)?;
-    wrote(rt, words, text, out.bytes(), print);
-    wrote(rt, words, text, err.bytes(), report);
-    same(rt, words, &found, &status);
+    let found = called(rt, words, text, outside, &NoGate)?;
+    is_wanted(rt, words, text, &found, wanted);
     Ok(())
 }
 
@@ -104,7 +154,7 @@ fn expect_of_workers<R: Threads + Wait + Abort + AllocGlobal + Sync>(
     wanted: Wanted<'_>,
 ) -> Result<(), AllocError> {
     for workers in &WORKERS {
-        let words = format!(in rt.alloc(); "rgo {command}{workers}{options}")?;
+        let words = format!(in rt.alloc(); "{command}{workers}{options}")?;
         expect_of_words(rt, &words, text, outside, wanted)?;
     }
     Ok(())
@@ -112,11 +162,8 @@ fn expect_of_workers<R: Threads + Wait + Abort + AllocGlobal + Sync>(
 
 /// The command of a line that runs something, and the rest of the line.
 fn run_in(words: &str) -> Option<(&str, &str)> {
-    for command in ["runcode", "run"] {
-        if let Some(options) = words
-            .strip_prefix("rgo ")
-            .and_then(|w| w.strip_prefix(command))
-        {
+    for command in ["rgo runcode", "rgo run"] {
+        if let Some(options) = words.strip_prefix(command) {
             return Some((command, options));
         }
     }
@@ -138,32 +185,4 @@ pub(super) fn expect<R: Threads + Wait + Abort + AllocGlobal + Sync>(
         }
         _ => expect_of_words(rt, words, text, outside, wanted),
     }
-}
-
-/// The code text of a program, as `emit` writes it.
-pub(super) fn emitted<R: Threads + Wait + Abort + AllocGlobal + Sync>(
-    rt: &R,
-    text: &[u8],
-) -> Result<Vec<u8>, AllocError> {
-    let alloc = rt.alloc();
-    let mut source = MemSource::new(text.to_vec(alloc)?, 1000, Vec::new(alloc));
-    // Code texts are longer than what the other tests print.
-    let mut out = MemSink::new(alloc, 100_000, Vec::new(alloc))?;
-    let mut err = sink(alloc, 0)?;
-    let status = status_of(rt, "rgo emit", &mut source, &mut out, &mut err, &NoGate)?;
-    same(rt, "rgo emit", &status, &0);
-    out.bytes().to_vec(alloc)
-}
-
-/// The status of a run of a text, and the number of bytes that it prints.
-pub(super) fn answer<R: Threads + Wait + AllocGlobal + Sync>(
-    rt: &R,
-    text: &[u8],
-) -> Result<(u8, usize), AllocError> {
-    let alloc = rt.alloc();
-    let mut source = MemSource::new(text.to_vec(alloc)?, 1000, Vec::new(alloc));
-    let mut out = sink(alloc, 0)?;
-    let mut err = sink(alloc, 0)?;
-    let status = status_of(rt, "rgo run", &mut source, &mut out, &mut err, &NoGate)?;
-    Ok((status, out.bytes().len()))
 }

@@ -56,23 +56,6 @@ end
 < 0
 
 > rgo code
-rgo code 1
-struct N int *N
-func main 0 - -
-var *N r0
-var *N r0
-var int -
-entry -[]
-0 @76 +[r0] new v0 N -[]
-1 @73 +[] copy v1 v0 -[]
-2 @98 +[] load v2 v1 0 -[r0]
-3 @95 +[] print v2 -[]
-4 @101 +[] return -
-end
-
-< 0
-
-> rgo code
 
 < 1
 !

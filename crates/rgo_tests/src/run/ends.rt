@@ -236,4 +236,13 @@ for i := 0; i < 5; i++ { a <- i * 10; fmt.Println(<-b) } }
 > rgo check
 func main() { for {} }
 < 0
+
+> rgo check
+func main() { fmt.Println(1) }
+< 0
+
+> any run --
+func main() { fmt.Println(1) }
+< 0
+1
 ";

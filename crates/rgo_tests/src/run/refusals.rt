@@ -102,32 +102,60 @@ func main() { fmt.Println(7) }
 rgo: 1:1: syntax
 ";
 
-/// Lines after the head, with what both commands report.
-pub(super) static BY_ALL: [(&str, &str); 8] = [
-    (
-        "func main() {\n\ts := make([]int, 3)\n\tfmt.Println(s[-1])\n}",
-        "rgo: 6:15: type 27 ConstIndex\n",
-    ),
-    (
-        "func main() { x := 1; fmt.Println(x / 0) }",
-        "rgo: 4:37: type 26 ConstZeroDivisor\n",
-    ),
-    (
-        "func main() { var a, b []int; fmt.Println(a == b) }",
-        "rgo: 4:45: type 11 SliceCompare\n",
-    ),
-    (
-        "func f() int {\n\tfmt.Println(1)\n}\nfunc main() {}",
-        "rgo: 6:1: type 32 MissingReturn\n",
-    ),
-    ("func f() {}", "rgo: 5:1: type 34 NoMain\n"),
-    (
-        "var x int\nfunc main() { x := 1; zz() }",
-        "rgo: 5:23: type 4 NoSuchName\n",
-    ),
-    ("func main() { x := 1 y := 2 }", "rgo: 4:22: syntax\n"),
-    (
-        "func main() { x := 9223372036854775808 }",
-        "rgo: 4:20: lexical 3 BadNumber\n",
-    ),
-];
+/// Lines after the head that each command refuses.
+pub(super) const BY_ALL: &str = "
+> rgo run | rgo check | rgo emit | rgo run -- | rgo check -- | rgo emit --
+func main() {
+\ts := make([]int, 3)
+\tfmt.Println(s[-1])
+}
+< 1
+!
+rgo: 6:15: type 27 ConstIndex
+
+> rgo run | rgo check | rgo emit | rgo run -- | rgo check -- | rgo emit --
+func main() { x := 1; fmt.Println(x / 0) }
+< 1
+!
+rgo: 4:37: type 26 ConstZeroDivisor
+
+> rgo run | rgo check | rgo emit | rgo run -- | rgo check -- | rgo emit --
+func main() { var a, b []int; fmt.Println(a == b) }
+< 1
+!
+rgo: 4:45: type 11 SliceCompare
+
+> rgo run | rgo check | rgo emit | rgo run -- | rgo check -- | rgo emit --
+func f() int {
+\tfmt.Println(1)
+}
+func main() {}
+< 1
+!
+rgo: 6:1: type 32 MissingReturn
+
+> rgo run | rgo check | rgo emit | rgo run -- | rgo check -- | rgo emit --
+func f() {}
+< 1
+!
+rgo: 5:1: type 34 NoMain
+
+> rgo run | rgo check | rgo emit | rgo run -- | rgo check -- | rgo emit --
+var x int
+func main() { x := 1; zz() }
+< 1
+!
+rgo: 5:23: type 4 NoSuchName
+
+> rgo run | rgo check | rgo emit | rgo run -- | rgo check -- | rgo emit --
+func main() { x := 1 y := 2 }
+< 1
+!
+rgo: 4:22: syntax
+
+> rgo run | rgo check | rgo emit | rgo run -- | rgo check -- | rgo emit --
+func main() { x := 9223372036854775808 }
+< 1
+!
+rgo: 4:20: lexical 3 BadNumber
+";

@@ -2,12 +2,6 @@
 //! begins with what the run has made. The numbers were worked out by hand from the rules on regions and pages. What a run
 //! with several goroutines has made depends on the order of their steps, and is wanted of one worker.
 
-/// Makes a list of `n` nodes, and adds up one.
-pub(super) const LISTS: &str = "\
-func list(n int) *N { var l *N; for i := 0; i < n; i++ { l = &N{i, l} }; return l }
-func sum(l *N) int { s := 0; for l != nil { s += l.v; l = l.p }; return s }
-";
-
 /// A table of calls.
 pub(super) const ROWS: &str = "
 > rgo run --stats // Nothing is made but `main`.
@@ -213,8 +207,8 @@ rgo: regions 0 removed 0 pages 0 returned 0 objects 0 goroutines 1
 rgo: steps spent
 ";
 
-/// The same with the functions of `LISTS`.
-pub(super) const LIST_ROWS: &str = "
+/// The same after `LISTS`.
+pub(super) const OVER_LISTS: &str = "
 > rgo run --pages 1 --stats // A thousand lists, one after the other, in one page.
 func main() { s := 0; for i := 0; i < 1000; i++ { s += sum(list(10)) }; fmt.Println(s) }
 < 0

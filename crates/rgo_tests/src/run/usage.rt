@@ -1,9 +1,9 @@
 //! Calls with other words, and calls over other sources and sinks.
 
-use super::calls::{status_of, with_head};
+use super::calls::{Wanted, is_wanted, outcome_of, status_of, with_head};
 use crate::checks::same;
 use crate::slow_sinks::SlowSink;
-use rgo_outside::{MemSink, NoFaultSink, NoFaultSource, NoGate, StdSink, StdSource, read_all};
+use rgo_outside::{NoFaultSink, NoFaultSource, NoGate, StdSink, StdSource, read_all};
 use std::process::Abort;
 use std::sync::Wait;
 use std::test::Fail;
@@ -34,17 +34,12 @@ static OTHER_WORDS: [&str; 15] = [
 fn nothing_is_read<R: Threads + Wait + Abort + AllocGlobal + Sync>(
     rt: &R,
     line: &str,
-    wanted: (&str, &str, u8),
+    wanted: Wanted<'_>,
 ) -> Result<(), Fail> {
     let alloc = rt.alloc();
-    let (print, report, status) = wanted;
     let mut source = NoFaultSource::new(b"text".as_slice().to_vec(alloc)?);
-    let mut out = MemSink::new(alloc, 1000, Vec::new(alloc))?;
-    let mut err = MemSink::new(alloc, 1000, Vec::new(alloc))?;
-    let found = status_of(rt, line, &mut source, &mut out, &mut err, &NoGate)?;
-    same(rt, line, &found, &status);
-    same(rt, line, &out.bytes(), &print.as_bytes());
-    same(rt, line, &err.bytes(), &report.as_bytes());
+    let found = outcome_of(rt, line, &mut source, (0, 0), &NoGate)?;
+    is_wanted(rt, line, b"text", &found, wanted);
     let left = read_all(alloc, &mut source, 4)?;
     same(rt, line, &left.as_slice(), &b"text".as_slice());
     Ok(())

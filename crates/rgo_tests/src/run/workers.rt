@@ -1,10 +1,10 @@
 //! Runs on several workers: that they run beside one another, and the large text.
 
-use super::calls::{SOUND, emitted, expect, status_of, with_head};
+use super::calls::{SOUND, called, expect, is_wanted, with_head};
 use super::running::ECHO;
 use crate::checks::same;
 use rgo_big::big_source;
-use rgo_outside::{Gate, MemSink, MemSource};
+use rgo_outside::{Gate, NoGate};
 use rgo_sched_tests::Meeting;
 use std::process::Abort;
 use std::sync::Wait;
@@ -41,17 +41,12 @@ fn arrivals<R: Threads + Wait + Abort + AllocGlobal + Sync>(
     text: &str,
     print: &str,
 ) -> Result<(u32, bool), Fail> {
-    let alloc = rt.alloc();
-    let mut source = MemSource::new(with_head(alloc, text)?, 1000, Vec::new(alloc));
-    let mut out = MemSink::new(alloc, 1000, Vec::new(alloc))?;
-    let mut err = MemSink::new(alloc, 1000, Vec::new(alloc))?;
+    let text = with_head(rt.alloc(), text)?;
     let gate = Holding {
         round_2: Meeting::new(2),
     };
-    let status = status_of(rt, line, &mut source, &mut out, &mut err, &gate)?;
-    same(rt, line, &status, &0);
-    same(rt, line, &out.bytes(), &print.as_bytes());
-    same(rt, line, &err.bytes().len(), &0);
+    let found = called(rt, line, &text, SOUND, &gate)?;
+    is_wanted(rt, line, &text, &found, (print, "", 0));
     Ok((gate.round_2.arrived(), gate.round_2.missed()))
 }
 
@@ -89,7 +84,9 @@ fn the_large_text_runs_on_any_number_of_workers(rt: HostRuntime) -> Result<(), F
 #[test]
 fn the_code_of_the_large_text_does_what_the_text_does(rt: HostRuntime) -> Result<(), Fail> {
     let text = big_source(rt.alloc(), 100)?;
-    let code = emitted(&rt, &text)?;
-    expect(&rt, "rgo runcode", &code, SOUND, ("100 1650\n", "", 0))?;
+    let emitted = called(&rt, "rgo emit", &text, SOUND, &NoGate)?;
+    same(&rt, "rgo emit", &emitted.status, &0);
+    let wanted = ("100 1650\n", "", 0);
+    expect(&rt, "rgo runcode", &emitted.print, SOUND, wanted)?;
     Ok(())
 }

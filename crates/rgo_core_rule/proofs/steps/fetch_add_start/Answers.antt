@@ -7,4 +7,4 @@ pub fetch_add-requires : goal.fetch_add-requires
 fetch_add-requires g c =
     let key = c.args.table.now.shared.key in
     let me = c.args.seat.now.me in
-    (c.requires.own.0, c.requires.own.1, lifts_either g.X.Explanation.accesses (g.X.Explanation.explains key) (g.X.Explanation.opening key) _ _ (number_of me) (record_of (g.X.Explanation.first key) me) me c.args.word (λ n. (n + c.args.k) % 2 ^ 64) g.T.Start.tells g.T.Start.tells_child g.T.Start.kind c.requires.alone c.requires.law)
+    (c.requires.own.0, c.requires.own.1, lifts_either g.X.Explanation.accesses (g.X.Explanation.explains key) (g.X.Explanation.opening key) _ _ (number_of me) (record_of (g.X.Explanation.first key) me) me c.args.word (λ n. (n + c.args.k) % 2 ^ 64) g.T.Start.tells g.T.Start.tells_child g.T.Start.kind c.requires.asks.0 c.requires.asks.1)
