@@ -64,7 +64,7 @@ _rgo-regions() {
     local last=${COMP_WORDS[COMP_CWORD - 1]}
     if [[ ${COMP_WORDS[COMP_CWORD]} == -* ]]; then
         if _rgo_has --picture; then
-            _rgo_words --steps --goroutines --pages --page-words --regions
+            _rgo_words --journal --steps --goroutines --pages --page-words --regions
         elif _rgo_has --list; then
             _rgo_words --list --function
         elif _rgo_has --warn; then
@@ -76,6 +76,8 @@ _rgo-regions() {
         fi
     elif [[ $last == --picture ]]; then
         _rgo_files svg
+    elif [[ $last == --journal ]]; then
+        _rgo_files picks
     elif [[ $last != --* || $last == --list || $last == --warn ]]; then
         _rgo_files
     fi

@@ -56,6 +56,14 @@ def drop(stream):
         pass
 
 
+def read(file):
+    """What a file has, in bytes. The tool ends if it cannot be read."""
+    try:
+        return pathlib.Path(file).read_bytes()
+    except OSError as error:
+        raise Stop(NO_INPUT, f"cannot read {file}: {error.strerror}") from error
+
+
 def one_line(error):
     """What the system says of a failed call, and of which file."""
     what = error.strerror or str(error)

@@ -170,8 +170,8 @@ class Completions(Case):
         ("rgo-regions --function ", []),
         ("rgo-regions --warn --", ["--function"]),
         ("rgo-regions a.go --function main --", ["--list", "--warn"]),
-        ("rgo-regions --picture a.svg --", LIMITS),
-        ("rgo-regions --picture a.svg a.go --pages 5 --", [option for option in LIMITS if option != "--pages"]),
+        ("rgo-regions --picture a.svg --", sorted(["--journal", *LIMITS])),
+        ("rgo-regions --picture a.svg a.go --pages 5 --", sorted(["--journal", *(option for option in LIMITS if option != "--pages")])),
         ("rgo-regions --picture a.svg --pages ", []),
     ]
 
