@@ -1,0 +1,43 @@
+-- The law of each access of a goroutine and of its steps without one. What a law asks is told by the goroutine's own record.
+use Rattle.std.specs.Prelude.{◌≡◌, ◌<◌, ◌≤◌, ◌+◌, ◌%◌, ◌^◌, ℕ, List, [], ◌∷◌, length, Some}
+use Rattle.rgo_code.specs.Code.{CodeOp, Print}
+use Rattle.rgo_core_channels.specs.Records.{at_rest}
+use Rattle.rgo_core_frames.specs.Prints.{printed_values}
+use Rattle.rgo_core_frames.specs.Quiet.{quiet}
+use Rattle.rgo_core_frames.specs.Records.{Rec as FrameRec, after_op}
+use Rattle.rgo_core_frames.specs.WordFrames.{word_moved}
+use Rattle.rgo_core_memory.specs.Words.{clock_at}
+use Rattle.rgo_machine.specs.Limits.{deepest}
+use Rattle.rgo_machine.specs.Lines.{line_of}
+use Rattle.rgo_region_machine.specs.States.{Duty}
+use Rattle.rgo_typed.specs.declared.statements.Piece.{Piece}
+use Rattle.rgo_core.specs.Core.{Setup}
+use Rattle.rgo_core.specs.Next.{IsAt}
+use Rattle.rgo_core.specs.Records.{ClockRec, Record, instructed, with_print}
+use Rattle.rgo_core.specs.Steps.{IsStill, Moves}
+
+-- the record after a print of these bytes, for which the clock was n
+abbrev pub printed_by : (T : Setup) (c : Record) {op : CodeOp} → IsAt T.code c op → (bytes : List ℕ) → (clock : ℕ) → Record
+printed_by T c a bytes n = record c {
+  clock = with_print c.clock n bytes;
+  frame = after_op T.code c.frame.holder a.w a.ws a.instr.op (word_moved a.w (a.w.next + 1) ∷ a.ws);
+}
+
+-- a print, of what the words of its operands show, draws a ticket
+abbrev pub PrintMove : Type 0
+PrintMove = (T : Setup) (g : ℕ) (c : Record) (pieces : List Piece) (from removes : List ℕ)
+    (a : IsAt T.code c (Print pieces from removes)) → c.side ≡ at_rest → length c.clock.prints < 2 ^ 43
+    → Moves T g c clock_at (λ n. (n + 1) % 2 ^ 64)
+    (λ n d. d ≡ printed_by T c a (line_of pieces (printed_values a.fn a.w from)) n)
+
+-- an instruction is counted, a duty is not
+abbrev pub clock_after : List Duty → ClockRec → ClockRec
+clock_after [] c = instructed c
+clock_after (d ∷ ds) c = c
+
+-- A local instruction or duty of the record that is not the return of `main` needs no access, if it leaves no more frames than
+-- there may be.
+abbrev pub LocalStill : Type 0
+LocalStill = (T : Setup) (g : ℕ) (c : Record) (e : FrameRec) → c.side ≡ at_rest → quiet T.code g c.frame ≡ Some e
+    → length e.frames ≤ deepest
+    → IsStill T g c (record c { clock = clock_after c.frame.holder.duties c.clock; frame = e })

@@ -1,0 +1,15 @@
+pub mod Records
+pub mod Runs
+pub mod Causes
+pub mod Clock
+pub mod Numbers
+pub mod Story
+pub mod Image
+pub mod Core
+pub mod Next
+pub mod Steps
+pub mod ClockSteps
+pub mod Laws
+pub mod Opening
+pub mod Plans
+pub mod Examples

@@ -1,0 +1,58 @@
+//! What each access of a goroutine, and each of its steps without one, does to what the table shows.
+
+ghost use Rattle.rgo_core.specs.ClockSteps.{EndLaw, LookLaw, NumberLaw, TicketLaw};
+ghost use Rattle.rgo_core.specs.Examples.{ClockExamples, NumberExamples};
+ghost use Rattle.rgo_core.specs.Laws.{LocalStill, PrintMove};
+ghost use Rattle.rgo_core.specs.Opening.{OpeningLaw};
+ghost use Rattle.rgo_core.specs.Steps.{AccessLaw, QuietLaw};
+
+/// The run without a step explains the first words and the record of `main`.
+pub fn opening_law()
+    ensures { OpeningLaw }
+{}
+
+/// What an access to a word of memory leaves is all that has to be shown of it.
+pub fn access_law()
+    ensures { AccessLaw }
+{}
+
+/// The same of a step without an access.
+pub fn quiet_law()
+    ensures { QuietLaw }
+{}
+
+/// A print draws a ticket, and tickets are the order of the print.
+pub fn ticket_law()
+    ensures { TicketLaw }
+{}
+
+/// The end of a run is set in the clock, and the first one is kept.
+pub fn end_law()
+    ensures { EndLaw }
+{}
+
+/// The clock is loaded.
+pub fn look_law()
+    ensures { LookLaw }
+{}
+
+/// A number is drawn, and a goroutine starts or is refused.
+pub fn number_law()
+    ensures { NumberLaw }
+{}
+
+/// A print writes the bytes of its words.
+pub fn print_move()
+    ensures { PrintMove }
+{}
+
+/// A local instruction or duty needs no access.
+pub fn local_still()
+    ensures { LocalStill }
+{}
+
+/// Where each definition holds and where it does not.
+pub fn examples()
+    ensures clock { ClockExamples }
+    ensures numbers { NumberExamples }
+{}
