@@ -1,6 +1,5 @@
 -- The image: the state of the region machine that words and records show, with frames, memory and channels over one layout.
-use Rattle.std.specs.Prelude.{◌≡◌, FitsSigned, ℕ, List, length, map, Some, slice_get}
-use Rattle.std.specs.Int.{w64}
+use Rattle.std.specs.Prelude.{◌≡◌, ℕ, List, length, map, Some, slice_get}
 use Rattle.rgo_code.specs.Code.{Code}
 use Rattle.rgo_core_channels.specs.Channels.{Channels, Places}
 use Rattle.rgo_core_frames.specs.Fits.{AllFit}
@@ -8,12 +7,7 @@ use Rattle.rgo_core_memory.specs.Encoding.{address}
 use Rattle.rgo_core_memory.specs.Image.{Memory, Where, code_of, word_at}
 use Rattle.rgo_core_memory.specs.declared.layout.TableSizes.{TableSizes}
 use Rattle.rgo_machine.specs.declared.limits.Sizes.{Sizes}
-use Rattle.rgo_memory.specs.Memory.{Memory as Heap, Object}
-use Rattle.rgo_memory.specs.declared.values.Value.{Value}
-use Rattle.rgo_memory.specs.declared.values.Value.TheVariants as value
 use Rattle.rgo_region_machine.specs.States.{RegionState}
-use Rattle.rgo_sound.specs.Safety.{cells_of}
-use Rattle.rgo_sound.specs.Types.{Each}
 use Rattle.rgo_core.specs.Records.{Record, frame_of, memory_of, side_of}
 
 -- the sizes of the table of a code
@@ -24,17 +18,6 @@ table_sizes code sizes = record {
   slots = sizes.regions;
   variables = length code.variables;
 }
-
--- an int is one of 64 bits
-abbrev pub IsWord : Value → Type 0
-IsWord (value.Int n) = FitsSigned w64 n
-IsWord (value.Bool b) = Unit {0}
-IsWord value.Nil = Unit {0}
-IsWord (value.Object o) = Unit {0}
-
-pub record IntsFit (m : Heap) : Type 0 where
-  pub cells : (o : ℕ) (object : Object) → slice_get m.heap o ≡ Some object → Each IsWord (cells_of object)
-  pub variables : Each IsWord m.variables
 
 -- the first word of an object
 abbrev pub place_of : TableSizes → Where → ℕ → ℕ
@@ -50,4 +33,3 @@ pub record Image (code : Code) (z : TableSizes) (words : List ℕ) (recs : List 
   pub frames : AllFit code places.slot addresses s (map frame_of recs)
   pub memory : Memory z words (map memory_of recs) s places
   pub channels : Channels code (code_of z places) (place_of z places) words (map side_of recs) s at
-  pub ints : IntsFit s.plain.memory

@@ -71,7 +71,7 @@ pub fn open(
     ensures seat { IfOk result (λ t. (t.1.table_id ≡ t.0.shared.table_id)
         × (t.1.me ≡ (view ((0, first_of code.now) ∷ []) [], []))) }
 {
-    code.ascends();
+    code.code().ascends();
     let layout = TableSizes {
         pages: sizes.pages,
         page_words: sizes.page_words,
