@@ -1,0 +1,13 @@
+mod Lists
+mod Counting
+mod Runs
+mod Clocks
+mod Numbers
+mod Stories
+mod Lift
+mod ClockLifts
+mod Opening
+mod Standing
+mod Printing
+mod Local
+mod Examples
