@@ -12,4 +12,5 @@ mod Staying
 mod Printing
 mod Duties
 mod Local
+mod Ending
 mod Examples

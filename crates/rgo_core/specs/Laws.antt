@@ -1,5 +1,5 @@
 -- The law of each access of a goroutine and of its steps without one. What a law asks is told by the goroutine's own record.
-use Rattle.std.specs.Prelude.{◌≡◌, ◌<◌, ◌≤◌, ◌+◌, ◌%◌, ◌^◌, ℕ, List, [], ◌∷◌, length, Some}
+use Rattle.std.specs.Prelude.{◌≡◌, ◌<◌, ◌≤◌, ◌+◌, ◌%◌, ◌^◌, ℕ, bit_or, List, [], ◌∷◌, length, Some}
 use Rattle.rgo_code.specs.Code.{CodeOp, Print}
 use Rattle.rgo_core_channels.specs.Records.{at_rest}
 use Rattle.rgo_core_frames.specs.Prints.{printed_values}
@@ -9,11 +9,13 @@ use Rattle.rgo_core_frames.specs.WordFrames.{word_moved}
 use Rattle.rgo_core_memory.specs.Words.{clock_at}
 use Rattle.rgo_machine.specs.Limits.{deepest}
 use Rattle.rgo_machine.specs.Lines.{line_of}
-use Rattle.rgo_region_machine.specs.States.{Duty}
+use Rattle.rgo_region_machine.specs.States.{Duty, Stopped}
+use Rattle.rgo_region_machine.specs.declared.limits.Limit.{Limit}
 use Rattle.rgo_typed.specs.declared.statements.Piece.{Piece}
-use Rattle.rgo_core.specs.Core.{Setup}
+use Rattle.rgo_core.specs.Causes.{Stops}
+use Rattle.rgo_core.specs.Core.{Here, Setup}
 use Rattle.rgo_core.specs.Next.{IsAt}
-use Rattle.rgo_core.specs.Records.{ClockRec, Record, instructed, with_print}
+use Rattle.rgo_core.specs.Records.{ClockRec, Record, instructed, with_end, with_print}
 use Rattle.rgo_core.specs.Steps.{IsStill, Moves}
 
 -- the record after a print of these bytes, for which the clock was n
@@ -41,3 +43,9 @@ abbrev pub LocalStill : Type 0
 LocalStill = (T : Setup) (g : ℕ) (c : Record) (e : FrameRec) → c.side ≡ at_rest → quiet T.code g c.frame ≡ Some e
     → length e.frames ≤ deepest
     → IsStill T g c (record c { clock = clock_after c.frame.holder.duties c.clock; frame = e })
+
+-- A run is ended for want of room, or because it met a limit, where whatever the rest of the table is the cause holds; memory may
+-- run out in any state.
+abbrev pub StopMove : Type 0
+StopMove = (T : Setup) (g : ℕ) (c : Record) (why : Limit) → ((x : Here T g c) → Stops T.code T.sizes T.limits why x.s)
+    → Moves T g c clock_at (λ n. bit_or n (2 ^ 63)) (λ n d. d ≡ record c { clock = with_end c.clock n (Stopped why) })
