@@ -8,6 +8,8 @@ mod Lift
 mod ClockLifts
 mod Opening
 mod Standing
+mod Staying
 mod Printing
+mod Duties
 mod Local
 mod Examples

@@ -1,7 +1,7 @@
 -- From a step at a state to a step of the rule.
 use Rattle.std.proofs.Common.{◌≡◌, ◌≢◌, ◌⊎◌, inl, inr, ⊎_elim, ℕ, zero, suc, ◌+◌, ◌<◌, ◌≤◌, nat_le, ◌&&◌, Bool, true, false, List, [], ◌∷◌, ◌++◌, Option, Some, None, length, map, slice_get, slice_set, slice_index, refl, ap, sym, subst, ◌∙◌, arith}
 use Rattle.std.proofs.lemmas.Bool.Decides.{nat_tests}
-use Rattle.std.proofs.lemmas.List.{append-nil}
+use Rattle.std.proofs.lemmas.List.{append-nil, length-map}
 use Rattle.std.proofs.lemmas.Option.{same_Some, slice_get_within}
 use Rattle.std.specs.List.{list_all}
 use Rattle.rgo_code.specs.Code.{Code}
@@ -116,7 +116,7 @@ module _ {T : Setup} {g : ℕ} {c : Record} (x : Here T g c) where
   clock_at = map_get clock_of x.recs g c x.is_c
 
   pub few_records : length x.recs ≤ most_goroutines T.limits
-  few_records = let l = Rattle.std.proofs.lemmas.List.length-map x.recs clock_of in let f = few (most_goroutines T.limits) _ clocks x.core.story.numbers in omega arith
+  few_records = let l = length-map x.recs clock_of in let f = few (most_goroutines T.limits) _ clocks x.core.story.numbers in omega arith
 
   pub shallow_here : (j : ℕ) (y : FrameRec) → slice_get (map frame_of x.recs) j ≡ Some y → length y.frames ≤ deepest
   shallow_here = shallow_now T.code _ x.core.image.addresses T.limits x.s (map frame_of x.recs) x.core.sound x.core.image.frames x.core.story.within
@@ -126,11 +126,21 @@ module _ {T : Setup} {g : ℕ} {c : Record} (x : Here T g c) where
       → length d.frame.frames ≤ deepest → is_within T.limits next.plain ≡ true
   within_set words d next sound image shallow =
       all_within T.code _ image.addresses T.limits next (map frame_of (slice_set x.recs g d)) sound image.frames
-      (let l = Rattle.std.proofs.lemmas.List.length-map (slice_set x.recs g d) frame_of in let m = length_set x.recs g d in let f = few_records in omega arith)
+      (let l = length-map (slice_set x.recs g d) frame_of in let m = length_set x.recs g d in let f = few_records in omega arith)
       (λ j y e. ⊎_elim
       (λ (t : (j ≡ g) × (d.frame ≡ y)). subst (λ (z : FrameRec). length z.frames ≤ deepest) t.1 shallow)
       (λ (t : (j ≢ g) × (slice_get (map frame_of x.recs) j ≡ Some y)). shallow_here j y t.1)
       (at_set (map frame_of x.recs) g j d.frame y (ap (λ (l : List FrameRec). slice_get l j) (sym (map_set frame_of x.recs g d)) ∙ e)))
+
+  pub many_set : (words : List ℕ) (d : Record) (next : RegionState) → IsSound T.code next → Image T.code (layout T) words (slice_set x.recs g d) next
+      → length next.plain.goroutines ≡ length x.s.plain.goroutines
+  many_set words d next sound image =
+      let m = many T.code _ image.addresses next (map frame_of (slice_set x.recs g d)) sound image.frames in
+      let n = many T.code _ x.core.image.addresses x.s (map frame_of x.recs) x.core.sound x.core.image.frames in
+      let l = length-map (slice_set x.recs g d) frame_of in
+      let k = length-map x.recs frame_of in
+      let q = length_set x.recs g d in
+      omega arith
 
   module _ (words : List ℕ) (d : Record) (low : slice_index words 0 ≡ slice_index x.words 0) (made : slice_index words 16 ≡ slice_index x.words 16) where
     pub does_core : (p : Does x words d) → CoreAt T words (slice_set x.recs g d) (x.events ++ p.goes.event ∷ []) p.goes.next

@@ -64,6 +64,9 @@ pub record NumberExamples : Type 0 where
   pub sum : all_counted parent_and_child ≡ record no_share { steps = 1; goroutines = 2 }
   -- pages that are still to be freed count as returned
   pub owes : (counted (record blank { owed = 3 })).returned ≡ 3
-  -- memory may run out at any time; regions only when one is wanted
+
+pub record CauseExamples : Type 0 where
+  -- memory may run out at any time; regions only where one is wanted
   pub memory : (code : Code) (sizes : Sizes) (limits : Limits) (s : RegionState) → IsCause code sizes limits (Stopped Memory) s
-  pub regions : (code : Code) (sizes : Sizes) (limits : Limits) (s : RegionState) → s.holders ≡ [] → IsCause code sizes limits (Stopped Regions) s → ⊥
+  pub regions : (code : Code) (sizes : Sizes) (limits : Limits) (s : RegionState) → s.holders ≡ []
+      → IsCause code sizes limits (Stopped Regions) s → ⊥
