@@ -5,7 +5,9 @@ use Rattle.std.proofs.Common.{⊎_elim, arith, nat_eq}
 use Rattle.std.proofs.lemmas.Option.{same_Some, slice_get_within}
 use mathlib.Core.Logic.{dite}
 use native.Mathlib.Decide.{ℕ_discrete}
+use Rattle.std.specs.List.{list_any}
 use Rattle.rgo_typed.specs.declared.actions.Action.TheVariants.{Recv, Send}
+use Rattle.rgo_memory.specs.Channels.{is_meeting_at}
 use Rattle.rgo_memory.specs.declared.values.Value.{Value}
 use Rattle.rgo_memory.specs.declared.values.Value.TheVariants as value
 use Rattle.rgo_region_machine.specs.Duties.{may_go, attended}
@@ -87,11 +89,9 @@ module _ (T : Moment) where
   other_holder g h j ne = (refl, set_else T.state.holders g j h ne)
 
 pub offer_is : OfferLaw
-offer_is T g c mine o n x v next hold code free sizing shut idle = record {
+offer_is T g c mine o n x v next hold code free sizing shut idle = (meeting, nobody, record {
   steps = offers T.code T.page_words T.state o T.running on.1 g v next
-      (ap may_go (no_offer T g c mine next free))
-      (is_place T.state.plain.memory o k on.0 still_open cap)
-      (none_there o T.state.holders (no_holder T o k on calm));
+      (ap may_go (no_offer T g c mine next free)) meeting nobody;
   at = _;
   channels = control_step T.code T.encode T.place T.words T.recs T.state T.at T.channels g c (offering (T.place o))
       mine o k k (n + 4) Unlocked (T.at.head o) (Offered g) b on (record {
@@ -136,7 +136,7 @@ offer_is T g c mine o n x v next hold code free sizing shut idle = record {
               (subst (λ y. InCell y (T.place o) 0 x) (sym hold) (refl, refl, refl)) ∙ sym code),
         );
       });
-}
+})
   where
     found : (k : Chan) × On T.state o k
     found = live_at T g Send o (v ∷ []) next (inr (inl refl))
@@ -167,6 +167,12 @@ offer_is T g c mine o n x v next hold code free sizing shut idle = record {
 
     calm : T.at.phase o ≡ Calm
     calm = calm_of (T.at.phase o) (phase_is T o k n on cap said'.1 ∙ idle)
+
+    meeting : is_meeting_at (slice_get T.state.plain.memory.heap o) ≡ true
+    meeting = is_place T.state.plain.memory o k on.0 still_open cap
+
+    nobody : list_any (λ (x : Holder). offers_on o x.offer) T.state.holders ≡ false
+    nobody = none_there o T.state.holders (no_holder T o k on calm)
 
     there : slice_get b.holders g ≡ Some h
     there = get_set_same T.state.holders g next.holder h next.there
@@ -293,10 +299,10 @@ meet_is T g c mine o n x next hold free sizing shut up = (
   S.0,
   S.2,
   S.4,
+  meeting,
   record {
     steps = meets T.code T.page_words T.state o T.running on.1 g t v next M (λ e. ne (sym e))
-        (ap may_go (no_offer T g c mine next free)) standing
-        (is_place T.state.plain.memory o k on.0 still_open cap);
+        (ap may_go (no_offer T g c mine next free)) standing meeting;
     at = _;
     channels = control_step T.code T.encode T.place T.words T.recs T.state T.at T.channels g c at_rest mine o k k (n + 4)
         Unlocked (T.at.head o) (Accepted t) b on (record {
@@ -366,6 +372,9 @@ meet_is T g c mine o n x next hold free sizing shut up = (
 
     still_open : k.closed ≡ false
     still_open = is_open T g c mine o n held k on shut
+
+    meeting : is_meeting_at (slice_get T.state.plain.memory.heap o) ≡ true
+    meeting = is_place T.state.plain.memory o k on.0 still_open cap
 
     one : (i : ℕ) × (T.at.phase o ≡ Offered i)
     one = offered_of (T.at.phase o) (phase_is T o k n on cap said'.1 ∙ up)
