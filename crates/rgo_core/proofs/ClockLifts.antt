@@ -4,6 +4,7 @@ use Rattle.std.proofs.Math.Nat.{mod-eq_of_lt}
 use Rattle.std.proofs.lemmas.List.{append-nil, length-map, map-append}
 use mathlib.Core.Logic.{dite}
 use native.Mathlib.Decide.{dec_le}
+use Rattle.rgo_core_frames.proofs.Ints.{ints_stay}
 use Rattle.rgo_core_frames.proofs.Sound.{next_sound}
 use Rattle.rgo_core_frames.specs.Records.{Rec as FrameRec}
 use Rattle.rgo_core_frames.specs.States.{IsSound}
@@ -42,6 +43,7 @@ ticket_law T g c bytes after short is finds words recs run core at fits =
         record {
           sound = sound;
           constants = x.core.constants;
+          ints = ints_stay.step T.code T.sizes.page_words x.s p.goes.next p.goes.event x.core.constants x.core.ints p.goes.steps;
           capped = x.core.capped;
           story = subst (λ (l : List ClockRec). Story T.code T.sizes T.limits (slice_set words 0 ((n + 1) % 18446744073709551616)) l (run ++ p.goes.event ∷ []) p.goes.next)
               (sym (map_set clock_of recs g d))
@@ -73,6 +75,7 @@ end_law T g c mark after is finds words recs run core at fits =
         record {
           sound = sound;
           constants = x.core.constants;
+          ints = ints_stay.step T.code T.sizes.page_words x.s p.goes.next p.goes.event x.core.constants x.core.ints p.goes.steps;
           capped = x.core.capped;
           story = subst (λ (l : List ClockRec). Story T.code T.sizes T.limits (slice_set words 0 (bit_or n 9223372036854775808)) l (run ++ p.goes.event ∷ []) p.goes.next)
               (sym (map_set clock_of recs g d))
@@ -129,6 +132,7 @@ module _ {T : Setup} {g : ℕ} {c : Record} (x : Here T g c) where
       record {
         sound = x.core.sound;
         constants = x.core.constants;
+        ints = x.core.ints;
         capped = x.core.capped;
         story = subst (λ (l : List ClockRec). Story T.code T.sizes T.limits (slice_set x.words 16 (suc n)) l x.events x.s) (sym (map_set clock_of x.recs g d))
             (story_refused T.code T.sizes T.limits x.words (map clock_of x.recs) x.events x.s x.core.story g c.clock d.clock (clock_at x) (omega arith) full never
@@ -179,6 +183,7 @@ module _ {T : Setup} {g : ℕ} {c : Record} (x : Here T g c) where
           record {
             sound = sound;
             constants = x.core.constants;
+            ints = ints_stay.step T.code T.sizes.page_words x.s p.goes.next p.goes.event x.core.constants x.core.ints p.goes.steps;
             capped = x.core.capped;
             story = subst (λ (l : List ClockRec). Story T.code T.sizes T.limits (slice_set x.words 16 (suc n)) l (x.events ++ p.goes.event ∷ []) p.goes.next) (sym clocks_are) q.1;
             image = p.goes.image;

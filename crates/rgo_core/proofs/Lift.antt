@@ -5,6 +5,7 @@ use Rattle.std.proofs.lemmas.List.{append-nil, length-map}
 use Rattle.std.proofs.lemmas.Option.{same_Some, slice_get_within}
 use Rattle.std.specs.List.{list_all}
 use Rattle.rgo_code.specs.Code.{Code}
+use Rattle.rgo_core_frames.proofs.Ints.{ints_stay}
 use Rattle.rgo_core_frames.proofs.Sound.{next_sound}
 use Rattle.rgo_core_frames.specs.Fits.{AllFit, IsPast, IsShown}
 use Rattle.rgo_core_frames.specs.Records.{Rec as FrameRec}
@@ -147,6 +148,7 @@ module _ {T : Setup} {g : ℕ} {c : Record} (x : Here T g c) where
     does_core p = record {
       sound = sound;
       constants = x.core.constants;
+      ints = ints_stay.step T.code T.sizes.page_words x.s p.goes.next p.goes.event x.core.constants x.core.ints p.goes.steps;
       capped = x.core.capped;
       story = subst (λ (l : List ClockRec). Story T.code T.sizes T.limits words l (x.events ++ p.goes.event ∷ []) p.goes.next) (sym (map_set clock_of x.recs g d))
           (story_does T.code T.sizes T.limits x.words clocks x.events x.s x.core.story g c.clock d.clock clock_at p.goes.event p.goes.next p.goes.steps
@@ -161,6 +163,7 @@ module _ {T : Setup} {g : ℕ} {c : Record} (x : Here T g c) where
     stays_core p = record {
       sound = x.core.sound;
       constants = x.core.constants;
+      ints = x.core.ints;
       capped = x.core.capped;
       story = subst (λ (l : List ClockRec). Story T.code T.sizes T.limits words l x.events x.s) (sym (map_set clock_of x.recs g d))
           (story_stays T.code T.sizes T.limits x.words clocks x.events x.s x.core.story g c.clock d.clock clock_at words p.counted p.same low made);

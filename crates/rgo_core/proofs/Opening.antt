@@ -9,6 +9,7 @@ use Rattle.rgo_code.specs.Code.{Code, CodeFn}
 use Rattle.rgo_code.specs.Erasure.{erased, erased_fn}
 use Rattle.rgo_core_channels.proofs.Opening.{opens as channels_open}
 use Rattle.rgo_core_channels.specs.Channels.{Calm, Places, Unlocked}
+use Rattle.rgo_core_frames.proofs.Ints.{ints_stay}
 use Rattle.rgo_core_frames.proofs.Opening.{opening_law as frames_open}
 use Rattle.rgo_core_frames.proofs.Sound.{sound_stays}
 use Rattle.rgo_core_frames.specs.Fits.{AllFit}
@@ -200,6 +201,7 @@ opening_law T checked written constants capped = (
   record {
     sound = sound_stays.start T.code checked written;
     constants = constants;
+    ints = ints_stay.start T.code;
     capped = capped;
     story = first_story T;
     image = first_image T checked;

@@ -1,6 +1,7 @@
 -- The core: what a run has to do with the words and records of a table.
 use Rattle.std.specs.Prelude.{◌≡◌, ◌≤◌, ℕ, List, map, Some, slice_get}
 use Rattle.rgo_code.specs.Code.{Code}
+use Rattle.rgo_core_frames.specs.Ints.{IntsFit}
 use Rattle.rgo_core_frames.specs.LocalLaws.{ConstantsFit}
 use Rattle.rgo_core_frames.specs.States.{IsSound}
 use Rattle.rgo_core_memory.specs.declared.layout.TableSizes.{TableSizes}
@@ -26,6 +27,7 @@ layout T = table_sizes T.code T.sizes
 pub record CoreAt (T : Setup) (words : List ℕ) (recs : List Record) (events : List Event) (s : RegionState) : Type 0 where
   pub sound : IsSound T.code s
   pub constants : ConstantsFit T.code
+  pub ints : IntsFit s.plain
   pub capped : most_goroutines T.limits ≤ 1000000
   pub story : Story T.code T.sizes T.limits words (map clock_of recs) events s
   pub image : Image T.code (layout T) words recs s
