@@ -18,7 +18,7 @@ use Rattle.rgo_sound.proofs.Places.{get_snoc, length_set}
 use Rattle.rgo_core.specs.ClockSteps.{EndLaw, Ends, HasEnded, LookLaw, NumberLaw, Prints, Starts, TicketLaw}
 use Rattle.rgo_core.specs.Core.{Core, CoreAt, Here, Setup, layout}
 use Rattle.rgo_core.specs.Image.{Image}
-use Rattle.rgo_core.specs.Records.{ClockRec, Record, accessed, accesses, blank, clock_of, counted, frame_of, with_child, with_print, with_refusal}
+use Rattle.rgo_core.specs.Records.{ClockRec, Record, accesses, blank, clock_of, counted, frame_of, looked, with_child, with_print, with_refusal}
 use Rattle.rgo_core.specs.Story.{Story}
 use Rattle.rgo_core.proofs.Counting.{plus_none}
 use Rattle.rgo_core.proofs.Lift.{all_within, clock_at, few_records, shallow_here, stays_core, within_set}
@@ -92,19 +92,19 @@ end_law T g c mark after is finds words recs run core at fits =
 pub look_law : LookLaw
 look_law T g c words recs run core at fits =
     let x : Here T g c = record { words = words; recs = recs; events = run; s = core.0; core = core.1; is_c = get_of recs g c at } in
-    let d : Record = record c { clock = accessed c.clock } in
+    let d : Record = looked c in
     record {
       after = d;
       gain = [];
       explains = (
         core.0,
         subst (λ (l : List Event). CoreAt T (slice_set words 0 (slice_index words 0)) (slice_set recs g d) l core.0) (sym (append-nil run))
-        (subst (λ (ws : List ℕ). CoreAt T ws (slice_set recs g d) run core.0) (sym (set_own words 0))
-        (stays_core x words d refl refl (record {
-          counted = refl;
-          same = record { prints = refl; first = refl; children = refl; refused = refl };
-          image = image_same T.code (layout T) words recs x.s x.core.image g c d x.is_c refl refl refl;
-        }))),
+            (subst (λ (ws : List ℕ). CoreAt T ws (slice_set recs g d) run core.0) (sym (set_own words 0))
+            (stays_core x words d refl refl (record {
+              counted = refl;
+              same = record { prints = refl; first = refl; children = refl; refused = refl };
+              image = image_same T.code (layout T) words recs x.s x.core.image g c d x.is_c refl refl refl;
+            }))),
       );
       counts = refl;
       tells_so = refl;
@@ -202,7 +202,7 @@ number_law T g c after child never is new starts words recs run core at fits =
       explains = (
         core.0,
         subst (λ (l : List Event). CoreAt T (slice_set words 16 ((n + 1) % 18446744073709551616)) (slice_set recs g d) l core.0) (sym (append-nil run))
-        (subst (λ (v : ℕ). CoreAt T (slice_set words 16 v) (slice_set recs g d) run core.0) (sym on) (refused_core x never full)),
+            (subst (λ (v : ℕ). CoreAt T (slice_set words 16 v) (slice_set recs g d) run core.0) (sym on) (refused_core x never full)),
       );
       counts = refl;
       tells_so = (full, refl);

@@ -187,8 +187,11 @@ access_law T g c i f after low more finds words recs run core at fits =
     (λ (p : Stays x (slice_set words i (f n)) (after n)). record {
       after = after n;
       gain = [];
-      explains = (core.0, subst (λ (l : List Event). CoreAt T (slice_set words i (f n)) (slice_set recs g (after n)) l core.0) (sym (append-nil run))
-          (stays_core x (slice_set words i (f n)) (after n) clock made p));
+      explains = (
+        core.0,
+        subst (λ (l : List Event). CoreAt T (slice_set words i (f n)) (slice_set recs g (after n)) l core.0) (sym (append-nil run))
+            (stays_core x (slice_set words i (f n)) (after n) clock made p),
+      );
       counts = more n;
       tells_so = refl;
     })

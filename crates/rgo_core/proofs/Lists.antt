@@ -74,7 +74,6 @@ module _ {A : Type 0} (f : A → ℕ) where
       let a = sum_by-cons f x xs in
       omega arith
 
-
 abbrev pub one_if : Bool → ℕ
 one_if t = cond t 1 0
 

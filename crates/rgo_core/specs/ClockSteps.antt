@@ -6,7 +6,7 @@ use Rattle.rgo_region_machine.specs.Instructions.{printed_if}
 use Rattle.rgo_region_machine.specs.States.{Mark}
 use Rattle.rgo_core.specs.Causes.{IsCause}
 use Rattle.rgo_core.specs.Core.{Here, Setup}
-use Rattle.rgo_core.specs.Records.{ClockRec, Record, accessed, blank, has_ended, with_child, with_print, with_refusal}
+use Rattle.rgo_core.specs.Records.{ClockRec, Record, blank, has_ended, looked, with_child, with_print, with_refusal}
 use Rattle.rgo_core.specs.Steps.{Finds, Goes, Moves, MovesEither}
 
 -- the first mark is kept
@@ -64,7 +64,7 @@ EndLaw = (T : Setup) (g : ℕ) (c : Record) (mark : Mark) (after : ℕ → Recor
 -- the clock is loaded
 abbrev pub LookLaw : Type 0
 LookLaw = (T : Setup) (g : ℕ) (c : Record)
-    → Moves T g c clock_at (λ n. n) (λ n d. d ≡ record c { clock = accessed c.clock })
+    → Moves T g c clock_at (λ n. n) (λ n d. d ≡ looked c)
 
 -- a number is drawn, and a goroutine starts, or there are as many as there may be
 abbrev pub NumberLaw : Type 0

@@ -91,6 +91,10 @@ fresh = record blank { share = record no_share { goroutines = 1 } }
 abbrev pub accessed : ClockRec → ClockRec
 accessed c = record c { accesses = suc c.accesses }
 
+-- the same of the whole record
+abbrev pub looked : Record → Record
+looked c = record c { clock = accessed c.clock }
+
 -- an instruction
 abbrev pub instructed : ClockRec → ClockRec
 instructed c = record c { share = record c.share { steps = suc c.share.steps } }

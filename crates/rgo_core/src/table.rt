@@ -1,16 +1,19 @@
 //! A table of a run: how it opens and how it closes.
-ghost use Rattle.std.specs.Prelude.{◌≡◌, ◌≤◌, ◌<◌, ◌^◌, [], ◌∷◌, IfOk, length};
+ghost use mathlib.Core.Logic.{◌↔◌};
+ghost use Rattle.std.specs.Prelude.{◌≡◌, ◌≤◌, ◌<◌, ◌^◌, ℕ, true, [], ◌∷◌, IfOk, length};
 ghost use Rattle.std.specs.Mem.Slots.{IsFull, slots_items, slots_len};
 ghost use Rattle.rgo_code.specs.NameRules.{Ascends};
 ghost use Rattle.rgo_core.specs.Core.{Core as Explains, Setup};
 ghost use Rattle.rgo_core.specs.Opening.{first_of, opening};
 ghost use Rattle.rgo_core.specs.Image.{table_sizes};
 ghost use Rattle.rgo_core.specs.Plans.{setup_of};
-ghost use Rattle.rgo_core.specs.Records.{accesses};
+ghost use Rattle.rgo_core.specs.Records.{accesses, looked};
 ghost use Rattle.rgo_core_frames.specs.LocalLaws.{ConstantsFit};
 ghost use Rattle.rgo_core_memory.specs.Words.{all_words as words_in_all};
 ghost use Rattle.rgo_core_rule.specs.Rule.{Closing};
-ghost use Rattle.rgo_core_rule.specs.Views.{view};
+ghost use Rattle.rgo_core_rule.specs.Steps.{Told};
+ghost use Rattle.rgo_core_rule.specs.Views.{IsAlone, number_of, record_of, view};
+ghost use Rattle.rgo_core_rule.specs.declared.accesses.Kind.TheVariants as kind;
 ghost use Rattle.rgo_machine.specs.Limits.{most_goroutines};
 ghost use Rattle.rgo_region_machine.specs.Machine.{Event as RegionEvent};
 
@@ -20,8 +23,10 @@ use rgo_code::Checked;
 use rgo_core_memory::layout::{TableSizes, all_words, count_at};
 use rgo_core_rule::rule::{Cells, Chair, Explanation};
 use rgo_core_rule::seats;
+use rgo_core_rule::steps::load;
 use rgo_machine::{Limits, Sizes};
 use std::alloc::{AllocError, Global};
+use std::marker::Brand;
 use std::snapshot::Snapshot;
 
 /// What a table is told once. It has the code in proofs alone.
@@ -87,6 +92,19 @@ pub fn open(
         limits,
     };
     seats::open::<Record, Plan, ByRuns>(alloc, words.as_slice(), &plan)
+}
+
+/// Whether the run has ended, by a load of the clock. Its first bits are how many tickets for prints were drawn.
+pub fn look(table: &RunTable, seat: &mut RunSeat) -> bool
+    requires own { (seat.old.table_id ≡ table.now.shared.table_id) × (0 < table.now.shared.table_id.words) }
+    requires alone { IsAlone (first_of table.now.shared.key.code.value) seat.old.me }
+    ensures own { (seat.new.table_id ≡ seat.old.table_id) × (seat.new.id ≡ seat.old.id) }
+    ensures alone { IsAlone (first_of table.now.shared.key.code.value) seat.new.me }
+    ensures told { (n : ℕ) × ((result ≡ true) ↔ (2 ^ 63 ≤ n))
+        × Told accesses (number_of seat.old.me) kind.Load 0 (λ n. n)
+        (λ n d. d ≡ looked (record_of (first_of table.now.shared.key.code.value) seat.old.me)) seat.old.me n seat.new.me }
+{
+    load::<Record, Plan, ByRuns, Brand, _>(table, seat, 0, &()) >= 1 << 63
 }
 
 /// The last words. One run explains them, and leads to the records that the seat has, among others.
