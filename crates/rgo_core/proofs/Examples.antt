@@ -6,7 +6,7 @@ use Rattle.rgo_code.specs.Code.{Code}
 use Rattle.rgo_region_machine.specs.States.{Ended, Holder, Mark, RegionState, Stopped}
 use Rattle.rgo_machine.specs.declared.picks.End.TheVariants.{Exit}
 use Rattle.rgo_core.specs.Clock.{Clock, has_ticket}
-use Rattle.rgo_core.specs.Examples.{ClockExamples, NumberExamples, ended_then_printed, having_printed, late_mark, parent_and_child, second_then_first}
+use Rattle.rgo_core.specs.Examples.{CauseExamples, ClockExamples, NumberExamples, ended_then_printed, having_printed, late_mark, parent_and_child, second_then_first}
 use Rattle.rgo_core.specs.Numbers.{Numbers, has_child}
 use Rattle.rgo_core.proofs.Lists.{cond_other, one_if}
 use Rattle.rgo_core.specs.Records.{ClockRec, Drawn, blank, drawn_at, fresh, with_child, with_end, with_print, with_refusal}
@@ -176,8 +176,6 @@ number_examples = record {
   sum = refl;
   owes = refl;
 }
--- CUT
-use Rattle.rgo_core.specs.Examples.{CauseExamples}
 
 pub cause_examples : CauseExamples
 cause_examples = record {
