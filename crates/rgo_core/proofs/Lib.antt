@@ -14,3 +14,11 @@ mod Duties
 mod Local
 mod Ending
 mod Examples
+mod Agreeing
+mod Joining
+mod Lifting
+mod AtChannels
+mod ChannelMoves
+mod Commits
+mod Meetings
+mod ChannelExamples

@@ -13,3 +13,7 @@ pub mod Laws
 pub mod Opening
 pub mod Plans
 pub mod Examples
+pub mod AtChannels
+pub mod ChannelMoves
+pub mod CommitMoves
+pub mod ChannelExamples

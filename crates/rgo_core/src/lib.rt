@@ -6,6 +6,7 @@
 //! goroutines are doing. [`table`] opens and closes a table.
 #![tactic(auto)]
 
+pub mod channels;
 pub mod laws;
 pub mod records;
 pub mod table;
