@@ -13,3 +13,10 @@ pub mod Laws
 pub mod Opening
 pub mod Plans
 pub mod Examples
+pub mod NewObjects
+pub mod Accesses
+pub mod Chains
+pub mod Claims
+pub mod Regions
+pub mod Traces
+pub mod TraceExamples
