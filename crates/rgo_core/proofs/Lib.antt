@@ -12,5 +12,6 @@ mod Staying
 mod Printing
 mod Duties
 mod Local
+mod Starting
 mod Ending
 mod Examples
