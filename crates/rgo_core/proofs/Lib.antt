@@ -12,6 +12,7 @@ mod Staying
 mod Printing
 mod Duties
 mod Local
+mod Starting
 mod Ending
 mod Examples
 mod Disjoint

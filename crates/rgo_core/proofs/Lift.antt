@@ -202,6 +202,5 @@ quiet_law T g c d does words recs run core at =
     let x : Here T g c = record { words = words; recs = recs; events = run; s = core.0; core = core.1; is_c = get_of recs g c at } in
     let p = does x in (
       p.goes.event ∷ [],
-      p.goes.next,
-      does_core x words d refl refl p,
+      (p.goes.next, does_core x words d refl refl p),
     )

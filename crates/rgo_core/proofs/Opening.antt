@@ -7,12 +7,14 @@ use Rattle.std.proofs.lemmas.Option.{same_Some}
 use Rattle.rgo_code.specs.Checked.{IsChecked}
 use Rattle.rgo_code.specs.Code.{Code, CodeFn}
 use Rattle.rgo_code.specs.Erasure.{erased, erased_fn}
+use Rattle.rgo_code.specs.NameRules.{Ascends}
 use Rattle.rgo_core_channels.proofs.Opening.{opens as channels_open}
 use Rattle.rgo_core_channels.specs.Channels.{Calm, Places, Unlocked}
 use Rattle.rgo_core_frames.proofs.Ints.{ints_stay}
 use Rattle.rgo_core_frames.proofs.Opening.{opening_law as frames_open}
 use Rattle.rgo_core_frames.proofs.Sound.{sound_stays}
 use Rattle.rgo_core_frames.specs.Fits.{AllFit}
+use Rattle.rgo_core_frames.specs.LocalLaws.{ConstantsFit}
 use Rattle.rgo_core_frames.specs.Opening.{main_record}
 use Rattle.rgo_core_frames.specs.Records.{Rec as FrameRec}
 use Rattle.rgo_core_frames.specs.WordFrames.{WordFrame, bare_all, word_called}
@@ -31,7 +33,7 @@ use Rattle.rgo_tac.specs.Code.{TacFn}
 use Rattle.rgo_tac.specs.Frames.{Frame, called}
 use Rattle.rgo_tac.specs.Tac.{main_frames}
 use Rattle.rgo_core.specs.Clock.{Clock}
-use Rattle.rgo_core.specs.Core.{Setup, layout}
+use Rattle.rgo_core.specs.Core.{Core, Setup, layout}
 use Rattle.rgo_core.specs.Image.{Image, place_of}
 use Rattle.rgo_core.specs.Numbers.{Numbers, has_child}
 use Rattle.rgo_core.specs.Opening.{OpeningLaw, first_of, main_frame, main_words, opening}
@@ -207,3 +209,9 @@ opening_law T checked written constants capped = (
     image = first_image T checked;
   },
 )
+
+-- the same where the code of the setup is that code
+pub opens_by : (T : Setup) (code : Code) → T.code ≡ code → IsChecked code → Ascends code → ConstantsFit code
+    → most_goroutines T.limits ≤ 1000000 → Core T (opening T) (first_of T.code ∷ []) []
+opens_by T code same checked written constants capped =
+    opening_law T (subst IsChecked (sym same) checked) (subst Ascends (sym same) written) (subst ConstantsFit (sym same) constants) capped

@@ -1,5 +1,5 @@
 -- Steps on the clock and on the number of goroutines: prints, ends and starts.
-use Rattle.std.specs.Prelude.{◌≡◌, ◌<◌, ◌≤◌, ◌+◌, ◌%◌, ◌^◌, ℕ, suc, bit_or, false, List, [], ◌∷◌, ◌++◌, length, Option, Some, None, slice_index, slice_set}
+use Rattle.std.specs.Prelude.{◌≡◌, ◌<◌, ◌≤◌, ◌+◌, ◌%◌, ◌^◌, ℕ, suc, bit_or, false, if◌then◌else◌, List, [], ◌∷◌, ◌++◌, length, Option, Some, None, slice_index, slice_set}
 use Rattle.rgo_core_memory.specs.Words.{clock_at, made_at}
 use Rattle.rgo_machine.specs.Limits.{deepest, most_goroutines}
 use Rattle.rgo_region_machine.specs.Instructions.{printed_if}
