@@ -110,6 +110,10 @@ look_law T g c words recs run core at fits =
       tells_so = refl;
     }
 
+pub map_more : {A : Type 0} (f : Record → A) (recs : List Record) (g : ℕ) (d child : Record)
+    → map f (slice_set recs g d ++ child ∷ []) ≡ slice_set (map f recs) g (f d) ++ f child ∷ []
+map_more f recs g d child = map-append f (slice_set recs g d) (child ∷ []) ∙ ap (λ l. l ++ f child ∷ []) (map_set f recs g d)
+
 module _ {T : Setup} {g : ℕ} {c : Record} (x : Here T g c) where
   abbrev n : ℕ
   n = slice_index x.words 16
@@ -151,10 +155,10 @@ module _ {T : Setup} {g : ℕ} {c : Record} (x : Here T g c) where
     sound = next_sound T.code T.sizes.page_words x.s p.goes.next p.goes.event x.core.sound p.goes.steps
 
     frames_are : map frame_of recs' ≡ slice_set (map frame_of x.recs) g d.frame ++ child.frame ∷ []
-    frames_are = map-append frame_of (slice_set x.recs g d) (child ∷ []) ∙ ap (λ (l : List FrameRec). l ++ child.frame ∷ []) (map_set frame_of x.recs g d)
+    frames_are = map_more frame_of x.recs g d child
 
     clocks_are : map clock_of recs' ≡ slice_set (map clock_of x.recs) g d.clock ++ child.clock ∷ []
-    clocks_are = map-append clock_of (slice_set x.recs g d) (child ∷ []) ∙ ap (λ (l : List ClockRec). l ++ child.clock ∷ []) (map_set clock_of x.recs g d)
+    clocks_are = map_more clock_of x.recs g d child
 
     as_many : n ≡ length x.recs
     as_many = let l = length-map x.recs clock_of in let z = x.core.story.numbers.low (omega arith) in omega arith

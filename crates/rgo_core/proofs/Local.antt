@@ -155,7 +155,7 @@ module _ {T : Setup} {g : ℕ} {c : Record} (x : Here T g c) (rest : c.side ≡ 
   local_does stays short =
       let p = local_law (frames_here x) e x.core.constants loc in
       let memory = shown ds refl p.state p.steps p.same.memory p.same.owners p.regions_are p.same.global_pages in
-      let image = image_stays x d (event_of g c.frame) p.state p.steps (alone_by g ds) rest refl refl p.fit p.same.memory p.same.owners p.regions_are memory in
+      let image = image_stays x (event_of g c.frame) p.state p.steps (alone_by g ds) rest p.same.memory p.same.owners p.regions_are d refl refl p.fit memory in
       let sound = next_sound T.code T.sizes.page_words x.s p.state (event_of g c.frame) x.core.sound p.steps in
       record {
         goes = record {

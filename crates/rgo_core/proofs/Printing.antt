@@ -92,7 +92,7 @@ module _ {T : Setup} {g : ℕ} {c : Record} (x : Here T g c) (pieces : List Piec
       let sound = next_sound T.code T.sizes.page_words x.s p.state (Instruct (One g)) x.core.sound p.steps in
       let shown = quiet_keeps T.code (layout T) x.words _ x.s p.state (Instruct (One g)) x.core.image.places x.core.image.memory p.steps
       (p.memory_is, not_go x a (λ z. z)) in
-      let image = image_stays x d (Instruct (One g)) p.state p.steps refl rest refl refl p.fit p.memory_is owners p.regions shown in
+      let image = image_stays x (Instruct (One g)) p.state p.steps refl rest p.memory_is owners p.regions d refl refl p.fit shown in
       record {
         goes = record {
           event = Instruct (One g);

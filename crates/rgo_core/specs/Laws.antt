@@ -1,22 +1,26 @@
 -- The law of each access of a goroutine and of its steps without one. What a law asks is told by the goroutine's own record.
-use Rattle.std.specs.Prelude.{◌≡◌, ◌<◌, ◌≤◌, ◌+◌, ◌%◌, ◌^◌, ℕ, bit_or, List, [], ◌∷◌, length, Some}
-use Rattle.rgo_code.specs.Code.{CodeOp, Print}
+use Rattle.std.specs.Prelude.{◌≡◌, ◌<◌, ◌≤◌, ◌+◌, ◌%◌, ◌^◌, ℕ, bit_or, List, [], ◌∷◌, length, false, Some}
+use Rattle.rgo_code.specs.Code.{CodeFn, CodeOp, Go, Print}
 use Rattle.rgo_core_channels.specs.Records.{at_rest}
+use Rattle.rgo_core_frames.specs.Children.{child_records}
+use Rattle.rgo_core_frames.specs.Opening.{no_record}
 use Rattle.rgo_core_frames.specs.Prints.{printed_values}
 use Rattle.rgo_core_frames.specs.Quiet.{quiet}
 use Rattle.rgo_core_frames.specs.Records.{Rec as FrameRec, after_op}
-use Rattle.rgo_core_frames.specs.WordFrames.{word_moved}
-use Rattle.rgo_core_memory.specs.Words.{clock_at}
-use Rattle.rgo_machine.specs.Limits.{deepest}
+use Rattle.rgo_core_frames.specs.WordFrames.{word_called, word_moved, words_of}
+use Rattle.rgo_core_memory.specs.Words.{clock_at, made_at}
+use Rattle.rgo_machine.specs.Limits.{deepest, most_goroutines}
 use Rattle.rgo_machine.specs.Lines.{line_of}
+use Rattle.rgo_region_machine.specs.Owed.{function_of}
 use Rattle.rgo_region_machine.specs.States.{Duty, Stopped}
 use Rattle.rgo_region_machine.specs.declared.limits.Limit.{Limit}
+use Rattle.rgo_tac.specs.declared.regions.Class.{Class}
 use Rattle.rgo_typed.specs.declared.statements.Piece.{Piece}
 use Rattle.rgo_core.specs.Causes.{Stops}
 use Rattle.rgo_core.specs.Core.{Here, Setup}
 use Rattle.rgo_core.specs.Next.{IsAt}
-use Rattle.rgo_core.specs.Records.{ClockRec, Record, instructed, with_end, with_print}
-use Rattle.rgo_core.specs.Steps.{IsStill, Moves}
+use Rattle.rgo_core.specs.Records.{ClockRec, Record, begins_with, instructed, with_child, with_end, with_print, with_refusal}
+use Rattle.rgo_core.specs.Steps.{IsStill, Moves, MovesEither}
 
 -- the record after a print of these bytes, for which the clock was n
 abbrev pub printed_by : (T : Setup) (c : Record) {op : CodeOp} → IsAt T.code c op → (bytes : List ℕ) → (clock : ℕ) → Record
@@ -31,6 +35,30 @@ PrintMove = (T : Setup) (g : ℕ) (c : Record) (pieces : List Piece) (from remov
     (a : IsAt T.code c (Print pieces from removes)) → c.side ≡ at_rest → length c.clock.prints < 2 ^ 43
     → Moves T g c clock_at (λ n. (n + 1) % 2 ^ 64)
     (λ n d. d ≡ printed_by T c a (line_of pieces (printed_values a.fn a.w from)) n)
+
+-- the record after it has started goroutine n, and that goroutine's, which runs this function
+abbrev pub started_by : (T : Setup) (c : Record) {op : CodeOp} → IsAt T.code c op → (n : ℕ) → Record
+started_by T c a n = record c {
+  clock = with_child c.clock n;
+  frame = after_op T.code c.frame.holder a.w a.ws a.instr.op (word_moved a.w (a.w.next + 1) ∷ a.ws);
+}
+
+abbrev pub first_in : List FrameRec → FrameRec
+first_in [] = no_record
+first_in (r ∷ rs) = r
+
+abbrev pub child_of : (T : Setup) (c : Record) {op : CodeOp} → IsAt T.code c op → (function : ℕ) → CodeFn → (from : List ℕ) → Record
+child_of T c {op} a f callee from =
+    begins_with (first_in (child_records T.code c.frame.holder op (word_called callee f (words_of a.w from) ∷ [])))
+
+-- A number is drawn for a goroutine, which starts with what its function is called with; or there are as many as there may be. A
+-- record draws no further number after that.
+abbrev pub StartMove : Type 0
+StartMove = (T : Setup) (g : ℕ) (c : Record) (f : ℕ) (callee : CodeFn) (from : List ℕ) (passes : List Class) (removes : List ℕ)
+    (a : IsAt T.code c (Go f from passes removes)) → function_of T.code f ≡ Some callee → c.side ≡ at_rest → c.clock.refused ≡ false
+    → MovesEither T g c made_at (λ n. (n + 1) % 2 ^ 64)
+    (λ n d. (most_goroutines T.limits ≤ n) × (d ≡ record c { clock = with_refusal c.clock }))
+    (λ n d new. (n < most_goroutines T.limits) × (d ≡ started_by T c a n) × (new ≡ child_of T c a f callee from))
 
 -- an instruction is counted, a duty is not
 abbrev pub clock_after : List Duty → ClockRec → ClockRec

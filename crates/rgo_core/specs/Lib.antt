@@ -17,3 +17,10 @@ pub mod AtChannels
 pub mod ChannelMoves
 pub mod CommitMoves
 pub mod ChannelExamples
+pub mod NewObjects
+pub mod Accesses
+pub mod Chains
+pub mod Claims
+pub mod Regions
+pub mod Traces
+pub mod TraceExamples

@@ -2,7 +2,7 @@
 
 ghost use Rattle.rgo_core.specs.ClockSteps.{EndLaw, LookLaw, NumberLaw, TicketLaw};
 ghost use Rattle.rgo_core.specs.Examples.{CauseExamples, ClockExamples, NumberExamples};
-ghost use Rattle.rgo_core.specs.Laws.{LocalStill, PrintMove, StopMove};
+ghost use Rattle.rgo_core.specs.Laws.{LocalStill, PrintMove, StartMove, StopMove};
 ghost use Rattle.rgo_core.specs.Opening.{OpeningLaw};
 ghost use Rattle.rgo_core.specs.Steps.{AccessLaw, QuietLaw};
 
@@ -44,6 +44,11 @@ pub fn number_law()
 /// A print writes the bytes of its words.
 pub fn print_move()
     ensures { PrintMove }
+{}
+
+/// A goroutine starts, or there are as many as there may be.
+pub fn start_move()
+    ensures { StartMove }
 {}
 
 /// A run is ended for want of room, or by a limit that it met.
