@@ -122,7 +122,7 @@ module _ {T : Setup} {g : ℕ} {c : Record} (x : Here T g c) where
       none = here.before.none;
     }
 
-    abbrev live : (k : Chan) × On x.s object k
+    abbrev pub live : (k : Chan) × On x.s object k
     live = operand_is_live T.code x.s g action object (values_of here.before.frame others) x.core.sound.checked
         x.core.sound.good a.of_channel next
 

@@ -21,7 +21,8 @@ use Rattle.rgo_core.specs.Image.{place_of}
 use Rattle.rgo_core.specs.Records.{Record, memory_of, side_of}
 use Rattle.rgo_core.specs.Steps.{Moves, Stays, Steps}
 use Rattle.rgo_core.proofs.AtChannels.{Reaches, at_channel, reaches}
-use Rattle.rgo_core.proofs.Joining.{chan_stands, frames_stay, joined, memory_stays}
+use Rattle.rgo_core.proofs.Leaving.{channel_stands}
+use Rattle.rgo_core.proofs.Parts.{frame_stays, image_with, memory_stays}
 use Rattle.rgo_core.proofs.Standing.{moment, side_at}
 use Rattle.rgo_core.proofs.Lifting.{moves_by}
 
@@ -35,7 +36,8 @@ module _ {T : Setup} {g : ℕ} {c : Record} (x : Here T g c) where
   side_stays words side at m k = record {
     counted = refl;
     same = record { prints = refl; first = refl; children = refl; refused = refl };
-    image = joined x words (knows c side) x.s at (frames_stay x x.s x.core.image.frames)
+    image = image_with x words (knows c side) x.s x.core.image.places at x.core.image.addresses x.core.image.addressed
+        (frame_stays x x.s x.core.image.places.slot x.core.image.addresses x.core.image.frames)
         (memory_stays x words x.s x.core.image.places m) k;
   }
 
@@ -56,7 +58,7 @@ module _ {T : Setup} {g : ℕ} {c : Record} (x : Here T g c) where
         x.core.image.places
     written i v low none =
         untold (layout T) x.words (map memory_of x.recs) (ground_of x.s) x.core.image.places x.core.image.memory o (channel k)
-        (chan_stands x.s o k on).0 (chan_stands x.s o k on).1 i v low none
+        (channel_stands x.s o k on).0 (channel_stands x.s o k on).1 i v low none
 
     -- where the word lies
     pub lies_at : (i : ℕ) → i < words_in (channel k)
@@ -64,9 +66,9 @@ module _ {T : Setup} {g : ℕ} {c : Record} (x : Here T g c) where
         × (word_at (layout T) x.core.image.places o i < all_words (layout T))
     lies_at i low =
         let e = follow (layout T) x.words (map memory_of x.recs) x.s x.core.image.places x.core.image.memory o i (channel k)
-        (chan_stands x.s o k on).0 (chan_stands x.s o k on).1 low in
+        (channel_stands x.s o k on).0 (channel_stands x.s o k on).1 low in
         let f = follow (layout T) x.words (map memory_of x.recs) x.s x.core.image.places x.core.image.memory o 0 (channel k)
-        (chan_stands x.s o k on).0 (chan_stands x.s o k on).1 (omega arith) in
+        (channel_stands x.s o k on).0 (channel_stands x.s o k on).1 (omega arith) in
         let a = e.0 in let b = f.0 in (omega (arith, a, b), e.1)
 
   -- the control of a channel lies behind the first words

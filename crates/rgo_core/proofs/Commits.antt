@@ -23,6 +23,7 @@ use Rattle.rgo_region_machine.specs.declared.regions.Region.{Region}
 use Rattle.rgo_sound.proofs.Acting.{performed, silent}
 use Rattle.rgo_sound.proofs.Places.{contains_here, contains_there, each_get, get_set_same, length_set}
 use Rattle.rgo_sound.specs.Types.{Each, HasKind, MemoryFits, ObjectFits}
+use Rattle.rgo_sound.specs.Tally.{no_share}
 use Rattle.rgo_core_channels.specs.After.{after, closed_now, popped, pushed}
 use Rattle.rgo_core_channels.specs.Channels.{Chan, On, channel}
 use Rattle.rgo_core_channels.specs.Controls.{closed_of, control, count_of, head_of}
@@ -51,12 +52,13 @@ use Rattle.rgo_core.specs.Core.{Here, Setup, layout}
 use Rattle.rgo_core.specs.Image.{place_of}
 use Rattle.rgo_core.specs.Records.{Record, frame_of, memory_of}
 use Rattle.rgo_core.specs.Steps.{Does}
-use Rattle.rgo_core.proofs.Agreeing.{word_is, word_shows}
 use Rattle.rgo_core.proofs.AtChannels.{calm, here, next, object, place_is, points_to, reached}
 use Rattle.rgo_core.proofs.ChannelMoves.{high}
-use Rattle.rgo_core.proofs.Joining.{adds, chan_stands, joined, memory_stays, one_step, ticked_counts}
-use Rattle.rgo_core.proofs.Lift.{shallow_here}
-use Rattle.rgo_core.proofs.Standing.{frame_at, moment, side_at}
+use Rattle.rgo_core.proofs.Encodings.{shows_it, word_is}
+use Rattle.rgo_core.proofs.Leaving.{channel_stands}
+use Rattle.rgo_core.proofs.Parts.{adds_of, image_with, memory_stays, shallow}
+use Rattle.rgo_core.proofs.Performing.{ticked_counts}
+use Rattle.rgo_core.proofs.Standing.{moment, side_at}
 use Rattle.rgo_core.proofs.Lifting.{moves_by}
 
 -- of a channel with this capacity memory says the same
@@ -97,7 +99,7 @@ module _ {T : Setup} {g : ℕ} {c : Record} (x : Here T g c) {to : Option ℕ} {
 
   -- it has as many frames as before
   pub as_shallow : (word : ℕ) → length (commits a word).frame.frames ≤ deepest
-  as_shallow word = subst (λ n. n ≤ deepest) (ap (λ l. length l) a.here.frames) (shallow_here x g c.frame (frame_at x))
+  as_shallow word = subst (λ n. n ≤ deepest) (ap (λ l. length l) a.here.frames) (shallow x)
 
   -- The channel becomes another of the same capacity, the instruction gives a value that this word shows, and the control becomes w.
   module _ (k y : Chan) (on : On x.s (object x a) k) (size : y.capacity ≡ k.capacity) (v : Value) (word w : ℕ)
@@ -127,7 +129,7 @@ module _ {T : Setup} {g : ℕ} {c : Record} (x : Here T g c) {to : Option ℕ} {
     same_state = same_Some t H.state (sym gains.steps ∙ H.steps)
 
     stands : (r : Region) × Stands x.s.plain.memory.heap x.s.owners x.s.regions (object x a) (channel k) r
-    stands = chan_stands x.s (object x a) k on
+    stands = channel_stands x.s (object x a) k on
 
     stands_then : Stands (slice_set x.s.plain.memory.heap (object x a) (channel y)) x.s.owners x.s.regions (object x a)
         (channel y) stands.0
@@ -154,11 +156,12 @@ module _ {T : Setup} {g : ℕ} {c : Record} (x : Here T g c) {to : Option ℕ} {
         event = Instruct (One g);
         next = t;
         steps = gains.steps;
-        gain = one_step;
-        adds = adds x.s t 1 refl refl refl long (length_set x.s.plain.goroutines g _);
+        gain = record no_share { steps = 1; objects = 0 };
+        adds = adds_of x.s t 1 0 refl refl refl (let l = long in omega (arith, l)) (length_set x.s.plain.goroutines g _);
         counted = ticked_counts c.clock;
         shallow = as_shallow word;
-        image = joined x (slice_set x.words at w) (commits a word) t gains.at
+        image = image_with x (slice_set x.words at w) (commits a word) t x.core.image.places gains.at x.core.image.addresses
+            x.core.image.addressed
             (subst (λ (u : RegionState). AllFit T.code x.core.image.places.slot x.core.image.addresses u
             (slice_set (map frame_of x.recs) g (commits a word).frame)) (sym same_state) H.fit)
             (memory_stays x (slice_set x.words at w) t x.core.image.places
@@ -174,28 +177,28 @@ module _ {T : Setup} {g : ℕ} {c : Record} (x : Here T g c) {to : Option ℕ} {
 -- ---- the four operations
 
 module _ {T : Setup} {g : ℕ} {c : Record} (x : Here T g c) {to : Option ℕ} {sent at : ℕ} (a : Operates T c to Send (sent ∷ []) at)
-    where
-  abbrev pub value_sent : Value
-  value_sent = value_at (here x a).before.frame sent
+  where
+    abbrev pub value_sent : Value
+    value_sent = value_at (here x a).before.frame sent
 
-  -- what is sent is in the record's word
-  pub sent_is : (moment x).encode value_sent ≡ word_of a.here.w sent
-  sent_is =
-      word_is x.core.image.addresses (address (layout T) x.core.image.places.spot) x.core.image.addressed value_sent
-      (word_of a.here.w sent)
-      ((here x a).before.shown sent
-      (subst (λ (o : CodeOp). Contains (reads (erased_op o)) sent) (sym a.here.is)
-      (contains_there a.channel (sent ∷ []) sent (contains_here sent []))))
+    -- what is sent is in the record's word
+    pub sent_is : (moment x).encode value_sent ≡ word_of a.here.w sent
+    sent_is =
+        word_is x.core.image.addresses (address (layout T) x.core.image.places.spot) x.core.image.addressed value_sent
+        (word_of a.here.w sent)
+        ((here x a).before.shown sent
+        (subst (λ (o : CodeOp). Contains (reads (erased_op o)) sent) (sym a.here.is)
+        (contains_there a.channel (sent ∷ []) sent (contains_here sent []))))
 
-  send_does : (n i size : ℕ) → c.side.hold ≡ Wrote at n i (word_of a.here.w sent) → c.side.size ≡ Sized at size
-      → closed_of n ≡ 0 → count_of n < size → i ≡ (head_of n + count_of n) % size
-      → Does x (slice_set x.words at (n + 4)) (commits a 0)
-  send_does n i size hold sizing shut room behind =
-      let p = sym (place_is x a) in
-      let L = send_is (moment x) g c.side (side_at x) (object x a) n i (word_of a.here.w sent) size value_sent (next x a)
-      (hold ∙ ap (λ j. Wrote j n i (word_of a.here.w sent)) p) sent_is (calm x a.here)
-      (sizing ∙ ap (λ j. Sized j size) p) shut room behind in
-      commits_it x a L.0 (pushed value_sent L.0) L.1 refl value.Nil 0 (n + 4) (ap (option_map silent) L.2) refl L.3
+    send_does : (n i size : ℕ) → c.side.hold ≡ Wrote at n i (word_of a.here.w sent) → c.side.size ≡ Sized at size
+        → closed_of n ≡ 0 → count_of n < size → i ≡ (head_of n + count_of n) % size
+        → Does x (slice_set x.words at (n + 4)) (commits a 0)
+    send_does n i size hold sizing shut room behind =
+        let p = sym (place_is x a) in
+        let L = send_is (moment x) g c.side (side_at x) (object x a) n i (word_of a.here.w sent) size value_sent (next x a)
+        (hold ∙ ap (λ j. Wrote j n i (word_of a.here.w sent)) p) sent_is (calm x a.here)
+        (sizing ∙ ap (λ j. Sized j size) p) shut room behind in
+        commits_it x a L.0 (pushed value_sent L.0) L.1 refl value.Nil 0 (n + 4) (ap (option_map silent) L.2) refl L.3
 
 pub send_move : SendMove
 send_move T g c to sent at n i size a hold sizing shut room behind =
@@ -213,7 +216,8 @@ module _ {T : Setup} {g : ℕ} {c : Record} (x : Here T g c) {to : Option ℕ} {
   queue_shows : (o : ℕ) (k : Chan) (v : Value) (queue : List Value) → On x.s o k → k.queue ≡ v ∷ queue
       → Shows x.core.image.addresses v ((moment x).encode v)
   queue_shows o k v queue on filled =
-      word_shows x.core.image.addresses (address (layout T) x.core.image.places.spot) x.core.image.addressed v ints.0 made
+      shows_it x.core.image.addresses (address (layout T) x.core.image.places.spot) x.core.image.addressed v
+      (λ n e. subst IntFits e ints.0) made
     where
       fit : Each IntFits k.queue × IntFits (value.Int (pos k.capacity))
       fit = each_get ObjectIntsFit x.s.plain.memory.heap o (channel k) x.core.ints.memory.objects on.0

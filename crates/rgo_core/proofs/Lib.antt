@@ -15,14 +15,6 @@ mod Local
 mod Starting
 mod Ending
 mod Examples
-mod Agreeing
-mod Joining
-mod Lifting
-mod AtChannels
-mod ChannelMoves
-mod Commits
-mod Meetings
-mod ChannelExamples
 mod Disjoint
 mod Encodings
 mod Leaving
@@ -41,3 +33,10 @@ mod Attending
 mod Stakes
 mod Regions
 mod Traces
+mod Lifting
+mod AtChannels
+mod ChannelMoves
+mod Commits
+mod Meetings
+mod TrapMoves
+mod ChannelExamples

@@ -43,21 +43,17 @@ use Rattle.rgo_core.specs.AtChannels.{Operates, commits}
 use Rattle.rgo_core.specs.CommitMoves.{AcknowledgeMove, IsAtSend, MeetMove, OfferMove, acknowledges, offers}
 use Rattle.rgo_core.specs.Core.{Here, Setup, layout}
 use Rattle.rgo_core.specs.Image.{place_of}
-use Rattle.rgo_core.specs.Records.{ClockRec, Record, accessed, counted, frame_of, memory_of, side_of}
+use Rattle.rgo_core.specs.Records.{Record, counted, frame_of, memory_of, side_of}
 use Rattle.rgo_core.specs.Steps.{Does}
-use Rattle.rgo_core.proofs.Agreeing.{word_is}
 use Rattle.rgo_core.proofs.AtChannels.{Reaches, here, calm, next, object, place_is, points_to, reached, reaches}
 use Rattle.rgo_core.proofs.ChannelMoves.{high, written}
 use Rattle.rgo_core.proofs.Commits.{as_shallow, sent_is, value_sent}
-use Rattle.rgo_core.proofs.Joining.{adds, counts_more, joined, memory_stays, one_step, ticked_counts}
-use Rattle.rgo_core.proofs.Lift.{shallow_here}
-use Rattle.rgo_core.proofs.Standing.{frame_at, frames_here, moment, side_at}
+use Rattle.rgo_core.proofs.Counting.{plus_none}
+use Rattle.rgo_core.proofs.Encodings.{word_is}
+use Rattle.rgo_core.proofs.Parts.{adds_of, image_with, memory_stays, shallow}
+use Rattle.rgo_core.proofs.Performing.{ticked_counts}
+use Rattle.rgo_core.proofs.Standing.{frames_here, moment, side_at}
 use Rattle.rgo_core.proofs.Lifting.{moves_by}
-
--- an access that is no instruction
-no_counts : (c : ClockRec) → counted (accessed c) ≡ counts_plus (counted c) (record no_share { steps = 0 })
-no_counts c =
-    (λ i. record (counted c) { steps = (let e : c.share.steps ≡ c.share.steps + 0 = omega arith in e) i }) ∙ counts_more c 0
 
 module _ {T : Setup} {g : ℕ} {c : Record} (x : Here T g c) where
   -- the control of its channel is stored, as memory shows it
@@ -91,11 +87,12 @@ module _ {T : Setup} {g : ℕ} {c : Record} (x : Here T g c) {to : Option ℕ} {
           event = MakeOffer g;
           next = t;
           steps = G.steps;
-          gain = record no_share { steps = 0 };
-          adds = adds x.s t 0 refl refl (omega arith) refl refl;
-          counted = no_counts c.clock;
-          shallow = shallow_here x g c.frame (frame_at x);
-          image = joined x (slice_set x.words at (n + 4)) (offers c at) t G.at
+          gain = no_share;
+          adds = adds_of x.s t 0 0 refl refl (omega arith) (omega arith) refl;
+          counted = sym (plus_none (counted c.clock));
+          shallow = shallow x;
+          image = image_with x (slice_set x.words at (n + 4)) (offers c at) t x.core.image.places G.at
+              x.core.image.addresses x.core.image.addressed
               (subst (λ (u : RegionState). AllFit T.code x.core.image.places.slot x.core.image.addresses u
               (slice_set (map frame_of x.recs) g (frame_offering c.frame)))
               (same_Some F.state t (sym F.steps ∙ G.steps)) F.fit)
@@ -201,12 +198,13 @@ module _ {T : Setup} {g : ℕ} {c : Record} (x : Here T g c) {to : Option ℕ} {
           event = Instruct (Meet g L.0);
           next = t;
           steps = G.steps;
-          gain = one_step;
-          adds = adds x.s t 1 refl refl refl refl
+          gain = record no_share { steps = 1; objects = 0 };
+          adds = adds_of x.s t 1 0 refl refl refl (omega arith)
               (length_set (slice_set x.s.plain.goroutines g _) L.0 _ ∙ length_set x.s.plain.goroutines g _);
           counted = ticked_counts c.clock;
           shallow = as_shallow x a word;
-          image = joined x (slice_set x.words at (n + 4)) (commits a word) t G.at
+          image = image_with x (slice_set x.words at (n + 4)) (commits a word) t x.core.image.places G.at
+              x.core.image.addresses x.core.image.addressed
               (subst (λ (u : RegionState). AllFit T.code x.core.image.places.slot x.core.image.addresses u
               (slice_set (map frame_of x.recs) g (commits a word).frame))
               (same_Some F.state t (sym F.steps ∙ G.steps)) F.fit)
@@ -240,11 +238,12 @@ module _ {T : Setup} {g : ℕ} {c : Record} (x : Here T g c) (at n : ℕ) (a : I
           event = Acknowledge g;
           next = t;
           steps = G.steps;
-          gain = record no_share { steps = 0 };
-          adds = adds x.s t 0 refl refl (omega arith) refl refl;
-          counted = no_counts c.clock;
-          shallow = subst (λ l. l ≤ deepest) (ap (λ l. length l) a.frames) (shallow_here x g c.frame (frame_at x));
-          image = joined x (slice_set x.words at (n - 8)) (acknowledges T c a) t G.at
+          gain = no_share;
+          adds = adds_of x.s t 0 0 refl refl (omega arith) (omega arith) refl;
+          counted = sym (plus_none (counted c.clock));
+          shallow = subst (λ l. l ≤ deepest) (ap (λ l. length l) a.frames) (shallow x);
+          image = image_with x (slice_set x.words at (n - 8)) (acknowledges T c a) t x.core.image.places G.at
+              x.core.image.addresses x.core.image.addressed
               (subst (λ (u : RegionState). AllFit T.code x.core.image.places.slot x.core.image.addresses u
               (slice_set (map frame_of x.recs) g (acknowledged (after_action T.code c.frame a.w a.ws a.instr a.to 0))))
               (same_Some F.state t (sym F.steps ∙ G.steps)) F.fit)

@@ -16,6 +16,7 @@ pub mod Examples
 pub mod AtChannels
 pub mod ChannelMoves
 pub mod CommitMoves
+pub mod TrapMoves
 pub mod ChannelExamples
 pub mod NewObjects
 pub mod Accesses

@@ -4,10 +4,10 @@
 //!
 //! [`laws`] has the law of each access: the region machine makes the step that the access stands for, whatever the other
 //! goroutines are doing. [`memory_moves`] has those of accesses to memory: loads and stores, new objects, pages, chains and the
-//! counts of regions. [`table`] opens and closes a table.
+//! counts of regions; [`channel_moves`] those of accesses to channels. [`table`] opens and closes a table.
 #![tactic(auto)]
 
-pub mod channels;
+pub mod channel_moves;
 pub mod laws;
 pub mod memory_moves;
 pub mod records;
