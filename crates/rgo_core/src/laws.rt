@@ -2,7 +2,7 @@
 
 ghost use Rattle.rgo_core.specs.ClockSteps.{EndLaw, LookLaw, NumberLaw, TicketLaw};
 ghost use Rattle.rgo_core.specs.Examples.{CauseExamples, ClockExamples, NumberExamples};
-ghost use Rattle.rgo_core.specs.Laws.{LocalStill, PrintMove, StartMove, StopMove};
+ghost use Rattle.rgo_core.specs.Laws.{ExitMove, LocalStill, PrintMove, StartMove, StopMove};
 ghost use Rattle.rgo_core.specs.Opening.{OpeningLaw};
 ghost use Rattle.rgo_core.specs.Steps.{AccessLaw, QuietLaw};
 
@@ -49,6 +49,11 @@ pub fn print_move()
 /// A goroutine starts, or there are as many as there may be.
 pub fn start_move()
     ensures { StartMove }
+{}
+
+/// The return of `main` ends the run.
+pub fn exit_move()
+    ensures { ExitMove }
 {}
 
 /// A run is ended for want of room, or by a limit that it met.
