@@ -1,12 +1,11 @@
 -- A run is ended for want of room, or by a limit.
-use Rattle.std.proofs.Common.{◌≡◌, ℕ, zero, suc, ◌+◌, ◌<◌, ◌≤◌, true, option_map, List, [], ◌∷◌, Option, Some, None, length, map, slice_get, slice_set, slice_index, bit_or, refl, ap, sym, subst, ◌∙◌, arith}
+use Rattle.std.proofs.Common.{◌≡◌, ℕ, ◌+◌, true, option_map, List, ◌∷◌, Option, Some, None, length, map, slice_get, slice_set, slice_index, bit_or, refl, ap, sym, subst, ◌∙◌, arith}
 use Rattle.std.proofs.lemmas.List.{length-map}
 use Rattle.std.proofs.lemmas.Option.{same_Some, slice_get-map}
 use Rattle.rgo_code.specs.Code.{Call, Code, CodeFn, CodeInstr, CodeOp, Go}
 use Rattle.rgo_code.specs.Erasure.{erased, erased_fn, erased_instr, erased_op}
 use Rattle.rgo_core_channels.proofs.Quiet.{finish_keeps}
 use Rattle.rgo_core_channels.specs.Channels.{Channels}
-use Rattle.rgo_core_channels.specs.Records.{Rec as SideRec}
 use Rattle.rgo_core_frames.proofs.Ending.{finish_law}
 use Rattle.rgo_core_frames.proofs.Sound.{next_sound}
 use Rattle.rgo_core_memory.proofs.Elsewhere.{ground_keeps}

@@ -1,8 +1,8 @@
 -- A local instruction or duty of the record is one of the region machine, and needs no access.
-use Rattle.std.proofs.Common.{◌≡◌, ◌⊎◌, inl, inr, ⊎_elim, ℕ, zero, suc, ◌+◌, ◌<◌, ◌≤◌, Bool, true, false, List, [], ◌∷◌, ◌++◌, Option, Some, None, if◌then◌else◌, option_map, option_and_then, length, map, slice_get, slice_set, slice_index, bit_or, refl, ap, sym, subst, ◌∙◌, arith}
+use Rattle.std.proofs.Common.{◌≡◌, inr, ℕ, zero, suc, ◌+◌, ◌≤◌, Bool, true, false, List, [], ◌∷◌, Option, Some, None, if◌then◌else◌, option_map, option_and_then, length, map, slice_get, slice_set, slice_index, bit_or, refl, ap, sym, subst, ◌∙◌, arith}
 use Rattle.std.proofs.lemmas.Option.{same_Some}
 use Rattle.rgo_code.specs.Code.{Branch, Call, Code, CodeInstr, CodeOp, Do, Go, Jump, Print, Return}
-use Rattle.rgo_core_channels.specs.Records.{Nowhere, Post, Rec as SideRec, at_rest}
+use Rattle.rgo_core_channels.specs.Records.{Rec as SideRec, at_rest}
 use Rattle.rgo_core_frames.proofs.Before.{before_law}
 use Rattle.rgo_core_frames.proofs.Leaving.{mark_stays}
 use Rattle.rgo_core_frames.proofs.LocalSteps.{local_law}
@@ -11,20 +11,19 @@ use Rattle.rgo_core_frames.specs.Local.{local, local_by, local_frames, local_ins
 use Rattle.rgo_core_frames.specs.LocalLaws.{end_by_frames, end_of, event_by, event_of}
 use Rattle.rgo_core_frames.specs.Quiet.{is_exit, quiet, unless_exit}
 use Rattle.rgo_core_frames.specs.Records.{Rec as FrameRec, after_op}
-use Rattle.rgo_core_frames.specs.Steps.{HasStep, StepsTo, steps_after}
+use Rattle.rgo_core_frames.specs.Steps.{StepsTo, steps_after}
 use Rattle.rgo_core_frames.specs.WordFrames.{WordFrame, bare}
 use Rattle.rgo_core_memory.proofs.Elsewhere.{ground_keeps}
 use Rattle.rgo_core_memory.proofs.Quiets.{quiet_keeps}
 use Rattle.rgo_core_memory.specs.Image.{Memory}
 use Rattle.rgo_core_memory.specs.Quiet.{IsGo}
 use Rattle.rgo_machine.specs.Limits.{deepest}
-use Rattle.rgo_machine.specs.declared.picks.End.{End}
 use Rattle.rgo_machine.specs.declared.picks.End.TheVariants.{Exit}
 use Rattle.rgo_machine.specs.declared.picks.Pick.TheVariants.{One}
-use Rattle.rgo_region_machine.specs.Counts.{Counts, counts_of}
+use Rattle.rgo_region_machine.specs.Counts.{counts_of}
 use Rattle.rgo_region_machine.specs.Duties.{may_go}
 use Rattle.rgo_region_machine.specs.Instructions.{marked}
-use Rattle.rgo_region_machine.specs.Machine.{Attend, Event, Instruct, region_step}
+use Rattle.rgo_region_machine.specs.Machine.{Instruct, region_step}
 use Rattle.rgo_region_machine.specs.Owed.{current}
 use Rattle.rgo_region_machine.specs.States.{Duty, Ended, Holder, Mark, RegionState}
 use Rattle.rgo_sound.specs.Leaving.{ActsAlone}
