@@ -15,7 +15,7 @@ use Rattle.rgo_core_frames.specs.Slots.{nameless}
 use Rattle.rgo_core_frames.specs.WordFrames.{WordFrame, word_called, words_of}
 use Rattle.rgo_core_memory.proofs.Quiets.{start_keeps}
 use Rattle.rgo_core_memory.proofs.Rows.{set_again}
-use Rattle.rgo_core_memory.specs.Image.{Memory}
+use Rattle.rgo_core_memory.specs.Image.{Memory, code_of}
 use Rattle.rgo_core_memory.specs.Opening.{first_record}
 use Rattle.rgo_core_memory.specs.Quiet.{IsGo}
 use Rattle.rgo_core_memory.specs.Records.{Rec as MemoryRec}
@@ -32,7 +32,7 @@ use Rattle.rgo_sound.specs.Tally.{counts_plus, no_share}
 use Rattle.rgo_tac.specs.declared.regions.Class.{Class}
 use Rattle.rgo_core.specs.ClockSteps.{Starts}
 use Rattle.rgo_core.specs.Core.{Here, Setup, layout}
-use Rattle.rgo_core.specs.Image.{Image}
+use Rattle.rgo_core.specs.Image.{Image, place_of}
 use Rattle.rgo_core.specs.Laws.{StartMove, child_of, started_by}
 use Rattle.rgo_core.specs.Next.{IsAt}
 use Rattle.rgo_core.specs.Records.{ClockRec, Record, counted, frame_of, memory_of, side_of, with_child}
@@ -116,7 +116,7 @@ module _ {T : Setup} {g : ℕ} {c : Record} (x : Here T g c) (f : ℕ) (callee :
         frames = subst (λ (l : List FrameRec). AllFit T.code places.slot x.core.image.addresses t l) (sym (map_more frame_of x.recs g d child)) fit;
         memory = subst (λ (l : List MemoryRec). Memory (layout T) x.words l t places)
             (sym (map_more memory_of x.recs g d child ∙ ap (λ (l : List MemoryRec). l ++ first_record ∷ []) (set_again (map memory_of x.recs) g c.memory (memory_at x)))) shown;
-        channels = subst (λ (l : List SideRec). Channels T.code _ _ x.words l t x.core.image.at)
+        channels = subst (λ (l : List SideRec). Channels T.code (code_of (layout T) places) (place_of (layout T) places) x.words l t x.core.image.at)
             (sym (map_more side_of x.recs g d child ∙ ap (λ (l : List SideRec). l ++ at_rest ∷ []) (set_again (map side_of x.recs) g c.side (side_at x)))) channels;
       } in
       let more : length t.plain.goroutines ≡ length x.s.plain.goroutines + 1 =
