@@ -15,6 +15,14 @@ mod Local
 mod Starting
 mod Ending
 mod Examples
+mod Agreeing
+mod Joining
+mod Lifting
+mod AtChannels
+mod ChannelMoves
+mod Commits
+mod Meetings
+mod ChannelExamples
 mod Disjoint
 mod Encodings
 mod Leaving

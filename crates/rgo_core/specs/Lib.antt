@@ -13,6 +13,10 @@ pub mod Laws
 pub mod Opening
 pub mod Plans
 pub mod Examples
+pub mod AtChannels
+pub mod ChannelMoves
+pub mod CommitMoves
+pub mod ChannelExamples
 pub mod NewObjects
 pub mod Accesses
 pub mod Chains

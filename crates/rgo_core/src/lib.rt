@@ -7,6 +7,7 @@
 //! counts of regions. [`table`] opens and closes a table.
 #![tactic(auto)]
 
+pub mod channels;
 pub mod laws;
 pub mod memory_moves;
 pub mod records;
