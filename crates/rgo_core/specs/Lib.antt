@@ -13,3 +13,14 @@ pub mod Laws
 pub mod Opening
 pub mod Plans
 pub mod Examples
+pub mod AtChannels
+pub mod ChannelMoves
+pub mod CommitMoves
+pub mod ChannelExamples
+pub mod NewObjects
+pub mod Accesses
+pub mod Chains
+pub mod Claims
+pub mod Regions
+pub mod Traces
+pub mod TraceExamples

@@ -3,9 +3,12 @@
 //! frames and channels, over one layout, and what is drawn from the clock and from the number of goroutines.
 //!
 //! [`laws`] has the law of each access: the region machine makes the step that the access stands for, whatever the other
-//! goroutines are doing. [`table`] opens and closes a table.
+//! goroutines are doing. [`memory_moves`] has those of accesses to memory: loads and stores, new objects, pages, chains and the
+//! counts of regions. [`table`] opens and closes a table.
 #![tactic(auto)]
 
+pub mod channels;
 pub mod laws;
+pub mod memory_moves;
 pub mod records;
 pub mod table;
