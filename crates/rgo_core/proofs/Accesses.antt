@@ -1,20 +1,18 @@
 -- Loads and stores.
-use Rattle.std.proofs.Common.{◌≡◌, ◌≢◌, ◌⊎◌, inl, inr, ⊎_elim, ℕ, zero, suc, ◌+◌, ◌*◌, ◌<◌, ◌≤◌, Bool, true, false, pos, List, [], ◌∷◌, ◌++◌, Option, Some, None, length, map, max, slice_get, slice_set, slice_index, refl, ap, sym, subst, ◌∙◌, arith, Contains}
+use Rattle.std.proofs.Common.{◌≡◌, ◌≢◌, ◌⊎◌, inl, ⊎_elim, ℕ, suc, ◌+◌, ◌<◌, ◌≤◌, pos, List, [], ◌∷◌, Option, Some, None, length, map, max, slice_get, slice_set, slice_index, refl, ap, sym, subst, ◌∙◌, arith}
 use Rattle.std.proofs.Math.ListN.{length-set}
 use Rattle.std.proofs.lemmas.List.{get_or-set_other}
 use Rattle.std.proofs.lemmas.Option.{same_Some}
 use Rattle.rgo_code.specs.Code.{CodeFn, Do}
-use Rattle.rgo_code.specs.Erasure.{erased, erased_fn, erased_op}
+use Rattle.rgo_code.specs.Erasure.{erased, erased_fn}
 use Rattle.rgo_code.specs.Exists.{declared_by}
 use Rattle.rgo_code.specs.Types.{DoFits, HasType}
-use Rattle.rgo_machine.specs.declared.picks.Pick.TheVariants.{One}
 use Rattle.rgo_memory.specs.Effects.{Does as DoesSo, answered, to_object}
 use Rattle.rgo_memory.specs.Elements.{length_in}
 use Rattle.rgo_memory.specs.Fields.{field_of, load, or_nil, store, stored}
 use Rattle.rgo_memory.specs.Memory.{Channel, Memory as Heap, Object, SliceObject, StructObject, with_object}
 use Rattle.rgo_memory.specs.declared.values.Value.{Value}
 use Rattle.rgo_memory.specs.declared.values.Value.TheVariants as value
-use Rattle.rgo_region_machine.specs.Machine.{Instruct}
 use Rattle.rgo_region_machine.specs.Objects.{words as words_of}
 use Rattle.rgo_region_machine.specs.Owed.{function_of}
 use Rattle.rgo_sound.proofs.Acting.{performed}
@@ -23,21 +21,19 @@ use Rattle.rgo_sound.proofs.TypedSteps.{var_kind}
 use Rattle.rgo_sound.proofs.Types.{get_kinds, object_of}
 use Rattle.rgo_sound.specs.Types.{HasKind, ObjectFits}
 use Rattle.rgo_tac.specs.Code.{Tac, TacFn}
-use Rattle.rgo_tac.specs.Flow.{reads}
 use Rattle.rgo_tac.specs.Frames.{value_at, values_of}
 use Rattle.rgo_tac.specs.Steps.{type_of}
 use Rattle.rgo_typed.specs.declared.actions.Action.{Action}
 use Rattle.rgo_typed.specs.declared.actions.Action.TheVariants as action
 use Rattle.rgo_typed.specs.declared.programs.Variable.{Variable}
 use Rattle.rgo_typed.specs.declared.types.Type.{«Type»}
-use Rattle.rgo_wellformed.specs.TypeRules.{HasField, chan_of, int, pointer_to, slice_of}
+use Rattle.rgo_wellformed.specs.TypeRules.{chan_of, pointer_to, slice_of}
 use Rattle.rgo_core_channels.specs.Channels.{Chan, IsChan, On, channel}
 use Rattle.rgo_core_channels.specs.Controls.{extent}
 use Rattle.rgo_core_channels.specs.Records.{at_rest}
 use Rattle.rgo_core_channels.proofs.Lists.{set_own}
 use Rattle.rgo_core_frames.specs.Actions.{after_action}
 use Rattle.rgo_core_frames.specs.Operands.{PointsTo}
-use Rattle.rgo_core_frames.specs.Records.{Rec as FrameRec}
 use Rattle.rgo_core_frames.specs.Steps.{HasInstruction}
 use Rattle.rgo_core_frames.specs.WordFrames.{word_at as word_of_frame}
 use Rattle.rgo_core_frames.specs.Words.{Shows}
@@ -46,11 +42,9 @@ use Rattle.rgo_core_memory.specs.Encoding.{address}
 use Rattle.rgo_core_memory.specs.Ground.{ground_of}
 use Rattle.rgo_core_memory.specs.Image.{Memory, code_of, word_at}
 use Rattle.rgo_core_memory.specs.Words.{base, variable_at}
-use Rattle.rgo_core_memory.specs.declared.layout.TableSizes.{TableSizes}
 use Rattle.rgo_core_memory.proofs.Frames.{content_below}
-use Rattle.rgo_core_memory.proofs.Rows.{at_set, below, set_else}
+use Rattle.rgo_core_memory.proofs.Rows.{at_set, set_else}
 use Rattle.rgo_core_memory.proofs.Steadies.{steady_of}
-use Rattle.rgo_core_memory.proofs.Stepped.{map_get}
 use Rattle.rgo_core_memory.proofs.Storing.{gets}
 use Rattle.rgo_core_memory.proofs.Typing.{get_law, len_law, load_law, loads_from, set_law, store_law, stores_to}
 use Rattle.rgo_core_memory.proofs.Writes.{in_pages}

@@ -1,19 +1,19 @@
 -- A step of one goroutine that changes no memory, by an access to a word before the cells.
-use Rattle.std.proofs.Common.{◌≡◌, ◌≢◌, ◌⊎◌, inl, inr, ⊎_elim, ℕ, zero, suc, ◌+◌, ◌<◌, ◌≤◌, Bool, true, false, List, [], ◌∷◌, ◌++◌, Option, Some, None, length, map, slice_get, slice_set, slice_index, refl, ap, sym, subst, ◌∙◌, arith}
+use Rattle.std.proofs.Common.{◌≡◌, inl, ℕ, ◌+◌, ◌<◌, ◌≤◌, true, List, Some, None, length, map, slice_get, slice_set, refl, ap, sym, subst, ◌∙◌, arith}
 use Rattle.std.proofs.Math.ListN.{length-set}
 use Rattle.std.proofs.lemmas.List.{append-nil}
 use Rattle.rgo_machine.specs.Limits.{deepest}
 use Rattle.rgo_memory.specs.Memory.{Memory as Heap}
 use Rattle.rgo_region_machine.specs.Counts.{Counts, counts_of}
 use Rattle.rgo_region_machine.specs.Machine.{Event, region_step}
-use Rattle.rgo_region_machine.specs.Objects.{may_touch, owner_live}
+use Rattle.rgo_region_machine.specs.Objects.{owner_live}
 use Rattle.rgo_region_machine.specs.Regions.{is_live}
 use Rattle.rgo_region_machine.specs.States.{RegionState}
 use Rattle.rgo_region_machine.specs.declared.regions.Region.{Region}
 use Rattle.rgo_sound.proofs.Places.{length_set}
 use Rattle.rgo_sound.specs.Leaving.{ActsAlone}
 use Rattle.rgo_sound.specs.Tally.{counts_plus}
-use Rattle.rgo_core_channels.specs.Channels.{Chan, Channels, On, channel}
+use Rattle.rgo_core_channels.specs.Channels.{Chan, Channels, On}
 use Rattle.rgo_core_channels.specs.Elsewhere.{IsMade, Leaves}
 use Rattle.rgo_core_channels.specs.Records.{at_rest}
 use Rattle.rgo_core_channels.proofs.Elsewhere.{event_keeps}

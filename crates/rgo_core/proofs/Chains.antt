@@ -1,9 +1,6 @@
 -- Accesses to chains of pages.
-use Rattle.std.proofs.Common.{◌≡◌, ◌≢◌, ◌⊎◌, inl, inr, ⊎_elim, ℕ, zero, suc, ◌+◌, ◌<◌, ◌≤◌, List, [], ◌∷◌, Some, length, map, drop, slice_get, slice_set, slice_index, refl, ap, sym, subst, ◌∙◌, arith}
-use Rattle.rgo_region_machine.specs.Counts.{Counts}
-use Rattle.rgo_region_machine.specs.States.{RegionState}
-use Rattle.rgo_core_channels.specs.Channels.{Chan, Channels, On, channel}
-use Rattle.rgo_core_channels.specs.Controls.{extent}
+use Rattle.std.proofs.Common.{◌≡◌, ◌⊎◌, inl, inr, ⊎_elim, ℕ, suc, ◌+◌, ◌<◌, ◌≤◌, List, [], ◌∷◌, map, drop, slice_set, slice_index, refl, ap, sym, subst, ◌∙◌, arith}
+use Rattle.rgo_core_channels.specs.Channels.{Chan, On, channel}
 use Rattle.rgo_core_channels.proofs.Lists.{set_own}
 use Rattle.rgo_core_channels.proofs.Quiet.{word_keeps}
 use mathlib.Core.Logic.{dite}
@@ -12,7 +9,7 @@ use Rattle.rgo_core_memory.specs.Ground.{Ground, Steady, ground_of}
 use Rattle.rgo_core_memory.specs.Image.{Image as MemoryImage, Memory, Where, code_of}
 use Rattle.rgo_core_memory.specs.Pages.{Chain, Chained, Free, Place, times}
 use Rattle.rgo_core_memory.specs.Parts.{Living, Use, Vacant}
-use Rattle.rgo_core_memory.specs.Records.{Calm, Claim, Claims, Closes, Gave, Give, Gives, Giving, Got, Has, Hung, Idle, Owes, Past, Rec as MemoryRec, with_claim, with_give}
+use Rattle.rgo_core_memory.specs.Records.{Calm, Claim, Claims, Closes, Gave, Give, Gives, Giving, Got, Has, Hung, Idle, Past, Rec as MemoryRec, with_claim, with_give}
 use Rattle.rgo_core_memory.specs.Words.{base, count_at, head_at, next_at, put, state_at}
 use Rattle.rgo_core_memory.specs.declared.layout.TableSizes.{TableSizes}
 use Rattle.rgo_core_memory.proofs.Chains.{times_else, times_first}
@@ -25,7 +22,7 @@ use Rattle.rgo_core.specs.Chains.{ClearMove, FreeMove, HangMove, HeadMove, LinkM
 use Rattle.rgo_core.specs.Core.{Here, Setup, layout}
 use Rattle.rgo_core.specs.Image.{Image, place_of}
 use Rattle.rgo_core.specs.Records.{ClockRec, Record, counted, memory_of, side_of}
-use Rattle.rgo_core.specs.Steps.{SameClock, Stays, Steps}
+use Rattle.rgo_core.specs.Steps.{Steps}
 use Rattle.rgo_core.proofs.Leaving.{channel_stands}
 use Rattle.rgo_core.proofs.Lift.{access_law}
 use Rattle.rgo_core.proofs.Parts.{I, frame_stays, image_with, is_memory, side_stays}

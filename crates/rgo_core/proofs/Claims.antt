@@ -1,15 +1,14 @@
 -- The exchange that claims a page.
-use Rattle.std.proofs.Common.{◌≡◌, ◌≢◌, ◌⊎◌, inl, inr, ⊎_elim, ℕ, zero, suc, ◌+◌, ◌<◌, ◌≤◌, ◌==◌, ◌&&◌, Bool, true, false, List, [], ◌∷◌, Option, Some, None, length, map, if◌then◌else◌, option_and_then, slice_get, slice_set, slice_index, refl, ap, sym, subst, ◌∙◌, arith}
+use Rattle.std.proofs.Common.{◌≡◌, ◌≢◌, inl, ℕ, zero, suc, ◌+◌, ◌<◌, ◌≤◌, ◌==◌, ◌&&◌, Bool, true, false, List, [], ◌∷◌, Option, Some, None, map, if◌then◌else◌, option_and_then, slice_get, slice_set, slice_index, refl, ap, sym, subst, ◌∙◌, arith}
 use Rattle.std.proofs.lemmas.Bool.Decides.{nat_tests}
 use Rattle.std.proofs.lemmas.Option.{same_Some}
-use Rattle.rgo_code.specs.Code.{CodeOp, Do}
-use Rattle.rgo_memory.specs.Memory.{Memory as Heap, Object}
-use Rattle.rgo_region_machine.specs.Counts.{counts_of}
+use Rattle.rgo_code.specs.Code.{Do}
+use Rattle.rgo_memory.specs.Memory.{Object}
 use Rattle.rgo_region_machine.specs.Duties.{may_go}
 use Rattle.rgo_region_machine.specs.Instructions.{has_none}
 use Rattle.rgo_region_machine.specs.Machine.{TakePage, next_object, page_for, page_taken, region_step, take_page, takes_page}
 use Rattle.rgo_region_machine.specs.Objects.{fill_of, making_region, wants_page, words as words_of}
-use Rattle.rgo_region_machine.specs.Owed.{function_at, function_of}
+use Rattle.rgo_region_machine.specs.Owed.{function_of}
 use Rattle.rgo_region_machine.specs.Regions.{RegionInfo, has_stakes, is_live, one_page_more, with_info}
 use Rattle.rgo_region_machine.specs.States.{Holder, RegionState, frames_in, frames_of, top_names}
 use Rattle.rgo_region_machine.specs.declared.regions.Region.{Region}
@@ -21,7 +20,6 @@ use Rattle.rgo_core_channels.specs.Records.{at_rest}
 use Rattle.rgo_core_frames.specs.Before.{IsBefore}
 use Rattle.rgo_core_frames.specs.Makes.{MakesAt}
 use Rattle.rgo_core_frames.specs.Pages.{TakesPage}
-use Rattle.rgo_core_frames.specs.Steps.{StaysElse}
 use Rattle.rgo_core_frames.proofs.Making.{region_law}
 use Rattle.rgo_core_frames.proofs.Paging.{page_law}
 use Rattle.rgo_core_memory.specs.Events.{MakesIn}
@@ -41,14 +39,14 @@ use Rattle.rgo_core.specs.Claims.{ClaimMove, claims}
 use Rattle.rgo_core.specs.Core.{Here, Setup, layout}
 use Rattle.rgo_core.specs.NewObjects.{MakesObject, slot_number}
 use Rattle.rgo_core.specs.Next.{IsAt}
-use Rattle.rgo_core.specs.Records.{Record, accesses, counted, frame_of, memory_of}
-use Rattle.rgo_core.specs.Steps.{Does, Steps}
+use Rattle.rgo_core.specs.Records.{Record, accesses, counted, memory_of}
+use Rattle.rgo_core.specs.Steps.{Steps}
 use Rattle.rgo_core.proofs.Attending.{MemoryStays, attends}
 use Rattle.rgo_core.proofs.Chains.{look_image, remembered}
 use Rattle.rgo_core.proofs.Lift.{access_law}
 use Rattle.rgo_core.proofs.MakesObject.{Made, at, b, made as it_makes}
 use Rattle.rgo_core.proofs.NewObjects.{slot_is}
-use Rattle.rgo_core.proofs.Parts.{I, frame_stays, is_frame, is_memory, shallow}
+use Rattle.rgo_core.proofs.Parts.{I, frame_stays, is_memory, shallow}
 
 plus_zero : (a b : ℕ) → a ≡ b → a ≡ b + 0
 plus_zero a b e = omega (arith, e)

@@ -1,5 +1,5 @@
 -- Prints, ends, loads of the clock and draws of numbers, as steps of the rule.
-use Rattle.std.proofs.Common.{◌≡◌, ◌≢◌, ◌⊎◌, inl, inr, ⊎_elim, ℕ, zero, suc, ◌+◌, ◌%◌, ◌^◌, ◌<◌, ◌≤◌, Bool, true, false, List, [], ◌∷◌, ◌++◌, Option, Some, None, length, map, slice_get, slice_set, slice_index, bit_or, refl, ap, sym, subst, ◌∙◌, arith, length-append}
+use Rattle.std.proofs.Common.{◌≡◌, ◌≢◌, inl, inr, ⊎_elim, ℕ, suc, ◌+◌, ◌%◌, ◌<◌, ◌≤◌, true, false, List, [], ◌∷◌, ◌++◌, Some, length, map, slice_get, slice_set, slice_index, bit_or, refl, ap, sym, subst, ◌∙◌, arith, length-append}
 use Rattle.std.proofs.Math.Nat.{mod-eq_of_lt}
 use Rattle.std.proofs.lemmas.List.{append-nil, length-map, map-append}
 use mathlib.Core.Logic.{dite}
@@ -10,17 +10,13 @@ use Rattle.rgo_core_frames.specs.Records.{Rec as FrameRec}
 use Rattle.rgo_core_frames.specs.States.{IsSound}
 use Rattle.rgo_core_memory.proofs.Rows.{at_set}
 use Rattle.rgo_core_memory.proofs.Stepped.{map_set}
-use Rattle.rgo_core_rule.specs.Steps.{Moved, MovedChild}
 use Rattle.rgo_machine.specs.Limits.{deepest, is_within, most_goroutines}
 use Rattle.rgo_region_machine.specs.Machine.{Event}
-use Rattle.rgo_region_machine.specs.States.{Mark, RegionState}
 use Rattle.rgo_sound.proofs.Places.{get_snoc, length_set}
-use Rattle.rgo_core.specs.ClockSteps.{EndLaw, Ends, HasEnded, LookLaw, NumberLaw, Prints, Starts, TicketLaw}
-use Rattle.rgo_core.specs.Core.{Core, CoreAt, Here, Setup, layout}
-use Rattle.rgo_core.specs.Image.{Image}
-use Rattle.rgo_core.specs.Records.{ClockRec, Record, accesses, blank, clock_of, counted, frame_of, looked, with_child, with_print, with_refusal}
+use Rattle.rgo_core.specs.ClockSteps.{EndLaw, Ends, LookLaw, NumberLaw, Prints, Starts, TicketLaw}
+use Rattle.rgo_core.specs.Core.{CoreAt, Here, Setup, layout}
+use Rattle.rgo_core.specs.Records.{ClockRec, Record, blank, clock_of, counted, frame_of, looked, with_child, with_refusal}
 use Rattle.rgo_core.specs.Story.{Story}
-use Rattle.rgo_core.proofs.Counting.{plus_none}
 use Rattle.rgo_core.proofs.Lift.{all_within, clock_at, few_records, shallow_here, stays_core, within_set}
 use Rattle.rgo_core.proofs.Lists.{get_of, set_own}
 use Rattle.rgo_core.proofs.Numbers.{drawn_low}

@@ -1,9 +1,8 @@
 -- Ints that memory holds are of 64 bits.
-use Rattle.std.proofs.Common.{◌≡◌, ℕ, ℤ, zero, suc, pos, List, [], ◌∷◌, Option, Some, None, length, slice_get, FitsSigned, subst}
+use Rattle.std.proofs.Common.{◌≡◌, ℕ, ℤ, zero, suc, pos, Some, length, slice_get, FitsSigned, subst}
 use Rattle.std.proofs.lemmas.Option.{same_Some}
 use Rattle.std.specs.Int.{w64}
 use Rattle.rgo_memory.specs.Memory.{Channel, Object, SliceObject, StructObject}
-use Rattle.rgo_memory.specs.declared.values.Value.{Value}
 use Rattle.rgo_memory.specs.declared.values.Value.TheVariants as value
 use Rattle.rgo_sound.proofs.Places.{each_get}
 use Rattle.rgo_core_frames.specs.Ints.{IntFits, ObjectIntsFit}

@@ -1,5 +1,5 @@
 -- Two rows of words that share none.
-use Rattle.std.proofs.Common.{◌≡◌, ◌≢◌, ◌⊎◌, ℕ, zero, suc, ◌+◌, ◌-◌, ◌<◌, ◌≤◌, inl, inr, ⊎_elim, arith}
+use Rattle.std.proofs.Common.{◌≢◌, ◌⊎◌, ℕ, zero, suc, ◌+◌, ◌-◌, ◌<◌, ◌≤◌, inl, inr, ⊎_elim, arith}
 
 pub order : (m n : ℕ) → (m < n) ⊎ (n ≤ m)
 order m zero = inr (omega arith)

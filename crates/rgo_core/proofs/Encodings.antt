@@ -1,18 +1,17 @@
 -- One encoding of values: the word that shows a value is the one that encodes it. Pointers to objects that were made are
 -- encoded as before when an object more has been placed.
-use Rattle.std.proofs.Common.{◌≡◌, ℕ, zero, suc, ◌+◌, ◌*◌, ◌<◌, ◌^◌, FitsSigned, ℤ, pos, List, [], ◌∷◌, length, Some, Option, None}
-use Rattle.std.proofs.Common.{slice_get, refl, ap, sym, subst, ◌∙◌, arith, w64, map}
-use Rattle.std.specs.Int.{cast_signed, cast_unsigned, from_bool}
+use Rattle.std.proofs.Common.{◌≡◌, ℕ, suc, ◌+◌, ◌*◌, ◌<◌, ◌^◌, FitsSigned, ℤ, pos, List, [], ◌∷◌, length, Some}
+use Rattle.std.proofs.Common.{slice_get, refl, ap, sym, subst, ◌∙◌, arith, w64}
+use Rattle.std.specs.Int.{cast_signed, cast_unsigned}
 use Rattle.std.proofs.lemmas.Int.{of_z-to_z}
 use mir.ValLaws as laws
 use Rattle.rgo_memory.specs.declared.values.Value.{Value}
 use Rattle.rgo_memory.specs.declared.values.Value.TheVariants as value
 use Rattle.rgo_code.specs.Checked.{IsChecked}
-use Rattle.rgo_code.specs.Code.{Code, CodeFn, Do}
+use Rattle.rgo_code.specs.Code.{Code, Do}
 use Rattle.rgo_code.specs.Erasure.{erased, erased_fn, erased_op}
 use Rattle.rgo_code.specs.Types.{OpFits}
 use Rattle.rgo_region_machine.specs.States.{RegionState}
-use Rattle.rgo_region_machine.specs.declared.regions.Region.{Region}
 use Rattle.rgo_memory.specs.Memory.{Object}
 use Rattle.rgo_sound.proofs.Places.{each_get, get_some}
 use Rattle.rgo_sound.proofs.TypedSteps.{types, vars_kinds}

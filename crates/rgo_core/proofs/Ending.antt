@@ -1,29 +1,40 @@
 -- A run is ended for want of room, or by a limit.
-use Rattle.std.proofs.Common.{◌≡◌, ℕ, zero, suc, ◌+◌, ◌<◌, ◌≤◌, List, [], ◌∷◌, Option, Some, None, length, map, slice_get, slice_set, slice_index, bit_or, refl, ap, sym, subst, ◌∙◌, arith}
-use Rattle.std.proofs.lemmas.Option.{same_Some}
+use Rattle.std.proofs.Common.{◌≡◌, ℕ, ◌+◌, true, option_map, List, ◌∷◌, Option, Some, None, length, map, slice_get, slice_set, slice_index, bit_or, refl, ap, sym, subst, ◌∙◌, arith}
+use Rattle.std.proofs.lemmas.List.{length-map}
+use Rattle.std.proofs.lemmas.Option.{same_Some, slice_get-map}
+use Rattle.rgo_code.specs.Code.{Call, Code, CodeFn, CodeInstr, CodeOp, Go}
+use Rattle.rgo_code.specs.Erasure.{erased, erased_fn, erased_instr, erased_op}
 use Rattle.rgo_core_channels.proofs.Quiet.{finish_keeps}
 use Rattle.rgo_core_channels.specs.Channels.{Channels}
-use Rattle.rgo_core_channels.specs.Records.{Rec as SideRec}
 use Rattle.rgo_core_frames.proofs.Ending.{finish_law}
 use Rattle.rgo_core_frames.proofs.Sound.{next_sound}
 use Rattle.rgo_core_memory.proofs.Elsewhere.{ground_keeps}
 use Rattle.rgo_core_memory.specs.Ground.{ground_of}
 use Rattle.rgo_core_memory.specs.Image.{code_of}
+use Rattle.rgo_machine.specs.Limits.{IsAtCall, IsAtStart, deepest}
+use Rattle.rgo_machine.specs.Machines.{AtCall, AtStart}
 use Rattle.rgo_region_machine.specs.Machine.{Finish, finished, kept}
+use Rattle.rgo_region_machine.specs.Owed.{current, function_of}
 use Rattle.rgo_region_machine.specs.States.{Mark, RegionState, Stopped}
 use Rattle.rgo_region_machine.specs.declared.limits.Limit.{Limit}
+use Rattle.rgo_region_machine.specs.declared.limits.Limit.TheVariants.{Calls, Goroutines}
+use Rattle.rgo_sound.proofs.OneStep.{current_erased}
 use Rattle.rgo_sound.specs.Tally.{no_share}
+use Rattle.rgo_tac.specs.Frames.{Frame, moved_to, values_of}
+use Rattle.rgo_tac.specs.Steps.{at_function, stand, stand_at, stand_before}
+use Rattle.rgo_tac.specs.declared.regions.Class.{Class}
 use Rattle.rgo_core.specs.Causes.{Stops}
 use Rattle.rgo_core.specs.ClockSteps.{Ends, first_mark}
 use Rattle.rgo_core.specs.Core.{Here, Setup, layout}
 use Rattle.rgo_core.specs.Image.{Image, place_of}
-use Rattle.rgo_core.specs.Laws.{StopMove}
-use Rattle.rgo_core.specs.Records.{Record, counted, frame_of, memory_of, side_of, with_end}
+use Rattle.rgo_core.specs.Laws.{CallsMove, FullMove, StopMove}
+use Rattle.rgo_core.specs.Next.{IsAt}
+use Rattle.rgo_core.specs.Records.{Record, clock_of, counted, frame_of, memory_of, side_of, with_end}
 use Rattle.rgo_core.proofs.ClockLifts.{end_law}
 use Rattle.rgo_core.proofs.Counting.{plus_none}
-use Rattle.rgo_core.proofs.Lift.{many_set, shallow_here}
+use Rattle.rgo_core.proofs.Lift.{as_long, clock_at, many, many_set, shallow_here}
 use Rattle.rgo_core.proofs.Printing.{counts_step}
-use Rattle.rgo_core.proofs.Standing.{frame_at, frames_here, image_clock, image_same}
+use Rattle.rgo_core.proofs.Standing.{at_instruction, frame_at, frames_here, image_clock, image_same}
 
 kept_is : (m : Option Mark) (why : Limit) → kept m why ≡ first_mark m (Stopped why)
 kept_is None why = refl
@@ -71,3 +82,57 @@ stop_move T g c why stops =
     end_law T g c (Stopped why) (λ n. record c { clock = with_end c.clock n (Stopped why) })
     (λ n. record { prints = refl; first = refl; children = refl; refused = refl; accesses = refl })
     (λ x fits. ends x why (stops x))
+
+-- ---- limits that the record tells
+
+-- where a frame stands at an instruction
+stands : (code : Code) (frame : Frame) (instr : CodeInstr) → current code frame ≡ Some instr
+    → stand (erased code) frame ≡ stand_before (erased code) frame (erased_op instr.op) instr.place
+stands code frame instr cur = ap (stand_at (erased code) frame) (current_erased code frame ∙ ap (option_map erased_instr) cur)
+
+there : (code : Code) (f : ℕ) (callee : CodeFn) → function_of code f ≡ Some callee → slice_get (erased code).functions f ≡ Some (erased_fn callee)
+there code f callee is = slice_get-map erased_fn code.functions f ∙ ap (option_map erased_fn) is
+
+module _ {T : Setup} {g : ℕ} {c : Record} (x : Here T g c) (f : ℕ) (callee : CodeFn) (from : List ℕ) (passes : List Class) (removes : List ℕ)
+    (is : function_of T.code f ≡ Some callee) where
+  too_deep : (to : Option ℕ) (protects : List ℕ) → IsAt T.code c (Call to f from passes protects removes) → length c.frame.frames ≡ deepest
+      → Stops T.code T.sizes T.limits Calls x.s
+  too_deep to protects a deep =
+      let b = (at_instruction x a).before in
+      record {
+        goroutine = g;
+        frame = b.frame;
+        callers = b.callers;
+        frames = b.at;
+        deep = as_long T.code x.core.image.places.slot x.core.image.addresses x.s (map frame_of x.recs) x.core.image.frames g c.frame (b.frame ∷ b.callers) (frame_at x) b.at ∙ deep;
+        calls = subst IsAtCall
+            (sym (stands T.code b.frame a.instr b.cur
+            ∙ (ap (λ (op : CodeOp). stand_before (erased T.code) b.frame (erased_op op) a.instr.place) a.is
+            ∙ ap (at_function (AtCall b.frame) f (values_of b.frame from)) (there T.code f callee is)))) tt;
+      }
+
+  no_more : IsAt T.code c (Go f from passes removes) → c.clock.refused ≡ true → Stops T.code T.sizes T.limits Goroutines x.s
+  no_more a refused =
+      let b = (at_instruction x a).before in
+      let k = x.core.story.numbers in
+      record {
+        full =
+            many T.code x.core.image.places.slot x.core.image.addresses x.s (map frame_of x.recs) x.core.sound x.core.image.frames
+            ∙ (length-map x.recs frame_of ∙ (sym (length-map x.recs clock_of) ∙ k.high (k.full g c.clock (clock_at x) refused)));
+        goroutine = g;
+        frame = b.frame;
+        callers = b.callers;
+        frames = b.at;
+        starts = subst IsAtStart
+            (sym (stands T.code b.frame a.instr b.cur
+            ∙ (ap (λ (op : CodeOp). stand_before (erased T.code) b.frame (erased_op op) a.instr.place) a.is
+            ∙ ap (at_function (AtStart (moved_to b.frame (b.frame.next + 1))) f (values_of b.frame from)) (there T.code f callee is)))) tt;
+      }
+
+pub calls_move : CallsMove
+calls_move T g c to f callee from passes protects removes a is deep =
+    stop_move T g c Calls (λ x. too_deep x f callee from passes removes is to protects a deep)
+
+pub full_move : FullMove
+full_move T g c f callee from passes removes a is refused =
+    stop_move T g c Goroutines (λ x. no_more x f callee from passes removes is a refused)

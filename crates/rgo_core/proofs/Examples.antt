@@ -1,15 +1,20 @@
 -- The examples.
-use Rattle.std.proofs.Common.{◌≡◌, ℕ, zero, suc, ◌+◌, ◌<◌, ◌≤◌, ◌==◌, nat_le, Bool, true, false, List, [], ◌∷◌, ◌++◌, Option, Some, None, length, slice_get, slice_index, sum_by, refl, ap, sym, subst, ◌∙◌, arith}
+use Rattle.std.proofs.Common.{◌≡◌, ℕ, zero, suc, ◌+◌, ◌<◌, ◌≤◌, ◌==◌, nat_le, true, false, List, [], ◌∷◌, ◌++◌, Option, Some, None, length, slice_get, slice_set, slice_index, sum_by, refl, ap, sym, subst, ◌∙◌, arith}
 use Rattle.std.proofs.lemmas.Bool.Decides.{nat_tests}
 use Rattle.std.proofs.lemmas.Option.{same_Some}
 use Rattle.rgo_code.specs.Code.{Code}
-use Rattle.rgo_region_machine.specs.States.{Ended, Holder, Mark, RegionState, Stopped}
+use Rattle.rgo_region_machine.specs.States.{Ended, Holder, Mark, RegionState}
 use Rattle.rgo_machine.specs.declared.picks.End.TheVariants.{Exit}
 use Rattle.rgo_core.specs.Clock.{Clock, has_ticket}
-use Rattle.rgo_core.specs.Examples.{CauseExamples, ClockExamples, NumberExamples, ended_then_printed, having_printed, late_mark, parent_and_child, second_then_first}
+use Rattle.rgo_core.specs.Examples.{CauseExamples, ClockExamples, CoreExamples, NumberExamples, ended_then_printed, having_printed, late_mark, parent_and_child, second_then_first}
 use Rattle.rgo_core.specs.Numbers.{Numbers, has_child}
-use Rattle.rgo_core.proofs.Lists.{cond_other, one_if}
-use Rattle.rgo_core.specs.Records.{ClockRec, Drawn, blank, drawn_at, fresh, with_child, with_end, with_print, with_refusal}
+use Rattle.rgo_core.proofs.Lists.{cond_other, one_if, word_new}
+use Rattle.rgo_core.proofs.Opening.{at_least_one, made_word}
+use Rattle.rgo_core.specs.Core.{layout}
+use Rattle.rgo_core.specs.Opening.{opening}
+use Rattle.rgo_machine.specs.Limits.{most_goroutines}
+use Rattle.rgo_sound.proofs.Places.{length_set}
+use Rattle.rgo_core.specs.Records.{ClockRec, Drawn, blank, drawn_at, end_bit, fresh, with_child, with_end, with_print, with_refusal}
 
 -- what holds of both goroutines
 each_of_two : (a b : ClockRec) (P : ℕ → ClockRec → Type 0) → P 0 a → P 1 b → (g : ℕ) (c : ClockRec) → slice_get (a ∷ b ∷ []) g ≡ Some c → P g c
@@ -185,3 +190,26 @@ cause_examples = record {
   where
     nobody : (s : RegionState) → s.holders ≡ [] → (g : ℕ) (h : Holder) → slice_get s.holders g ≡ Some h → ⊥
     nobody s none g h e = let z : None ≡ Some h = sym (ap (λ (l : List Holder). slice_get l g) none) ∙ e in cc z
+
+pub core_examples : CoreExamples
+core_examples = record {
+  nobody = λ T events k.
+      let l = k.1.story.numbers.low in
+      let h = k.1.story.numbers.high in
+      let m = made_word (layout T) in
+      let p = at_least_one T.limits.goroutines in
+      no_numbers (most_goroutines T.limits) (slice_index (opening T) 16) m p l h;
+  drawn = λ T events k.
+      let a : 0 ≡ length (k.1.story.before ++ k.1.story.late) = k.1.story.clock.amount in
+      let w = k.1.image.memory.shows.wide in
+      let n = length_set (opening T) 0 1 in
+      let one : slice_index (slice_set (opening T) 0 1) 0 ≡ 1 = word_new (opening T) 0 1 (omega arith) in
+      no_bit k.0.mark (length (k.1.story.before ++ k.1.story.late)) (sym a) (sym one ∙ k.1.story.clock.shows);
+}
+  where
+    no_numbers : (limit drawn : ℕ) → drawn ≡ 1 → 0 < limit → (drawn ≤ limit → 0 ≡ drawn) → (limit ≤ drawn → 0 ≡ limit) → ⊥
+    no_numbers limit drawn is some low high = let z = low (omega arith) in omega arith
+
+    no_bit : (m : Option Mark) (n : ℕ) → n ≡ 0 → 1 ≡ n + end_bit m → ⊥
+    no_bit None n z e = omega arith
+    no_bit (Some m) n z e = omega arith

@@ -1,5 +1,5 @@
 -- From a step at a state to a step of the rule.
-use Rattle.std.proofs.Common.{◌≡◌, ◌≢◌, ◌⊎◌, inl, inr, ⊎_elim, ℕ, zero, suc, ◌+◌, ◌<◌, ◌≤◌, nat_le, ◌&&◌, Bool, true, false, List, [], ◌∷◌, ◌++◌, Option, Some, None, length, map, slice_get, slice_set, slice_index, refl, ap, sym, subst, ◌∙◌, arith}
+use Rattle.std.proofs.Common.{◌≡◌, ◌≢◌, ⊎_elim, ℕ, zero, suc, ◌≤◌, nat_le, ◌&&◌, Bool, true, false, List, [], ◌∷◌, ◌++◌, Some, length, map, slice_get, slice_set, slice_index, refl, ap, sym, subst, ◌∙◌, arith}
 use Rattle.std.proofs.lemmas.Bool.Decides.{nat_tests}
 use Rattle.std.proofs.lemmas.List.{append-nil, length-map}
 use Rattle.std.proofs.lemmas.Option.{same_Some, slice_get_within}
@@ -14,17 +14,16 @@ use Rattle.rgo_core_frames.specs.States.{IsSound}
 use Rattle.rgo_core_frames.specs.WordFrames.{WordFrame}
 use Rattle.rgo_core_memory.proofs.Rows.{at_set}
 use Rattle.rgo_core_memory.proofs.Stepped.{map_get, map_set}
-use Rattle.rgo_core_rule.specs.Steps.{Moved}
 use Rattle.rgo_machine.specs.Limits.{deepest, has_room, is_within, most_goroutines}
 use Rattle.rgo_machine.specs.declared.limits.Limits.{Limits}
 use Rattle.rgo_region_machine.specs.Machine.{Event}
 use Rattle.rgo_region_machine.specs.States.{RegionState}
 use Rattle.rgo_sound.proofs.Places.{get_some, length_set}
 use Rattle.rgo_tac.specs.Frames.{Frame}
-use Rattle.rgo_core.specs.Core.{Core, CoreAt, Here, Setup, layout}
+use Rattle.rgo_core.specs.Core.{CoreAt, Here, Setup, layout}
 use Rattle.rgo_core.specs.Image.{Image}
-use Rattle.rgo_core.specs.Records.{ClockRec, Record, accesses, clock_of, frame_of}
-use Rattle.rgo_core.specs.Steps.{AccessLaw, Does, Goes, IsStill, Moves, QuietLaw, Stays, Steps}
+use Rattle.rgo_core.specs.Records.{ClockRec, Record, clock_of, frame_of}
+use Rattle.rgo_core.specs.Steps.{AccessLaw, Does, QuietLaw, Stays}
 use Rattle.rgo_core.specs.Story.{Story}
 use Rattle.rgo_core.proofs.Lists.{get_of, word_same}
 use Rattle.rgo_core.proofs.Stories.{few, story_does, story_stays}

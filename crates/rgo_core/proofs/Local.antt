@@ -1,8 +1,8 @@
 -- A local instruction or duty of the record is one of the region machine, and needs no access.
-use Rattle.std.proofs.Common.{◌≡◌, ◌⊎◌, inl, inr, ⊎_elim, ℕ, zero, suc, ◌+◌, ◌<◌, ◌≤◌, Bool, true, false, List, [], ◌∷◌, ◌++◌, Option, Some, None, if◌then◌else◌, option_map, option_and_then, length, map, slice_get, slice_set, slice_index, refl, ap, sym, subst, ◌∙◌, arith}
+use Rattle.std.proofs.Common.{◌≡◌, inr, ℕ, zero, suc, ◌+◌, ◌≤◌, Bool, true, false, List, [], ◌∷◌, Option, Some, None, if◌then◌else◌, option_map, option_and_then, length, map, slice_get, slice_set, slice_index, bit_or, refl, ap, sym, subst, ◌∙◌, arith}
 use Rattle.std.proofs.lemmas.Option.{same_Some}
 use Rattle.rgo_code.specs.Code.{Branch, Call, Code, CodeInstr, CodeOp, Do, Go, Jump, Print, Return}
-use Rattle.rgo_core_channels.specs.Records.{Nowhere, Post, Rec as SideRec, at_rest}
+use Rattle.rgo_core_channels.specs.Records.{Rec as SideRec, at_rest}
 use Rattle.rgo_core_frames.proofs.Before.{before_law}
 use Rattle.rgo_core_frames.proofs.Leaving.{mark_stays}
 use Rattle.rgo_core_frames.proofs.LocalSteps.{local_law}
@@ -11,33 +11,36 @@ use Rattle.rgo_core_frames.specs.Local.{local, local_by, local_frames, local_ins
 use Rattle.rgo_core_frames.specs.LocalLaws.{end_by_frames, end_of, event_by, event_of}
 use Rattle.rgo_core_frames.specs.Quiet.{is_exit, quiet, unless_exit}
 use Rattle.rgo_core_frames.specs.Records.{Rec as FrameRec, after_op}
-use Rattle.rgo_core_frames.specs.Steps.{HasStep, StepsTo, steps_after}
+use Rattle.rgo_core_frames.specs.Steps.{StepsTo, steps_after}
 use Rattle.rgo_core_frames.specs.WordFrames.{WordFrame, bare}
 use Rattle.rgo_core_memory.proofs.Elsewhere.{ground_keeps}
 use Rattle.rgo_core_memory.proofs.Quiets.{quiet_keeps}
 use Rattle.rgo_core_memory.specs.Image.{Memory}
 use Rattle.rgo_core_memory.specs.Quiet.{IsGo}
 use Rattle.rgo_machine.specs.Limits.{deepest}
-use Rattle.rgo_machine.specs.declared.picks.End.{End}
+use Rattle.rgo_machine.specs.declared.picks.End.TheVariants.{Exit}
 use Rattle.rgo_machine.specs.declared.picks.Pick.TheVariants.{One}
-use Rattle.rgo_region_machine.specs.Counts.{Counts, counts_of}
+use Rattle.rgo_region_machine.specs.Counts.{counts_of}
 use Rattle.rgo_region_machine.specs.Duties.{may_go}
 use Rattle.rgo_region_machine.specs.Instructions.{marked}
-use Rattle.rgo_region_machine.specs.Machine.{Attend, Event, Instruct, region_step}
+use Rattle.rgo_region_machine.specs.Machine.{Instruct, region_step}
 use Rattle.rgo_region_machine.specs.Owed.{current}
-use Rattle.rgo_region_machine.specs.States.{Duty, Holder, NoOffer, Offer, RegionState}
+use Rattle.rgo_region_machine.specs.States.{Duty, Ended, Holder, Mark, RegionState}
 use Rattle.rgo_sound.specs.Leaving.{ActsAlone}
 use Rattle.rgo_sound.specs.Tally.{counts_plus, no_share}
 use Rattle.rgo_tac.specs.Frames.{Frame}
 use Rattle.rgo_core.specs.Core.{Here, Setup, layout}
-use Rattle.rgo_core.specs.Laws.{LocalStill, clock_after}
-use Rattle.rgo_core.specs.Records.{ClockRec, Record, counted, frame_of, instructed, memory_of}
+use Rattle.rgo_core.specs.ClockSteps.{Ends, first_mark}
+use Rattle.rgo_core.specs.Image.{Image}
+use Rattle.rgo_core.specs.Laws.{ExitMove, LocalStill, clock_after}
+use Rattle.rgo_core.specs.Records.{ClockRec, Record, counted, frame_of, instructed, memory_of, with_end}
 use Rattle.rgo_core.specs.Steps.{Does, SameClock}
+use Rattle.rgo_core.proofs.ClockLifts.{end_law}
 use Rattle.rgo_core.proofs.Counting.{plus_none}
 use Rattle.rgo_core.proofs.Duties.{duty_ground}
 use Rattle.rgo_core.proofs.Lift.{many_set, quiet_law}
 use Rattle.rgo_core.proofs.Printing.{counts_step, instructed_counts}
-use Rattle.rgo_core.proofs.Standing.{frame_at, frames_here, side_at}
+use Rattle.rgo_core.proofs.Standing.{frames_here, image_clock, side_at}
 use Rattle.rgo_core.proofs.Staying.{image_stays}
 
 -- ---- what a quiet step of a record is
@@ -58,6 +61,20 @@ no_end zero [] [] e = cc
 no_end zero [] (w ∷ ws) e = refl
 no_end zero (d ∷ ds) ws e = refl
 no_end (suc g) ds ws e = refl
+
+some_end : (g : ℕ) (ws : List WordFrame) → is_exit g ws ≡ true → end_by_frames g [] ws ≡ Some Exit
+some_end zero [] e = refl
+some_end zero (w ∷ ws) e = cc
+some_end (suc g) ws e = cc
+
+exit_short : (g : ℕ) (ws : List WordFrame) → is_exit g ws ≡ true → length ws ≡ 0
+exit_short zero [] e = refl
+exit_short zero (w ∷ ws) e = cc
+exit_short (suc g) ws e = cc
+
+marked_exit : (m : Option Mark) → marked m (Some Exit) ≡ first_mark m (Ended Exit)
+marked_exit None = refl
+marked_exit (Some m) = refl
 
 -- which instruction it is: none that starts a goroutine
 pub record IsLocal (code : Code) (c : FrameRec) : Type 0 where
@@ -148,33 +165,68 @@ module _ {T : Setup} {g : ℕ} {c : Record} (x : Here T g c) (rest : c.side ≡ 
   abbrev ds : List Duty
   ds = c.frame.holder.duties
 
-  abbrev d : Record
-  d = record c { clock = clock_after ds c.clock; frame = e }
+  -- the record after it, with this for the clock
+  abbrev after : ClockRec → Record
+  after clock = record c { clock = clock; frame = e }
 
-  pub local_does : is_exit g e.frames ≡ false → length e.frames ≤ deepest → Does x x.words d
-  local_does stays short =
-      let p = local_law (frames_here x) e x.core.constants loc in
-      let memory = shown ds refl p.state p.steps p.same.memory p.same.owners p.regions_are p.same.global_pages in
-      let image = image_stays x (event_of g c.frame) p.state p.steps (alone_by g ds) rest p.same.memory p.same.owners p.regions_are d refl refl p.fit memory in
+  abbrev p : StepsTo (frames_here x) (event_of g c.frame) x.s.regions (marked x.s.mark (end_of g c.frame e)) (slice_set (map frame_of x.recs) g e)
+  p = local_law (frames_here x) e x.core.constants loc
+
+  local_image : (clock : ClockRec) → Image T.code (layout T) x.words (slice_set x.recs g (after clock)) p.state
+  local_image clock =
+      image_stays x (event_of g c.frame) p.state p.steps (alone_by g ds) rest p.same.memory p.same.owners p.regions_are (after clock) refl refl p.fit
+      (shown ds refl p.state p.steps p.same.memory p.same.owners p.regions_are p.same.global_pages)
+
+  local_adds : counts_of p.state ≡ counts_plus (counts_of x.s) (record no_share { steps = instructions ds })
+  local_adds =
       let sound = next_sound T.code T.sizes.page_words x.s p.state (event_of g c.frame) x.core.sound p.steps in
-      record {
-        goes = record {
-          event = event_of g c.frame;
-          next = p.state;
-          steps = p.steps;
-          gain = record no_share { steps = instructions ds };
-          adds = counts_step x.s p.state (instructions ds) p.regions_are p.same.global_pages p.same.memory (many_set x x.words d p.state sound image)
-              (p.counted ∙ counted_by g x.s.steps ds);
-          counted = record_counts ds c.clock;
-          shallow = short;
-          image = image;
-        };
-        mark = p.mark_is ∙ (ap (marked x.s.mark) (no_end g ds e.frames stays) ∙ mark_stays x.s.mark);
-        printed = p.same.printed;
-        same = same_clock ds c.clock;
-      }
+      counts_step x.s p.state (instructions ds) p.regions_are p.same.global_pages p.same.memory (many_set x x.words (after c.clock) p.state sound (local_image c.clock))
+      (p.counted ∙ counted_by g x.s.steps ds)
+
+  pub local_does : is_exit g e.frames ≡ false → length e.frames ≤ deepest → Does x x.words (after (clock_after ds c.clock))
+  local_does stays short = record {
+    goes = record {
+      event = event_of g c.frame;
+      next = p.state;
+      steps = p.steps;
+      gain = record no_share { steps = instructions ds };
+      adds = local_adds;
+      counted = record_counts ds c.clock;
+      shallow = short;
+      image = local_image (clock_after ds c.clock);
+    };
+    mark = p.mark_is ∙ (ap (marked x.s.mark) (no_end g ds e.frames stays) ∙ mark_stays x.s.mark);
+    printed = p.same.printed;
+    same = same_clock ds c.clock;
+  }
+
+  -- the return of `main`
+  pub exit_ends : ds ≡ [] → is_exit g e.frames ≡ true → Ends x (Ended Exit) (after (with_end (instructed c.clock) (slice_index x.words 0) (Ended Exit)))
+  exit_ends none exits = record {
+    goes = record {
+      event = event_of g c.frame;
+      next = p.state;
+      steps = p.steps;
+      gain = record no_share { steps = instructions ds };
+      adds = local_adds;
+      counted = ap (λ (l : List Duty). counted (clock_after l c.clock)) (sym none) ∙ record_counts ds c.clock;
+      shallow = let z = exit_short g e.frames exits in omega arith;
+      image = image_clock T.code (layout T) x.words (slice_set x.recs g (after (with_end (instructed c.clock) (slice_index x.words 0) (Ended Exit)))) p.state
+          (bit_or (slice_index x.words 0) 9223372036854775808) (local_image (with_end (instructed c.clock) (slice_index x.words 0) (Ended Exit)));
+    };
+    marked = p.mark_is ∙ (ap (λ (l : List Duty). marked x.s.mark (end_by_frames g l e.frames)) none
+        ∙ (ap (marked x.s.mark) (some_end g e.frames exits) ∙ marked_exit x.s.mark));
+    printed = p.same.printed;
+    cause = λ q. tt;
+  }
 
 pub local_still : LocalStill
 local_still T g c e rest q short =
     let l = quiet_is T.code g c.frame e q in
     quiet_law T g c (record c { clock = clock_after c.frame.holder.duties c.clock; frame = e }) (λ x. local_does x rest e l.0 l.1 short)
+
+pub exit_move : ExitMove
+exit_move T g c e rest none loc exits =
+    end_law T g c (Ended Exit) (λ n. record c { clock = with_end (instructed c.clock) n (Ended Exit); frame = e })
+    (λ n. record { prints = refl; first = refl; children = refl; refused = refl; accesses = refl })
+    (λ x fits. exit_ends x rest e loc none exits)

@@ -1,12 +1,11 @@
 -- What the object that a record makes next says of the region machine.
-use Rattle.std.proofs.Common.{◌≡◌, ◌⊎◌, inl, inr, ⊎_elim, ℕ, zero, suc, ◌<◌, ◌^◌, Bool, true, false, pos, List, [], ◌∷◌, Option, Some, None, map, replicate, slice_get, refl, ap, sym, subst, ◌∙◌, arith, Contains}
-use Rattle.std.proofs.lemmas.Option.{same_Some}
+use Rattle.std.proofs.Common.{◌≡◌, inl, inr, ℕ, ◌<◌, ◌^◌, false, pos, List, [], ◌∷◌, Option, Some, None, map, replicate, slice_get, refl, ap, sym, subst, ◌∙◌, arith, Contains}
 use Rattle.std.specs.Int.{cast_signed, w64}
-use Rattle.rgo_code.specs.Code.{Code, CodeFn, CodeInstr, CodeOp, Do}
+use Rattle.rgo_code.specs.Code.{CodeOp, Do}
 use Rattle.rgo_code.specs.Erasure.{erased, erased_fn, erased_op}
 use Rattle.rgo_code.specs.Types.{DoFits, HasType, HaveTypes, OpFits}
 use Rattle.rgo_memory.specs.Making.{made as made_effect, made_struct}
-use Rattle.rgo_memory.specs.Memory.{Channel, Memory as Heap, Object, SliceObject, StructObject}
+use Rattle.rgo_memory.specs.Memory.{Memory as Heap, Object, SliceObject, StructObject}
 use Rattle.rgo_memory.specs.Values.{element_zero, zero_of}
 use Rattle.rgo_memory.specs.declared.values.Value.{Value}
 use Rattle.rgo_memory.specs.declared.values.Value.TheVariants as value
@@ -35,7 +34,7 @@ use Rattle.rgo_core_frames.specs.WordFrames.{WordFrame, bare, word_at}
 use Rattle.rgo_core_frames.proofs.Operands.{int_law}
 use Rattle.rgo_core_memory.specs.Accesses.{Before}
 use Rattle.rgo_core_memory.specs.Allocations.{MakesNext}
-use Rattle.rgo_core.specs.Core.{Here, Setup, layout}
+use Rattle.rgo_core.specs.Core.{Here, Setup}
 use Rattle.rgo_core.specs.Next.{IsAt}
 use Rattle.rgo_core.specs.NewObjects.{MakesObject, AStruct, ASlice, AChannel}
 use Rattle.rgo_core.specs.Records.{Record}

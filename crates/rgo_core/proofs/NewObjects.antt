@@ -1,34 +1,31 @@
 -- The last store of a new object's words is the instruction that makes it.
-use Rattle.std.proofs.Common.{◌≡◌, ◌≢◌, ◌⊎◌, inl, inr, ⊎_elim, ℕ, zero, suc, ◌+◌, ◌*◌, ◌<◌, ◌≤◌, Bool, true, false, pos, List, [], ◌∷◌, ◌++◌, Option, Some, None, length, map, set, replicate, nat_le, if◌then◌else◌, slice_get, slice_set, slice_index, refl, ap, sym, subst, ◌∙◌, arith}
+use Rattle.std.proofs.Common.{◌≡◌, ◌⊎◌, inl, inr, ⊎_elim, ℕ, suc, ◌+◌, ◌*◌, ◌<◌, ◌≤◌, Bool, true, false, List, [], ◌∷◌, ◌++◌, Option, Some, None, length, map, set, nat_le, if◌then◌else◌, slice_get, slice_set, slice_index, refl, ap, sym, subst, ◌∙◌, arith}
 use Rattle.std.proofs.Math.ListN.{length-set}
 use Rattle.std.proofs.lemmas.Bool.Decides.{nat_tests}
 use Rattle.std.proofs.lemmas.List.{append-nil, length-append}
 use Rattle.std.proofs.lemmas.Option.{same_Some}
-use Rattle.std.specs.Int.{w64, cast_unsigned}
-use Rattle.rgo_code.specs.Code.{CodeOp, Do}
+use Rattle.rgo_code.specs.Code.{Do}
 use Rattle.rgo_machine.specs.declared.picks.Pick.TheVariants.{One}
 use Rattle.rgo_memory.specs.Memory.{Channel, Memory as Heap, Object, SliceObject, StructObject}
 use Rattle.rgo_memory.specs.declared.values.Value.{Value}
 use Rattle.rgo_memory.specs.declared.values.Value.TheVariants as value
 use Rattle.rgo_region_machine.specs.Machine.{Instruct}
-use Rattle.rgo_region_machine.specs.Objects.{allotted, fill_of, making_region, may_touch, placed, with_fill, words as words_of}
+use Rattle.rgo_region_machine.specs.Objects.{allotted, fill_of, making_region, placed, with_fill, words as words_of}
 use Rattle.rgo_region_machine.specs.Owed.{function_at, function_of}
-use Rattle.rgo_region_machine.specs.Regions.{is_live}
 use Rattle.rgo_region_machine.specs.States.{Holder, RegionState, top_names}
 use Rattle.rgo_region_machine.specs.declared.regions.Region.{Region}
 use Rattle.rgo_region_machine.specs.declared.regions.Region.TheVariants.{Global as GlobalRegion, Numbered}
 use Rattle.rgo_sound.proofs.Places.{get_append_last, get_append_left, get_some, length_set}
 use Rattle.rgo_typed.specs.declared.actions.Action.{Action}
 use Rattle.rgo_typed.specs.declared.actions.Action.TheVariants.{Send}
-use Rattle.rgo_core_channels.specs.Channels.{Calm, Chan, Channels, IsChan, On, Places, Unlocked, channel}
+use Rattle.rgo_core_channels.specs.Channels.{Calm, Chan, Channels, On, Places, Unlocked, channel}
 use Rattle.rgo_core_channels.specs.Controls.{extent}
 use Rattle.rgo_core_channels.specs.Elsewhere.{IsMade, Leaves}
 use Rattle.rgo_core_channels.specs.Records.{Rec as SideRec, at_rest}
-use Rattle.rgo_core_channels.specs.Standing.{Next}
 use Rattle.rgo_core_channels.proofs.Elsewhere.{event_keeps}
 use Rattle.rgo_core_channels.proofs.Steps.{same_channel}
 use Rattle.rgo_core_frames.specs.Actions.{after_action}
-use Rattle.rgo_core_frames.specs.Fits.{AllFit, IsOfLive, ObjectsDiffer}
+use Rattle.rgo_core_frames.specs.Fits.{IsOfLive, ObjectsDiffer}
 use Rattle.rgo_core_frames.specs.Makes.{MakesAt}
 use Rattle.rgo_core_frames.specs.Records.{Rec as FrameRec}
 use Rattle.rgo_core_frames.specs.Slots.{slot}
@@ -37,11 +34,11 @@ use Rattle.rgo_core_frames.specs.Words.{Shows as WordShows}
 use Rattle.rgo_core_frames.proofs.ActionSteps.{action_law}
 use Rattle.rgo_core_frames.proofs.Making.{region_law}
 use Rattle.rgo_core_memory.specs.Encoding.{Spot, address, content, opening}
-use Rattle.rgo_core_memory.specs.Ground.{Ground, Held, Stands, Uses, ground_of, held_of, made}
-use Rattle.rgo_core_memory.specs.Image.{Image, Memory, Where, code_of, word_at}
-use Rattle.rgo_core_memory.specs.Parts.{Amidst, Covers, Makes, slot_of}
-use Rattle.rgo_core_memory.specs.Records.{Amid, Fill, Owns, Rec as MemoryRec, Rest, Within, with_object, with_word}
-use Rattle.rgo_core_memory.specs.Words.{all_words, base, cell_at, put}
+use Rattle.rgo_core_memory.specs.Ground.{Held, Stands, Uses, ground_of, held_of, made}
+use Rattle.rgo_core_memory.specs.Image.{Image, Memory, Where, code_of}
+use Rattle.rgo_core_memory.specs.Parts.{Covers, Makes, slot_of}
+use Rattle.rgo_core_memory.specs.Records.{Fill, Owns, Rec as MemoryRec, Within, with_object, with_word}
+use Rattle.rgo_core_memory.specs.Words.{cell_at, put}
 use Rattle.rgo_core_memory.specs.declared.layout.TableSizes.{TableSizes}
 use Rattle.rgo_core_memory.proofs.Addresses.{free_apart, one_address}
 use Rattle.rgo_core_memory.proofs.Allocating.{allocation_keeps, word_keeps}

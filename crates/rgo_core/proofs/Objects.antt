@@ -1,5 +1,5 @@
 -- The stores of a new object's words.
-use Rattle.std.proofs.Common.{◌≡◌, ◌≢◌, ◌⊎◌, inl, inr, ⊎_elim, ℕ, zero, suc, ◌+◌, ◌*◌, ◌<◌, ◌≤◌, List, [], ◌∷◌, ◌++◌, Option, Some, None, length, map, slice_get, slice_set, slice_index, refl, ap, sym, subst, ◌∙◌, arith}
+use Rattle.std.proofs.Common.{◌≡◌, ◌⊎◌, inl, inr, ⊎_elim, ℕ, suc, ◌+◌, ◌<◌, ◌≤◌, List, [], ◌∷◌, Option, Some, length, map, slice_set, refl, ap, subst, ◌∙◌, arith}
 use Rattle.std.proofs.lemmas.List.{append-nil, length-append}
 use Rattle.rgo_code.specs.Code.{Do}
 use Rattle.rgo_machine.specs.Limits.{deepest}
@@ -22,9 +22,9 @@ use Rattle.rgo_core_frames.specs.States.{IsSound}
 use Rattle.rgo_core_frames.proofs.Sound.{sound_stays}
 use Rattle.rgo_core_memory.specs.Encoding.{content, opening}
 use Rattle.rgo_core_memory.specs.Ground.{ground_of}
-use Rattle.rgo_core_memory.specs.Image.{Memory, code_of}
+use Rattle.rgo_core_memory.specs.Image.{code_of}
 use Rattle.rgo_core_memory.specs.Parts.{Covers, Makes}
-use Rattle.rgo_core_memory.specs.Records.{Fill, Owns, Within, with_object, with_word}
+use Rattle.rgo_core_memory.specs.Records.{Fill, Owns, Within, with_word}
 use Rattle.rgo_core_memory.specs.Words.{cell_at}
 use Rattle.rgo_core_memory.proofs.Addresses.{free_apart}
 use Rattle.rgo_core_memory.proofs.Allocating.{word_keeps}
@@ -33,7 +33,7 @@ use Rattle.rgo_core.specs.Image.{place_of}
 use Rattle.rgo_core.specs.NewObjects.{MakesObject, ObjectMove, WordMove, made_object, slot_number}
 use Rattle.rgo_core.specs.Next.{IsAt}
 use Rattle.rgo_core.specs.Records.{Record, accessed, counted, memory_of, side_of}
-use Rattle.rgo_core.specs.Steps.{Does, Steps}
+use Rattle.rgo_core.specs.Steps.{Steps}
 use Rattle.rgo_core.proofs.Disjoint.{rows_apart}
 use Rattle.rgo_core.proofs.Leaving.{channel_stands, channel_word}
 use Rattle.rgo_core.proofs.Lift.{access_law}

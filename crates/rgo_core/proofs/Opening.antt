@@ -1,6 +1,5 @@
 -- The run without a step explains the words of a new table and the record of `main`.
-use Rattle.std.proofs.Common.{◌≡◌, ◌≢◌, ℕ, zero, suc, ◌+◌, ◌*◌, ◌<◌, ◌≤◌, ◌&&◌, nat_le, Bool, true, false, List, [], ◌∷◌, Option, Some, None, length, map, replicate, take, slice_get, slice_set, slice_index, if◌then◌else◌, bytes_eq, codes, max, count_by, sum_by, refl, ap, sym, subst, ◌∙◌, arith}
-use Rattle.std.proofs.Math.ListN.{length-set}
+use Rattle.std.proofs.Common.{◌≡◌, ℕ, zero, suc, ◌<◌, ◌≤◌, ◌&&◌, nat_le, Bool, true, false, List, [], ◌∷◌, Some, None, length, map, replicate, take, slice_get, slice_set, slice_index, if◌then◌else◌, bytes_eq, codes, max, refl, ap, sym, subst, ◌∙◌, arith}
 use Rattle.std.proofs.lemmas.Bool.Decides.{nat_tests}
 use Rattle.std.proofs.lemmas.Grind.{common_steps}
 use Rattle.std.proofs.lemmas.Option.{same_Some}
@@ -27,7 +26,6 @@ use Rattle.rgo_core_rule.specs.Lists.{flattened}
 use Rattle.rgo_machine.specs.Limits.{is_within, most_goroutines}
 use Rattle.rgo_machine.specs.declared.limits.Limits.{Limits}
 use Rattle.rgo_region_machine.specs.Machine.{main_holder, region_start}
-use Rattle.rgo_region_machine.specs.States.{Mark}
 use Rattle.rgo_sound.proofs.Others.{Main, main_of}
 use Rattle.rgo_tac.specs.Code.{TacFn}
 use Rattle.rgo_tac.specs.Frames.{Frame, called}
@@ -61,7 +59,7 @@ module _ (z : TableSizes) where
   clock_word : slice_index (first_words z) 0 ≡ 0
   clock_word = word_same (slice_set plain 16 1) (count_at z z.slots) 0 2 (λ e. omega arith) ∙ (word_same plain 16 0 1 (λ e. omega arith) ∙ zeros (all_words z) 0)
 
-  made_word : slice_index (first_words z) 16 ≡ 1
+  pub made_word : slice_index (first_words z) 16 ≡ 1
   made_word = word_same (slice_set plain 16 1) (count_at z z.slots) 16 2 (λ e. omega arith) ∙ word_new plain 16 1 (let l = long (all_words z) in omega arith)
 
 -- ---- `main`
@@ -103,7 +101,7 @@ frames_fit code slot_of checked =
 
 -- ---- limits
 
-at_least_one : (n : ℕ) → 0 < max 1 n
+pub at_least_one : (n : ℕ) → 0 < max 1 n
 at_least_one n = grind (arith, nat_tests, common_steps)
 
 -- `main` alone, with one frame at most

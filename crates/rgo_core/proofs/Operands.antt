@@ -1,23 +1,18 @@
 -- What the operands of a record's next instruction are, by the types of checked code; and an action that makes no object.
-use Rattle.std.proofs.Common.{◌≡◌, ◌≢◌, ◌⊎◌, inl, inr, ⊎_elim, ℕ, zero, suc, ◌+◌, ◌<◌, ◌≤◌, ℤ, Bool, true, false, pos, List, [], ◌∷◌, ◌++◌, Option, Some, None, length, map, max, slice_get, slice_set, slice_index, refl, ap, sym, subst, ◌∙◌, arith, append-nil, Contains, FitsSigned}
-use Rattle.std.specs.Int.{w64}
-use Rattle.std.proofs.lemmas.Option.{same_Some}
-use Rattle.rgo_code.specs.Code.{Code, CodeFn, CodeOp, Do}
+use Rattle.std.proofs.Common.{◌≡◌, ℕ, suc, ◌+◌, ◌<◌, true, List, [], ◌∷◌, ◌++◌, Option, Some, length, map, slice_get, slice_set, slice_index, ap, sym, subst, ◌∙◌, arith, append-nil, Contains}
+use Rattle.rgo_code.specs.Code.{CodeOp, Do}
 use Rattle.rgo_code.specs.Erasure.{erased, erased_fn, erased_op}
 use Rattle.rgo_code.specs.Types.{HasType, HaveTypes, OpFits}
 use Rattle.rgo_memory.specs.Effects.{Does}
-use Rattle.rgo_memory.specs.Memory.{Channel, Memory as Heap, Object, SliceObject, StructObject}
+use Rattle.rgo_memory.specs.Memory.{Memory as Heap, Object}
 use Rattle.rgo_memory.specs.declared.values.Value.{Value}
-use Rattle.rgo_memory.specs.declared.values.Value.TheVariants as value
 use Rattle.rgo_region_machine.specs.Objects.{allotted, making_region, words as words_of}
 use Rattle.rgo_region_machine.specs.Owed.{function_at, function_of}
 use Rattle.rgo_region_machine.specs.Regions.{is_live}
-use Rattle.rgo_region_machine.specs.States.{Holder, top_names}
-use Rattle.rgo_region_machine.specs.declared.regions.Region.{Region}
+use Rattle.rgo_region_machine.specs.States.{top_names}
 use Rattle.rgo_sound.proofs.Acting.{performed}
 use Rattle.rgo_sound.proofs.Progress.{live_of}
 use Rattle.rgo_sound.proofs.TypedSteps.{types}
-use Rattle.rgo_tac.specs.Code.{Tac, TacFn}
 use Rattle.rgo_tac.specs.Flow.{reads}
 use Rattle.rgo_tac.specs.Frames.{value_at, values_of}
 use Rattle.rgo_tac.specs.Steps.{type_of}

@@ -1,7 +1,6 @@
 -- Accesses that are an instruction of one goroutine, which makes no object and leaves the channels.
-use Rattle.std.proofs.Common.{◌≡◌, ◌≢◌, ◌⊎◌, inl, inr, ⊎_elim, ℕ, zero, suc, ◌+◌, ◌<◌, ◌≤◌, List, [], ◌∷◌, ◌++◌, Some, None, length, map, slice_get, slice_set, slice_index, refl, ap, sym, subst, ◌∙◌, arith}
+use Rattle.std.proofs.Common.{◌≡◌, inl, ℕ, suc, ◌+◌, ◌<◌, List, [], Some, None, length, map, slice_get, slice_set, slice_index, refl, ap, sym, subst, ◌∙◌, arith}
 use Rattle.std.proofs.lemmas.List.{append-nil}
-use Rattle.rgo_machine.specs.Runs.{run}
 use Rattle.rgo_machine.specs.declared.picks.Pick.TheVariants.{One}
 use Rattle.rgo_memory.specs.Memory.{Memory as Heap}
 use Rattle.rgo_region_machine.specs.Instructions.{printed_if}
@@ -9,10 +8,10 @@ use Rattle.rgo_region_machine.specs.Machine.{Instruct}
 use Rattle.rgo_region_machine.specs.States.{Holder, RegionState}
 use Rattle.rgo_sound.proofs.Places.{length_set}
 use Rattle.rgo_sound.specs.Tally.{counts_plus, no_share}
-use Rattle.rgo_core_channels.specs.Channels.{Chan, Channels, IsChan, On, channel}
+use Rattle.rgo_core_channels.specs.Channels.{Chan, Channels, IsChan, On}
 use Rattle.rgo_core_channels.specs.Controls.{extent}
 use Rattle.rgo_core_channels.specs.Elsewhere.{IsMade, Leaves}
-use Rattle.rgo_core_channels.specs.Records.{Rec as SideRec, at_rest}
+use Rattle.rgo_core_channels.specs.Records.{at_rest}
 use Rattle.rgo_core_channels.proofs.Elsewhere.{event_keeps}
 use Rattle.rgo_core_channels.proofs.Forward.{printed_same}
 use Rattle.rgo_core_frames.specs.Records.{Rec as FrameRec}

@@ -1,5 +1,5 @@
 -- A print draws a ticket, and is the instruction of the region machine.
-use Rattle.std.proofs.Common.{◌≡◌, ℕ, zero, suc, ◌+◌, ◌%◌, ◌^◌, ◌<◌, ◌≤◌, List, [], ◌∷◌, ◌++◌, Option, Some, None, length, map, slice_get, slice_set, slice_index, sum_by, count_by, refl, ap, sym, subst, ◌∙◌, arith}
+use Rattle.std.proofs.Common.{◌≡◌, ℕ, suc, ◌+◌, ◌%◌, List, ◌∷◌, Some, length, slice_get, slice_set, slice_index, sum_by, count_by, refl, ap, sym, subst, ◌∙◌, arith}
 use Rattle.std.proofs.lemmas.List.{append-nil}
 use Rattle.std.proofs.lemmas.Option.{same_Some}
 use Rattle.rgo_code.specs.Code.{CodeInstr, CodeOp, Print}
@@ -9,11 +9,10 @@ use Rattle.rgo_core_frames.specs.Prints.{printed_values}
 use Rattle.rgo_core_frames.specs.WordFrames.{WordFrame}
 use Rattle.rgo_core_memory.proofs.Quiets.{quiet_keeps}
 use Rattle.rgo_core_memory.specs.Quiet.{IsGo}
-use Rattle.rgo_machine.specs.Limits.{deepest}
 use Rattle.rgo_machine.specs.Lines.{line_of}
 use Rattle.rgo_machine.specs.declared.picks.Pick.TheVariants.{One}
 use Rattle.rgo_memory.specs.Memory.{Memory as Heap}
-use Rattle.rgo_region_machine.specs.Counts.{Counts, counts_of, is_removed, pages_if_removed}
+use Rattle.rgo_region_machine.specs.Counts.{counts_of, is_removed, pages_if_removed}
 use Rattle.rgo_region_machine.specs.Machine.{Instruct}
 use Rattle.rgo_region_machine.specs.Owed.{current}
 use Rattle.rgo_region_machine.specs.Regions.{RegionInfo}
@@ -26,10 +25,10 @@ use Rattle.rgo_core.specs.ClockSteps.{Prints}
 use Rattle.rgo_core.specs.Core.{Here, Setup, layout}
 use Rattle.rgo_core.specs.Laws.{PrintMove, printed_by}
 use Rattle.rgo_core.specs.Next.{IsAt}
-use Rattle.rgo_core.specs.Records.{ClockRec, Record, counted, frame_of, instructed}
+use Rattle.rgo_core.specs.Records.{ClockRec, Record, counted, instructed}
 use Rattle.rgo_core.proofs.ClockLifts.{ticket_law}
 use Rattle.rgo_core.proofs.Lift.{many_set, shallow_here}
-use Rattle.rgo_core.proofs.Standing.{at_instruction, frame_at, frames_here, image_clock}
+use Rattle.rgo_core.proofs.Standing.{at_instruction, frame_at, image_clock}
 use Rattle.rgo_core.proofs.Staying.{image_stays}
 
 zero_more : (a b : ℕ) → a ≡ b → a ≡ b + 0

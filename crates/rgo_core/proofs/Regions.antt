@@ -1,15 +1,13 @@
 -- Accesses to the counts of regions.
-use Rattle.std.proofs.Common.{◌≡◌, ◌≢◌, ◌⊎◌, inl, inr, ⊎_elim, ℕ, zero, suc, ◌+◌, ◌-◌, ◌%◌, ◌^◌, ◌<◌, ◌≤◌, ◌==◌, Bool, true, false, List, [], ◌∷◌, ◌++◌, Option, Some, None, length, map, if◌then◌else◌, slice_get, slice_set, slice_index, refl, ap, sym, subst, ◌∙◌, arith}
+use Rattle.std.proofs.Common.{◌≡◌, ◌≢◌, ◌⊎◌, inl, inr, ⊎_elim, ℕ, suc, ◌+◌, ◌-◌, ◌%◌, ◌^◌, ◌<◌, ◌==◌, Bool, true, false, List, [], ◌∷◌, ◌++◌, Some, length, map, if◌then◌else◌, slice_get, slice_set, slice_index, refl, ap, sym, subst, ◌∙◌, arith}
 use Rattle.std.proofs.lemmas.Bool.Decides.{nat_tests}
 use Rattle.std.proofs.lemmas.List.{length-map}
 use Rattle.std.proofs.lemmas.Option.{same_Some}
 use mathlib.Core.Logic.{dite}
 use native.Mathlib.Decide.{ℕ_discrete}
-use Rattle.rgo_machine.specs.Limits.{most_goroutines}
 use Rattle.rgo_region_machine.specs.Counts.{Counts, counts_of}
 use Rattle.rgo_region_machine.specs.Machine.{Attend}
-use Rattle.rgo_region_machine.specs.Objects.{may_touch, owner_live}
-use Rattle.rgo_region_machine.specs.Regions.{RegionInfo, has_stakes, is_live, one_fewer, one_more, with_info}
+use Rattle.rgo_region_machine.specs.Regions.{RegionInfo, has_stakes, is_live, one_fewer, one_more}
 use Rattle.rgo_region_machine.specs.States.{Create, Duty, EndBase, Holder, Protect, RegionState, Remove, Share, Unprotect}
 use Rattle.rgo_region_machine.specs.declared.regions.Region.{Region}
 use Rattle.rgo_region_machine.specs.declared.regions.Region.TheVariants.{Global as GlobalRegion, Numbered}
@@ -17,10 +15,8 @@ use Rattle.rgo_sound.proofs.Places.{get_append_left}
 use Rattle.rgo_sound.proofs.Tally.{tally_adds}
 use Rattle.rgo_sound.specs.Tally.{counts_plus, no_share, share_of_last}
 use Rattle.rgo_core_channels.specs.Records.{at_rest}
-use Rattle.rgo_core_channels.proofs.Lists.{set_own}
 use Rattle.rgo_core_frames.specs.Creations.{created_in}
-use Rattle.rgo_core_frames.specs.Fits.{AllFit, Fits, IsPast, IsShown}
-use Rattle.rgo_core_frames.specs.Records.{Rec as FrameRec}
+use Rattle.rgo_core_frames.specs.Fits.{Fits, IsPast, IsShown}
 use Rattle.rgo_core_frames.specs.Slots.{slot_duty}
 use Rattle.rgo_core_frames.specs.Stakes.{ChangesStakes, stake_ended, stake_shared}
 use Rattle.rgo_core_frames.specs.Steps.{HasStep}
@@ -29,7 +25,7 @@ use Rattle.rgo_core_frames.proofs.StakeDuties.{OwesFirst, end_law, owes_first, p
 use Rattle.rgo_core_memory.specs.Image.{Memory, Where}
 use Rattle.rgo_core_memory.specs.Parts.{Closing, Living}
 use Rattle.rgo_core_memory.specs.Records.{Calm, Owes, with_give, with_tried_slot, without_slot}
-use Rattle.rgo_core_memory.specs.Events.{IsFreeOf, Leaves}
+use Rattle.rgo_core_memory.specs.Events.{IsFreeOf}
 use Rattle.rgo_core_memory.specs.Words.{base, count_at, put}
 use Rattle.rgo_core_memory.specs.declared.layout.TableSizes.{TableSizes}
 use Rattle.rgo_core_memory.proofs.Attending.{create_keeps, last_leave_keeps, leave_keeps, share_keeps}
@@ -39,7 +35,7 @@ use Rattle.rgo_core_memory.proofs.Puts.{put_else, put_here}
 use Rattle.rgo_core_memory.proofs.Slots.{live_info}
 use Rattle.rgo_core.specs.Chains.{remembers}
 use Rattle.rgo_core.specs.Core.{Here, Setup, layout}
-use Rattle.rgo_core.specs.Records.{ClockRec, Record, accessed, accesses, counted, frame_of, memory_of}
+use Rattle.rgo_core.specs.Records.{Record, accessed, accesses, counted, frame_of, memory_of}
 use Rattle.rgo_core.specs.Regions.{CreateMove, HasLeft, LeaveMove, ShareMove, creates, leaves, leaves_last, with_holder}
 use Rattle.rgo_core.specs.Steps.{Does, Steps}
 use Rattle.rgo_core.proofs.Attending.{attends, else_stays}

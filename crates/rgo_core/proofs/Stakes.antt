@@ -1,19 +1,18 @@
 -- Duties that change the count of a region, by what they do to a holder.
-use Rattle.std.proofs.Common.{◌≡◌, ◌≢◌, ◌⊎◌, inl, inr, ⊎_elim, ℕ, zero, suc, ◌+◌, ◌-◌, ◌<◌, ◌≤◌, Bool, true, false, List, [], ◌∷◌, Option, Some, None, nat_eq, nat_lt, if◌then◌else◌, option_and_then, option_map, slice_get, refl, ap, sym, subst, ◌∙◌, arith}
+use Rattle.std.proofs.Common.{◌≡◌, ◌≢◌, inl, inr, ℕ, ◌-◌, Bool, true, false, List, ◌∷◌, Option, Some, None, nat_eq, if◌then◌else◌, option_and_then, slice_get, refl, ap, sym, subst, ◌∙◌, arith}
 use Rattle.std.proofs.lemmas.Bool.Decides.{nat_tests}
 use Rattle.std.proofs.lemmas.Option.{same_Some}
 use Rattle.std.specs.List.{list_any}
 use Rattle.rgo_code.specs.Code.{Code}
 use Rattle.rgo_region_machine.specs.Duties.{guards}
 use Rattle.rgo_region_machine.specs.Machine.{Attend}
-use Rattle.rgo_region_machine.specs.Regions.{RegionInfo, bound, has_stakes, is_live, one_fewer, one_more, removed_once, unbind, with_info, without}
+use Rattle.rgo_region_machine.specs.Regions.{RegionInfo, bound, has_stakes, is_live, removed_once, unbind, with_info, without}
 use Rattle.rgo_region_machine.specs.States.{Create, Duty, EndBase, Holder, Protect, RegionState, Remove, Share, Unprotect, top_names, with_top}
 use Rattle.rgo_region_machine.specs.declared.regions.Region.{Region}
 use Rattle.rgo_region_machine.specs.declared.regions.Region.TheVariants.{Global as GlobalRegion, Numbered}
-use Rattle.rgo_sound.proofs.Attends.{with_info_other, with_info_same}
+use Rattle.rgo_sound.proofs.Attends.{with_info_other}
 use Rattle.rgo_sound.proofs.Tests.{eq_of, split}
 use Rattle.rgo_sound.specs.Tally.{no_share, share_of, share_of_duty, share_of_first, share_of_holder, share_of_last, share_of_named, share_of_removal}
-use Rattle.rgo_region_machine.specs.Counts.{Counts}
 use Rattle.rgo_core_frames.specs.Stakes.{ended, shared_in, stake_ended, stake_shared}
 use Rattle.rgo_core_memory.specs.Events.{Leaves}
 

@@ -1,9 +1,8 @@
 -- What the core says where laws about frames, memory and channels begin; and words that are no matter of the image.
-use Rattle.std.proofs.Common.{◌≡◌, ◌≢◌, ◌⊎◌, inl, inr, ℕ, zero, suc, ◌+◌, ◌*◌, ◌<◌, ◌≤◌, List, [], ◌∷◌, Option, Some, None, length, map, slice_get, slice_set, slice_index, refl, ap, sym, subst, ◌∙◌, arith}
+use Rattle.std.proofs.Common.{◌≡◌, inl, ℕ, ◌<◌, List, Some, length, map, slice_get, slice_set, ap, sym, subst, ◌∙◌, arith}
 use Rattle.rgo_code.specs.Code.{CodeOp}
 use Rattle.rgo_core_channels.proofs.Quiet as channel_laws
-use Rattle.rgo_core_channels.specs.Channels.{Chan, Channels, On, Places}
-use Rattle.rgo_core_channels.specs.Controls.{extent}
+use Rattle.rgo_core_channels.specs.Channels.{Channels, Places}
 use Rattle.rgo_core_channels.specs.Moments.{Moment}
 use Rattle.rgo_core_channels.specs.Records.{Rec as SideRec}
 use Rattle.rgo_core_frames.proofs.Before.{before_law}
@@ -12,7 +11,7 @@ use Rattle.rgo_core_frames.specs.States.{AtInstruction, Here as FramesHere}
 use Rattle.rgo_core_memory.proofs.Elsewhere.{clock_keeps, number_keeps}
 use Rattle.rgo_core_memory.proofs.Rows.{set_again}
 use Rattle.rgo_core_memory.proofs.Stepped.{map_get, map_set}
-use Rattle.rgo_core_memory.specs.Image.{Memory, Where, code_of, word_at}
+use Rattle.rgo_core_memory.specs.Image.{Memory, Where, code_of}
 use Rattle.rgo_core_memory.specs.Records.{Rec as MemoryRec}
 use Rattle.rgo_core_memory.specs.Words.{base}
 use Rattle.rgo_core_memory.specs.declared.layout.TableSizes.{TableSizes}

@@ -1,6 +1,6 @@
 -- A goroutine starts another: the draw of its number is the instruction of the region machine.
-use Rattle.std.proofs.Common.{◌≡◌, ◌⊎◌, inl, inr, ⊎_elim, ℕ, zero, suc, ◌+◌, ◌%◌, ◌<◌, ◌≤◌, Bool, true, false, List, [], ◌∷◌, ◌++◌, Option, Some, None, length, map, slice_get, slice_set, slice_index, sum_by, count_by, refl, ap, sym, subst, ◌∙◌, arith, length-append}
-use Rattle.std.proofs.lemmas.List.{append-nil, length-map}
+use Rattle.std.proofs.Common.{◌≡◌, ⊎_elim, ℕ, suc, ◌+◌, ◌≤◌, List, [], ◌∷◌, ◌++◌, Some, length, map, slice_get, slice_set, slice_index, sum_by, count_by, refl, ap, sym, subst, ◌∙◌, arith, length-append}
+use Rattle.std.proofs.lemmas.List.{append-nil}
 use Rattle.std.proofs.lemmas.Option.{same_Some, slice_get_within}
 use Rattle.rgo_code.specs.Code.{CodeFn, CodeOp, Go}
 use Rattle.rgo_core_channels.specs.Channels.{Channels}
@@ -15,24 +15,23 @@ use Rattle.rgo_core_frames.specs.Slots.{nameless}
 use Rattle.rgo_core_frames.specs.WordFrames.{WordFrame, word_called, words_of}
 use Rattle.rgo_core_memory.proofs.Quiets.{start_keeps}
 use Rattle.rgo_core_memory.proofs.Rows.{set_again}
-use Rattle.rgo_core_memory.specs.Image.{Memory}
+use Rattle.rgo_core_memory.specs.Image.{Memory, code_of}
 use Rattle.rgo_core_memory.specs.Opening.{first_record}
 use Rattle.rgo_core_memory.specs.Quiet.{IsGo}
 use Rattle.rgo_core_memory.specs.Records.{Rec as MemoryRec}
-use Rattle.rgo_machine.specs.Limits.{deepest, most_goroutines}
 use Rattle.rgo_machine.specs.declared.picks.Pick.TheVariants.{One}
 use Rattle.rgo_memory.specs.Memory.{Memory as Heap}
 use Rattle.rgo_region_machine.specs.Counts.{Counts, counts_of, is_removed, pages_if_removed}
 use Rattle.rgo_region_machine.specs.Machine.{Instruct}
 use Rattle.rgo_region_machine.specs.Owed.{function_of}
 use Rattle.rgo_region_machine.specs.Regions.{RegionInfo}
-use Rattle.rgo_region_machine.specs.States.{Holder, NoOffer, Offer, RegionState, Standing}
+use Rattle.rgo_region_machine.specs.States.{Holder, NoOffer, RegionState, Standing}
 use Rattle.rgo_sound.proofs.Places.{get_append_last, length_set}
 use Rattle.rgo_sound.specs.Tally.{counts_plus, no_share}
 use Rattle.rgo_tac.specs.declared.regions.Class.{Class}
 use Rattle.rgo_core.specs.ClockSteps.{Starts}
 use Rattle.rgo_core.specs.Core.{Here, Setup, layout}
-use Rattle.rgo_core.specs.Image.{Image}
+use Rattle.rgo_core.specs.Image.{Image, place_of}
 use Rattle.rgo_core.specs.Laws.{StartMove, child_of, started_by}
 use Rattle.rgo_core.specs.Next.{IsAt}
 use Rattle.rgo_core.specs.Records.{ClockRec, Record, counted, frame_of, memory_of, side_of, with_child}
@@ -116,7 +115,7 @@ module _ {T : Setup} {g : ℕ} {c : Record} (x : Here T g c) (f : ℕ) (callee :
         frames = subst (λ (l : List FrameRec). AllFit T.code places.slot x.core.image.addresses t l) (sym (map_more frame_of x.recs g d child)) fit;
         memory = subst (λ (l : List MemoryRec). Memory (layout T) x.words l t places)
             (sym (map_more memory_of x.recs g d child ∙ ap (λ (l : List MemoryRec). l ++ first_record ∷ []) (set_again (map memory_of x.recs) g c.memory (memory_at x)))) shown;
-        channels = subst (λ (l : List SideRec). Channels T.code _ _ x.words l t x.core.image.at)
+        channels = subst (λ (l : List SideRec). Channels T.code (code_of (layout T) places) (place_of (layout T) places) x.words l t x.core.image.at)
             (sym (map_more side_of x.recs g d child ∙ ap (λ (l : List SideRec). l ++ at_rest ∷ []) (set_again (map side_of x.recs) g c.side (side_at x)))) channels;
       } in
       let more : length t.plain.goroutines ≡ length x.s.plain.goroutines + 1 =

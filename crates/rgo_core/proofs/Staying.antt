@@ -1,9 +1,9 @@
 -- The image after a step of one goroutine that leaves memory, owners and regions.
-use Rattle.std.proofs.Common.{◌≡◌, ◌≢◌, ◌⊎◌, inl, inr, ℕ, zero, suc, ◌+◌, ◌<◌, ◌≤◌, Bool, true, false, List, [], ◌∷◌, ◌++◌, Option, Some, None, length, map, replicate, slice_get, slice_set, slice_index, refl, ap, sym, subst, ◌∙◌, arith}
-use Rattle.std.proofs.lemmas.List.{append-nil, length-map}
+use Rattle.std.proofs.Common.{◌≡◌, inl, ℕ, ◌+◌, ◌≤◌, List, ◌++◌, Option, Some, None, length, map, replicate, slice_get, slice_set, refl, ap, sym, subst, ◌∙◌, arith}
+use Rattle.std.proofs.lemmas.List.{append-nil}
 use Rattle.std.proofs.lemmas.Option.{slice_get_within}
 use Rattle.rgo_core_channels.proofs.Elsewhere.{event_keeps}
-use Rattle.rgo_core_channels.specs.Channels.{Chan, Channels, IsChan, On}
+use Rattle.rgo_core_channels.specs.Channels.{Channels, IsChan}
 use Rattle.rgo_core_channels.specs.Records.{Rec as SideRec, at_rest}
 use Rattle.rgo_core_frames.specs.Fits.{AllFit}
 use Rattle.rgo_core_frames.specs.Records.{Rec as FrameRec}
@@ -14,7 +14,7 @@ use Rattle.rgo_core_memory.specs.Records.{Rec as MemoryRec}
 use Rattle.rgo_memory.specs.Memory.{Memory as Heap}
 use Rattle.rgo_region_machine.specs.Machine.{Event, region_step}
 use Rattle.rgo_region_machine.specs.Objects.{may_touch, owner_live}
-use Rattle.rgo_region_machine.specs.Regions.{RegionInfo, is_live}
+use Rattle.rgo_region_machine.specs.Regions.{is_live}
 use Rattle.rgo_region_machine.specs.States.{Holder, NoOffer, RegionState}
 use Rattle.rgo_region_machine.specs.declared.regions.Region.{Region}
 use Rattle.rgo_sound.proofs.Places.{length_set}

@@ -1,6 +1,6 @@
 -- Accesses to the chains of pages: a claimed page is hung and linked; a chain is given back page by page. The region machine makes no
 -- step.
-use Rattle.std.specs.Prelude.{◌≡◌, ◌≤◌, ℕ, zero, suc}
+use Rattle.std.specs.Prelude.{◌≡◌, ◌≤◌, ℕ, suc}
 use Rattle.rgo_core_memory.specs.Records.{Calm, Gave, Giving, Got, Hung, Idle, Owes, Past, Rec as MemoryRec, with_claim, with_give}
 use Rattle.rgo_core_memory.specs.Words.{count_at, head_at, next_at, state_at}
 use Rattle.rgo_core.specs.Core.{Setup, layout}

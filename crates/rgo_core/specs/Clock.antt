@@ -1,5 +1,5 @@
 -- The clock: which pieces of print have tickets, and whether the run has ended.
-use Rattle.std.specs.Prelude.{◌≡◌, ◌≤◌, ◌<◌, ◌+◌, ◌^◌, ◌==◌, ℕ, nat_le, List, [], ◌++◌, length, count_by, sum_by, Option, Some, None, slice_get, slice_index}
+use Rattle.std.specs.Prelude.{◌≡◌, ◌≤◌, ◌<◌, ◌+◌, ◌^◌, ◌==◌, ℕ, nat_le, List, [], ◌++◌, length, count_by, sum_by, Some, None, slice_get, slice_index}
 use Rattle.rgo_core_memory.specs.Words.{clock_at}
 use Rattle.rgo_core_rule.specs.Lists.{flattened}
 use Rattle.rgo_region_machine.specs.States.{Mark, RegionState}

@@ -1,18 +1,19 @@
 -- Each definition where it holds and where it must not.
-use Rattle.std.specs.Prelude.{◌≡◌, ℕ, Bool, true, false, List, [], ◌∷◌, Option, Some, None, length}
+use Rattle.std.specs.Prelude.{◌≡◌, ℕ, true, List, [], ◌∷◌, Option, Some, None, slice_set}
 use Rattle.rgo_code.specs.Code.{Code}
 use Rattle.rgo_machine.specs.declared.limits.Limits.{Limits}
 use Rattle.rgo_machine.specs.declared.limits.Sizes.{Sizes}
 use Rattle.rgo_machine.specs.declared.picks.End.TheVariants.{Exit}
-use Rattle.rgo_region_machine.specs.Counts.{Counts}
-use Rattle.rgo_region_machine.specs.Machine.{region_start}
+use Rattle.rgo_region_machine.specs.Machine.{Event, region_start}
 use Rattle.rgo_region_machine.specs.States.{Ended, Mark, RegionState, Stopped}
 use Rattle.rgo_region_machine.specs.declared.limits.Limit.TheVariants.{Memory, Regions}
 use Rattle.rgo_sound.specs.Tally.{no_share}
 use Rattle.rgo_core.specs.Causes.{IsCause}
 use Rattle.rgo_core.specs.Clock.{Clock}
 use Rattle.rgo_core.specs.ClockSteps.{first_mark}
+use Rattle.rgo_core.specs.Core.{Core, Setup}
 use Rattle.rgo_core.specs.Numbers.{Numbers}
+use Rattle.rgo_core.specs.Opening.{first_of, opening}
 use Rattle.rgo_core.specs.Records.{ClockRec, all_counted, blank, counted, drawn_at, fresh, with_child, with_end, with_print, with_refusal}
 
 -- a state that has printed these bytes, and the mark that it has
@@ -70,3 +71,9 @@ pub record CauseExamples : Type 0 where
   pub memory : (code : Code) (sizes : Sizes) (limits : Limits) (s : RegionState) → IsCause code sizes limits (Stopped Memory) s
   pub regions : (code : Code) (sizes : Sizes) (limits : Limits) (s : RegionState) → s.holders ≡ []
       → IsCause code sizes limits (Stopped Regions) s → ⊥
+
+pub record CoreExamples : Type 0 where
+  -- `main` is made as a table opens
+  pub nobody : (T : Setup) (events : List Event) → Core T (opening T) [] events → ⊥
+  -- no ticket is drawn
+  pub drawn : (T : Setup) (events : List Event) → Core T (slice_set (opening T) 0 1) (first_of T.code ∷ []) events → ⊥

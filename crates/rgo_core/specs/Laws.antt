@@ -1,19 +1,22 @@
 -- The law of each access of a goroutine and of its steps without one. What a law asks is told by the goroutine's own record.
-use Rattle.std.specs.Prelude.{◌≡◌, ◌<◌, ◌≤◌, ◌+◌, ◌%◌, ◌^◌, ℕ, bit_or, List, [], ◌∷◌, length, false, Some}
-use Rattle.rgo_code.specs.Code.{CodeFn, CodeOp, Go, Print}
+use Rattle.std.specs.Prelude.{◌≡◌, ◌<◌, ◌≤◌, ◌+◌, ◌%◌, ◌^◌, ℕ, bit_or, List, [], ◌∷◌, length, false, true, Option, Some}
+use Rattle.rgo_code.specs.Code.{Call, CodeFn, CodeOp, Go, Print}
 use Rattle.rgo_core_channels.specs.Records.{at_rest}
 use Rattle.rgo_core_frames.specs.Children.{child_records}
 use Rattle.rgo_core_frames.specs.Opening.{no_record}
 use Rattle.rgo_core_frames.specs.Prints.{printed_values}
-use Rattle.rgo_core_frames.specs.Quiet.{quiet}
+use Rattle.rgo_core_frames.specs.Local.{local}
+use Rattle.rgo_core_frames.specs.Quiet.{is_exit, quiet}
 use Rattle.rgo_core_frames.specs.Records.{Rec as FrameRec, after_op}
 use Rattle.rgo_core_frames.specs.WordFrames.{word_called, word_moved, words_of}
 use Rattle.rgo_core_memory.specs.Words.{clock_at, made_at}
 use Rattle.rgo_machine.specs.Limits.{deepest, most_goroutines}
 use Rattle.rgo_machine.specs.Lines.{line_of}
+use Rattle.rgo_machine.specs.declared.picks.End.TheVariants.{Exit}
 use Rattle.rgo_region_machine.specs.Owed.{function_of}
-use Rattle.rgo_region_machine.specs.States.{Duty, Stopped}
+use Rattle.rgo_region_machine.specs.States.{Duty, Ended, Stopped}
 use Rattle.rgo_region_machine.specs.declared.limits.Limit.{Limit}
+use Rattle.rgo_region_machine.specs.declared.limits.Limit.TheVariants.{Calls, Goroutines}
 use Rattle.rgo_tac.specs.declared.regions.Class.{Class}
 use Rattle.rgo_typed.specs.declared.statements.Piece.{Piece}
 use Rattle.rgo_core.specs.Causes.{Stops}
@@ -72,8 +75,28 @@ LocalStill = (T : Setup) (g : ℕ) (c : Record) (e : FrameRec) → c.side ≡ at
     → length e.frames ≤ deepest
     → IsStill T g c (record c { clock = clock_after c.frame.holder.duties c.clock; frame = e })
 
+-- the return of `main` ends the run
+abbrev pub ExitMove : Type 0
+ExitMove = (T : Setup) (g : ℕ) (c : Record) (e : FrameRec) → c.side ≡ at_rest → c.frame.holder.duties ≡ []
+    → local T.code c.frame ≡ Some e → is_exit g e.frames ≡ true
+    → Moves T g c clock_at (λ n. bit_or n (2 ^ 63))
+    (λ n d. d ≡ record c { clock = with_end (instructed c.clock) n (Ended Exit); frame = e })
+
 -- A run is ended for want of room, or because it met a limit, where whatever the rest of the table is the cause holds; memory may
 -- run out in any state.
 abbrev pub StopMove : Type 0
 StopMove = (T : Setup) (g : ℕ) (c : Record) (why : Limit) → ((x : Here T g c) → Stops T.code T.sizes T.limits why x.s)
     → Moves T g c clock_at (λ n. bit_or n (2 ^ 63)) (λ n d. d ≡ record c { clock = with_end c.clock n (Stopped why) })
+
+-- a goroutine that has as many frames as it may calls a function
+abbrev pub CallsMove : Type 0
+CallsMove = (T : Setup) (g : ℕ) (c : Record) (to : Option ℕ) (f : ℕ) (callee : CodeFn) (from : List ℕ) (passes : List Class)
+    (protects removes : List ℕ) → IsAt T.code c (Call to f from passes protects removes) → function_of T.code f ≡ Some callee
+    → length c.frame.frames ≡ deepest
+    → Moves T g c clock_at (λ n. bit_or n (2 ^ 63)) (λ n d. d ≡ record c { clock = with_end c.clock n (Stopped Calls) })
+
+-- a goroutine to which a number was refused starts another
+abbrev pub FullMove : Type 0
+FullMove = (T : Setup) (g : ℕ) (c : Record) (f : ℕ) (callee : CodeFn) (from : List ℕ) (passes : List Class) (removes : List ℕ)
+    → IsAt T.code c (Go f from passes removes) → function_of T.code f ≡ Some callee → c.clock.refused ≡ true
+    → Moves T g c clock_at (λ n. bit_or n (2 ^ 63)) (λ n d. d ≡ record c { clock = with_end c.clock n (Stopped Goroutines) })

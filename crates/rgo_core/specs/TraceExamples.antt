@@ -1,6 +1,6 @@
 -- Small runs as lists of accesses: how a table opens, prints, a region from its creation until its pages are free again, a meeting, and a
 -- ring. After each access stand the words that are not 0.
-use Rattle.std.specs.Prelude.{◌≡◌, ◌==◌, ◌+◌, ◌-◌, ◌%◌, ◌^◌, ℕ, suc, bit_or, true, false, List, [], ◌∷◌, length, replicate, pos, Option, Some, None, if◌then◌else◌, slice_set}
+use Rattle.std.specs.Prelude.{◌≡◌, ◌==◌, ◌+◌, ◌-◌, ◌%◌, ◌^◌, ℕ, suc, bit_or, true, false, List, [], ◌∷◌, replicate, pos, if◌then◌else◌, slice_set}
 use Rattle.rgo_memory.specs.Memory.{Object, SliceObject}
 use Rattle.rgo_memory.specs.declared.values.Value.TheVariants as value
 use Rattle.rgo_machine.specs.declared.picks.End.TheVariants.{Exit}
@@ -9,16 +9,16 @@ use Rattle.rgo_region_machine.specs.Objects.{words as words_of}
 use Rattle.rgo_region_machine.specs.States.{Ended}
 use Rattle.rgo_sound.specs.Tally.{no_share}
 use Rattle.rgo_core_channels.specs.Controls.{closed_of, control, count_of, head_of}
-use Rattle.rgo_core_channels.specs.Records.{Locked, Rec as SideRec, at_rest, offering, with_hold, with_lock, with_look, with_own_look, with_size, Read, Wrote}
+use Rattle.rgo_core_channels.specs.Records.{Rec as SideRec, at_rest, offering, with_hold, with_lock, with_look, with_own_look, with_size, Read, Wrote}
 use Rattle.rgo_core_frames.specs.Opening.{no_record}
 use Rattle.rgo_core_memory.specs.Encoding.{content, opening}
 use Rattle.rgo_core_memory.specs.Opening.{first_record, first_words}
-use Rattle.rgo_core_memory.specs.Records.{Fill, Giving, Got, Gave, Calm, Hung, Idle, Owes, Past, Rec as MemoryRec, with_claim, with_give, with_object, with_tried_page, with_word, without_slot}
+use Rattle.rgo_core_memory.specs.Records.{Giving, Gave, Calm, Hung, Idle, Past, Rec as MemoryRec, with_claim, with_give, with_object, with_tried_page, with_word}
 use Rattle.rgo_core_memory.specs.Words.{cell_at, clock_at, count_at, head_at, next_at, state_at}
 use Rattle.rgo_core_memory.specs.declared.layout.TableSizes.{TableSizes}
 use Rattle.rgo_core.specs.Chains.{frees, remembers}
 use Rattle.rgo_core.specs.Claims.{claims}
-use Rattle.rgo_core.specs.Records.{ClockRec, Drawn, Record, accessed, begins_with, fresh, with_end, with_print}
+use Rattle.rgo_core.specs.Records.{Drawn, Record, accessed, begins_with, fresh, with_end, with_print}
 use Rattle.rgo_core.specs.Regions.{creates, leaves_last}
 use Rattle.rgo_core.specs.Traces.{Step, filled, records_at_last, words_of_each}
 

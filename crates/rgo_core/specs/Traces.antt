@@ -1,5 +1,5 @@
 -- Accesses in a row: the words after each of them, and the records at the end.
-use Rattle.std.specs.Prelude.{◌==◌, ℕ, zero, suc, ◌+◌, List, [], ◌∷◌, Option, Some, None, if◌then◌else◌, slice_get, slice_index, slice_set}
+use Rattle.std.specs.Prelude.{◌==◌, ℕ, zero, suc, List, [], ◌∷◌, if◌then◌else◌, slice_index, slice_set}
 use Rattle.rgo_core.specs.Records.{Record}
 
 -- An access of a goroutine: the word, what it leaves there by what it finds, and what its record becomes.

@@ -1,8 +1,8 @@
 //! What each access of a goroutine, and each of its steps without one, does to what the table shows.
 
 ghost use Rattle.rgo_core.specs.ClockSteps.{EndLaw, LookLaw, NumberLaw, TicketLaw};
-ghost use Rattle.rgo_core.specs.Examples.{CauseExamples, ClockExamples, NumberExamples};
-ghost use Rattle.rgo_core.specs.Laws.{LocalStill, PrintMove, StartMove, StopMove};
+ghost use Rattle.rgo_core.specs.Examples.{CauseExamples, ClockExamples, CoreExamples, NumberExamples};
+ghost use Rattle.rgo_core.specs.Laws.{CallsMove, ExitMove, FullMove, LocalStill, PrintMove, StartMove, StopMove};
 ghost use Rattle.rgo_core.specs.Opening.{OpeningLaw};
 ghost use Rattle.rgo_core.specs.Steps.{AccessLaw, QuietLaw};
 
@@ -51,9 +51,24 @@ pub fn start_move()
     ensures { StartMove }
 {}
 
+/// The return of `main` ends the run.
+pub fn exit_move()
+    ensures { ExitMove }
+{}
+
 /// A run is ended for want of room, or by a limit that it met.
 pub fn stop_move()
     ensures { StopMove }
+{}
+
+/// A run is ended by a call of a goroutine that has as many frames as it may.
+pub fn calls_move()
+    ensures { CallsMove }
+{}
+
+/// A run is ended by the start of a goroutine where there are as many as there may be.
+pub fn full_move()
+    ensures { FullMove }
 {}
 
 /// A local instruction or duty needs no access.
@@ -66,4 +81,5 @@ pub fn examples()
     ensures clock { ClockExamples }
     ensures numbers { NumberExamples }
     ensures causes { CauseExamples }
+    ensures core { CoreExamples }
 {}

@@ -9,3 +9,6 @@ returns-clause-numbers c = lemmas.number_examples
 
 pub returns-clause-causes : goal.returns-clause-causes
 returns-clause-causes c = lemmas.cause_examples
+
+pub returns-clause-core : goal.returns-clause-core
+returns-clause-core c = lemmas.core_examples
