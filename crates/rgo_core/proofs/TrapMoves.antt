@@ -15,47 +15,52 @@ use Rattle.rgo_machine.specs.declared.picks.End.{End}
 use Rattle.rgo_machine.specs.declared.picks.End.TheVariants as the_end
 use Rattle.rgo_machine.specs.declared.picks.Pick.TheVariants.{One}
 use Rattle.rgo_tac.specs.Flow.{reads}
-use Rattle.rgo_tac.specs.Frames.{value_at, values_of}
+use Rattle.rgo_tac.specs.Frames.{Frame, value_at, values_of}
 use Rattle.rgo_tac.specs.Steps.{type_of}
-use Rattle.rgo_code.specs.Code.{CodeOp, Do}
+use Rattle.rgo_code.specs.Code.{CodeInstr, CodeOp, Do}
 use Rattle.rgo_code.specs.Erasure.{erased, erased_fn, erased_op}
 use Rattle.rgo_code.specs.Types.{HasType, OpFits}
+use Rattle.rgo_region_machine.specs.Duties.{may_go}
 use Rattle.rgo_region_machine.specs.Instructions.{marked}
 use Rattle.rgo_region_machine.specs.Machine.{Event, Instruct, region_step}
-use Rattle.rgo_region_machine.specs.States.{Ended, Mark, RegionState}
+use Rattle.rgo_region_machine.specs.Owed.{current}
+use Rattle.rgo_region_machine.specs.States.{Ended, Holder, Mark, RegionState, Standing, Taken}
 use Rattle.rgo_sound.proofs.Acting.{performed, silent}
 use Rattle.rgo_sound.proofs.Places.{contains_here}
 use Rattle.rgo_sound.proofs.TypedSteps.{types}
 use Rattle.rgo_sound.specs.Tally.{no_share}
 use Rattle.rgo_core_channels.specs.After.{after_trap}
-use Rattle.rgo_core_channels.specs.Channels.{Chan, Channels, On}
+use Rattle.rgo_core_channels.specs.Channels.{Chan, OfferOf, On, holder_offer}
 use Rattle.rgo_core_channels.specs.Moments.{Traps as ChannelTraps}
-use Rattle.rgo_core_channels.specs.Records.{Shut}
+use Rattle.rgo_core_channels.specs.Records.{Shut, Stranded}
 use Rattle.rgo_core_channels.specs.Standing.{Next}
 use Rattle.rgo_core_channels.proofs.Live.{first_type}
 use Rattle.rgo_core_channels.proofs.Operations.{close_traps, send_traps}
 use Rattle.rgo_core_channels.proofs.Steps.{one_place, same_chan}
 use Rattle.rgo_core_channels.proofs.Traps.{close_nil_is, close_trap_is, send_trap_is}
-use Rattle.rgo_core_frames.specs.Fits.{AllFit}
+use Rattle.rgo_core_frames.specs.Fits.{AllFit, Fits, IsPast, IsShown}
+use Rattle.rgo_core_frames.specs.Slots.{slot_duties}
 use Rattle.rgo_core_frames.specs.States.{AtInstruction}
 use Rattle.rgo_core_frames.specs.WordFrames.{bare, word_at}
+use Rattle.rgo_core_frames.proofs.Before.{before_law}
 use Rattle.rgo_core_frames.proofs.Ending.{trap_law}
 use Rattle.rgo_core_frames.proofs.Operands.{pointer_law}
 use Rattle.rgo_core_memory.specs.Words.{clock_at}
 use Rattle.rgo_core_memory.proofs.Elsewhere.{ground_keeps}
 use Rattle.rgo_core.specs.AtChannels.{Operates}
 use Rattle.rgo_core.specs.ClockSteps.{Ends, first_mark}
+use Rattle.rgo_core.specs.CommitMoves.{IsAtSend}
 use Rattle.rgo_core.specs.Core.{Here, Setup, layout}
 use Rattle.rgo_core.specs.Image.{Image, place_of}
 use Rattle.rgo_core.specs.Next.{IsAt}
 use Rattle.rgo_core.specs.Records.{Record, frame_of, memory_of, side_of}
 use Rattle.rgo_core.specs.Steps.{Moves}
-use Rattle.rgo_core.specs.TrapMoves.{CloseNilMove, CloseTrapMove, SendTrapMove, trapped}
+use Rattle.rgo_core.specs.TrapMoves.{CloseNilMove, CloseTrapMove, SendTrapMove, StrandedMove, trapped}
 use Rattle.rgo_core.proofs.AtChannels.{calm, here, live, next, object, place_is, points_to}
 use Rattle.rgo_core.proofs.ClockLifts.{end_law}
 use Rattle.rgo_core.proofs.Parts.{adds_of, shallow}
 use Rattle.rgo_core.proofs.Performing.{ticked_counts}
-use Rattle.rgo_core.proofs.Standing.{at_instruction, image_clock, image_same, moment, side_at}
+use Rattle.rgo_core.proofs.Standing.{at_instruction, frame_at, frames_here, image_clock, image_same, moment, side_at}
 
 marked_is : (m : Option Mark) (end : End) → marked m (Some end) ≡ first_mark m (Ended end)
 marked_is None end = refl
@@ -213,3 +218,78 @@ module _ {T : Setup} {g : ℕ} {c : Record} (x : Here T g c) {to : Option ℕ} {
 
 pub close_nil_move : CloseNilMove
 close_nil_move T g c to channel removes a nil = by_ends T g c CloseNil a.instr.place (λ x. nil_ends x a nil)
+
+-- ---- a send whose offer stands
+
+heads : (f f' : Frame) (fs fs' : List Frame) → f ∷ fs ≡ f' ∷ fs' → f ≡ f'
+heads f f' fs fs' e = cc
+
+froms : (to to' : Option ℕ) (from from' removes removes' : List ℕ) → Do to Send from removes ≡ Do to' Send from' removes'
+    → from ≡ from'
+froms to to' from from' removes removes' e = cc
+
+standing_or_taken : (o p : ℕ) → Standing o ≡ Taken p → ⊥
+standing_or_taken o p e = cc
+
+module _ {T : Setup} {g : ℕ} {c : Record} (x : Here T g c) (a : IsAtSend T c) (o : ℕ) (k : Chan) (on : On x.s o k) (shut : k.closed ≡ true)
+    (v : Value) (n : Next T.code x.s g Send (value.Object o ∷ v ∷ [])) (stands : n.holder.offer ≡ Standing o) where
+  offer_of : (h : Holder) → slice_get x.s.holders g ≡ Some h → h.offer ≡ Standing o
+  offer_of h e = ap (λ (h : Holder). h.offer) (same_Some h n.holder (sym e ∙ n.there)) ∙ stands
+
+  owes : c.frame.holder.duties ≡ []
+  owes = by F.h F.there F.fits
+    where
+      F : Fits T.code x.core.image.places.slot x.core.image.addresses x.s g c.frame
+      F = x.core.image.frames.each g c.frame (frame_at x)
+
+      by : (h : Holder) → slice_get x.s.holders g ≡ Some h
+          → IsShown T.code x.core.image.places.slot x.core.image.addresses F.frames h c.frame
+          ⊎ IsPast T.code x.core.image.places.slot x.core.image.addresses F.frames h c.frame → c.frame.holder.duties ≡ []
+      by h e (inl shown) =
+          ap (λ (h : Holder). h.duties) shown.holder
+          ∙ ap (λ (h : Holder). slot_duties x.core.image.places.slot h.duties) (same_Some h n.holder (sym e ∙ n.there))
+          ∙ ap (slot_duties x.core.image.places.slot) n.none
+      by h e (inr past) = absurd (standing_or_taken o past.offer (sym (offer_of h e) ∙ ap (λ (h : Holder). h.offer) past.holder_is))
+
+  abbrev at_send : AtInstruction
+  at_send = record {
+    here = frames_here x;
+    w = a.w;
+    ws = a.ws;
+    instr = a.instr;
+    before = before_law (frames_here x) a.w a.ws a.instr a.frames a.cur owes (inr (λ h e. ap may_go (offer_of h e)));
+  }
+
+  frame_is : at_send.before.frame ≡ n.before.frame
+  frame_is = heads at_send.before.frame n.before.frame at_send.before.callers n.before.callers
+      (same_Some (at_send.before.frame ∷ at_send.before.callers) (n.before.frame ∷ n.before.callers)
+      (sym at_send.before.at ∙ n.before.at))
+
+  instr_is : n.before.instr ≡ a.instr
+  instr_is = same_Some n.before.instr a.instr (sym n.before.cur ∙ ap (current T.code) (sym frame_is) ∙ at_send.before.cur)
+
+  operands_are : values_of at_send.before.frame a.from ≡ value.Object o ∷ v ∷ []
+  operands_are =
+      (λ j. values_of (frame_is j) (froms a.to n.before.to a.from n.before.from a.removes n.before.removes
+      (sym a.is ∙ ap (λ (i : CodeInstr). i.op) (sym instr_is) ∙ n.before.is) j)) ∙ n.before.operands
+
+  stranded_ends : ChannelTraps (moment x) g SendClosed n.before.instr.place
+      → Ends x (Ended (the_end.Trap SendClosed a.instr.place)) (trapped c (slice_index x.words 0) SendClosed a.instr.place)
+  stranded_ends kept =
+      let K = subst (λ (i : CodeInstr). ChannelTraps (moment x) g SendClosed i.place) instr_is kept in
+      let F = trap_law at_send a.to Send a.from a.removes SendClosed a.is
+      (ap (λ (vs : List Value). performed T.code.structs Send (type_of (erased T.code) at_send.before.frame a.to) vs x.s.plain.memory)
+      operands_are ∙ ap (option_map silent) (send_traps x.s.plain.memory o k on.0 v shut)) in
+      ends x at_send SendClosed a.instr.place K
+      (subst (λ (u : RegionState). AllFit T.code x.core.image.places.slot x.core.image.addresses u (map frame_of x.recs))
+      (same_Some F.state (after_trap x.s SendClosed a.instr.place) (sym F.steps ∙ K.0)) F.fit)
+
+pub stranded_move : StrandedMove
+stranded_move T g c at a saw =
+    by_ends T g c SendClosed a.instr.place (λ x.
+    let q = x.core.image.channels.strands g at c.side (side_at x) saw in
+    let w = x.core.image.channels.waits q.0 g q.1 q.2 q.5 in
+    let r = x.core.image.channels.offers q.0 g q.1 q.2 (subst (λ p. OfferOf p g) (sym q.5) refl) in
+    stranded_ends x a q.0 q.1 q.2 q.4 w.0 w.1
+    (ap (λ (h : Holder). h.offer) (same_Some w.1.holder r.1 (sym w.1.there ∙ r.3)) ∙ r.5 ∙ ap (holder_offer q.0) q.5)
+    (send_trap_is (moment x) g c.side (side_at x) q.0 w.0 w.1 (inr (saw ∙ ap Stranded (sym q.3)))))

@@ -4,7 +4,7 @@
 ghost use Rattle.rgo_core.specs.ChannelExamples.{ChannelExamples};
 ghost use Rattle.rgo_core.specs.ChannelMoves.{CapacityMove, CellLoadMove, CellStoreMove, ControlMove, LockMove, OwnControlMove};
 ghost use Rattle.rgo_core.specs.CommitMoves.{AcknowledgeMove, CloseMove, MeetMove, OfferMove, ReceiveMove, SendMove, ZeroMove};
-ghost use Rattle.rgo_core.specs.TrapMoves.{CloseNilMove, CloseTrapMove, SendTrapMove};
+ghost use Rattle.rgo_core.specs.TrapMoves.{CloseNilMove, CloseTrapMove, SendTrapMove, StrandedMove};
 
 /// The control of a channel is loaded.
 pub fn control_move()
@@ -84,6 +84,11 @@ pub fn close_trap_move()
 /// So does a close of nil.
 pub fn close_nil_move()
     ensures { CloseNilMove }
+{}
+
+/// A send whose offer stands at a channel that was closed ends the run.
+pub fn stranded_move()
+    ensures { StrandedMove }
 {}
 
 /// Records that are at a channel, and such as are not.
