@@ -1,9 +1,6 @@
 -- Each step of the three-address machine leaves ints that fit in words.
-use Rattle.std.proofs.Common.{◌≡◌, ℕ, zero, suc, ◌+◌, ◌<◌, ◌^◌, Bool, true, false, not, List, [], ◌∷◌, ◌++◌, map, drop, get_or, length, bytes_eq, codes, replicate, Option, Some, None, Result, Ok, Err, refl, sym, ap, ◌∙◌, subst, ℤ, pos, negsuc, FitsSigned, w64, nat_eq, nat_lt, int_eq, ◌==◌, if◌then◌else◌, arith, true≢false, slice_get, slice_set, option_map, option_and_then}
+use Rattle.std.proofs.Common.{◌≡◌, ℕ, zero, suc, ◌+◌, Bool, true, false, List, [], ◌∷◌, ◌++◌, map, drop, get_or, length, bytes_eq, codes, replicate, Option, Some, None, Result, Ok, Err, refl, sym, ap, subst, ℤ, pos, negsuc, nat_eq, nat_lt, if◌then◌else◌, arith, slice_get, slice_set, option_map, option_and_then}
 use Rattle.std.proofs.lemmas.List.{length-replicate}
-use Rattle.std.proofs.lemmas.Option.{slice_get-map}
-use Rattle.std.specs.Int.{int_wrapping_neg}
-use Rattle.std.specs.Ordering.{int_eq as is_int_eq}
 use Rattle.rgo_ast.specs.declared.ops.BinaryOp.{BinaryOp}
 use Rattle.rgo_ast.specs.declared.ops.BinaryOp.TheVariants as binary
 use Rattle.rgo_typed.specs.declared.actions.Action.{Action}
@@ -20,30 +17,30 @@ use Rattle.rgo_memory.specs.declared.values.Value.{Value}
 use Rattle.rgo_memory.specs.declared.values.Value.TheVariants as value
 use Rattle.rgo_memory.specs.Channels.{close, meets_at, receive, received, send, sent, shut}
 use Rattle.rgo_memory.specs.Effects.{Does, Effect, Outcome, Traps, answered, at_object, at_object_if_ready, in_memory, in_memory_if_ready, to_object, to_object_if_ready}
-use Rattle.rgo_memory.specs.Elements.{cell_put, element, element_at, element_in, length_in, length_of, or_out_of_range, put, put_in}
+use Rattle.rgo_memory.specs.Elements.{element, element_at, element_in, length_in, length_of, or_out_of_range, put, put_in}
 use Rattle.rgo_memory.specs.Fields.{field_of, load, or_nil, store, stored}
-use Rattle.rgo_memory.specs.Making.{made, made_struct, new_channel, new_slice, new_struct, sized}
-use Rattle.rgo_memory.specs.Memory.{Channel, Memory, Object, SliceObject, StructObject, with_object}
+use Rattle.rgo_memory.specs.Making.{made, made_struct, new_channel, new_slice, sized}
+use Rattle.rgo_memory.specs.Memory.{Channel, Memory, Object, SliceObject, StructObject}
 use Rattle.rgo_memory.specs.Operators.{binary_of, inverted, is_equal, negated, nil_test, on_ints}
 use Rattle.rgo_memory.specs.Perform.{on_none, on_one, on_three, on_two, perform, set_variable}
 use Rattle.rgo_memory.specs.Values.{base_zero, element_zero, element_zero_in, zero_in, zero_of}
 use Rattle.rgo_machine.specs.declared.picks.End.{End}
 use Rattle.rgo_machine.specs.declared.picks.Pick.{Pick}
 use Rattle.rgo_machine.specs.declared.picks.Pick.TheVariants.{Meet, One}
-use Rattle.rgo_machine.specs.Machines.{AtCall, AtClose, AtReceive, AtSend, AtStart, Elsewhere, Stand, met, met_by, picked, unless_ended, with_frames}
+use Rattle.rgo_machine.specs.Machines.{AtReceive, AtSend, Stand, met, met_by, picked, unless_ended, with_frames}
 use Rattle.rgo_machine.specs.Machines as machine
 use Rattle.rgo_tac.specs.Code.{Branch as TacBranch, Call as TacCall, Do as TacDo, Go as TacGo, Instr, Jump as TacJump, Op, Print as TacPrint, Return as TacReturn, Tac, TacFn}
-use Rattle.rgo_tac.specs.Frames.{Frame, assigned, called, going, moved_to, value_at, values_of}
+use Rattle.rgo_tac.specs.Frames.{Frame, assigned, called, value_at, values_of}
 use Rattle.rgo_tac.specs.Steps.{instr_of, resumed, resumed_at, stand, target_of, type_of}
-use Rattle.rgo_tac.specs.Tac.{TacState, main_frames, tac, tac_start}
+use Rattle.rgo_tac.specs.Tac.{TacState, main_frames, tac}
 use Rattle.rgo_code.specs.Code.{Code, CodeFn, CodeInstr, CodeOp, Do}
-use Rattle.rgo_code.specs.Erasure.{erased, erased_fn, erased_instr, erased_op}
-use Rattle.rgo_region_machine.specs.Machine.{Acknowledge, Attend, Event, Finish, Instruct, MakeOffer, TakePage, plain_step, region_start, region_step}
+use Rattle.rgo_code.specs.Erasure.{erased, erased_instr, erased_op}
+use Rattle.rgo_region_machine.specs.Machine.{Acknowledge, Attend, Event, Finish, Instruct, MakeOffer, TakePage, plain_step, region_step}
 use Rattle.rgo_region_machine.specs.Owed.{current, current_in}
 use Rattle.rgo_region_machine.specs.States.{RegionState}
 use Rattle.rgo_sound.specs.Types.{Each}
 use Rattle.rgo_sound.proofs.Acting.{Acted, act, act_at, after, alone, alone_is, call, effected, performed, returned, silent, start, trap_place}
-use Rattle.rgo_sound.proofs.ErasureLemmas.{Always, Follows, Yields, step_follows, yields_is}
+use Rattle.rgo_sound.proofs.ErasureLemmas.{Always, Follows, step_follows, yields_is}
 use Rattle.rgo_sound.proofs.OneStep.{ReceivesAt, SendsAt, StandsAt, current_erased, stands_at_channel}
 use Rattle.rgo_sound.proofs.Places.{each_get, each_replicate, each_set, each_snoc, length_set}
 use Rattle.rgo_core_frames.specs.Ints.{FramesIntsFit, IntFits, IntsFit, IntsStay, MemoryIntsFit, ObjectIntsFit}
