@@ -7,7 +7,8 @@ use Rattle.std.proofs.Math.Nat.{mod-lt, mod-eq_of_lt}
 use Rattle.std.proofs.lemmas.Option.{same_Some}
 use Rattle.rgo_typed.specs.declared.actions.Action.{Action}
 use Rattle.rgo_typed.specs.declared.actions.Action.TheVariants.{Recv, Send, Close}
-use Rattle.rgo_memory.specs.Effects.{Effect}
+use Rattle.rgo_memory.specs.Channels.{close, receive, send}
+use Rattle.rgo_memory.specs.Effects.{Does, Effect}
 use Rattle.rgo_memory.specs.Memory.{Memory, with_object}
 use Rattle.rgo_memory.specs.declared.values.Value.{Value}
 use Rattle.rgo_memory.specs.declared.values.Value.TheVariants as value
@@ -170,13 +171,14 @@ pub send_is : SendLaw
 send_is T g c mine o n i x size v next hold code free sizing shut room behind = (
   k,
   on,
+  sends,
   record {
     steps = does T.code T.page_words T.state g Send (value.Object o ∷ v ∷ []) next T.running
         (ap may_go (no_offer T g c mine next free)) on.1 refl (with_object (m T g c mine) o (channel (pushed v k))) value.Nil
         (length_slice_set T.state.plain.memory.heap o (channel (pushed v k)))
         (ap (option_map (operated T.state.plain g next.before.callers
         (λ _. going next.before.frame next.before.to value.Nil) next.before.instr.place))
-        (send_does (m T g c mine) o k on.0 v (is_open T g c mine o n held k on shut) lower));
+        sends);
     at = _;
     channels = commit T g c mine o n held k on next free (pushed v k) value.Nil (n + 4) (T.at.head o) refl word cells
         (λ p. (fits, bf.2)) (λ z. let p = some_room in absurd (omega arith)) (λ z. absurd (open_shut z));
@@ -212,6 +214,10 @@ send_is T g c mine o n i x size v next hold code free sizing shut room behind = 
 
     lower : length k.queue < k.capacity
     lower = let c1 = said'.1 in let e = cap in let p = no_phase in omega arith
+
+    sends : send (m T g c mine) (value.Object o) v
+        ≡ Some (Does (with_object (m T g c mine) o (channel (pushed v k))) value.Nil)
+    sends = send_does (m T g c mine) o k on.0 v (is_open T g c mine o n held k on shut) lower
 
     longer : length (k.queue ++ v ∷ []) ≡ length k.queue + 1
     longer = length-append k.queue (v ∷ [])
@@ -253,13 +259,14 @@ receive_is T g c mine o n i x size next hold free sizing filled some_size at_hea
   queue,
   parts.2,
   value_is,
+  receives,
   record {
     steps = does T.code T.page_words T.state g Recv (value.Object o ∷ []) next T.running
         (ap may_go (no_offer T g c mine next free)) on.1 refl
         (with_object (m T g c mine) o (channel (popped k queue))) v
         (length_slice_set T.state.plain.memory.heap o (channel (popped k queue)))
         (ap (option_map (operated T.state.plain g next.before.callers (going next.before.frame next.before.to) 0))
-        (receive_does (m T g c mine) o k on.0 (blank_of next.before) v queue parts.2));
+        receives);
     at = _;
     channels = commit T g c mine o n held k on next free (popped k queue) v
         (control (closed_of n) (count_of n - 1) hd) hd refl word
@@ -304,6 +311,10 @@ receive_is T g c mine o n i x size next hold free sizing filled some_size at_hea
     queue : List Value
     queue = parts.1
 
+    receives : receive (m T g c mine) (value.Object o) (blank_of next.before)
+        ≡ Some (Does (with_object (m T g c mine) o (channel (popped k queue))) v)
+    receives = receive_does (m T g c mine) o k on.0 (blank_of next.before) v queue parts.2
+
     long : length k.queue ≡ length queue + 1
     long = let e : length k.queue ≡ length (v ∷ queue) = ap length parts.2 in omega arith
 
@@ -341,13 +352,14 @@ pub zero_is : ZeroLaw
 zero_is T g c mine o n size next hold free sizing shut empty = (
   k,
   on,
+  receives,
   record {
     steps = does T.code T.page_words T.state g Recv (value.Object o ∷ []) next T.running
         (ap may_go (no_offer T g c mine next free)) on.1 refl
         (with_object (m T g c mine) o (channel k)) (blank_of next.before)
         (length_slice_set T.state.plain.memory.heap o (channel k))
         (ap (option_map (operated T.state.plain g next.before.callers (going next.before.frame next.before.to) 0))
-        (receive_blank (m T g c mine) o k on.0 (blank_of next.before) none_in (shut_or k.closed (sym said'.0 ∙ shut))));
+        receives);
     at = _;
     channels = commit T g c mine o n held k on next free k (blank_of next.before) n (T.at.head o) refl
         (n_is T g c mine o n held k on) (λ j u q. T.channels.cells o j u k on q)
@@ -377,10 +389,15 @@ zero_is T g c mine o n size next hold free sizing shut empty = (
     none_in = ⊎_elim (λ u. (T.channels.unbuffered o k on (cap ∙ u)).0)
         (λ u. empty_of k.queue (let c1 = said'.1 in omega arith)) empty
 
+    receives : receive (m T g c mine) (value.Object o) (blank_of next.before)
+        ≡ Some (Does (with_object (m T g c mine) o (channel k)) (blank_of next.before))
+    receives = receive_blank (m T g c mine) o k on.0 (blank_of next.before) none_in (shut_or k.closed (sym said'.0 ∙ shut))
+
 pub close_is : CloseLaw
 close_is T g c mine o n next hold free shut = (
   k,
   on,
+  closes,
   record {
     steps = does T.code T.page_words T.state g Close (value.Object o ∷ []) next T.running
         (ap may_go (no_offer T g c mine next free)) on.1 refl
@@ -388,7 +405,7 @@ close_is T g c mine o n next hold free shut = (
         (length_slice_set T.state.plain.memory.heap o (channel (closed_now k)))
         (ap (λ (e : Effect). Some (operated T.state.plain g next.before.callers
         (λ _. going next.before.frame next.before.to value.Nil) next.before.instr.place e))
-        (close_does (m T g c mine) o k on.0 still_open));
+        closes);
     at = _;
     channels = commit T g c mine o n held k on next free (closed_now k) value.Nil (n + 2) (T.at.head o) refl word
         (λ j u q. T.channels.cells o j u k on q)
@@ -410,6 +427,10 @@ close_is T g c mine o n next hold free shut = (
 
     still_open : k.closed ≡ false
     still_open = is_open T g c mine o n held k on shut
+
+    closes : close (m T g c mine) (value.Object o)
+        ≡ Does (with_object (m T g c mine) o (channel (closed_now k))) value.Nil
+    closes = close_does (m T g c mine) o k on.0 still_open
 
     word : n + 2 ≡ control 1 (count k (T.at.phase o)) (T.at.head o)
     word =

@@ -41,7 +41,7 @@ chan_no_slice t u e =
 
 module _ (code : Code) (checked : IsChecked code) (s : RegionState) (g : ℕ) (all : AllGood code s) where
   -- the first operand of an operation on channels is of a channel's type
-  first_type : (action : Action) → IsOfChannel action → (fn : CodeFn) (to : Option ℕ) (tys : List «Type»)
+  pub first_type : (action : Action) → IsOfChannel action → (fn : CodeFn) (to : Option ℕ) (tys : List «Type»)
       → DoFits (erased code) (erased_fn fn) to action tys → (t : «Type») × (rest : List «Type») × (tys ≡ chan_of t ∷ rest)
   first_type action (inl e) fn to tys fits =
       receives to (subst (λ a. DoFits (erased code) (erased_fn fn) to a tys) e fits)

@@ -5,7 +5,9 @@ use Rattle.std.proofs.Common.{⊎_elim, arith, nat_eq}
 use Rattle.std.proofs.lemmas.Option.{same_Some, slice_get_within}
 use mathlib.Core.Logic.{dite}
 use native.Mathlib.Decide.{ℕ_discrete}
+use Rattle.std.specs.List.{list_any}
 use Rattle.rgo_typed.specs.declared.actions.Action.TheVariants.{Recv, Send}
+use Rattle.rgo_memory.specs.Channels.{is_meeting_at}
 use Rattle.rgo_memory.specs.declared.values.Value.{Value}
 use Rattle.rgo_memory.specs.declared.values.Value.TheVariants as value
 use Rattle.rgo_region_machine.specs.Duties.{may_go, attended}
@@ -87,56 +89,58 @@ module _ (T : Moment) where
   other_holder g h j ne = (refl, set_else T.state.holders g j h ne)
 
 pub offer_is : OfferLaw
-offer_is T g c mine o n x v next hold code free sizing shut idle = record {
-  steps = offers T.code T.page_words T.state o T.running on.1 g v next
-      (ap may_go (no_offer T g c mine next free))
-      (is_place T.state.plain.memory o k on.0 still_open cap)
-      (none_there o T.state.holders (no_holder T o k on calm));
-  at = _;
-  channels = control_step T.code T.encode T.place T.words T.recs T.state T.at T.channels g c (offering (T.place o))
-      mine o k k (n + 4) Unlocked (T.at.head o) (Offered g) b on (record {
-        heap = sym (set_again T.state.plain.memory.heap o (channel k) on.0);
-        touch = λ p. refl;
-        capacity = refl;
-        word = word;
-        cells = λ i u q. T.channels.cells o i u k on q;
-        buffered = λ q. let e = cap in absurd (omega arith);
-        unbuffered = T.channels.unbuffered o k on;
-        closes = λ t. t;
-        told = freed T.code T.encode T.place T.words T.recs T.state T.at T.channels g c mine (Offering (T.place o)) o n (n + 4) held
-            (lock_is T g c mine o n held k on);
-        know = they_know T.code T.encode T.place T.words T.recs T.state T.at T.channels g c (offering (T.place o)) mine b
-            (λ a q. inr (knows_post (Offering (T.place o)) a q)) (λ j y ne e q. other_holder T g h j ne);
-        stranded = λ j q f. absurd (let y : Calm ≡ Offered j = sym calm ∙ f in cc y);
-        as_many = length_slice_set T.state.holders g h;
-        calm = λ j y h' p q f. ⊎_elim
-            (λ (u : (j ≡ g) × (offering (T.place o) ≡ y)). let z : Offering (T.place o) ≡ Nowhere
-            = ap (λ (r : Rec). r.post) u.1 ∙ f in absurd (cc z))
-            (λ (u : (j ≢ g) × (slice_get T.recs j ≡ Some y)). T.channels.calm j y h' u.1
-            (sym (set_else T.state.holders g j h u.0) ∙ q) f)
-            (recs_was T.code T.encode T.place T.words T.recs T.state T.at T.channels g c (offering (T.place o)) mine j
-            y p);
-        others = λ p j l ne e q. let nj = posted T g c mine free p j l e q in
-            (other_holder T g h j nj, λ w. absurd (nj w));
-        mine_post = λ a q. inl (let y : Offering (T.place o) ≡ Offering a = q in sym (cc y), refl);
-        theirs = λ j ne q. absurd (subst (λ w. OfferOf w j) calm q);
-        offer = λ j q. (
-          offering (T.place o),
-          h,
-          subst (λ i. slice_get (slice_set T.recs g (offering (T.place o))) i ≡ Some (offering (T.place o))) q
-              (here T.code T.encode T.place T.words T.recs T.state T.at T.channels g c (offering (T.place o)) mine),
-          subst (λ i. slice_get b.holders i ≡ Some h) q there,
-          refl,
-          refl,
-        );
-        wait = λ j q. let y : Offered g ≡ Offered j = q in let z : g ≡ j = cc y in (
-          v,
-          subst (λ i. Next T.code b i Send (value.Object o ∷ v ∷ [])) z stays_at,
-          first_cell T o (T.encode v) (cell_is T g c mine o n held k on 0 x
-              (subst (λ y. InCell y (T.place o) 0 x) (sym hold) (refl, refl, refl)) ∙ sym code),
-        );
-      });
-}
+offer_is T g c mine o n x v next hold code free sizing shut idle = (
+  meeting,
+  nobody,
+  record {
+    steps = offers T.code T.page_words T.state o T.running on.1 g v next
+        (ap may_go (no_offer T g c mine next free)) meeting nobody;
+    at = _;
+    channels = control_step T.code T.encode T.place T.words T.recs T.state T.at T.channels g c (offering (T.place o))
+        mine o k k (n + 4) Unlocked (T.at.head o) (Offered g) b on (record {
+          heap = sym (set_again T.state.plain.memory.heap o (channel k) on.0);
+          touch = λ p. refl;
+          capacity = refl;
+          word = word;
+          cells = λ i u q. T.channels.cells o i u k on q;
+          buffered = λ q. let e = cap in absurd (omega arith);
+          unbuffered = T.channels.unbuffered o k on;
+          closes = λ t. t;
+          told = freed T.code T.encode T.place T.words T.recs T.state T.at T.channels g c mine (Offering (T.place o)) o n (n + 4) held
+              (lock_is T g c mine o n held k on);
+          know = they_know T.code T.encode T.place T.words T.recs T.state T.at T.channels g c (offering (T.place o)) mine b
+              (λ a q. inr (knows_post (Offering (T.place o)) a q)) (λ j y ne e q. other_holder T g h j ne);
+          stranded = λ j q f. absurd (let y : Calm ≡ Offered j = sym calm ∙ f in cc y);
+          as_many = length_slice_set T.state.holders g h;
+          calm = λ j y h' p q f. ⊎_elim
+              (λ (u : (j ≡ g) × (offering (T.place o) ≡ y)). let z : Offering (T.place o) ≡ Nowhere
+              = ap (λ (r : Rec). r.post) u.1 ∙ f in absurd (cc z))
+              (λ (u : (j ≢ g) × (slice_get T.recs j ≡ Some y)). T.channels.calm j y h' u.1
+              (sym (set_else T.state.holders g j h u.0) ∙ q) f)
+              (recs_was T.code T.encode T.place T.words T.recs T.state T.at T.channels g c (offering (T.place o)) mine j
+              y p);
+          others = λ p j l ne e q. let nj = posted T g c mine free p j l e q in
+              (other_holder T g h j nj, λ w. absurd (nj w));
+          mine_post = λ a q. inl (let y : Offering (T.place o) ≡ Offering a = q in sym (cc y), refl);
+          theirs = λ j ne q. absurd (subst (λ w. OfferOf w j) calm q);
+          offer = λ j q. (
+            offering (T.place o),
+            h,
+            subst (λ i. slice_get (slice_set T.recs g (offering (T.place o))) i ≡ Some (offering (T.place o))) q
+                (here T.code T.encode T.place T.words T.recs T.state T.at T.channels g c (offering (T.place o)) mine),
+            subst (λ i. slice_get b.holders i ≡ Some h) q there,
+            refl,
+            refl,
+          );
+          wait = λ j q. let y : Offered g ≡ Offered j = q in let z : g ≡ j = cc y in (
+            v,
+            subst (λ i. Next T.code b i Send (value.Object o ∷ v ∷ [])) z stays_at,
+            first_cell T o (T.encode v) (cell_is T g c mine o n held k on 0 x
+                (subst (λ y. InCell y (T.place o) 0 x) (sym hold) (refl, refl, refl)) ∙ sym code),
+          );
+        });
+  },
+)
   where
     found : (k : Chan) × On T.state o k
     found = live_at T g Send o (v ∷ []) next (inr (inl refl))
@@ -167,6 +171,12 @@ offer_is T g c mine o n x v next hold code free sizing shut idle = record {
 
     calm : T.at.phase o ≡ Calm
     calm = calm_of (T.at.phase o) (phase_is T o k n on cap said'.1 ∙ idle)
+
+    meeting : is_meeting_at (slice_get T.state.plain.memory.heap o) ≡ true
+    meeting = is_place T.state.plain.memory o k on.0 still_open cap
+
+    nobody : list_any (λ (x : Holder). offers_on o x.offer) T.state.holders ≡ false
+    nobody = none_there o T.state.holders (no_holder T o k on calm)
 
     there : slice_get b.holders g ≡ Some h
     there = get_set_same T.state.holders g next.holder h next.there
@@ -293,10 +303,10 @@ meet_is T g c mine o n x next hold free sizing shut up = (
   S.0,
   S.2,
   S.4,
+  meeting,
   record {
     steps = meets T.code T.page_words T.state o T.running on.1 g t v next M (λ e. ne (sym e))
-        (ap may_go (no_offer T g c mine next free)) standing
-        (is_place T.state.plain.memory o k on.0 still_open cap);
+        (ap may_go (no_offer T g c mine next free)) standing meeting;
     at = _;
     channels = control_step T.code T.encode T.place T.words T.recs T.state T.at T.channels g c at_rest mine o k k (n + 4)
         Unlocked (T.at.head o) (Accepted t) b on (record {
@@ -366,6 +376,9 @@ meet_is T g c mine o n x next hold free sizing shut up = (
 
     still_open : k.closed ≡ false
     still_open = is_open T g c mine o n held k on shut
+
+    meeting : is_meeting_at (slice_get T.state.plain.memory.heap o) ≡ true
+    meeting = is_place T.state.plain.memory o k on.0 still_open cap
 
     one : (i : ℕ) × (T.at.phase o ≡ Offered i)
     one = offered_of (T.at.phase o) (phase_is T o k n on cap said'.1 ∙ up)

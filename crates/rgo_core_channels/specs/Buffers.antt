@@ -1,7 +1,9 @@
 -- The store to a control that makes an operation of one goroutine take effect, and unlocks the channel: a send into a buffer, a
 -- receive from one, a receive from a closed channel, a close. Each is an instruction of the region machine.
-use Rattle.std.specs.Prelude.{◌≡◌, ◌⊎◌, ℕ, ◌+◌, ◌-◌, ◌%◌, ◌<◌, List, [], ◌∷◌}
+use Rattle.std.specs.Prelude.{◌≡◌, ◌⊎◌, ℕ, ◌+◌, ◌-◌, ◌%◌, ◌<◌, List, [], ◌∷◌, Some}
 use Rattle.rgo_typed.specs.declared.actions.Action.TheVariants.{Recv, Send, Close}
+use Rattle.rgo_memory.specs.Channels.{close, receive, send}
+use Rattle.rgo_memory.specs.Effects.{Does}
 use Rattle.rgo_memory.specs.Memory.{with_object}
 use Rattle.rgo_memory.specs.declared.values.Value.{Value}
 use Rattle.rgo_memory.specs.declared.values.Value.TheVariants as value
@@ -19,7 +21,10 @@ abbrev pub SendLaw : Type 0
 SendLaw = Law (λ T g c. (o n i x size : ℕ) (v : Value) (next : Next T.code T.state g Send (value.Object o ∷ v ∷ []))
     → c.hold ≡ Wrote (T.place o) n i x → T.encode v ≡ x → c.post ≡ Nowhere → c.size ≡ Sized (T.place o) size
     → closed_of n ≡ 0 → count_of n < size → i ≡ (head_of n + count_of n) % size
-    → (k : Chan) × On T.state o k × Gains T g (T.place o) (n + 4) at_rest (Instruct (One g))
+    → (k : Chan) × On T.state o k
+    × (send T.state.plain.memory (value.Object o) v
+    ≡ Some (Does (with_object T.state.plain.memory o (channel (pushed v k))) value.Nil))
+    × Gains T g (T.place o) (n + 4) at_rest (Instruct (One g))
     (after next (with_object T.state.plain.memory o (channel (pushed v k))) value.Nil))
 
 -- a receive of the oldest value, which is the word that was loaded
@@ -28,6 +33,8 @@ ReceiveLaw = Law (λ T g c. (o n i x size : ℕ) (next : Next T.code T.state g R
     → c.hold ≡ Read (T.place o) n i x → c.post ≡ Nowhere → c.size ≡ Sized (T.place o) size → 0 < count_of n
     → 0 < size → i ≡ head_of n
     → (k : Chan) × On T.state o k × (v : Value) × (queue : List Value) × (k.queue ≡ v ∷ queue) × (T.encode v ≡ x)
+    × (receive T.state.plain.memory (value.Object o) (blank_of next.before)
+    ≡ Some (Does (with_object T.state.plain.memory o (channel (popped k queue))) v))
     × Gains T g (T.place o) (control (closed_of n) (count_of n - 1) ((head_of n + 1) % size)) at_rest
     (Instruct (One g)) (after next (with_object T.state.plain.memory o (channel (popped k queue))) v))
 
@@ -36,11 +43,17 @@ abbrev pub ZeroLaw : Type 0
 ZeroLaw = Law (λ T g c. (o n size : ℕ) (next : Next T.code T.state g Recv (value.Object o ∷ []))
     → c.hold ≡ Locked (T.place o) n → c.post ≡ Nowhere → c.size ≡ Sized (T.place o) size → closed_of n ≡ 1
     → (size ≡ 0) ⊎ (count_of n ≡ 0)
-    → (k : Chan) × On T.state o k × Gains T g (T.place o) n at_rest (Instruct (One g))
+    → (k : Chan) × On T.state o k
+    × (receive T.state.plain.memory (value.Object o) (blank_of next.before)
+    ≡ Some (Does (with_object T.state.plain.memory o (channel k)) (blank_of next.before)))
+    × Gains T g (T.place o) n at_rest (Instruct (One g))
     (after next (with_object T.state.plain.memory o (channel k)) (blank_of next.before)))
 
 abbrev pub CloseLaw : Type 0
 CloseLaw = Law (λ T g c. (o n : ℕ) (next : Next T.code T.state g Close (value.Object o ∷ []))
     → c.hold ≡ Locked (T.place o) n → c.post ≡ Nowhere → closed_of n ≡ 0
-    → (k : Chan) × On T.state o k × Gains T g (T.place o) (n + 2) at_rest (Instruct (One g))
+    → (k : Chan) × On T.state o k
+    × (close T.state.plain.memory (value.Object o)
+    ≡ Does (with_object T.state.plain.memory o (channel (closed_now k))) value.Nil)
+    × Gains T g (T.place o) (n + 2) at_rest (Instruct (One g))
     (after next (with_object T.state.plain.memory o (channel (closed_now k))) value.Nil))

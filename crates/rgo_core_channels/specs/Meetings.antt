@@ -1,11 +1,14 @@
 -- Channels without a buffer: an offer is put up, a receiver takes it, and the sender acknowledges that it was taken.
-use Rattle.std.specs.Prelude.{◌≡◌, ◌≢◌, ℕ, ◌+◌, ◌-◌, [], ◌∷◌, Some, slice_get}
+use Rattle.std.specs.List.{list_any}
+use Rattle.std.specs.Prelude.{◌≡◌, ◌≢◌, ℕ, ◌+◌, ◌-◌, true, false, [], ◌∷◌, Some, slice_get}
 use Rattle.rgo_typed.specs.declared.actions.Action.TheVariants.{Recv, Send}
+use Rattle.rgo_memory.specs.Channels.{is_meeting_at}
 use Rattle.rgo_memory.specs.declared.values.Value.{Value}
 use Rattle.rgo_memory.specs.declared.values.Value.TheVariants as value
 use Rattle.rgo_machine.specs.declared.picks.Pick.TheVariants.{Meet}
 use Rattle.rgo_region_machine.specs.Duties.{attended}
 use Rattle.rgo_region_machine.specs.Machine.{Acknowledge, Instruct, MakeOffer}
+use Rattle.rgo_region_machine.specs.Offers.{offers_on}
 use Rattle.rgo_region_machine.specs.States.{Holder, NoOffer, Standing, Taken}
 use Rattle.rgo_core_channels.specs.After.{after_meeting}
 use Rattle.rgo_core_channels.specs.Controls.{closed_of, count_of}
@@ -18,7 +21,9 @@ abbrev pub OfferLaw : Type 0
 OfferLaw = Law (λ T g c. (o n x : ℕ) (v : Value) (next : Next T.code T.state g Send (value.Object o ∷ v ∷ []))
     → c.hold ≡ Wrote (T.place o) n 0 x → T.encode v ≡ x → c.post ≡ Nowhere → c.size ≡ Sized (T.place o) 0
     → closed_of n ≡ 0 → count_of n ≡ 0
-    → Gains T g (T.place o) (n + 4) (offering (T.place o)) (MakeOffer g)
+    → (is_meeting_at (slice_get T.state.plain.memory.heap o) ≡ true)
+    × (list_any (λ (h : Holder). offers_on o h.offer) T.state.holders ≡ false)
+    × Gains T g (T.place o) (n + 4) (offering (T.place o)) (MakeOffer g)
     (attended T.state g (record next.holder { offer = Standing o })))
 
 -- A meeting, by the receiver. Goroutine t, whose offer stands, goes on in the state, and its record stays at its send.
@@ -29,6 +34,7 @@ MeetLaw = Law (λ T g c. (o n x : ℕ) (next : Next T.code T.state g Recv (value
     → (t : ℕ) × (v : Value) × (sends : Next T.code T.state t Send (value.Object o ∷ v ∷ [])) × (g ≢ t)
     × (sends.holder.offer ≡ Standing o) × (T.encode v ≡ x)
     × (y : Rec) × (slice_get T.recs t ≡ Some y) × (y.post ≡ Offering (T.place o))
+    × (is_meeting_at (slice_get T.state.plain.memory.heap o) ≡ true)
     × Gains T g (T.place o) (n + 4) at_rest (Instruct (Meet g t)) (after_meeting o next sends v))
 
 -- an acknowledgement: the sender's record goes on

@@ -8,7 +8,7 @@ use Rattle.rgo_sound.proofs.Tests.{ne_of}
 use Rattle.rgo_region_machine.specs.declared.regions.Region.TheVariants.{Numbered}
 use Rattle.rgo_region_machine.specs.Examples.{int_slot, main_of, plain}
 use Rattle.rgo_region_machine.specs.Regions.{bound, is_live}
-use Rattle.rgo_core_frames.specs.Examples.{FrameExamples, LocalExamples, RecordExamples, WordExamples, one_constant, small_table, two_owners, two_regions}
+use Rattle.rgo_core_frames.specs.Examples.{FrameExamples, IntExamples, LocalExamples, RecordExamples, WordExamples, one_constant, small_table, two_owners, two_regions}
 use Rattle.rgo_core_frames.specs.Fits.{IsOfLive}
 use Rattle.rgo_core_frames.specs.LocalLaws.{ConstantsFit}
 
@@ -82,6 +82,20 @@ records = record {
   keeps = λ code g. let n : 2 ≡ 3 = g.new in absurd (omega (arith, n));
 }
 
+-- ---- ints
+
+ints : IntExamples
+ints = record {
+  largest = record { sfits = omega arith };
+  larger = λ f. let l = f.sfits in absurd (omega (arith, l));
+  smallest = record { sfits = omega arith };
+  smaller = λ f. let l = f.sfits in absurd (omega (arith, l));
+  pointer = tt;
+  slice = ((record { sfits = omega arith }, (tt, tt)), record { sfits = omega arith });
+  wide_cell = λ f. let l = f.0.sfits in absurd (omega (arith, l));
+  wide_channel = λ f. let l = f.1.sfits in absurd (omega (arith, l));
+}
+
 -- ---- local steps
 
 same_constant : (k j : ℤ) (to : Option ℕ) (from removes : List ℕ)
@@ -116,4 +130,4 @@ steps = record {
 }
 
 pub examples : FrameExamples
-examples = record { words = words; records = records; steps = steps }
+examples = record { words = words; ints = ints; records = records; steps = steps }

@@ -27,3 +27,4 @@ pub mod Tables
 pub mod Examples
 pub mod Making
 pub mod Sending
+pub mod Ints

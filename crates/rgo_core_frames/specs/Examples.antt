@@ -1,9 +1,10 @@
 -- Each definition where it holds and where it must not, and local steps of a small code, computed.
 use Rattle.std.specs.Option.{option_map}
-use Rattle.std.specs.Prelude.{FitsSigned, List, None, Option, Some, [], false, option_and_then, pos, true, ℕ, ℤ, ◌+◌, ◌∷◌, ◌≡◌}
+use Rattle.std.specs.Prelude.{FitsSigned, List, None, Option, Some, [], false, negsuc, option_and_then, pos, true, ℕ, ℤ, ◌+◌, ◌∷◌, ◌≡◌}
 use Rattle.std.specs.Int.{w64}
 use Rattle.rgo_ast.specs.declared.ops.BinaryOp.TheVariants.{Add, Div, Sub}
 use Rattle.rgo_typed.specs.declared.actions.Action.TheVariants as action
+use Rattle.rgo_memory.specs.Memory.{Channel, SliceObject, StructObject}
 use Rattle.rgo_memory.specs.declared.values.Value.TheVariants as value
 use Rattle.rgo_machine.specs.declared.picks.End.TheVariants.{Exit}
 use Rattle.rgo_tac.specs.declared.regions.Class.TheVariants.{NoClass}
@@ -19,6 +20,7 @@ use Rattle.rgo_region_machine.specs.Regions.{RegionInfo}
 use Rattle.rgo_region_machine.specs.States.{Create, Duty, Holder, Remove, Share, Standing}
 use Rattle.rgo_core_frames.specs.Creations.{GivesSlot}
 use Rattle.rgo_core_frames.specs.Fits.{AllFit, ObjectsDiffer, SlotsDiffer}
+use Rattle.rgo_core_frames.specs.Ints.{IntFits, ObjectIntsFit}
 use Rattle.rgo_core_frames.specs.Local.{local_duty}
 use Rattle.rgo_core_frames.specs.LocalLaws.{ConstantsFit, end_by_frames}
 use Rattle.rgo_core_frames.specs.NameTables.{NameTable, TableShows}
@@ -160,7 +162,20 @@ pub record LocalExamples : Type 0 where
   pub constants : (k : ℤ) → FitsSigned w64 k → ConstantsFit (one_constant k)
   pub unfit : (k : ℤ) → (FitsSigned w64 k → ⊥) → ConstantsFit (one_constant k) → ⊥
 
+-- ---- ints
+
+pub record IntExamples : Type 0 where
+  pub largest : IntFits (value.Int (pos 9223372036854775807))
+  pub larger : IntFits (value.Int (pos 9223372036854775808)) → ⊥
+  pub smallest : IntFits (value.Int (negsuc 9223372036854775807))
+  pub smaller : IntFits (value.Int (negsuc 9223372036854775808)) → ⊥
+  pub pointer : IntFits (value.Object 9223372036854775808)
+  pub slice : ObjectIntsFit (SliceObject (value.Int (pos 3) ∷ value.Nil ∷ []))
+  pub wide_cell : ObjectIntsFit (StructObject (value.Int (pos 9223372036854775808) ∷ [])) → ⊥
+  pub wide_channel : ObjectIntsFit (Channel 9223372036854775808 [] false) → ⊥
+
 pub record FrameExamples : Type 0 where
   pub words : WordExamples
+  pub ints : IntExamples
   pub records : RecordExamples
   pub steps : LocalExamples

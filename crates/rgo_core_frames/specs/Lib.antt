@@ -6,6 +6,7 @@ pub mod Creations
 pub mod Ends
 pub mod Examples
 pub mod Fits
+pub mod Ints
 pub mod Local
 pub mod LocalLaws
 pub mod Makes

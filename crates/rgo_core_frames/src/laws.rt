@@ -6,6 +6,7 @@ ghost use Rattle.rgo_core_frames.specs.Children.{GoLaw};
 ghost use Rattle.rgo_core_frames.specs.Creations.{CreateLaw};
 ghost use Rattle.rgo_core_frames.specs.Ends.{FinishLaw, TrapLaw};
 ghost use Rattle.rgo_core_frames.specs.Examples.{FrameExamples};
+ghost use Rattle.rgo_core_frames.specs.Ints.{IntsStay};
 ghost use Rattle.rgo_core_frames.specs.LocalLaws.{LocalLaw, StakesStay};
 ghost use Rattle.rgo_core_frames.specs.Makes.{RegionLaw};
 ghost use Rattle.rgo_core_frames.specs.Meetings.{AcknowledgeLaw, MeetLaw, OfferLaw, SentLaw};
@@ -22,6 +23,11 @@ ghost use Rattle.rgo_core_frames.specs.States.{SoundStays};
 /// A state of a run of checked code is sound: the first is, and each step keeps it.
 pub fn sound_stays()
     ensures { SoundStays }
+{}
+
+/// Ints of a run fit in words, where the constants of the code do: at the start, and after each step.
+pub fn ints_stay()
+    ensures { IntsStay }
 {}
 
 /// The record of `main` stands for it as a run begins.

@@ -1,0 +1,232 @@
+-- Accesses to chains of pages.
+use Rattle.std.proofs.Common.{◌≡◌, ◌⊎◌, inl, inr, ⊎_elim, ℕ, suc, ◌+◌, ◌<◌, ◌≤◌, List, [], ◌∷◌, map, drop, slice_set, slice_index, refl, ap, sym, subst, ◌∙◌, arith}
+use Rattle.rgo_core_channels.specs.Channels.{Chan, On, channel}
+use Rattle.rgo_core_channels.proofs.Lists.{set_own}
+use Rattle.rgo_core_channels.proofs.Quiet.{word_keeps}
+use mathlib.Core.Logic.{dite}
+use native.Mathlib.Decide.{ℕ_discrete}
+use Rattle.rgo_core_memory.specs.Ground.{Ground, Steady, ground_of}
+use Rattle.rgo_core_memory.specs.Image.{Image as MemoryImage, Memory, Where, code_of}
+use Rattle.rgo_core_memory.specs.Pages.{Chain, Chained, Free, Place, times}
+use Rattle.rgo_core_memory.specs.Parts.{Living, Use, Vacant}
+use Rattle.rgo_core_memory.specs.Records.{Calm, Claim, Claims, Closes, Gave, Give, Gives, Giving, Got, Has, Hung, Idle, Past, Rec as MemoryRec, with_claim, with_give}
+use Rattle.rgo_core_memory.specs.Words.{base, count_at, head_at, next_at, put, state_at}
+use Rattle.rgo_core_memory.specs.declared.layout.TableSizes.{TableSizes}
+use Rattle.rgo_core_memory.proofs.Chains.{times_else, times_first}
+use Rattle.rgo_core_memory.proofs.Facts.{follow}
+use Rattle.rgo_core_memory.proofs.Keeps.{clear_keeps, free_keeps, hang_keeps, head_keeps, link_keeps, next_keeps, slot_keeps}
+use Rattle.rgo_core_memory.proofs.Rows.{set_here}
+use Rattle.rgo_core_memory.proofs.Slots.{stake_slot}
+use Rattle.rgo_core_memory.proofs.Steadies.{steady_of}
+use Rattle.rgo_core.specs.Chains.{ClearMove, FreeMove, HangMove, HeadMove, LinkMove, NextMove, SlotMove, frees, remembers}
+use Rattle.rgo_core.specs.Core.{Here, Setup, layout}
+use Rattle.rgo_core.specs.Image.{Image, place_of}
+use Rattle.rgo_core.specs.Records.{ClockRec, Record, counted, memory_of, side_of}
+use Rattle.rgo_core.specs.Steps.{Steps}
+use Rattle.rgo_core.proofs.Leaving.{channel_stands}
+use Rattle.rgo_core.proofs.Lift.{access_law}
+use Rattle.rgo_core.proofs.Parts.{I, frame_stays, image_with, is_memory, side_stays}
+use Rattle.rgo_core.proofs.Telling.{told_law}
+
+-- ---- pages of chains are pages of the table
+
+more_times : (q p : ℕ) (ps : List ℕ) → 0 < times q ps → 0 < times q (p ∷ ps)
+more_times q p ps h = dite (ℕ_discrete p q)
+    (λ e. let w = times_first q p ps e in omega (arith, w))
+    (λ n. let w = times_else q p ps n in omega (arith, w, h))
+
+module _ (z : TableSizes) (words : List ℕ) (recs : List MemoryRec) (x : Ground) (places : Where) (k : MemoryImage z words recs x places) where
+  page_low : (r p : ℕ) → 0 < times p (places.chain r) → p < z.pages
+  page_low r p h = let s = (k.pages.is_chained p r (k.pages.on r p h)).0 in k.own.ranged p (omega (arith, s))
+
+  -- from a page of the chain on
+  chain_low : (r h : ℕ) (l : List ℕ) → ((p : ℕ) → 0 < times p l → 0 < times p (places.chain r)) → Chain places.link h l → h ≤ z.pages
+  chain_low r h [] in_chain ch = omega (arith, ch)
+  chain_low r h (p ∷ ps) in_chain ch =
+      let w = times_first p p ps refl in
+      let low = page_low r p (in_chain p (omega (arith, w))) in
+      let e = ch.0 in omega (arith, low, e)
+
+  module _ (g : ℕ) (c : MemoryRec) (own : Has recs g c) where
+    pub giving_low : (r n : ℕ) → c.give ≡ Giving r n → n ≤ z.pages
+    giving_low r n e =
+        let t : places.top r ≡ n = k.pages.cursors g r n c own (subst (λ (y : Give). Gives y r n) (sym e) (refl, refl)) in
+        chain_low r n (places.chain r) (λ p h. h) (subst (λ (h : ℕ). Chain places.link h (places.chain r)) t (k.pages.chains r))
+
+    pub past_low : (r p q : ℕ) → c.give ≡ Past r (suc p) q → (p < z.pages) × (q ≤ z.pages)
+    past_low r p q e = go (places.chain r) refl (k.pages.chains r)
+      where
+        t : places.top r ≡ suc p
+        t = k.pages.cursors g r (suc p) c own (subst (λ (y : Give). Gives y r (suc p)) (sym e) (refl, refl))
+
+        link : places.link p ≡ q
+        link = k.pages.pasts g r p q c own e
+
+        go : (l : List ℕ) → places.chain r ≡ l → Chain places.link (places.top r) l → (p < z.pages) × (q ≤ z.pages)
+        go [] is ch = absurd (omega (arith, ch, t))
+        go (y ∷ ps) is ch =
+            let h = ch.0 in
+            let same : y ≡ p = omega (arith, h, t) in
+            let w = times_first p y ps same in (
+              page_low r p (subst (λ (l : List ℕ). 0 < times p l) (sym is) (omega (arith, w))),
+              chain_low r q ps (λ j u. subst (λ (l : List ℕ). 0 < times j l) (sym is) (more_times j y ps u))
+                  (subst (λ (m : ℕ). Chain places.link m ps) (ap places.link same ∙ link) ch.1),
+            )
+
+    -- the slot of a chain that is given back
+    pub closing_low : (r : ℕ) → Closes c.give r → r < z.slots
+    closing_low r h = (k.counts.closes g r c own h).0
+
+    pub hung_low : (p r old : ℕ) → c.claim ≡ Hung p r old → p < z.pages
+    hung_low p r old e =
+        let s = (k.pages.is_chained p r (k.pages.hungs g p r old c own e).0).0 in k.own.ranged p (omega (arith, s))
+
+    pub got_low : Steady x → (p r : ℕ) → c.claim ≡ Got p r → r ≤ z.slots
+    got_low steady p r e = ⊎_elim
+        (λ (u : r ≡ z.slots). omega (arith, u))
+        (λ (u : (m : ℕ) × (r < z.slots) × (places.uses r ≡ Living m)). let l = u.1 in omega (arith, l))
+        (stake_slot z words recs x places k steady g r
+        (k.filled.claims g r c own (subst (λ (y : Claim). Claims y r) (sym e) refl)))
+
+-- ---- the image after
+
+module _ {T : Setup} {g : ℕ} {c : Record} (x : Here T g c) where
+  -- a word before the cells is stored, and the record's part of memory changes
+  pub chain_image : (i v : ℕ) → i < base (layout T) → (k : ClockRec) (m : MemoryRec) (uses : ℕ → Use) (at : ℕ → Place) (chain : ℕ → List ℕ)
+      (link top : ℕ → ℕ)
+      → Memory (layout T) (slice_set x.words i v) (slice_set (map memory_of x.recs) g m) x.s
+      (record (I x).places { uses = uses; at = at; chain = chain; link = link; top = top })
+      → Image T.code (layout T) (slice_set x.words i v) (slice_set x.recs g (record c { clock = k; memory = m })) x.s
+  chain_image i v low k m uses at chain link top M =
+      let p : Where = record (I x).places { uses = uses; at = at; chain = chain; link = link; top = top } in
+      image_with x (slice_set x.words i v) (record c { clock = k; memory = m }) x.s p (I x).at (I x).addresses (I x).addressed
+      (frame_stays x x.s (I x).places.slot (I x).addresses (I x).frames) M
+      (side_stays x (slice_set x.words i v) x.s p (I x).at
+      (word_keeps T.code (code_of (layout T) (I x).places) (place_of (layout T) (I x).places) x.words (map side_of x.recs) x.s (I x).at i v
+      (λ o l on. inl (before o l on)) (I x).channels))
+    where
+      before : (o : ℕ) (l : Chan) → On x.s o l → i < place_of (layout T) (I x).places o
+      before o l on =
+          let y = channel_stands x.s o l on in
+          let w = (follow (layout T) x.words (map memory_of x.recs) x.s (I x).places (I x).memory o 0 (channel l) y.0 y.1 (omega arith)).0 in
+          omega (arith, w, low)
+
+  -- the word stays
+  pub look_image : (i : ℕ) → i < base (layout T) → (k : ClockRec) (m : MemoryRec)
+      → Memory (layout T) x.words (slice_set (map memory_of x.recs) g m) x.s (I x).places
+      → Image T.code (layout T) (slice_set x.words i (slice_index x.words i)) (slice_set x.recs g (record c { clock = k; memory = m })) x.s
+  look_image i low k m M =
+      chain_image i (slice_index x.words i) low k m (I x).places.uses (I x).places.at (I x).places.chain (I x).places.link (I x).places.top
+      (subst (λ (w : List ℕ). Memory (layout T) w (slice_set (map memory_of x.recs) g m) x.s (I x).places) (sym (set_own x.words i)) M)
+
+  pub remembered : (words : List ℕ) (m : MemoryRec) → Image T.code (layout T) words (slice_set x.recs g (remembers c m)) x.s
+      → Steps x words (remembers c m)
+  remembered words m image = inr (record {
+    counted = refl;
+    same = record { prints = refl; first = refl; children = refl; refused = refl };
+    image = image;
+  })
+
+one_less : (c : Record) (r q left : ℕ) → c.clock.owed ≡ suc left → counted (frees c r q left).clock ≡ counted c.clock
+one_less c r q left owed = λ i. record (counted c.clock) {
+  returned = (let e : suc c.clock.share.returned + left ≡ c.clock.share.returned + c.clock.owed = omega (arith, owed) in e) i;
+}
+
+pub hang_move : HangMove
+hang_move T g c p r got =
+    access_law T g c (head_at (layout T) r) (λ n. suc p) (λ n. remembers c (with_claim c.memory (Hung p r n))) (omega arith) (λ n. refl)
+    (λ x small.
+    let k = (I x).places in
+    let low = got_low (layout T) x.words (map memory_of x.recs) (ground_of x.s) k (I x).memory g c.memory (is_memory x)
+    (steady_of T.code x.s x.core.sound.good) p r got in
+    remembered x _ _ (chain_image x (head_at (layout T) r) (suc p) (omega (arith, low)) _ _ k.uses (put k.at p (Chained r))
+    (put k.chain r (p ∷ k.chain r)) (put k.link p (slice_index x.words (head_at (layout T) r))) (put k.top r (suc p))
+    (hang_keeps T.code (layout T) x.words (map memory_of x.recs) x.s k g c.memory x.core.sound.good (I x).memory (is_memory x) p r got)))
+
+pub link_move : LinkMove
+link_move T g c p r old hung =
+    access_law T g c (next_at (layout T) p) (λ n. old) (λ n. remembers c (with_claim c.memory Idle)) (omega arith) (λ n. refl)
+    (λ x small.
+    let k = (I x).places in
+    let low = hung_low (layout T) x.words (map memory_of x.recs) (ground_of x.s) k (I x).memory g c.memory (is_memory x) p r old hung in
+    remembered x _ _ (chain_image x (next_at (layout T) p) old (omega (arith, low)) _ _ k.uses k.at k.chain k.link k.top
+    (link_keeps T.code (layout T) x.words (map memory_of x.recs) x.s k g c.memory x.core.sound.good (I x).memory (is_memory x) p r old hung)))
+
+pub head_move : HeadMove
+head_move T g c r owes =
+    told_law T g c (head_at (layout T) r) (λ n. n)
+    (λ n d. (d ≡ remembers c (with_give c.memory (Giving r n))) × (n ≤ T.sizes.pages)) (omega arith)
+    (λ x small.
+    let k = (I x).places in
+    let n : ℕ = slice_index x.words (head_at (layout T) r) in
+    let d : MemoryRec = with_give c.memory (Giving r n) in
+    let low = closing_low (layout T) x.words (map memory_of x.recs) (ground_of x.s) k (I x).memory g c.memory (is_memory x) r
+    (subst (λ (y : Give). Closes y r) (sym owes) refl) in
+    let M : Memory (layout T) x.words (slice_set (map memory_of x.recs) g d) x.s k =
+    head_keeps T.code (layout T) x.words (map memory_of x.recs) x.s k g c.memory x.core.sound.good (I x).memory (is_memory x) r owes in
+    record {
+      after = remembers c d;
+      more = refl;
+      steps = remembered x _ _ (look_image x (head_at (layout T) r) (omega (arith, low)) _ _ M);
+      tells_so = (
+        refl,
+        giving_low (layout T) x.words (slice_set (map memory_of x.recs) g d) (ground_of x.s) k M g d
+            (set_here (map memory_of x.recs) g d c.memory (is_memory x)) r n refl,
+      );
+    })
+
+pub next_move : NextMove
+next_move T g c r p gives =
+    told_law T g c (next_at (layout T) p) (λ n. n)
+    (λ n d. (d ≡ remembers c (with_give c.memory (Past r (suc p) n))) × (n ≤ T.sizes.pages)) (omega arith)
+    (λ x small.
+    let k = (I x).places in
+    let n : ℕ = slice_index x.words (next_at (layout T) p) in
+    let d : MemoryRec = with_give c.memory (Past r (suc p) n) in
+    let low = giving_low (layout T) x.words (map memory_of x.recs) (ground_of x.s) k (I x).memory g c.memory (is_memory x) r (suc p) gives in
+    let M : Memory (layout T) x.words (slice_set (map memory_of x.recs) g d) x.s k =
+    next_keeps T.code (layout T) x.words (map memory_of x.recs) x.s k g c.memory x.core.sound.good (I x).memory (is_memory x) r p gives in
+    record {
+      after = remembers c d;
+      more = refl;
+      steps = remembered x _ _ (look_image x (next_at (layout T) p) (omega (arith, low)) _ _ M);
+      tells_so = (
+        refl,
+        (past_low (layout T) x.words (slice_set (map memory_of x.recs) g d) (ground_of x.s) k M g d
+            (set_here (map memory_of x.recs) g d c.memory (is_memory x)) r p n refl).1,
+      );
+    })
+
+pub free_move : FreeMove
+free_move T g c r p q left past owed =
+    access_law T g c (state_at (layout T) p) (λ n. 0) (λ n. frees c r q left) (omega arith) (λ n. refl)
+    (λ x small.
+    let k = (I x).places in
+    let low = (past_low (layout T) x.words (map memory_of x.recs) (ground_of x.s) k (I x).memory g c.memory (is_memory x) r p q past).0 in
+    inr (record {
+      counted = one_less c r q left owed;
+      same = record { prints = refl; first = refl; children = refl; refused = refl };
+      image = chain_image x (state_at (layout T) p) 0 (omega (arith, low)) _ _ k.uses (put k.at p Free) (put k.chain r (drop 1 (k.chain r)))
+          k.link (put k.top r q)
+          (free_keeps T.code (layout T) x.words (map memory_of x.recs) x.s k g c.memory x.core.sound.good (I x).memory (is_memory x) r p q past);
+    }))
+
+pub clear_move : ClearMove
+clear_move T g c r gives =
+    access_law T g c (head_at (layout T) r) (λ n. 0) (λ n. remembers c (with_give c.memory (Gave r))) (omega arith) (λ n. refl)
+    (λ x small.
+    let k = (I x).places in
+    let low = closing_low (layout T) x.words (map memory_of x.recs) (ground_of x.s) k (I x).memory g c.memory (is_memory x) r
+    (subst (λ (y : Give). Closes y r) (sym gives) refl) in
+    remembered x _ _ (chain_image x (head_at (layout T) r) 0 (omega (arith, low)) _ _ k.uses k.at k.chain k.link k.top
+    (clear_keeps T.code (layout T) x.words (map memory_of x.recs) x.s k g c.memory x.core.sound.good (I x).memory (is_memory x) r gives)))
+
+pub slot_move : SlotMove
+slot_move T g c r gave =
+    access_law T g c (count_at (layout T) r) (λ n. 0) (λ n. remembers c (with_give c.memory Calm)) (omega arith) (λ n. refl)
+    (λ x small.
+    let k = (I x).places in
+    let low = closing_low (layout T) x.words (map memory_of x.recs) (ground_of x.s) k (I x).memory g c.memory (is_memory x) r
+    (subst (λ (y : Give). Closes y r) (sym gave) refl) in
+    remembered x _ _ (chain_image x (count_at (layout T) r) 0 (omega (arith, low)) _ _ (put k.uses r Vacant) k.at k.chain k.link k.top
+    (slot_keeps T.code (layout T) x.words (map memory_of x.recs) x.s k g c.memory x.core.sound.good (I x).memory (is_memory x) r gave)))

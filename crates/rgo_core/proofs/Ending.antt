@@ -1,0 +1,138 @@
+-- A run is ended for want of room, or by a limit.
+use Rattle.std.proofs.Common.{◌≡◌, ℕ, ◌+◌, true, option_map, List, ◌∷◌, Option, Some, None, length, map, slice_get, slice_set, slice_index, bit_or, refl, ap, sym, subst, ◌∙◌, arith}
+use Rattle.std.proofs.lemmas.List.{length-map}
+use Rattle.std.proofs.lemmas.Option.{same_Some, slice_get-map}
+use Rattle.rgo_code.specs.Code.{Call, Code, CodeFn, CodeInstr, CodeOp, Go}
+use Rattle.rgo_code.specs.Erasure.{erased, erased_fn, erased_instr, erased_op}
+use Rattle.rgo_core_channels.proofs.Quiet.{finish_keeps}
+use Rattle.rgo_core_channels.specs.Channels.{Channels}
+use Rattle.rgo_core_frames.proofs.Ending.{finish_law}
+use Rattle.rgo_core_frames.proofs.Sound.{next_sound}
+use Rattle.rgo_core_memory.proofs.Elsewhere.{ground_keeps}
+use Rattle.rgo_core_memory.specs.Ground.{ground_of}
+use Rattle.rgo_core_memory.specs.Image.{code_of}
+use Rattle.rgo_machine.specs.Limits.{IsAtCall, IsAtStart, deepest}
+use Rattle.rgo_machine.specs.Machines.{AtCall, AtStart}
+use Rattle.rgo_region_machine.specs.Machine.{Finish, finished, kept}
+use Rattle.rgo_region_machine.specs.Owed.{current, function_of}
+use Rattle.rgo_region_machine.specs.States.{Mark, RegionState, Stopped}
+use Rattle.rgo_region_machine.specs.declared.limits.Limit.{Limit}
+use Rattle.rgo_region_machine.specs.declared.limits.Limit.TheVariants.{Calls, Goroutines}
+use Rattle.rgo_sound.proofs.OneStep.{current_erased}
+use Rattle.rgo_sound.specs.Tally.{no_share}
+use Rattle.rgo_tac.specs.Frames.{Frame, moved_to, values_of}
+use Rattle.rgo_tac.specs.Steps.{at_function, stand, stand_at, stand_before}
+use Rattle.rgo_tac.specs.declared.regions.Class.{Class}
+use Rattle.rgo_core.specs.Causes.{Stops}
+use Rattle.rgo_core.specs.ClockSteps.{Ends, first_mark}
+use Rattle.rgo_core.specs.Core.{Here, Setup, layout}
+use Rattle.rgo_core.specs.Image.{Image, place_of}
+use Rattle.rgo_core.specs.Laws.{CallsMove, FullMove, StopMove}
+use Rattle.rgo_core.specs.Next.{IsAt}
+use Rattle.rgo_core.specs.Records.{Record, clock_of, counted, frame_of, memory_of, side_of, with_end}
+use Rattle.rgo_core.proofs.ClockLifts.{end_law}
+use Rattle.rgo_core.proofs.Counting.{plus_none}
+use Rattle.rgo_core.proofs.Lift.{as_long, clock_at, many, many_set, shallow_here}
+use Rattle.rgo_core.proofs.Printing.{counts_step}
+use Rattle.rgo_core.proofs.Standing.{at_instruction, frame_at, frames_here, image_clock, image_same}
+
+kept_is : (m : Option Mark) (why : Limit) → kept m why ≡ first_mark m (Stopped why)
+kept_is None why = refl
+kept_is (Some m) why = refl
+
+module _ {T : Setup} {g : ℕ} {c : Record} (x : Here T g c) (why : Limit) (stops : Stops T.code T.sizes T.limits why x.s) where
+  abbrev d : Record
+  d = record c { clock = with_end c.clock (slice_index x.words 0) (Stopped why) }
+
+  ends : Ends x (Stopped why) d
+  ends =
+      let p = finish_law (frames_here x) why in
+      let is : finished x.s why ≡ p.state = same_Some (finished x.s why) p.state p.steps in
+      let sound = next_sound T.code T.sizes.page_words x.s p.state (Finish why) x.core.sound p.steps in
+      let after : Image T.code (layout T) x.words x.recs p.state = record {
+        places = x.core.image.places;
+        at = x.core.image.at;
+        addresses = x.core.image.addresses;
+        addressed = x.core.image.addressed;
+        frames = p.fit;
+        memory = ground_keeps (layout T) x.words (map memory_of x.recs) x.s p.state x.core.image.places (ap ground_of (sym is)) x.core.image.memory;
+        channels = subst (λ (t : RegionState). Channels T.code (code_of (layout T) x.core.image.places) (place_of (layout T) x.core.image.places) x.words (map side_of x.recs) t x.core.image.at) is
+            (finish_keeps T.code (code_of (layout T) x.core.image.places) (place_of (layout T) x.core.image.places) x.words (map side_of x.recs) x.s x.core.image.at why x.core.image.channels);
+      } in
+      let image = image_same T.code (layout T) x.words x.recs p.state after g c d x.is_c refl refl refl in
+      record {
+        goes = record {
+          event = Finish why;
+          next = p.state;
+          steps = p.steps;
+          gain = no_share;
+          adds = counts_step x.s p.state 0 p.regions_are p.same.global_pages p.same.memory (many_set x x.words d p.state sound image)
+              (let n = p.counted in omega arith);
+          counted = sym (plus_none (counted c.clock));
+          shallow = shallow_here x g c.frame (frame_at x);
+          image = image_clock T.code (layout T) x.words (slice_set x.recs g d) p.state (bit_or (slice_index x.words 0) 9223372036854775808) image;
+        };
+        marked = p.mark_is ∙ kept_is x.s.mark why;
+        printed = p.same.printed;
+        cause = λ e. stops;
+      }
+
+pub stop_move : StopMove
+stop_move T g c why stops =
+    end_law T g c (Stopped why) (λ n. record c { clock = with_end c.clock n (Stopped why) })
+    (λ n. record { prints = refl; first = refl; children = refl; refused = refl; accesses = refl })
+    (λ x fits. ends x why (stops x))
+
+-- ---- limits that the record tells
+
+-- where a frame stands at an instruction
+stands : (code : Code) (frame : Frame) (instr : CodeInstr) → current code frame ≡ Some instr
+    → stand (erased code) frame ≡ stand_before (erased code) frame (erased_op instr.op) instr.place
+stands code frame instr cur = ap (stand_at (erased code) frame) (current_erased code frame ∙ ap (option_map erased_instr) cur)
+
+there : (code : Code) (f : ℕ) (callee : CodeFn) → function_of code f ≡ Some callee → slice_get (erased code).functions f ≡ Some (erased_fn callee)
+there code f callee is = slice_get-map erased_fn code.functions f ∙ ap (option_map erased_fn) is
+
+module _ {T : Setup} {g : ℕ} {c : Record} (x : Here T g c) (f : ℕ) (callee : CodeFn) (from : List ℕ) (passes : List Class) (removes : List ℕ)
+    (is : function_of T.code f ≡ Some callee) where
+  too_deep : (to : Option ℕ) (protects : List ℕ) → IsAt T.code c (Call to f from passes protects removes) → length c.frame.frames ≡ deepest
+      → Stops T.code T.sizes T.limits Calls x.s
+  too_deep to protects a deep =
+      let b = (at_instruction x a).before in
+      record {
+        goroutine = g;
+        frame = b.frame;
+        callers = b.callers;
+        frames = b.at;
+        deep = as_long T.code x.core.image.places.slot x.core.image.addresses x.s (map frame_of x.recs) x.core.image.frames g c.frame (b.frame ∷ b.callers) (frame_at x) b.at ∙ deep;
+        calls = subst IsAtCall
+            (sym (stands T.code b.frame a.instr b.cur
+            ∙ (ap (λ (op : CodeOp). stand_before (erased T.code) b.frame (erased_op op) a.instr.place) a.is
+            ∙ ap (at_function (AtCall b.frame) f (values_of b.frame from)) (there T.code f callee is)))) tt;
+      }
+
+  no_more : IsAt T.code c (Go f from passes removes) → c.clock.refused ≡ true → Stops T.code T.sizes T.limits Goroutines x.s
+  no_more a refused =
+      let b = (at_instruction x a).before in
+      let k = x.core.story.numbers in
+      record {
+        full =
+            many T.code x.core.image.places.slot x.core.image.addresses x.s (map frame_of x.recs) x.core.sound x.core.image.frames
+            ∙ (length-map x.recs frame_of ∙ (sym (length-map x.recs clock_of) ∙ k.high (k.full g c.clock (clock_at x) refused)));
+        goroutine = g;
+        frame = b.frame;
+        callers = b.callers;
+        frames = b.at;
+        starts = subst IsAtStart
+            (sym (stands T.code b.frame a.instr b.cur
+            ∙ (ap (λ (op : CodeOp). stand_before (erased T.code) b.frame (erased_op op) a.instr.place) a.is
+            ∙ ap (at_function (AtStart (moved_to b.frame (b.frame.next + 1))) f (values_of b.frame from)) (there T.code f callee is)))) tt;
+      }
+
+pub calls_move : CallsMove
+calls_move T g c to f callee from passes protects removes a is deep =
+    stop_move T g c Calls (λ x. too_deep x f callee from passes removes is to protects a deep)
+
+pub full_move : FullMove
+full_move T g c f callee from passes removes a is refused =
+    stop_move T g c Goroutines (λ x. no_more x f callee from passes removes is a refused)

@@ -1,0 +1,162 @@
+-- What the object that a record makes next says of the region machine.
+use Rattle.std.proofs.Common.{◌≡◌, inl, inr, ℕ, ◌<◌, ◌^◌, false, pos, List, [], ◌∷◌, Option, Some, None, map, replicate, slice_get, refl, ap, sym, subst, ◌∙◌, arith, Contains}
+use Rattle.std.specs.Int.{cast_signed, w64}
+use Rattle.rgo_code.specs.Code.{CodeOp, Do}
+use Rattle.rgo_code.specs.Erasure.{erased, erased_fn, erased_op}
+use Rattle.rgo_code.specs.Types.{DoFits, HasType, HaveTypes, OpFits}
+use Rattle.rgo_memory.specs.Making.{made as made_effect, made_struct}
+use Rattle.rgo_memory.specs.Memory.{Memory as Heap, Object, SliceObject, StructObject}
+use Rattle.rgo_memory.specs.Values.{element_zero, zero_of}
+use Rattle.rgo_memory.specs.declared.values.Value.{Value}
+use Rattle.rgo_memory.specs.declared.values.Value.TheVariants as value
+use Rattle.rgo_region_machine.specs.Objects.{making_region}
+use Rattle.rgo_region_machine.specs.Owed.{function_at, function_of}
+use Rattle.rgo_region_machine.specs.States.{top_names}
+use Rattle.rgo_region_machine.specs.declared.regions.Region.{Region}
+use Rattle.rgo_sound.proofs.Acting.{performed}
+use Rattle.rgo_sound.proofs.Places.{contains_here}
+use Rattle.rgo_sound.proofs.TypedSteps.{types}
+use Rattle.rgo_tac.specs.Code.{Tac, TacFn}
+use Rattle.rgo_tac.specs.Flow.{reads}
+use Rattle.rgo_tac.specs.Frames.{Frame, value_at, values_of}
+use Rattle.rgo_tac.specs.Steps.{type_in, type_of}
+use Rattle.rgo_typed.specs.declared.actions.Action.{Action}
+use Rattle.rgo_typed.specs.declared.actions.Action.TheVariants as action
+use Rattle.rgo_typed.specs.declared.programs.Struct.{Struct}
+use Rattle.rgo_typed.specs.declared.types.Type.{«Type»}
+use Rattle.rgo_wellformed.specs.TypeRules.{int}
+use Rattle.rgo_core_channels.specs.Channels.{Chan, channel}
+use Rattle.rgo_core_channels.proofs.Steps.{same_channel}
+use Rattle.rgo_core_frames.specs.Before.{IsBefore}
+use Rattle.rgo_core_frames.specs.Shown.{IsAlike}
+use Rattle.rgo_core_frames.specs.States.{AtInstruction}
+use Rattle.rgo_core_frames.specs.WordFrames.{WordFrame, bare, word_at}
+use Rattle.rgo_core_frames.proofs.Operands.{int_law}
+use Rattle.rgo_core_memory.specs.Accesses.{Before}
+use Rattle.rgo_core_memory.specs.Allocations.{MakesNext}
+use Rattle.rgo_core.specs.Core.{Here, Setup}
+use Rattle.rgo_core.specs.Next.{IsAt}
+use Rattle.rgo_core.specs.NewObjects.{MakesObject, AStruct, ASlice, AChannel}
+use Rattle.rgo_core.specs.Records.{Record}
+use Rattle.rgo_core.proofs.Encodings.{small_int}
+use Rattle.rgo_core.proofs.Parts.{at_instruction}
+
+-- ---- types of operands
+
+heads : {X : Type 0} (x y : X) (xs ys : List X) → x ∷ xs ≡ y ∷ ys → x ≡ y
+heads x y xs ys e = cc
+
+pub first_type : (f : TacFn) (p : ℕ) (from : List ℕ) (operands : List «Type») (ty : «Type») (tys : List «Type») → operands ≡ ty ∷ tys
+    → HaveTypes f (p ∷ from) operands → HasType f p ty
+first_type f p from operands ty tys e h =
+    heads (slice_get f.variables p) (Some ty) (map (slice_get f.variables) from) (map Some tys) (h ∙ ap (map Some) e)
+
+slice_takes : (code : Tac) (f : TacFn) (to : Option ℕ) (operands : List «Type») → DoFits code f to action.Slice operands → operands ≡ int ∷ []
+slice_takes code f None operands d = absurd d
+slice_takes code f (Some q) operands d = let r = d.2 in r.0
+
+channel_takes : (code : Tac) (f : TacFn) (to : Option ℕ) (operands : List «Type») → DoFits code f to action.Chan operands → operands ≡ int ∷ []
+channel_takes code f None operands d = absurd d
+channel_takes code f (Some q) operands d = let r = d.2 in r.0
+
+-- the type of a target, by words
+type_alike : (code : Tac) (frame : Frame) (w : WordFrame) → IsAlike frame w → (to : Option ℕ)
+    → type_of code (bare w) to ≡ type_of code frame to
+type_alike code frame w alike None = refl
+type_alike code frame w alike (Some d) = ap (λ k. type_in (slice_get code.functions k) d) alike.function
+
+-- ---- what kinds of objects are
+
+struct_no_channel : (cells : List Value) (k : Chan) → StructObject cells ≡ channel k → ⊥
+struct_no_channel cells k e = cc
+
+slice_no_channel : (cells : List Value) (k : Chan) → SliceObject cells ≡ channel k → ⊥
+slice_no_channel cells k e = cc
+
+module _ {T : Setup} {g : ℕ} {c : Record} (x : Here T g c) (to : Option ℕ) (act : Action) (from removes : List ℕ)
+    (a : IsAt T.code c (Do to act from removes)) (object : Object) where
+  abbrev pub at : AtInstruction
+  at = at_instruction x a
+
+  abbrev pub b : IsBefore T.code at.here.slot_of at.here.addresses x.s g c.frame a.w a.ws a.instr
+  b = at.before
+
+  pub record Made : Type 0 where
+    pub does : performed T.code.structs act (type_of (erased T.code) b.frame to) (values_of b.frame from) x.s.plain.memory
+        ≡ Some (made_effect x.s.plain.memory object)
+    pub next : (r : Region) → making_region (function_at T.code b.frame) (top_names b.h.environments) a.instr.op ≡ Some r
+        → MakesNext T.code x.s g b.h r object
+    pub fresh : (k : Chan) → object ≡ channel k → (k.queue ≡ []) × (k.closed ≡ false) × (k.capacity < 1073741820)
+
+  abbrev mem : Heap
+  mem = x.s.plain.memory
+
+  abbrev before_is : (other : Action) (others : List ℕ) (values : List Value) → act ≡ other → from ≡ others → values_of b.frame others ≡ values
+      → Before T.code x.s g other values
+  before_is other others values ea ef ev = record {
+    frame = b.frame;
+    callers = b.callers;
+    at = b.at;
+    instr = a.instr;
+    cur = b.cur;
+    to = to;
+    from = others;
+    removes = removes;
+    is = a.is ∙ (λ i. Do to (ea i) (ef i) removes);
+    operands = ev;
+  }
+
+  -- a size
+  sized : (p n : ℕ) (other : Action) → act ≡ other → from ≡ p ∷ [] → word_at a.w p ≡ n → n < 2 ^ 63
+      → ((operands : List «Type») → DoFits (erased T.code) (erased_fn a.fn) to other operands → operands ≡ int ∷ [])
+      → Contains (reads (erased_op (Do to other (p ∷ []) removes))) p → value_at b.frame p ≡ value.Int (pos n)
+  sized p n other ea ef en small takes read =
+      let is : a.instr.op ≡ Do to other (p ∷ []) removes = a.is ∙ (λ i. Do to (ea i) (ef i) removes) in
+      let fn_is : function_at T.code b.frame ≡ Some a.fn = ap (function_of T.code) (sym b.newest.alike.function) ∙ a.in_fn in
+      let rule : OpFits (erased T.code) (erased_fn a.fn) (erased_op (Do to other (p ∷ []) removes)) =
+      types T.code x.core.sound.checked b.frame a.fn a.instr fn_is b.cur (Do to other (p ∷ []) removes) is in
+      int_law at p (record {
+        fn = a.fn;
+        is_fn = a.in_fn;
+        read = subst (λ (o : CodeOp). Contains (reads (erased_op o)) p) (sym is) read;
+        typed = first_type (erased_fn a.fn) p [] rule.0 int [] (takes rule.0 rule.2) rule.1;
+      })
+      ∙ ap (λ z. value.Int z) (ap (cast_signed w64) en ∙ small_int n small)
+
+  pub made : MakesObject T.code a.w to act from object → Made
+  made (AStruct n s ea ef es eo) = record {
+    does = (λ i. performed T.code.structs (ea i) (type_of (erased T.code) b.frame to) (values_of b.frame (ef i)) mem)
+        ∙ (ap (λ (y : Option Struct). Some (made_struct y mem)) es ∙ ap (λ (y : Object). Some (made_effect mem y)) (sym eo));
+    next = λ r region. inl (n, s, before_is (action.New n) [] [] ea ef refl, es, eo, region);
+    fresh = λ k e. absurd (struct_no_channel (map zero_of s.fields) k (sym eo ∙ e));
+  }
+  made (ASlice p ea ef small eo) =
+      let n = word_at a.w p in
+      let v : value_at b.frame p ≡ value.Int (pos n) = sized p n action.Slice ea ef refl small
+      (λ operands d. slice_takes (erased T.code) (erased_fn a.fn) to operands d) (contains_here p []) in
+      let o : object ≡ SliceObject (replicate n (element_zero (type_of (erased T.code) b.frame to))) =
+      eo ∙ ap (λ ty. SliceObject (replicate n (element_zero ty))) (type_alike (erased T.code) b.frame a.w b.newest.alike to) in
+      record {
+        does = (λ i. performed T.code.structs (ea i) (type_of (erased T.code) b.frame to) (values_of b.frame (ef i)) mem)
+            ∙ (ap (λ (y : Value). performed T.code.structs action.Slice (type_of (erased T.code) b.frame to) (y ∷ []) mem) v
+            ∙ ap (λ (y : Object). Some (made_effect mem y)) (sym o));
+        next = λ r region. inr (inl (n, before_is action.Slice (p ∷ []) (value.Int (pos n) ∷ []) ea ef (ap (λ (y : Value). y ∷ []) v), o, region));
+        fresh = λ k e. absurd (slice_no_channel (replicate n (element_zero (type_of (erased T.code) (bare a.w) to))) k (sym eo ∙ e));
+      }
+  made (AChannel p ea ef small eo) =
+      let n = word_at a.w p in
+      let v : value_at b.frame p ≡ value.Int (pos n) = sized p n action.Chan ea ef refl (omega (arith, small))
+      (λ operands d. channel_takes (erased T.code) (erased_fn a.fn) to operands d) (contains_here p []) in
+      record {
+        does = (λ i. performed T.code.structs (ea i) (type_of (erased T.code) b.frame to) (values_of b.frame (ef i)) mem)
+            ∙ (ap (λ (y : Value). performed T.code.structs action.Chan (type_of (erased T.code) b.frame to) (y ∷ []) mem) v
+            ∙ ap (λ (y : Object). Some (made_effect mem y)) (sym eo));
+        next = λ r region. inr (inr (n, before_is action.Chan (p ∷ []) (value.Int (pos n) ∷ []) ea ef (ap (λ (y : Value). y ∷ []) v), eo, region));
+        fresh = λ k e.
+            let same : record { capacity = n; queue = []; closed = false } ≡ k =
+            same_channel (record { capacity = n; queue = []; closed = false }) k (sym eo ∙ e) in (
+              sym (ap (λ (y : Chan). y.queue) same),
+              sym (ap (λ (y : Chan). y.closed) same),
+              subst (λ (y : Chan). y.capacity < 1073741820) same small,
+            );
+      }

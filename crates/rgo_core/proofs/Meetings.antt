@@ -1,0 +1,263 @@
+-- The store that commits an offer, a meeting or an acknowledgement.
+use Rattle.std.proofs.Common.{◌≡◌, ◌≢◌, ◌⊎◌, ℕ, zero, suc, ◌+◌, ◌-◌, ◌<◌, ◌≤◌, true, false, List, [], ◌∷◌, Option, Some, None, length, map, slice_get, slice_set, slice_index, refl, ap, sym, subst, ◌∙◌, inl, inr, arith, Contains}
+use Rattle.std.proofs.lemmas.Option.{same_Some}
+use Rattle.rgo_typed.specs.declared.actions.Action.TheVariants.{Recv, Send}
+use Rattle.rgo_memory.specs.declared.values.Value.{Value}
+use Rattle.rgo_memory.specs.declared.values.Value.TheVariants as value
+use Rattle.rgo_machine.specs.Limits.{deepest}
+use Rattle.rgo_machine.specs.declared.picks.Pick.TheVariants.{Meet}
+use Rattle.rgo_tac.specs.Flow.{reads}
+use Rattle.rgo_tac.specs.Frames.{Frame, value_at, values_of}
+use Rattle.rgo_code.specs.Code.{CodeInstr, CodeOp, Do}
+use Rattle.rgo_code.specs.Erasure.{erased_op}
+use Rattle.rgo_region_machine.specs.Duties.{attended, may_go}
+use Rattle.rgo_region_machine.specs.Machine.{Acknowledge, Event, Instruct, MakeOffer}
+use Rattle.rgo_region_machine.specs.Owed.{current}
+use Rattle.rgo_region_machine.specs.States.{Holder, NoOffer, RegionState, Standing, Taken, frames_in}
+use Rattle.rgo_sound.proofs.Places.{contains_here, contains_there, length_set}
+use Rattle.rgo_sound.specs.Offers.{StandsAtSend}
+use Rattle.rgo_sound.specs.Tally.{counts_plus, no_share}
+use Rattle.rgo_core_channels.specs.After.{after_meeting}
+use Rattle.rgo_core_channels.specs.Channels.{channel}
+use Rattle.rgo_core_channels.specs.Controls.{closed_of, count_of}
+use Rattle.rgo_core_channels.specs.Moments.{Gains}
+use Rattle.rgo_core_channels.specs.Records.{Locked, Offering, Read, Rec as SideRec, Sized, Wrote, at_rest, offering}
+use Rattle.rgo_core_channels.specs.Standing.{Next}
+use Rattle.rgo_core_channels.proofs.Meetings.{acknowledge_is, meet_is, offer_is}
+use Rattle.rgo_core_frames.specs.Actions.{acted as frames_acted, after_action}
+use Rattle.rgo_core_frames.specs.Fits.{AllFit, Fits, IsPast, IsShown}
+use Rattle.rgo_core_frames.specs.Meetings.{acknowledged, offering as frame_offering}
+use Rattle.rgo_core_frames.specs.Records.{Rec as FrameRec}
+use Rattle.rgo_core_frames.specs.Shown.{FramesShow}
+use Rattle.rgo_core_frames.specs.Steps.{StepsTo}
+use Rattle.rgo_core_frames.specs.WordFrames.{WordFrame, word_at as word_of}
+use Rattle.rgo_core_frames.specs.Words.{Shows}
+use Rattle.rgo_core_frames.proofs.Offering.{acknowledge_law, meet_law, offer_law}
+use Rattle.rgo_core_frames.proofs.Showing.{reads_show}
+use Rattle.rgo_core_memory.specs.Encoding.{address}
+use Rattle.rgo_core_memory.specs.Image.{Memory}
+use Rattle.rgo_core_memory.proofs.Quiets.{quiet_keeps}
+use Rattle.rgo_core_memory.proofs.Steadies.{map_back}
+use Rattle.rgo_core_memory.proofs.Stepped.{map_get}
+use Rattle.rgo_core.specs.AtChannels.{Operates, commits}
+use Rattle.rgo_core.specs.CommitMoves.{AcknowledgeMove, IsAtSend, MeetMove, OfferMove, acknowledges, offers}
+use Rattle.rgo_core.specs.Core.{Here, Setup, layout}
+use Rattle.rgo_core.specs.Image.{place_of}
+use Rattle.rgo_core.specs.Records.{Record, counted, frame_of, memory_of, side_of}
+use Rattle.rgo_core.specs.Steps.{Does}
+use Rattle.rgo_core.proofs.AtChannels.{Reaches, here, calm, next, object, place_is, points_to, reached, reaches}
+use Rattle.rgo_core.proofs.ChannelMoves.{high, written}
+use Rattle.rgo_core.proofs.Commits.{as_shallow, sent_is, value_sent}
+use Rattle.rgo_core.proofs.Counting.{plus_none}
+use Rattle.rgo_core.proofs.Encodings.{word_is}
+use Rattle.rgo_core.proofs.Parts.{adds_of, image_with, memory_stays, shallow}
+use Rattle.rgo_core.proofs.Performing.{ticked_counts}
+use Rattle.rgo_core.proofs.Standing.{frames_here, moment, side_at}
+use Rattle.rgo_core.proofs.Lifting.{moves_by}
+
+module _ {T : Setup} {g : ℕ} {c : Record} (x : Here T g c) where
+  -- the control of its channel is stored, as memory shows it
+  control_written : {control : ℕ} → Reaches x control → (w : ℕ)
+      → Memory (layout T) (slice_set x.words control w) (map memory_of x.recs) x.s x.core.image.places
+  control_written r w =
+      subst (λ (i : ℕ). Memory (layout T) (slice_set x.words i w) (map memory_of x.recs) x.s x.core.image.places) r.place_is
+      (written x r.object r.chan r.on 0 w (omega arith) refl)
+
+-- ---- an offer
+
+module _ {T : Setup} {g : ℕ} {c : Record} (x : Here T g c) {to : Option ℕ} {sent at : ℕ} (a : Operates T c to Send (sent ∷ []) at)
+    (n : ℕ) (hold : c.side.hold ≡ Wrote at n 0 (word_of a.here.w sent)) (sizing : c.side.size ≡ Sized at 0)
+    (shut : closed_of n ≡ 0) (idle : count_of n ≡ 0) where
+  abbrev h : Holder
+  h = record (next x a).holder { offer = Standing (object x a) }
+
+  abbrev t : RegionState
+  t = attended x.s g (record (next x a).holder { offer = Standing (object x a) })
+
+  offer_does : Does x (slice_set x.words at (n + 4)) (offers c at)
+  offer_does =
+      let p = sym (place_is x a) in
+      let L = offer_is (moment x) g c.side (side_at x) (object x a) n (word_of a.here.w sent) (value_sent x a) (next x a)
+      (hold ∙ ap (λ j. Wrote j n 0 (word_of a.here.w sent)) p) (sent_is x a) (calm x a.here)
+      (sizing ∙ ap (λ j. Sized j 0) p) shut idle in
+      let G = subst (λ (j : ℕ). Gains (moment x) g j (n + 4) (offering j) (MakeOffer g) t) (place_is x a) L.2 in
+      let F = offer_law (here x a) to a.channel sent a.removes (object x a) a.here.is (points_to x a).is L.0 L.1 in
+      record {
+        goes = record {
+          event = MakeOffer g;
+          next = t;
+          steps = G.steps;
+          gain = no_share;
+          adds = adds_of x.s t 0 0 refl refl (omega arith) (omega arith) refl;
+          counted = sym (plus_none (counted c.clock));
+          shallow = shallow x;
+          image = image_with x (slice_set x.words at (n + 4)) (offers c at) t x.core.image.places G.at
+              x.core.image.addresses x.core.image.addressed
+              (subst (λ (u : RegionState). AllFit T.code x.core.image.places.slot x.core.image.addresses u
+              (slice_set (map frame_of x.recs) g (frame_offering c.frame)))
+              (same_Some F.state t (sym F.steps ∙ G.steps)) F.fit)
+              (memory_stays x (slice_set x.words at (n + 4)) t x.core.image.places
+              (quiet_keeps T.code (layout T) (slice_set x.words at (n + 4)) (map memory_of x.recs) x.s t (MakeOffer g)
+              x.core.image.places (control_written x (reached x a) (n + 4)) G.steps tt))
+              G.channels;
+        };
+        mark = refl;
+        printed = refl;
+        same = record { prints = refl; first = refl; children = refl; refused = refl };
+      }
+
+pub offer_move : OfferMove
+offer_move T g c to sent at n a hold sizing shut idle =
+    moves_by T g c at (λ w. n + 4) (λ w. offers c at) (λ w d. d ≡ offers c at) (λ w. refl) (λ x. high x (reached x a))
+    (λ x small. inl (offer_does x a n hold sizing shut idle)) (λ x. refl)
+
+-- ---- a meeting
+
+newest : (f f' : Frame) (fs fs' : List Frame) → f ∷ fs ≡ f' ∷ fs' → f ≡ f'
+newest f f' fs fs' e = cc
+
+operands : (to to' : Option ℕ) (from from' removes removes' : List ℕ) → Do to Send from removes ≡ Do to' Send from' removes'
+    → from ≡ from'
+operands to to' from from' removes removes' e = cc
+
+second : (u u' v v' : Value) → ◌≡◌ {A = List Value} (u ∷ v ∷ []) (u' ∷ v' ∷ []) → v ≡ v'
+second u u' v v' e = cc
+
+no_two : (o p : ℕ) → Standing o ≡ Taken p → ⊥
+no_two o p e = cc
+
+module _ {T : Setup} {g : ℕ} {c : Record} (x : Here T g c) (s o : ℕ) (v : Value)
+    (sends : Next T.code x.s s Send (value.Object o ∷ v ∷ [])) (stands : sends.holder.offer ≡ Standing o)
+    (y : SideRec) (its : slice_get (map side_of x.recs) s ≡ Some y) where
+  -- the sender's record is before its send, whose word is the value's
+  sender_shows : (q : StandsAtSend T.code x.s.plain s o)
+      → Shows x.core.image.addresses (value_at q.frame q.sent) ((moment x).encode v)
+  sender_shows q = by F.fits
+    where
+      r : (d : Record) × (slice_get x.recs s ≡ Some d) × (side_of d ≡ y)
+      r = map_back side_of x.recs s y its
+
+      F : Fits T.code x.core.image.places.slot x.core.image.addresses x.s s r.0.frame
+      F = x.core.image.frames.each s r.0.frame (map_get frame_of x.recs s r.0 r.1)
+
+      frames_are : F.frames ≡ q.frame ∷ q.callers
+      frames_are = sym (ap frames_in F.at) ∙ q.at
+
+      standing : F.h.offer ≡ Standing o
+      standing = ap (λ (h : Holder). h.offer) (same_Some F.h sends.holder (sym F.there ∙ sends.there)) ∙ stands
+
+      v_is : v ≡ value_at q.frame q.sent
+      v_is =
+          let N = sends.before in
+          let fs : N.frame ∷ N.callers ≡ q.frame ∷ q.callers
+          = same_Some (N.frame ∷ N.callers) F.frames (sym N.at ∙ F.at) ∙ frames_are in
+          let f : N.frame ≡ q.frame = newest N.frame q.frame N.callers q.callers fs in
+          let i : N.instr ≡ q.instr = same_Some N.instr q.instr (sym N.cur ∙ (ap (current T.code) f ∙ q.cur)) in
+          let op : Do N.to Send N.from N.removes ≡ Do q.to Send (q.channel ∷ q.sent ∷ []) q.removes
+          = sym N.is ∙ (ap (λ (j : CodeInstr). j.op) i ∙ q.is) in
+          let from : N.from ≡ q.channel ∷ q.sent ∷ []
+          = operands N.to q.to N.from (q.channel ∷ q.sent ∷ []) N.removes q.removes op in
+          second (value.Object o) (value_at q.frame q.channel) v (value_at q.frame q.sent)
+          (sym N.operands ∙ (ap (λ (w : Frame). values_of w N.from) f ∙ ap (values_of q.frame) from))
+
+      in_words : (ws : List WordFrame) → FramesShow T.code x.core.image.addresses (q.frame ∷ q.callers) ws
+          → Shows x.core.image.addresses (value_at q.frame q.sent) ((moment x).encode v)
+      in_words [] h = absurd h
+      in_words (w ∷ ws) h =
+          let sh = reads_show x.core.image.addresses T.code q.frame w q.instr q.cur h.0 q.sent
+          (subst (λ (o : CodeOp). Contains (reads (erased_op o)) q.sent) (sym q.is)
+          (contains_there q.channel (q.sent ∷ []) q.sent (contains_here q.sent []))) in
+          subst (Shows x.core.image.addresses (value_at q.frame q.sent))
+          (sym (word_is x.core.image.addresses (address (layout T) x.core.image.places.spot) x.core.image.addressed
+          (value_at q.frame q.sent) (word_of w q.sent) sh) ∙ ap (moment x).encode (sym v_is)) sh
+
+      by : IsShown T.code x.core.image.places.slot x.core.image.addresses F.frames F.h r.0.frame
+          ⊎ IsPast T.code x.core.image.places.slot x.core.image.addresses F.frames F.h r.0.frame
+          → Shows x.core.image.addresses (value_at q.frame q.sent) ((moment x).encode v)
+      by (inl shown) =
+          in_words r.0.frame.frames (subst (λ fs. FramesShow T.code x.core.image.addresses fs r.0.frame.frames) frames_are
+          shown.shown)
+      by (inr past) = absurd (no_two o past.offer (sym standing ∙ ap (λ (h : Holder). h.offer) past.holder_is))
+
+module _ {T : Setup} {g : ℕ} {c : Record} (x : Here T g c) {to : Option ℕ} {at : ℕ} (a : Operates T c to Recv [] at)
+    (n word : ℕ) (hold : c.side.hold ≡ Read at n 0 word) (sizing : c.side.size ≡ Sized at 0)
+    (shut : closed_of n ≡ 0) (one : count_of n ≡ 1) where
+  meet_does : Does x (slice_set x.words at (n + 4)) (commits a word)
+  meet_does =
+      let p = sym (place_is x a) in
+      let L = meet_is (moment x) g c.side (side_at x) (object x a) n word (next x a)
+      (hold ∙ ap (λ j. Read j n 0 word) p) (calm x a.here) (sizing ∙ ap (λ j. Sized j 0) p) shut one in
+      let t : RegionState = after_meeting (object x a) (next x a) L.2 L.1 in
+      let G = subst (λ (j : ℕ). Gains (moment x) g j (n + 4) at_rest (Instruct (Meet g L.0)) t) (place_is x a) L.10 in
+      let F = meet_law (here x a) L.0 to a.channel a.removes (object x a) word L.2.holder a.here.free a.here.is
+      (points_to x a).is L.9 L.2.there L.4
+      (λ q. subst (Shows x.core.image.addresses (value_at q.frame q.sent)) L.5
+      (sender_shows x L.0 (object x a) L.1 L.2 L.4 L.6 L.7 q)) in
+      record {
+        goes = record {
+          event = Instruct (Meet g L.0);
+          next = t;
+          steps = G.steps;
+          gain = record no_share { steps = 1; objects = 0 };
+          adds = adds_of x.s t 1 0 refl refl refl (omega arith)
+              (length_set (slice_set x.s.plain.goroutines g _) L.0 _ ∙ length_set x.s.plain.goroutines g _);
+          counted = ticked_counts c.clock;
+          shallow = as_shallow x a word;
+          image = image_with x (slice_set x.words at (n + 4)) (commits a word) t x.core.image.places G.at
+              x.core.image.addresses x.core.image.addressed
+              (subst (λ (u : RegionState). AllFit T.code x.core.image.places.slot x.core.image.addresses u
+              (slice_set (map frame_of x.recs) g (commits a word).frame))
+              (same_Some F.state t (sym F.steps ∙ G.steps)) F.fit)
+              (memory_stays x (slice_set x.words at (n + 4)) t x.core.image.places
+              (quiet_keeps T.code (layout T) (slice_set x.words at (n + 4)) (map memory_of x.recs) x.s t
+              (Instruct (Meet g L.0)) x.core.image.places (control_written x (reached x a) (n + 4)) G.steps tt))
+              G.channels;
+        };
+        mark = refl;
+        printed = refl;
+        same = record { prints = refl; first = refl; children = refl; refused = refl };
+      }
+
+pub meet_move : MeetMove
+meet_move T g c to at n word a hold sizing shut one =
+    moves_by T g c at (λ w. n + 4) (λ w. commits a word) (λ w d. d ≡ commits a word) (λ w. refl)
+    (λ x. high x (reached x a)) (λ x small. inl (meet_does x a n word hold sizing shut one)) (λ x. refl)
+
+-- ---- an acknowledgement
+
+module _ {T : Setup} {g : ℕ} {c : Record} (x : Here T g c) (at n : ℕ) (a : IsAtSend T c) (post : c.side.post ≡ Offering at)
+    (hold : c.side.hold ≡ Locked at n) (gone : count_of n ≡ 2) where
+  acknowledge_does : Does x (slice_set x.words at (n - 8)) (acknowledges T c a)
+  acknowledge_does =
+      let L = acknowledge_is (moment x) g c.side (side_at x) at n post hold gone in
+      let t : RegionState = attended x.s g (record L.1 { offer = NoOffer }) in
+      let G = L.5 in
+      let F = acknowledge_law (frames_here x) a.w a.ws a.instr a.to a.from a.removes L.0 L.1 L.3 L.4 a.frames a.cur a.is in
+      record {
+        goes = record {
+          event = Acknowledge g;
+          next = t;
+          steps = G.steps;
+          gain = no_share;
+          adds = adds_of x.s t 0 0 refl refl (omega arith) (omega arith) refl;
+          counted = sym (plus_none (counted c.clock));
+          shallow = subst (λ l. l ≤ deepest) (ap (λ l. length l) a.frames) (shallow x);
+          image = image_with x (slice_set x.words at (n - 8)) (acknowledges T c a) t x.core.image.places G.at
+              x.core.image.addresses x.core.image.addressed
+              (subst (λ (u : RegionState). AllFit T.code x.core.image.places.slot x.core.image.addresses u
+              (slice_set (map frame_of x.recs) g (acknowledged (after_action T.code c.frame a.w a.ws a.instr a.to 0))))
+              (same_Some F.state t (sym F.steps ∙ G.steps)) F.fit)
+              (memory_stays x (slice_set x.words at (n - 8)) t x.core.image.places
+              (quiet_keeps T.code (layout T) (slice_set x.words at (n - 8)) (map memory_of x.recs) x.s t (Acknowledge g)
+              x.core.image.places (control_written x (reaches x (inr post)) (n - 8)) G.steps tt))
+              G.channels;
+        };
+        mark = refl;
+        printed = refl;
+        same = record { prints = refl; first = refl; children = refl; refused = refl };
+      }
+
+pub acknowledge_move : AcknowledgeMove
+acknowledge_move T g c at n a post hold gone =
+    moves_by T g c at (λ w. n - 8) (λ w. acknowledges T c a) (λ w d. d ≡ acknowledges T c a) (λ w. refl)
+    (λ x. high x (reaches x (inr post))) (λ x small. inl (acknowledge_does x at n a post hold gone)) (λ x. refl)

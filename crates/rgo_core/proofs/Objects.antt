@@ -1,0 +1,148 @@
+-- The stores of a new object's words.
+use Rattle.std.proofs.Common.{◌≡◌, ◌⊎◌, inl, inr, ⊎_elim, ℕ, suc, ◌+◌, ◌<◌, ◌≤◌, List, [], ◌∷◌, Option, Some, length, map, slice_set, refl, ap, subst, ◌∙◌, arith}
+use Rattle.std.proofs.lemmas.List.{append-nil, length-append}
+use Rattle.rgo_code.specs.Code.{Do}
+use Rattle.rgo_machine.specs.Limits.{deepest}
+use Rattle.rgo_machine.specs.declared.picks.Pick.TheVariants.{One}
+use Rattle.rgo_memory.specs.Memory.{Memory as Heap, Object}
+use Rattle.rgo_region_machine.specs.Instructions.{printed_if}
+use Rattle.rgo_region_machine.specs.Machine.{Instruct}
+use Rattle.rgo_region_machine.specs.Objects.{making_region, words as words_of}
+use Rattle.rgo_region_machine.specs.Owed.{function_of}
+use Rattle.rgo_region_machine.specs.States.{top_names}
+use Rattle.rgo_region_machine.specs.declared.regions.Region.{Region}
+use Rattle.rgo_sound.specs.Tally.{counts_plus, no_share}
+use Rattle.rgo_typed.specs.declared.actions.Action.{Action}
+use Rattle.rgo_core_channels.specs.Channels.{Chan, On, channel}
+use Rattle.rgo_core_channels.specs.Controls.{extent}
+use Rattle.rgo_core_channels.specs.Records.{at_rest}
+use Rattle.rgo_core_channels.proofs.Forward.{printed_same}
+use Rattle.rgo_core_channels.proofs.Quiet.{word_keeps as channels_keep}
+use Rattle.rgo_core_frames.specs.States.{IsSound}
+use Rattle.rgo_core_frames.proofs.Sound.{sound_stays}
+use Rattle.rgo_core_memory.specs.Encoding.{content, opening}
+use Rattle.rgo_core_memory.specs.Ground.{ground_of}
+use Rattle.rgo_core_memory.specs.Image.{code_of}
+use Rattle.rgo_core_memory.specs.Parts.{Covers, Makes}
+use Rattle.rgo_core_memory.specs.Records.{Fill, Owns, Within, with_word}
+use Rattle.rgo_core_memory.specs.Words.{cell_at}
+use Rattle.rgo_core_memory.proofs.Addresses.{free_apart}
+use Rattle.rgo_core_memory.proofs.Allocating.{word_keeps}
+use Rattle.rgo_core.specs.Core.{Here, Setup, layout}
+use Rattle.rgo_core.specs.Image.{place_of}
+use Rattle.rgo_core.specs.NewObjects.{MakesObject, ObjectMove, WordMove, made_object, slot_number}
+use Rattle.rgo_core.specs.Next.{IsAt}
+use Rattle.rgo_core.specs.Records.{Record, accessed, counted, memory_of, side_of}
+use Rattle.rgo_core.specs.Steps.{Steps}
+use Rattle.rgo_core.proofs.Disjoint.{rows_apart}
+use Rattle.rgo_core.proofs.Leaving.{channel_stands, channel_word}
+use Rattle.rgo_core.proofs.Lift.{access_law}
+use Rattle.rgo_core.proofs.NewObjects as new
+use Rattle.rgo_core.proofs.Parts.{I, adds_of, as_many, frame_stays, image_with, is_memory, shallow, side_stays}
+
+plus_zero : (a b : ℕ) → a ≡ b → a ≡ b + 0
+plus_zero a b e = omega (arith, e)
+
+-- ---- a word before the last
+
+module _ {T : Setup} {g : ℕ} {c : Record} (x : Here T g c) (f : Fill) (object : Object) (stored : List ℕ) (i : ℕ)
+    (makes : Makes (layout T) c.memory f object stored) (small : i < words_of object) where
+  within : Within f c.memory.fills
+  within = ⊎_elim (λ m. ((I x).memory.own.amids g c.memory f object stored (is_memory x) m).0) (λ m. m.2) makes
+
+  fits : f.fill + words_of object ≤ (layout T).page_words
+  fits = ⊎_elim (λ m. ((I x).memory.own.amids g c.memory f object stored (is_memory x) m).1.fits) (λ m. m.3) makes
+
+  owner : Owns (map memory_of x.recs) g f
+  owner = (c.memory, is_memory x, within)
+
+  -- no channel has the word
+  apart : (o : ℕ) (k : Chan) → On x.s o k
+      → (cell_at (layout T) f.page (f.fill + i) < place_of (layout T) (I x).places o)
+      ⊎ (place_of (layout T) (I x).places o + 2 + extent k.capacity ≤ cell_at (layout T) f.page (f.fill + i))
+  apart o k on =
+      let u = channel_stands x.s o k on in
+      let room = fits in
+      ⊎_elim
+      (λ (e : cell_at (layout T) f.page (f.fill + i) + 1 ≤ place_of (layout T) (I x).places o). inl (omega (arith, e)))
+      (λ (e : place_of (layout T) (I x).places o + (2 + extent k.capacity) ≤ cell_at (layout T) f.page (f.fill + i)). inr (omega (arith, e)))
+      (rows_apart (cell_at (layout T) f.page (f.fill + i)) 1 (place_of (layout T) (I x).places o) (2 + extent k.capacity) (omega arith) (omega arith)
+      (λ i' j li lj e. free_apart (layout T) x.words (map memory_of x.recs) (ground_of x.s) (I x).places (I x).memory g o j i f (channel k) u.0 owner u.1 lj
+      (omega (arith, room, small))
+      (let w = channel_word (layout T) x.words (map memory_of x.recs) x.s (I x).places (I x).memory o j k on lj in
+      let v : cell_at (layout T) f.page (f.fill + i) ≡ cell_at (layout T) f.page (f.fill + i) + i' = omega (arith, li) in v ∙ (e ∙ w))))
+
+  pub word_steps : Steps x (slice_set x.words (cell_at (layout T) f.page (f.fill + i)) (opening (content object i)))
+      (record c { clock = accessed c.clock; memory = with_word c.memory f object (i ∷ stored) })
+  word_steps =
+      let words = slice_set x.words (cell_at (layout T) f.page (f.fill + i)) (opening (content object i)) in
+      inr (record {
+        counted = refl;
+        same = record { prints = refl; first = refl; children = refl; refused = refl };
+        image = image_with x words (record c { clock = accessed c.clock; memory = with_word c.memory f object (i ∷ stored) }) x.s (I x).places (I x).at
+            (I x).addresses (I x).addressed (frame_stays x x.s (I x).places.slot (I x).addresses (I x).frames)
+            (word_keeps (layout T) x.words (map memory_of x.recs) x.s g i c.memory f object stored (I x).places (I x).memory (is_memory x) makes small)
+            (side_stays x words x.s (I x).places (I x).at
+            (channels_keep T.code (code_of (layout T) (I x).places) (place_of (layout T) (I x).places) x.words (map side_of x.recs) x.s (I x).at
+            (cell_at (layout T) f.page (f.fill + i)) (opening (content object i)) apart (I x).channels));
+      })
+
+pub word_move : WordMove
+word_move T g c f object stored i makes small =
+    access_law T g c (cell_at (layout T) f.page (f.fill + i)) (λ n. opening (content object i))
+    (λ n. record c { clock = accessed c.clock; memory = with_word c.memory f object (i ∷ stored) }) (omega arith) (λ n. refl)
+    (λ x fits. word_steps x f object stored i makes small)
+
+-- ---- the last word
+
+module _ {T : Setup} {g : ℕ} {c : Record} (x : Here T g c) (to : Option ℕ) (act : Action) (from removes : List ℕ)
+    (a : IsAt T.code c (Do to act from removes)) (object : Object) (by_slot : Region) (f : Fill) (stored : List ℕ) (i : ℕ)
+    (rests : c.side ≡ at_rest) (mk : MakesObject T.code a.w to act from object)
+    (making : making_region (function_of T.code a.w.function) (top_names c.frame.holder.environments) a.instr.op ≡ Some by_slot)
+    (slotted : f.slot ≡ slot_number (layout T) by_slot) (makes : Makes (layout T) c.memory f object stored)
+    (small : i < words_of object) (covers : Covers object (i ∷ stored)) where
+  counts : counted (made_object T c a to f object).clock ≡ counts_plus (counted c.clock) (record no_share { steps = 1; objects = 1 })
+  counts = λ j. record {
+    made = plus_zero c.clock.share.made c.clock.share.made refl j;
+    removed = plus_zero c.clock.share.removed c.clock.share.removed refl j;
+    taken = plus_zero c.clock.share.taken c.clock.share.taken refl j;
+    returned = plus_zero (c.clock.share.returned + c.clock.owed) (c.clock.share.returned + c.clock.owed) refl j;
+    steps = (let e : suc c.clock.share.steps ≡ c.clock.share.steps + 1 = omega arith in e) j;
+    objects = (let e : suc c.clock.share.objects ≡ c.clock.share.objects + 1 = omega arith in e) j;
+    goroutines = plus_zero c.clock.share.goroutines c.clock.share.goroutines refl j;
+  }
+
+  pub object_steps : Steps x (slice_set x.words (cell_at (layout T) f.page (f.fill + i)) (opening (content object i))) (made_object T c a to f object)
+  object_steps =
+      let words = new.next_words x to act from removes a object by_slot f stored i rests mk making slotted makes small covers in
+      let H = new.H x to act from removes a object by_slot f stored i rests mk making slotted makes small covers in
+      let places = new.places' x to act from removes a object by_slot f stored i rests mk making slotted makes small covers in
+      let addresses = new.addresses' x to act from removes a object by_slot f stored i rests mk making slotted makes small covers in
+      let sound : IsSound T.code H.state = sound_stays.step T.code T.sizes.page_words x.s H.state (Instruct (One g)) x.core.sound H.steps in
+      inl (record {
+        goes = record {
+          event = Instruct (One g);
+          next = H.state;
+          steps = H.steps;
+          gain = record no_share { steps = 1; objects = 1 };
+          adds = adds_of x.s H.state 1 1 H.regions H.global_pages H.counted
+              (ap (λ (y : Heap). length y.heap) H.memory_is ∙ length-append x.s.plain.memory.heap (object ∷ []))
+              (as_many x H.state (I x).places.slot addresses (made_object T c a to f object).frame sound H.fit);
+          counted = counts;
+          shallow = subst (λ n. n ≤ deepest) (ap length a.frames) (shallow x);
+          image = image_with x words (made_object T c a to f object) H.state places
+              (new.at' x to act from removes a object by_slot f stored i rests mk making slotted makes small covers) addresses
+              (new.addressed x to act from removes a object by_slot f stored i rests mk making slotted makes small covers) H.fit
+              (new.memory_after x to act from removes a object by_slot f stored i rests mk making slotted makes small covers)
+              (new.channels_after x to act from removes a object by_slot f stored i rests mk making slotted makes small covers);
+        };
+        mark = H.mark;
+        printed = H.printed ∙ (ap (printed_if x.s.mark x.s.plain.printed) (append-nil x.s.plain.printed) ∙ printed_same x.s.mark x.s.plain.printed);
+        same = record { prints = refl; first = refl; children = refl; refused = refl };
+      })
+
+pub object_move : ObjectMove
+object_move T g c to act from removes a object by_slot f stored i rests mk making slotted makes small covers =
+    access_law T g c (cell_at (layout T) f.page (f.fill + i)) (λ n. opening (content object i)) (λ n. made_object T c a to f object) (omega arith)
+    (λ n. refl)
+    (λ x fits. object_steps x to act from removes a object by_slot f stored i rests mk making slotted makes small covers)

@@ -1,0 +1,153 @@
+-- The parts of an image about one goroutine, and an image put together from its parts.
+use Rattle.std.proofs.Common.{◌≡◌, inl, ℕ, ◌+◌, ◌≤◌, List, Some, length, map, count_by, sum_by, slice_get, slice_set, ap, sym, subst, ◌∙◌, arith}
+use Rattle.rgo_code.specs.Code.{CodeOp}
+use Rattle.rgo_machine.specs.Limits.{deepest}
+use Rattle.rgo_region_machine.specs.Counts.{counts_of, is_removed, pages_if_removed}
+use Rattle.rgo_region_machine.specs.Regions.{RegionInfo}
+use Rattle.rgo_region_machine.specs.States.{RegionState}
+use Rattle.rgo_sound.proofs.Places.{length_set}
+use Rattle.rgo_sound.specs.Tally.{counts_plus, no_share}
+use Rattle.rgo_core_channels.specs.Channels.{Channels, Places}
+use Rattle.rgo_core_channels.specs.Moments.{Moment}
+use Rattle.rgo_core_channels.specs.Records.{Rec as SideRec}
+use Rattle.rgo_core_frames.specs.Fits.{AllFit}
+use Rattle.rgo_core_frames.specs.Records.{Rec as FrameRec}
+use Rattle.rgo_core_frames.specs.States.{AtInstruction, Here as FrameHere, IsSound}
+use Rattle.rgo_core_frames.proofs.Before.{before_law}
+use Rattle.rgo_core_memory.specs.Encoding.{address}
+use Rattle.rgo_core_memory.specs.Image.{Memory, Where, code_of}
+use Rattle.rgo_core_memory.specs.Records.{Rec as MemoryRec}
+use Rattle.rgo_core_memory.proofs.Rows.{set_again}
+use Rattle.rgo_core_memory.proofs.Stepped.{map_get, map_set}
+use Rattle.rgo_core.specs.Core.{Here, Setup, layout}
+use Rattle.rgo_core.specs.Image.{Image, place_of}
+use Rattle.rgo_core.specs.Next.{IsAt}
+use Rattle.rgo_core.specs.Records.{Record, frame_of, memory_of, side_of}
+use Rattle.rgo_core.proofs.Lift.{many, shallow_here}
+
+module _ {T : Setup} {g : ℕ} {c : Record} (x : Here T g c) where
+  abbrev pub I : Image T.code (layout T) x.words x.recs x.s
+  I = x.core.image
+
+  pub is_frame : slice_get (map frame_of x.recs) g ≡ Some c.frame
+  is_frame = map_get frame_of x.recs g c x.is_c
+
+  pub is_memory : slice_get (map memory_of x.recs) g ≡ Some c.memory
+  is_memory = map_get memory_of x.recs g c x.is_c
+
+  pub is_side : slice_get (map side_of x.recs) g ≡ Some c.side
+  is_side = map_get side_of x.recs g c x.is_c
+
+  abbrev pub frame_here : FrameHere
+  frame_here = record {
+    code = T.code;
+    page_words = T.sizes.page_words;
+    slot_of = I.places.slot;
+    addresses = I.addresses;
+    s = x.s;
+    records = map frame_of x.recs;
+    g = g;
+    c = c.frame;
+    sound = x.core.sound;
+    all = I.frames;
+    is_c = is_frame;
+  }
+
+  abbrev pub moment : Moment
+  moment = record {
+    code = T.code;
+    page_words = T.sizes.page_words;
+    checked = x.core.sound.checked;
+    ascends = x.core.sound.written;
+    encode = code_of (layout T) I.places;
+    place = place_of (layout T) I.places;
+    words = x.words;
+    recs = map side_of x.recs;
+    state = x.s;
+    good = x.core.sound.good;
+    running = x.core.sound.running;
+    at = I.at;
+    channels = I.channels;
+  }
+
+  abbrev pub at_instruction : {op : CodeOp} → IsAt T.code c op → AtInstruction
+  at_instruction a = record {
+    here = frame_here;
+    w = a.w;
+    ws = a.ws;
+    instr = a.instr;
+    before = before_law frame_here a.w a.ws a.instr a.frames a.cur a.none (inl a.free);
+  }
+
+  -- ---- an image of the records after it, from its parts
+
+  pub image_with : (words : List ℕ) (d : Record) (t : RegionState) (places : Where) (at : Places) (addresses : List ℕ)
+      → ((o a : ℕ) → slice_get addresses o ≡ Some a → a ≡ address (layout T) places.spot o)
+      → AllFit T.code places.slot addresses t (slice_set (map frame_of x.recs) g d.frame)
+      → Memory (layout T) words (slice_set (map memory_of x.recs) g d.memory) t places
+      → Channels T.code (code_of (layout T) places) (place_of (layout T) places) words (slice_set (map side_of x.recs) g d.side) t at
+      → Image T.code (layout T) words (slice_set x.recs g d) t
+  image_with words d t places at addresses addressed F M K = record {
+    places = places;
+    at = at;
+    addresses = addresses;
+    addressed = addressed;
+    frames = subst (AllFit T.code places.slot addresses t) (sym (map_set frame_of x.recs g d)) F;
+    memory = subst (λ (l : List MemoryRec). Memory (layout T) words l t places) (sym (map_set memory_of x.recs g d)) M;
+    channels = subst (λ (l : List SideRec). Channels T.code (code_of (layout T) places) (place_of (layout T) places) words l t at)
+        (sym (map_set side_of x.recs g d)) K;
+  }
+
+  -- parts of the record that stay
+  pub frame_stays : (t : RegionState) (slot_of : ℕ → ℕ) (addresses : List ℕ) → AllFit T.code slot_of addresses t (map frame_of x.recs)
+      → AllFit T.code slot_of addresses t (slice_set (map frame_of x.recs) g c.frame)
+  frame_stays t slot_of addresses F =
+      subst (AllFit T.code slot_of addresses t) (sym (set_again (map frame_of x.recs) g c.frame is_frame)) F
+
+  pub memory_stays : (words : List ℕ) (t : RegionState) (places : Where) → Memory (layout T) words (map memory_of x.recs) t places
+      → Memory (layout T) words (slice_set (map memory_of x.recs) g c.memory) t places
+  memory_stays words t places M =
+      subst (λ (l : List MemoryRec). Memory (layout T) words l t places) (sym (set_again (map memory_of x.recs) g c.memory is_memory)) M
+
+  pub side_stays : (words : List ℕ) (t : RegionState) (places : Where) (at : Places)
+      → Channels T.code (code_of (layout T) places) (place_of (layout T) places) words (map side_of x.recs) t at
+      → Channels T.code (code_of (layout T) places) (place_of (layout T) places) words (slice_set (map side_of x.recs) g c.side) t at
+  side_stays words t places at K =
+      subst (λ (l : List SideRec). Channels T.code (code_of (layout T) places) (place_of (layout T) places) words l t at)
+      (sym (set_again (map side_of x.recs) g c.side is_side)) K
+
+  -- ---- numbers
+
+  -- it has no more frames than it may
+  pub shallow : length c.frame.frames ≤ deepest
+  shallow = shallow_here x g c.frame is_frame
+
+  -- no goroutine has started
+  pub as_many : (t : RegionState) (slot_of : ℕ → ℕ) (addresses : List ℕ) (d : FrameRec) → IsSound T.code t
+      → AllFit T.code slot_of addresses t (slice_set (map frame_of x.recs) g d) → length t.plain.goroutines ≡ length x.s.plain.goroutines
+  as_many t slot_of addresses d sound F =
+      many T.code slot_of addresses t (slice_set (map frame_of x.recs) g d) sound F
+      ∙ (length_set (map frame_of x.recs) g d
+      ∙ sym (many T.code I.places.slot I.addresses x.s (map frame_of x.recs) x.core.sound I.frames))
+
+plus_zero : (a b : ℕ) → a ≡ b → a ≡ b + 0
+plus_zero a b e = omega (arith, e)
+
+-- what a step adds, if it leaves regions and pages: instructions and objects
+pub adds_of : (s t : RegionState) (n k : ℕ) → t.regions ≡ s.regions → t.global_pages ≡ s.global_pages → t.steps ≡ s.steps + n
+    → length t.plain.memory.heap ≡ length s.plain.memory.heap + k → length t.plain.goroutines ≡ length s.plain.goroutines
+    → counts_of t ≡ counts_plus (counts_of s) (record no_share { steps = n; objects = k })
+adds_of s t n k regions pages steps objects many = λ i. record {
+  made = plus_zero (length t.regions) (length s.regions) (ap length regions) i;
+  removed = plus_zero (count_by is_removed t.regions) (count_by is_removed s.regions) (ap (count_by is_removed) regions) i;
+  taken = plus_zero (counts_of t).taken (counts_of s).taken taken i;
+  returned = plus_zero (sum_by pages_if_removed t.regions) (sum_by pages_if_removed s.regions) (ap (sum_by pages_if_removed) regions) i;
+  steps = steps i;
+  objects = objects i;
+  goroutines = plus_zero (length t.plain.goroutines) (length s.plain.goroutines) many i;
+}
+  where
+    taken : t.global_pages + sum_by (λ (info : RegionInfo). info.pages) t.regions
+        ≡ s.global_pages + sum_by (λ (info : RegionInfo). info.pages) s.regions
+    taken = ap (λ n. n + sum_by (λ (info : RegionInfo). info.pages) t.regions) pages
+        ∙ ap (λ l. s.global_pages + sum_by (λ (info : RegionInfo). info.pages) l) regions

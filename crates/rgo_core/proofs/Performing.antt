@@ -1,0 +1,117 @@
+-- Accesses that are an instruction of one goroutine, which makes no object and leaves the channels.
+use Rattle.std.proofs.Common.{◌≡◌, inl, ℕ, suc, ◌+◌, ◌<◌, List, [], Some, None, length, map, slice_get, slice_set, slice_index, refl, ap, sym, subst, ◌∙◌, arith}
+use Rattle.std.proofs.lemmas.List.{append-nil}
+use Rattle.rgo_machine.specs.declared.picks.Pick.TheVariants.{One}
+use Rattle.rgo_memory.specs.Memory.{Memory as Heap}
+use Rattle.rgo_region_machine.specs.Instructions.{printed_if}
+use Rattle.rgo_region_machine.specs.Machine.{Instruct}
+use Rattle.rgo_region_machine.specs.States.{Holder, RegionState}
+use Rattle.rgo_sound.proofs.Places.{length_set}
+use Rattle.rgo_sound.specs.Tally.{counts_plus, no_share}
+use Rattle.rgo_core_channels.specs.Channels.{Chan, Channels, IsChan, On}
+use Rattle.rgo_core_channels.specs.Controls.{extent}
+use Rattle.rgo_core_channels.specs.Elsewhere.{IsMade, Leaves}
+use Rattle.rgo_core_channels.specs.Records.{at_rest}
+use Rattle.rgo_core_channels.proofs.Elsewhere.{event_keeps}
+use Rattle.rgo_core_channels.proofs.Forward.{printed_same}
+use Rattle.rgo_core_frames.specs.Records.{Rec as FrameRec}
+use Rattle.rgo_core_frames.specs.States.{IsSound}
+use Rattle.rgo_core_frames.specs.Steps.{HasInstruction}
+use Rattle.rgo_core_frames.proofs.Sound.{sound_stays}
+use Rattle.rgo_core_memory.specs.Image.{Memory, code_of}
+use Rattle.rgo_core_memory.proofs.Rows.{below, set_again}
+use Rattle.rgo_core.specs.Core.{Here, Setup, layout}
+use Rattle.rgo_core.specs.Image.{place_of}
+use Rattle.rgo_core.specs.Records.{ClockRec, Record, counted, frame_of, memory_of, side_of, ticked}
+use Rattle.rgo_core.specs.Steps.{Does}
+use Rattle.rgo_core.proofs.Leaving.{touch_same}
+use Rattle.rgo_core.proofs.Parts.{I, adds_of, as_many, image_with, is_side, memory_stays, moment, shallow}
+
+plus_zero : (a b : ℕ) → a ≡ b → a ≡ b + 0
+plus_zero a b e = omega (arith, e)
+
+-- an instruction by an access counts one step
+pub ticked_counts : (c : ClockRec) → counted (ticked c) ≡ counts_plus (counted c) (record no_share { steps = 1; objects = 0 })
+ticked_counts c = λ i. record {
+  made = plus_zero c.share.made c.share.made refl i;
+  removed = plus_zero c.share.removed c.share.removed refl i;
+  taken = plus_zero c.share.taken c.share.taken refl i;
+  returned = plus_zero (c.share.returned + c.owed) (c.share.returned + c.owed) refl i;
+  steps = (let e : suc c.share.steps ≡ c.share.steps + 1 = omega arith in e) i;
+  objects = plus_zero c.share.objects c.share.objects refl i;
+  goroutines = plus_zero c.share.goroutines c.share.goroutines refl i;
+}
+
+module _ {T : Setup} {g : ℕ} {c : Record} (x : Here T g c) (rests : c.side ≡ at_rest) (mem : Heap) (h : Holder) (e : FrameRec)
+    (H : HasInstruction T.code T.sizes.page_words (I x).places.slot (I x).addresses x.s g mem [] (h, [])
+    (slice_set (map frame_of x.recs) g e)) (words : List ℕ) where
+  abbrev pub t : RegionState
+  t = H.state
+
+  pub sound_after : IsSound T.code t
+  sound_after = sound_stays.step T.code T.sizes.page_words x.s t (Instruct (One g)) x.core.sound H.steps
+
+  owners_same : t.owners ≡ x.s.owners
+  owners_same = H.owners ∙ append-nil x.s.owners
+
+  holders_many : length t.holders ≡ length x.s.holders
+  holders_many = sym H.fit.as_many ∙ (length_set (map frame_of x.recs) g e ∙ (I x).frames.as_many)
+
+  -- the channels stay, with their words
+  pub channels_after : ((o : ℕ) (k : Chan) → IsChan x.s.plain.memory o k → IsChan mem o k)
+      → ((o : ℕ) (k : Chan) → IsChan mem o k → IsChan x.s.plain.memory o k) → length words ≡ length x.words
+      → ((o i : ℕ) (k : Chan) → On x.s o k → i < 2 + extent k.capacity
+      → slice_index words (place_of (layout T) (I x).places o + i) ≡ slice_index x.words (place_of (layout T) (I x).places o + i))
+      → Channels T.code (code_of (layout T) (I x).places) (place_of (layout T) (I x).places) words
+      (slice_set (map side_of x.recs) g c.side) t (I x).at
+  channels_after stay was long same =
+      subst (λ l. Channels T.code (code_of (layout T) (I x).places) (place_of (layout T) (I x).places) words l t (I x).at)
+      (append-nil (map side_of x.recs) ∙ sym (set_again (map side_of x.recs) g c.side (is_side x)))
+      (event_keeps (moment x) g (Instruct (One g)) words t (code_of (layout T) (I x).places) (place_of (layout T) (I x).places) (I x).at None 0
+      (is_side x ∙ ap Some rests) refl H.steps leaves)
+    where
+      leaves : Leaves (moment x) words t (code_of (layout T) (I x).places) (place_of (layout T) (I x).places) (I x).at (IsMade None) 0
+      leaves = record {
+        long = long;
+        heap = λ o k on. ap (λ (y : Heap). slice_get y.heap o) H.memory_is ∙ stay o k on.0;
+        was = λ o k on. inl (
+          was o k (ap (λ (y : Heap). slice_get y.heap o) (sym H.memory_is) ∙ on.0),
+          sym (touch_same x.s t owners_same H.regions o) ∙ on.1,
+        );
+        same = same;
+        places = λ o k on. refl;
+        ats = λ o k on. (refl, refl, refl);
+        codes = λ o i v k on q. refl;
+        sent = λ o j v n. refl;
+        born = plus_zero (length t.holders) (length x.s.holders) holders_many;
+        born_calm = λ j k l q. absurd (let y = below t.holders j k q in let w = holders_many in omega (arith, l, y, w));
+        fresh = λ o k n. absurd n;
+        fresh_words = λ o k n. absurd n;
+        fresh_apart = λ o p k l n on. absurd n;
+        one_fresh = λ o p k l n m. absurd n;
+      }
+
+  -- what the access leaves
+  pub performs : length mem.heap ≡ length x.s.plain.memory.heap → length e.frames ≡ length c.frame.frames
+      → Memory (layout T) words (map memory_of x.recs) t (I x).places
+      → Channels T.code (code_of (layout T) (I x).places) (place_of (layout T) (I x).places) words
+      (slice_set (map side_of x.recs) g c.side) t (I x).at
+      → Does x words (record c { clock = ticked c.clock; frame = e })
+  performs objects deep M K = record {
+    goes = record {
+      event = Instruct (One g);
+      next = t;
+      steps = H.steps;
+      gain = record no_share { steps = 1; objects = 0 };
+      adds = adds_of x.s t 1 0 H.regions H.global_pages H.counted
+          (ap (λ (y : Heap). length y.heap) H.memory_is ∙ plus_zero (length mem.heap) (length x.s.plain.memory.heap) objects)
+          (as_many x t (I x).places.slot (I x).addresses e sound_after H.fit);
+      counted = ticked_counts c.clock;
+      shallow = let l = shallow x in omega (arith, deep, l);
+      image = image_with x words (record c { clock = ticked c.clock; frame = e }) t (I x).places (I x).at (I x).addresses (I x).addressed H.fit
+          (memory_stays x words t (I x).places M) K;
+    };
+    mark = H.mark;
+    printed = H.printed ∙ (ap (printed_if x.s.mark x.s.plain.printed) (append-nil x.s.plain.printed) ∙ printed_same x.s.mark x.s.plain.printed);
+    same = record { prints = refl; first = refl; children = refl; refused = refl };
+  }

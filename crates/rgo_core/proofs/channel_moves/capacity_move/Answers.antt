@@ -1,0 +1,5 @@
+use Rattle.rgo_core.proofs.ChannelMoves as lemmas
+use Rattle.rgo_core.proofs.channel_moves.capacity_move.Goals as goal
+
+pub returns : goal.returns
+returns c = lemmas.capacity_move

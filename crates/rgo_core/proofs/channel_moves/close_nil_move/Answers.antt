@@ -1,0 +1,5 @@
+use Rattle.rgo_core.proofs.TrapMoves as lemmas
+use Rattle.rgo_core.proofs.channel_moves.close_nil_move.Goals as goal
+
+pub returns : goal.returns
+returns c = lemmas.close_nil_move

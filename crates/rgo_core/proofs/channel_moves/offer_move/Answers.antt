@@ -1,0 +1,5 @@
+use Rattle.rgo_core.proofs.Meetings as lemmas
+use Rattle.rgo_core.proofs.channel_moves.offer_move.Goals as goal
+
+pub returns : goal.returns
+returns c = lemmas.offer_move

@@ -1,0 +1,5 @@
+use Rattle.rgo_core.proofs.Ending.{calls_move as is}
+use Rattle.rgo_core.proofs.laws.calls_move.Goals as goal
+
+pub returns : goal.returns
+returns c = is

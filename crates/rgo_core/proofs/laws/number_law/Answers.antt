@@ -1,0 +1,5 @@
+use Rattle.rgo_core.proofs.ClockLifts.{number_law as is}
+use Rattle.rgo_core.proofs.laws.number_law.Goals as goal
+
+pub returns : goal.returns
+returns c = is

@@ -1,0 +1,5 @@
+use Rattle.rgo_core.proofs.Opening.{opening_law as is}
+use Rattle.rgo_core.proofs.laws.opening_law.Goals as goal
+
+pub returns : goal.returns
+returns c = is

@@ -1,0 +1,5 @@
+use Rattle.rgo_core.proofs.Lift.{quiet_law as is}
+use Rattle.rgo_core.proofs.laws.quiet_law.Goals as goal
+
+pub returns : goal.returns
+returns c = is

@@ -1,0 +1,5 @@
+use Rattle.rgo_core.proofs.Ending.{stop_move as is}
+use Rattle.rgo_core.proofs.laws.stop_move.Goals as goal
+
+pub returns : goal.returns
+returns c = is

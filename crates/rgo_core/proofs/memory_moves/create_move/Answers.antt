@@ -1,0 +1,5 @@
+use Rattle.rgo_core.proofs.Regions.{create_move}
+use Rattle.rgo_core.proofs.memory_moves.create_move.Goals as goal
+
+pub returns : goal.returns
+returns c = create_move

@@ -1,0 +1,5 @@
+use Rattle.rgo_core.proofs.Chains.{free_move}
+use Rattle.rgo_core.proofs.memory_moves.free_move.Goals as goal
+
+pub returns : goal.returns
+returns c = free_move

@@ -1,0 +1,5 @@
+use Rattle.rgo_core.proofs.Chains.{hang_move}
+use Rattle.rgo_core.proofs.memory_moves.hang_move.Goals as goal
+
+pub returns : goal.returns
+returns c = hang_move

@@ -1,0 +1,5 @@
+use Rattle.rgo_core.proofs.Regions.{leave_move}
+use Rattle.rgo_core.proofs.memory_moves.leave_move.Goals as goal
+
+pub returns : goal.returns
+returns c = leave_move

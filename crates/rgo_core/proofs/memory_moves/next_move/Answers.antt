@@ -1,0 +1,5 @@
+use Rattle.rgo_core.proofs.Chains.{next_move}
+use Rattle.rgo_core.proofs.memory_moves.next_move.Goals as goal
+
+pub returns : goal.returns
+returns c = next_move

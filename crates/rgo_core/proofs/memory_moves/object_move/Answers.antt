@@ -1,0 +1,5 @@
+use Rattle.rgo_core.proofs.Objects.{object_move}
+use Rattle.rgo_core.proofs.memory_moves.object_move.Goals as goal
+
+pub returns : goal.returns
+returns c = object_move

@@ -1,0 +1,5 @@
+use Rattle.rgo_core.proofs.Accesses.{set_move}
+use Rattle.rgo_core.proofs.memory_moves.set_move.Goals as goal
+
+pub returns : goal.returns
+returns c = set_move

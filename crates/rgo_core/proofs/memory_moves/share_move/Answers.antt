@@ -1,0 +1,5 @@
+use Rattle.rgo_core.proofs.Regions.{share_move}
+use Rattle.rgo_core.proofs.memory_moves.share_move.Goals as goal
+
+pub returns : goal.returns
+returns c = share_move

@@ -1,0 +1,5 @@
+use Rattle.rgo_core.proofs.Chains.{slot_move}
+use Rattle.rgo_core.proofs.memory_moves.slot_move.Goals as goal
+
+pub returns : goal.returns
+returns c = slot_move

@@ -1,0 +1,5 @@
+use Rattle.rgo_core.proofs.Objects.{word_move}
+use Rattle.rgo_core.proofs.memory_moves.word_move.Goals as goal
+
+pub returns : goal.returns
+returns c = word_move

@@ -1,0 +1,11 @@
+use Rattle.rgo_core_rule.specs.Views.{number_of, record_of}
+use Rattle.rgo_core.specs.Opening.{first_of}
+use Rattle.rgo_core.specs.Plans.{setup_of}
+use Rattle.rgo_core.proofs.ClockLifts.{look_law}
+use Rattle.rgo_core.proofs.table.look.Goals as goal
+
+pub load-requires-clause-law : goal.load-requires-clause-law
+load-requires-clause-law c =
+    let key = c.args.table.now.shared.key in
+    let me = c.args.seat.now.me in
+    look_law (setup_of key) (number_of me) (record_of (first_of key.code.value) me)

@@ -1,0 +1,71 @@
+-- A new object: which one a goroutine's next instruction makes, told by its record, and the record after the stores of its words.
+use Rattle.std.specs.Prelude.{◌≡◌, ℕ, suc, ◌+◌, ◌*◌, ◌<◌, ◌^◌, false, List, [], ◌∷◌, map, replicate, Option, Some, slice_get}
+use Rattle.rgo_code.specs.Code.{Code, CodeOp, Do}
+use Rattle.rgo_code.specs.Erasure.{erased}
+use Rattle.rgo_memory.specs.Memory.{Channel, Object, SliceObject, StructObject}
+use Rattle.rgo_memory.specs.Values.{element_zero, zero_of}
+use Rattle.rgo_region_machine.specs.Objects.{making_region, words as words_of}
+use Rattle.rgo_region_machine.specs.Owed.{function_of}
+use Rattle.rgo_region_machine.specs.States.{top_names}
+use Rattle.rgo_region_machine.specs.declared.regions.Region.{Region}
+use Rattle.rgo_region_machine.specs.declared.regions.Region.TheVariants.{Global as GlobalRegion, Numbered}
+use Rattle.rgo_tac.specs.Steps.{type_of}
+use Rattle.rgo_typed.specs.declared.actions.Action.{Action}
+use Rattle.rgo_typed.specs.declared.actions.Action.TheVariants as action
+use Rattle.rgo_typed.specs.declared.programs.Struct.{Struct}
+use Rattle.rgo_core_channels.specs.Records.{at_rest}
+use Rattle.rgo_core_frames.specs.Actions.{after_action}
+use Rattle.rgo_core_frames.specs.WordFrames.{WordFrame, bare, word_at}
+use Rattle.rgo_core_memory.specs.Encoding.{content, opening}
+use Rattle.rgo_core_memory.specs.Parts.{Covers, Makes}
+use Rattle.rgo_core_memory.specs.Records.{Fill, with_object, with_word}
+use Rattle.rgo_core_memory.specs.Words.{cell_at}
+use Rattle.rgo_core_memory.specs.declared.layout.TableSizes.{TableSizes}
+use Rattle.rgo_core.specs.Core.{Setup, layout}
+use Rattle.rgo_core.specs.Next.{IsAt}
+use Rattle.rgo_core.specs.Records.{Record, accessed, ticked}
+use Rattle.rgo_core.specs.Steps.{Moves}
+
+-- The object that an action makes, by the word of its size: a size is not negative, and a buffer is small. Each word of an object has
+-- an address, so that a page has fewer words than a buffer may have.
+pub data MakesObject (code : Code) (w : WordFrame) (to : Option ℕ) (act : Action) (from : List ℕ) (object : Object) : Type 0 where
+  AStruct : (n : ℕ) (made : Struct) → act ≡ action.New n → from ≡ [] → slice_get code.structs n ≡ Some made
+      → object ≡ StructObject (map zero_of made.fields) → MakesObject code w to act from object
+  ASlice : (p : ℕ) → act ≡ action.Slice → from ≡ p ∷ [] → word_at w p < 2 ^ 63
+      → object ≡ SliceObject (replicate (word_at w p) (element_zero (type_of (erased code) (bare w) to)))
+      → MakesObject code w to act from object
+  AChannel : (p : ℕ) → act ≡ action.Chan → from ≡ p ∷ [] → word_at w p < 1073741820
+      → object ≡ Channel (word_at w p) [] false → MakesObject code w to act from object
+
+-- the slot by which a record knows a region
+abbrev pub slot_number : TableSizes → Region → ℕ
+slot_number z GlobalRegion = z.slots
+slot_number z (Numbered p) = p
+
+-- the record after an instruction that has made an object at the end of what is filled of this own page
+abbrev pub made_object : (T : Setup) (c : Record) {op : CodeOp} → IsAt T.code c op → Option ℕ → Fill → Object → Record
+made_object T c a to f object = record c {
+  clock = record (ticked c.clock) {
+    share = record c.clock.share { steps = suc c.clock.share.steps; objects = suc c.clock.share.objects };
+  };
+  frame = after_action T.code c.frame a.w a.ws a.instr to (suc (f.page * T.sizes.page_words + f.fill));
+  memory = with_object c.memory f.slot (f.fill + words_of object);
+}
+
+-- one word of a new object is stored, and not all of them
+abbrev pub WordMove : Type 0
+WordMove = (T : Setup) (g : ℕ) (c : Record) (f : Fill) (object : Object) (stored : List ℕ) (i : ℕ)
+    → Makes (layout T) c.memory f object stored → i < words_of object
+    → Moves T g c (cell_at (layout T) f.page (f.fill + i)) (λ n. opening (content object i))
+    (λ n d. d ≡ record c { clock = accessed c.clock; memory = with_word c.memory f object (i ∷ stored) })
+
+-- the last of its words is stored: this is the instruction
+abbrev pub ObjectMove : Type 0
+ObjectMove = (T : Setup) (g : ℕ) (c : Record) (to : Option ℕ) (act : Action) (from removes : List ℕ)
+    (a : IsAt T.code c (Do to act from removes)) (object : Object) (by_slot : Region) (f : Fill) (stored : List ℕ) (i : ℕ)
+    → c.side ≡ at_rest → MakesObject T.code a.w to act from object
+    → making_region (function_of T.code a.w.function) (top_names c.frame.holder.environments) a.instr.op ≡ Some by_slot
+    → f.slot ≡ slot_number (layout T) by_slot → Makes (layout T) c.memory f object stored → i < words_of object
+    → Covers object (i ∷ stored)
+    → Moves T g c (cell_at (layout T) f.page (f.fill + i)) (λ n. opening (content object i))
+    (λ n d. d ≡ made_object T c a to f object)

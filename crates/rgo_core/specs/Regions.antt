@@ -1,0 +1,62 @@
+-- Accesses to the counts of regions: a region is created, a stake is taken for a goroutine that is about to start, and a stake ends.
+use Rattle.std.specs.Prelude.{◌≡◌, ◌≢◌, ◌⊎◌, ◌+◌, ◌-◌, ◌%◌, ◌^◌, ◌<◌, ◌==◌, ℕ, suc, List, ◌∷◌, Some, if◌then◌else◌}
+use Rattle.rgo_region_machine.specs.States.{Create, Duty, Holder}
+use Rattle.rgo_core_channels.specs.Records.{at_rest}
+use Rattle.rgo_core_frames.specs.Creations.{created_in}
+use Rattle.rgo_core_frames.specs.Stakes.{stake_ended, stake_shared}
+use Rattle.rgo_core_memory.specs.Events.{IsFreeOf}
+use Rattle.rgo_core_memory.specs.Records.{Calm, Owes, with_give, with_tried_slot, without_slot}
+use Rattle.rgo_core_memory.specs.Words.{count_at}
+use Rattle.rgo_core.specs.Chains.{remembers}
+use Rattle.rgo_core.specs.Core.{Setup, layout}
+use Rattle.rgo_core.specs.Records.{Record, accessed}
+use Rattle.rgo_core.specs.Steps.{Moves}
+
+-- the record after it has created a region in this slot, by this name
+abbrev pub creates : Record → (name : ℕ) → List Duty → (slot : ℕ) → Record
+creates c k ds p = record c {
+  clock = record (accessed c.clock) { share = record c.clock.share { made = suc c.clock.share.made } };
+  frame = created_in c.frame k ds p;
+}
+
+-- a slot that is free is taken for a new region; one that is not is remembered
+abbrev pub CreateMove : Type 0
+CreateMove = (T : Setup) (g : ℕ) (c : Record) (k p : ℕ) (ds : List Duty) → c.side ≡ at_rest
+    → c.frame.holder.duties ≡ Create k ∷ ds → p < T.sizes.regions
+    → Moves T g c (count_at (layout T) p) (λ n. if n == 0 then 2 else n)
+    (λ n d. d ≡ (if n == 0 then creates c k ds p else remembers c (with_tried_slot c.memory p)))
+
+-- the record with another holder after an access
+abbrev pub with_holder : Record → Holder → Record
+with_holder c k = record c { clock = accessed c.clock; frame = record c.frame { holder = k } }
+
+-- a stake is taken
+abbrev pub ShareMove : Type 0
+ShareMove = (T : Setup) (g : ℕ) (c : Record) (d : Duty) (ds : List Duty) (p : ℕ) (k : Holder) → c.side ≡ at_rest
+    → c.frame.holder.duties ≡ d ∷ ds → stake_shared (record c.frame.holder { duties = ds }) d ≡ Some (p, k)
+    → Moves T g c (count_at (layout T) p) (λ n. (n + 1) % 2 ^ 64) (λ n e. e ≡ with_holder c k)
+
+-- the record after the end of a stake that was not the last
+abbrev pub leaves : Record → Holder → (slot : ℕ) → Record
+leaves c k p = record (with_holder c k) { memory = without_slot c.memory p }
+
+-- and of the last one, in a region of so many pages, which are now to be given back
+abbrev pub leaves_last : Record → Holder → (slot pages : ℕ) → Record
+leaves_last c k p pages = record (with_holder c k) {
+  clock = record (accessed c.clock) {
+    share = record c.clock.share { removed = suc c.clock.share.removed };
+    owed = c.clock.owed + pages;
+  };
+  memory = with_give (without_slot c.memory p) (Owes p);
+}
+
+-- by the count that was found
+abbrev pub HasLeft : Record → Holder → (slot : ℕ) → (found : ℕ) → Record → Type 0
+HasLeft c k p n e = ((n ≢ 2) × (e ≡ leaves c k p)) ⊎ ((n ≡ 2) × (pages : ℕ) × (e ≡ leaves_last c k p pages))
+
+-- a stake ends; where it was the last, the region goes
+abbrev pub LeaveMove : Type 0
+LeaveMove = (T : Setup) (g : ℕ) (c : Record) (d : Duty) (ds : List Duty) (p : ℕ) (k : Holder) → c.side ≡ at_rest
+    → c.frame.holder.duties ≡ d ∷ ds → stake_ended (record c.frame.holder { duties = ds }) d ≡ Some (p, k)
+    → IsFreeOf c.memory p → c.memory.give ≡ Calm
+    → Moves T g c (count_at (layout T) p) (λ n. (n + (2 ^ 64 - 1)) % 2 ^ 64) (HasLeft c k p)

@@ -1,0 +1,45 @@
+-- Traps at channels: what a goroutine has found of a channel makes its operation end the run.
+use Rattle.std.specs.Prelude.{◌≡◌, ◌^◌, ℕ, bit_or, List, [], ◌∷◌, Option}
+use Rattle.rgo_code.specs.Code.{Do}
+use Rattle.rgo_core_channels.specs.Records.{Shut, Stranded}
+use Rattle.rgo_core_frames.specs.WordFrames.{word_at}
+use Rattle.rgo_core_memory.specs.Words.{clock_at}
+use Rattle.rgo_machine.specs.declared.picks.End.TheVariants as the_end
+use Rattle.rgo_memory.specs.declared.traps.Trap.TheVariants.{CloseClosed, CloseNil, SendClosed}
+use Rattle.rgo_memory.specs.declared.traps.Trap.{Trap}
+use Rattle.rgo_region_machine.specs.States.{Ended}
+use Rattle.rgo_typed.specs.declared.actions.Action.TheVariants.{Close, Send}
+use Rattle.rgo_core.specs.AtChannels.{Operates}
+use Rattle.rgo_core.specs.CommitMoves.{IsAtSend}
+use Rattle.rgo_core.specs.Core.{Setup}
+use Rattle.rgo_core.specs.Next.{IsAt}
+use Rattle.rgo_core.specs.Records.{Record, instructed, with_end}
+use Rattle.rgo_core.specs.Steps.{Moves}
+
+-- The record after a trap of the instruction at that place, for which the clock was n: the instruction is counted, and the goroutine
+-- stays at it.
+abbrev pub trapped : Record → (n : ℕ) → Trap → (place : ℕ) → Record
+trapped c n trap place = record c { clock = with_end (instructed c.clock) n (Ended (the_end.Trap trap place)) }
+
+-- a send on a channel that was found closed
+abbrev pub SendTrapMove : Type 0
+SendTrapMove = (T : Setup) (g : ℕ) (c : Record) (to : Option ℕ) (sent at : ℕ) (a : Operates T c to Send (sent ∷ []) at)
+    → c.side.saw ≡ Shut at
+    → Moves T g c clock_at (λ n. bit_or n (2 ^ 63)) (λ n d. d ≡ trapped c n SendClosed a.here.instr.place)
+
+-- a close of one
+abbrev pub CloseTrapMove : Type 0
+CloseTrapMove = (T : Setup) (g : ℕ) (c : Record) (to : Option ℕ) (at : ℕ) (a : Operates T c to Close [] at)
+    → c.side.saw ≡ Shut at
+    → Moves T g c clock_at (λ n. bit_or n (2 ^ 63)) (λ n d. d ≡ trapped c n CloseClosed a.here.instr.place)
+
+-- a close of nil
+abbrev pub CloseNilMove : Type 0
+CloseNilMove = (T : Setup) (g : ℕ) (c : Record) (to : Option ℕ) (channel : ℕ) (removes : List ℕ)
+    (a : IsAt T.code c (Do to Close (channel ∷ []) removes)) → word_at a.w channel ≡ 0
+    → Moves T g c clock_at (λ n. bit_or n (2 ^ 63)) (λ n d. d ≡ trapped c n CloseNil a.instr.place)
+
+-- a send whose offer stands at a channel that was found closed
+abbrev pub StrandedMove : Type 0
+StrandedMove = (T : Setup) (g : ℕ) (c : Record) (at : ℕ) (a : IsAtSend T c) → c.side.saw ≡ Stranded at
+    → Moves T g c clock_at (λ n. bit_or n (2 ^ 63)) (λ n d. d ≡ trapped c n SendClosed a.instr.place)

@@ -1,0 +1,103 @@
+//! What each access to memory does to what the table shows: loads and stores, new objects, pages, chains and the counts of
+//! regions. What a law asks is told by the goroutine's own record.
+ghost use Rattle.rgo_core.specs.Accesses.{GetMove, LenMove, LoadMove, SetMove, StoreMove};
+ghost use Rattle.rgo_core.specs.Chains.{ClearMove, FreeMove, HangMove, HeadMove, LinkMove, NextMove, SlotMove};
+ghost use Rattle.rgo_core.specs.Claims.{ClaimMove};
+ghost use Rattle.rgo_core.specs.NewObjects.{ObjectMove, WordMove};
+ghost use Rattle.rgo_core.specs.Regions.{CreateMove, LeaveMove, ShareMove};
+ghost use Rattle.rgo_core.specs.TraceExamples.{TraceExamples};
+
+/// A load of a field reads what the instruction reads.
+pub fn load_move()
+    ensures { LoadMove }
+{}
+
+/// A store of a field is the instruction.
+pub fn store_move()
+    ensures { StoreMove }
+{}
+
+/// A load of the first word of a slice reads its length.
+pub fn len_move()
+    ensures { LenMove }
+{}
+
+/// A load of a package variable reads what the instruction reads.
+pub fn get_move()
+    ensures { GetMove }
+{}
+
+/// A store of a package variable is the instruction.
+pub fn set_move()
+    ensures { SetMove }
+{}
+
+/// One word of a new object is stored, and not all of them are.
+pub fn word_move()
+    ensures { WordMove }
+{}
+
+/// With the last of its words an object is made.
+pub fn object_move()
+    ensures { ObjectMove }
+{}
+
+/// A page is claimed if it is free.
+pub fn claim_move()
+    ensures { ClaimMove }
+{}
+
+/// A claimed page becomes the head of its chain.
+pub fn hang_move()
+    ensures { HangMove }
+{}
+
+/// Its next word is stored.
+pub fn link_move()
+    ensures { LinkMove }
+{}
+
+/// A slot is taken for a new region if it is free.
+pub fn create_move()
+    ensures { CreateMove }
+{}
+
+/// A stake is taken for a goroutine that is about to start.
+pub fn share_move()
+    ensures { ShareMove }
+{}
+
+/// A stake ends. If it was the last, the region goes, and its chain is to be given back.
+pub fn leave_move()
+    ensures { LeaveMove }
+{}
+
+/// The head of a chain that is given back is loaded.
+pub fn head_move()
+    ensures { HeadMove }
+{}
+
+/// A page's next word is loaded.
+pub fn next_move()
+    ensures { NextMove }
+{}
+
+/// A page is free again.
+pub fn free_move()
+    ensures { FreeMove }
+{}
+
+/// The head is cleared.
+pub fn clear_move()
+    ensures { ClearMove }
+{}
+
+/// The slot is free again.
+pub fn slot_move()
+    ensures { SlotMove }
+{}
+
+/// Small runs, access by access.
+pub fn traces()
+    ensures { TraceExamples }
+{}

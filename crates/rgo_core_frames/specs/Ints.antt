@@ -1,0 +1,46 @@
+-- Ints are of 64 bits, in memory and in frames.
+use Rattle.rgo_code.specs.Code.{Code}
+use Rattle.rgo_memory.specs.Memory.{Channel, Memory, Object, SliceObject, StructObject}
+use Rattle.rgo_memory.specs.declared.values.Value.TheVariants as value
+use Rattle.rgo_memory.specs.declared.values.Value.{Value}
+use Rattle.rgo_region_machine.specs.Machine.{Event, region_start, region_step}
+use Rattle.rgo_region_machine.specs.States.{RegionState}
+use Rattle.rgo_sound.specs.Types.{Each}
+use Rattle.rgo_tac.specs.Frames.{Frame}
+use Rattle.rgo_tac.specs.Tac.{TacState}
+use Rattle.std.specs.Int.{w64}
+use Rattle.std.specs.Prelude.{FitsSigned, List, Some, length, pos, ℕ, ◌≡◌}
+use Rattle.rgo_core_frames.specs.LocalLaws.{ConstantsFit}
+
+-- an int fits in a word; so does every value of another kind
+abbrev pub IntFits : Value → Type 0
+IntFits (value.Int z) = FitsSigned w64 z
+IntFits (value.Bool b) = Unit {0}
+IntFits value.Nil = Unit {0}
+IntFits (value.Object o) = Unit {0}
+
+-- of an object: what it holds, the length of a slice, and the capacity of a channel
+abbrev pub ObjectIntsFit : Object → Type 0
+ObjectIntsFit (StructObject cells) = Each IntFits cells
+ObjectIntsFit (SliceObject cells) = Each IntFits cells × IntFits (value.Int (pos (length cells)))
+ObjectIntsFit (Channel capacity queue closed) = Each IntFits queue × IntFits (value.Int (pos capacity))
+
+-- of the objects and the package variables
+pub record MemoryIntsFit (m : Memory) : Type 0 where
+  pub objects : Each ObjectIntsFit m.heap
+  pub variables : Each IntFits m.variables
+
+-- of the variables of frames
+abbrev pub FramesIntsFit : List Frame → Type 0
+FramesIntsFit frames = Each (λ (f : Frame). Each IntFits f.variables) frames
+
+-- each int of a state fits in a word
+pub record IntsFit (p : TacState) : Type 0 where
+  pub memory : MemoryIntsFit p.memory
+  pub frames : Each FramesIntsFit p.goroutines
+
+-- it is so at the start, and each step keeps it, where the constants of the code fit
+pub record IntsStay : Type 0 where
+  pub start : (code : Code) → IntsFit (region_start code).plain
+  pub step : (code : Code) (page_words : ℕ) (s t : RegionState) (event : Event) → ConstantsFit code → IntsFit s.plain
+      → region_step code page_words s event ≡ Some t → IntsFit t.plain
