@@ -11,8 +11,8 @@ ghost use Rattle.rgo_core.specs.Records.{accesses, looked};
 ghost use Rattle.rgo_core_frames.specs.LocalLaws.{ConstantsFit};
 ghost use Rattle.rgo_core_memory.specs.Words.{all_words as words_in_all};
 ghost use Rattle.rgo_core_rule.specs.Rule.{Closing};
-ghost use Rattle.rgo_core_rule.specs.Steps.{Told};
-ghost use Rattle.rgo_core_rule.specs.Views.{IsAlone, number_of, record_of, view};
+ghost use Rattle.rgo_core_rule.specs.Steps.{Leaves};
+ghost use Rattle.rgo_core_rule.specs.Views.{IsAlone, record_of, view};
 ghost use Rattle.rgo_core_rule.specs.declared.accesses.Kind.TheVariants as kind;
 ghost use Rattle.rgo_machine.specs.Limits.{most_goroutines};
 ghost use Rattle.rgo_region_machine.specs.Machine.{Event as RegionEvent};
@@ -99,9 +99,8 @@ pub fn look(table: &RunTable, seat: &mut RunSeat) -> bool
     requires own { (seat.old.table_id ≡ table.now.shared.table_id) × (0 < table.now.shared.table_id.words) }
     requires alone { IsAlone (first_of table.now.shared.key.code.value) seat.old.me }
     ensures own { (seat.new.table_id ≡ seat.old.table_id) × (seat.new.id ≡ seat.old.id) }
-    ensures alone { IsAlone (first_of table.now.shared.key.code.value) seat.new.me }
-    ensures told { (n : ℕ) × ((result ≡ true) ↔ (2 ^ 63 ≤ n))
-        × Told accesses (number_of seat.old.me) kind.Load 0 (λ n. n)
+    ensures looked { (n : ℕ) × ((result ≡ true) ↔ (2 ^ 63 ≤ n))
+        × Leaves accesses (first_of table.now.shared.key.code.value) kind.Load 0 (λ n. n)
         (λ n d. d ≡ looked (record_of (first_of table.now.shared.key.code.value) seat.old.me)) seat.old.me n seat.new.me }
 {
     load::<Record, Plan, ByRuns, Brand, _>(table, seat, 0, &()) >= 1 << 63

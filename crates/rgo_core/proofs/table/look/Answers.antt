@@ -4,8 +4,8 @@ use Rattle.rgo_core.specs.Plans.{setup_of}
 use Rattle.rgo_core.proofs.ClockLifts.{look_law}
 use Rattle.rgo_core.proofs.table.look.Goals as goal
 
-pub load-requires-clause-law : goal.load-requires-clause-law
-load-requires-clause-law c =
+pub load-requires-clause-asks : goal.load-requires-clause-asks
+load-requires-clause-asks c =
     let key = c.args.table.now.shared.key in
     let me = c.args.seat.now.me in
-    look_law (setup_of key) (number_of me) (record_of (first_of key.code.value) me)
+    (c.requires.alone, look_law (setup_of key) (number_of me) (record_of (first_of key.code.value) me))
