@@ -1,0 +1,22 @@
+-- Journals, and texts that are none.
+use Rattle.std.specs.Prelude.{◌≡◌, ◌^◌, ℕ, List, [], ◌∷◌, ◌++◌, codes}
+use Rattle.rgo_journal.specs.declared.picks.TacPick.{TacPick}
+use Rattle.rgo_journal.specs.declared.picks.TacPick.TheVariants.{One, Meet, Case, CaseMeet}
+use Rattle.rgo_journal.specs.Forms.{IsFirstWithoutForm}
+use Rattle.rgo_journal.specs.Text.{Fits, IsJournal, journal}
+
+pub record Examples : Type 0 where
+  pub empty : journal [] ≡ codes "rgo picks 1\ntext\n"
+  pub all : journal (One 0 ∷ Meet 10 2 ∷ Case 3 0 ∷ CaseMeet 4 1 5 ∷ [])
+      ≡ codes "rgo picks 1\none 0\nmeet 10 2\ncase 3 0\ncasemeet 4 1 5\ntext\n"
+  pub read : IsJournal (codes "rgo picks 1\none 0\ntext\npackage main\n") (One 0 ∷ []) 23
+  -- the last line ends in a newline, too
+  pub open_end : IsJournal (codes "rgo picks 1\none 0\ntext") (One 0 ∷ []) 22 → ⊥
+  -- a number has 32 bits
+  pub large : Fits (One (2 ^ 32)) → ⊥
+  pub no_first : IsFirstWithoutForm (codes "rgo picks 2\ntext\n") 1
+  pub nothing : IsFirstWithoutForm [] 1
+  -- the text ends before the last line
+  pub early : IsFirstWithoutForm (codes "rgo picks 1\none 0\n") 3
+  -- the third line has a form
+  pub later : IsFirstWithoutForm (codes "rgo picks 1\none 0\none 1\none 00\ntext\n") 3 → ⊥

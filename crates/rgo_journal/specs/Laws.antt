@@ -1,0 +1,30 @@
+-- What holds of journals and replays.
+use Rattle.std.specs.Prelude.{◌≡◌, ◌⊎◌, ℕ, List, ◌++◌, length, All}
+use Rattle.rgo_tac.specs.Code.{Tac}
+use Rattle.rgo_tac.specs.Tac.{TacState}
+use Rattle.rgo_journal.specs.declared.picks.TacPick.{TacPick}
+use Rattle.rgo_journal.specs.declared.replays.ReplayEnd.{ReplayEnd}
+use Rattle.rgo_journal.specs.declared.replays.ReplayEnd.TheVariants.{WriteFault, NoMemory}
+use Rattle.rgo_journal.specs.Forms.{IsFirstWithoutForm}
+use Rattle.rgo_journal.specs.Replays.{Ends}
+use Rattle.rgo_journal.specs.Text.{Fits, IsJournal, journal}
+
+-- What was printed is read: a journal, whatever follows it, has its picks and no others, and no line of it lacks a form.
+pub record ReadBack : Type 0 where
+  pub is : (picks : List TacPick) (text : List ℕ) → All Fits picks
+      → IsJournal (journal picks ++ text) picks (length (journal picks))
+  pub one : (bytes : List ℕ) (a b : List TacPick) (m n : ℕ) → IsJournal bytes a m → IsJournal bytes b n
+      → (a ≡ b) × (m ≡ n)
+  pub not_both : (bytes : List ℕ) (a : List TacPick) (n line : ℕ) → IsJournal bytes a n → IsFirstWithoutForm bytes line → ⊥
+  pub one_refusal : (bytes : List ℕ) (m n : ℕ) → IsFirstWithoutForm bytes m → IsFirstWithoutForm bytes n → m ≡ n
+
+-- an end that is neither a failed write nor a want of memory
+abbrev pub IsWhole : ReplayEnd → Type 0
+IsWhole WriteFault = ⊥
+IsWhole NoMemory = ⊥
+IsWhole _ = Unit {0}
+
+-- Picks can be replayed on code with one end only.
+abbrev pub OneReplay : Type 0
+OneReplay = (code : Tac) (picks : List TacPick) (a b : ReplayEnd) (s t : TacState) → IsWhole a → IsWhole b
+    → Ends code picks s a → Ends code picks t b → (a ≡ b) × (s ≡ t)

@@ -1,0 +1,20 @@
+//! What holds of journals and replays.
+
+ghost use Rattle.rgo_journal.specs.Examples.{Examples};
+ghost use Rattle.rgo_journal.specs.Laws.{OneReplay, ReadBack};
+
+/// A journal that is read gives back the picks that it was printed from, whatever follows it, and a text has one journal at
+/// its beginning or one first line without form, never both.
+pub fn read_back()
+    ensures { ReadBack }
+{}
+
+/// Picks can be replayed on code with one end only.
+pub fn one_replay()
+    ensures { OneReplay }
+{}
+
+/// Journals, and texts that are none.
+pub fn examples()
+    ensures { Examples }
+{}
