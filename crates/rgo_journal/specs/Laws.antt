@@ -1,12 +1,15 @@
 -- What holds of journals and replays.
-use Rattle.std.specs.Prelude.{◌≡◌, ◌⊎◌, ℕ, List, ◌++◌, length, All}
+use Rattle.std.specs.Prelude.{◌≡◌, ℕ, List, ◌++◌, length, map, All}
+use Rattle.rgo_machine.specs.declared.picks.Pick.{Pick}
+use Rattle.rgo_machine.specs.Runs.{Leads}
 use Rattle.rgo_tac.specs.Code.{Tac}
-use Rattle.rgo_tac.specs.Tac.{TacState}
+use Rattle.rgo_tac.specs.Tac.{TacState, tac_start, tac_step}
 use Rattle.rgo_journal.specs.declared.picks.TacPick.{TacPick}
 use Rattle.rgo_journal.specs.declared.replays.ReplayEnd.{ReplayEnd}
 use Rattle.rgo_journal.specs.declared.replays.ReplayEnd.TheVariants.{WriteFault, NoMemory}
 use Rattle.rgo_journal.specs.Forms.{IsFirstWithoutForm}
-use Rattle.rgo_journal.specs.Replays.{Ends}
+use Rattle.rgo_journal.specs.Picks.{journal_pick}
+use Rattle.rgo_journal.specs.Replays.{Ends, Takes}
 use Rattle.rgo_journal.specs.Text.{Fits, IsJournal, journal}
 
 -- What was printed is read: a journal, whatever follows it, has its picks and no others, and no line of it lacks a form.
@@ -17,6 +20,11 @@ pub record ReadBack : Type 0 where
       → (a ≡ b) × (m ≡ n)
   pub not_both : (bytes : List ℕ) (a : List TacPick) (n line : ℕ) → IsJournal bytes a n → IsFirstWithoutForm bytes line → ⊥
   pub one_refusal : (bytes : List ℕ) (m n : ℕ) → IsFirstWithoutForm bytes m → IsFirstWithoutForm bytes n → m ≡ n
+
+-- The picks of a run of the machine, as a journal has them, are taken with the same steps.
+abbrev pub SameSteps : Type 0
+SameSteps = (code : Tac) (picks : List Pick) (s : TacState) → Leads (tac_step code) (tac_start code) picks s
+    → Takes code (map journal_pick picks) s
 
 -- an end that is neither a failed write nor a want of memory
 abbrev pub IsWhole : ReplayEnd → Type 0

@@ -1,12 +1,17 @@
 //! What holds of journals and replays.
 
 ghost use Rattle.rgo_journal.specs.Examples.{Examples};
-ghost use Rattle.rgo_journal.specs.Laws.{OneReplay, ReadBack};
+ghost use Rattle.rgo_journal.specs.Laws.{OneReplay, ReadBack, SameSteps};
 
 /// A journal that is read gives back the picks that it was printed from, whatever follows it, and a text has one journal at
 /// its beginning or one first line without form, never both.
 pub fn read_back()
     ensures { ReadBack }
+{}
+
+/// A journal of the picks of a run replays that run.
+pub fn same_steps()
+    ensures { SameSteps }
 {}
 
 /// Picks can be replayed on code with one end only.

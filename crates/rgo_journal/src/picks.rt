@@ -1,6 +1,8 @@
 //! The picks of a journal.
 
-ghost use Rattle.std.specs.Prelude.{◌≡◌};
+ghost use Rattle.std.specs.Prelude.{◌≡◌, MatchOption};
+ghost use Rattle.rgo_code_words.specs.Worded.{IsSmall};
+ghost use Rattle.rgo_machine.specs.declared.picks.Pick.TheVariants.{Meet};
 ghost use Rattle.rgo_journal.specs.Picks as spec;
 ghost use Rattle.rgo_journal.specs.Picks.{IsSmallPick};
 
@@ -30,13 +32,36 @@ pub fn machine_pick(pick: TacPick) -> Option<Pick>
     }
 }
 
-/// A pick of the machine whose numbers have 32 bits, as it is in a journal.
-pub fn journal_pick(pick: Pick) -> TacPick
-    requires { IsSmallPick pick }
-    ensures { result ≡ spec.journal_pick pick }
+/// The number, if it has 32 bits.
+fn small(n: usize) -> Option<u32>
+    ensures { MatchOption result (IsSmall n → ⊥) (λ m. (m ≡ n) × IsSmall n) }
+{
+    if n <= u32::MAX as usize {
+        Some(n as u32)
+    } else {
+        None
+    }
+}
+
+fn small_meeting(receiver: usize, sender: usize) -> Option<TacPick>
+    ensures { MatchOption result (IsSmallPick (Meet receiver sender) → ⊥)
+        (λ pick. (pick ≡ spec.journal_pick (Meet receiver sender)) × IsSmallPick (Meet receiver sender)) }
+{
+    match (small(receiver), small(sender)) {
+        (Some(receiver), Some(sender)) => Some(TacPick::Meet(receiver, sender)),
+        _ => None,
+    }
+}
+
+/// A pick of the machine as it is in a journal; none where a number does not have 32 bits.
+pub fn journal_pick(pick: Pick) -> Option<TacPick>
+    ensures { MatchOption result (IsSmallPick pick → ⊥) (λ p. (p ≡ spec.journal_pick pick) × IsSmallPick pick) }
 {
     match pick {
-        Pick::One(g) => TacPick::One(g as u32),
-        Pick::Meet(receiver, sender) => TacPick::Meet(receiver as u32, sender as u32),
+        Pick::One(g) => match small(g) {
+            Some(g) => Some(TacPick::One(g)),
+            None => None,
+        },
+        Pick::Meet(receiver, sender) => small_meeting(receiver, sender),
     }
 }

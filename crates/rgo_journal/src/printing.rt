@@ -54,8 +54,8 @@ fn print_pick(out: &mut Vec<u8>, pick: TacPick) -> Result<(), AllocError>
 fn print_lines(out: &mut Vec<u8>, picks: &[TacPick]) -> Result<(), AllocError>
     ensures { OnOk result (out.new.items ≡ out.old.items ++ pick_lines picks.now) }
 {
-    for index in 0..picks.len() {
-        print_pick(out, picks[index])?;
+    for pick in picks {
+        print_pick(out, *pick)?;
     }
     Ok(())
 }
