@@ -1,6 +1,8 @@
 -- Picks, taken one after the other; and that they can be replayed with one end only.
-use Rattle.std.proofs.Common.{◌≡◌, ℕ, zero, suc, ◌+◌, ◌<◌, ◌≤◌, ◌⊎◌, inl, inr, List, [], ◌∷◌, ◌++◌, length, map, take, get_or, Option, None, Some, refl, sym, ap, ◌∙◌, subst, arith}
+use Rattle.std.proofs.Common.{◌≡◌, ℕ, zero, suc, ◌+◌, ◌<◌, ◌≤◌, ◌⊎◌, inl, inr, List, [], ◌∷◌, ◌++◌, length, map, take, get_or, Option, None, Some, Ok, Bool, true, false, true≢false, refl, sym, ap, ◌∙◌, subst, arith}
+use Rattle.std.specs.Io.KnownBytes.{Appends}
 use Rattle.std.specs.Prelude.{IfSome, slice_get, option_and_then}
+use Rattle.std.proofs.KnownBytes.{Appends-nil}
 use Rattle.std.proofs.lemmas.Bool.{cases_lt}
 use Rattle.std.proofs.lemmas.List.{take_all, take_more}
 use Rattle.rgo_machine.specs.declared.picks.End.{End}
@@ -17,7 +19,7 @@ use Rattle.rgo_journal.specs.declared.replays.ReplayEnd.{ReplayEnd}
 use Rattle.rgo_journal.specs.declared.replays.ReplayEnd.TheVariants.{Ended, Deadlock, Unfinished, Foreign, WriteFault, NoMemory}
 use Rattle.rgo_journal.specs.Laws.{IsWhole, OneReplay, SameSteps}
 use Rattle.rgo_journal.specs.Picks.{journal_pick, taken}
-use Rattle.rgo_journal.specs.Replays.{Ends, Takes, TakesSome}
+use Rattle.rgo_journal.specs.Replays.{Ends, Gives, Replays, Takes, Takes1, TakesSome}
 
 -- ---- one after the other
 
@@ -31,11 +33,51 @@ pub all_taken : (code : Tac) (picks : List TacPick) (i : ℕ) (s : TacState) →
     → Takes code picks s
 all_taken code picks i s l so_far = subst (λ ps. Takes code ps s) (take_all i picks l) so_far
 
+pub is_taken : (b : Bool) (s t : TacState) (next : Option TacState) → Takes1 (Ok b) s t next → b ≡ true → next ≡ Some t
+is_taken true s t next e is = e
+is_taken false s t next e is = absurd (true≢false (sym is))
+
 pub at_number : (P : TacPick → Type 0) (picks : List TacPick) (i : ℕ) (d : TacPick) → P (get_or picks i d)
     → IfSome (slice_get picks i) P
 at_number P [] i d h = tt
 at_number P (p ∷ picks) zero d h = h
 at_number P (p ∷ picks) (suc i) d h = at_number P picks i d h
+
+pub all_some : (code : Tac) (picks : List TacPick) (s : TacState) → Takes code picks s → (n : ℕ) × TakesSome code picks n s
+all_some code picks s all =
+    (length picks, subst (λ ps. Takes code ps s) (sym (take_all (length picks) picks (omega arith))) all)
+
+some_taken : (code : Tac) (picks : List TacPick) (s : TacState) (end : ReplayEnd) → Ends code picks s end
+    → (n : ℕ) × TakesSome code picks n s
+some_taken code picks s (Ended e) ends = all_some code picks s ends.0
+some_taken code picks s Deadlock ends = all_some code picks s ends.0
+some_taken code picks s Unfinished ends = all_some code picks s ends.0
+some_taken code picks s (Foreign index) ends = (index, ends.1)
+some_taken code picks s WriteFault ends = ends
+some_taken code picks s NoMemory ends = ends
+
+gives_whole : (end : ReplayEnd) (print : List ℕ) (old new : Option (List ℕ)) → (end ≡ WriteFault → ⊥)
+    → Appends old new print → Gives end print old new
+gives_whole (Ended e) print old new kept grown = grown
+gives_whole Deadlock print old new kept grown = grown
+gives_whole Unfinished print old new kept grown = grown
+gives_whole (Foreign index) print old new kept grown = grown
+gives_whole WriteFault print old new kept grown = absurd (kept refl)
+gives_whole NoMemory print old new kept grown = grown
+
+pub replayed : (code : Tac) (picks : List TacPick) (s : TacState) (end : ReplayEnd) (old new : Option (List ℕ))
+    → Ends code picks s end → (end ≡ WriteFault → ⊥) → Appends old new s.printed → Replays code picks end old new
+replayed code picks s end old new ends kept grown =
+    record { state = s; ends = ends; gives = gives_whole end s.printed old new kept grown }
+
+pub not_written : (code : Tac) (picks : List TacPick) (s : TacState) (end : ReplayEnd) (n : ℕ) (old new : Option (List ℕ))
+    → Ends code picks s end → Appends old new (take n s.printed) → Replays code picks WriteFault old new
+not_written code picks s end n old new ends grown =
+    record { state = s; ends = some_taken code picks s end ends; gives = (n, grown) }
+
+pub not_begun : (code : Tac) (picks : List TacPick) (old : Option (List ℕ)) → Replays code picks NoMemory old old
+not_begun code picks old =
+    record { state = tac_start code; ends = (0, refl); gives = Appends-nil old }
 
 -- ---- the same steps
 
@@ -43,16 +85,17 @@ same_step : (code : Tac) (s : TacState) (p : Pick) → taken code s (journal_pic
 same_step code s (One g) = refl
 same_step code s (Meet r t) = refl
 
+through : (code : Tac) (picks : List Pick) (o : Option TacState)
+    → ((t : TacState) → run (taken code) t (map journal_pick picks) ≡ run (tac_step code) t picks)
+    → option_and_then (λ t. run (taken code) t (map journal_pick picks)) o ≡ option_and_then (λ t. run (tac_step code) t picks) o
+through code picks None h = refl
+through code picks (Some t) h = h t
+
 same_run : (code : Tac) (s : TacState) (picks : List Pick) → run (taken code) s (map journal_pick picks) ≡ run (tac_step code) s picks
 same_run code s [] = refl
 same_run code s (p ∷ picks) =
     ap (option_and_then (λ t. run (taken code) t (map journal_pick picks))) (same_step code s p)
-    ∙ by (tac_step code s p)
-  where
-    by : (o : Option TacState) → option_and_then (λ t. run (taken code) t (map journal_pick picks)) o
-        ≡ option_and_then (λ t. run (tac_step code) t picks) o
-    by None = refl
-    by (Some t) = same_run code t picks
+    ∙ through code picks (tac_step code s p) (λ t. same_run code t picks)
 
 pub same_steps : SameSteps
 same_steps code picks s leads = same_run code (tac_start code) picks ∙ leads
@@ -60,19 +103,22 @@ same_steps code picks s leads = same_run code (tac_start code) picks ∙ leads
 -- ---- one end
 
 -- no run leads past an event that has no step
-past : {S E : Type 0} (step : S → E → Option S) (s t u : S) (es : List E) (i n : ℕ) → run step s (take i es) ≡ Some t
-    → IfSome (slice_get es i) (λ e. step t e ≡ None) → i < length es → i < n → run step s (take n es) ≡ Some u → ⊥
-past step s t u [] i n here none l m there = omega (arith, l)
-past step s t u (e ∷ es) i zero here none l m there = omega (arith, m)
-past step s t u (e ∷ es) zero (suc n) here none l m there =
-    not_none u (sym (ap (option_and_then (λ v. run step v (take n es))) (ap (λ v. step v e) (some_same s t here) ∙ none)) ∙ there)
-past step s t u (e ∷ es) (suc i) (suc n) here none l m there =
-    by (step s e) here there
-  where
-    by : (o : Option S) → option_and_then (λ v. run step v (take i es)) o ≡ Some t
-        → option_and_then (λ v. run step v (take n es)) o ≡ Some u → ⊥
-    by None p q = not_none t p
-    by (Some v) p q = past step v t u es i n p none (omega (arith, l)) (omega (arith, m)) q
+module _ {S E : Type 0} (step : S → E → Option S) where
+  in_turn : (es : List E) (i n : ℕ) (o : Option S) (t u : S) → option_and_then (λ v. run step v (take i es)) o ≡ Some t
+      → option_and_then (λ v. run step v (take n es)) o ≡ Some u
+      → ((v : S) → run step v (take i es) ≡ Some t → run step v (take n es) ≡ Some u → ⊥) → ⊥
+  in_turn es i n None t u p q h = not_none t p
+  in_turn es i n (Some v) t u p q h = h v p q
+
+  past : (s t u : S) (es : List E) (i n : ℕ) → run step s (take i es) ≡ Some t
+      → IfSome (slice_get es i) (λ e. step t e ≡ None) → i < length es → i < n → run step s (take n es) ≡ Some u → ⊥
+  past s t u [] i n here none l m there = omega (arith, l)
+  past s t u (e ∷ es) i zero here none l m there = omega (arith, m)
+  past s t u (e ∷ es) zero (suc n) here none l m there =
+      not_none u (sym (ap (option_and_then (λ v. run step v (take n es))) (ap (λ v. step v e) (some_same s t here) ∙ none)) ∙ there)
+  past s t u (e ∷ es) (suc i) (suc n) here none l m there =
+      in_turn es i n (step s e) t u here there
+      (λ v p q. past v t u es i n p none (omega (arith, l)) (omega (arith, m)) q)
 
 module _ (code : Tac) (picks : List TacPick) where
   same_state : (s t : TacState) (ps : List TacPick) → Takes code ps s → Takes code ps t → s ≡ t

@@ -1,12 +1,15 @@
 -- A journal, read line by line.
-use Rattle.std.proofs.Common.{◌≡◌, ℕ, ◌+◌, ◌-◌, List, [], ◌∷◌, ◌++◌, length, take, None, Some, sym, ap, ◌∙◌, arith, append_assoc, append-nil, length-append}
+use Rattle.std.proofs.Common.{◌≡◌, ℕ, ◌+◌, ◌-◌, ◌<◌, List, [], ◌∷◌, ◌++◌, length, take, Option, None, Some, refl, sym, ap, ◌∙◌, arith, append_assoc, append-nil, length-append}
 use Rattle.std.specs.Prelude.{All}
 use Rattle.std.proofs.lemmas.List.{take_at}
 use Rattle.std.proofs.lemmas.List.Elements.{All-nil, All-push}
+use denote.Ref.{Bor}
+use Rattle.rgo_code_words.specs.Readers.{seen as seen_rest}
 use Rattle.rgo_code_words.proofs.Options.{not_none}
 use Rattle.rgo_journal.specs.declared.picks.TacPick.{TacPick}
+use Rattle.rgo_journal.specs.declared.picks.TacPick.TheVariants.{One, Meet, Case, CaseMeet}
 use Rattle.rgo_journal.specs.Forms.{HasNoFirst, HasNoPick}
-use Rattle.rgo_journal.specs.Reading.{after_front, read_pick}
+use Rattle.rgo_journal.specs.Reading.{after_front, read_pick, seen}
 use Rattle.rgo_journal.specs.Text.{Fits, IsJournal, first_line, journal, last_line, pick_line, pick_lines}
 use Rattle.rgo_journal.proofs.Fronts.{after_back, after_sound}
 use Rattle.rgo_journal.proofs.Lines.{pick_back, pick_sound}
@@ -29,6 +32,22 @@ one_more (q ∷ picks) p next =
     append_assoc (pick_line q) (pick_lines picks) (pick_line p ++ next)
     ∙ ap (λ t. pick_line q ++ t) (one_more picks p next)
     ∙ sym (append_assoc (pick_line q) (pick_lines (picks ++ p ∷ [])) next)
+
+some_bytes : (p : TacPick) (rest : List ℕ) → length rest < length (pick_line p ++ rest)
+some_bytes p rest = omega (arith, length-append (pick_line p) rest, not_empty p)
+  where
+    not_empty : (p : TacPick) → 0 < length (pick_line p)
+    not_empty (One g) = omega arith
+    not_empty (Meet r s) = omega arith
+    not_empty (Case g k) = omega arith
+    not_empty (CaseMeet g k s) = omega arith
+
+pub no_more : (p : TacPick) (rest : List ℕ) → pick_line p ++ rest ≡ [] → ⊥
+no_more p rest e = let none : length (pick_line p ++ rest) ≡ 0 = ap length e in omega (arith, some_bytes p rest, none)
+
+pub shorter : (rest : List ℕ) (p : TacPick) (next : List ℕ) → read_pick rest ≡ Some (p, next) → length next < length rest
+shorter rest p next e =
+    omega (arith, some_bytes p next, ap length (pick_sound rest p next e).cut)
 
 pub goes_on : (bytes : List ℕ) (picks more : List TacPick) (rest : List ℕ) (p : TacPick) (next : List ℕ) → ReadSoFar bytes picks rest
     → read_pick rest ≡ Some (p, next) → more ≡ picks ++ p ∷ [] → ReadSoFar bytes more next
@@ -62,6 +81,15 @@ ends bytes picks rest text s e =
       within = omega arith;
       text_is = ap (take (length bytes - length text)) whole ∙ take_at (journal picks) text (length bytes - length text) len;
     }
+
+-- nothing was read
+pub none_seen : {A : Type 0} (o : Option (A × Bor (List ℕ))) (r : Option (A × List ℕ)) → seen o ≡ r → o ≡ None → r ≡ None
+none_seen {A} o r e n = sym e ∙ ap (seen {A = A}) n
+
+pub none_after : (o : Option (Bor (List ℕ))) (r : Option (List ℕ)) → seen_rest o ≡ r
+    → ((x : Bor (List ℕ)) → o ≡ Some x → ⊥) → r ≡ None
+none_after None r e n = sym e
+none_after (Some x) r e n = absurd (n x refl)
 
 pub stops : (bytes : List ℕ) (picks : List TacPick) (rest : List ℕ) (line : ℕ) → ReadSoFar bytes picks rest
     → after_front last_line rest ≡ None → read_pick rest ≡ None → line ≡ length picks + 2 → HasNoPick bytes line

@@ -18,5 +18,5 @@ pub record Examples : Type 0 where
   pub nothing : IsFirstWithoutForm [] 1
   -- the text ends before the last line
   pub early : IsFirstWithoutForm (codes "rgo picks 1\none 0\n") 3
-  -- the third line has a form
-  pub later : IsFirstWithoutForm (codes "rgo picks 1\none 0\none 1\none 00\ntext\n") 3 → ⊥
+  -- the first line has a form
+  pub later : IsFirstWithoutForm (codes "rgo picks 1\none 00\ntext\n") 1 → ⊥

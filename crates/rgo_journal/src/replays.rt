@@ -48,7 +48,8 @@ fn take_pick(alloc: Global, state: &mut TacState<'_>, pick: TacPick) -> Result<b
 /// What the state says in which all picks have been taken.
 fn end_of(alloc: Global, state: &TacState<'_>, picks: &[TacPick]) -> ReplayEnd
     requires { Takes state.now.code.now picks.now state.now.state }
-    ensures { Ends state.now.code.now picks.now state.now.state result }
+    ensures ends { Ends state.now.code.now picks.now state.now.state result }
+    ensures whole { result ≡ WriteFault → ⊥ }
 {
     if let Some(end) = state.state.ended {
         return ReplayEnd::Ended(end);
