@@ -16,7 +16,7 @@ use Rattle.rgo_command_line.specs.Limits.{Fits, big_by, goroutine_bounds, limit_
 use Rattle.rgo_command_line.specs.Limits.{region_bounds, step_bounds, worker_bounds}
 use Rattle.rgo_command_line.specs.Numbers.{is_numeral, within}
 use Rattle.rgo_command_line.specs.declared.commands.Command.{Command}
-use Rattle.rgo_command_line.specs.declared.commands.Command.TheVariants.{Run, Check, Emit, Code, Big, RunCode}
+use Rattle.rgo_command_line.specs.declared.commands.Command.TheVariants.{Run, Check, Emit, Code, Big, Replay, RunCode}
 use Rattle.rgo_command_line.specs.declared.limits.Bounds.{Bounds}
 use Rattle.rgo_command_line.specs.declared.limits.RunOptions.{RunOptions}
 use Rattle.rgo_machine.specs.declared.limits.Sizes.{Sizes}
@@ -24,7 +24,7 @@ use Rattle.rgo_command_line.proofs.BigLemmas as big
 use Rattle.rgo_command_line.proofs.FirstWordLemmas.{other_word}
 use Rattle.rgo_command_line.proofs.OptionLemmas.{AreOptions, Gives, IsNumeral, MetOptions, asks, met_options}
 use Rattle.rgo_command_line.proofs.OrderLemmas.{names, names_in_order}
-use Rattle.rgo_command_line.proofs.RestLemmas.{Plain, after_run_code, check, code, emit, more_rest, name_of, of_code, other_rest, plain_command}
+use Rattle.rgo_command_line.proofs.RestLemmas.{Plain, after_run_code, check, code, emit, more_rest, name_of, of_code, other_rest, plain_command, replay}
 use Rattle.rgo_command_line.proofs.LiteralLemmas.{commands, nothing}
 use Rattle.rgo_command_line.proofs.RunLemmas.{at_first, between, from}
 use Rattle.rgo_command_line.proofs.StatusLemmas.{Values, options_from, run_by}
@@ -312,16 +312,19 @@ alone : (p : Plain) (program : Text) → command_of (program ∷ name_of p ∷ [
 alone check = commands.check
 alone emit = commands.emit
 alone code = commands.code
+alone replay = commands.replay
 
 ended : (p : Plain) (program : Text) → command_of (program ∷ name_of p ∷ codes "--" ∷ []) ≡ Some (plain_command p)
 ended check = commands.check_ended
 ended emit = commands.emit_ended
 ended code = commands.code_ended
+ended replay = commands.replay_ended
 
 are_words : (p : Plain) (words : List Text) → ArePlain (name_of p) words → AreWordsOf (plain_command p) words
 are_words check words are = are
 are_words emit words are = are
 are_words code words are = are
+are_words replay words are = are
 
 tells_plain : (p : Plain) (program : Text) (rest : List Text)
     → IsEnd rest
@@ -389,13 +392,25 @@ tells (program ∷ w ∷ rest) = by_run (bytes_eq (codes "run") w) refl
         → bytes_eq (codes "emit") w ≡ false
         → bytes_eq (codes "code") w ≡ false
         → bytes_eq (codes "big") w ≡ false
+        → bytes_eq (codes "replay") w ≡ false
         → bytes_eq (codes "runcode") w ≡ b
         → Tells (program ∷ w ∷ rest)
-    by_run_code true r c e o g is =
+    by_run_code true r c e o g p is =
         subst (λ w. Tells (program ∷ w ∷ rest)) ((bytes_eq-Decides (codes "runcode") w).0 is) (after_code program rest)
-    by_run_code false r c e o g is =
+    by_run_code false r c e o g p is =
         tells_nothing (program ∷ w ∷ rest)
-        (other_word program w rest (record { run = r; check = c; emit = e; code = o; big = g; run_code = is }))
+        (other_word program w rest (record { run = r; check = c; emit = e; code = o; big = g; replay = p; run_code = is }))
+
+    by_replay : (b : Bool)
+        → bytes_eq (codes "run") w ≡ false
+        → bytes_eq (codes "check") w ≡ false
+        → bytes_eq (codes "emit") w ≡ false
+        → bytes_eq (codes "code") w ≡ false
+        → bytes_eq (codes "big") w ≡ false
+        → bytes_eq (codes "replay") w ≡ b
+        → Tells (program ∷ w ∷ rest)
+    by_replay true r c e o g is = at_plain replay program w rest is
+    by_replay false r c e o g is = by_run_code (bytes_eq (codes "runcode") w) r c e o g is refl
 
     by_big : (b : Bool)
         → bytes_eq (codes "run") w ≡ false
@@ -406,7 +421,7 @@ tells (program ∷ w ∷ rest) = by_run (bytes_eq (codes "run") w) refl
         → Tells (program ∷ w ∷ rest)
     by_big true r c e o is =
         subst (λ w. Tells (program ∷ w ∷ rest)) ((bytes_eq-Decides (codes "big") w).0 is) (after_big program rest)
-    by_big false r c e o is = by_run_code (bytes_eq (codes "runcode") w) r c e o is refl
+    by_big false r c e o is = by_replay (bytes_eq (codes "replay") w) r c e o is refl
 
     by_code : (b : Bool)
         → bytes_eq (codes "run") w ≡ false
@@ -452,6 +467,7 @@ ask words (RunCode options) (program, set, ending, sets, ends, is) =
 ask words Check are = ask_plain check words are
 ask words Emit are = ask_plain emit words are
 ask words Code are = ask_plain code words are
+ask words Replay are = ask_plain replay words are
 ask words (Big n) (program, x, held, given, holds, is) =
     ap command_of is ∙ big.at_first program held ∙ big.asks x n held given holds
 

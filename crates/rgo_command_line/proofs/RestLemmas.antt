@@ -17,7 +17,7 @@ use Rattle.rgo_command_line.specs.Limits.{big_of, options_of}
 use Rattle.rgo_command_line.specs.Parser.{bare_parser, big_parser, parser, run_parser}
 use Rattle.rgo_command_line.specs.declared.commands.Command.{Command}
 use Rattle.rgo_command_line.specs.declared.limits.RunOptions.{RunOptions}
-use Rattle.rgo_command_line.specs.declared.commands.Command.TheVariants.{Run, Check, Emit, Code, Big, RunCode}
+use Rattle.rgo_command_line.specs.declared.commands.Command.TheVariants.{Run, Check, Emit, Code, Big, Replay, RunCode}
 use Rattle.rgo_command_line.proofs.StrayLemmas.{stray, with_first}
 
 abbrev app : App
@@ -44,16 +44,19 @@ pub data Plain : Type 0 where
   check : Plain
   emit : Plain
   code : Plain
+  replay : Plain
 
 abbrev pub name_of : Plain → Text
 name_of check = codes "check"
 name_of emit = codes "emit"
 name_of code = codes "code"
+name_of replay = codes "replay"
 
 abbrev pub plain_command : Plain → Command
 plain_command check = Check
 plain_command emit = Emit
 plain_command code = Code
+plain_command replay = Replay
 
 abbrev leaf : Plain → Shape
 leaf p = built_leaf (inherited bare_parser.top (new_shape (name_of p)))
@@ -178,6 +181,9 @@ after_plain emit program rest =
 after_plain code program rest =
     ap₂ whole (stays (codes "code") [] rest) (no_fault (codes "code") [] rest)
     ∙ ap (λ b. cond b None (Some Code)) (just_one (rest_fault (leaf code) rest))
+after_plain replay program rest =
+    ap₂ whole (stays (codes "replay") [] rest) (no_fault (codes "replay") [] rest)
+    ∙ ap (λ b. cond b None (Some Replay)) (just_one (rest_fault (leaf replay) rest))
 
 refused : (p : Plain) (program : Text) (rest : List Text)
     → has_fault (rest_fault (leaf p) rest) ≡ true

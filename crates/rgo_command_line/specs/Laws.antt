@@ -6,7 +6,7 @@ use Rattle.rgo_command_line.specs.Commands.{command_of}
 use Rattle.rgo_command_line.specs.Limits.{Fits, big_by, default_options, goroutine_bounds, limit_by, page_bounds, page_word_bounds}
 use Rattle.rgo_command_line.specs.Limits.{region_bounds, step_bounds, worker_bounds}
 use Rattle.rgo_command_line.specs.declared.commands.Command.{Command}
-use Rattle.rgo_command_line.specs.declared.commands.Command.TheVariants.{Run, Check, Emit, Code, Big, RunCode}
+use Rattle.rgo_command_line.specs.declared.commands.Command.TheVariants.{Run, Check, Emit, Code, Big, Replay, RunCode}
 use Rattle.rgo_command_line.specs.declared.limits.Bounds.{Bounds}
 use Rattle.rgo_command_line.specs.declared.limits.RunOptions.{RunOptions}
 use Rattle.rgo_machine.specs.declared.limits.Limits.{Limits}
@@ -83,6 +83,7 @@ AreWordsOf (RunCode options) words = AskToRun (codes "runcode") options words
 AreWordsOf Check words = ArePlain (codes "check") words
 AreWordsOf Emit words = ArePlain (codes "emit") words
 AreWordsOf Code words = ArePlain (codes "code") words
+AreWordsOf Replay words = ArePlain (codes "replay") words
 AreWordsOf (Big n) words = (program number : Text) × (held : List Text)
     × (big_by number ≡ Some n) × HoldNumber number held
     × (words ≡ program ∷ codes "big" ∷ held)
@@ -161,6 +162,8 @@ pub record AskForCommands : Type 0 where
   pub emit_ended : Ask (codes "emit" ∷ codes "--" ∷ []) (Some Emit)
   pub code : Ask (codes "code" ∷ []) (Some Code)
   pub code_ended : Ask (codes "code" ∷ codes "--" ∷ []) (Some Code)
+  pub replay : Ask (codes "replay" ∷ []) (Some Replay)
+  pub replay_ended : Ask (codes "replay" ∷ codes "--" ∷ []) (Some Replay)
   pub big : Ask (codes "big" ∷ codes "10" ∷ []) (Some (Big 10))
   pub big_ended : Ask (codes "big" ∷ codes "10" ∷ codes "--" ∷ []) (Some (Big 10))
   pub big_behind : Ask (codes "big" ∷ codes "--" ∷ codes "10" ∷ []) (Some (Big 10))
@@ -182,6 +185,8 @@ pub record AskForNothing : Type 0 where
   pub check_workers : Ask (codes "check" ∷ codes "--workers=2" ∷ []) None
   pub emit_option : Ask (codes "emit" ∷ codes "--steps=5" ∷ []) None
   pub code_option : Ask (codes "code" ∷ codes "--steps=5" ∷ []) None
+  pub replay_option : Ask (codes "replay" ∷ codes "--steps=5" ∷ []) None
+  pub replay_twice : Ask (codes "replay" ∷ codes "replay" ∷ []) None
   pub two_commands : Ask (codes "emit" ∷ codes "code" ∷ []) None
   pub code_apart : Ask (codes "run" ∷ codes "code" ∷ []) None
   pub run_code_twice : Ask (codes "runcode" ∷ codes "runcode" ∷ []) None

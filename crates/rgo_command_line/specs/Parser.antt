@@ -42,6 +42,6 @@ with_plain app name = with_subcommand app (new_app name).top
 
 -- one level of subcommands, of which `run` and `runcode` have options, and `big` has a number
 abbrev pub parser : App
-parser = with_subcommand (with_subcommand (with_plain (with_plain (with_plain
+parser = with_subcommand (with_plain (with_subcommand (with_plain (with_plain (with_plain
     (with_subcommand bare_parser (run_parser (codes "run")).top)
-    (codes "check")) (codes "emit")) (codes "code")) big_parser.top) (run_parser (codes "runcode")).top
+    (codes "check")) (codes "emit")) (codes "code")) big_parser.top) (codes "replay")) (run_parser (codes "runcode")).top

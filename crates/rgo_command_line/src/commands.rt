@@ -25,6 +25,8 @@ pub enum Command {
     Code,
     /// `big N`: runs a large program that starts this many goroutines, without reading a text.
     Big(u32),
+    /// `replay`: reads a journal and the text that follows it, and takes the journal's picks in a run of the program.
+    Replay,
     /// `runcode`: reads a code text, checks it and runs its code, with these options.
     RunCode(RunOptions),
 }
@@ -59,6 +61,7 @@ fn command_named(name: &str, matches: &ArgMatches<'_>) -> Option<Command>
         "emit" => Some(Command::Emit),
         "code" => Some(Command::Code),
         "big" => Some(Command::Big(big_of(matches)?)),
+        "replay" => Some(Command::Replay),
         "runcode" => Some(Command::RunCode(options_of(matches)?)),
         _ => None,
     }
@@ -85,7 +88,7 @@ fn command_met(matches: &ArgMatches<'_>) -> Option<Command>
 /// - regions: 1 to 65,536, which is also the default;
 /// - workers: 1 to 64, by default 4.
 ///
-/// Pages times words of a page is at most 16,777,216. `check`, `emit` and `code` take no option. A
+/// Pages times words of a page is at most 16,777,216. `check`, `emit`, `code` and `replay` take no option. A
 /// `--` may end the words.
 ///
 /// `big` takes a number of goroutines and no option: one or more decimal digits, from 1 to 10,000.

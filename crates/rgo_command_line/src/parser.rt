@@ -70,5 +70,6 @@ pub(crate) fn parser<'a>(alloc: Global) -> Result<Command<'a>, AllocError>
         .subcommand(Command::new(alloc, "emit"))?
         .subcommand(Command::new(alloc, "code"))?
         .subcommand(big)?
+        .subcommand(Command::new(alloc, "replay"))?
         .subcommand(run_code)
 }

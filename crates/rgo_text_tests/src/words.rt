@@ -32,6 +32,7 @@ fn shown(alloc: Global, found: Result<Command, WordsError>) -> Result<String, Al
         Ok(Command::Check) => String::from_str(alloc, "check"),
         Ok(Command::Emit) => String::from_str(alloc, "emit"),
         Ok(Command::Code) => String::from_str(alloc, "code"),
+        Ok(Command::Replay) => String::from_str(alloc, "replay"),
         Err(WordsError::Usage) => String::from_str(alloc, "usage"),
         Err(WordsError::NoMemory) => String::from_str(alloc, "no memory"),
     }
@@ -172,6 +173,9 @@ emit: -|emit
 code: rgo|code
 code: rgo|code|--
 code: -|code
+replay: rgo|replay
+replay: rgo|replay|--
+replay: -|replay
 big 5: rgo|big|5
 big 5: rgo|big|5|--
 big 5: rgo|big|--|5
@@ -259,6 +263,15 @@ usage: rgo|emit|--steps=5
 usage: rgo|code|x
 usage: rgo|code|--|--
 usage: rgo|code|--goroutines|5
+usage: rgo|replays
+usage: rgo|replay|
+usage: rgo|replay|x
+usage: rgo|replay|replay
+usage: rgo|replay|--|--
+usage: rgo|replay|--steps=5
+usage: rgo|replay|--stats
+usage: rgo|run|replay
+usage: rgo|--replay
 # The number of an option is missing, or no number.
 usage: rgo|run|--steps
 usage: rgo|run|--goroutines

@@ -18,6 +18,8 @@ returns c =
     (ap (λ (a : App). a.top) c.new-4.ensures.app) in
     let big = with_command _ _ _ _ _ c.in_ok-subcommand-5.ensures c.in_ok-big.ensures.local code
     (ap (λ (a : App). a.top) c.in_ok-big.ensures.app) in
-    IfOk-weaker c.subcommand-6.result _ _
-    (λ r adds. with_command _ _ _ _ _ adds c.in_ok-run_code.ensures.local big
-    (ap (λ (a : App). a.top) c.in_ok-run_code.ensures.app)) c.subcommand-6.ensures
+    let replay = with_command _ _ _ _ _ c.in_ok-subcommand-6.ensures c.new-5.ensures.local big
+    (ap (λ (a : App). a.top) c.new-5.ensures.app) in
+    IfOk-weaker c.subcommand-7.result _ _
+    (λ r adds. with_command _ _ _ _ _ adds c.in_ok-run_code.ensures.local replay
+    (ap (λ (a : App). a.top) c.in_ok-run_code.ensures.app)) c.subcommand-7.ensures
