@@ -40,7 +40,7 @@ _rgo_run_options() {
 _rgo() {
     COMPREPLY=()
     if ((COMP_CWORD == 1)); then
-        _rgo_words run check emit code big runcode
+        _rgo_words run check emit code big replay runcode
     elif [[ ${COMP_WORDS[1]} == run || ${COMP_WORDS[1]} == runcode ]]; then
         _rgo_run_options
     fi

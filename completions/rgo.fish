@@ -6,6 +6,7 @@ complete -c rgo -n __fish_use_subcommand -a check -d 'Check the program on stand
 complete -c rgo -n __fish_use_subcommand -a emit -d 'Print the code of the program on standard input'
 complete -c rgo -n __fish_use_subcommand -a code -d 'Check the code text on standard input'
 complete -c rgo -n __fish_use_subcommand -a big -d 'Run a large program with this many goroutines (1-10000)'
+complete -c rgo -n __fish_use_subcommand -a replay -d 'Replay the journal on standard input on the program that follows it'
 complete -c rgo -n __fish_use_subcommand -a runcode -d 'Run the code text on standard input'
 complete -c rgo -n '__fish_seen_subcommand_from run runcode; and not __fish_contains_opt steps' -l steps -x -d 'End the run after this many steps (1-4398046511104, default 4398046511104)'
 complete -c rgo -n '__fish_seen_subcommand_from run runcode; and not __fish_contains_opt goroutines' -l goroutines -x -d 'How many goroutines may be started (1-1000000, default 100000)'

@@ -18,7 +18,7 @@ from error_pages import TOP
 LIMITS = ["--goroutines", "--page-words", "--pages", "--regions", "--steps"]
 NUMBERS = [*LIMITS, "--workers"]
 OPTIONS = sorted([*NUMBERS, "--stats"])
-COMMANDS = ["big", "check", "code", "emit", "run", "runcode"]
+COMMANDS = ["big", "check", "code", "emit", "replay", "run", "runcode"]
 FAKE = '#!/bin/sh\necho "$@"\ncat >/dev/null\necho "rgo: 2:15: type 4 NoSuchName" >&2\nexit 1\n'
 TEXT = "package main\nfunc main() { zz() }\n"
 
@@ -140,7 +140,7 @@ class Completions(Case):
 
     LINES = [
         ("rgo ", COMMANDS),
-        ("rgo r", ["run", "runcode"]),
+        ("rgo r", ["replay", "run", "runcode"]),
         ("rgo c", ["check", "code"]),
         ("rgo run", ["run", "runcode"]),
         ("rgo runc", ["runcode"]),

@@ -15,7 +15,7 @@ use Rattle.rgo_run.specs.declared.endings.Ending.{Ending}
 use Rattle.rgo_run.specs.declared.endings.Ending.TheVariants.{Valid, Ran, Usage, ReadFault}
 use Rattle.rgo_run.specs.declared.endings.Ending.TheVariants.{WriteFault, NoMemory}
 use Rattle.rgo_command_line.specs.declared.commands.Command.{Command}
-use Rattle.rgo_command_line.specs.declared.commands.Command.TheVariants.{Run, Check, Emit, Code, Big, RunCode}
+use Rattle.rgo_command_line.specs.declared.commands.Command.TheVariants.{Run, Check, Emit, Code, Big, Replay, RunCode}
 use Rattle.rgo_run.specs.Calls.{Call, Asks, IsRun, IsEmit, SinkUse, SourceHeld, Failed, Held, Grew}
 use Rattle.rgo_run.specs.Calls.{IsUntouched, kind_of, run_of}
 use Rattle.rgo_run.specs.Compiled.{Emits, IsCodeText, WritesCode}
@@ -85,6 +85,7 @@ no_run call command kind options c k r = by_command command k (runs_with call co
     by_command (RunCode _) k r = k
     by_command Emit k r = k
     by_command (Big n) k r = k
+    by_command Replay k r = k
 
 no_emit : (call : Call) (command : Command) → Asks call command → OnlyChecks command → IsEmit call → ⊥
 no_emit call command c k d = subst OnlyChecks (same_command call command Emit c d) k
@@ -101,6 +102,7 @@ run_kind (Big n) kind options r = ap (λ (x : TextKind × RunOptions). x.0) (sam
 run_kind Check kind options r = absurd cc
 run_kind Emit kind options r = absurd cc
 run_kind Code kind options r = absurd cc
+run_kind Replay kind options r = absurd cc
 
 -- a refusal by a command that runs is that of a text of its kind
 run_refused : (call : Call) (command : Command) (kind : TextKind) (options : RunOptions) (text : List ℕ) (e : Ending)
@@ -126,6 +128,7 @@ accepted_passes Code text p = p
 accepted_passes (Run options) text p = absurd p
 accepted_passes (RunCode options) text p = absurd p
 accepted_passes (Big n) text p = absurd p
+accepted_passes Replay text p = absurd p
 
 -- what is run is valid
 runnable_passes : (kind : TextKind) (text : List ℕ) (what : Runnable) → IsRunnable kind text what → PassesAs kind text

@@ -10,7 +10,7 @@ use Rattle.rgo_driver.specs.Runs.{Gives}
 use Rattle.rgo_driver.specs.declared.ends.RunEnd.{RunEnd}
 use Rattle.rgo_driver.specs.declared.ends.RunEnd.TheVariants as run_end
 use Rattle.rgo_command_line.specs.declared.commands.Command.{Command}
-use Rattle.rgo_command_line.specs.declared.commands.Command.TheVariants.{Run, Check, Emit, Code, Big, RunCode}
+use Rattle.rgo_command_line.specs.declared.commands.Command.TheVariants.{Run, Check, Emit, Code, Big, Replay, RunCode}
 use Rattle.rgo_command_line.specs.declared.limits.RunOptions.{RunOptions}
 use Rattle.rgo_command_line.specs.Commands.{command_of}
 use Rattle.rgo_command_line.specs.Limits.{default_options}
@@ -198,6 +198,7 @@ performed_outcome call (RunCode options) text e c (inl r) =
 performed_outcome call (RunCode options) text e c (inr f) = failed_outcome call (RunCode options) text e c f.0 f.1
 performed_outcome call (Big n) text e c (inl r) = ran text_kind.Go default_options (ap (option_and_then run_of) c) r
 performed_outcome call (Big n) text e c (inr f) = failed_outcome call (Big n) text e c f.0 f.1
+performed_outcome call Replay text e c p = absurd p
 performed_outcome call Emit text e c (inl em) = emitted c em
 performed_outcome call Emit text e c (inr f) = failed_outcome call Emit text e c f.0 f.1
 
@@ -234,6 +235,7 @@ is_some_text (Some (Run options)) left = is_left_text left
 is_some_text (Some Check) left = is_left_text left
 is_some_text (Some Emit) left = is_left_text left
 is_some_text (Some Code) left = is_left_text left
+is_some_text (Some Replay) left = is_left_text left
 is_some_text (Some (RunCode options)) left = is_left_text left
 is_some_text (Some (Big n)) left = refl
 

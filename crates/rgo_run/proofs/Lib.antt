@@ -10,6 +10,7 @@ pub mod OneCompiled
 pub mod Printed
 pub mod ProgramLemmas
 pub mod RegionNumbers
+pub mod ReplayLemmas
 pub mod Sufficing
 pub mod TextLemmas
 pub mod TextLengths

@@ -38,7 +38,7 @@ use Rattle.rgo_sound.proofs.Room.{room_is_kept}
 use Rattle.rgo_sound.proofs.Safe.{safety}
 use Rattle.rgo_command_line.specs.Commands.{command_of}
 use Rattle.rgo_command_line.specs.declared.commands.Command.{Command}
-use Rattle.rgo_command_line.specs.declared.commands.Command.TheVariants.{Big, Check, Code, Emit, Run, RunCode}
+use Rattle.rgo_command_line.specs.declared.commands.Command.TheVariants.{Big, Check, Code, Emit, Replay, Run, RunCode}
 use Rattle.rgo_command_line.specs.Limits.{IsBig}
 use Rattle.rgo_command_line.specs.declared.limits.RunOptions.{RunOptions}
 use Rattle.rgo_big.specs.Big.{big_text}
@@ -88,6 +88,7 @@ left_is_text (Run options) left text reads is = is
 left_is_text Check left text reads is = is
 left_is_text Emit left text reads is = is
 left_is_text Code left text reads is = is
+left_is_text Replay left text reads is = is
 left_is_text (RunCode options) left text reads is = is
 left_is_text (Big n) left text reads is = absurd (reads n refl)
 

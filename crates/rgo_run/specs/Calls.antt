@@ -3,7 +3,7 @@ use Rattle.std.specs.Prelude.{◌≡◌, ℕ, Bool, true, List, [], Option, Some
 use Rattle.std.specs.Io.KnownBytes.{Appends}
 use Rattle.rgo_outside.specs.Causes.{Rose}
 use Rattle.rgo_command_line.specs.declared.commands.Command.{Command}
-use Rattle.rgo_command_line.specs.declared.commands.Command.TheVariants.{Run, Check, Emit, Code, Big, RunCode}
+use Rattle.rgo_command_line.specs.declared.commands.Command.TheVariants.{Run, Check, Emit, Code, Big, Replay, RunCode}
 use Rattle.rgo_command_line.specs.declared.limits.RunOptions.{RunOptions}
 use Rattle.rgo_command_line.specs.Commands.{command_of}
 use Rattle.rgo_command_line.specs.Limits.{default_options}
@@ -43,9 +43,10 @@ pub record Call : Type 0 where
   pub err : SinkUse
   pub status : ℕ
 
--- the kind of text that a command is about
+-- the kind of text that a command is about; a journal with the text that follows it may be as long as a code text
 abbrev pub kind_of : Command → TextKind
 kind_of Code = text_kind.Code
+kind_of Replay = text_kind.Code
 kind_of (RunCode options) = text_kind.Code
 kind_of _ = text_kind.Go
 

@@ -8,6 +8,7 @@ pub mod Errors
 pub mod Headline
 pub mod Positions
 pub mod Programs
+pub mod Replayed
 pub mod Reports
 pub mod Runs
 pub mod Sufficing

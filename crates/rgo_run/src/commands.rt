@@ -5,7 +5,7 @@ ghost use Rattle.rgo_code.specs.Erasure.{erased};
 ghost use Rattle.rgo_code_printing.specs.Text.{text_of};
 ghost use Rattle.rgo_command_line.specs.Commands.{KeepsBounds};
 ghost use Rattle.rgo_command_line.specs.Limits.{LiesIn, worker_bounds};
-ghost use Rattle.rgo_command_line.specs.declared.commands.Command.TheVariants.{Check, Emit};
+ghost use Rattle.rgo_command_line.specs.declared.commands.Command.TheVariants.{Check, Emit, Replay};
 ghost use Rattle.rgo_run.specs.declared.endings.TextKind.TheVariants as text_kind;
 ghost use Rattle.rgo_run.specs.Calls.{kind_of, sink_use};
 ghost use Rattle.rgo_run.specs.declared.endings.Ending.TheVariants.{NoMemory};
@@ -35,7 +35,8 @@ pub(crate) fn kind_of(command: Command) -> TextKind
     ensures { result ≡ kind_of command }
 {
     match command {
-        Command::Code | Command::RunCode(_) => TextKind::Code,
+        // A journal with the text that follows it may be as long as a code text.
+        Command::Code | Command::Replay | Command::RunCode(_) => TextKind::Code,
         _ => TextKind::Go,
     }
 }
@@ -201,7 +202,8 @@ fn check_code_text(alloc: Global, text: &[u8]) -> Ending
     }
 }
 
-/// Does what the command says with a text: checks it, runs it, or prints its code.
+/// Does what the command says with a text: checks it, runs it, or prints its code. `replay` is not among these commands, since
+/// its places are those of a part of what it reads.
 pub(crate) fn perform<H: Threads + Wait + Sync, K: Sink, G: Gate + Sync>(
     rt: &H,
     alloc: Global,
@@ -210,7 +212,8 @@ pub(crate) fn perform<H: Threads + Wait + Sync, K: Sink, G: Gate + Sync>(
     out: &mut K,
     gate: &G,
 ) -> Ending
-    requires { KeepsBounds command }
+    requires bounds { KeepsBounds command }
+    requires other { command ≡ Replay → ⊥ }
     ensures performs { Performs command text.now result (sink_use (K.contents out.old)
         (K.contents out.new) (K.faults out.old) (K.faults out.new) (K.broken out.new)) }
     ensures checked { command ≡ Check → out.new ≡ out.old }
@@ -223,5 +226,6 @@ pub(crate) fn perform<H: Threads + Wait + Sync, K: Sink, G: Gate + Sync>(
         Command::Code => check_code_text(alloc, text),
         Command::Big(_) => run_text(rt, alloc, RunOptions::default(), text, out, gate),
         Command::RunCode(options) => run_code_text(rt, alloc, options, text, out, gate),
+        Command::Replay => unreachable!(),
     }
 }

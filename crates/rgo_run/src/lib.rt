@@ -8,6 +8,7 @@ mod endings;
 mod laws;
 mod pipeline;
 mod positions;
+mod replaying;
 mod report;
 mod top;
 
@@ -19,7 +20,9 @@ pub use laws::{
 pub use pipeline::{compile, lower_text};
 pub use rgo_code::{CodeRefusal, Rule as CodeRule};
 pub use rgo_command_line::Command;
+pub use replaying::ReplayEnding;
 pub use rgo_driver::RunEnd;
+pub use rgo_journal::ReplayEnd;
 pub use rgo_lexer::{LexRefusal, LexicalKind};
 pub use rgo_machine::{End, Limits};
 pub use rgo_memory::Trap;

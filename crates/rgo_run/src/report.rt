@@ -21,7 +21,7 @@ use rgo_world::Tally;
 use std::alloc::{AllocError, Global};
 
 const USAGE: &[u8] =
-    b"usage: rgo run [--steps N] [--pages N] [--page-words N] [--regions N] [--goroutines N] [--workers N] [--stats] | check | emit | code | big N | runcode [--steps N] [--pages N] [--page-words N] [--regions N] [--goroutines N] [--workers N] [--stats]\n";
+    b"usage: rgo run [--steps N] [--pages N] [--page-words N] [--regions N] [--goroutines N] [--workers N] [--stats] | check | emit | code | big N | replay | runcode [--steps N] [--pages N] [--page-words N] [--regions N] [--goroutines N] [--workers N] [--stats]\n";
 
 // What is wrong at a place.
 fn line_at(alloc: Global, text: &[u8], at: Place, message: &str) -> Result<String, AllocError>
@@ -69,7 +69,7 @@ fn numbered_line_of_code(
 }
 
 // Why a goroutine trapped, and where in a text of this kind.
-fn trap_line(
+pub(crate) fn trap_line(
     alloc: Global,
     kind: TextKind,
     text: &[u8],
@@ -102,7 +102,7 @@ fn broken_line(alloc: Global, refusal: CodeRefusal) -> Result<String, AllocError
 }
 
 // Writes the line once. If that fails, the status is 10.
-fn write<E: Sink>(err: &mut E, line: &[u8], status: u8) -> u8
+pub(crate) fn write<E: Sink>(err: &mut E, line: &[u8], status: u8) -> u8
     ensures { Writes line.now status result (sink_use (E.contents err.old) (E.contents err.new)
         (E.faults err.old) (E.faults err.new) (E.broken err.new)) }
 {
@@ -114,7 +114,7 @@ fn write<E: Sink>(err: &mut E, line: &[u8], status: u8) -> u8
 }
 
 // Writes that memory ran out.
-fn write_no_memory<E: Sink>(err: &mut E) -> u8
+pub(crate) fn write_no_memory<E: Sink>(err: &mut E) -> u8
     ensures { Writes (line_of [] Ending.NoMemory) 11 result (sink_use (E.contents err.old)
         (E.contents err.new) (E.faults err.old) (E.faults err.new) (E.broken err.new)) }
 {
@@ -122,7 +122,7 @@ fn write_no_memory<E: Sink>(err: &mut E) -> u8
 }
 
 // Writes the line; on allocation failure, that memory ran out.
-fn write_or_no_memory<E: Sink>(err: &mut E, line: Result<String, AllocError>, status: u8) -> u8
+pub(crate) fn write_or_no_memory<E: Sink>(err: &mut E, line: Result<String, AllocError>, status: u8) -> u8
     ensures { MatchResult line
         (λ line. Writes (string_bytes line) status result (sink_use (E.contents err.old)
         (E.contents err.new) (E.faults err.old) (E.faults err.new) (E.broken err.new)))

@@ -4,16 +4,17 @@ ghost use Rattle.std.specs.Prelude.{◌≡◌, ◌⊎◌, ℕ, true, false, map,
 ghost use Rattle.std.specs.Prelude.{IfErr, IfOk, IsErrOf, Some, None};
 ghost use Rattle.rgo_outside.specs.Causes.{Rose};
 ghost use Rattle.rgo_command_line.specs.Commands.{KeepsBounds, command_of};
-ghost use Rattle.rgo_command_line.specs.declared.commands.Command.TheVariants.{Big, Check};
+ghost use Rattle.rgo_command_line.specs.declared.commands.Command.TheVariants.{Big, Check, Replay};
 ghost use Rattle.rgo_run.specs.Errors.{read_error};
 ghost use Rattle.rgo_run.specs.Texts.{IsRead, NotRead};
 ghost use Rattle.rgo_run.specs.Calls.{AsksRun, sink_use, source_use};
 ghost use Rattle.rgo_run.specs.Endings.{is_fault_status, is_run_status};
-ghost use Rattle.rgo_run.specs.Headline.{Headline};
+ghost use Rattle.rgo_run.specs.Replayed.{Claim};
 
 use crate::commands::{kind_of, perform};
 use crate::endings::{Ending, TextKind};
 use crate::pipeline::limit_of;
+use crate::replaying::replay_bytes;
 use crate::report::report;
 use rgo_big::big_source;
 use rgo_command_line::{Command, read_words};
@@ -64,7 +65,7 @@ fn read<S: Source>(
 /// All that the program does: reads the words and the text, checks it, runs it or prints its code, and
 /// returns the status.
 ///
-/// The words are the program's name, which is ignored, and `check`, `emit`, `code`, or `run` or `runcode` with
+/// The words are the program's name, which is ignored, and `check`, `emit`, `code`, `replay`, or `run` or `runcode` with
 /// the options `--steps N`, `--goroutines N`, `--pages N`, `--page-words N`, `--regions N`, `--workers N` and
 /// `--stats`, followed by nothing or a `--`; or `big` and a number, as `read_words` says. The text is what
 /// the source has left, at most 1,048,576 bytes. `run` writes its print to `out`; `emit`
@@ -72,7 +73,9 @@ fn read<S: Source>(
 /// code, at most 67,108,864 bytes, checks it, and leaves `out` as it was. `runcode` reads and checks a code
 /// text as `code` does, and runs its code as `run` runs that of a program. `big N` leaves the source as
 /// it was, and does what `run` without options does with the large text of `rgo_big` that starts `N`
-/// goroutines. At most one line is written to `err`, and before it, with `--stats`, one that counts what
+/// goroutines. `replay` reads a journal, as `rgo_journal` describes it, and behind it a text, together at most 67,108,864
+/// bytes. It takes the journal's picks one after the other in a run of the text's three-address code, and writes what they
+/// print to `out`; places are those of the text behind the journal. At most one line is written to `err`, and before it, with `--stats`, one that counts what
 /// the run has made. After a failed write nothing more is written to that sink.
 ///
 /// A run is in rounds, in which every goroutine that can step has a turn; no clause says so. With one
@@ -86,6 +89,7 @@ fn read<S: Source>(
 /// |---|---|
 /// | 0 | `main` returned; for `check` and `emit` the text is a valid program; for `code` the code keeps all rules |
 /// | 1 | the text is too long, or breaks a rule: `err` says which, and at which line and column; for a code text, at which line |
+/// | 1 | for `replay` also: a line of the journal has no form, or its pick has no step: `err` says which |
 /// | 2 | a goroutine trapped: `err` says why, and at which line and column; for a code text, at which of its places |
 /// | 3 | no goroutine can step, alone or with another, and `main` has not returned |
 /// | 4 | a page is wanted, and all that `--pages` allows are in use |
@@ -97,6 +101,7 @@ fn read<S: Source>(
 /// | 10 | a write to `out` or `err` failed |
 /// | 11 | memory ran out |
 /// | 12 | there are as many goroutines as `--goroutines` allows, and one starts another |
+/// | 13 | for `replay`: all picks were taken, none ended the run, and some pick has a step |
 /// | 64 | the words name no command; the source is not read |
 pub fn rgo<H: Threads + Wait + Sync, S: Source, K: Sink, E: Sink, G: Gate + Sync>(
     rt: &H,
@@ -107,7 +112,7 @@ pub fn rgo<H: Threads + Wait + Sync, S: Source, K: Sink, E: Sink, G: Gate + Sync
     err: &mut E,
     gate: &G,
 ) -> u8
-    ensures headline { Headline (record {
+    ensures headline { Claim (record {
       words = map string_bytes words.now;
       source = source_use (S.left source.old) (S.faults source.old) (S.faults source.new);
       out = sink_use (K.contents out.old) (K.contents out.new) (K.faults out.old)
@@ -123,9 +128,11 @@ pub fn rgo<H: Threads + Wait + Sync, S: Source, K: Sink, E: Sink, G: Gate + Sync
     ensures unread_big { (n : ℕ) → command_of (map string_bytes words.now) ≡ Some (Big n)
         → source.new ≡ source.old }
     ensures checked { command_of (map string_bytes words.now) ≡ Some Check → out.new ≡ out.old }
-    ensures ran { is_run_status result ≡ true → AsksRun (map string_bytes words.now) }
+    ensures ran { is_run_status result ≡ true → AsksRun (map string_bytes words.now)
+        ⊎ (command_of (map string_bytes words.now) ≡ Some Replay) }
+    ensures replayed { result ≡ 13 → command_of (map string_bytes words.now) ≡ Some Replay }
     ensures not_run { result ≡ 64 → out.new ≡ out.old }
-    ensures refused { result ≡ 1 → out.new ≡ out.old }
+    ensures refused { (command_of (map string_bytes words.now) ≡ Some Replay → ⊥) → result ≡ 1 → out.new ≡ out.old }
     ensures unread { result ≡ 9 → out.new ≡ out.old }
     ensures read_failed { result ≡ 9 → Rose (S.faults source.old) (S.faults source.new) }
     ensures write_failed { result ≡ 10
@@ -135,10 +142,13 @@ pub fn rgo<H: Threads + Wait + Sync, S: Source, K: Sink, E: Sink, G: Gate + Sync
         × (K.faults out.new ≡ K.faults out.old) × (E.faults err.new ≡ E.faults err.old) }
 {
     match read(alloc, words, source) {
-        Ok((command, text)) => {
-            let ending = perform(rt, alloc, command, &text, out, gate);
-            report(alloc, &text, ending, err)
-        }
+        Ok((command, text)) => match command {
+            Command::Replay => replay_bytes(alloc, &text, out, err),
+            _ => {
+                let ending = perform(rt, alloc, command, &text, out, gate);
+                report(alloc, &text, ending, err)
+            }
+        },
         Err(ending) => report(alloc, &[], ending, err),
     }
 }

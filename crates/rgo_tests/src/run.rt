@@ -7,6 +7,7 @@ mod emitting;
 mod ends;
 mod examples;
 mod faults;
+mod journals;
 mod refusals;
 mod regions;
 mod rows;
@@ -85,6 +86,12 @@ fn code_texts_are_checked_and_run(rt: HostRuntime) -> Result<(), Fail> {
     are_called(&rt, Lines::Whole, codes::OTHERS)?;
     are_called(&rt, Lines::Edits(codes::ONE_OBJECT), codes::OTHER_OBJECTS)?;
     are_called(&rt, Lines::Edits(codes::DIVISION), codes::OTHER_PLACES)
+}
+
+#[test]
+fn journals_are_replayed(rt: HostRuntime) -> Result<(), Fail> {
+    are_called(&rt, Lines::Whole, journals::REPLAYED)?;
+    are_called(&rt, Lines::Whole, journals::REFUSED)
 }
 
 #[test]

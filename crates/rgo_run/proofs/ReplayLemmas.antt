@@ -1,0 +1,317 @@
+-- What a call of `replay` leaves, by its ending.
+use Rattle.std.proofs.Common.{◌≡◌, Bool, true, false, ℕ, ◌⊎◌, inl, inr, ◌<◌, ◌≤◌, List, [], Option, None, Some, IfSome, length, refl, sym, ap, ◌∙◌, subst}
+use Rattle.rgo_machine.specs.declared.picks.End.TheVariants as the_end
+use Rattle.rgo_machine.specs.declared.turns.Shortage.TheVariants as shortage
+use Rattle.rgo_driver.specs.declared.ends.RunEnd.{RunEnd}
+use Rattle.rgo_driver.specs.declared.ends.RunEnd.TheVariants as run_end
+use Rattle.rgo_command_line.specs.declared.commands.Command.{Command}
+use Rattle.rgo_command_line.specs.declared.commands.Command.TheVariants.{Run, Check, Emit, Code, Big, Replay, RunCode}
+use Rattle.rgo_command_line.specs.Commands.{command_of}
+use Rattle.rgo_journal.specs.declared.replays.ReplayEnd.{ReplayEnd}
+use Rattle.rgo_journal.specs.declared.replays.ReplayEnd.TheVariants as replay_end
+use Rattle.rgo_run.specs.declared.endings.Ending.{Ending}
+use Rattle.rgo_run.specs.declared.endings.Ending.TheVariants.{Valid, Ran, Usage, ReadFault, TooLong, CodeTooLong}
+use Rattle.rgo_run.specs.declared.endings.Ending.TheVariants.{Lexical, Syntax, Nesting, Typing, NoForm, Breaks, WriteFault, NoMemory}
+use Rattle.rgo_run.specs.declared.endings.TextKind.TheVariants as text_kind
+use Rattle.rgo_run.specs.declared.replaying.ReplayEnding.{ReplayEnding}
+use Rattle.rgo_run.specs.declared.replaying.ReplayEnding.TheVariants.{NoJournal, Replayed, Other}
+use Rattle.rgo_run.specs.Calls.{AsksRun, Asks, Call, SinkUse, SourceUse, SourceFailed, SourceHeld, Failed, Held, IsUntouched}
+use Rattle.rgo_run.specs.CodeVerdicts.{code_limit}
+use Rattle.rgo_run.specs.Endings.{is_fault_status, is_run_status, line_of, status_of, status_of_run}
+use Rattle.rgo_run.specs.Headline.{Faults, Headline}
+use Rattle.rgo_run.specs.Replayed.{Claim, EndsOn, HasNumber, IsReadWhole, IsSplit, NotReplayed, ReadsNothing, ReplayHeadline, ReplaysBytes, ReplaysTo, ReportsReplay, line_of_replay, status_of_end, status_of_replay}
+use Rattle.rgo_run.specs.Reports.{Reports, Tells, Writes}
+use Rattle.rgo_run.specs.Texts.{IsRead, IsTextOf, NotRead, Performs, RefusedBy}
+use Rattle.rgo_run.specs.Verdicts.{Refused}
+use Rattle.rgo_run.proofs.EndingLemmas.{refused_status}
+use Rattle.rgo_run.proofs.HeadlineLemmas.{headline_of_text, headline_of_words, ran_by_status}
+
+-- ---- what the status says of the ending
+
+-- the line was written; or a write failed; or there was no memory for the line
+data Told (e : ReplayEnding) (n : ℕ) (err : SinkUse) : Type 0 where
+  whole : n ≡ status_of_replay e → Held err → Told e n err
+  failed : n ≡ 10 → Failed err → Told e n err
+  no_memory : n ≡ 11 → HasNumber e → Held err → Told e n err
+
+told_as : (text : List ℕ) (e : ReplayEnding) (n : ℕ) (err : SinkUse) → ReportsReplay text e n err → Told e n err
+told_as text e n err (inl (inl w)) = whole w.0 w.2
+told_as text e n err (inl (inr w)) = failed w.0 w.1
+told_as text e n err (inr (h, inl w)) = no_memory w.0 h w.2
+told_as text e n err (inr (h, inr w)) = failed w.0 w.1
+
+-- the statuses of what is no fault of reading
+abbrev IsStatus : ℕ → Type 0
+IsStatus n = (n ≡ 64 → ⊥) × (n ≡ 9 → ⊥)
+
+status_of_one : (n : ℕ) → n ≡ 1 → IsStatus n
+status_of_one n e = (λ s. cc, λ s. cc)
+
+end_status : (end : ReplayEnd) → IsStatus (status_of_end end)
+end_status (replay_end.Ended the_end.Exit) = (λ s. cc, λ s. cc)
+end_status (replay_end.Ended (the_end.Trap trap at)) = (λ s. cc, λ s. cc)
+end_status replay_end.Deadlock = (λ s. cc, λ s. cc)
+end_status replay_end.Unfinished = (λ s. cc, λ s. cc)
+end_status (replay_end.Foreign index) = (λ s. cc, λ s. cc)
+end_status replay_end.WriteFault = (λ s. cc, λ s. cc)
+end_status replay_end.NoMemory = (λ s. cc, λ s. cc)
+
+-- the text was refused, or memory ran out
+not_replayed : (bytes text : List ℕ) (e : Ending) → NotReplayed bytes text e → (e ≡ NoMemory) ⊎ (status_of e ≡ 1)
+not_replayed bytes text NoMemory n = inl refl
+not_replayed bytes text e n = inr (refused_status text_kind.Go text e n.2)
+
+other_status : (e : Ending) → (e ≡ NoMemory) ⊎ (status_of e ≡ 1) → IsStatus (status_of e)
+other_status e (inl is) = subst (λ x. IsStatus (status_of x)) (sym is) (λ s. cc, λ s. cc)
+other_status e (inr is) = status_of_one (status_of e) is
+
+ends_status : (bytes text : List ℕ) (e : ReplayEnding) (out : SinkUse) → EndsOn bytes text e out → IsStatus (status_of_replay e)
+ends_status bytes text (NoJournal line) out ends = (λ s. cc, λ s. cc)
+ends_status bytes text (Replayed end) out ends = end_status end
+ends_status bytes text (Other e) out ends = other_status e (not_replayed bytes text e ends.0)
+
+told_status : (e : ReplayEnding) (n : ℕ) (err : SinkUse) → IsStatus (status_of_replay e) → Told e n err → IsStatus n
+told_status e n err is (whole w h) = subst IsStatus (sym w) is
+told_status e n err is (failed w h) = (λ s. cc, λ s. cc)
+told_status e n err is (no_memory w h k) = (λ s. cc, λ s. cc)
+
+-- ---- faults
+
+not_ten : (e : Ending) → (e ≡ NoMemory) ⊎ (status_of e ≡ 1) → status_of e ≡ 10 → ⊥
+not_ten e (inl is) s = let eleven : status_of e ≡ 11 = ap status_of is in cc
+not_ten e (inr is) s = cc
+
+-- with status 10 of an ending a write to `out` failed, and with no other
+ends_failed : (bytes text : List ℕ) (e : ReplayEnding) (out : SinkUse) → EndsOn bytes text e out → status_of_replay e ≡ 10
+    → Failed out
+ends_failed bytes text (NoJournal line) out ends s = absurd cc
+ends_failed bytes text (Replayed (replay_end.Ended the_end.Exit)) out ends s = absurd cc
+ends_failed bytes text (Replayed (replay_end.Ended (the_end.Trap trap at))) out ends s = absurd cc
+ends_failed bytes text (Replayed replay_end.Deadlock) out ends s = absurd cc
+ends_failed bytes text (Replayed replay_end.Unfinished) out ends s = absurd cc
+ends_failed bytes text (Replayed (replay_end.Foreign index)) out ends s = absurd cc
+ends_failed bytes text (Replayed replay_end.WriteFault) out ends s = ends.2.failed refl
+ends_failed bytes text (Replayed replay_end.NoMemory) out ends s = absurd cc
+ends_failed bytes text (Other e) out ends s = absurd (not_ten e (not_replayed bytes text e ends.0) s)
+
+ends_held : (bytes text : List ℕ) (e : ReplayEnding) (out : SinkUse) → EndsOn bytes text e out
+    → (e ≡ Replayed replay_end.WriteFault → ⊥) → Held out
+ends_held bytes text (NoJournal line) out ends no = ends.1.1
+ends_held bytes text (Replayed end) out ends no = ends.2.held (λ is. no (ap Replayed is))
+ends_held bytes text (Other e) out ends no = ends.1.1
+
+number_no_fault : (e : ReplayEnding) → HasNumber e → e ≡ Replayed replay_end.WriteFault → ⊥
+number_no_fault e h is = subst HasNumber is h
+
+status_no_fault : (e : ReplayEnding) (n : ℕ) → n ≡ status_of_replay e → is_fault_status n ≡ false
+    → e ≡ Replayed replay_end.WriteFault → ⊥
+status_no_fault e n is s same =
+    let ten : n ≡ 10 = is ∙ ap status_of_replay same in
+    let wrong = subst (λ k. is_fault_status k ≡ false) ten s in cc
+
+ten_is_fault : (n : ℕ) → n ≡ 10 → is_fault_status n ≡ false → ⊥
+ten_is_fault n is s = let wrong = subst (λ k. is_fault_status k ≡ false) is s in cc
+
+-- a call that has read its bytes
+faults_of : (call : Call) (bytes text : List ℕ) (e : ReplayEnding) → EndsOn bytes text e call.out → SourceHeld call.source
+    → Told e call.status call.err → Faults call
+faults_of call bytes text e ends held told = record {
+  read = λ s. absurd ((told_status e call.status call.err (ends_status bytes text e call.out ends) told).1 s);
+  write = write told;
+  none = none told;
+}
+  where
+    write : Told e call.status call.err → call.status ≡ 10 → Failed call.out ⊎ Failed call.err
+    write (whole w h) s = inl (ends_failed bytes text e call.out ends (sym w ∙ s))
+    write (failed w h) s = inr h
+    write (no_memory w h k) s = absurd cc
+
+    none : Told e call.status call.err → is_fault_status call.status ≡ false
+        → SourceHeld call.source × Held call.out × Held call.err
+    none (whole w h) s = (held, ends_held bytes text e call.out ends (status_no_fault e call.status w s), h)
+    none (failed w h) s = absurd (ten_is_fault call.status w s)
+    none (no_memory w h k) s = (held, ends_held bytes text e call.out ends (number_no_fault e h), k)
+
+-- ---- what `replay_bytes` says by its status
+
+pub not_usage : (bytes : List ℕ) (out err : SinkUse) (n : ℕ) → ReplaysBytes bytes out err n → n ≡ 64 → ⊥
+not_usage bytes out err n r =
+    (told_status r.ending n err (ends_status bytes r.text r.ending out r.ends) (told_as r.text r.ending n err r.told)).0
+
+pub not_read : (bytes : List ℕ) (out err : SinkUse) (n : ℕ) → ReplaysBytes bytes out err n → n ≡ 9 → ⊥
+not_read bytes out err n r =
+    (told_status r.ending n err (ends_status bytes r.text r.ending out r.ends) (told_as r.text r.ending n err r.told)).1
+
+pub write_failed : (bytes : List ℕ) (out err : SinkUse) (n : ℕ) → ReplaysBytes bytes out err n → n ≡ 10
+    → Failed out ⊎ Failed err
+write_failed bytes out err n r s = by (told_as r.text r.ending n err r.told)
+  where
+    by : Told r.ending n err → Failed out ⊎ Failed err
+    by (whole w h) = inl (ends_failed bytes r.text r.ending out r.ends (sym w ∙ s))
+    by (failed w h) = inr h
+    by (no_memory w h k) = absurd cc
+
+-- ---- the claim
+
+-- a call of `replay` that has read its bytes
+pub claim_of_bytes : (call : Call) (command : Command) (bytes : List ℕ) → IsRead call.words call.source command bytes → command ≡ Replay
+    → ReplaysBytes bytes call.out call.err call.status → Claim call
+claim_of_bytes call command bytes read is r = inl (
+  read.asked ∙ ap Some is,
+  record {
+    bytes = bytes;
+    text = r.text;
+    ending = r.ending;
+    cause = inl (whole_read (subst (λ c. IsRead call.words call.source c bytes) is read), r.ends);
+    told = r.told;
+    faults = faults_of call bytes r.text r.ending r.ends read.held (told_as r.text r.ending call.status call.err r.told);
+  },
+)
+  where
+    whole_read : IsRead call.words call.source Replay bytes → IsReadWhole call bytes
+    whole_read r = record { is_left = r.is_text; within = r.within; held = r.held }
+
+-- another call that has read its text
+pub claim_of_text : (call : Call) (command : Command) (text : List ℕ) (e : Ending)
+    → IsRead call.words call.source command text → (command ≡ Replay → ⊥) → Performs command text e call.out
+    → Reports text e call.status call.err → Claim call
+claim_of_text call command text e read other performs reports =
+    inr (λ asked. other (let same : Some command ≡ Some Replay = sym read.asked ∙ asked in cc),
+    headline_of_text call command text e read performs reports)
+
+-- whether the words ask for `replay`
+asks_replay : (asked : Option Command) → (asked ≡ Some Replay) ⊎ (asked ≡ Some Replay → ⊥)
+asks_replay None = inr (λ s. cc)
+asks_replay (Some (Run options)) = inr (λ s. cc)
+asks_replay (Some Check) = inr (λ s. cc)
+asks_replay (Some Emit) = inr (λ s. cc)
+asks_replay (Some Code) = inr (λ s. cc)
+asks_replay (Some (Big n)) = inr (λ s. cc)
+asks_replay (Some Replay) = inl refl
+asks_replay (Some (RunCode options)) = inr (λ s. cc)
+
+-- what a source has left, where it reports that
+abbrev left_bytes : Option (List ℕ) → List ℕ
+left_bytes None = []
+left_bytes (Some bytes) = bytes
+
+outside_faults : (call : Call) (e : Ending) → IsUntouched call.out → SourceHeld call.source → (status_of e ≡ 9 → ⊥)
+    → (status_of e ≡ 10 → ⊥) → Told (Other e) call.status call.err → Faults call
+outside_faults call e u held nine ten (whole w h) = record {
+  read = λ s. absurd (nine (sym w ∙ s));
+  write = λ s. absurd (ten (sym w ∙ s));
+  none = λ s. (held, u.1, h);
+}
+outside_faults call e u held nine ten (failed w h) = record {
+  read = λ s. absurd cc;
+  write = λ s. inr h;
+  none = λ s. absurd (ten_is_fault call.status w s);
+}
+outside_faults call e u held nine ten (no_memory w h k) = record {
+  read = λ s. absurd cc;
+  write = λ s. absurd cc;
+  none = λ s. (held, u.1, k);
+}
+
+-- a call of `replay` that has read nothing
+replay_of_words : (call : Call) (e : Ending) → NotRead call.words call.source e → IsUntouched call.out
+    → Reports [] e call.status call.err → Asks call Replay → ReplayHeadline call
+replay_of_words call Usage n u t asked = absurd (let none = sym n.0 ∙ asked in cc)
+replay_of_words call ReadFault n u t asked = record {
+  bytes = [];
+  text = [];
+  ending = Other ReadFault;
+  cause = inr (n.1, u);
+  told = t;
+  faults = by (told_as [] (Other ReadFault) call.status call.err t);
+}
+  where
+    by : Told (Other ReadFault) call.status call.err → Faults call
+    by (whole w h) = record { read = λ s. n.1; write = λ s. absurd cc; none = λ s. absurd (let wrong = subst (λ k. is_fault_status k ≡ false) w s in cc) }
+    by (failed w h) = record { read = λ s. n.1; write = λ s. inr h; none = λ s. absurd (ten_is_fault call.status w s) }
+    by (no_memory w h k) = absurd h
+replay_of_words call TooLong n u t asked =
+    let same : Some n.command ≡ Some Replay = sym n.asked ∙ asked in
+    let is : n.command ≡ Replay = cc in
+    absurd (subst (λ c. RefusedBy c n.text TooLong) is n.refused)
+replay_of_words call CodeTooLong n u t asked =
+    let same : Some n.command ≡ Some Replay = sym n.asked ∙ asked in
+    let is : n.command ≡ Replay = cc in record {
+      bytes = n.text;
+      text = [];
+      ending = Other CodeTooLong;
+      cause = inr ((
+        subst (λ c. IsTextOf (Some c) call.source.left n.text) is n.is_text,
+        subst (λ c. RefusedBy c n.text CodeTooLong) is n.refused,
+        n.held,
+      ), u);
+      told = t;
+      faults = outside_faults call CodeTooLong u n.held (λ s. cc) (λ s. cc) (told_as [] (Other CodeTooLong) call.status call.err t);
+    }
+replay_of_words call NoMemory n u t asked = record {
+  bytes = [];
+  text = [];
+  ending = Other NoMemory;
+  cause = inr (n, u);
+  told = t;
+  faults = outside_faults call NoMemory u n (λ s. cc) (λ s. cc) (told_as [] (Other NoMemory) call.status call.err t);
+}
+replay_of_words call _ n u t asked = absurd n
+
+pub claim_of_words : (call : Call) (e : Ending) → NotRead call.words call.source e → IsUntouched call.out
+    → Reports [] e call.status call.err → Claim call
+claim_of_words call e n u t = by (asks_replay (command_of call.words))
+  where
+    by : (command_of call.words ≡ Some Replay) ⊎ (command_of call.words ≡ Some Replay → ⊥) → Claim call
+    by (inl asked) = inl (asked, replay_of_words call e n u t asked)
+    by (inr other) = inr (other, headline_of_words call e n u t)
+
+-- ---- what a status alone says
+
+pub ran : (call : Call) → Claim call → is_run_status call.status ≡ true
+    → AsksRun call.words ⊎ (command_of call.words ≡ Some Replay)
+ran call (inl c) s = inr c.0
+ran call (inr c) s = inl (ran_by_status call c.1 s)
+
+end_13 : (end : RunEnd) → status_of_run end ≡ 13 → ⊥
+end_13 (run_end.Ended the_end.Exit) s = cc
+end_13 (run_end.Ended (the_end.Trap trap at)) s = cc
+end_13 run_end.Deadlock s = cc
+end_13 (run_end.NoRoom shortage.Pages) s = cc
+end_13 (run_end.NoRoom shortage.Regions) s = cc
+end_13 (run_end.NoRoom shortage.ObjectSize) s = cc
+end_13 run_end.CallsTooDeep s = cc
+end_13 run_end.StepsSpent s = cc
+end_13 run_end.GoroutinesSpent s = cc
+end_13 run_end.WriteFault s = cc
+end_13 run_end.NoMemory s = cc
+
+status_13 : (e : Ending) → status_of e ≡ 13 → ⊥
+status_13 (Ran kind end stats) s = end_13 end s
+status_13 Valid s = cc
+status_13 Usage s = cc
+status_13 ReadFault s = cc
+status_13 TooLong s = cc
+status_13 CodeTooLong s = cc
+status_13 (Lexical refusal) s = cc
+status_13 (Syntax at) s = cc
+status_13 (Nesting at) s = cc
+status_13 (Typing refusal) s = cc
+status_13 (NoForm line) s = cc
+status_13 (Breaks refusal) s = cc
+status_13 WriteFault s = cc
+status_13 NoMemory s = cc
+
+-- only a replay is unfinished
+pub unfinished : (call : Call) → Claim call → call.status ≡ 13 → command_of call.words ≡ Some Replay
+unfinished call (inl c) s = c.0
+unfinished call (inr c) s = by c.1.end.told
+  where
+    by : Tells c.1.text c.1.ending call.status call.err → command_of call.words ≡ Some Replay
+    by (inl t) = absurd (status_13 c.1.ending (sym t.0 ∙ s))
+    by (inr t) = absurd (let wrong = sym t.0 ∙ s in cc)
+
+pub held : (call : Call) → Claim call → is_fault_status call.status ≡ false
+    → SourceHeld call.source × Held call.out × Held call.err
+held call (inl c) s = c.1.faults.none s
+held call (inr c) s = c.1.faults.none s

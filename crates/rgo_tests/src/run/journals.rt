@@ -1,0 +1,380 @@
+//! Journals that are replayed, as tables of calls, worked out by hand from the code of their programs.
+
+/// Journals and programs that follow them.
+pub(super) const REPLAYED: &str = "
+> rgo replay // two constants, the print, and the return
+rgo picks 1
+one 0
+one 0
+one 0
+one 0
+text
+package main
+import \"fmt\"
+func main() { fmt.Println(\"hi\", 1, true) }
+
+< 0
+hi 1 true
+
+> rgo replay -- // without the return
+rgo picks 1
+one 0
+one 0
+one 0
+text
+package main
+import \"fmt\"
+func main() { fmt.Println(\"hi\", 1, true) }
+
+< 13
+hi 1 true
+!
+rgo: replay unfinished
+
+> rgo replay // a pick after the return
+rgo picks 1
+one 0
+one 0
+one 0
+one 0
+one 0
+text
+package main
+import \"fmt\"
+func main() { fmt.Println(\"hi\", 1, true) }
+
+< 1
+hi 1 true
+!
+rgo: line 6: pick
+
+> rgo replay // no goroutine meets another
+rgo picks 1
+meet 0 1
+one 0
+one 0
+one 0
+one 0
+text
+package main
+import \"fmt\"
+func main() { fmt.Println(\"hi\", 1, true) }
+
+< 1
+!
+rgo: line 2: pick
+
+> rgo replay // no picks
+rgo picks 1
+text
+package main
+func main() {}
+
+< 13
+!
+rgo: replay unfinished
+
+> rgo replay // a goroutine that does not exist
+rgo picks 1
+one 4294967295
+text
+package main
+func main() {}
+
+< 1
+!
+rgo: line 2: pick
+
+> rgo replay // no program has a `select`
+rgo picks 1
+case 0 0
+text
+package main
+func main() {}
+
+< 1
+!
+rgo: line 2: pick
+
+> rgo replay // the same, with a sender
+rgo picks 1
+casemeet 0 0 1
+text
+package main
+func main() {}
+
+< 1
+!
+rgo: line 2: pick
+
+> rgo replay // main receives what the other goroutine sends
+rgo picks 1
+one 0
+one 0
+one 0
+one 0
+one 1
+meet 0 1
+one 0
+one 0
+text
+package main
+import \"fmt\"
+func g(c chan int) { c <- 7 }
+func main() { c := make(chan int); go g(c); fmt.Println(<-c) }
+
+< 0
+7
+
+> rgo replay // a receiver does not meet itself
+rgo picks 1
+one 0
+one 0
+one 0
+one 0
+one 1
+meet 0 0
+text
+package main
+import \"fmt\"
+func g(c chan int) { c <- 7 }
+func main() { c := make(chan int); go g(c); fmt.Println(<-c) }
+
+< 1
+!
+rgo: line 7: pick
+
+> rgo replay // receiver and sender exchanged
+rgo picks 1
+one 0
+one 0
+one 0
+one 0
+one 1
+meet 1 0
+text
+package main
+import \"fmt\"
+func g(c chan int) { c <- 7 }
+func main() { c := make(chan int); go g(c); fmt.Println(<-c) }
+
+< 1
+!
+rgo: line 7: pick
+
+> rgo replay // no goroutine sends
+rgo picks 1
+one 0
+one 0
+one 0
+text
+package main
+func main() { c := make(chan int); <-c }
+
+< 3
+!
+rgo: deadlock
+
+> rgo replay // a deadlock has no step
+rgo picks 1
+one 0
+one 0
+one 0
+one 0
+text
+package main
+func main() { c := make(chan int); <-c }
+
+< 1
+!
+rgo: line 5: pick
+
+> rgo replay // a trap, at its place in the text after the journal
+rgo picks 1
+one 0
+one 0
+one 0
+one 0
+one 0
+text
+package main
+import \"fmt\"
+func main() {
+\tx := 0
+\tfmt.Println(1)
+\tx = 1 / x
+}
+
+< 13
+1
+!
+rgo: replay unfinished
+
+> rgo replay // the same, one pick later
+rgo picks 1
+one 0
+one 0
+one 0
+one 0
+one 0
+one 0
+text
+package main
+import \"fmt\"
+func main() {
+\tx := 0
+\tfmt.Println(1)
+\tx = 1 / x
+}
+
+< 2
+1
+!
+rgo: 6:8: trap 3 DivideZero
+";
+
+/// What is refused: journals without form, and texts after a journal, whose places are counted from where they begin.
+pub(super) const REFUSED: &str = "
+> rgo replay // no journal
+package main
+func main() {}
+
+< 1
+!
+rgo: line 1: picks text
+
+> rgo replay // another first line
+rgo picks 2
+text
+package main
+func main() {}
+
+< 1
+!
+rgo: line 1: picks text
+
+> rgo replay // no last line
+rgo picks 1
+one 0
+
+< 1
+!
+rgo: line 3: picks text
+
+> rgo replay // the last line has no newline
+rgo picks 1
+one 0
+text
+< 1
+!
+rgo: line 3: picks text
+
+> rgo replay // a leading zero
+rgo picks 1
+one 0
+one 00
+text
+package main
+func main() {}
+
+< 1
+!
+rgo: line 3: picks text
+
+> rgo replay // a number of more than 32 bits
+rgo picks 1
+one 4294967296
+text
+package main
+func main() {}
+
+< 1
+!
+rgo: line 2: picks text
+
+> rgo replay // two spaces
+rgo picks 1
+one  0
+text
+package main
+func main() {}
+
+< 1
+!
+rgo: line 2: picks text
+
+> rgo replay // a space at the end
+rgo picks 1
+one 0 
+text
+package main
+func main() {}
+
+< 1
+!
+rgo: line 2: picks text
+
+> rgo replay // a number is missing
+rgo picks 1
+meet 0
+text
+package main
+func main() {}
+
+< 1
+!
+rgo: line 2: picks text
+
+> rgo replay // a number too many
+rgo picks 1
+case 0 0 0
+text
+package main
+func main() {}
+
+< 1
+!
+rgo: line 2: picks text
+
+> rgo replay // the journal is refused before the text, and before any pick is taken
+rgo picks 1
+one 5
+two 0
+text
+not a program
+
+< 1
+!
+rgo: line 3: picks text
+
+> rgo replay // the text is refused before any pick is taken
+rgo picks 1
+one 5
+text
+package main
+func main() {
+\tbreak
+}
+
+< 1
+!
+rgo: 3:2: type 33 LoopOutside
+
+> rgo replay // no text
+rgo picks 1
+one 0
+text
+
+< 1
+!
+rgo: 1:1: syntax
+
+> rgo replay // code texts are not replayed
+rgo picks 1
+text
+rgo code 1
+
+< 1
+!
+rgo: 1:1: syntax
+";
