@@ -23,7 +23,7 @@ use Rattle.rgo_journal.specs.Replays.{Ends, Gives, Replays, Takes, Takes1, Takes
 
 -- ---- one after the other
 
-pub one_more : (code : Tac) (picks : List TacPick) (i : ℕ) (d : TacPick) (s t : TacState) → i < length picks
+one_more : (code : Tac) (picks : List TacPick) (i : ℕ) (d : TacPick) (s t : TacState) → i < length picks
     → TakesSome code picks i s → taken code s (get_or picks i d) ≡ Some t → TakesSome code picks (i + 1) t
 one_more code picks i d s t l so_far e =
     subst (λ ps. Takes code ps t) (sym (take_more picks i d l))
@@ -33,9 +33,17 @@ pub all_taken : (code : Tac) (picks : List TacPick) (i : ℕ) (s : TacState) →
     → Takes code picks s
 all_taken code picks i s l so_far = subst (λ ps. Takes code ps s) (take_all i picks l) so_far
 
-pub is_taken : (b : Bool) (s t : TacState) (next : Option TacState) → Takes1 (Ok b) s t next → b ≡ true → next ≡ Some t
+is_taken : (b : Bool) (s t : TacState) (next : Option TacState) → Takes1 (Ok b) s t next → b ≡ true → next ≡ Some t
 is_taken true s t next e is = e
 is_taken false s t next e is = absurd (true≢false (sym is))
+
+-- the same, as the code has it
+pub next_taken : (code other : Tac) (picks : List TacPick) (i : ℕ) (d : TacPick) (s t : TacState) (b : Bool) → other ≡ code
+    → i < length picks → TakesSome code picks i s → Takes1 (Ok b) s t (taken other s (get_or picks i d)) → b ≡ true
+    → TakesSome code picks (i + 1) t
+next_taken code other picks i d s t b same l so_far e is =
+    one_more code picks i d s t l so_far
+    (subst (λ k. taken k s (get_or picks i d) ≡ Some t) same (is_taken b s t (taken other s (get_or picks i d)) e is))
 
 pub at_number : (P : TacPick → Type 0) (picks : List TacPick) (i : ℕ) (d : TacPick) → P (get_or picks i d)
     → IfSome (slice_get picks i) P
