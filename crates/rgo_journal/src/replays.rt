@@ -1,7 +1,6 @@
 //! Replays: the picks of a journal, taken again.
 
-ghost use Rattle.std.specs.Prelude.{◌≡◌, IfOk};
-ghost use Rattle.rgo_machine.specs.Runs.{Leads};
+ghost use Rattle.std.specs.Prelude.{◌≡◌, true};
 ghost use Rattle.rgo_outside.specs.Causes.{Rose};
 ghost use Rattle.rgo_tac.specs.Tac as tac;
 ghost use Rattle.rgo_journal.specs.declared.replays.ReplayEnd.TheVariants.{WriteFault};
@@ -82,6 +81,7 @@ fn take_picks(alloc: Global, state: &mut TacState<'_>, picks: &[TacPick]) -> Rep
 pub fn replay<K: Sink>(alloc: Global, code: &Tac, picks: &[TacPick], out: &mut K) -> ReplayEnd
     ensures replays { Replays code.now picks.now result (K.contents out.old) (K.contents out.new) }
     ensures fault { result ≡ WriteFault → Rose (K.faults out.old) (K.faults out.new) }
+    ensures broken { result ≡ WriteFault → K.broken out.new ≡ true }
     ensures held { (result ≡ WriteFault → ⊥) → K.faults out.new ≡ K.faults out.old }
 {
     let Ok(mut state) = tac_start(alloc, code) else {

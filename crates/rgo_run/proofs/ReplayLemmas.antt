@@ -1,5 +1,5 @@
 -- What a call of `replay` leaves, by its ending.
-use Rattle.std.proofs.Common.{◌≡◌, Bool, true, false, ℕ, ◌⊎◌, inl, inr, ◌<◌, ◌≤◌, List, [], Option, None, Some, IfSome, length, refl, sym, ap, ◌∙◌, subst}
+use Rattle.std.proofs.Common.{◌≡◌, Bool, true, false, ℕ, ◌⊎◌, inl, inr, ◌<◌, ◌≤◌, ◌-◌, arith, length-drop, take, drop, List, [], Option, None, Some, IfSome, length, refl, sym, ap, ◌∙◌, subst}
 use Rattle.rgo_machine.specs.declared.picks.End.TheVariants as the_end
 use Rattle.rgo_machine.specs.declared.turns.Shortage.TheVariants as shortage
 use Rattle.rgo_driver.specs.declared.ends.RunEnd.{RunEnd}
@@ -7,6 +7,9 @@ use Rattle.rgo_driver.specs.declared.ends.RunEnd.TheVariants as run_end
 use Rattle.rgo_command_line.specs.declared.commands.Command.{Command}
 use Rattle.rgo_command_line.specs.declared.commands.Command.TheVariants.{Run, Check, Emit, Code, Big, Replay, RunCode}
 use Rattle.rgo_command_line.specs.Commands.{command_of}
+use Rattle.std.proofs.lemmas.List.{take_all}
+use Rattle.rgo_journal.specs.declared.picks.TacPick.{TacPick}
+use Rattle.rgo_journal.specs.Text.{IsJournal}
 use Rattle.rgo_journal.specs.declared.replays.ReplayEnd.{ReplayEnd}
 use Rattle.rgo_journal.specs.declared.replays.ReplayEnd.TheVariants as replay_end
 use Rattle.rgo_run.specs.declared.endings.Ending.{Ending}
@@ -21,7 +24,7 @@ use Rattle.rgo_run.specs.Endings.{is_fault_status, is_run_status, line_of, statu
 use Rattle.rgo_run.specs.Headline.{Faults, Headline}
 use Rattle.rgo_run.specs.Replayed.{Claim, EndsOn, HasNumber, IsReadWhole, IsSplit, NotReplayed, ReadsNothing, ReplayHeadline, ReplaysBytes, ReplaysTo, ReportsReplay, line_of_replay, status_of_end, status_of_replay}
 use Rattle.rgo_run.specs.Reports.{Reports, Tells, Writes}
-use Rattle.rgo_run.specs.Texts.{IsRead, IsTextOf, NotRead, Performs, RefusedBy}
+use Rattle.rgo_run.specs.Texts.{FailsAs, IsRead, IsTextOf, NotRead, Performs, RefusedBy}
 use Rattle.rgo_run.specs.Verdicts.{Refused}
 use Rattle.rgo_run.proofs.EndingLemmas.{refused_status}
 use Rattle.rgo_run.proofs.HeadlineLemmas.{headline_of_text, headline_of_words, ran_by_status}
@@ -74,6 +77,29 @@ told_status : (e : ReplayEnding) (n : ℕ) (err : SinkUse) → IsStatus (status_
 told_status e n err is (whole w h) = subst IsStatus (sym w) is
 told_status e n err is (failed w h) = (λ s. cc, λ s. cc)
 told_status e n err is (no_memory w h k) = (λ s. cc, λ s. cc)
+
+-- ---- what `replay_text` leaves
+
+fails_split : (bytes text : List ℕ) (picks : List TacPick) (e : Ending) → FailsAs text_kind.Go text e → IsSplit bytes picks text
+    → NotReplayed bytes text e
+fails_split bytes text picks NoMemory f split = tt
+fails_split bytes text picks e f split = (picks, split, f)
+
+pub refused_text : (text : List ℕ) (picks : List TacPick) (e : Ending) (out : SinkUse) → FailsAs text_kind.Go text e
+    → IsUntouched out → (bytes : List ℕ) → IsSplit bytes picks text → EndsOn bytes text (Other e) out
+refused_text text picks e out f u bytes split = (fails_split bytes text picks e f split, u)
+
+pub replayed_text : (text : List ℕ) (picks : List TacPick) (end : ReplayEnd) (out : SinkUse) → ReplaysTo picks text end out
+    → (bytes : List ℕ) → IsSplit bytes picks text → EndsOn bytes text (Replayed end) out
+replayed_text text picks end out r bytes split = (picks, split, r)
+
+pub split_at : (bytes : List ℕ) (picks : List TacPick) (n : ℕ) → IsJournal bytes picks n
+    → IsSplit bytes picks (take (length bytes - n) (drop n bytes))
+split_at bytes picks n j = record {
+  n = n;
+  journal = j;
+  rest = take_all (length bytes - n) (drop n bytes) (omega (arith, length-drop n bytes));
+}
 
 -- ---- faults
 
