@@ -62,8 +62,7 @@ cut_is bytes a n j =
 one_journal : (bytes : List ℕ) (a b : List TacPick) (m n : ℕ) → IsJournal bytes a m → IsJournal bytes b n → (a ≡ b) × (m ≡ n)
 one_journal bytes a b m n j k =
     let same = same_lines a b (drop m bytes) (drop n bytes) j.fit k.fit
-    (ap (drop 12) (sym (cut_is bytes a m j) ∙ cut_is bytes b n k)) in
-    (
+    (ap (drop 12) (sym (cut_is bytes a m j) ∙ cut_is bytes b n k)) in (
       same.picks,
       omega (arith, ap length same.rest, length-drop m bytes, length-drop n bytes, j.within, k.within),
     )

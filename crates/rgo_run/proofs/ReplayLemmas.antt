@@ -4,11 +4,15 @@ use Rattle.rgo_machine.specs.declared.picks.End.TheVariants as the_end
 use Rattle.rgo_machine.specs.declared.turns.Shortage.TheVariants as shortage
 use Rattle.rgo_driver.specs.declared.ends.RunEnd.{RunEnd}
 use Rattle.rgo_driver.specs.declared.ends.RunEnd.TheVariants as run_end
+use Rattle.rgo_outside.specs.Causes.{Rose}
 use Rattle.rgo_command_line.specs.declared.commands.Command.{Command}
 use Rattle.rgo_command_line.specs.declared.commands.Command.TheVariants.{Run, Check, Emit, Code, Big, Replay, RunCode}
 use Rattle.rgo_command_line.specs.Commands.{command_of}
 use Rattle.std.proofs.lemmas.List.{take_all}
 use Rattle.rgo_journal.specs.declared.picks.TacPick.{TacPick}
+use Rattle.rgo_journal.specs.declared.errors.PicksError.{PicksError}
+use Rattle.rgo_journal.specs.declared.errors.PicksError.TheVariants as picks_error
+use Rattle.rgo_journal.specs.Forms.{Refuses}
 use Rattle.rgo_journal.specs.Text.{IsJournal}
 use Rattle.rgo_journal.specs.declared.replays.ReplayEnd.{ReplayEnd}
 use Rattle.rgo_journal.specs.declared.replays.ReplayEnd.TheVariants as replay_end
@@ -22,7 +26,7 @@ use Rattle.rgo_run.specs.Calls.{AsksRun, Asks, Call, SinkUse, SourceUse, SourceF
 use Rattle.rgo_run.specs.CodeVerdicts.{code_limit}
 use Rattle.rgo_run.specs.Endings.{is_fault_status, is_run_status, line_of, status_of, status_of_run}
 use Rattle.rgo_run.specs.Headline.{Faults, Headline}
-use Rattle.rgo_run.specs.Replayed.{Claim, EndsOn, HasNumber, IsReadWhole, IsSplit, NotReplayed, ReadsNothing, ReplayHeadline, ReplaysBytes, ReplaysTo, ReportsReplay, line_of_replay, status_of_end, status_of_replay}
+use Rattle.rgo_run.specs.Replayed.{Claim, EndsOn, HasNumber, IsReadWhole, IsSplit, NotReplayed, ReadsNothing, ReplayHeadline, ReplaysBytes, ReplaysTo, ReportsReplay, error_of, line_of_replay, status_of_end, status_of_replay}
 use Rattle.rgo_run.specs.Reports.{Reports, Tells, Writes}
 use Rattle.rgo_run.specs.Texts.{FailsAs, IsRead, IsTextOf, NotRead, Performs, RefusedBy}
 use Rattle.rgo_run.specs.Verdicts.{Refused}
@@ -93,6 +97,11 @@ pub replayed_text : (text : List ℕ) (picks : List TacPick) (end : ReplayEnd) (
     → (bytes : List ℕ) → IsSplit bytes picks text → EndsOn bytes text (Replayed end) out
 replayed_text text picks end out r bytes split = (picks, split, r)
 
+pub error_ends : (bytes : List ℕ) (e : PicksError) (out : SinkUse) → Refuses bytes e → IsUntouched out
+    → EndsOn bytes [] (error_of e) out
+error_ends bytes picks_error.NoMemory out f u = (tt, u)
+error_ends bytes (picks_error.Refused refusal) out f u = (f, u)
+
 pub split_at : (bytes : List ℕ) (picks : List TacPick) (n : ℕ) → IsJournal bytes picks n
     → IsSplit bytes picks (take (length bytes - n) (drop n bytes))
 split_at bytes picks n j = record {
@@ -122,9 +131,9 @@ ends_failed bytes text (Other e) out ends s = absurd (not_ten e (not_replayed by
 
 ends_held : (bytes text : List ℕ) (e : ReplayEnding) (out : SinkUse) → EndsOn bytes text e out
     → (e ≡ Replayed replay_end.WriteFault → ⊥) → Held out
-ends_held bytes text (NoJournal line) out ends no = ends.1.1
-ends_held bytes text (Replayed end) out ends no = ends.2.held (λ is. no (ap Replayed is))
-ends_held bytes text (Other e) out ends no = ends.1.1
+ends_held bytes text (NoJournal line) out ends kept = ends.1.1
+ends_held bytes text (Replayed end) out ends kept = ends.2.held (λ is. kept (ap Replayed is))
+ends_held bytes text (Other e) out ends kept = ends.1.1
 
 number_no_fault : (e : ReplayEnding) → HasNumber e → e ≡ Replayed replay_end.WriteFault → ⊥
 number_no_fault e h is = subst HasNumber is h
@@ -169,12 +178,15 @@ not_read bytes out err n r =
     (told_status r.ending n err (ends_status bytes r.text r.ending out r.ends) (told_as r.text r.ending n err r.told)).1
 
 pub write_failed : (bytes : List ℕ) (out err : SinkUse) (n : ℕ) → ReplaysBytes bytes out err n → n ≡ 10
-    → Failed out ⊎ Failed err
+    → (Rose out.faults_old out.faults_new × (out.broken ≡ true)) ⊎ (Rose err.faults_old err.faults_new × (err.broken ≡ true))
 write_failed bytes out err n r s = by (told_as r.text r.ending n err r.told)
   where
-    by : Told r.ending n err → Failed out ⊎ Failed err
-    by (whole w h) = inl (ends_failed bytes r.text r.ending out r.ends (sym w ∙ s))
-    by (failed w h) = inr h
+    of_out : Failed out → (Rose out.faults_old out.faults_new × (out.broken ≡ true)) ⊎ (Rose err.faults_old err.faults_new × (err.broken ≡ true))
+    of_out f = inl (f.counted, f.broken)
+
+    by : Told r.ending n err → (Rose out.faults_old out.faults_new × (out.broken ≡ true)) ⊎ (Rose err.faults_old err.faults_new × (err.broken ≡ true))
+    by (whole w h) = of_out (ends_failed bytes r.text r.ending out r.ends (sym w ∙ s))
+    by (failed w h) = inr (h.counted, h.broken)
     by (no_memory w h k) = absurd cc
 
 -- ---- the claim
@@ -202,8 +214,10 @@ pub claim_of_text : (call : Call) (command : Command) (text : List ℕ) (e : End
     → IsRead call.words call.source command text → (command ≡ Replay → ⊥) → Performs command text e call.out
     → Reports text e call.status call.err → Claim call
 claim_of_text call command text e read other performs reports =
-    inr (λ asked. other (let same : Some command ≡ Some Replay = sym read.asked ∙ asked in cc),
-    headline_of_text call command text e read performs reports)
+    inr (
+      λ asked. other (let same : Some command ≡ Some Replay = sym read.asked ∙ asked in cc),
+      headline_of_text call command text e read performs reports,
+    )
 
 -- whether the words ask for `replay`
 asks_replay : (asked : Option Command) → (asked ≡ Some Replay) ⊎ (asked ≡ Some Replay → ⊥)
@@ -266,11 +280,14 @@ replay_of_words call CodeTooLong n u t asked =
       bytes = n.text;
       text = [];
       ending = Other CodeTooLong;
-      cause = inr ((
-        subst (λ c. IsTextOf (Some c) call.source.left n.text) is n.is_text,
-        subst (λ c. RefusedBy c n.text CodeTooLong) is n.refused,
-        n.held,
-      ), u);
+      cause = inr (
+        (
+          subst (λ c. IsTextOf (Some c) call.source.left n.text) is n.is_text,
+          subst (λ c. RefusedBy c n.text CodeTooLong) is n.refused,
+          n.held,
+        ),
+        u,
+      );
       told = t;
       faults = outside_faults call CodeTooLong u n.held (λ s. cc) (λ s. cc) (told_as [] (Other CodeTooLong) call.status call.err t);
     }

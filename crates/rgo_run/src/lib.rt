@@ -18,9 +18,9 @@ pub use laws::{
     programs_are_well_formed,
 };
 pub use pipeline::{compile, lower_text};
+pub use replaying::ReplayEnding;
 pub use rgo_code::{CodeRefusal, Rule as CodeRule};
 pub use rgo_command_line::Command;
-pub use replaying::ReplayEnding;
 pub use rgo_driver::RunEnd;
 pub use rgo_journal::ReplayEnd;
 pub use rgo_lexer::{LexRefusal, LexicalKind};

@@ -38,12 +38,7 @@ impl From<PicksError> for ReplayEnding {
 }
 
 /// Replays picks on the code of a text.
-fn replay_text<K: Sink>(
-    alloc: Global,
-    text: &[u8],
-    picks: &[TacPick],
-    out: &mut K,
-) -> ReplayEnding
+fn replay_text<K: Sink>(alloc: Global, text: &[u8], picks: &[TacPick], out: &mut K) -> ReplayEnding
     ensures { (bytes : List ℕ) → IsSplit bytes picks.now text.now → EndsOn bytes text.now result (sink_use (K.contents out.old)
         (K.contents out.new) (K.faults out.old) (K.faults out.new) (K.broken out.new)) }
 {

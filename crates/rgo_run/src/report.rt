@@ -122,7 +122,11 @@ pub(crate) fn write_no_memory<E: Sink>(err: &mut E) -> u8
 }
 
 // Writes the line; on allocation failure, that memory ran out.
-pub(crate) fn write_or_no_memory<E: Sink>(err: &mut E, line: Result<String, AllocError>, status: u8) -> u8
+pub(crate) fn write_or_no_memory<E: Sink>(
+    err: &mut E,
+    line: Result<String, AllocError>,
+    status: u8,
+) -> u8
     ensures { MatchResult line
         (λ line. Writes (string_bytes line) status result (sink_use (E.contents err.old)
         (E.contents err.new) (E.faults err.old) (E.faults err.new) (E.broken err.new)))
