@@ -1,5 +1,5 @@
 -- What a call of `replay` leaves, by its ending.
-use Rattle.std.proofs.Common.{◌≡◌, Bool, true, false, ℕ, ◌⊎◌, inl, inr, ◌<◌, ◌≤◌, ◌-◌, arith, length-drop, take, drop, List, [], Option, None, Some, IfSome, length, refl, sym, ap, ◌∙◌, subst}
+use Rattle.std.proofs.Common.{◌≡◌, Bool, true, false, ℕ, ◌⊎◌, inl, inr, ◌<◌, ◌≤◌, ◌-◌, arith, length-drop, take, drop, List, [], Option, None, Some, Result, Ok, Err, IfOk, MatchResult, IfSome, length, refl, sym, ap, ◌∙◌, subst}
 use Rattle.rgo_machine.specs.declared.picks.End.TheVariants as the_end
 use Rattle.rgo_machine.specs.declared.turns.Shortage.TheVariants as shortage
 use Rattle.rgo_driver.specs.declared.ends.RunEnd.{RunEnd}
@@ -8,6 +8,7 @@ use Rattle.rgo_outside.specs.Causes.{Rose}
 use Rattle.rgo_command_line.specs.declared.commands.Command.{Command}
 use Rattle.rgo_command_line.specs.declared.commands.Command.TheVariants.{Run, Check, Emit, Code, Big, Replay, RunCode}
 use Rattle.rgo_command_line.specs.Commands.{command_of}
+use Rattle.std.specs.declared.alloc.AllocError.{AllocError}
 use Rattle.std.proofs.lemmas.List.{take_all}
 use Rattle.rgo_journal.specs.declared.picks.TacPick.{TacPick}
 use Rattle.rgo_journal.specs.declared.errors.PicksError.{PicksError}
@@ -81,6 +82,17 @@ told_status : (e : ReplayEnding) (n : ℕ) (err : SinkUse) → IsStatus (status_
 told_status e n err is (whole w h) = subst IsStatus (sym w) is
 told_status e n err is (failed w h) = (λ s. cc, λ s. cc)
 told_status e n err is (no_memory w h k) = (λ s. cc, λ s. cc)
+
+-- the line of an ending with numbers was written, or there was no memory for it
+pub number_reported : {S : Type 0} (bytes_of : S → List ℕ) (text : List ℕ) (e : ReplayEnding) (line : Result S AllocError)
+    (status answer : ℕ) (err : SinkUse) → HasNumber e → status ≡ status_of_replay e
+    → IfOk line (λ s. bytes_of s ≡ line_of_replay text e)
+    → MatchResult line (λ s. Writes (bytes_of s) status answer err) (λ x. Writes (line_of [] NoMemory) 11 answer err)
+    → ReportsReplay text e answer err
+number_reported bytes_of text e (Ok s) status answer err number same is writes =
+    inl (subst (λ n. Writes (line_of_replay text e) n answer err) same
+    (subst (λ bytes. Writes bytes status answer err) is writes))
+number_reported bytes_of text e (Err x) status answer err number same is writes = inr (number, writes)
 
 -- ---- what `replay_text` leaves
 

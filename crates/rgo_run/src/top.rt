@@ -142,13 +142,13 @@ pub fn rgo<H: Threads + Wait + Sync, S: Source, K: Sink, E: Sink, G: Gate + Sync
         × (K.faults out.new ≡ K.faults out.old) × (E.faults err.new ≡ E.faults err.old) }
 {
     match read(alloc, words, source) {
-        Ok((command, text)) => match command {
-            Command::Replay => replay_bytes(alloc, &text, out, err),
-            _ => {
-                let ending = perform(rt, alloc, command, &text, out, gate);
-                report(alloc, &text, ending, err)
+        Ok((command, text)) => {
+            if let Command::Replay = command {
+                return replay_bytes(alloc, &text, out, err);
             }
-        },
+            let ending = perform(rt, alloc, command, &text, out, gate);
+            report(alloc, &text, ending, err)
+        }
         Err(ending) => report(alloc, &[], ending, err),
     }
 }

@@ -1,5 +1,6 @@
 use Rattle.std.proofs.Common.{◌-◌, [], take, drop, length, inl, inr, refl, sym}
 use Rattle.std.proofs.KnownBytes.{Appends-nil}
+use Rattle.rgo_run.specs.Calls.{sink_use}
 use Rattle.rgo_run.proofs.ReplayLemmas.{error_ends, not_read, not_usage, split_at, write_failed}
 use Rattle.rgo_run.proofs.replaying.replay_bytes.Goals as goal
 
@@ -16,7 +17,10 @@ pub returns-in-Err-clause-replays : goal.returns-in-Err-clause-replays
 returns-in-Err-clause-replays g c = record {
   text = [];
   ending = c.from.result;
-  ends = rw c.from.ensures (error_ends c.args.bytes.now c.in-Err.error _ c.in-Err.ensures (Appends-nil _, refl));
+  ends = rw c.from.ensures (error_ends c.args.bytes.now c.in-Err.error
+      (sink_use (g.K.Sink.contents c.args.out.now) (g.K.Sink.contents c.args.out.now) (g.K.Sink.faults c.args.out.now)
+    (g.K.Sink.faults c.args.out.now) (g.K.Sink.broken c.args.out.now))
+      c.in-Err.ensures (Appends-nil _, refl));
   told = c.report_replay-in-Err.ensures;
 }
 
