@@ -8,8 +8,8 @@ returns-in-Replay-clause-headline g c =
     claim_of_bytes _ c.in-Ok.command c.in-Ok.text.items c.in-Ok.ensures.ok c.in-Replay.is
     (rw c.deref.ensures.value at c.replay_bytes.ensures.replays)
 
-pub returns-in-Ok-clause-headline : goal.returns-in-Ok-clause-headline
-returns-in-Ok-clause-headline g c =
+pub returns-in_default-clause-headline : goal.returns-in_default-clause-headline
+returns-in_default-clause-headline g c =
     claim_of_text _ c.in-Ok.command c.in-Ok.text.items c.perform-ending.result c.in-Ok.ensures.ok c.in_default.not-Replay
     (rw c.deref-in_default.ensures.value at c.perform-ending.ensures.performs) (rw c.deref-in_default-2.ensures.value at c.report.ensures)
 
@@ -20,8 +20,8 @@ returns-in-Err-clause-headline g c =
 pub returns-in-Replay-clause-ran : goal.returns-in-Replay-clause-ran
 returns-in-Replay-clause-ran g c = ran _ (returns-in-Replay-clause-headline g c)
 
-pub returns-in-Ok-clause-ran : goal.returns-in-Ok-clause-ran
-returns-in-Ok-clause-ran g c = ran _ (returns-in-Ok-clause-headline g c)
+pub returns-in_default-clause-ran : goal.returns-in_default-clause-ran
+returns-in_default-clause-ran g c = ran _ (returns-in_default-clause-headline g c)
 
 pub returns-in-Err-clause-ran : goal.returns-in-Err-clause-ran
 returns-in-Err-clause-ran g c = ran _ (returns-in-Err-clause-headline g c)
@@ -29,8 +29,8 @@ returns-in-Err-clause-ran g c = ran _ (returns-in-Err-clause-headline g c)
 pub returns-in-Replay-clause-replayed : goal.returns-in-Replay-clause-replayed
 returns-in-Replay-clause-replayed g c = unfinished _ (returns-in-Replay-clause-headline g c)
 
-pub returns-in-Ok-clause-replayed : goal.returns-in-Ok-clause-replayed
-returns-in-Ok-clause-replayed g c = unfinished _ (returns-in-Ok-clause-headline g c)
+pub returns-in_default-clause-replayed : goal.returns-in_default-clause-replayed
+returns-in_default-clause-replayed g c = unfinished _ (returns-in_default-clause-headline g c)
 
 pub returns-in-Err-clause-replayed : goal.returns-in-Err-clause-replayed
 returns-in-Err-clause-replayed g c = unfinished _ (returns-in-Err-clause-headline g c)
@@ -38,5 +38,5 @@ returns-in-Err-clause-replayed g c = unfinished _ (returns-in-Err-clause-headlin
 pub returns-in-Replay-clause-held : goal.returns-in-Replay-clause-held
 returns-in-Replay-clause-held g c = held _ (returns-in-Replay-clause-headline g c)
 
-pub returns-in-Ok-clause-held : goal.returns-in-Ok-clause-held
-returns-in-Ok-clause-held g c = held _ (returns-in-Ok-clause-headline g c)
+pub returns-in_default-clause-held : goal.returns-in_default-clause-held
+returns-in_default-clause-held g c = held _ (returns-in_default-clause-headline g c)
