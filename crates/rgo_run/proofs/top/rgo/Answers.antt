@@ -11,7 +11,7 @@ returns-in-Replay-clause-headline g c =
 pub returns-in_default-clause-headline : goal.returns-in_default-clause-headline
 returns-in_default-clause-headline g c =
     claim_of_text _ c.in-Ok.command c.in-Ok.text.items c.perform-ending.result c.in-Ok.ensures.ok c.in_default.not-Replay
-    (rw c.deref-in_default.ensures.value at c.perform-ending.ensures.performs) (rw c.deref-in_default-2.ensures.value at c.report.ensures)
+    (rw c.deref-in-Ok.ensures.value at c.perform-ending.ensures.performs) (rw c.deref-in-Ok-2.ensures.value at c.report.ensures)
 
 pub returns-in-Err-clause-headline : goal.returns-in-Err-clause-headline
 returns-in-Err-clause-headline g c =
