@@ -1,7 +1,7 @@
 -- The line of a pick is read back, and nothing else is read.
 use Rattle.std.proofs.Common.{◌≡◌, ℕ, List, [], ◌∷◌, ◌++◌, Option, Some, None, refl, sym, ap, ◌∙◌, subst, arith, codes, decimal, append_assoc}
 use Rattle.std.specs.Option.{option_map}
-use Rattle.rgo_code_words.proofs.Options.{some_same, not_none, mapped}
+use Rattle.rgo_code_words.proofs.Options.{not_none, mapped}
 use Rattle.rgo_journal.specs.declared.picks.TacPick.{TacPick}
 use Rattle.rgo_journal.specs.declared.picks.TacPick.TheVariants.{One, Meet, Case, CaseMeet}
 use Rattle.rgo_journal.specs.Reading.{after_front, number_to, two_numbers, three_numbers, or_else, read_one, read_meet, read_case, read_case_meet, read_pick}

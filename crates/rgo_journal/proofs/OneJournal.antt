@@ -1,11 +1,11 @@
 -- A text has at most one journal at its beginning, or one first line without form, never both.
-use Rattle.std.proofs.Common.{◌≡◌, ℕ, ◌+◌, ◌⊎◌, inl, inr, List, [], ◌∷◌, ◌++◌, length, take, drop, Option, None, Some, refl, sym, ap, ◌∙◌, arith, append_assoc, length-append, length-drop}
+use Rattle.std.proofs.Common.{◌≡◌, ℕ, inl, inr, List, [], ◌∷◌, ◌++◌, length, drop, None, Some, refl, sym, ap, ◌∙◌, arith, append_assoc, length-append, length-drop}
 use Rattle.std.specs.Prelude.{All}
 use Rattle.std.proofs.lemmas.List.{take_at, take-append-drop}
 use Rattle.std.proofs.lemmas.List.Elements.{All-head, All-tail}
 use Rattle.rgo_code_words.proofs.Options.{some_same, not_none}
 use Rattle.rgo_journal.specs.declared.picks.TacPick.{TacPick}
-use Rattle.rgo_journal.specs.Forms.{HasNoPick, IsFirstWithoutForm, StartWith}
+use Rattle.rgo_journal.specs.Forms.{IsFirstWithoutForm, StartWith}
 use Rattle.rgo_journal.specs.Laws.{ReadBack}
 use Rattle.rgo_journal.specs.Reading.{read_pick}
 use Rattle.rgo_journal.specs.Text.{Fits, IsJournal, first_line, journal, last_line, pick_line, pick_lines}

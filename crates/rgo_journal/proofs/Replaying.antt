@@ -1,5 +1,5 @@
 -- Picks, taken one after the other; and that they can be replayed with one end only.
-use Rattle.std.proofs.Common.{◌≡◌, ℕ, zero, suc, ◌+◌, ◌<◌, ◌≤◌, ◌⊎◌, inl, inr, List, [], ◌∷◌, ◌++◌, length, map, take, get_or, Option, None, Some, Ok, Bool, true, false, true≢false, refl, sym, ap, ◌∙◌, subst, arith}
+use Rattle.std.proofs.Common.{◌≡◌, ℕ, zero, suc, ◌+◌, ◌<◌, ◌≤◌, ◌⊎◌, inl, inr, List, [], ◌∷◌, length, map, take, get_or, Option, None, Some, Ok, Bool, true, false, true≢false, refl, sym, ap, ◌∙◌, subst, arith}
 use Rattle.std.specs.Io.KnownBytes.{Appends}
 use Rattle.std.specs.Prelude.{IfSome, slice_get, option_and_then}
 use Rattle.std.proofs.KnownBytes.{Appends-nil}
@@ -9,7 +9,7 @@ use Rattle.rgo_machine.specs.declared.picks.End.{End}
 use Rattle.rgo_machine.specs.declared.picks.Pick.{Pick}
 use Rattle.rgo_machine.specs.declared.picks.Pick.TheVariants.{One, Meet}
 use Rattle.rgo_machine.specs.Deadlocks.{IsDeadlock}
-use Rattle.rgo_machine.specs.Runs.{run, Leads}
+use Rattle.rgo_machine.specs.Runs.{run}
 use Rattle.rgo_machine.proofs.Runs.{joined, single}
 use Rattle.rgo_tac.specs.Code.{Tac}
 use Rattle.rgo_tac.specs.Tac.{TacState, tac, tac_start, tac_step}

@@ -1,6 +1,5 @@
 -- Journals, and texts that are none.
-use Rattle.std.specs.Prelude.{◌≡◌, ◌^◌, ℕ, List, [], ◌∷◌, ◌++◌, codes}
-use Rattle.rgo_journal.specs.declared.picks.TacPick.{TacPick}
+use Rattle.std.specs.Prelude.{◌≡◌, ◌^◌, [], ◌∷◌, codes}
 use Rattle.rgo_journal.specs.declared.picks.TacPick.TheVariants.{One, Meet, Case, CaseMeet}
 use Rattle.rgo_journal.specs.Forms.{IsFirstWithoutForm}
 use Rattle.rgo_journal.specs.Text.{Fits, IsJournal, journal}

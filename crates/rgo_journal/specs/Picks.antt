@@ -1,5 +1,5 @@
 -- The picks of a journal as picks of the three-address machine.
-use Rattle.std.specs.Prelude.{◌≡◌, ℕ, Option, Some, None, option_and_then}
+use Rattle.std.specs.Prelude.{Option, Some, None, option_and_then}
 use Rattle.rgo_machine.specs.declared.picks.Pick.{Pick}
 use Rattle.rgo_machine.specs.declared.picks.Pick.TheVariants as machine
 use Rattle.rgo_code_words.specs.Worded.{IsSmall}

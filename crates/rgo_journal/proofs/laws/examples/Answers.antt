@@ -1,11 +1,10 @@
-use Rattle.std.proofs.Common.{inl, inr, ◌≡◌, ◌⊎◌, ◌∷◌, ◌++◌, [], List, ℕ, length, get_or, refl, ap, sym, arith, codes, length-append}
+use Rattle.std.proofs.Common.{inl, inr, ◌≡◌, ◌∷◌, ◌++◌, [], length, get_or, refl, ap, sym, arith, codes}
 use Rattle.std.specs.Fmt.{digits}
 use Rattle.std.specs.Prelude.{All}
 use Rattle.std.proofs.lemmas.List.Elements.{All-cons, All-nil}
-use Rattle.rgo_journal.specs.declared.picks.TacPick.{TacPick}
 use Rattle.rgo_journal.specs.declared.picks.TacPick.TheVariants.{One}
 use Rattle.rgo_journal.specs.Forms.{IsFirstWithoutForm}
-use Rattle.rgo_journal.specs.Text.{Fits, first_line, pick_line}
+use Rattle.rgo_journal.specs.Text.{Fits, first_line}
 use Rattle.rgo_journal.proofs.Walking.{no_more}
 use Rattle.rgo_journal.proofs.laws.examples.Goals as goal
 
