@@ -19,7 +19,7 @@ returns-in-Err-clause-replays g c = record {
   ending = c.from.result;
   ends = rw c.from.ensures (error_ends c.args.bytes.now c.in-Err.error
       (sink_use (g.K.Sink.contents c.args.out.now) (g.K.Sink.contents c.args.out.now) (g.K.Sink.faults c.args.out.now)
-    (g.K.Sink.faults c.args.out.now) (g.K.Sink.broken c.args.out.now))
+      (g.K.Sink.faults c.args.out.now) (g.K.Sink.broken c.args.out.now))
       c.in-Err.ensures (Appends-nil _, refl));
   told = c.report_replay-in-Err.ensures;
 }
