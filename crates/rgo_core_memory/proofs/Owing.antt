@@ -1,5 +1,6 @@
 -- The pages that chains have still to free.
 use Rattle.std.proofs.Common.{◌≡◌, ◌≢◌, ℕ, zero, suc, ◌+◌, ◌<◌, List, [], set, slice_index, refl, ap, sym, subst, ◌∙◌, arith}
+use Rattle.std.proofs.lemmas.List.{get_or-set_other}
 use mathlib.Core.Logic.{dite}
 use native.Mathlib.Decide.{ℕ_discrete}
 use Rattle.rgo_core_memory.specs.declared.layout.TableSizes.{TableSizes}
@@ -9,7 +10,7 @@ use Rattle.rgo_core_memory.specs.Ground.{Ground, Steady, ground_of}
 use Rattle.rgo_core_memory.specs.Pages.{Place, Free, Chained, Claimed, times}
 use Rattle.rgo_core_memory.specs.Parts.{Use, Vacant, Closing, pages_at}
 use Rattle.rgo_core_memory.specs.Image.{Image, Where}
-use Rattle.rgo_core_memory.specs.Owed.{owed_at, owed, to_free, StillOwed}
+use Rattle.rgo_core_memory.specs.Owed.{claimed_for, owed_at, owed, to_free, StillClaimed, StillOwed}
 use Rattle.rgo_core_memory.proofs.Chaining.{first_at}
 use Rattle.rgo_core_memory.proofs.Paging.{same_at, none_at, other_at, more_at}
 use Rattle.rgo_core_memory.proofs.Puts.{put_here, put_else}
@@ -55,6 +56,28 @@ less_at states p n s l e =
     (λ q m y. dite (ℕ_discrete q p) (λ u. ap states u ∙ e) (λ u. sym (put_else states p 0 q u) ∙ (sym (put_else (put states p 0) p (suc s) q u)
     ∙ y))) in
     omega (arith, a, b)
+
+empty : (z : TableSizes) (words : List ℕ) (recs : List Rec) (x : Ground) (places : Where) (k : Image z words recs x places) → Steady x
+    → (g r : ℕ) (c : Rec) → Has recs g c → c.give ≡ Gave r
+    → (p : ℕ) → k.w.state p ≡ suc r → ⊥
+empty z words recs x places k steady g r c own before p e = go (places.at p) refl
+  where
+    closes : Closes c.give r
+    closes = subst (λ (y : Give). Closes y r) (sym before) refl
+
+    go : (at : Place) → places.at p ≡ at → ⊥
+    go Free q = let y = k.pages.is_free p q in omega (arith, e, y)
+    go (Chained s) q =
+        let y = k.pages.is_chained p s q in
+        let same : s ≡ r = (let v = y.0 in omega (arith, e, v)) in
+        let none = (k.pages.gaves g r c own before).1 in
+        let m : 0 < times p [] = subst (λ (l : List ℕ). 0 < times p l) (ap places.chain same ∙ none) y.1 in omega (arith, m)
+    go (Claimed i) q =
+        let y = k.pages.is_claimed p i q in
+        let v = y.4 in
+        let same : y.0 ≡ r = omega (arith, e, v) in
+        stake_open z words recs x places k steady i g y.0 c (k.filled.claims i y.0 y.1 y.2 (subst (λ (c : Claim). Claims c y.0)
+        (sym y.3) refl)) own (subst (Closes c.give) (sym same) closes)
 
 pub still_owed : StillOwed
 still_owed = record {
@@ -107,25 +130,38 @@ still_owed = record {
       let h = none_at k.w.state z.pages r (λ p l q. empty z words recs (ground_of s) places k (steady_of code s all) g r c own before p q) in
       omega (arith, a, b, d, e, f, h);
 }
-  where
-    empty : (z : TableSizes) (words : List ℕ) (recs : List Rec) (x : Ground) (places : Where) (k : Image z words recs x places) → Steady x
-        → (g r : ℕ) (c : Rec) → Has recs g c → c.give ≡ Gave r
-        → (p : ℕ) → k.w.state p ≡ suc r → ⊥
-    empty z words recs x places k steady g r c own before p e = go (places.at p) refl
-      where
-        closes : Closes c.give r
-        closes = subst (λ (y : Give). Closes y r) (sym before) refl
 
-        go : (at : Place) → places.at p ≡ at → ⊥
-        go Free q = let y = k.pages.is_free p q in omega (arith, e, y)
-        go (Chained s) q =
-            let y = k.pages.is_chained p s q in
-            let same : s ≡ r = (let v = y.0 in omega (arith, e, v)) in
-            let none = (k.pages.gaves g r c own before).1 in
-            let m : 0 < times p [] = subst (λ (l : List ℕ). 0 < times p l) (ap places.chain same ∙ none) y.1 in omega (arith, m)
-        go (Claimed i) q =
-            let y = k.pages.is_claimed p i q in
-            let v = y.4 in
-            let same : y.0 ≡ r = omega (arith, e, v) in
-            stake_open z words recs x places k steady i g y.0 c (k.filled.claims i y.0 y.1 y.2 (subst (λ (c : Claim). Claims c y.0)
-            (sym y.3) refl)) own (subst (Closes c.give) (sym same) closes)
+-- ---- slot by slot
+
+module _ (z : TableSizes) where
+  pages_as : (f h : ℕ → ℕ) → ((p : ℕ) → p < z.pages → f p ≡ h p) → (s : ℕ) → pages_at f z.pages s ≡ pages_at h z.pages s
+  pages_as f h same s = same_at h f z.pages s (λ p l e. same p l ∙ e) (λ p l e. sym (same p l) ∙ e)
+
+  shows_claimed : (words : List ℕ) (w : Words) → Shows z words w → (s : ℕ) → claimed_for z words s ≡ pages_at w.state z.pages s
+  shows_claimed words w k = pages_as (λ p. slice_index words (state_at z p)) w.state (λ p l. k.state p l)
+
+pub still_claimed : StillClaimed
+still_claimed = record {
+  live = λ z words recs s places k j info e l. k.paged.live j info e l ∙ sym (shows_claimed z words k.w k.shows (places.slot j));
+  free = λ code z words recs s places all k g r p q c own before.
+      let closes : Closes c.give r = subst (λ (y : Give). Closes y r) (sym before) refl in
+      let at = first_at z words recs (ground_of s) places k (steady_of code s all) g c own r closes p (k.pages.cursors g r (suc p) c own (subst (λ
+      (y : Give). Gives y r (suc p)) (sym before) (refl, refl))) in
+      let state = (k.pages.is_chained p r at).0 in
+      let small : p < z.pages = k.own.ranged p (omega (arith, state)) in
+      let was = shows_claimed z words k.w k.shows in
+      let is = shows_claimed z (set words (state_at z p) 0) (record k.w { state = put k.w.state p 0 }) (writes_state z words k.w k.shows p 0 small) in (
+        ap suc (is r) ∙ (less_at k.w.state p z.pages r small state ∙ sym (was r)),
+        λ t ne. is t ∙ (other_at k.w.state p 0 z.pages t (λ y. ne (omega (arith, y, state))) (λ y. omega arith) ∙ sym (was t)),
+      );
+  claim = λ z words recs s places k p r t small none ne.
+      let zero_is : k.w.state p ≡ 0 = sym (k.shows.state p small) ∙ none in
+      shows_claimed z (set words (state_at z p) (suc r)) (record k.w { state = put k.w.state p (suc r) }) (writes_state z words k.w k.shows p (suc r) small) t
+      ∙ (other_at k.w.state p (suc r) z.pages t (λ y. omega (arith, y, zero_is)) (λ y. ne (omega (arith, y))) ∙ sym (shows_claimed z words k.w k.shows t));
+  none = λ code z words recs s places all k g r c own before.
+      shows_claimed z words k.w k.shows r
+      ∙ none_at k.w.state z.pages r (λ p l q. empty z words recs (ground_of s) places k (steady_of code s all) g r c own before p q);
+  beside = λ z words i n apart.
+      pages_as z (λ p. slice_index (set words i n) (state_at z p)) (λ p. slice_index words (state_at z p))
+      (λ p l. get_or-set_other words i (state_at z p) n 0 (λ e. apart p l (sym e)));
+}

@@ -4,7 +4,7 @@ use mathlib.Core.Logic.{dite}
 use native.Mathlib.Decide.{ℕ_discrete}
 use Rattle.rgo_core_memory.specs.declared.layout.TableSizes.{TableSizes}
 use Rattle.rgo_core_memory.specs.Words.{state_at, count_at}
-use Rattle.rgo_core_memory.specs.Records.{Rec, Has, Claims, with_tried_page, with_tried_slot}
+use Rattle.rgo_core_memory.specs.Records.{Measured, Rec, Has, Claims, with_measured, with_tried_page, with_tried_slot}
 use Rattle.rgo_core_memory.specs.Ground.{Ground, taken_of}
 use Rattle.rgo_core_memory.specs.Pages.{times}
 use Rattle.rgo_core_memory.specs.Parts.{Taken, TriedPage, TriedSlot}
@@ -90,5 +90,12 @@ module _ (z : TableSizes) (words : List ℕ) (recs : List Rec) (x : Ground) (pla
   pub forgot : Image z words (slice_set recs g (record c { tried_pages = []; tried_slots = [] })) x places
   forgot = tried (record c { tried_pages = []; tried_slots = [] }) refl refl refl refl
       (taken_fewer recs g c (record c { tried_pages = []; tried_slots = [] }) own z k.w.state k.w.count (taken_of x)
+      (length x.regions) places.slot places.page k.taken
+      (λ p l. omega (arith, l)) (λ r l. omega (arith, l)))
+
+  -- a length was read
+  pub measures : (m : Measured) → Image z words (slice_set recs g (with_measured c m)) x places
+  measures m = tried (with_measured c m) refl refl refl refl
+      (taken_fewer recs g c (with_measured c m) own z k.w.state k.w.count (taken_of x)
       (length x.regions) places.slot places.page k.taken
       (λ p l. omega (arith, l)) (λ r l. omega (arith, l)))

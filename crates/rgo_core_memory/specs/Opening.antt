@@ -1,5 +1,5 @@
 -- The first words of a table, and that they are the image of the region machine's first state.
-use Rattle.std.specs.Prelude.{ℕ, ◌≤◌, List, [], ◌∷◌, length, replicate, slice_set}
+use Rattle.std.specs.Prelude.{ℕ, ◌≤◌, List, [], ◌∷◌, length, replicate, None, slice_set}
 use Rattle.rgo_code.specs.Code.{Code}
 use Rattle.rgo_region_machine.specs.Machine.{region_start}
 use Rattle.rgo_core_memory.specs.declared.layout.TableSizes.{TableSizes}
@@ -14,7 +14,7 @@ abbrev pub first_words : TableSizes → List ℕ
 first_words z = slice_set (slice_set (replicate (all_words z) 0) made_at 1) (count_at z z.slots) 2
 
 abbrev pub first_record : Rec
-first_record = record { fills = []; make = Rest; claim = Idle; give = Calm; tried_pages = []; tried_slots = [] }
+first_record = record { fills = []; make = Rest; claim = Idle; give = Calm; tried_pages = []; tried_slots = []; measured = None }
 
 -- no region, no object, and each page is free
 abbrev pub nowhere : Where

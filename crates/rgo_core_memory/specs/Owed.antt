@@ -1,5 +1,5 @@
 -- The pages that chains have still to free: the end of a last stake adds those of the region, and each freed page is one less.
-use Rattle.std.specs.Prelude.{◌≡◌, ℕ, zero, suc, ◌+◌, ◌<◌, List, Some, slice_get, slice_set, slice_index}
+use Rattle.std.specs.Prelude.{◌≡◌, ◌≢◌, ℕ, zero, suc, ◌+◌, ◌<◌, List, Some, slice_get, slice_set, slice_index}
 use Rattle.rgo_code.specs.Code.{Code}
 use Rattle.rgo_region_machine.specs.Regions.{RegionInfo}
 use Rattle.rgo_region_machine.specs.States.{RegionState}
@@ -39,3 +39,32 @@ pub record StillOwed : Type 0 where
       → AllGood code s → Memory z words recs s places
       → (g r : ℕ) (c : Rec) → Has recs g c → c.give ≡ Gave r
       → to_free z (slice_set words (count_at z r) 0) (put places.uses r Vacant) ≡ to_free z words places.uses
+
+-- ---- slot by slot
+
+-- how many pages are claimed for a slot
+abbrev pub claimed_for : TableSizes → List ℕ → (slot : ℕ) → ℕ
+claimed_for z words s = pages_at (λ p. slice_index words (state_at z p)) z.pages s
+
+pub record StillClaimed : Type 0 where
+  -- for a live region its pages
+  pub live : (z : TableSizes) (words : List ℕ) (recs : List Rec) (s : RegionState) (places : Where) → Memory z words recs s places
+      → (j : ℕ) (info : RegionInfo) → slice_get s.regions j ≡ Some info → 0 < info.stakes
+      → info.pages ≡ claimed_for z words (places.slot j)
+  -- a page that is freed is one less for its slot alone
+  pub free : (code : Code) (z : TableSizes) (words : List ℕ) (recs : List Rec) (s : RegionState) (places : Where)
+      → AllGood code s → Memory z words recs s places
+      → (g r p q : ℕ) (c : Rec) → Has recs g c → c.give ≡ Past r (suc p) q
+      → (suc (claimed_for z (slice_set words (state_at z p) 0) r) ≡ claimed_for z words r)
+      × ((t : ℕ) → t ≢ r → claimed_for z (slice_set words (state_at z p) 0) t ≡ claimed_for z words t)
+  -- a page that is claimed is one more for its slot alone
+  pub claim : (z : TableSizes) (words : List ℕ) (recs : List Rec) (s : RegionState) (places : Where) → Memory z words recs s places
+      → (p r t : ℕ) → p < z.pages → slice_index words (state_at z p) ≡ 0 → t ≢ r
+      → claimed_for z (slice_set words (state_at z p) (suc r)) t ≡ claimed_for z words t
+  -- none is left where the chain was given back
+  pub none : (code : Code) (z : TableSizes) (words : List ℕ) (recs : List Rec) (s : RegionState) (places : Where)
+      → AllGood code s → Memory z words recs s places
+      → (g r : ℕ) (c : Rec) → Has recs g c → c.give ≡ Gave r → claimed_for z words r ≡ 0
+  -- no other word counts
+  pub beside : (z : TableSizes) (words : List ℕ) (i n : ℕ) → ((p : ℕ) → p < z.pages → i ≢ state_at z p)
+      → (t : ℕ) → claimed_for z (slice_set words i n) t ≡ claimed_for z words t

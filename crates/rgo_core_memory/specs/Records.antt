@@ -1,6 +1,6 @@
 -- What the record of a goroutine has of memory: its own pages, the object that it makes, the page that it claims, and the
 -- chain that it gives back.
-use Rattle.std.specs.Prelude.{◌≡◌, ℕ, List, [], ◌∷◌, Some, slice_get, nat_eq, if◌then◌else◌}
+use Rattle.std.specs.Prelude.{◌≡◌, ℕ, List, [], ◌∷◌, Option, Some, slice_get, nat_eq, if◌then◌else◌}
 use Rattle.rgo_memory.specs.Memory.{Object}
 
 -- an own page, claimed for a slot, and how many words of it are filled
@@ -29,6 +29,13 @@ pub data Give : Type 0 where
   Past : (slot cursor next : ℕ) → Give
   Gave : (slot : ℕ) → Give
 
+-- The number of elements of a slice, read from its first word, which has this address. `steps` says how many instructions the goroutine
+-- had made by then: after the next one, the slice may be another.
+pub record Measured : Type 0 where
+  pub address : ℕ
+  pub elements : ℕ
+  pub steps : ℕ
+
 pub record Rec : Type 0 where
   pub fills : List Fill
   pub make : Make
@@ -37,6 +44,8 @@ pub record Rec : Type 0 where
   -- the page states and the counts that its call found not 0
   pub tried_pages : List ℕ
   pub tried_slots : List ℕ
+  -- the slice whose length it has read last
+  pub measured : Option Measured
 
 -- goroutine g has this record
 abbrev pub Has : List Rec → ℕ → Rec → Type 0
@@ -87,6 +96,10 @@ with_claim c claim = record c { claim = claim }
 
 abbrev pub with_give : Rec → Give → Rec
 with_give c give = record c { give = give }
+
+-- a length was read
+abbrev pub with_measured : Rec → Measured → Rec
+with_measured c m = record c { measured = Some m }
 
 -- a stake there has ended
 abbrev pub without_slot : Rec → ℕ → Rec

@@ -1,7 +1,7 @@
 //! What each atomic step on the table's memory keeps.
 
 ghost use Rattle.rgo_core_memory.specs.Allocations.{AllocationKeeps, WordKeeps};
-ghost use Rattle.rgo_core_memory.specs.Chains.{ClearKeeps, ForgetKeeps, FreeKeeps, HangKeeps, HeadKeeps, LinkKeeps, NextKeeps, SlotKeeps, TriedPageKeeps, TriedSlotKeeps};
+ghost use Rattle.rgo_core_memory.specs.Chains.{ClearKeeps, ForgetKeeps, FreeKeeps, HangKeeps, HeadKeeps, LinkKeeps, MeasuredKeeps, NextKeeps, SlotKeeps, TriedPageKeeps, TriedSlotKeeps};
 ghost use Rattle.rgo_core_memory.specs.Elsewhere.{ClockKeeps, GroundKeeps, NumberKeeps};
 ghost use Rattle.rgo_core_memory.specs.Examples.{MemoryExamples};
 ghost use Rattle.rgo_core_memory.specs.Events.{CreateKeeps, LastLeaveKeeps, LeaveKeeps, PageKeeps, ShareKeeps};
@@ -11,7 +11,7 @@ ghost use Rattle.rgo_core_memory.specs.Facts.{AllFound, CountIsSmall, OneAddress
 ghost use Rattle.rgo_core_memory.specs.Quiet.{QuietKeeps, StartKeeps};
 ghost use Rattle.rgo_core_memory.specs.Exists.{AccessExists, AllocationExists, PageExists};
 ghost use Rattle.rgo_core_memory.specs.Facts.{WordsDiffer};
-ghost use Rattle.rgo_core_memory.specs.Owed.{StillOwed};
+ghost use Rattle.rgo_core_memory.specs.Owed.{StillClaimed, StillOwed};
 
 /// A load of a field reads what the instruction reads.
 pub fn load_law()
@@ -201,6 +201,16 @@ pub fn forget_law()
 /// What chains have still to free.
 pub fn owed_law()
     ensures { StillOwed }
+{}
+
+/// The pages that are still claimed for a slot.
+pub fn claimed_law()
+    ensures { StillClaimed }
+{}
+
+/// The length of a slice was read.
+pub fn measured_law()
+    ensures { MeasuredKeeps }
 {}
 
 /// The clock is no word of memory.

@@ -1,0 +1,5 @@
+use Rattle.rgo_core_memory.proofs.Keeps.{measured_keeps}
+use Rattle.rgo_core_memory.proofs.laws.measured_law.Goals as goal
+
+pub returns : goal.returns
+returns c = measured_keeps
