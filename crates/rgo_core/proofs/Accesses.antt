@@ -1,25 +1,22 @@
 -- Loads and stores.
-use Rattle.std.proofs.Common.{◌≡◌, ◌≢◌, ◌⊎◌, inl, ⊎_elim, ℕ, suc, ◌+◌, ◌<◌, ◌≤◌, pos, List, [], ◌∷◌, Option, Some, None, length, map, max, slice_get, slice_set, slice_index, refl, ap, sym, subst, ◌∙◌, arith}
+use Rattle.std.proofs.Common.{◌≡◌, ◌≢◌, inl, ⊎_elim, ℕ, suc, ◌+◌, ◌<◌, ◌≤◌, pos, List, [], ◌∷◌, Option, Some, None, length, map, max, slice_get, slice_set, slice_index, refl, ap, sym, subst, ◌∙◌, arith}
 use Rattle.std.proofs.Math.ListN.{length-set}
 use Rattle.std.proofs.lemmas.List.{get_or-set_other}
 use Rattle.std.proofs.lemmas.Option.{same_Some}
-use Rattle.rgo_code.specs.Code.{CodeFn, Do}
+use Rattle.rgo_code.specs.Code.{Do}
 use Rattle.rgo_code.specs.Erasure.{erased, erased_fn}
 use Rattle.rgo_code.specs.Exists.{declared_by}
-use Rattle.rgo_code.specs.Types.{DoFits, HasType}
+use Rattle.rgo_code.specs.Types.{DoFits}
 use Rattle.rgo_memory.specs.Effects.{Does as DoesSo, answered, to_object}
 use Rattle.rgo_memory.specs.Elements.{length_in}
 use Rattle.rgo_memory.specs.Fields.{field_of, load, or_nil, store, stored}
-use Rattle.rgo_memory.specs.Memory.{Channel, Memory as Heap, Object, SliceObject, StructObject, with_object}
+use Rattle.rgo_memory.specs.Memory.{Memory as Heap, Object, SliceObject, StructObject, with_object}
 use Rattle.rgo_memory.specs.declared.values.Value.{Value}
 use Rattle.rgo_memory.specs.declared.values.Value.TheVariants as value
 use Rattle.rgo_region_machine.specs.Objects.{words as words_of}
-use Rattle.rgo_region_machine.specs.Owed.{function_of}
 use Rattle.rgo_sound.proofs.Acting.{performed}
 use Rattle.rgo_sound.proofs.Places.{contains_here, contains_there, length_set}
-use Rattle.rgo_sound.proofs.TypedSteps.{var_kind}
-use Rattle.rgo_sound.proofs.Types.{get_kinds, object_of}
-use Rattle.rgo_sound.specs.Types.{HasKind, ObjectFits}
+use Rattle.rgo_sound.proofs.Types.{get_kinds}
 use Rattle.rgo_tac.specs.Code.{Tac, TacFn}
 use Rattle.rgo_tac.specs.Frames.{value_at, values_of}
 use Rattle.rgo_tac.specs.Steps.{type_of}
@@ -27,7 +24,7 @@ use Rattle.rgo_typed.specs.declared.actions.Action.{Action}
 use Rattle.rgo_typed.specs.declared.actions.Action.TheVariants as action
 use Rattle.rgo_typed.specs.declared.programs.Variable.{Variable}
 use Rattle.rgo_typed.specs.declared.types.Type.{«Type»}
-use Rattle.rgo_wellformed.specs.TypeRules.{chan_of, pointer_to, slice_of}
+use Rattle.rgo_wellformed.specs.TypeRules.{pointer_to, slice_of}
 use Rattle.rgo_core_channels.specs.Channels.{Chan, IsChan, On, channel}
 use Rattle.rgo_core_channels.specs.Controls.{extent}
 use Rattle.rgo_core_channels.specs.Records.{at_rest}
@@ -59,8 +56,10 @@ use Rattle.rgo_core.proofs.Contents.{variable_fits}
 use Rattle.rgo_core.proofs.Leaving.{apart_from, channel_stands, channel_word}
 use Rattle.rgo_core.proofs.Lift.{access_law}
 use Rattle.rgo_core.proofs.Operands as operands
+use Rattle.rgo_core.proofs.Slices as slices
 use Rattle.rgo_core.proofs.Parts.{I}
 use Rattle.rgo_core.proofs.Performing.{channels_after, performs}
+use Rattle.rgo_core.proofs.Links.{claims_high, lengths_apart, lengths_in}
 
 -- ---- types
 
@@ -82,6 +81,9 @@ get_gives code f d k tys fits = let r = fits.2 in (fits.0, r.1)
 
 struct_no_channel : (cells : List Value) (k : Chan) → StructObject cells ≡ channel k → ⊥
 struct_no_channel cells k e = cc
+
+struct_no_slice : (cells others : List Value) → StructObject cells ≡ SliceObject others → ⊥
+struct_no_slice cells others e = cc e
 
 le_max : (n : ℕ) → n ≤ max 1 n
 le_max n = omega arith
@@ -106,7 +108,7 @@ module _ {T : Setup} {g : ℕ} {c : Record} (x : Here T g c) (rests : c.side ≡
       (operands.as_deep x (Some d) act from removes a (slice_index x.words i)) M
       (channels_after x rests x.s.plain.memory (operands.b x (Some d) act from removes a).h
       (after_action T.code c.frame a.w a.ws a.instr (Some d) (slice_index x.words i)) read_step x.words
-      (λ o k is. is) (λ o k is. is) refl (λ o j k on l. refl))))
+      (λ o k is. is) (λ o k is. is) refl (λ o j k on l. refl)) (λ r. refl) (λ o cells r stands. refl)))
 
 -- ---- a field is loaded
 
@@ -177,30 +179,7 @@ module _ {T : Setup} {g : ℕ} {c : Record} (x : Here T g c) (rests : c.side ≡
   len_before = operands.before x (Some d) action.Len (p ∷ []) removes a (value.Object len_from.object ∷ []) (ap (λ (v : Value). v ∷ []) len_from.is)
 
   slice_there : (cells : List Value) × (slice_get x.s.plain.memory.heap len_from.object ≡ Some (SliceObject cells))
-  slice_there =
-      let typed = operands.typed x (Some d) action.Len (p ∷ []) removes a p at (slice_of len_types.0) [] [] len_types.1 refl refl
-      (contains_here p []) points in
-      let fits = (operands.b x (Some d) action.Len (p ∷ []) removes a).typed.0 in
-      let same : a.fn ≡ fits.0 = same_Some a.fn fits.0 (sym a.in_fn ∙ (ap (function_of T.code)
-      (operands.b x (Some d) action.Len (p ∷ []) removes a).newest.alike.function ∙ fits.1)) in
-      let kinds = (operands.b x (Some d) action.Len (p ∷ []) removes a).kinds in
-      let kind : HasKind kinds (slice_of len_types.0) (value.Object len_from.object) =
-      subst (HasKind kinds (slice_of len_types.0)) len_from.is
-      (var_kind kinds (erased_fn fits.0) (operands.b x (Some d) action.Len (p ∷ []) removes a).frame fits.2 p (slice_of len_types.0)
-      (subst (λ (f : CodeFn). HasType (erased_fn f) p (slice_of len_types.0)) same typed)) in
-      let ob = object_of T.code kinds x.s.plain.memory (operands.b x (Some d) action.Len (p ∷ []) removes a).memory len_from.object
-      (slice_of len_types.0) kind.0 in
-      go kinds ob.0 ob.1 ob.2
-    where
-      layer : (t : «Type») → slice_of len_types.0 ≡ chan_of t → ⊥
-      layer t y = let w = ap (λ (t : «Type»). t.layers) y in cc w
-
-      go : (kinds : List «Type») (object : Object) → slice_get x.s.plain.memory.heap len_from.object ≡ Some object
-          → ObjectFits T.code.structs kinds (slice_of len_types.0) object
-          → (cells : List Value) × (slice_get x.s.plain.memory.heap len_from.object ≡ Some (SliceObject cells))
-      go kinds (StructObject cells) e f = let y : slice_of len_types.0 ≡ pointer_to f.0 = f.1 in let w = ap (λ (t : «Type»). t.layers) y in cc w
-      go kinds (SliceObject cells) e f = (cells, e)
-      go kinds (Channel capacity queue closed) e f = absurd (layer f.0 f.1)
+  slice_there = slices.slice_there x (Some d) action.Len p [] removes a len_types.0 [] len_types.1 (contains_here p []) at points
 
   abbrev long : Value
   long = value.Int (pos (length slice_there.0))
@@ -214,8 +193,7 @@ module _ {T : Setup} {g : ℕ} {c : Record} (x : Here T g c) (rests : c.side ≡
       ∙ ap (λ (y : Option Object). Some (DoesSo x.s.plain.memory (length_in y))) slice_there.1
 
   len_index : word_at (layout T) (I x).places len_from.object 0 ≡ base (layout T) + at
-  len_index = operands.word_there x (Some d) action.Len (p ∷ []) removes a p at (slice_of len_types.0) [] [] len_types.1 refl refl
-      (contains_here p []) points (SliceObject slice_there.0) slice_there.1 0 (omega arith) ∙ (let e : base (layout T) + (at + 0) ≡ base (layout T) + at = omega arith in e)
+  len_index = slices.first_word x (Some d) action.Len p [] removes a len_types.0 [] len_types.1 (contains_here p []) at points
 
   len_shows : Shows (I x).addresses long (slice_index x.words (base (layout T) + at))
   len_shows = subst (λ n. Shows (I x).addresses long (slice_index x.words n)) len_index
@@ -367,6 +345,11 @@ module _ {T : Setup} {g : ℕ} {c : Record} (x : Here T g c) (rests : c.side ≡
       (operands.stands x None (action.Store k) (p ∷ q ∷ []) removes a p at (pointer_to store_types.0) (store_types.1 ∷ []) (q ∷ [])
       store_types.2 refl refl (contains_here p (q ∷ [])) points (StructObject store_there.0) store_there.1)
       low (λ j l on. other j l on.0)))
+      (claims_high x (word_at (layout T) (I x).places o k) (word_of_frame a.w q) (omega arith))
+      (lengths_in x o k (StructObject store_there.0) store_to.region
+      (operands.stands x None (action.Store k) (p ∷ q ∷ []) removes a p at (pointer_to store_types.0) (store_types.1 ∷ []) (q ∷ [])
+      store_types.2 refl refl (contains_here p (q ∷ [])) points (StructObject store_there.0) store_there.1)
+      low (λ cells e. absurd (struct_no_slice store_there.0 cells e)) (word_of_frame a.w q))
 
   pub store_steps : Steps x (slice_set x.words (base (layout T) + (at + k)) (word_of_frame a.w q)) (acted T.code c a None 0)
   store_steps = inl (subst (λ n. Does x (slice_set x.words n (word_of_frame a.w q)) (acted T.code c a None 0)) store_index store_done)
@@ -420,7 +403,12 @@ module _ {T : Setup} {g : ℕ} {c : Record} (x : Here T g c) (rests : c.side ≡
       (operands.as_deep x None (action.Set k) (q ∷ []) removes a 0) set_memory
       (channels_after x rests set_mem (operands.b x None (action.Set k) (q ∷ []) removes a).h
       (after_action T.code c.frame a.w a.ws a.instr None 0) set_step set_words (λ j l is. is) (λ j l is. is)
-      (length-set x.words (variable_at (layout T) k) (word_of_frame a.w q)) set_same))
+      (length-set x.words (variable_at (layout T) k) (word_of_frame a.w q)) set_same)
+      (claims_high x (variable_at (layout T) k) (word_of_frame a.w q) (omega arith))
+      (lengths_apart x (variable_at (layout T) k) (word_of_frame a.w q) (λ j cells r stands e.
+      let u = (I x).memory.lies.inside j 0 (SliceObject cells) r stands (omega arith) in
+      let b = in_pages (layout T).pages ((I x).places.spot j 0).page (layout T).page_words ((I x).places.spot j 0).offset u.0 u.1 in
+      omega (arith, b, e))))
 
 pub set_move : SetMove
 set_move T g c k q removes a rests =

@@ -1,5 +1,5 @@
 -- What the record of a goroutine at a channel says of the state: the channel, which is in a live region, and the operation.
-use Rattle.std.proofs.Common.{◌≡◌, ◌⊎◌, inl, inr, ℕ, zero, suc, ◌+◌, ◌<◌, ◌≤◌, true, List, [], ◌∷◌, Option, Some, None, length, map, max, slice_get, slice_set, slice_index, refl, ap, sym, subst, ◌∙◌, arith, Contains}
+use Rattle.std.proofs.Common.{◌≡◌, inl, inr, ℕ, ◌+◌, List, ◌∷◌, Option, Some, map, slice_get, refl, ap, sym, subst, ◌∙◌, Contains}
 use Rattle.std.proofs.lemmas.Option.{same_Some}
 use Rattle.rgo_typed.specs.declared.actions.Action.{Action}
 use Rattle.rgo_typed.specs.declared.types.Type.{«Type»}
@@ -10,15 +10,15 @@ use Rattle.rgo_tac.specs.Flow.{reads}
 use Rattle.rgo_tac.specs.Frames.{value_at, values_of}
 use Rattle.rgo_code.specs.Code.{CodeOp, Do}
 use Rattle.rgo_code.specs.Erasure.{erased, erased_fn, erased_op}
-use Rattle.rgo_code.specs.Types.{HasType, HaveTypes, OpFits}
+use Rattle.rgo_code.specs.Types.{HasType, OpFits}
 use Rattle.rgo_region_machine.specs.States.{Holder, NoOffer, Offer, Standing, Taken}
 use Rattle.rgo_sound.proofs.Places.{contains_here}
 use Rattle.rgo_sound.proofs.TypedSteps.{types}
-use Rattle.rgo_core_channels.specs.Channels.{Accepted, Calm, Chan, Offered, OfferOf, On, Phase, channel, holder_offer}
+use Rattle.rgo_core_channels.specs.Channels.{Accepted, Calm, Chan, Offered, OfferOf, On, Phase, holder_offer}
 use Rattle.rgo_core_channels.specs.Records.{Nowhere, Offering, Post}
-use Rattle.rgo_core_channels.specs.Standing.{IsAt as IsAtWord, IsOfChannel, Next}
+use Rattle.rgo_core_channels.specs.Standing.{IsAt as IsAtWord, Next}
 use Rattle.rgo_core_channels.proofs.Live.{first_type, operand_is_live}
-use Rattle.rgo_core_frames.specs.Operands.{IsOperand, PointsTo}
+use Rattle.rgo_core_frames.specs.Operands.{PointsTo}
 use Rattle.rgo_core_frames.specs.Slots.{nameless}
 use Rattle.rgo_core_frames.specs.States.{AtInstruction}
 use Rattle.rgo_core_frames.specs.WordFrames.{bare}

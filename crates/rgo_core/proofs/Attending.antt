@@ -1,5 +1,5 @@
 -- A step of one goroutine that changes no memory, by an access to a word before the cells.
-use Rattle.std.proofs.Common.{◌≡◌, inl, ℕ, ◌+◌, ◌<◌, ◌≤◌, true, List, Some, None, length, map, slice_get, slice_set, refl, ap, sym, subst, ◌∙◌, arith}
+use Rattle.std.proofs.Common.{◌≡◌, inl, ℕ, ◌<◌, ◌≤◌, true, List, Some, None, length, map, slice_get, slice_set, refl, ap, sym, subst, ◌∙◌, arith}
 use Rattle.std.proofs.Math.ListN.{length-set}
 use Rattle.std.proofs.lemmas.List.{append-nil}
 use Rattle.rgo_machine.specs.Limits.{deepest}
@@ -31,10 +31,10 @@ use Rattle.rgo_core.specs.Image.{place_of}
 use Rattle.rgo_core.specs.Records.{ClockRec, Record, counted, frame_of, memory_of, side_of}
 use Rattle.rgo_core.specs.Steps.{Does, SameClock}
 use Rattle.rgo_core.proofs.Leaving.{before_cells, owner_of}
-use Rattle.rgo_core.proofs.Parts.{I, image_with, is_side, moment}
-
-plus_zero : (a b : ℕ) → a ≡ b → a ≡ b + 0
-plus_zero a b e = omega (arith, e)
+use Rattle.rgo_core.proofs.Parts.{I, image_with}
+use Rattle.rgo_core.specs.Links.{Links}
+use Rattle.rgo_core.proofs.Standing.{side_at, moment}
+use Rattle.rgo_core.proofs.Counting.{plus_zero}
 
 -- memory, owners and print stay
 pub record MemoryStays (s t : RegionState) : Type 0 where
@@ -91,14 +91,14 @@ module _ {T : Setup} {g : ℕ} {c : Record} (x : Here T g c) (rests : c.side ≡
   channels : Channels T.code (code_of (layout T) P) (place_of (layout T) P) words (slice_set (map side_of x.recs) g c.side) t (I x).at
   channels =
       subst (λ l. Channels T.code (code_of (layout T) P) (place_of (layout T) P) words l t (I x).at)
-      (append-nil (map side_of x.recs) ∙ sym (set_again (map side_of x.recs) g c.side (is_side x)))
+      (append-nil (map side_of x.recs) ∙ sym (set_again (map side_of x.recs) g c.side (side_at x)))
       (event_keeps (moment x) g event words t (code_of (layout T) P) (place_of (layout T) P) (I x).at None 0
-      (is_side x ∙ ap Some rests) alone step stay)
+      (side_at x ∙ ap Some rests) alone step stay)
 
-  pub attends : (gain : Counts) → counts_of t ≡ counts_plus (counts_of x.s) gain → counted k ≡ counts_plus (counted c.clock) gain
+  pub attends : Links T.code (layout T) words (slice_set x.recs g (record c { clock = k; frame = fr; memory = m })) → (gain : Counts) → counts_of t ≡ counts_plus (counts_of x.s) gain → counted k ≡ counts_plus (counted c.clock) gain
       → length fr.frames ≤ deepest → t.mark ≡ x.s.mark → SameClock c.clock k
       → Does x words (record c { clock = k; frame = fr; memory = m })
-  attends gain adds count shallow mark clock = record {
+  attends links gain adds count shallow mark clock = record {
     goes = record {
       event = event;
       next = t;
@@ -108,6 +108,7 @@ module _ {T : Setup} {g : ℕ} {c : Record} (x : Here T g c) (rests : c.side ≡
       counted = count;
       shallow = shallow;
       image = image_with x words (record c { clock = k; frame = fr; memory = m }) t P (I x).at (I x).addresses (I x).addressed fit M channels;
+      links = links;
     };
     mark = mark;
     printed = same.printed;

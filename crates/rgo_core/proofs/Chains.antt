@@ -1,5 +1,5 @@
 -- Accesses to chains of pages.
-use Rattle.std.proofs.Common.{◌≡◌, ◌⊎◌, inl, inr, ⊎_elim, ℕ, suc, ◌+◌, ◌<◌, ◌≤◌, List, [], ◌∷◌, map, drop, slice_set, slice_index, refl, ap, sym, subst, ◌∙◌, arith}
+use Rattle.std.proofs.Common.{◌≡◌, inl, inr, ⊎_elim, ℕ, suc, ◌+◌, ◌-◌, ◌<◌, ◌≤◌, List, [], ◌∷◌, map, drop, slice_set, slice_index, refl, ap, sym, subst, ◌∙◌, arith}
 use Rattle.rgo_core_channels.specs.Channels.{Chan, On, channel}
 use Rattle.rgo_core_channels.proofs.Lists.{set_own}
 use Rattle.rgo_core_channels.proofs.Quiet.{word_keeps}
@@ -16,7 +16,7 @@ use Rattle.rgo_core_memory.proofs.Chains.{times_else, times_first}
 use Rattle.rgo_core_memory.proofs.Facts.{follow}
 use Rattle.rgo_core_memory.proofs.Keeps.{clear_keeps, free_keeps, hang_keeps, head_keeps, link_keeps, next_keeps, slot_keeps}
 use Rattle.rgo_core_memory.proofs.Rows.{set_here}
-use Rattle.rgo_core_memory.proofs.Slots.{stake_slot}
+use Rattle.rgo_core_memory.proofs.Slots.{one_closes, stake_slot}
 use Rattle.rgo_core_memory.proofs.Steadies.{steady_of}
 use Rattle.rgo_core.specs.Chains.{ClearMove, FreeMove, HangMove, HeadMove, LinkMove, NextMove, SlotMove, frees, remembers}
 use Rattle.rgo_core.specs.Core.{Here, Setup, layout}
@@ -24,9 +24,14 @@ use Rattle.rgo_core.specs.Image.{Image, place_of}
 use Rattle.rgo_core.specs.Records.{ClockRec, Record, counted, memory_of, side_of}
 use Rattle.rgo_core.specs.Steps.{Steps}
 use Rattle.rgo_core.proofs.Leaving.{channel_stands}
-use Rattle.rgo_core.proofs.Lift.{access_law}
-use Rattle.rgo_core.proofs.Parts.{I, frame_stays, image_with, is_memory, side_stays}
-use Rattle.rgo_core.proofs.Telling.{told_law}
+use Rattle.rgo_core.proofs.Lift.{access_law, told_law}
+use Rattle.rgo_core.proofs.Parts.{I, frame_stays, image_with, side_stays}
+use Rattle.rgo_core.specs.Links.{Links, left_to_free}
+use Rattle.rgo_core_memory.specs.Owed.{claimed_for}
+use Rattle.rgo_core_memory.proofs.Owing.{still_claimed}
+use Rattle.rgo_core_memory.proofs.Stepped.{map_get}
+use Rattle.rgo_core.proofs.Links.{Waits, claims_apart, left_same, lengths_low, links_freeing}
+use Rattle.rgo_core.proofs.Standing.{memory_at}
 
 -- ---- pages of chains are pages of the table
 
@@ -120,16 +125,28 @@ module _ {T : Setup} {g : ℕ} {c : Record} (x : Here T g c) where
       (subst (λ (w : List ℕ). Memory (layout T) w (slice_set (map memory_of x.recs) g m) x.s (I x).places) (sym (set_own x.words i)) M)
 
   pub remembered : (words : List ℕ) (m : MemoryRec) → Image T.code (layout T) words (slice_set x.recs g (remembers c m)) x.s
-      → Steps x words (remembers c m)
-  remembered words m image = inr (record {
+      → Links T.code (layout T) words (slice_set x.recs g (remembers c m)) → Steps x words (remembers c m)
+  remembered words m image links = inr (record {
     counted = refl;
     same = record { prints = refl; first = refl; children = refl; refused = refl };
     image = image;
+    links = links;
   })
 
-one_less : (c : Record) (r q left : ℕ) → c.clock.owed ≡ suc left → counted (frees c r q left).clock ≡ counted c.clock
-one_less c r q left owed = λ i. record (counted c.clock) {
-  returned = (let e : suc c.clock.share.returned + left ≡ c.clock.share.returned + c.clock.owed = omega (arith, owed) in e) i;
+  -- its links, where the chain that it gives back stays as it is
+  pub as_before : (i v : ℕ) → 32 + T.sizes.pages ≤ i → i < base (layout T) → (m : MemoryRec) → m.measured ≡ c.memory.measured
+      → left_to_free (layout T) x.words m.give ≡ left_to_free (layout T) x.words c.memory.give
+      → Links T.code (layout T) (slice_set x.words i v) (slice_set x.recs g (remembers c m))
+  as_before i v high low m measured give =
+      let words = slice_set x.words i v in
+      let claims = claims_apart x i v (λ p l e. omega (arith, high, l, e)) in
+      links_freeing x words (lengths_low x i v low) (remembers c m) (λ j r e ne is closes. claims r)
+      ((x.core.links g c x.is_c).owed ∙ (sym give ∙ sym (left_same (layout T) x.words words m.give (λ r closes. claims r))))
+      measured (Waits refl refl)
+
+one_less : (c : Record) (r q n : ℕ) → c.clock.owed ≡ suc n → counted (frees c r q).clock ≡ counted c.clock
+one_less c r q n owed = λ i. record (counted c.clock) {
+  returned = (let e : suc c.clock.share.returned + (c.clock.owed - 1) ≡ c.clock.share.returned + c.clock.owed = omega (arith, owed) in e) i;
 }
 
 pub hang_move : HangMove
@@ -137,78 +154,91 @@ hang_move T g c p r got =
     access_law T g c (head_at (layout T) r) (λ n. suc p) (λ n. remembers c (with_claim c.memory (Hung p r n))) (omega arith) (λ n. refl)
     (λ x small.
     let k = (I x).places in
-    let low = got_low (layout T) x.words (map memory_of x.recs) (ground_of x.s) k (I x).memory g c.memory (is_memory x)
+    let low = got_low (layout T) x.words (map memory_of x.recs) (ground_of x.s) k (I x).memory g c.memory (memory_at x)
     (steady_of T.code x.s x.core.sound.good) p r got in
     remembered x _ _ (chain_image x (head_at (layout T) r) (suc p) (omega (arith, low)) _ _ k.uses (put k.at p (Chained r))
     (put k.chain r (p ∷ k.chain r)) (put k.link p (slice_index x.words (head_at (layout T) r))) (put k.top r (suc p))
-    (hang_keeps T.code (layout T) x.words (map memory_of x.recs) x.s k g c.memory x.core.sound.good (I x).memory (is_memory x) p r got)))
+    (hang_keeps T.code (layout T) x.words (map memory_of x.recs) x.s k g c.memory x.core.sound.good (I x).memory (memory_at x) p r got))
+    (as_before x (head_at (layout T) r) (suc p) (omega arith) (omega (arith, low)) _ refl refl))
 
 pub link_move : LinkMove
 link_move T g c p r old hung =
     access_law T g c (next_at (layout T) p) (λ n. old) (λ n. remembers c (with_claim c.memory Idle)) (omega arith) (λ n. refl)
     (λ x small.
     let k = (I x).places in
-    let low = hung_low (layout T) x.words (map memory_of x.recs) (ground_of x.s) k (I x).memory g c.memory (is_memory x) p r old hung in
+    let low = hung_low (layout T) x.words (map memory_of x.recs) (ground_of x.s) k (I x).memory g c.memory (memory_at x) p r old hung in
     remembered x _ _ (chain_image x (next_at (layout T) p) old (omega (arith, low)) _ _ k.uses k.at k.chain k.link k.top
-    (link_keeps T.code (layout T) x.words (map memory_of x.recs) x.s k g c.memory x.core.sound.good (I x).memory (is_memory x) p r old hung)))
+    (link_keeps T.code (layout T) x.words (map memory_of x.recs) x.s k g c.memory x.core.sound.good (I x).memory (memory_at x) p r old hung))
+    (as_before x (next_at (layout T) p) old (omega arith) (omega (arith, low)) _ refl refl))
 
 pub head_move : HeadMove
 head_move T g c r owes =
     told_law T g c (head_at (layout T) r) (λ n. n)
-    (λ n d. (d ≡ remembers c (with_give c.memory (Giving r n))) × (n ≤ T.sizes.pages)) (omega arith)
+    (λ n d. (d ≡ remembers c (with_give c.memory (Giving r n))) × (n ≤ T.sizes.pages)) (λ x. omega arith)
     (λ x small.
     let k = (I x).places in
     let n : ℕ = slice_index x.words (head_at (layout T) r) in
     let d : MemoryRec = with_give c.memory (Giving r n) in
-    let low = closing_low (layout T) x.words (map memory_of x.recs) (ground_of x.s) k (I x).memory g c.memory (is_memory x) r
+    let low = closing_low (layout T) x.words (map memory_of x.recs) (ground_of x.s) k (I x).memory g c.memory (memory_at x) r
     (subst (λ (y : Give). Closes y r) (sym owes) refl) in
     let M : Memory (layout T) x.words (slice_set (map memory_of x.recs) g d) x.s k =
-    head_keeps T.code (layout T) x.words (map memory_of x.recs) x.s k g c.memory x.core.sound.good (I x).memory (is_memory x) r owes in
+    head_keeps T.code (layout T) x.words (map memory_of x.recs) x.s k g c.memory x.core.sound.good (I x).memory (memory_at x) r owes in
     record {
       after = remembers c d;
       more = refl;
-      steps = remembered x _ _ (look_image x (head_at (layout T) r) (omega (arith, low)) _ _ M);
+      steps = remembered x _ _ (look_image x (head_at (layout T) r) (omega (arith, low)) _ _ M)
+          (as_before x (head_at (layout T) r) n (omega arith) (omega (arith, low)) d refl
+          (sym (ap (left_to_free (layout T) x.words) owes)));
       tells_so = (
         refl,
         giving_low (layout T) x.words (slice_set (map memory_of x.recs) g d) (ground_of x.s) k M g d
-            (set_here (map memory_of x.recs) g d c.memory (is_memory x)) r n refl,
+            (set_here (map memory_of x.recs) g d c.memory (memory_at x)) r n refl,
       );
     })
 
 pub next_move : NextMove
 next_move T g c r p gives =
     told_law T g c (next_at (layout T) p) (λ n. n)
-    (λ n d. (d ≡ remembers c (with_give c.memory (Past r (suc p) n))) × (n ≤ T.sizes.pages)) (omega arith)
+    (λ n d. (d ≡ remembers c (with_give c.memory (Past r (suc p) n))) × (n ≤ T.sizes.pages)) (λ x. omega arith)
     (λ x small.
     let k = (I x).places in
     let n : ℕ = slice_index x.words (next_at (layout T) p) in
     let d : MemoryRec = with_give c.memory (Past r (suc p) n) in
-    let low = giving_low (layout T) x.words (map memory_of x.recs) (ground_of x.s) k (I x).memory g c.memory (is_memory x) r (suc p) gives in
+    let low = giving_low (layout T) x.words (map memory_of x.recs) (ground_of x.s) k (I x).memory g c.memory (memory_at x) r (suc p) gives in
     let M : Memory (layout T) x.words (slice_set (map memory_of x.recs) g d) x.s k =
-    next_keeps T.code (layout T) x.words (map memory_of x.recs) x.s k g c.memory x.core.sound.good (I x).memory (is_memory x) r p gives in
+    next_keeps T.code (layout T) x.words (map memory_of x.recs) x.s k g c.memory x.core.sound.good (I x).memory (memory_at x) r p gives in
     record {
       after = remembers c d;
       more = refl;
-      steps = remembered x _ _ (look_image x (next_at (layout T) p) (omega (arith, low)) _ _ M);
+      steps = remembered x _ _ (look_image x (next_at (layout T) p) (omega (arith, low)) _ _ M)
+          (as_before x (next_at (layout T) p) n (omega arith) (omega (arith, low)) d refl
+          (sym (ap (left_to_free (layout T) x.words) gives)));
       tells_so = (
         refl,
         (past_low (layout T) x.words (slice_set (map memory_of x.recs) g d) (ground_of x.s) k M g d
-            (set_here (map memory_of x.recs) g d c.memory (is_memory x)) r p n refl).1,
+            (set_here (map memory_of x.recs) g d c.memory (memory_at x)) r p n refl).1,
       );
     })
 
 pub free_move : FreeMove
-free_move T g c r p q left past owed =
-    access_law T g c (state_at (layout T) p) (λ n. 0) (λ n. frees c r q left) (omega arith) (λ n. refl)
+free_move T g c r p q past =
+    access_law T g c (state_at (layout T) p) (λ n. 0) (λ n. frees c r q) (omega arith) (λ n. refl)
     (λ x small.
     let k = (I x).places in
-    let low = (past_low (layout T) x.words (map memory_of x.recs) (ground_of x.s) k (I x).memory g c.memory (is_memory x) r p q past).0 in
+    let low = (past_low (layout T) x.words (map memory_of x.recs) (ground_of x.s) k (I x).memory g c.memory (memory_at x) r p q past).0 in
+    let freed = still_claimed.free T.code (layout T) x.words (map memory_of x.recs) x.s k x.core.sound.good (I x).memory g r p q c.memory (memory_at x) past in
+    let owed : c.clock.owed ≡ suc (claimed_for (layout T) (slice_set x.words (state_at (layout T) p) 0) r) =
+    (x.core.links g c x.is_c).owed ∙ (ap (left_to_free (layout T) x.words) past ∙ sym freed.0) in
     inr (record {
-      counted = one_less c r q left owed;
+      counted = one_less c r q (claimed_for (layout T) (slice_set x.words (state_at (layout T) p) 0) r) owed;
       same = record { prints = refl; first = refl; children = refl; refused = refl };
       image = chain_image x (state_at (layout T) p) 0 (omega (arith, low)) _ _ k.uses (put k.at p Free) (put k.chain r (drop 1 (k.chain r)))
           k.link (put k.top r q)
-          (free_keeps T.code (layout T) x.words (map memory_of x.recs) x.s k g c.memory x.core.sound.good (I x).memory (is_memory x) r p q past);
+          (free_keeps T.code (layout T) x.words (map memory_of x.recs) x.s k g c.memory x.core.sound.good (I x).memory (memory_at x) r p q past);
+      links = links_freeing x (slice_set x.words (state_at (layout T) p) 0) (lengths_low x (state_at (layout T) p) 0 (omega (arith, low))) (frees c r q)
+          (λ j t e ne is closes. freed.1 t (λ same. ne (one_closes (layout T) x.words (map memory_of x.recs) (ground_of x.s) k (I x).memory r g j c.memory e.memory (memory_at x)
+          (subst (λ (y : Give). Closes y r) (sym past) refl) (map_get memory_of x.recs j e is) (subst (Closes e.memory.give) same closes))))
+          (omega (arith, owed)) refl (Waits refl refl);
     }))
 
 pub clear_move : ClearMove
@@ -216,17 +246,22 @@ clear_move T g c r gives =
     access_law T g c (head_at (layout T) r) (λ n. 0) (λ n. remembers c (with_give c.memory (Gave r))) (omega arith) (λ n. refl)
     (λ x small.
     let k = (I x).places in
-    let low = closing_low (layout T) x.words (map memory_of x.recs) (ground_of x.s) k (I x).memory g c.memory (is_memory x) r
+    let low = closing_low (layout T) x.words (map memory_of x.recs) (ground_of x.s) k (I x).memory g c.memory (memory_at x) r
     (subst (λ (y : Give). Closes y r) (sym gives) refl) in
     remembered x _ _ (chain_image x (head_at (layout T) r) 0 (omega (arith, low)) _ _ k.uses k.at k.chain k.link k.top
-    (clear_keeps T.code (layout T) x.words (map memory_of x.recs) x.s k g c.memory x.core.sound.good (I x).memory (is_memory x) r gives)))
+    (clear_keeps T.code (layout T) x.words (map memory_of x.recs) x.s k g c.memory x.core.sound.good (I x).memory (memory_at x) r gives))
+    (as_before x (head_at (layout T) r) 0 (omega arith) (omega (arith, low)) _ refl
+    (sym (ap (left_to_free (layout T) x.words) gives))))
 
 pub slot_move : SlotMove
 slot_move T g c r gave =
     access_law T g c (count_at (layout T) r) (λ n. 0) (λ n. remembers c (with_give c.memory Calm)) (omega arith) (λ n. refl)
     (λ x small.
     let k = (I x).places in
-    let low = closing_low (layout T) x.words (map memory_of x.recs) (ground_of x.s) k (I x).memory g c.memory (is_memory x) r
+    let low = closing_low (layout T) x.words (map memory_of x.recs) (ground_of x.s) k (I x).memory g c.memory (memory_at x) r
     (subst (λ (y : Give). Closes y r) (sym gave) refl) in
     remembered x _ _ (chain_image x (count_at (layout T) r) 0 (omega (arith, low)) _ _ (put k.uses r Vacant) k.at k.chain k.link k.top
-    (slot_keeps T.code (layout T) x.words (map memory_of x.recs) x.s k g c.memory x.core.sound.good (I x).memory (is_memory x) r gave)))
+    (slot_keeps T.code (layout T) x.words (map memory_of x.recs) x.s k g c.memory x.core.sound.good (I x).memory (memory_at x) r gave))
+    (as_before x (count_at (layout T) r) 0 (omega arith) (omega (arith, low)) _ refl
+    (sym (ap (left_to_free (layout T) x.words) gave
+    ∙ still_claimed.none T.code (layout T) x.words (map memory_of x.recs) x.s k x.core.sound.good (I x).memory g r c.memory (memory_at x) gave))))

@@ -1,12 +1,11 @@
 -- Records that are at a channel, and such as are not.
-use Rattle.std.proofs.Common.{◌≡◌, ℕ, suc, ◌+◌, List, [], ◌∷◌, Option, None, refl, ap, ◌∙◌, inl, inr, arith}
-use Rattle.rgo_core_channels.specs.Records.{Offering}
+use Rattle.std.proofs.Common.{◌≡◌, ℕ, suc, ◌+◌, List, [], ◌∷◌, None, refl, ap, ◌∙◌, inl, inr, arith}
 use Rattle.rgo_core_frames.specs.Opening.{no_record}
 use Rattle.rgo_core_memory.specs.Words.{base}
 use Rattle.rgo_machine.specs.declared.limits.Limits.{Limits}
 use Rattle.rgo_machine.specs.declared.limits.Sizes.{Sizes}
 use Rattle.rgo_region_machine.specs.Examples.{int_slot, main_of, plain}
-use Rattle.rgo_code.specs.Code.{CodeInstr, CodeOp, Do}
+use Rattle.rgo_code.specs.Code.{CodeInstr, Do}
 use Rattle.rgo_region_machine.specs.Owed.{current}
 use Rattle.std.proofs.lemmas.Option.{same_Some}
 use Rattle.rgo_typed.specs.declared.actions.Action.TheVariants.{Send}

@@ -1,11 +1,11 @@
 -- Loads of a channel's control, capacity and cells, the lock, and the store of a cell: the region machine makes no step.
-use Rattle.std.proofs.Common.{◌≡◌, ℕ, zero, suc, ◌+◌, ◌%◌, ◌^◌, ◌<◌, ◌≤◌, ◌==◌, if◌then◌else◌, List, length, map, None, Some, slice_get, slice_set, slice_index, refl, ap, sym, subst, ◌∙◌, arith, inl, inr}
+use Rattle.std.proofs.Common.{◌≡◌, ℕ, suc, ◌+◌, ◌^◌, ◌<◌, ◌≤◌, ◌==◌, if◌then◌else◌, List, length, map, None, slice_set, slice_index, refl, ap, sym, subst, arith, inr}
 use Rattle.rgo_region_machine.specs.Objects.{words as words_in}
 use Rattle.rgo_core_channels.specs.Channels.{Chan, Channels, On, Places, channel}
 use Rattle.rgo_core_channels.specs.Controls.{extent, head_of}
 use Rattle.rgo_core_channels.specs.Moments.{Looks}
-use Rattle.rgo_core_channels.specs.Records.{Locked, Rec as SideRec, Sized, with_hold, with_lock, with_look, with_own_look, with_size}
-use Rattle.rgo_core_channels.specs.Records.{Offering, Read, Wrote}
+use Rattle.rgo_core_channels.specs.Records.{Rec as SideRec, Sized, with_hold, with_lock, with_look, with_own_look, with_size}
+use Rattle.rgo_core_channels.specs.Records.{Read, Wrote}
 use Rattle.rgo_core_channels.proofs.Lists.{set_own}
 use Rattle.rgo_core_channels.proofs.Locks.{capacity_is, cell_load_is, cell_store_is, control_is, lock_is_taken, own_control_is}
 use Rattle.rgo_core_memory.specs.Encoding.{content}
@@ -14,17 +14,19 @@ use Rattle.rgo_core_memory.specs.Image.{Memory, code_of, word_at}
 use Rattle.rgo_core_memory.specs.Words.{all_words, base}
 use Rattle.rgo_core_memory.proofs.Channels.{untold}
 use Rattle.rgo_core_memory.proofs.Facts.{follow}
-use Rattle.rgo_core.specs.AtChannels.{IsAtChannel, knows}
+use Rattle.rgo_core.specs.AtChannels.{knows}
 use Rattle.rgo_core.specs.ChannelMoves.{CapacityMove, CellLoadMove, CellStoreMove, ControlMove, LockMove, OwnControlMove}
 use Rattle.rgo_core.specs.Core.{Here, Setup, layout}
 use Rattle.rgo_core.specs.Image.{place_of}
 use Rattle.rgo_core.specs.Records.{Record, memory_of, side_of}
-use Rattle.rgo_core.specs.Steps.{Moves, Stays, Steps}
+use Rattle.rgo_core.specs.Steps.{Stays}
 use Rattle.rgo_core.proofs.AtChannels.{Reaches, at_channel, reaches}
 use Rattle.rgo_core.proofs.Leaving.{channel_stands}
 use Rattle.rgo_core.proofs.Parts.{frame_stays, image_with, memory_stays}
 use Rattle.rgo_core.proofs.Standing.{moment, side_at}
-use Rattle.rgo_core.proofs.Lifting.{moves_by}
+use Rattle.rgo_core_memory.specs.Owed.{claimed_for}
+use Rattle.rgo_core.proofs.Links.{ClaimsStay, Waits, all_kept, claims_high, lengths_shown, links_with}
+use Rattle.rgo_core.proofs.Lift.{moves_by}
 
 module _ {T : Setup} {g : ℕ} {c : Record} (x : Here T g c) where
   -- only what the record knows of channels changes, and a word of which memory says nothing
@@ -32,13 +34,14 @@ module _ {T : Setup} {g : ℕ} {c : Record} (x : Here T g c) where
       → Memory (layout T) words (map memory_of x.recs) x.s x.core.image.places
       → Channels T.code (code_of (layout T) x.core.image.places) (place_of (layout T) x.core.image.places) words
       (slice_set (map side_of x.recs) g side) x.s at
-      → Stays x words (knows c side)
-  side_stays words side at m k = record {
+      → ClaimsStay x words → Stays x words (knows c side)
+  side_stays words side at m k claims = record {
     counted = refl;
     same = record { prints = refl; first = refl; children = refl; refused = refl };
     image = image_with x words (knows c side) x.s x.core.image.places at x.core.image.addresses x.core.image.addressed
         (frame_stays x x.s x.core.image.places.slot x.core.image.addresses x.core.image.frames)
         (memory_stays x words x.s x.core.image.places m) k;
+    links = links_with x words (lengths_shown x words (map memory_of x.recs) m) claims (knows c side) (all_kept refl refl refl) (Waits refl refl);
   }
 
   -- a word is loaded
@@ -50,6 +53,7 @@ module _ {T : Setup} {g : ℕ} {c : Record} (x : Here T g c) where
       side_stays (slice_set x.words i (slice_index x.words i)) side x.core.image.at
       (subst (λ (w : List ℕ). Memory (layout T) w (map memory_of x.recs) x.s x.core.image.places)
       (sym (set_own x.words i)) x.core.image.memory) k
+      (λ r. ap (λ (w : List ℕ). claimed_for (layout T) w r) (set_own x.words i))
 
   -- word i of a channel, which is not its capacity, becomes v
   module _ (o : ℕ) (k : Chan) (on : On x.s o k) where
@@ -71,7 +75,11 @@ module _ {T : Setup} {g : ℕ} {c : Record} (x : Here T g c) where
         (channel_stands x.s o k on).0 (channel_stands x.s o k on).1 (omega arith) in
         let a = e.0 in let b = f.0 in (omega (arith, a, b), e.1)
 
-  -- the control of a channel lies behind the first words
+  -- the control of a channel is a cell
+  pub above : {control : ℕ} → Reaches x control → base (layout T) ≤ control
+  above r = let e = r.place_is in omega (arith, e)
+
+  -- and lies behind the first words
   pub high : {control : ℕ} → Reaches x control → 32 ≤ control
   high r = let e = r.place_is in omega (arith, e)
 
@@ -122,7 +130,7 @@ lock_move T g c a n r even free =
         (slice_set x.words i (if slice_index x.words a == n then suc n else slice_index x.words a))
         (map memory_of x.recs) x.s x.core.image.places) q.place_is
         (written x q.object q.chan q.on 0 (if slice_index x.words a == n then suc n else slice_index x.words a) (omega arith) refl))
-        k.1
+        k.1 (claims_high x a (if slice_index x.words a == n then suc n else slice_index x.words a) (above x q))
 
 -- ---- cells
 
@@ -132,6 +140,9 @@ module _ {T : Setup} {g : ℕ} {c : Record} (x : Here T g c) (a n i size : ℕ) 
 
   pub cell_high : 32 ≤ a + 2 + i
   cell_high = let e = its.3 in omega (arith, e)
+
+  pub cell_above : base (layout T) ≤ a + 2 + i
+  cell_above = let e = its.3 in omega (arith, e)
 
   in_object : i < extent size → 2 + i < words_in (channel its.1)
   in_object within = rw its.4 (omega (arith, within))
@@ -167,4 +178,4 @@ cell_store_move T g c a n i size v hold sized spare =
     by x =
         let k = cell_store_is (moment x) g c.side (side_at x) a n i size v hold sized spare in
         side_stays x (slice_set x.words (a + 2 + i) v) (with_hold c.side (Wrote a n i v)) k.0
-        (cell_written x a n i size sized v spare.0) k.1
+        (cell_written x a n i size sized v spare.0) k.1 (claims_high x (a + 2 + i) v (cell_above x a n i size sized))

@@ -46,10 +46,18 @@ use Rattle.rgo_core.proofs.Chains.{look_image, remembered}
 use Rattle.rgo_core.proofs.Lift.{access_law}
 use Rattle.rgo_core.proofs.MakesObject.{Made, at, b, made as it_makes}
 use Rattle.rgo_core.proofs.NewObjects.{slot_is}
-use Rattle.rgo_core.proofs.Parts.{I, frame_stays, is_memory, shallow}
-
-plus_zero : (a b : ℕ) → a ≡ b → a ≡ b + 0
-plus_zero a b e = omega (arith, e)
+use Rattle.rgo_core.proofs.Parts.{I, frame_stays, shallow}
+use Rattle.rgo_core_channels.proofs.Lists.{set_own}
+use Rattle.rgo_core_memory.specs.Image.{word_at}
+use Rattle.rgo_core_memory.specs.Owed.{claimed_for}
+use Rattle.rgo_core_memory.specs.Records.{Closes}
+use Rattle.rgo_core_memory.proofs.Owing.{still_claimed}
+use Rattle.rgo_core_memory.proofs.Slots.{stake_open}
+use Rattle.rgo_core_memory.proofs.Steadies.{steady_of}
+use Rattle.rgo_core.specs.Links.{Links}
+use Rattle.rgo_core.proofs.Links.{Waits, all_kept, lengths_low, links_closing, links_with}
+use Rattle.rgo_core.proofs.Standing.{memory_at}
+use Rattle.rgo_core.proofs.Counting.{plus_zero}
 
 and_last : (a b : Bool) → (a && b) ≡ true → b ≡ true
 and_last true b e = e
@@ -102,7 +110,11 @@ module _ {T : Setup} {g : ℕ} {c : Record} (x : Here T g c) (to : Option ℕ) (
   tried_steps : slice_index x.words (state_at z p) ≢ 0
       → Steps x (slice_set x.words (state_at z p) (slice_index x.words (state_at z p))) (remembers c (with_tried_page c.memory p))
   tried_steps ne = remembered x _ _ (look_image x (state_at z p) (omega (arith, low)) _ _
-      (tried_page_keeps T.code z x.words recs x.s (I x).places g c.memory x.core.sound.good (I x).memory (is_memory x) p low ne))
+      (tried_page_keeps T.code z x.words recs x.s (I x).places g c.memory x.core.sound.good (I x).memory (memory_at x) p low ne))
+      (links_with x (slice_set x.words (state_at z p) (slice_index x.words (state_at z p)))
+      (λ o cells r stands. ap (λ (w : List ℕ). slice_index w (word_at z (I x).places o 0)) (set_own x.words (state_at z p)))
+      (λ r. ap (λ (w : List ℕ). claimed_for z w r) (set_own x.words (state_at z p)))
+      (remembers c (with_tried_page c.memory p)) (all_kept refl refl refl) (Waits refl refl))
 
   abbrev B : IsBefore T.code (I x).places.slot (I x).addresses x.s g c.frame a.w a.ws a.instr
   B = b x to act from removes a object
@@ -131,7 +143,7 @@ module _ {T : Setup} {g : ℕ} {c : Record} (x : Here T g c) (to : Option ℕ) (
       (it.next r region.makes) small
       (λ m e. let o = (I x).memory.filled.owned g m (held_of h) r (map_get held_of x.s.holders g h B.there)
       (makes_used T.code x.s g h r x.core.sound.good B.there makes_in) e in
-      let same : o.1.0 ≡ c.memory = same_Some o.1.0 c.memory (sym o.1.1 ∙ is_memory x) in
+      let same : o.1.0 ≡ c.memory = same_Some o.1.0 c.memory (sym o.1.1 ∙ memory_at x) in
       let f = full o.0 (subst (λ (y : MemoryRec). Within o.0 y.fills) same o.1.2) (o.2 ∙ in_slot) in
       let q = o.3 in omega (arith, f, q))
 
@@ -166,14 +178,26 @@ module _ {T : Setup} {g : ℕ} {c : Record} (x : Here T g c) (to : Option ℕ) (
   module _ (none : slice_index x.words (state_at z p) ≡ 0) where
     M : Memory z (slice_set x.words (state_at z p) (suc sl)) (slice_set recs g (with_page c.memory p sl)) t P'
     M = subst (λ k. Memory z (slice_set x.words (state_at z p) (suc k)) (slice_set recs g (with_page c.memory p k)) t P') in_slot
-        (page_keeps T.code z x.words recs x.s t g p h r c.memory x.core.sound.good (I x).places (I x).memory B.there (is_memory x) makes_in P.steps
+        (page_keeps T.code z x.words recs x.s t g p h r c.memory x.core.sound.good (I x).places (I x).memory B.there (memory_at x) makes_in P.steps
         idle resting low none)
+
+    -- a chain that is given back is of another slot
+    other_slot : (j t : ℕ) (e : Record) → slice_get x.recs j ≡ Some e → Closes e.memory.give t → t ≢ sl
+    other_slot j t e is closes same =
+        stake_open z x.words recs (ground_of x.s) (I x).places (I x).memory (steady_of T.code x.s x.core.sound.good) g j sl e.memory
+        (held_of h, r, map_get held_of x.s.holders g h B.there, makes_used T.code x.s g h r x.core.sound.good B.there makes_in, in_slot)
+        (map_get memory_of x.recs j e is) (subst (Closes e.memory.give) same closes)
+
+    links : Links T.code z (slice_set x.words (state_at z p) (suc sl)) (slice_set x.recs g (claims c p sl))
+    links = links_closing x (slice_set x.words (state_at z p) (suc sl)) (lengths_low x (state_at z p) (suc sl) (omega (arith, low)))
+        (λ j t e is closes. still_claimed.claim z x.words recs x.s (I x).places (I x).memory p sl t low none (other_slot j t e is closes))
+        (claims c p sl) (all_kept refl refl refl) (Waits refl refl)
 
     claimed_steps : Steps x (slice_set x.words (state_at z p) (suc sl)) (claims c p sl)
     claimed_steps = inl (attends x rests (TakePage g) refl t P.steps (stays_so x.s g h r) (claims c p sl).clock c.frame (with_page c.memory p sl)
         (I x).places.slot (I x).places.uses (put (I x).places.at p (Claimed g)) (put (I x).places.page (taken_of (ground_of x.s)) p)
         (state_at z p) (suc sl) (omega (arith, low)) (λ o q e l. sym (live_so x.s g h r q) ∙ l)
-        (frame_stays x t (I x).places.slot (I x).addresses P.fit) M
+        (frame_stays x t (I x).places.slot (I x).addresses P.fit) M links
         (record no_share { taken = 1 }) (tally_adds T.code T.sizes.page_words x.s t (TakePage g) P.steps) counts (shallow x) (mark_so x.s g h r)
         (record { prints = refl; first = refl; children = refl; refused = refl }))
 

@@ -22,6 +22,7 @@ use Rattle.rgo_core.proofs.Lists.{get_of, set_own}
 use Rattle.rgo_core.proofs.Numbers.{drawn_low}
 use Rattle.rgo_core.proofs.Standing.{image_made, image_same, wide}
 use Rattle.rgo_core.proofs.Stories.{story_ends, story_prints, story_refused, story_starts}
+use Rattle.rgo_core.proofs.Links.{Waits, all_kept, links_low, links_same}
 
 pub ticket_law : TicketLaw
 ticket_law T g c bytes after short is finds words recs run core at fits =
@@ -49,6 +50,7 @@ ticket_law T g c bytes after short is finds words recs run core at fits =
               (ap (λ (y : ClockRec). y.prints) (is n)) (ap (λ (y : ClockRec). y.first) (is n)) (ap (λ (y : ClockRec). y.children) (is n))
               (ap (λ (y : ClockRec). y.refused) (is n)) p.mark p.printed);
           image = p.goes.image;
+          links = p.goes.links;
         },
       );
       counts = ap (λ (y : ClockRec). y.accesses) (is n);
@@ -79,6 +81,7 @@ end_law T g c mark after is finds words recs run core at fits =
               (within_set x (slice_set words 0 (bit_or n 9223372036854775808)) d p.goes.next sound p.goes.image p.goes.shallow) p.goes.gain p.goes.adds p.goes.counted
               mark x.core.capped (omega arith) (is n) p.marked p.printed p.cause);
           image = p.goes.image;
+          links = p.goes.links;
         },
       );
       counts = (is n).accesses;
@@ -100,6 +103,7 @@ look_law T g c words recs run core at fits =
               counted = refl;
               same = record { prints = refl; first = refl; children = refl; refused = refl };
               image = image_same T.code (layout T) words recs x.s x.core.image g c d x.is_c refl refl refl;
+              links = links_same x d (all_kept refl refl refl) (Waits refl refl);
             }))),
       );
       counts = refl;
@@ -139,6 +143,7 @@ module _ {T : Setup} {g : ℕ} {c : Record} (x : Here T g c) where
             refl refl refl refl refl);
         image = image_made T.code (layout T) x.words (slice_set x.recs g d) x.s (suc n)
             (image_same T.code (layout T) x.words x.recs x.s x.core.image g c d x.is_c refl refl refl);
+        links = links_low x 16 (suc n) (omega arith) d (all_kept refl refl refl) (Waits refl refl);
       }
 
   -- below it
@@ -187,6 +192,7 @@ module _ {T : Setup} {g : ℕ} {c : Record} (x : Here T g c) where
             capped = x.core.capped;
             story = subst (λ (l : List ClockRec). Story T.code T.sizes T.limits (slice_set x.words 16 (suc n)) l (x.events ++ p.goes.event ∷ []) p.goes.next) (sym clocks_are) q.1;
             image = p.goes.image;
+            links = p.goes.links;
           },
         )
 

@@ -1,5 +1,5 @@
 -- The store that commits an operation of one goroutine on a channel: a send, a receive, the zero of a closed channel, a close.
-use Rattle.std.proofs.Common.{◌≡◌, ◌⊎◌, ℕ, zero, suc, ◌+◌, ◌-◌, ◌%◌, ◌<◌, ◌≤◌, true, false, List, [], ◌∷◌, ◌++◌, Option, Some, None, length, map, max, option_map, slice_get, slice_set, slice_index, refl, ap, sym, subst, ◌∙◌, inl, inr, arith, append-nil, pos, Contains}
+use Rattle.std.proofs.Common.{◌≡◌, ◌⊎◌, ℕ, zero, suc, ◌+◌, ◌-◌, ◌%◌, ◌<◌, ◌≤◌, false, List, [], ◌∷◌, ◌++◌, Option, Some, length, map, max, option_map, slice_set, refl, ap, sym, subst, ◌∙◌, inl, arith, append-nil, pos, Contains}
 use Rattle.std.proofs.lemmas.Option.{same_Some, slice_get_past, slice_get_within}
 use Rattle.rgo_typed.specs.declared.actions.Action.{Action}
 use Rattle.rgo_typed.specs.declared.actions.Action.TheVariants.{Close, Recv, Send}
@@ -13,28 +13,27 @@ use Rattle.rgo_machine.specs.declared.picks.Pick.TheVariants.{One}
 use Rattle.rgo_tac.specs.Flow.{reads}
 use Rattle.rgo_tac.specs.Frames.{value_at, values_of}
 use Rattle.rgo_tac.specs.Steps.{type_of}
-use Rattle.rgo_code.specs.Code.{CodeOp, Do}
+use Rattle.rgo_code.specs.Code.{CodeOp}
 use Rattle.rgo_code.specs.Erasure.{erased, erased_op}
-use Rattle.rgo_region_machine.specs.Machine.{Event, Instruct}
-use Rattle.rgo_region_machine.specs.Objects.{allotted, making_region, words as words_in}
+use Rattle.rgo_region_machine.specs.Machine.{Instruct}
+use Rattle.rgo_region_machine.specs.Objects.{allotted, making_region}
 use Rattle.rgo_region_machine.specs.Owed.{function_at}
 use Rattle.rgo_region_machine.specs.States.{RegionState, top_names}
 use Rattle.rgo_region_machine.specs.declared.regions.Region.{Region}
 use Rattle.rgo_sound.proofs.Acting.{performed, silent}
 use Rattle.rgo_sound.proofs.Places.{contains_here, contains_there, each_get, get_set_same, length_set}
-use Rattle.rgo_sound.specs.Types.{Each, HasKind, MemoryFits, ObjectFits}
+use Rattle.rgo_sound.specs.Types.{Each, HasKind}
 use Rattle.rgo_sound.specs.Tally.{no_share}
 use Rattle.rgo_core_channels.specs.After.{after, closed_now, popped, pushed}
 use Rattle.rgo_core_channels.specs.Channels.{Chan, On, channel}
 use Rattle.rgo_core_channels.specs.Controls.{closed_of, control, count_of, head_of}
 use Rattle.rgo_core_channels.specs.Moments.{Gains}
 use Rattle.rgo_core_channels.specs.Records.{Locked, Read, Sized, Wrote, at_rest}
-use Rattle.rgo_core_channels.specs.Standing.{Next, blank_of, passed_holder}
+use Rattle.rgo_core_channels.specs.Standing.{blank_of, passed_holder}
 use Rattle.rgo_core_channels.proofs.Buffers.{close_is, receive_is, send_is, zero_is}
 use Rattle.rgo_core_frames.specs.Actions.{acted as frames_acted}
 use Rattle.rgo_core_frames.specs.Fits.{AllFit, ObjectsDiffer}
 use Rattle.rgo_core_frames.specs.Ints.{IntFits, ObjectIntsFit}
-use Rattle.rgo_core_frames.specs.States.{AtInstruction}
 use Rattle.rgo_core_frames.specs.Steps.{Performs}
 use Rattle.rgo_core_frames.specs.WordFrames.{word_at as word_of}
 use Rattle.rgo_core_frames.specs.Words.{Shows}
@@ -50,16 +49,17 @@ use Rattle.rgo_core.specs.AtChannels.{Operates, commits}
 use Rattle.rgo_core.specs.CommitMoves.{CloseMove, ReceiveMove, SendMove, ZeroMove}
 use Rattle.rgo_core.specs.Core.{Here, Setup, layout}
 use Rattle.rgo_core.specs.Image.{place_of}
-use Rattle.rgo_core.specs.Records.{Record, frame_of, memory_of}
+use Rattle.rgo_core.specs.Records.{Record, frame_of, memory_of, steps_of}
 use Rattle.rgo_core.specs.Steps.{Does}
 use Rattle.rgo_core.proofs.AtChannels.{calm, here, next, object, place_is, points_to, reached}
-use Rattle.rgo_core.proofs.ChannelMoves.{high}
+use Rattle.rgo_core.proofs.ChannelMoves.{above, high, written}
 use Rattle.rgo_core.proofs.Encodings.{shows_it, word_is}
 use Rattle.rgo_core.proofs.Leaving.{channel_stands}
 use Rattle.rgo_core.proofs.Parts.{adds_of, image_with, memory_stays, shallow}
-use Rattle.rgo_core.proofs.Performing.{ticked_counts}
 use Rattle.rgo_core.proofs.Standing.{moment, side_at}
-use Rattle.rgo_core.proofs.Lifting.{moves_by}
+use Rattle.rgo_core.proofs.Links.{CountsOne, all_kept, links_beside, one_later}
+use Rattle.rgo_core.proofs.Counting.{instructed_counts}
+use Rattle.rgo_core.proofs.Lift.{moves_by}
 
 -- of a channel with this capacity memory says the same
 told_same : (k z : Chan) → z.capacity ≡ k.capacity → (j : ℕ) → content (channel z) j ≡ content (channel k) j
@@ -158,7 +158,7 @@ module _ {T : Setup} {g : ℕ} {c : Record} (x : Here T g c) {to : Option ℕ} {
         steps = gains.steps;
         gain = record no_share { steps = 1; objects = 0 };
         adds = adds_of x.s t 1 0 refl refl refl (let l = long in omega (arith, l)) (length_set x.s.plain.goroutines g _);
-        counted = ticked_counts c.clock;
+        counted = instructed_counts c.clock;
         shallow = as_shallow word;
         image = image_with x (slice_set x.words at w) (commits a word) t x.core.image.places gains.at x.core.image.addresses
             x.core.image.addressed
@@ -168,6 +168,10 @@ module _ {T : Setup} {g : ℕ} {c : Record} (x : Here T g c) {to : Option ℕ} {
             (subst (λ (i : ℕ). Memory (layout T) (slice_set x.words i w) (map memory_of x.recs) t x.core.image.places)
             (place_is x a) memory_then))
             (subst (λ (i : ℕ). Gains (moment x) g i w at_rest (Instruct (One g)) t) (place_is x a) gains).channels;
+        links = links_beside x at w (map memory_of x.recs)
+            (subst (λ (i : ℕ). Memory (layout T) (slice_set x.words i w) (map memory_of x.recs) x.s x.core.image.places)
+            (place_is x a) (written x (object x a) k on 0 w (omega arith) refl))
+            (above x (reached x a)) (commits a word) (all_kept refl refl refl) (CountsOne (one_later (steps_of c)));
       };
       mark = refl;
       printed = refl;

@@ -1,9 +1,9 @@
 -- What all records have counted, after one has counted more.
-use Rattle.std.proofs.Common.{◌≡◌, ℕ, zero, suc, ◌+◌, List, [], ◌∷◌, ◌++◌, Some, slice_get, slice_set, ap, sym, ◌∙◌, arith}
+use Rattle.std.proofs.Common.{◌≡◌, ℕ, zero, suc, ◌+◌, List, [], ◌∷◌, ◌++◌, Some, slice_get, slice_set, refl, ap, sym, ◌∙◌, arith}
 use Rattle.std.proofs.lemmas.Option.{same_Some}
 use Rattle.rgo_region_machine.specs.Counts.{Counts}
 use Rattle.rgo_sound.specs.Tally.{counts_plus, no_share}
-use Rattle.rgo_core.specs.Records.{ClockRec, all_counted, counted}
+use Rattle.rgo_core.specs.Records.{ClockRec, all_counted, counted, instructed}
 
 swap : (a x y : ℕ) → a + y + x ≡ a + x + y
 swap a x y = omega arith
@@ -36,6 +36,9 @@ plus_assoc a b c = λ i. record {
 zero_more : (n : ℕ) → n + 0 ≡ n
 zero_more n = omega arith
 
+pub plus_zero : (a b : ℕ) → a ≡ b → a ≡ b + 0
+plus_zero a b e = omega (arith, e)
+
 pub plus_none : (c : Counts) → counts_plus c no_share ≡ c
 plus_none c = λ i. record {
   made = zero_more c.made i;
@@ -63,3 +66,15 @@ counted_same recs g c d e same = counted_more recs g c d no_share e (same ∙ sy
 pub counted_child : (recs : List ClockRec) (child : ClockRec) → counted child ≡ no_share → all_counted (recs ++ child ∷ []) ≡ all_counted recs
 counted_child [] child z = ap (λ (y : Counts). counts_plus y no_share) z
 counted_child (r ∷ recs) child z = ap (counts_plus (counted r)) (counted_child recs child z)
+
+-- an instruction is one step more, by an access or without
+pub instructed_counts : (c : ClockRec) → counted (instructed c) ≡ counts_plus (counted c) (record no_share { steps = 1 })
+instructed_counts c = λ i. record {
+  made = plus_zero c.share.made c.share.made refl i;
+  removed = plus_zero c.share.removed c.share.removed refl i;
+  taken = plus_zero c.share.taken c.share.taken refl i;
+  returned = plus_zero (c.share.returned + c.owed) (c.share.returned + c.owed) refl i;
+  steps = (let e : suc c.share.steps ≡ c.share.steps + 1 = omega arith in e) i;
+  objects = plus_zero c.share.objects c.share.objects refl i;
+  goroutines = plus_zero c.share.goroutines c.share.goroutines refl i;
+}

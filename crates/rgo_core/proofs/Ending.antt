@@ -35,6 +35,7 @@ use Rattle.rgo_core.proofs.Counting.{plus_none}
 use Rattle.rgo_core.proofs.Lift.{as_long, clock_at, many, many_set, shallow_here}
 use Rattle.rgo_core.proofs.Printing.{counts_step}
 use Rattle.rgo_core.proofs.Standing.{at_instruction, frame_at, frames_here, image_clock, image_same}
+use Rattle.rgo_core.proofs.Links.{Waits, all_kept, links_low}
 
 kept_is : (m : Option Mark) (why : Limit) → kept m why ≡ first_mark m (Stopped why)
 kept_is None why = refl
@@ -71,6 +72,7 @@ module _ {T : Setup} {g : ℕ} {c : Record} (x : Here T g c) (why : Limit) (stop
           counted = sym (plus_none (counted c.clock));
           shallow = shallow_here x g c.frame (frame_at x);
           image = image_clock T.code (layout T) x.words (slice_set x.recs g d) p.state (bit_or (slice_index x.words 0) 9223372036854775808) image;
+          links = links_low x 0 (bit_or (slice_index x.words 0) 9223372036854775808) (omega arith) d (all_kept refl refl refl) (Waits refl refl);
         };
         marked = p.mark_is ∙ kept_is x.s.mark why;
         printed = p.same.printed;

@@ -19,7 +19,10 @@ mod Disjoint
 mod Encodings
 mod Leaving
 mod Parts
-mod Telling
+mod Slices
+mod Links
+mod Elements
+mod LinkExamples
 mod Contents
 mod MakesObject
 mod NewObjects
@@ -33,7 +36,6 @@ mod Attending
 mod Stakes
 mod Regions
 mod Traces
-mod Lifting
 mod AtChannels
 mod ChannelMoves
 mod Commits

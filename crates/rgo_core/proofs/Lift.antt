@@ -1,5 +1,5 @@
 -- From a step at a state to a step of the rule.
-use Rattle.std.proofs.Common.{◌≡◌, ◌≢◌, ⊎_elim, ℕ, zero, suc, ◌≤◌, nat_le, ◌&&◌, Bool, true, false, List, [], ◌∷◌, ◌++◌, Some, length, map, slice_get, slice_set, slice_index, refl, ap, sym, subst, ◌∙◌, arith}
+use Rattle.std.proofs.Common.{◌≡◌, ◌≢◌, ⊎_elim, ℕ, zero, suc, ◌<◌, ◌≤◌, nat_le, ◌&&◌, Bool, true, false, List, [], ◌∷◌, ◌++◌, Some, length, map, slice_get, slice_set, slice_index, refl, ap, sym, subst, ◌∙◌, arith}
 use Rattle.std.proofs.lemmas.Bool.Decides.{nat_tests}
 use Rattle.std.proofs.lemmas.List.{append-nil, length-map}
 use Rattle.std.proofs.lemmas.Option.{same_Some, slice_get_within}
@@ -22,8 +22,8 @@ use Rattle.rgo_sound.proofs.Places.{get_some, length_set}
 use Rattle.rgo_tac.specs.Frames.{Frame}
 use Rattle.rgo_core.specs.Core.{CoreAt, Here, Setup, layout}
 use Rattle.rgo_core.specs.Image.{Image}
-use Rattle.rgo_core.specs.Records.{ClockRec, Record, clock_of, frame_of}
-use Rattle.rgo_core.specs.Steps.{AccessLaw, Does, QuietLaw, Stays}
+use Rattle.rgo_core.specs.Records.{ClockRec, Record, accesses, clock_of, frame_of}
+use Rattle.rgo_core.specs.Steps.{AccessLaw, Does, Finds, Moves, QuietLaw, Stays, Steps}
 use Rattle.rgo_core.specs.Story.{Story}
 use Rattle.rgo_core.proofs.Lists.{get_of, word_same}
 use Rattle.rgo_core.proofs.Stories.{few, story_does, story_stays}
@@ -153,6 +153,7 @@ module _ {T : Setup} {g : ℕ} {c : Record} (x : Here T g c) where
           (story_does T.code T.sizes T.limits x.words clocks x.events x.s x.core.story g c.clock d.clock clock_at p.goes.event p.goes.next p.goes.steps
           (within_set words d p.goes.next sound p.goes.image p.goes.shallow) p.goes.gain p.goes.adds p.goes.counted words p.same low made p.mark p.printed);
       image = p.goes.image;
+      links = p.goes.links;
     }
       where
         sound : IsSound T.code p.goes.next
@@ -167,34 +168,63 @@ module _ {T : Setup} {g : ℕ} {c : Record} (x : Here T g c) where
       story = subst (λ (l : List ClockRec). Story T.code T.sizes T.limits words l x.events x.s) (sym (map_set clock_of x.recs g d))
           (story_stays T.code T.sizes T.limits x.words clocks x.events x.s x.core.story g c.clock d.clock clock_at words p.counted p.same low made);
       image = p.image;
+      links = p.links;
     }
 
-pub access_law : AccessLaw
-access_law T g c i f after low more finds words recs run core at fits =
+-- ---- a move of the rule
+
+-- what a goroutine does that finds a number on a word
+pub record Reaches {T : Setup} {g : ℕ} {c : Record} (x : Here T g c) (i : ℕ) (f : ℕ → ℕ) (tells : ℕ → Record → Type 0) : Type 0 where
+  pub after : Record
+  pub more : accesses after ≡ suc (accesses c)
+  pub steps : Steps x (slice_set x.words i (f (slice_index x.words i))) after
+  pub tells_so : tells (slice_index x.words i) after
+
+-- its record afterwards may be told by more than what was found
+pub told_law : (T : Setup) (g : ℕ) (c : Record) (i : ℕ) (f : ℕ → ℕ) (tells : ℕ → Record → Type 0)
+    → ((x : Here T g c) → 32 ≤ i) → ((x : Here T g c) → slice_index x.words i < 18446744073709551616 → Reaches x i f tells) → Moves T g c i f tells
+told_law T g c i f tells low finds words recs run core at fits =
     let n : ℕ = slice_index words i in
     let x : Here T g c = record { words = words; recs = recs; events = run; s = core.0; core = core.1; is_c = get_of recs g c at } in
-    let clock : slice_index (slice_set words i (f n)) 0 ≡ slice_index words 0 = word_same words i 0 (f n) (λ e. omega arith) in
-    let made : slice_index (slice_set words i (f n)) 16 ≡ slice_index words 16 = word_same words i 16 (f n) (λ e. omega arith) in
+    let r = finds x fits in
+    let clock : slice_index (slice_set words i (f n)) 0 ≡ slice_index words 0 = word_same words i 0 (f n) (λ e. let l = low x in omega (arith, l)) in
+    let made : slice_index (slice_set words i (f n)) 16 ≡ slice_index words 16 = word_same words i 16 (f n) (λ e. let l = low x in omega (arith, l)) in
     ⊎_elim
-    (λ (p : Does x (slice_set words i (f n)) (after n)). record {
-      after = after n;
+    (λ (p : Does x (slice_set words i (f n)) r.after). record {
+      after = r.after;
       gain = p.goes.event ∷ [];
-      explains = (p.goes.next, does_core x (slice_set words i (f n)) (after n) clock made p);
-      counts = more n;
-      tells_so = refl;
+      explains = (p.goes.next, does_core x (slice_set words i (f n)) r.after clock made p);
+      counts = r.more;
+      tells_so = r.tells_so;
     })
-    (λ (p : Stays x (slice_set words i (f n)) (after n)). record {
-      after = after n;
+    (λ (p : Stays x (slice_set words i (f n)) r.after). record {
+      after = r.after;
       gain = [];
       explains = (
         core.0,
-        subst (λ (l : List Event). CoreAt T (slice_set words i (f n)) (slice_set recs g (after n)) l core.0) (sym (append-nil run))
-            (stays_core x (slice_set words i (f n)) (after n) clock made p),
+        subst (λ (l : List Event). CoreAt T (slice_set words i (f n)) (slice_set recs g r.after) l core.0) (sym (append-nil run))
+            (stays_core x (slice_set words i (f n)) r.after clock made p),
       );
-      counts = more n;
-      tells_so = refl;
+      counts = r.more;
+      tells_so = r.tells_so;
     })
-    (finds x fits)
+    r.steps
+
+-- the record after it is told by what was found, and something more of that by the state
+pub moves_by : (T : Setup) (g : ℕ) (c : Record) (i : ℕ) (f : ℕ → ℕ) (after : ℕ → Record) (tells : ℕ → Record → Type 0)
+    → ((n : ℕ) → accesses (after n) ≡ suc (accesses c)) → ((x : Here T g c) → 32 ≤ i)
+    → Finds T g c i (λ x n. Steps x (slice_set x.words i (f n)) (after n))
+    → ((x : Here T g c) → tells (slice_index x.words i) (after (slice_index x.words i)))
+    → Moves T g c i f tells
+moves_by T g c i f after tells more high finds tell = told_law T g c i f tells high (λ x small. record {
+  after = after (slice_index x.words i);
+  more = more (slice_index x.words i);
+  steps = finds x small;
+  tells_so = tell x;
+})
+
+pub access_law : AccessLaw
+access_law T g c i f after low more finds = moves_by T g c i f after (λ n d. d ≡ after n) more (λ x. low) finds (λ x. refl)
 
 pub quiet_law : QuietLaw
 quiet_law T g c d does words recs run core at =

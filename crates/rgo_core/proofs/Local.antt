@@ -33,15 +33,16 @@ use Rattle.rgo_core.specs.Core.{Here, Setup, layout}
 use Rattle.rgo_core.specs.ClockSteps.{Ends, first_mark}
 use Rattle.rgo_core.specs.Image.{Image}
 use Rattle.rgo_core.specs.Laws.{ExitMove, LocalStill, clock_after}
-use Rattle.rgo_core.specs.Records.{ClockRec, Record, counted, frame_of, instructed, memory_of, with_end}
+use Rattle.rgo_core.specs.Records.{ClockRec, Record, counted, frame_of, instructed, memory_of, with_end, steps_of}
 use Rattle.rgo_core.specs.Steps.{Does, SameClock}
 use Rattle.rgo_core.proofs.ClockLifts.{end_law}
-use Rattle.rgo_core.proofs.Counting.{plus_none}
+use Rattle.rgo_core.proofs.Counting.{instructed_counts, plus_none}
 use Rattle.rgo_core.proofs.Duties.{duty_ground}
 use Rattle.rgo_core.proofs.Lift.{many_set, quiet_law}
-use Rattle.rgo_core.proofs.Printing.{counts_step, instructed_counts}
+use Rattle.rgo_core.proofs.Printing.{counts_step}
 use Rattle.rgo_core.proofs.Standing.{frames_here, image_clock, side_at}
 use Rattle.rgo_core.proofs.Staying.{image_stays}
+use Rattle.rgo_core.proofs.Links.{Advances, CountsOne, IsElsewhere, Keeps, all_kept, as_much, has_duty, links_low, links_same, one_later}
 
 -- ---- what a quiet step of a record is
 
@@ -177,6 +178,14 @@ module _ {T : Setup} {g : ℕ} {c : Record} (x : Here T g c) (rest : c.side ≡ 
       image_stays x (event_of g c.frame) p.state p.steps (alone_by g ds) rest p.same.memory p.same.owners p.regions_are (after clock) refl refl p.fit
       (shown ds refl p.state p.steps p.same.memory p.same.owners p.regions_are p.same.global_pages)
 
+  local_keeps : (l : List Duty) → Keeps c (after (clock_after l c.clock))
+  local_keeps [] = all_kept refl refl refl
+  local_keeps (d ∷ l) = all_kept refl refl refl
+
+  local_advances : (l : List Duty) → c.frame.holder.duties ≡ l → Advances T.code c (after (clock_after l c.clock))
+  local_advances [] owes = CountsOne (one_later (steps_of c))
+  local_advances (d ∷ l) owes = IsElsewhere (as_much (steps_of c)) (has_duty T.code c d l owes)
+
   local_adds : counts_of p.state ≡ counts_plus (counts_of x.s) (record no_share { steps = instructions ds })
   local_adds =
       let sound = next_sound T.code T.sizes.page_words x.s p.state (event_of g c.frame) x.core.sound p.steps in
@@ -194,6 +203,7 @@ module _ {T : Setup} {g : ℕ} {c : Record} (x : Here T g c) (rest : c.side ≡ 
       counted = record_counts ds c.clock;
       shallow = short;
       image = local_image (clock_after ds c.clock);
+      links = links_same x (after (clock_after ds c.clock)) (local_keeps ds) (local_advances ds refl);
     };
     mark = p.mark_is ∙ (ap (marked x.s.mark) (no_end g ds e.frames stays) ∙ mark_stays x.s.mark);
     printed = p.same.printed;
@@ -213,6 +223,8 @@ module _ {T : Setup} {g : ℕ} {c : Record} (x : Here T g c) (rest : c.side ≡ 
       shallow = let z = exit_short g e.frames exits in omega arith;
       image = image_clock T.code (layout T) x.words (slice_set x.recs g (after (with_end (instructed c.clock) (slice_index x.words 0) (Ended Exit)))) p.state
           (bit_or (slice_index x.words 0) 9223372036854775808) (local_image (with_end (instructed c.clock) (slice_index x.words 0) (Ended Exit)));
+      links = links_low x 0 (bit_or (slice_index x.words 0) 9223372036854775808) (omega arith)
+          (after (with_end (instructed c.clock) (slice_index x.words 0) (Ended Exit))) (all_kept refl refl refl) (CountsOne (one_later (steps_of c)));
     };
     marked = p.mark_is ∙ (ap (λ (l : List Duty). marked x.s.mark (end_by_frames g l e.frames)) none
         ∙ (ap (marked x.s.mark) (some_end g e.frames exits) ∙ marked_exit x.s.mark));

@@ -39,7 +39,7 @@ use Rattle.rgo_core.specs.Next.{IsAt}
 use Rattle.rgo_core.specs.NewObjects.{MakesObject, AStruct, ASlice, AChannel}
 use Rattle.rgo_core.specs.Records.{Record}
 use Rattle.rgo_core.proofs.Encodings.{small_int}
-use Rattle.rgo_core.proofs.Parts.{at_instruction}
+use Rattle.rgo_core.proofs.Standing.{at_instruction}
 
 -- ---- types of operands
 

@@ -1,5 +1,5 @@
 -- The store that commits an offer, a meeting or an acknowledgement.
-use Rattle.std.proofs.Common.{◌≡◌, ◌≢◌, ◌⊎◌, ℕ, zero, suc, ◌+◌, ◌-◌, ◌<◌, ◌≤◌, true, false, List, [], ◌∷◌, Option, Some, None, length, map, slice_get, slice_set, slice_index, refl, ap, sym, subst, ◌∙◌, inl, inr, arith, Contains}
+use Rattle.std.proofs.Common.{◌≡◌, ◌⊎◌, ℕ, ◌+◌, ◌-◌, ◌≤◌, List, [], ◌∷◌, Option, Some, length, map, slice_get, slice_set, refl, ap, sym, subst, ◌∙◌, inl, inr, arith, Contains}
 use Rattle.std.proofs.lemmas.Option.{same_Some}
 use Rattle.rgo_typed.specs.declared.actions.Action.TheVariants.{Recv, Send}
 use Rattle.rgo_memory.specs.declared.values.Value.{Value}
@@ -10,26 +10,23 @@ use Rattle.rgo_tac.specs.Flow.{reads}
 use Rattle.rgo_tac.specs.Frames.{Frame, value_at, values_of}
 use Rattle.rgo_code.specs.Code.{CodeInstr, CodeOp, Do}
 use Rattle.rgo_code.specs.Erasure.{erased_op}
-use Rattle.rgo_region_machine.specs.Duties.{attended, may_go}
-use Rattle.rgo_region_machine.specs.Machine.{Acknowledge, Event, Instruct, MakeOffer}
+use Rattle.rgo_region_machine.specs.Duties.{attended}
+use Rattle.rgo_region_machine.specs.Machine.{Acknowledge, Instruct, MakeOffer}
 use Rattle.rgo_region_machine.specs.Owed.{current}
 use Rattle.rgo_region_machine.specs.States.{Holder, NoOffer, RegionState, Standing, Taken, frames_in}
 use Rattle.rgo_sound.proofs.Places.{contains_here, contains_there, length_set}
 use Rattle.rgo_sound.specs.Offers.{StandsAtSend}
-use Rattle.rgo_sound.specs.Tally.{counts_plus, no_share}
+use Rattle.rgo_sound.specs.Tally.{no_share}
 use Rattle.rgo_core_channels.specs.After.{after_meeting}
-use Rattle.rgo_core_channels.specs.Channels.{channel}
 use Rattle.rgo_core_channels.specs.Controls.{closed_of, count_of}
 use Rattle.rgo_core_channels.specs.Moments.{Gains}
 use Rattle.rgo_core_channels.specs.Records.{Locked, Offering, Read, Rec as SideRec, Sized, Wrote, at_rest, offering}
 use Rattle.rgo_core_channels.specs.Standing.{Next}
 use Rattle.rgo_core_channels.proofs.Meetings.{acknowledge_is, meet_is, offer_is}
-use Rattle.rgo_core_frames.specs.Actions.{acted as frames_acted, after_action}
+use Rattle.rgo_core_frames.specs.Actions.{after_action}
 use Rattle.rgo_core_frames.specs.Fits.{AllFit, Fits, IsPast, IsShown}
 use Rattle.rgo_core_frames.specs.Meetings.{acknowledged, offering as frame_offering}
-use Rattle.rgo_core_frames.specs.Records.{Rec as FrameRec}
 use Rattle.rgo_core_frames.specs.Shown.{FramesShow}
-use Rattle.rgo_core_frames.specs.Steps.{StepsTo}
 use Rattle.rgo_core_frames.specs.WordFrames.{WordFrame, word_at as word_of}
 use Rattle.rgo_core_frames.specs.Words.{Shows}
 use Rattle.rgo_core_frames.proofs.Offering.{acknowledge_law, meet_law, offer_law}
@@ -42,18 +39,17 @@ use Rattle.rgo_core_memory.proofs.Stepped.{map_get}
 use Rattle.rgo_core.specs.AtChannels.{Operates, commits}
 use Rattle.rgo_core.specs.CommitMoves.{AcknowledgeMove, IsAtSend, MeetMove, OfferMove, acknowledges, offers}
 use Rattle.rgo_core.specs.Core.{Here, Setup, layout}
-use Rattle.rgo_core.specs.Image.{place_of}
-use Rattle.rgo_core.specs.Records.{Record, counted, frame_of, memory_of, side_of}
+use Rattle.rgo_core.specs.Records.{Record, counted, frame_of, memory_of, side_of, steps_of}
 use Rattle.rgo_core.specs.Steps.{Does}
 use Rattle.rgo_core.proofs.AtChannels.{Reaches, here, calm, next, object, place_is, points_to, reached, reaches}
-use Rattle.rgo_core.proofs.ChannelMoves.{high, written}
+use Rattle.rgo_core.proofs.ChannelMoves.{above, high, written}
 use Rattle.rgo_core.proofs.Commits.{as_shallow, sent_is, value_sent}
-use Rattle.rgo_core.proofs.Counting.{plus_none}
+use Rattle.rgo_core.proofs.Counting.{instructed_counts, plus_none}
 use Rattle.rgo_core.proofs.Encodings.{word_is}
 use Rattle.rgo_core.proofs.Parts.{adds_of, image_with, memory_stays, shallow}
-use Rattle.rgo_core.proofs.Performing.{ticked_counts}
 use Rattle.rgo_core.proofs.Standing.{frames_here, moment, side_at}
-use Rattle.rgo_core.proofs.Lifting.{moves_by}
+use Rattle.rgo_core.proofs.Links.{CountsOne, IsElsewhere, all_kept, as_much, at_send, links_beside, one_later}
+use Rattle.rgo_core.proofs.Lift.{moves_by}
 
 module _ {T : Setup} {g : ℕ} {c : Record} (x : Here T g c) where
   -- the control of its channel is stored, as memory shows it
@@ -100,6 +96,10 @@ module _ {T : Setup} {g : ℕ} {c : Record} (x : Here T g c) {to : Option ℕ} {
               (quiet_keeps T.code (layout T) (slice_set x.words at (n + 4)) (map memory_of x.recs) x.s t (MakeOffer g)
               x.core.image.places (control_written x (reached x a) (n + 4)) G.steps tt))
               G.channels;
+          links = links_beside x at (n + 4) (map memory_of x.recs) (control_written x (reached x a) (n + 4)) (above x (reached x a)) (offers c at)
+              (all_kept refl refl refl)
+              (IsElsewhere (as_much (steps_of c)) (at_send T.code c a.here.w a.here.ws a.here.frames a.here.instr a.here.cur to (a.channel ∷ sent ∷ [])
+              a.removes a.here.is));
         };
         mark = refl;
         printed = refl;
@@ -201,7 +201,7 @@ module _ {T : Setup} {g : ℕ} {c : Record} (x : Here T g c) {to : Option ℕ} {
           gain = record no_share { steps = 1; objects = 0 };
           adds = adds_of x.s t 1 0 refl refl refl (omega arith)
               (length_set (slice_set x.s.plain.goroutines g _) L.0 _ ∙ length_set x.s.plain.goroutines g _);
-          counted = ticked_counts c.clock;
+          counted = instructed_counts c.clock;
           shallow = as_shallow x a word;
           image = image_with x (slice_set x.words at (n + 4)) (commits a word) t x.core.image.places G.at
               x.core.image.addresses x.core.image.addressed
@@ -212,6 +212,8 @@ module _ {T : Setup} {g : ℕ} {c : Record} (x : Here T g c) {to : Option ℕ} {
               (quiet_keeps T.code (layout T) (slice_set x.words at (n + 4)) (map memory_of x.recs) x.s t
               (Instruct (Meet g L.0)) x.core.image.places (control_written x (reached x a) (n + 4)) G.steps tt))
               G.channels;
+          links = links_beside x at (n + 4) (map memory_of x.recs) (control_written x (reached x a) (n + 4)) (above x (reached x a)) (commits a word)
+              (all_kept refl refl refl) (CountsOne (one_later (steps_of c)));
         };
         mark = refl;
         printed = refl;
@@ -251,6 +253,9 @@ module _ {T : Setup} {g : ℕ} {c : Record} (x : Here T g c) (at n : ℕ) (a : I
               (quiet_keeps T.code (layout T) (slice_set x.words at (n - 8)) (map memory_of x.recs) x.s t (Acknowledge g)
               x.core.image.places (control_written x (reaches x (inr post)) (n - 8)) G.steps tt))
               G.channels;
+          links = links_beside x at (n - 8) (map memory_of x.recs) (control_written x (reaches x (inr post)) (n - 8)) (above x (reaches x (inr post)))
+              (acknowledges T c a) (all_kept refl refl refl)
+              (IsElsewhere (as_much (steps_of c)) (at_send T.code c a.w a.ws a.frames a.instr a.cur a.to a.from a.removes a.is));
         };
         mark = refl;
         printed = refl;

@@ -59,7 +59,9 @@ use Rattle.rgo_core.proofs.Disjoint.{rows_apart}
 use Rattle.rgo_core.proofs.Encodings.{held_made, old_code, operand_made, small_word}
 use Rattle.rgo_core.proofs.Leaving.{above_fill, channel_stands, channel_word, touch_more}
 use Rattle.rgo_core.proofs.MakesObject.{Made, at, b, made as it_makes}
-use Rattle.rgo_core.proofs.Parts.{I, is_memory, is_side, moment}
+use Rattle.rgo_core.proofs.Parts.{I}
+use Rattle.rgo_core.proofs.Standing.{memory_at, side_at, moment}
+use Rattle.rgo_core.proofs.Counting.{plus_zero}
 
 -- ---- the channel that is made, if one is
 
@@ -149,13 +151,13 @@ module _ {T : Setup} {g : ℕ} {c : Record} (x : Here T g c) (to : Option ℕ) (
   in_slot = sym (slot_is z P.slot r) ∙ (ap (slot_number z) region.slot_is ∙ sym slotted)
 
   within : Within f c.memory.fills
-  within = ⊎_elim (λ m. (M.own.amids g c.memory f object stored (is_memory x) m).0) (λ m. m.2) makes
+  within = ⊎_elim (λ m. (M.own.amids g c.memory f object stored (memory_at x) m).0) (λ m. m.2) makes
 
   fits : f.fill + words_of object ≤ z.page_words
-  fits = ⊎_elim (λ m. (M.own.amids g c.memory f object stored (is_memory x) m).1.fits) (λ m. m.3) makes
+  fits = ⊎_elim (λ m. (M.own.amids g c.memory f object stored (memory_at x) m).1.fits) (λ m. m.3) makes
 
   owner : Owns recs g f
-  owner = (c.memory, is_memory x, within)
+  owner = (c.memory, memory_at x, within)
 
   page_in : f.page < z.pages
   page_in = let e = M.own.claimed g f owner in M.own.ranged f.page (omega (arith, e))
@@ -186,7 +188,7 @@ module _ {T : Setup} {g : ℕ} {c : Record} (x : Here T g c) (to : Option ℕ) (
   -- ---- memory, on what it shows of the state after the step
 
   G : Image z next_words (slice_set recs g (with_object c.memory f.slot many)) (made (ground_of s) g (held_of h) r object many) places'
-  G = object_made z x.words recs (ground_of s) P M (steady_of T.code s x.core.sound.good) g c.memory (is_memory x) f object stored makes i small covers
+  G = object_made z x.words recs (ground_of s) P M (steady_of T.code s x.core.sound.good) g c.memory (memory_at x) f object stored makes i small covers
       (held_of h) there r used in_slot
 
   abbrev heap : List Object
@@ -282,7 +284,7 @@ module _ {T : Setup} {g : ℕ} {c : Record} (x : Here T g c) (to : Option ℕ) (
 
   pub memory_after : Memory z next_words (slice_set recs g (with_object c.memory f.slot many)) t places'
   memory_after = allocation_keeps T.code z x.words recs s t g i h r c.memory f object stored x.core.sound.good P M
-      (b x to act from removes a object).there (is_memory x) (it.next r region.makes) in_slot makes small covers H.steps
+      (b x to act from removes a object).there (memory_at x) (it.next r region.makes) in_slot makes small covers H.steps
 
   -- ---- channels
 
@@ -310,12 +312,12 @@ module _ {T : Setup} {g : ℕ} {c : Record} (x : Here T g c) (to : Option ℕ) (
 
   -- the words of the new object
   half : Memory z next_words (slice_set recs g (with_word c.memory f object (i ∷ stored))) s P
-  half = word_keeps z x.words recs s g i c.memory f object stored P M (is_memory x) makes small
+  half = word_keeps z x.words recs s g i c.memory f object stored P M (memory_at x) makes small
 
   word_is : (j : ℕ) → j < words_of object → slice_index next_words (cell_at z f.page (f.fill + j)) ≡ opening (content object j)
   word_is j l =
       let q = half.own.amids g (with_word c.memory f object (i ∷ stored)) f object (i ∷ stored)
-      (set_here recs g (with_word c.memory f object (i ∷ stored)) c.memory (is_memory x)) refl in
+      (set_here recs g (with_word c.memory f object (i ∷ stored)) c.memory (memory_at x)) refl in
       let m = fits in
       half.shows.cell f.page (f.fill + j) page_in (omega (arith, l, m)) ∙ q.1.laid j l (covers j l)
 
@@ -407,12 +409,9 @@ module _ {T : Setup} {g : ℕ} {c : Record} (x : Here T g c) (to : Option ℕ) (
       as_many : length t.holders ≡ length s.holders
       as_many = sym H.fit.as_many ∙ (length_set (map frame_of x.recs) g d' ∙ (I x).frames.as_many)
 
-      plus_zero : (a b : ℕ) → a ≡ b → a ≡ b + 0
-      plus_zero a b e = omega (arith, e)
-
   pub channels_after : Channels T.code (code_of z places') place' next_words (slice_set side g c.side) t at'
   channels_after =
       subst (λ l. Channels T.code (code_of z places') place' next_words l t at')
-      (append-nil side ∙ sym (set_again side g c.side (is_side x)))
+      (append-nil side ∙ sym (set_again side g c.side (side_at x)))
       (event_keeps (moment x) g (Instruct (One g)) next_words t (code_of z places') place' at' (new_channel n object) 0
-      (is_side x ∙ ap Some rests) refl H.steps leaves)
+      (side_at x ∙ ap Some rests) refl H.steps leaves)

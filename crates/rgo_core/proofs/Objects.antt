@@ -1,10 +1,10 @@
 -- The stores of a new object's words.
-use Rattle.std.proofs.Common.{◌≡◌, ◌⊎◌, inl, inr, ⊎_elim, ℕ, suc, ◌+◌, ◌<◌, ◌≤◌, List, [], ◌∷◌, Option, Some, length, map, slice_set, refl, ap, subst, ◌∙◌, arith}
+use Rattle.std.proofs.Common.{◌≡◌, ◌⊎◌, inl, inr, ⊎_elim, ℕ, suc, ◌+◌, ◌<◌, ◌≤◌, List, [], ◌∷◌, Option, Some, length, map, slice_set, refl, ap, sym, subst, ◌∙◌, arith}
 use Rattle.std.proofs.lemmas.List.{append-nil, length-append}
 use Rattle.rgo_code.specs.Code.{Do}
 use Rattle.rgo_machine.specs.Limits.{deepest}
 use Rattle.rgo_machine.specs.declared.picks.Pick.TheVariants.{One}
-use Rattle.rgo_memory.specs.Memory.{Memory as Heap, Object}
+use Rattle.rgo_memory.specs.Memory.{Memory as Heap, Object, SliceObject}
 use Rattle.rgo_region_machine.specs.Instructions.{printed_if}
 use Rattle.rgo_region_machine.specs.Machine.{Instruct}
 use Rattle.rgo_region_machine.specs.Objects.{making_region, words as words_of}
@@ -32,29 +32,29 @@ use Rattle.rgo_core.specs.Core.{Here, Setup, layout}
 use Rattle.rgo_core.specs.Image.{place_of}
 use Rattle.rgo_core.specs.NewObjects.{MakesObject, ObjectMove, WordMove, made_object, slot_number}
 use Rattle.rgo_core.specs.Next.{IsAt}
-use Rattle.rgo_core.specs.Records.{Record, accessed, counted, memory_of, side_of}
+use Rattle.rgo_core.specs.Records.{Record, accessed, counted, memory_of, side_of, steps_of}
 use Rattle.rgo_core.specs.Steps.{Steps}
 use Rattle.rgo_core.proofs.Disjoint.{rows_apart}
 use Rattle.rgo_core.proofs.Leaving.{channel_stands, channel_word}
 use Rattle.rgo_core.proofs.Lift.{access_law}
 use Rattle.rgo_core.proofs.NewObjects as new
-use Rattle.rgo_core.proofs.Parts.{I, adds_of, as_many, frame_stays, image_with, is_memory, shallow, side_stays}
-
-plus_zero : (a b : ℕ) → a ≡ b → a ≡ b + 0
-plus_zero a b e = omega (arith, e)
+use Rattle.rgo_core.proofs.Parts.{I, adds_of, as_many, frame_stays, image_with, shallow, side_stays}
+use Rattle.rgo_core.proofs.Links.{CountsOne, LengthsStay, Waits, all_kept, claims_high, lengths_apart, links_with, one_later}
+use Rattle.rgo_core.proofs.Standing.{memory_at}
+use Rattle.rgo_core.proofs.Counting.{plus_zero}
 
 -- ---- a word before the last
 
 module _ {T : Setup} {g : ℕ} {c : Record} (x : Here T g c) (f : Fill) (object : Object) (stored : List ℕ) (i : ℕ)
     (makes : Makes (layout T) c.memory f object stored) (small : i < words_of object) where
   within : Within f c.memory.fills
-  within = ⊎_elim (λ m. ((I x).memory.own.amids g c.memory f object stored (is_memory x) m).0) (λ m. m.2) makes
+  within = ⊎_elim (λ m. ((I x).memory.own.amids g c.memory f object stored (memory_at x) m).0) (λ m. m.2) makes
 
   fits : f.fill + words_of object ≤ (layout T).page_words
-  fits = ⊎_elim (λ m. ((I x).memory.own.amids g c.memory f object stored (is_memory x) m).1.fits) (λ m. m.3) makes
+  fits = ⊎_elim (λ m. ((I x).memory.own.amids g c.memory f object stored (memory_at x) m).1.fits) (λ m. m.3) makes
 
   owner : Owns (map memory_of x.recs) g f
-  owner = (c.memory, is_memory x, within)
+  owner = (c.memory, memory_at x, within)
 
   -- no channel has the word
   apart : (o : ℕ) (k : Chan) → On x.s o k
@@ -72,6 +72,13 @@ module _ {T : Setup} {g : ℕ} {c : Record} (x : Here T g c) (f : Fill) (object 
       (let w = channel_word (layout T) x.words (map memory_of x.recs) x.s (I x).places (I x).memory o j k on lj in
       let v : cell_at (layout T) f.page (f.fill + i) ≡ cell_at (layout T) f.page (f.fill + i) + i' = omega (arith, li) in v ∙ (e ∙ w))))
 
+  -- no slice has it as its first
+  pub lengths_stay : (v : ℕ) → LengthsStay x (slice_set x.words (cell_at (layout T) f.page (f.fill + i)) v)
+  lengths_stay v = lengths_apart x (cell_at (layout T) f.page (f.fill + i)) v (λ o cells r stands e.
+      let room = fits in
+      free_apart (layout T) x.words (map memory_of x.recs) (ground_of x.s) (I x).places (I x).memory g o 0 i f (SliceObject cells) r owner stands
+      (omega arith) (omega (arith, room, small)) (sym e))
+
   pub word_steps : Steps x (slice_set x.words (cell_at (layout T) f.page (f.fill + i)) (opening (content object i)))
       (record c { clock = accessed c.clock; memory = with_word c.memory f object (i ∷ stored) })
   word_steps =
@@ -81,10 +88,13 @@ module _ {T : Setup} {g : ℕ} {c : Record} (x : Here T g c) (f : Fill) (object 
         same = record { prints = refl; first = refl; children = refl; refused = refl };
         image = image_with x words (record c { clock = accessed c.clock; memory = with_word c.memory f object (i ∷ stored) }) x.s (I x).places (I x).at
             (I x).addresses (I x).addressed (frame_stays x x.s (I x).places.slot (I x).addresses (I x).frames)
-            (word_keeps (layout T) x.words (map memory_of x.recs) x.s g i c.memory f object stored (I x).places (I x).memory (is_memory x) makes small)
+            (word_keeps (layout T) x.words (map memory_of x.recs) x.s g i c.memory f object stored (I x).places (I x).memory (memory_at x) makes small)
             (side_stays x words x.s (I x).places (I x).at
             (channels_keep T.code (code_of (layout T) (I x).places) (place_of (layout T) (I x).places) x.words (map side_of x.recs) x.s (I x).at
             (cell_at (layout T) f.page (f.fill + i)) (opening (content object i)) apart (I x).channels));
+        links = links_with x words (lengths_stay (opening (content object i)))
+            (claims_high x (cell_at (layout T) f.page (f.fill + i)) (opening (content object i)) (omega arith))
+            (record c { clock = accessed c.clock; memory = with_word c.memory f object (i ∷ stored) }) (all_kept refl refl refl) (Waits refl refl);
       })
 
 pub word_move : WordMove
@@ -135,6 +145,10 @@ module _ {T : Setup} {g : ℕ} {c : Record} (x : Here T g c) (to : Option ℕ) (
               (new.addressed x to act from removes a object by_slot f stored i rests mk making slotted makes small covers) H.fit
               (new.memory_after x to act from removes a object by_slot f stored i rests mk making slotted makes small covers)
               (new.channels_after x to act from removes a object by_slot f stored i rests mk making slotted makes small covers);
+          links = links_with x (slice_set x.words (cell_at (layout T) f.page (f.fill + i)) (opening (content object i)))
+              (lengths_stay x f object stored i makes small (opening (content object i)))
+              (claims_high x (cell_at (layout T) f.page (f.fill + i)) (opening (content object i)) (omega arith))
+              (made_object T c a to f object) (all_kept refl refl refl) (CountsOne (one_later (steps_of c)));
         };
         mark = H.mark;
         printed = H.printed ∙ (ap (printed_if x.s.mark x.s.plain.printed) (append-nil x.s.plain.printed) ∙ printed_same x.s.mark x.s.plain.printed);

@@ -35,11 +35,13 @@ use Rattle.rgo_core.specs.Core.{Core, Setup, layout}
 use Rattle.rgo_core.specs.Image.{Image, place_of}
 use Rattle.rgo_core.specs.Numbers.{Numbers, has_child}
 use Rattle.rgo_core.specs.Opening.{OpeningLaw, first_of, main_frame, main_words, opening}
-use Rattle.rgo_core.specs.Records.{ClockRec, Drawn, fresh}
+use Rattle.rgo_core.specs.Records.{Record, ClockRec, Drawn, fresh}
 use Rattle.rgo_core.specs.Runs.{Printed}
 use Rattle.rgo_core.specs.Story.{Story}
 use Rattle.rgo_core.proofs.Lists.{word_new, word_same}
 use Rattle.rgo_core.proofs.Runs.{printed_whole}
+use Rattle.rgo_core.specs.Links.{Link, Links}
+use Rattle.rgo_core_memory.specs.Records.{Measured}
 
 -- ---- words
 
@@ -181,6 +183,17 @@ first_image T checked = record {
   channels = channels_open T.code (code_of (layout T) nowhere) (place_of (layout T) nowhere) (opening T) nobody;
 }
 
+first_links : (T : Setup) → Links T.code (layout T) (opening T) (first_of T.code ∷ [])
+first_links T g c e = subst (Link T.code (layout T) (opening T)) (sole (first_of T.code) c g e)
+    (record { owed = refl; knows = λ m read. absurd (nothing m read) })
+  where
+    sole : (a b : Record) (i : ℕ) → slice_get (a ∷ []) i ≡ Some b → a ≡ b
+    sole a b zero e = same_Some a b e
+    sole a b (suc i) e = cc
+
+    nothing : (m : Measured) → None ≡ Some m → ⊥
+    nothing m read = cc read
+
 first_story : (T : Setup) → Story T.code T.sizes T.limits (opening T) (fresh ∷ []) [] (region_start T.code)
 first_story T = record {
   leads = refl;
@@ -205,6 +218,7 @@ opening_law T checked written constants capped = (
     capped = capped;
     story = first_story T;
     image = first_image T checked;
+    links = first_links T;
   },
 )
 

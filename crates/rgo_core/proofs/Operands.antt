@@ -43,7 +43,8 @@ use Rattle.rgo_core.specs.Records.{Record, frame_of, memory_of}
 use Rattle.rgo_core.proofs.Encodings.{shows_it}
 use Rattle.rgo_core.proofs.Contents.{content_fits}
 use Rattle.rgo_core.proofs.MakesObject.{first_type}
-use Rattle.rgo_core.proofs.Parts.{I, at_instruction}
+use Rattle.rgo_core.proofs.Parts.{I}
+use Rattle.rgo_core.proofs.Standing.{at_instruction}
 
 module _ {T : Setup} {g : ℕ} {c : Record} (x : Here T g c) (to : Option ℕ) (act : Action) (from removes : List ℕ)
     (a : IsAt T.code c (Do to act from removes)) where

@@ -1,6 +1,5 @@
 -- The parts of an image about one goroutine, and an image put together from its parts.
-use Rattle.std.proofs.Common.{◌≡◌, inl, ℕ, ◌+◌, ◌≤◌, List, Some, length, map, count_by, sum_by, slice_get, slice_set, ap, sym, subst, ◌∙◌, arith}
-use Rattle.rgo_code.specs.Code.{CodeOp}
+use Rattle.std.proofs.Common.{◌≡◌, ℕ, ◌+◌, ◌≤◌, List, Some, length, map, count_by, sum_by, slice_get, slice_set, ap, sym, subst, ◌∙◌}
 use Rattle.rgo_machine.specs.Limits.{deepest}
 use Rattle.rgo_region_machine.specs.Counts.{counts_of, is_removed, pages_if_removed}
 use Rattle.rgo_region_machine.specs.Regions.{RegionInfo}
@@ -8,76 +7,25 @@ use Rattle.rgo_region_machine.specs.States.{RegionState}
 use Rattle.rgo_sound.proofs.Places.{length_set}
 use Rattle.rgo_sound.specs.Tally.{counts_plus, no_share}
 use Rattle.rgo_core_channels.specs.Channels.{Channels, Places}
-use Rattle.rgo_core_channels.specs.Moments.{Moment}
 use Rattle.rgo_core_channels.specs.Records.{Rec as SideRec}
 use Rattle.rgo_core_frames.specs.Fits.{AllFit}
 use Rattle.rgo_core_frames.specs.Records.{Rec as FrameRec}
-use Rattle.rgo_core_frames.specs.States.{AtInstruction, Here as FrameHere, IsSound}
-use Rattle.rgo_core_frames.proofs.Before.{before_law}
+use Rattle.rgo_core_frames.specs.States.{IsSound}
 use Rattle.rgo_core_memory.specs.Encoding.{address}
 use Rattle.rgo_core_memory.specs.Image.{Memory, Where, code_of}
 use Rattle.rgo_core_memory.specs.Records.{Rec as MemoryRec}
 use Rattle.rgo_core_memory.proofs.Rows.{set_again}
-use Rattle.rgo_core_memory.proofs.Stepped.{map_get, map_set}
+use Rattle.rgo_core_memory.proofs.Stepped.{map_set}
 use Rattle.rgo_core.specs.Core.{Here, Setup, layout}
 use Rattle.rgo_core.specs.Image.{Image, place_of}
-use Rattle.rgo_core.specs.Next.{IsAt}
 use Rattle.rgo_core.specs.Records.{Record, frame_of, memory_of, side_of}
 use Rattle.rgo_core.proofs.Lift.{many, shallow_here}
+use Rattle.rgo_core.proofs.Standing.{frame_at, memory_at, side_at}
+use Rattle.rgo_core.proofs.Counting.{plus_zero}
 
 module _ {T : Setup} {g : ℕ} {c : Record} (x : Here T g c) where
   abbrev pub I : Image T.code (layout T) x.words x.recs x.s
   I = x.core.image
-
-  pub is_frame : slice_get (map frame_of x.recs) g ≡ Some c.frame
-  is_frame = map_get frame_of x.recs g c x.is_c
-
-  pub is_memory : slice_get (map memory_of x.recs) g ≡ Some c.memory
-  is_memory = map_get memory_of x.recs g c x.is_c
-
-  pub is_side : slice_get (map side_of x.recs) g ≡ Some c.side
-  is_side = map_get side_of x.recs g c x.is_c
-
-  abbrev pub frame_here : FrameHere
-  frame_here = record {
-    code = T.code;
-    page_words = T.sizes.page_words;
-    slot_of = I.places.slot;
-    addresses = I.addresses;
-    s = x.s;
-    records = map frame_of x.recs;
-    g = g;
-    c = c.frame;
-    sound = x.core.sound;
-    all = I.frames;
-    is_c = is_frame;
-  }
-
-  abbrev pub moment : Moment
-  moment = record {
-    code = T.code;
-    page_words = T.sizes.page_words;
-    checked = x.core.sound.checked;
-    ascends = x.core.sound.written;
-    encode = code_of (layout T) I.places;
-    place = place_of (layout T) I.places;
-    words = x.words;
-    recs = map side_of x.recs;
-    state = x.s;
-    good = x.core.sound.good;
-    running = x.core.sound.running;
-    at = I.at;
-    channels = I.channels;
-  }
-
-  abbrev pub at_instruction : {op : CodeOp} → IsAt T.code c op → AtInstruction
-  at_instruction a = record {
-    here = frame_here;
-    w = a.w;
-    ws = a.ws;
-    instr = a.instr;
-    before = before_law frame_here a.w a.ws a.instr a.frames a.cur a.none (inl a.free);
-  }
 
   -- ---- an image of the records after it, from its parts
 
@@ -102,25 +50,25 @@ module _ {T : Setup} {g : ℕ} {c : Record} (x : Here T g c) where
   pub frame_stays : (t : RegionState) (slot_of : ℕ → ℕ) (addresses : List ℕ) → AllFit T.code slot_of addresses t (map frame_of x.recs)
       → AllFit T.code slot_of addresses t (slice_set (map frame_of x.recs) g c.frame)
   frame_stays t slot_of addresses F =
-      subst (AllFit T.code slot_of addresses t) (sym (set_again (map frame_of x.recs) g c.frame is_frame)) F
+      subst (AllFit T.code slot_of addresses t) (sym (set_again (map frame_of x.recs) g c.frame (frame_at x))) F
 
   pub memory_stays : (words : List ℕ) (t : RegionState) (places : Where) → Memory (layout T) words (map memory_of x.recs) t places
       → Memory (layout T) words (slice_set (map memory_of x.recs) g c.memory) t places
   memory_stays words t places M =
-      subst (λ (l : List MemoryRec). Memory (layout T) words l t places) (sym (set_again (map memory_of x.recs) g c.memory is_memory)) M
+      subst (λ (l : List MemoryRec). Memory (layout T) words l t places) (sym (set_again (map memory_of x.recs) g c.memory (memory_at x))) M
 
   pub side_stays : (words : List ℕ) (t : RegionState) (places : Where) (at : Places)
       → Channels T.code (code_of (layout T) places) (place_of (layout T) places) words (map side_of x.recs) t at
       → Channels T.code (code_of (layout T) places) (place_of (layout T) places) words (slice_set (map side_of x.recs) g c.side) t at
   side_stays words t places at K =
       subst (λ (l : List SideRec). Channels T.code (code_of (layout T) places) (place_of (layout T) places) words l t at)
-      (sym (set_again (map side_of x.recs) g c.side is_side)) K
+      (sym (set_again (map side_of x.recs) g c.side (side_at x))) K
 
   -- ---- numbers
 
   -- it has no more frames than it may
   pub shallow : length c.frame.frames ≤ deepest
-  shallow = shallow_here x g c.frame is_frame
+  shallow = shallow_here x g c.frame (frame_at x)
 
   -- no goroutine has started
   pub as_many : (t : RegionState) (slot_of : ℕ → ℕ) (addresses : List ℕ) (d : FrameRec) → IsSound T.code t
@@ -129,9 +77,6 @@ module _ {T : Setup} {g : ℕ} {c : Record} (x : Here T g c) where
       many T.code slot_of addresses t (slice_set (map frame_of x.recs) g d) sound F
       ∙ (length_set (map frame_of x.recs) g d
       ∙ sym (many T.code I.places.slot I.addresses x.s (map frame_of x.recs) x.core.sound I.frames))
-
-plus_zero : (a b : ℕ) → a ≡ b → a ≡ b + 0
-plus_zero a b e = omega (arith, e)
 
 -- what a step adds, if it leaves regions and pages: instructions and objects
 pub adds_of : (s t : RegionState) (n k : ℕ) → t.regions ≡ s.regions → t.global_pages ≡ s.global_pages → t.steps ≡ s.steps + n

@@ -1,5 +1,5 @@
 -- Accesses that are an instruction of one goroutine, which makes no object and leaves the channels.
-use Rattle.std.proofs.Common.{◌≡◌, inl, ℕ, suc, ◌+◌, ◌<◌, List, [], Some, None, length, map, slice_get, slice_set, slice_index, refl, ap, sym, subst, ◌∙◌, arith}
+use Rattle.std.proofs.Common.{◌≡◌, inl, ℕ, ◌+◌, ◌<◌, List, [], Some, None, length, map, slice_get, slice_set, slice_index, refl, ap, sym, subst, ◌∙◌, arith}
 use Rattle.std.proofs.lemmas.List.{append-nil}
 use Rattle.rgo_machine.specs.declared.picks.Pick.TheVariants.{One}
 use Rattle.rgo_memory.specs.Memory.{Memory as Heap}
@@ -7,7 +7,7 @@ use Rattle.rgo_region_machine.specs.Instructions.{printed_if}
 use Rattle.rgo_region_machine.specs.Machine.{Instruct}
 use Rattle.rgo_region_machine.specs.States.{Holder, RegionState}
 use Rattle.rgo_sound.proofs.Places.{length_set}
-use Rattle.rgo_sound.specs.Tally.{counts_plus, no_share}
+use Rattle.rgo_sound.specs.Tally.{no_share}
 use Rattle.rgo_core_channels.specs.Channels.{Chan, Channels, IsChan, On}
 use Rattle.rgo_core_channels.specs.Controls.{extent}
 use Rattle.rgo_core_channels.specs.Elsewhere.{IsMade, Leaves}
@@ -22,25 +22,13 @@ use Rattle.rgo_core_memory.specs.Image.{Memory, code_of}
 use Rattle.rgo_core_memory.proofs.Rows.{below, set_again}
 use Rattle.rgo_core.specs.Core.{Here, Setup, layout}
 use Rattle.rgo_core.specs.Image.{place_of}
-use Rattle.rgo_core.specs.Records.{ClockRec, Record, counted, frame_of, memory_of, side_of, ticked}
+use Rattle.rgo_core.specs.Records.{Record, frame_of, memory_of, side_of, ticked, steps_of}
 use Rattle.rgo_core.specs.Steps.{Does}
 use Rattle.rgo_core.proofs.Leaving.{touch_same}
-use Rattle.rgo_core.proofs.Parts.{I, adds_of, as_many, image_with, is_side, memory_stays, moment, shallow}
-
-plus_zero : (a b : ℕ) → a ≡ b → a ≡ b + 0
-plus_zero a b e = omega (arith, e)
-
--- an instruction by an access counts one step
-pub ticked_counts : (c : ClockRec) → counted (ticked c) ≡ counts_plus (counted c) (record no_share { steps = 1; objects = 0 })
-ticked_counts c = λ i. record {
-  made = plus_zero c.share.made c.share.made refl i;
-  removed = plus_zero c.share.removed c.share.removed refl i;
-  taken = plus_zero c.share.taken c.share.taken refl i;
-  returned = plus_zero (c.share.returned + c.owed) (c.share.returned + c.owed) refl i;
-  steps = (let e : suc c.share.steps ≡ c.share.steps + 1 = omega arith in e) i;
-  objects = plus_zero c.share.objects c.share.objects refl i;
-  goroutines = plus_zero c.share.goroutines c.share.goroutines refl i;
-}
+use Rattle.rgo_core.proofs.Parts.{I, adds_of, as_many, image_with, memory_stays, shallow}
+use Rattle.rgo_core.proofs.Links.{ClaimsStay, CountsOne, LengthsStay, all_kept, links_with, one_later}
+use Rattle.rgo_core.proofs.Standing.{side_at, moment}
+use Rattle.rgo_core.proofs.Counting.{instructed_counts, plus_zero}
 
 module _ {T : Setup} {g : ℕ} {c : Record} (x : Here T g c) (rests : c.side ≡ at_rest) (mem : Heap) (h : Holder) (e : FrameRec)
     (H : HasInstruction T.code T.sizes.page_words (I x).places.slot (I x).addresses x.s g mem [] (h, [])
@@ -66,9 +54,9 @@ module _ {T : Setup} {g : ℕ} {c : Record} (x : Here T g c) (rests : c.side ≡
       (slice_set (map side_of x.recs) g c.side) t (I x).at
   channels_after stay was long same =
       subst (λ l. Channels T.code (code_of (layout T) (I x).places) (place_of (layout T) (I x).places) words l t (I x).at)
-      (append-nil (map side_of x.recs) ∙ sym (set_again (map side_of x.recs) g c.side (is_side x)))
+      (append-nil (map side_of x.recs) ∙ sym (set_again (map side_of x.recs) g c.side (side_at x)))
       (event_keeps (moment x) g (Instruct (One g)) words t (code_of (layout T) (I x).places) (place_of (layout T) (I x).places) (I x).at None 0
-      (is_side x ∙ ap Some rests) refl H.steps leaves)
+      (side_at x ∙ ap Some rests) refl H.steps leaves)
     where
       leaves : Leaves (moment x) words t (code_of (layout T) (I x).places) (place_of (layout T) (I x).places) (I x).at (IsMade None) 0
       leaves = record {
@@ -96,8 +84,8 @@ module _ {T : Setup} {g : ℕ} {c : Record} (x : Here T g c) (rests : c.side ≡
       → Memory (layout T) words (map memory_of x.recs) t (I x).places
       → Channels T.code (code_of (layout T) (I x).places) (place_of (layout T) (I x).places) words
       (slice_set (map side_of x.recs) g c.side) t (I x).at
-      → Does x words (record c { clock = ticked c.clock; frame = e })
-  performs objects deep M K = record {
+      → ClaimsStay x words → LengthsStay x words → Does x words (record c { clock = ticked c.clock; frame = e })
+  performs objects deep M K claims lengths = record {
     goes = record {
       event = Instruct (One g);
       next = t;
@@ -106,10 +94,11 @@ module _ {T : Setup} {g : ℕ} {c : Record} (x : Here T g c) (rests : c.side ≡
       adds = adds_of x.s t 1 0 H.regions H.global_pages H.counted
           (ap (λ (y : Heap). length y.heap) H.memory_is ∙ plus_zero (length mem.heap) (length x.s.plain.memory.heap) objects)
           (as_many x t (I x).places.slot (I x).addresses e sound_after H.fit);
-      counted = ticked_counts c.clock;
+      counted = instructed_counts c.clock;
       shallow = let l = shallow x in omega (arith, deep, l);
       image = image_with x words (record c { clock = ticked c.clock; frame = e }) t (I x).places (I x).at (I x).addresses (I x).addressed H.fit
           (memory_stays x words t (I x).places M) K;
+      links = links_with x words lengths claims (record c { clock = ticked c.clock; frame = e }) (all_kept refl refl refl) (CountsOne (one_later (steps_of c)));
     };
     mark = H.mark;
     printed = H.printed ∙ (ap (printed_if x.s.mark x.s.plain.printed) (append-nil x.s.plain.printed) ∙ printed_same x.s.mark x.s.plain.printed);

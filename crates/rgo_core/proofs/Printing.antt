@@ -1,5 +1,5 @@
 -- A print draws a ticket, and is the instruction of the region machine.
-use Rattle.std.proofs.Common.{◌≡◌, ℕ, suc, ◌+◌, ◌%◌, List, ◌∷◌, Some, length, slice_get, slice_set, slice_index, sum_by, count_by, refl, ap, sym, subst, ◌∙◌, arith}
+use Rattle.std.proofs.Common.{◌≡◌, ℕ, ◌+◌, ◌%◌, List, ◌∷◌, Some, length, slice_get, slice_set, slice_index, sum_by, count_by, refl, ap, sym, subst, ◌∙◌, arith}
 use Rattle.std.proofs.lemmas.List.{append-nil}
 use Rattle.std.proofs.lemmas.Option.{same_Some}
 use Rattle.rgo_code.specs.Code.{CodeInstr, CodeOp, Print}
@@ -25,40 +25,27 @@ use Rattle.rgo_core.specs.ClockSteps.{Prints}
 use Rattle.rgo_core.specs.Core.{Here, Setup, layout}
 use Rattle.rgo_core.specs.Laws.{PrintMove, printed_by}
 use Rattle.rgo_core.specs.Next.{IsAt}
-use Rattle.rgo_core.specs.Records.{ClockRec, Record, counted, instructed}
+use Rattle.rgo_core.specs.Records.{Record, steps_of}
 use Rattle.rgo_core.proofs.ClockLifts.{ticket_law}
 use Rattle.rgo_core.proofs.Lift.{many_set, shallow_here}
 use Rattle.rgo_core.proofs.Standing.{at_instruction, frame_at, image_clock}
 use Rattle.rgo_core.proofs.Staying.{image_stays}
-
-zero_more : (a b : ℕ) → a ≡ b → a ≡ b + 0
-zero_more a b e = omega (arith, e)
+use Rattle.rgo_core.proofs.Links.{CountsOne, all_kept, links_low, one_later}
+use Rattle.rgo_core.proofs.Counting.{instructed_counts, plus_zero}
 
 -- a step that leaves regions, pages, and the number of goroutines, and makes no object
 pub counts_step : (s t : RegionState) (n : ℕ) → t.regions ≡ s.regions → t.global_pages ≡ s.global_pages → t.plain.memory ≡ s.plain.memory
     → length t.plain.goroutines ≡ length s.plain.goroutines → t.steps ≡ s.steps + n → counts_of t ≡ counts_plus (counts_of s) (record no_share { steps = n })
 counts_step s t n regions pages memory many steps = λ i. record {
-  made = zero_more (length t.regions) (length s.regions) (ap length regions) i;
-  removed = zero_more (count_by is_removed t.regions) (count_by is_removed s.regions) (ap (count_by is_removed) regions) i;
-  taken = zero_more (counts_of t).taken (counts_of s).taken
+  made = plus_zero (length t.regions) (length s.regions) (ap length regions) i;
+  removed = plus_zero (count_by is_removed t.regions) (count_by is_removed s.regions) (ap (count_by is_removed) regions) i;
+  taken = plus_zero (counts_of t).taken (counts_of s).taken
       (ap (λ k. k + sum_by (λ (info : RegionInfo). info.pages) t.regions) pages
       ∙ ap (λ l. s.global_pages + sum_by (λ (info : RegionInfo). info.pages) l) regions) i;
-  returned = zero_more (sum_by pages_if_removed t.regions) (sum_by pages_if_removed s.regions) (ap (sum_by pages_if_removed) regions) i;
+  returned = plus_zero (sum_by pages_if_removed t.regions) (sum_by pages_if_removed s.regions) (ap (sum_by pages_if_removed) regions) i;
   steps = steps i;
-  objects = zero_more (length t.plain.memory.heap) (length s.plain.memory.heap) (ap (λ (m : Heap). length m.heap) memory) i;
-  goroutines = zero_more (length t.plain.goroutines) (length s.plain.goroutines) many i;
-}
-
--- what an instruction adds to what a record has counted
-pub instructed_counts : (c : ClockRec) → counted (instructed c) ≡ counts_plus (counted c) (record no_share { steps = 1 })
-instructed_counts c = λ i. record {
-  made = zero_more c.share.made c.share.made refl i;
-  removed = zero_more c.share.removed c.share.removed refl i;
-  taken = zero_more c.share.taken c.share.taken refl i;
-  returned = zero_more (c.share.returned + c.owed) (c.share.returned + c.owed) refl i;
-  steps = (let e : suc c.share.steps ≡ c.share.steps + 1 = omega arith in e) i;
-  objects = zero_more c.share.objects c.share.objects refl i;
-  goroutines = zero_more c.share.goroutines c.share.goroutines refl i;
+  objects = plus_zero (length t.plain.memory.heap) (length s.plain.memory.heap) (ap (λ (m : Heap). length m.heap) memory) i;
+  goroutines = plus_zero (length t.plain.goroutines) (length s.plain.goroutines) many i;
 }
 
 -- the instruction of a record is the machine's
@@ -102,6 +89,7 @@ module _ {T : Setup} {g : ℕ} {c : Record} (x : Here T g c) (pieces : List Piec
           counted = instructed_counts c.clock;
           shallow = let s = shallow_here x g c.frame (frame_at x) in let l = ap (λ (fs : List WordFrame). length fs) a.frames in omega arith;
           image = image_clock T.code (layout T) x.words (slice_set x.recs g d) p.state v image;
+          links = links_low x 0 v (omega arith) d (all_kept refl refl refl) (CountsOne (one_later (steps_of c)));
         };
         mark = p.mark;
         printed = p.printed;

@@ -1,5 +1,5 @@
 -- Accesses to the counts of regions.
-use Rattle.std.proofs.Common.{◌≡◌, ◌≢◌, ◌⊎◌, inl, inr, ⊎_elim, ℕ, suc, ◌+◌, ◌-◌, ◌%◌, ◌^◌, ◌<◌, ◌==◌, Bool, true, false, List, [], ◌∷◌, ◌++◌, Some, length, map, if◌then◌else◌, slice_get, slice_set, slice_index, refl, ap, sym, subst, ◌∙◌, arith}
+use Rattle.std.proofs.Common.{◌≡◌, ◌≢◌, inl, inr, ⊎_elim, ℕ, suc, ◌+◌, ◌-◌, ◌%◌, ◌^◌, ◌<◌, ◌==◌, Bool, true, false, List, [], ◌∷◌, ◌++◌, Some, length, map, if◌then◌else◌, slice_get, slice_set, slice_index, refl, ap, sym, subst, ◌∙◌, arith}
 use Rattle.std.proofs.lemmas.Bool.Decides.{nat_tests}
 use Rattle.std.proofs.lemmas.List.{length-map}
 use Rattle.std.proofs.lemmas.Option.{same_Some}
@@ -35,18 +35,20 @@ use Rattle.rgo_core_memory.proofs.Puts.{put_else, put_here}
 use Rattle.rgo_core_memory.proofs.Slots.{live_info}
 use Rattle.rgo_core.specs.Chains.{remembers}
 use Rattle.rgo_core.specs.Core.{Here, Setup, layout}
-use Rattle.rgo_core.specs.Records.{Record, accessed, accesses, counted, frame_of, memory_of}
+use Rattle.rgo_core.specs.Records.{Record, accessed, accesses, counted, frame_of, memory_of, steps_of}
 use Rattle.rgo_core.specs.Regions.{CreateMove, HasLeft, LeaveMove, ShareMove, creates, leaves, leaves_last, with_holder}
 use Rattle.rgo_core.specs.Steps.{Does, Steps}
 use Rattle.rgo_core.proofs.Attending.{attends, else_stays}
-use Rattle.rgo_core.proofs.Chains.{look_image, remembered}
-use Rattle.rgo_core.proofs.Lift.{access_law, few_records}
-use Rattle.rgo_core.proofs.Parts.{I, frame_here, is_frame, is_memory, memory_stays, shallow}
+use Rattle.rgo_core.proofs.Chains.{as_before, look_image, remembered}
+use Rattle.rgo_core.proofs.Lift.{Reaches, access_law, few_records, told_law}
+use Rattle.rgo_core.proofs.Parts.{I, memory_stays, shallow}
 use Rattle.rgo_core.proofs.Stakes.{EndsStake, SharesStake, ends_stake, live_changed, share_is, share_kept, share_last, shares_stake}
-use Rattle.rgo_core.proofs.Telling.{Reaches, told_law}
-
-plus_zero : (a b : ℕ) → a ≡ b → a ≡ b + 0
-plus_zero a b e = omega (arith, e)
+use Rattle.rgo_core_memory.specs.Owed.{claimed_for}
+use Rattle.rgo_core_memory.proofs.Owing.{still_claimed}
+use Rattle.rgo_core.specs.Links.{Links, left_to_free}
+use Rattle.rgo_core.proofs.Links.{IsElsewhere, all_kept, as_much, claims_apart, has_duty, lengths_low, links_between, links_freeing}
+use Rattle.rgo_core.proofs.Standing.{frames_here, frame_at, memory_at}
+use Rattle.rgo_core.proofs.Counting.{plus_zero}
 
 counts_none : (k : Counts) → k ≡ counts_plus k no_share
 counts_none k = λ i. record {
@@ -83,7 +85,8 @@ module _ {T : Setup} {g : ℕ} {c : Record} (x : Here T g c) (k p : ℕ) (ds : L
   tried_steps : slice_index x.words (count_at z p) ≢ 0
       → Steps x (slice_set x.words (count_at z p) (slice_index x.words (count_at z p))) (remembers c (with_tried_slot c.memory p))
   tried_steps ne = remembered x _ _ (look_image x (count_at z p) (omega (arith, low)) _ _
-      (tried_slot_keeps T.code z x.words (map memory_of x.recs) x.s (I x).places g c.memory x.core.sound.good (I x).memory (is_memory x) p low ne))
+      (tried_slot_keeps T.code z x.words (map memory_of x.recs) x.s (I x).places g c.memory x.core.sound.good (I x).memory (memory_at x) p low ne))
+      (as_before x (count_at z p) (slice_index x.words (count_at z p)) (omega arith) (omega (arith, low)) (with_tried_slot c.memory p) refl refl)
 
   module _ (none : slice_index x.words (count_at z p) ≡ 0) where
     -- no live region has the slot
@@ -101,7 +104,7 @@ module _ {T : Setup} {g : ℕ} {c : Record} (x : Here T g c) (k p : ℕ) (ds : L
 
     step : HasStep T.code T.sizes.page_words slot' (I x).addresses x.s (Attend g) (x.s.regions ++ record { stakes = 1; pages = 0 } ∷ []) x.s.mark
         (slice_set (map frame_of x.recs) g (created_in c.frame k ds p))
-    step = create_law (frame_here x) k ds p slot' owed fresh (record {
+    step = create_law (frames_here x) k ds p slot' owed fresh (record {
       new = put_here (I x).places.slot (length x.s.regions) p (length x.s.regions) refl;
       old = λ r l. put_else (I x).places.slot (length x.s.regions) p r (λ e. omega (arith, e, l));
     })
@@ -110,7 +113,7 @@ module _ {T : Setup} {g : ℕ} {c : Record} (x : Here T g c) (k p : ℕ) (ds : L
     t = step.state
 
     f : Fits T.code (I x).places.slot (I x).addresses x.s g c.frame
-    f = (I x).frames.each g c.frame (is_frame x)
+    f = (I x).frames.each g c.frame (frame_at x)
 
     shown : IsShown T.code (I x).places.slot (I x).addresses f.frames f.h c.frame
     shown = ⊎_elim (λ y. y)
@@ -153,6 +156,8 @@ module _ {T : Setup} {g : ℕ} {c : Record} (x : Here T g c) (k p : ℕ) (ds : L
         (memory_stays x (slice_set x.words (count_at z p) 2) t P'
         (create_keeps T.code z x.words (map memory_of x.recs) x.s t g k p f.h first.others x.core.sound.good (I x).places (I x).memory f.there owes
         step.steps low none))
+        (links_between x (count_at z p) 2 (omega arith) (omega (arith, low)) (creates c k ds p) (all_kept refl refl refl)
+        (IsElsewhere (as_much (steps_of c)) (has_duty T.code c (Create k) ds owed)))
         (record no_share { made = 1 }) adds counts (shallow x) step.mark_is
         (record { prints = refl; first = refl; children = refl; refused = refl }))
 
@@ -203,7 +208,7 @@ module _ {T : Setup} {g : ℕ} {c : Record} (x : Here T g c) (d : Duty) (ds : Li
     (owed : c.frame.holder.duties ≡ d ∷ ds) (shares : stake_shared (record c.frame.holder { duties = ds }) d ≡ Some (p, k)) where
   S : ChangesStakes T.code T.sizes.page_words (I x).places.slot (I x).addresses x.s g p stake_shared one_more
       (slice_set (map frame_of x.recs) g (record c.frame { holder = k }))
-  S = share_law (frame_here x) d ds p k owed shares
+  S = share_law (frames_here x) d ds p k owed shares
 
   shared : SharesStake x.s S.h S.duty S.others S.region
   shared = shares_stake x.s S.h S.duty S.others S.region S.after S.owed S.does
@@ -228,6 +233,9 @@ module _ {T : Setup} {g : ℕ} {c : Record} (x : Here T g c) (d : Duty) (ds : Li
       (I x).places.slot (I x).places.uses (I x).places.at (I x).places.page (count_at (layout T) p) (slice_index x.words (count_at (layout T) p) + 1)
       (let l = in_table x S.region p S.slot_is S.live in omega (arith, l)) share_lives S.step.fit
       (memory_stays x (slice_set x.words (count_at (layout T) p) (slice_index x.words (count_at (layout T) p) + 1)) S.step.state (I x).places share_memory)
+      (links_between x (count_at (layout T) p) (slice_index x.words (count_at (layout T) p) + 1) (omega arith)
+      (let l = in_table x S.region p S.slot_is S.live in omega (arith, l)) (with_holder c k) (all_kept refl refl refl)
+      (IsElsewhere (as_much (steps_of c)) (has_duty T.code c d ds owed)))
       no_share share_adds (counts_none (counted c.clock)) (shallow x) S.step.mark_is
       (record { prints = refl; first = refl; children = refl; refused = refl })
 
@@ -258,7 +266,7 @@ module _ {T : Setup} {g : ℕ} {c : Record} (x : Here T g c) (d : Duty) (ds : Li
     (free : IsFreeOf c.memory p) (calm : c.memory.give ≡ Calm) where
   E : ChangesStakes T.code T.sizes.page_words (I x).places.slot (I x).addresses x.s g p stake_ended one_fewer
       (slice_set (map frame_of x.recs) g (record c.frame { holder = k }))
-  E = end_law (frame_here x) d ds p k owed ends
+  E = end_law (frames_here x) d ds p k owed ends
 
   end_of : EndsStake x.s E.h E.duty E.others E.region
   end_of = ends_stake x.s E.h E.duty E.others E.region E.after E.owed E.does
@@ -296,13 +304,16 @@ module _ {T : Setup} {g : ℕ} {c : Record} (x : Here T g c) (d : Duty) (ds : Li
     leave_memory = subst (λ m. Memory (layout T) (slice_set x.words (count_at (layout T) m) (found_at m - 1))
         (slice_set (map memory_of x.recs) g (without_slot c.memory m)) E.step.state (I x).places) E.slot_is
         (leave_keeps T.code (layout T) x.words (map memory_of x.recs) x.s E.step.state g E.region E.h c.memory x.core.sound.good (I x).places
-        (I x).memory E.there (is_memory x) end_of.leaves E.step.steps end_free
+        (I x).memory E.there (memory_at x) end_of.leaves E.step.steps end_free
         (subst (λ m. found_at m ≢ 2) (sym E.slot_is) more))
 
     leave_does : Does x (slice_set x.words (count_at (layout T) p) (n - 1)) (leaves c k p)
     leave_does = attends x rests (Attend g) refl E.step.state E.step.steps (else_stays x.s E.step.state E.step.same) (accessed c.clock) (record c.frame { holder = k })
         (without_slot c.memory p) (I x).places.slot (I x).places.uses (I x).places.at (I x).places.page (count_at (layout T) p) (n - 1) low_end end_lives
-        E.step.fit leave_memory no_share
+        E.step.fit leave_memory
+        (links_between x (count_at (layout T) p) (n - 1) (omega arith) low_end (leaves c k p) (all_kept refl refl refl)
+        (IsElsewhere (as_much (steps_of c)) (has_duty T.code c d ds owed)))
+        no_share
         (end_adds ∙ ap (counts_plus (counts_of x.s)) (share_kept x.s.regions E.region info (info_of x E.region p E.slot_is E.live).1
         (λ e. let w = n_is in more (omega (arith, w, e)))))
         (counts_none (counted c.clock)) (shallow x) E.step.mark_is
@@ -320,7 +331,7 @@ module _ {T : Setup} {g : ℕ} {c : Record} (x : Here T g c) (d : Duty) (ds : Li
         (slice_set (map memory_of x.recs) g (with_give (without_slot c.memory m) (Owes m))) E.step.state
         (record (I x).places { uses = put (I x).places.uses m (Closing g) })) E.slot_is
         (last_leave_keeps T.code (layout T) x.words (map memory_of x.recs) x.s E.step.state g E.region E.h c.memory x.core.sound.good (I x).places
-        (I x).memory E.there (is_memory x) end_of.leaves E.step.steps end_free calm
+        (I x).memory E.there (memory_at x) end_of.leaves E.step.steps end_free calm
         (subst (λ m. found_at m ≡ 2) (sym E.slot_is) two))
 
     last_counts : counted (leaves_last c k p info.pages).clock ≡ counts_plus (counted c.clock) gain
@@ -334,10 +345,24 @@ module _ {T : Setup} {g : ℕ} {c : Record} (x : Here T g c) (d : Duty) (ds : Li
       goroutines = plus_zero c.clock.share.goroutines c.clock.share.goroutines refl i;
     }
 
+    -- its pages are to be freed
+    last_links : Links T.code (layout T) (slice_set x.words (count_at (layout T) p) (n - 1)) (slice_set x.recs g (leaves_last c k p info.pages))
+    last_links =
+        let words = slice_set x.words (count_at (layout T) p) (n - 1) in
+        let claims = claims_apart x (count_at (layout T) p) (n - 1) (λ q l e. omega (arith, l, e)) in
+        let calm_now : c.clock.owed ≡ 0 = (x.core.links g c x.is_c).owed ∙ ap (left_to_free (layout T) x.words) calm in
+        let live = info_of x E.region p E.slot_is E.live in
+        let pages : info.pages ≡ claimed_for (layout T) x.words p =
+        still_claimed.live (layout T) x.words (map memory_of x.recs) x.s (I x).places (I x).memory E.region info live.1 live.2
+        ∙ ap (claimed_for (layout T) x.words) E.slot_is in
+        links_freeing x words (lengths_low x (count_at (layout T) p) (n - 1) low_end) (leaves_last c k p info.pages) (λ j r e ne is closes. claims r)
+        (let e : c.clock.owed + info.pages ≡ info.pages = omega (arith, calm_now) in e ∙ (pages ∙ sym (claims p))) refl
+        (IsElsewhere (as_much (steps_of c)) (has_duty T.code c d ds owed))
+
     last_does : Does x (slice_set x.words (count_at (layout T) p) (n - 1)) (leaves_last c k p info.pages)
     last_does = attends x rests (Attend g) refl E.step.state E.step.steps (else_stays x.s E.step.state E.step.same) (leaves_last c k p info.pages).clock
         (record c.frame { holder = k }) (with_give (without_slot c.memory p) (Owes p)) (I x).places.slot (put (I x).places.uses p (Closing g))
-        (I x).places.at (I x).places.page (count_at (layout T) p) (n - 1) low_end end_lives E.step.fit last_memory gain
+        (I x).places.at (I x).places.page (count_at (layout T) p) (n - 1) low_end end_lives E.step.fit last_memory last_links gain
         (end_adds ∙ ap (counts_plus (counts_of x.s)) (share_last x.s.regions E.region info (info_of x E.region p E.slot_is E.live).1
         (let w = n_is in omega (arith, w, two))))
         last_counts (shallow x) E.step.mark_is
@@ -363,5 +388,5 @@ module _ {T : Setup} {g : ℕ} {c : Record} (x : Here T g c) (d : Duty) (ds : Li
 
 pub leave_move : LeaveMove
 leave_move T g c d ds p k rests owed ends free calm =
-    told_law T g c (count_at (layout T) p) (λ n. (n + (2 ^ 64 - 1)) % 2 ^ 64) (HasLeft c k p) (omega arith)
+    told_law T g c (count_at (layout T) p) (λ n. (n + (2 ^ 64 - 1)) % 2 ^ 64) (HasLeft c k p) (λ x. omega arith)
     (λ x small. reaches x d ds p k rests owed ends free calm small)

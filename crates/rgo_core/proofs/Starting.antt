@@ -34,14 +34,13 @@ use Rattle.rgo_core.specs.Core.{Here, Setup, layout}
 use Rattle.rgo_core.specs.Image.{Image, place_of}
 use Rattle.rgo_core.specs.Laws.{StartMove, child_of, started_by}
 use Rattle.rgo_core.specs.Next.{IsAt}
-use Rattle.rgo_core.specs.Records.{ClockRec, Record, counted, frame_of, memory_of, side_of, with_child}
+use Rattle.rgo_core.specs.Records.{ClockRec, Record, counted, frame_of, memory_of, side_of, with_child, steps_of}
 use Rattle.rgo_core.proofs.ClockLifts.{map_more, number_law}
 use Rattle.rgo_core.proofs.Lift.{many, shallow_here}
 use Rattle.rgo_core.proofs.Standing.{at_instruction, frame_at, image_made, memory_at, side_at}
 use Rattle.rgo_core.proofs.Staying.{channels_keep}
-
-zero_more : (a b : ℕ) → a ≡ b → a ≡ b + 0
-zero_more a b e = omega (arith, e)
+use Rattle.rgo_core.proofs.Links.{CountsOne, all_kept, links_low, links_more, one_later}
+use Rattle.rgo_core.proofs.Counting.{plus_zero}
 
 one_more : (a : ℕ) → suc a ≡ a + 1
 one_more a = omega arith
@@ -53,25 +52,25 @@ gain = record no_share { steps = 1; goroutines = 1 }
 counts_start : (s t : RegionState) → t.regions ≡ s.regions → t.global_pages ≡ s.global_pages → t.plain.memory ≡ s.plain.memory
     → length t.plain.goroutines ≡ length s.plain.goroutines + 1 → t.steps ≡ s.steps + 1 → counts_of t ≡ counts_plus (counts_of s) gain
 counts_start s t regions pages memory more steps = λ i. record {
-  made = zero_more (length t.regions) (length s.regions) (ap length regions) i;
-  removed = zero_more (count_by is_removed t.regions) (count_by is_removed s.regions) (ap (count_by is_removed) regions) i;
-  taken = zero_more (counts_of t).taken (counts_of s).taken
+  made = plus_zero (length t.regions) (length s.regions) (ap length regions) i;
+  removed = plus_zero (count_by is_removed t.regions) (count_by is_removed s.regions) (ap (count_by is_removed) regions) i;
+  taken = plus_zero (counts_of t).taken (counts_of s).taken
       (ap (λ k. k + sum_by (λ (info : RegionInfo). info.pages) t.regions) pages
       ∙ ap (λ l. s.global_pages + sum_by (λ (info : RegionInfo). info.pages) l) regions) i;
-  returned = zero_more (sum_by pages_if_removed t.regions) (sum_by pages_if_removed s.regions) (ap (sum_by pages_if_removed) regions) i;
+  returned = plus_zero (sum_by pages_if_removed t.regions) (sum_by pages_if_removed s.regions) (ap (sum_by pages_if_removed) regions) i;
   steps = steps i;
-  objects = zero_more (length t.plain.memory.heap) (length s.plain.memory.heap) (ap (λ (m : Heap). length m.heap) memory) i;
+  objects = plus_zero (length t.plain.memory.heap) (length s.plain.memory.heap) (ap (λ (m : Heap). length m.heap) memory) i;
   goroutines = more i;
 }
 
 counted_start : (c : ClockRec) (n : ℕ) → counted (with_child c n) ≡ counts_plus (counted c) gain
 counted_start c n = λ i. record {
-  made = zero_more c.share.made c.share.made refl i;
-  removed = zero_more c.share.removed c.share.removed refl i;
-  taken = zero_more c.share.taken c.share.taken refl i;
-  returned = zero_more (c.share.returned + c.owed) (c.share.returned + c.owed) refl i;
+  made = plus_zero c.share.made c.share.made refl i;
+  removed = plus_zero c.share.removed c.share.removed refl i;
+  taken = plus_zero c.share.taken c.share.taken refl i;
+  returned = plus_zero (c.share.returned + c.owed) (c.share.returned + c.owed) refl i;
   steps = one_more c.share.steps i;
-  objects = zero_more c.share.objects c.share.objects refl i;
+  objects = plus_zero c.share.objects c.share.objects refl i;
   goroutines = one_more c.share.goroutines i;
 }
 
@@ -133,6 +132,8 @@ module _ {T : Setup} {g : ℕ} {c : Record} (x : Here T g c) (f : ℕ) (callee :
           counted = counted_start c.clock (slice_index x.words 16);
           shallow = let s = shallow_here x g c.frame (frame_at x) in let l = ap (λ (fs : List WordFrame). length fs) a.frames in omega arith;
           image = image_made T.code (layout T) x.words recs' t (suc (slice_index x.words 16)) image;
+          links = links_more T.code (layout T) (slice_set x.words 16 (suc (slice_index x.words 16))) (slice_set x.recs g d) child
+              (links_low x 16 (suc (slice_index x.words 16)) (omega arith) d (all_kept refl refl refl) (CountsOne (one_later (steps_of c)))) refl refl;
         };
         mark = p.mark;
         printed = p.printed ∙ (ap (Rattle.rgo_region_machine.specs.Instructions.printed_if x.s.mark x.s.plain.printed) (append-nil x.s.plain.printed)

@@ -1,5 +1,5 @@
 -- The image after a step of one goroutine that leaves memory, owners and regions.
-use Rattle.std.proofs.Common.{◌≡◌, inl, ℕ, ◌+◌, ◌≤◌, List, ◌++◌, Option, Some, None, length, map, replicate, slice_get, slice_set, refl, ap, sym, subst, ◌∙◌, arith}
+use Rattle.std.proofs.Common.{◌≡◌, inl, ℕ, ◌+◌, ◌≤◌, List, ◌++◌, Some, None, length, map, replicate, slice_get, slice_set, refl, ap, sym, subst, ◌∙◌, arith}
 use Rattle.std.proofs.lemmas.List.{append-nil}
 use Rattle.std.proofs.lemmas.Option.{slice_get_within}
 use Rattle.rgo_core_channels.proofs.Elsewhere.{event_keeps}
@@ -13,23 +13,14 @@ use Rattle.rgo_core_memory.specs.Image.{Memory, code_of}
 use Rattle.rgo_core_memory.specs.Records.{Rec as MemoryRec}
 use Rattle.rgo_memory.specs.Memory.{Memory as Heap}
 use Rattle.rgo_region_machine.specs.Machine.{Event, region_step}
-use Rattle.rgo_region_machine.specs.Objects.{may_touch, owner_live}
-use Rattle.rgo_region_machine.specs.Regions.{is_live}
 use Rattle.rgo_region_machine.specs.States.{Holder, NoOffer, RegionState}
-use Rattle.rgo_region_machine.specs.declared.regions.Region.{Region}
 use Rattle.rgo_sound.proofs.Places.{length_set}
 use Rattle.rgo_sound.specs.Leaving.{ActsAlone}
 use Rattle.rgo_core.specs.Core.{Here, Setup, layout}
 use Rattle.rgo_core.specs.Image.{Image, place_of}
 use Rattle.rgo_core.specs.Records.{Record, frame_of, memory_of, side_of}
 use Rattle.rgo_core.proofs.Standing.{memory_at, moment, side_at}
-
-pub touch_same : (s t : RegionState) → t.owners ≡ s.owners → t.regions ≡ s.regions → (o : ℕ) → may_touch t (Some o) ≡ may_touch s (Some o)
-touch_same s t owners regions o = ap (owner_live t) (ap (λ l. slice_get l o) owners) ∙ lives (slice_get s.owners o)
-  where
-    lives : (r : Option Region) → owner_live t r ≡ owner_live s r
-    lives None = refl
-    lives (Some r) = ap (λ q. is_live q r) regions
+use Rattle.rgo_core.proofs.Leaving.{touch_same}
 
 -- channels and what records know of them, where so many goroutines have started
 module _ {T : Setup} {g : ℕ} {c : Record} (x : Here T g c) (event : Event) (t : RegionState)

@@ -1,11 +1,10 @@
 -- Traps at channels: the instruction of the region machine traps, and the end is set in the clock.
-use Rattle.std.proofs.Common.{◌≡◌, ◌⊎◌, ℕ, suc, ◌+◌, ◌<◌, true, List, [], ◌∷◌, Option, Some, None, length, map, option_map, slice_get, slice_set, slice_index, bit_or, refl, ap, sym, subst, ◌∙◌, inl, inr, arith, Contains}
+use Rattle.std.proofs.Common.{◌≡◌, ◌⊎◌, ℕ, true, List, [], ◌∷◌, Option, Some, None, map, option_map, slice_get, slice_set, slice_index, bit_or, refl, ap, sym, subst, ◌∙◌, inl, inr, arith, Contains}
 use Rattle.std.proofs.lemmas.Option.{same_Some}
 use Rattle.rgo_typed.specs.declared.actions.Action.{Action}
 use Rattle.rgo_typed.specs.declared.actions.Action.TheVariants.{Close, Send}
 use Rattle.rgo_typed.specs.declared.types.Type.{«Type»}
 use Rattle.rgo_wellformed.specs.TypeRules.{chan_of}
-use Rattle.rgo_memory.specs.Channels.{close, send}
 use Rattle.rgo_memory.specs.Effects.{Effect, Traps}
 use Rattle.rgo_memory.specs.declared.traps.Trap.{Trap}
 use Rattle.rgo_memory.specs.declared.traps.Trap.TheVariants.{CloseClosed, CloseNil, SendClosed}
@@ -22,7 +21,7 @@ use Rattle.rgo_code.specs.Erasure.{erased, erased_fn, erased_op}
 use Rattle.rgo_code.specs.Types.{HasType, OpFits}
 use Rattle.rgo_region_machine.specs.Duties.{may_go}
 use Rattle.rgo_region_machine.specs.Instructions.{marked}
-use Rattle.rgo_region_machine.specs.Machine.{Event, Instruct, region_step}
+use Rattle.rgo_region_machine.specs.Machine.{Instruct, region_step}
 use Rattle.rgo_region_machine.specs.Owed.{current}
 use Rattle.rgo_region_machine.specs.States.{Ended, Holder, Mark, RegionState, Standing, Taken}
 use Rattle.rgo_sound.proofs.Acting.{performed, silent}
@@ -36,7 +35,7 @@ use Rattle.rgo_core_channels.specs.Records.{Shut, Stranded}
 use Rattle.rgo_core_channels.specs.Standing.{Next}
 use Rattle.rgo_core_channels.proofs.Live.{first_type}
 use Rattle.rgo_core_channels.proofs.Operations.{close_traps, send_traps}
-use Rattle.rgo_core_channels.proofs.Steps.{one_place, same_chan}
+use Rattle.rgo_core_channels.proofs.Steps.{one_place}
 use Rattle.rgo_core_channels.proofs.Traps.{close_nil_is, close_trap_is, send_trap_is}
 use Rattle.rgo_core_frames.specs.Fits.{AllFit, Fits, IsPast, IsShown}
 use Rattle.rgo_core_frames.specs.Slots.{slot_duties}
@@ -51,16 +50,17 @@ use Rattle.rgo_core.specs.AtChannels.{Operates}
 use Rattle.rgo_core.specs.ClockSteps.{Ends, first_mark}
 use Rattle.rgo_core.specs.CommitMoves.{IsAtSend}
 use Rattle.rgo_core.specs.Core.{Here, Setup, layout}
-use Rattle.rgo_core.specs.Image.{Image, place_of}
+use Rattle.rgo_core.specs.Image.{Image}
 use Rattle.rgo_core.specs.Next.{IsAt}
-use Rattle.rgo_core.specs.Records.{Record, frame_of, memory_of, side_of}
+use Rattle.rgo_core.specs.Records.{Record, frame_of, memory_of, side_of, steps_of}
 use Rattle.rgo_core.specs.Steps.{Moves}
 use Rattle.rgo_core.specs.TrapMoves.{CloseNilMove, CloseTrapMove, SendTrapMove, StrandedMove, trapped}
 use Rattle.rgo_core.proofs.AtChannels.{calm, here, live, next, object, place_is, points_to}
 use Rattle.rgo_core.proofs.ClockLifts.{end_law}
 use Rattle.rgo_core.proofs.Parts.{adds_of, shallow}
-use Rattle.rgo_core.proofs.Performing.{ticked_counts}
 use Rattle.rgo_core.proofs.Standing.{at_instruction, frame_at, frames_here, image_clock, image_same, moment, side_at}
+use Rattle.rgo_core.proofs.Links.{CountsOne, all_kept, links_low, one_later}
+use Rattle.rgo_core.proofs.Counting.{instructed_counts}
 
 marked_is : (m : Option Mark) (end : End) → marked m (Some end) ≡ first_mark m (Ended end)
 marked_is None end = refl
@@ -98,9 +98,10 @@ module _ {T : Setup} {g : ℕ} {c : Record} (x : Here T g c) (a : AtInstruction)
       steps = kept.0;
       gain = record no_share { steps = 1; objects = 0 };
       adds = adds_of x.s t 1 0 refl refl refl (omega arith) refl;
-      counted = ticked_counts c.clock;
+      counted = instructed_counts c.clock;
       shallow = shallow x;
       image = image_clock T.code (layout T) x.words (slice_set x.recs g d) t (bit_or (slice_index x.words 0) 9223372036854775808) image;
+      links = links_low x 0 (bit_or (slice_index x.words 0) 9223372036854775808) (omega arith) d (all_kept refl refl refl) (CountsOne (one_later (steps_of c)));
     };
     marked = marked_is x.s.mark (the_end.Trap trap place);
     printed = refl;

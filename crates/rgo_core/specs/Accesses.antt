@@ -1,13 +1,16 @@
--- Loads and stores: fields of structs, package variables, and lengths of slices. Each is the instruction.
-use Rattle.std.specs.Prelude.{◌≡◌, ◌+◌, ℕ, suc, List, [], ◌∷◌, Some, None}
+-- Loads and stores: fields of structs, elements and lengths of slices, and package variables. Each is the instruction, but for the load of
+-- a length before an access to an element, which tells that the index is within it.
+use Rattle.std.specs.Prelude.{◌≡◌, ◌+◌, ◌<◌, ℕ, suc, List, [], ◌∷◌, Some, None}
 use Rattle.rgo_code.specs.Code.{Do}
 use Rattle.rgo_typed.specs.declared.actions.Action.TheVariants as action
 use Rattle.rgo_core_channels.specs.Records.{at_rest}
 use Rattle.rgo_core_frames.specs.WordFrames.{word_at}
+use Rattle.rgo_core_memory.specs.Records.{Measured, with_measured}
 use Rattle.rgo_core_memory.specs.Words.{base, variable_at}
 use Rattle.rgo_core.specs.Core.{Setup, layout}
+use Rattle.rgo_core.specs.Links.{IsAtElement}
 use Rattle.rgo_core.specs.Next.{IsAt, acted}
-use Rattle.rgo_core.specs.Records.{Record}
+use Rattle.rgo_core.specs.Records.{Record, accessed, steps_of}
 use Rattle.rgo_core.specs.Steps.{Moves}
 
 -- a field is loaded
@@ -27,6 +30,39 @@ abbrev pub LenMove : Type 0
 LenMove = (T : Setup) (g : ℕ) (c : Record) (d p address : ℕ) (removes : List ℕ)
     (a : IsAt T.code c (Do (Some d) action.Len (p ∷ []) removes)) → c.side ≡ at_rest → word_at a.w p ≡ suc address
     → Moves T g c (base (layout T) + address) (λ n. n) (λ n e. e ≡ acted T.code c a (Some d) n)
+
+-- The length of a slice is loaded before an access to one of its elements. The record remembers it until the next instruction.
+abbrev pub measures : Record → (address elements : ℕ) → Record
+measures c address n = record c {
+  clock = accessed c.clock;
+  memory = with_measured c.memory (record { address = address; elements = n; steps = steps_of c });
+}
+
+abbrev pub MeasureMove : Type 0
+MeasureMove = (T : Setup) (g : ℕ) (c : Record) (address : ℕ) → IsAtElement T.code c address
+    → Moves T g c (base (layout T) + address) (λ n. n) (λ n d. d ≡ measures c address n)
+
+-- the length of the slice at this address is known, and this is one of its elements
+pub record IsInSlice (c : Record) (address index : ℕ) : Type 0 where
+  pub measured : Measured
+  pub read : c.memory.measured ≡ Some measured
+  pub now : measured.steps ≡ steps_of c
+  pub its : measured.address ≡ address
+  pub within : index < measured.elements
+
+-- an element is loaded
+abbrev pub AtMove : Type 0
+AtMove = (T : Setup) (g : ℕ) (c : Record) (d p q address : ℕ) (removes : List ℕ)
+    (a : IsAt T.code c (Do (Some d) action.At (p ∷ q ∷ []) removes)) → c.side ≡ at_rest → word_at a.w p ≡ suc address
+    → IsInSlice c address (word_at a.w q)
+    → Moves T g c (base (layout T) + (address + suc (word_at a.w q))) (λ n. n) (λ n e. e ≡ acted T.code c a (Some d) n)
+
+-- an element is stored
+abbrev pub PutMove : Type 0
+PutMove = (T : Setup) (g : ℕ) (c : Record) (p q r address : ℕ) (removes : List ℕ)
+    (a : IsAt T.code c (Do None action.Put (p ∷ q ∷ r ∷ []) removes)) → c.side ≡ at_rest → word_at a.w p ≡ suc address
+    → IsInSlice c address (word_at a.w q)
+    → Moves T g c (base (layout T) + (address + suc (word_at a.w q))) (λ n. word_at a.w r) (λ n e. e ≡ acted T.code c a None 0)
 
 -- a package variable is loaded
 abbrev pub GetMove : Type 0

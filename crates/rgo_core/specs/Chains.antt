@@ -1,6 +1,6 @@
 -- Accesses to the chains of pages: a claimed page is hung and linked; a chain is given back page by page. The region machine makes no
 -- step.
-use Rattle.std.specs.Prelude.{◌≡◌, ◌≤◌, ℕ, suc}
+use Rattle.std.specs.Prelude.{◌≡◌, ◌≤◌, ◌-◌, ℕ, suc}
 use Rattle.rgo_core_memory.specs.Records.{Calm, Gave, Giving, Got, Hung, Idle, Owes, Past, Rec as MemoryRec, with_claim, with_give}
 use Rattle.rgo_core_memory.specs.Words.{count_at, head_at, next_at, state_at}
 use Rattle.rgo_core.specs.Core.{Setup, layout}
@@ -34,16 +34,16 @@ NextMove = (T : Setup) (g : ℕ) (c : Record) (r p : ℕ) → c.memory.give ≡ 
     (λ n d. (d ≡ remembers c (with_give c.memory (Past r (suc p) n))) × (n ≤ T.sizes.pages))
 
 -- a page is counted as returned when it is free
-abbrev pub frees : Record → (slot next left : ℕ) → Record
-frees c r q left = record c {
-  clock = record (accessed c.clock) { share = record c.clock.share { returned = suc c.clock.share.returned }; owed = left };
+abbrev pub frees : Record → (slot next : ℕ) → Record
+frees c r q = record c {
+  clock = record (accessed c.clock) { share = record c.clock.share { returned = suc c.clock.share.returned }; owed = c.clock.owed - 1 };
   memory = with_give c.memory (Giving r q);
 }
 
 -- the page is free again
 abbrev pub FreeMove : Type 0
-FreeMove = (T : Setup) (g : ℕ) (c : Record) (r p q left : ℕ) → c.memory.give ≡ Past r (suc p) q → c.clock.owed ≡ suc left
-    → Moves T g c (state_at (layout T) p) (λ n. 0) (λ n d. d ≡ frees c r q left)
+FreeMove = (T : Setup) (g : ℕ) (c : Record) (r p q : ℕ) → c.memory.give ≡ Past r (suc p) q
+    → Moves T g c (state_at (layout T) p) (λ n. 0) (λ n d. d ≡ frees c r q)
 
 -- no page is left: the head is cleared
 abbrev pub ClearMove : Type 0

@@ -11,6 +11,7 @@ use Rattle.rgo_machine.specs.declared.limits.Sizes.{Sizes}
 use Rattle.rgo_region_machine.specs.Machine.{Event}
 use Rattle.rgo_region_machine.specs.States.{RegionState}
 use Rattle.rgo_core.specs.Image.{Image, table_sizes}
+use Rattle.rgo_core.specs.Links.{Links}
 use Rattle.rgo_core.specs.Records.{Record, clock_of}
 use Rattle.rgo_core.specs.Story.{Story}
 
@@ -31,6 +32,7 @@ pub record CoreAt (T : Setup) (words : List ℕ) (recs : List Record) (events : 
   pub capped : most_goroutines T.limits ≤ 1000000
   pub story : Story T.code T.sizes T.limits words (map clock_of recs) events s
   pub image : Image T.code (layout T) words recs s
+  pub links : Links T.code (layout T) words recs
 
 -- which runs explain which words and records
 abbrev pub Core : Setup → List ℕ → List Record → List Event → Type 0

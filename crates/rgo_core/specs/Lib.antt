@@ -5,6 +5,7 @@ pub mod Clock
 pub mod Numbers
 pub mod Story
 pub mod Image
+pub mod Links
 pub mod Core
 pub mod Next
 pub mod Steps
@@ -25,3 +26,4 @@ pub mod Claims
 pub mod Regions
 pub mod Traces
 pub mod TraceExamples
+pub mod LinkExamples

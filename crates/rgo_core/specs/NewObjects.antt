@@ -62,10 +62,10 @@ WordMove = (T : Setup) (g : ℕ) (c : Record) (f : Fill) (object : Object) (stor
 -- the last of its words is stored: this is the instruction
 abbrev pub ObjectMove : Type 0
 ObjectMove = (T : Setup) (g : ℕ) (c : Record) (to : Option ℕ) (act : Action) (from removes : List ℕ)
-    (a : IsAt T.code c (Do to act from removes)) (object : Object) (by_slot : Region) (f : Fill) (stored : List ℕ) (i : ℕ)
+    (a : IsAt T.code c (Do to act from removes)) (object : Object) (by_slot : Region) (f : Fill) (stored : List ℕ) (last : ℕ)
     → c.side ≡ at_rest → MakesObject T.code a.w to act from object
     → making_region (function_of T.code a.w.function) (top_names c.frame.holder.environments) a.instr.op ≡ Some by_slot
-    → f.slot ≡ slot_number (layout T) by_slot → Makes (layout T) c.memory f object stored → i < words_of object
-    → Covers object (i ∷ stored)
-    → Moves T g c (cell_at (layout T) f.page (f.fill + i)) (λ n. opening (content object i))
+    → f.slot ≡ slot_number (layout T) by_slot → Makes (layout T) c.memory f object stored → last < words_of object
+    → Covers object (last ∷ stored)
+    → Moves T g c (cell_at (layout T) f.page (f.fill + last)) (λ n. opening (content object last))
     (λ n d. d ≡ made_object T c a to f object)

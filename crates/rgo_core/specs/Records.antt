@@ -54,6 +54,10 @@ side_of c = c.side
 abbrev pub accesses : Record → ℕ
 accesses c = c.clock.accesses
 
+-- how many instructions it has made
+abbrev pub steps_of : Record → ℕ
+steps_of c = c.clock.share.steps
+
 -- ---- counts
 
 -- pages that are still to be freed count as returned, as they do in the region machine

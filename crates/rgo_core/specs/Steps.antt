@@ -8,6 +8,7 @@ use Rattle.rgo_region_machine.specs.States.{RegionState}
 use Rattle.rgo_sound.specs.Tally.{counts_plus}
 use Rattle.rgo_core.specs.Core.{Core, Here, Setup, layout}
 use Rattle.rgo_core.specs.Image.{Image}
+use Rattle.rgo_core.specs.Links.{Links}
 use Rattle.rgo_core.specs.Records.{ClockRec, Record, accesses, counted as counted_by}
 
 -- what it has drawn, ended and started is the same
@@ -19,7 +20,7 @@ pub record SameClock (c d : ClockRec) : Type 0 where
 
 module _ {T : Setup} {g : ℕ} {c : Record} (x : Here T g c) where
   -- The region machine makes a step, of which the goroutine counts what it adds. Its record is then d, and these words and records
-  -- are the image.
+  -- are the image, with their links.
   pub record Goes (words : List ℕ) (recs : List Record) (d : Record) : Type 0 where
     pub event : Event
     pub next : RegionState
@@ -29,6 +30,7 @@ module _ {T : Setup} {g : ℕ} {c : Record} (x : Here T g c) where
     pub counted : counted_by d.clock ≡ counts_plus (counted_by c.clock) gain
     pub shallow : length d.frame.frames ≤ deepest
     pub image : Image T.code (layout T) words recs next
+    pub links : Links T.code (layout T) words recs
 
   -- a step that neither prints nor ends the run, nor starts a goroutine
   pub record Does (words : List ℕ) (d : Record) : Type 0 where
@@ -42,6 +44,7 @@ module _ {T : Setup} {g : ℕ} {c : Record} (x : Here T g c) where
     pub counted : counted_by d.clock ≡ counted_by c.clock
     pub same : SameClock c.clock d.clock
     pub image : Image T.code (layout T) words (slice_set x.recs g d) x.s
+    pub links : Links T.code (layout T) words (slice_set x.recs g d)
 
   abbrev pub Steps : (words : List ℕ) → Record → Type 0
   Steps words d = Does words d ⊎ Stays words d

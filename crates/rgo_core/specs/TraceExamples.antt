@@ -121,8 +121,8 @@ loads_head = remembering (head_at tiny 0) (λ n. n) (λ n m. with_give m (Giving
 abbrev pub loads_next : ℕ → Step
 loads_next p = remembering (next_at tiny p) (λ n. n) (λ n m. with_give m (Past 0 (suc p) n))
 
-abbrev pub frees_page : (page next left : ℕ) → Step
-frees_page p q left = record { by = 0; word = state_at tiny p; leaves = λ n. 0; becomes = λ n c. frees c 0 q left }
+abbrev pub frees_page : (page next : ℕ) → Step
+frees_page p q = record { by = 0; word = state_at tiny p; leaves = λ n. 0; becomes = λ n c. frees c 0 q }
 
 abbrev pub clears_head : Step
 clears_head = remembering (head_at tiny 0) (λ n. 0) (λ n m. with_give m (Gave 0))
@@ -141,7 +141,7 @@ filling =
 -- its only stake ends, and its pages are given back
 abbrev pub giving_back : List Step
 giving_back =
-    leaves_region ∷ loads_head ∷ loads_next 1 ∷ frees_page 1 1 1 ∷ loads_next 0 ∷ frees_page 0 0 0 ∷ clears_head ∷ frees_slot ∷ []
+    leaves_region ∷ loads_head ∷ loads_next 1 ∷ frees_page 1 1 ∷ loads_next 0 ∷ frees_page 0 0 ∷ clears_head ∷ frees_slot ∷ []
 
 -- the words when the region is filled
 abbrev pub filled_words : List ℕ

@@ -1,8 +1,9 @@
 //! What each access to memory does to what the table shows: loads and stores, new objects, pages, chains and the counts of
 //! regions. What a law asks is told by the goroutine's own record.
-ghost use Rattle.rgo_core.specs.Accesses.{GetMove, LenMove, LoadMove, SetMove, StoreMove};
+ghost use Rattle.rgo_core.specs.Accesses.{AtMove, GetMove, LenMove, LoadMove, MeasureMove, PutMove, SetMove, StoreMove};
 ghost use Rattle.rgo_core.specs.Chains.{ClearMove, FreeMove, HangMove, HeadMove, LinkMove, NextMove, SlotMove};
 ghost use Rattle.rgo_core.specs.Claims.{ClaimMove};
+ghost use Rattle.rgo_core.specs.LinkExamples.{LinkExamples};
 ghost use Rattle.rgo_core.specs.NewObjects.{ObjectMove, WordMove};
 ghost use Rattle.rgo_core.specs.Regions.{CreateMove, LeaveMove, ShareMove};
 ghost use Rattle.rgo_core.specs.TraceExamples.{TraceExamples};
@@ -20,6 +21,21 @@ pub fn store_move()
 /// A load of the first word of a slice reads its length.
 pub fn len_move()
     ensures { LenMove }
+{}
+
+/// The length of a slice is read before an access to one of its elements.
+pub fn measure_move()
+    ensures { MeasureMove }
+{}
+
+/// A load of an element reads what the instruction reads.
+pub fn at_move()
+    ensures { AtMove }
+{}
+
+/// A store of an element is the instruction.
+pub fn put_move()
+    ensures { PutMove }
 {}
 
 /// A load of a package variable reads what the instruction reads.
@@ -100,4 +116,9 @@ pub fn slot_move()
 /// Small runs, access by access.
 pub fn traces()
     ensures { TraceExamples }
+{}
+
+/// Records that are before an access to an element, what they know of its slice, and what is still to be freed.
+pub fn links()
+    ensures { LinkExamples }
 {}

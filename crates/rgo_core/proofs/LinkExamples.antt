@@ -1,0 +1,110 @@
+-- Records that are before an access to an element, and such as are not.
+use Rattle.std.proofs.Common.{◌≡◌, ℕ, List, [], ◌∷◌, Some, None, refl, ap, ◌∙◌, arith}
+use Rattle.std.proofs.lemmas.Option.{same_Some}
+use Rattle.rgo_code.specs.Code.{Code, CodeInstr, Do}
+use Rattle.rgo_core_frames.specs.Opening.{no_record}
+use Rattle.rgo_core_frames.specs.WordFrames.{WordFrame, bare, word_at}
+use Rattle.rgo_core_memory.specs.Records.{Measured}
+use Rattle.rgo_region_machine.specs.Examples.{int_slot, main_of, plain}
+use Rattle.rgo_region_machine.specs.Owed.{current}
+use Rattle.rgo_typed.specs.declared.actions.Action.TheVariants.{At, Put}
+use Rattle.rgo_core.specs.LinkExamples.{LinkExamples, four, knowing, loading, loads}
+use Rattle.rgo_core.specs.Links.{BeforeLoad, BeforeStore, IsAtElement}
+use Rattle.rgo_core.specs.Next.{IsAt}
+use Rattle.rgo_core.specs.Records.{begins_with}
+
+abbrev frame : WordFrame
+frame = record { function = 0; next = 0; variables = 6 ∷ 3 ∷ 0 ∷ [] }
+
+abbrev instr : CodeInstr
+instr = plain (Do (Some 2) At (0 ∷ 1 ∷ []) [])
+
+abbrev loads_it : IsAt loading loads (Do (Some 2) At (0 ∷ 1 ∷ []) [])
+loads_it = record {
+  w = frame;
+  ws = [];
+  frames = refl;
+  fn = main_of (int_slot ∷ int_slot ∷ int_slot ∷ []) (instr ∷ []);
+  in_fn = refl;
+  instr = instr;
+  cur = refl;
+  is = refl;
+  none = refl;
+  free = refl;
+}
+
+abbrev knows_it : IsAt loading knowing (Do (Some 2) At (0 ∷ 1 ∷ []) [])
+knows_it = record {
+  w = frame;
+  ws = [];
+  frames = refl;
+  fn = main_of (int_slot ∷ int_slot ∷ int_slot ∷ []) (instr ∷ []);
+  in_fn = refl;
+  instr = instr;
+  cur = refl;
+  is = refl;
+  none = refl;
+  free = refl;
+}
+
+no_cons : (w : WordFrame) (ws : List WordFrame) → ◌≡◌ {A = List WordFrame} [] (w ∷ ws) → ⊥
+no_cons w ws e = cc
+
+first_of : (v w : WordFrame) (vs ws : List WordFrame) → v ∷ vs ≡ w ∷ ws → v ≡ w
+first_of v w vs ws e = cc
+
+slice_is : (d e n m : ℕ) (ns ms removes others : List ℕ) → Do (Some d) At (n ∷ ns) removes ≡ Do (Some e) At (m ∷ ms) others → n ≡ m
+slice_is d e n m ns ms removes others e' = cc
+
+no_put : (d : ℕ) (from others removes removes' : List ℕ) → Do (Some d) At from removes ≡ Do None Put others removes' → ⊥
+no_put d from others removes removes' e = cc e
+
+measured_is : (m : Measured) → Some four ≡ Some m → four ≡ m
+measured_is m e = same_Some four m e
+
+no_measure : (m : Measured) → None ≡ Some m → ⊥
+no_measure m e = cc e
+
+pub examples : LinkExamples
+examples = record {
+  before = BeforeLoad 2 0 1 [] loads_it refl;
+  other = other;
+  nowhere = nowhere;
+  read = refl;
+  inside = record { measured = four; read = refl; now = refl; its = refl; within = omega arith };
+  outside = λ i.
+      let e : 4 ≡ i.measured.elements = ap (λ (m : Measured). m.elements) (measured_is i.measured i.read) in
+      let w = i.within in omega (arith, e, w);
+  unread = λ i. no_measure i.measured i.read;
+  late = λ i.
+      let e : 0 ≡ i.measured.steps = ap (λ (m : Measured). m.steps) (measured_is i.measured i.read) in
+      let w : i.measured.steps ≡ 1 = i.now in omega (arith, e, w);
+  knows = record { past = omega arith; before = λ now. BeforeLoad 2 0 1 [] knows_it refl; still = λ now. refl };
+  changed = λ k. let e : ◌≡◌ {A = ℕ} 5 4 = k.still refl in omega (arith, e);
+  gone = record {
+    past = omega arith;
+    before = λ now. absurd (let e : ◌≡◌ {A = ℕ} 0 1 = now in omega (arith, e));
+    still = λ now. absurd (let e : ◌≡◌ {A = ℕ} 0 1 = now in omega (arith, e));
+  };
+  left = refl;
+  left_after = refl;
+  left_none = refl;
+  left_other = refl;
+  owes = record { owed = refl; knows = λ m read. absurd (no_measure m read) };
+  owes_fewer = λ k. let e : ◌≡◌ {A = ℕ} 1 2 = k.owed in omega (arith, e);
+}
+  where
+    other : IsAtElement loading loads 6 → ⊥
+    other (BeforeLoad d p q removes a points) =
+        let w = first_of frame a.w [] a.ws a.frames in
+        let i = same_Some instr a.instr (ap (λ (f : WordFrame). current loading (bare f)) w ∙ a.cur) in
+        let slice = slice_is 2 d 0 p (1 ∷ []) (q ∷ []) [] removes (ap (λ (j : CodeInstr). j.op) i ∙ a.is) in
+        let e : ◌≡◌ {A = ℕ} 6 7 = (λ j. word_at (w j) (slice j)) ∙ points in omega (arith, e)
+    other (BeforeStore p q r removes a points) =
+        let w = first_of frame a.w [] a.ws a.frames in
+        let i = same_Some instr a.instr (ap (λ (f : WordFrame). current loading (bare f)) w ∙ a.cur) in
+        no_put 2 (0 ∷ 1 ∷ []) (p ∷ q ∷ r ∷ []) [] removes (ap (λ (j : CodeInstr). j.op) i ∙ a.is)
+
+    nowhere : (code : Code) (at : ℕ) → IsAtElement code (begins_with no_record) at → ⊥
+    nowhere code at (BeforeLoad d p q removes a points) = no_cons a.w a.ws a.frames
+    nowhere code at (BeforeStore p q r removes a points) = no_cons a.w a.ws a.frames

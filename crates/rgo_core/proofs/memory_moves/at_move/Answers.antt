@@ -1,0 +1,5 @@
+use Rattle.rgo_core.proofs.Elements.{at_move}
+use Rattle.rgo_core.proofs.memory_moves.at_move.Goals as goal
+
+pub returns : goal.returns
+returns c = at_move

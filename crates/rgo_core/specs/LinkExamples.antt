@@ -1,0 +1,68 @@
+-- Records that are before an access to an element, and such as are not; what they know of lengths; and pages that are to be freed.
+use Rattle.std.specs.Prelude.{◌≡◌, ◌+◌, ℕ, List, [], ◌∷◌, Some, slice_set}
+use Rattle.rgo_code.specs.Code.{Code, Do}
+use Rattle.rgo_core_memory.specs.Opening.{first_record, first_words}
+use Rattle.rgo_core_memory.specs.Records.{Calm, Gave, Measured, Owes, Past, with_give}
+use Rattle.rgo_core_memory.specs.Words.{base}
+use Rattle.rgo_core_frames.specs.Opening.{no_record}
+use Rattle.rgo_region_machine.specs.Examples.{code_of, int_slot, main_of, plain}
+use Rattle.rgo_typed.specs.declared.actions.Action.TheVariants.{At}
+use Rattle.rgo_core.specs.Accesses.{IsInSlice, measures}
+use Rattle.rgo_core.specs.ChannelExamples.{with_words}
+use Rattle.rgo_core.specs.Links.{IsAtElement, Knows, Link, left_to_free}
+use Rattle.rgo_core.specs.Records.{Record, begins_with, instructed}
+use Rattle.rgo_core.specs.TraceExamples.{filled_words, tiny}
+
+-- `main` of this code loads element `variable 1` of variable 0
+abbrev pub loading : Code
+loading = code_of [] (main_of (int_slot ∷ int_slot ∷ int_slot ∷ []) (plain (Do (Some 2) At (0 ∷ 1 ∷ []) []) ∷ []) ∷ [])
+
+-- before that, for a slice at address 5
+abbrev pub loads : Record
+loads = with_words (6 ∷ 3 ∷ 0 ∷ [])
+
+-- four elements were read for the slice at address 5, as the first instruction
+abbrev pub four : Measured
+four = record { address = 5; elements = 4; steps = 0 }
+
+abbrev pub knowing : Record
+knowing = measures loads 5 4
+
+-- an instruction later
+abbrev pub later : Record
+later = record knowing { clock = instructed knowing.clock }
+
+-- words with this one where the slice begins
+abbrev pub with_length : ℕ → List ℕ
+with_length n = slice_set (first_words tiny) (base tiny + 5) n
+
+-- a record that has pages of slot 0 to free
+abbrev pub freeing : (owed : ℕ) → Record
+freeing n = record (begins_with no_record) {
+  clock = record (begins_with no_record).clock { owed = n };
+  memory = with_give first_record (Owes 0);
+}
+
+pub record LinkExamples : Type 0 where
+  pub before : IsAtElement loading loads 5
+  pub other : IsAtElement loading loads 6 → ⊥
+  pub nowhere : (code : Code) (at : ℕ) → IsAtElement code (begins_with no_record) at → ⊥
+  -- an index is within the length, or it is not
+  pub read : knowing.memory.measured ≡ Some four
+  pub inside : IsInSlice knowing 5 3
+  pub outside : IsInSlice knowing 5 4 → ⊥
+  pub unread : IsInSlice loads 5 3 → ⊥
+  -- nothing is known after an instruction
+  pub late : IsInSlice later 5 3 → ⊥
+  -- the slice still has the length, or it has not
+  pub knows : Knows loading tiny (with_length 4) knowing four
+  pub changed : Knows loading tiny (with_length 5) knowing four → ⊥
+  -- and where the goroutine has gone on, this says nothing
+  pub gone : Knows loading tiny (with_length 5) later four
+  -- two pages are claimed for slot 0
+  pub left : left_to_free tiny filled_words (Owes 0) ≡ 2
+  pub left_after : left_to_free tiny filled_words (Past 0 1 2) ≡ 2
+  pub left_none : left_to_free tiny filled_words Calm ≡ 0
+  pub left_other : left_to_free tiny filled_words (Gave 1) ≡ 0
+  pub owes : Link loading tiny filled_words (freeing 2)
+  pub owes_fewer : Link loading tiny filled_words (freeing 1) → ⊥
