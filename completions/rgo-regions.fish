@@ -10,7 +10,7 @@ complete -c rgo-regions -n 'not __fish_contains_opt list warn picture' -l list -
 complete -c rgo-regions -n 'not __fish_contains_opt list warn picture' -l warn -d 'Print which regions grow with a loop'
 complete -c rgo-regions -n 'not __fish_contains_opt function picture' -l function -x -d 'Show only this function'
 complete -c rgo-regions -n 'not __fish_contains_opt list warn function picture' -l picture -rF -d 'Draw a run to this file'
-complete -c rgo-regions -n '__fish_contains_opt picture; and not __fish_contains_opt journal' -l journal -rF -d 'Draw the run that this file has recorded'
+complete -c rgo-regions -n '__fish_contains_opt picture; and not __fish_contains_opt journal' -l journal -rF -d 'Draw the run that this file lists'
 complete -c rgo-regions -n '__fish_contains_opt picture; and not __fish_contains_opt steps' -l steps -x -d 'End the run after this many steps (1-4398046511104, default 4398046511104)'
 complete -c rgo-regions -n '__fish_contains_opt picture; and not __fish_contains_opt goroutines' -l goroutines -x -d 'How many goroutines may be started (1-1000000, default 100000)'
 complete -c rgo-regions -n '__fish_contains_opt picture; and not __fish_contains_opt pages' -l pages -x -d 'How many pages may be in use (1-65536, default 4096)'

@@ -1,7 +1,7 @@
-"""Journals of recorded runs, read and followed independently of the program.
+"""Journals of runs, read, written and followed independently of the program.
 
-A journal lists the steps that a run took, a line for each, as `rgo record` writes it: `one G` is a step of goroutine G by
-itself, and `meet R S` a receiver and a sender that pass a value on together. docs/JOURNALS.md explains the format.
+A journal lists the steps that a run takes, a line for each: `one G` is a step of goroutine G by itself, and `meet R S` a
+receiver and a sender that pass a value on together. docs/JOURNALS.md explains the format.
 
 `read` turns a text into a `Journal`. `follow` runs a `code_text.Code` by its picks, up to the first that has no step, and
 `standing` says of what it returns where each goroutine is.
@@ -14,7 +14,7 @@ import command
 import region_runs
 from region_runs import DEADLOCK, WAITS
 
-# Limits that no recorded run meets.
+# Limits that no run of a journal meets.
 ENOUGH = region_runs.Limits(*[2**62] * 5)
 
 FIRST, LAST = b"rgo picks 1", b"text"
@@ -68,6 +68,12 @@ def read(text):
         if line > 1:
             picks.append(pick)
         at, line = end + 1, line + 1
+
+
+def write(picks):
+    """The text of the journal of picks as `region_runs` notes them, each with how often it was taken in a row."""
+    lines = [(" ".join(map(str, pick)) + "\n") * times for pick, times in picks]
+    return FIRST + b"\n" + "".join(lines).encode() + LAST + b"\n"
 
 
 def read_file(name):
@@ -193,6 +199,13 @@ def doing(g, sides, source):
     if with_whom is not None:
         return f"is about to {what} {made}, with goroutine {with_whom}"
     return f"waits to {what} {made}"
+
+
+def ending(end, source):
+    """How a run has ended, in words."""
+    if end.place is None:
+        return end.said or "main has returned"
+    return f"{end.said} at {place(source, end.place)}"
 
 
 def place(source, byte):

@@ -227,7 +227,7 @@ def ending(ran, source):
     """How a run ended, if it has: a journal may end before."""
     steps = f"after {counted(ran.steps, 'step')}"
     if ran.end is None:
-        return f"recorded {steps}"
+        return f"the journal ends {steps}"
     if ran.end.status == 0:
         return f"main returned {steps}"
     if ran.end.status == 8:

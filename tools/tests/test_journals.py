@@ -1,5 +1,5 @@
-"""Tests journals, which reads and follows journals of recorded runs, and tools/replay-at: by hand, and with the program, if it
-knows the command `record`.
+"""Tests journals, which reads, writes and follows journals of runs, tools/replay-at and docs/JOURNALS.md: by hand, and beside
+the program.
 """
 
 import os
@@ -13,6 +13,7 @@ import error_pages
 import journals
 import region_events
 import region_runs
+import test_guide
 import test_pictures
 from code_vectors import TEXTS, TOP
 
@@ -116,7 +117,7 @@ class Following(unittest.TestCase):
 
 
 class WithTheProgram(test_pictures.Case):
-    """Recorded runs, and tools/replay-at."""
+    """Journals that region_runs has noted, and tools/replay-at."""
 
     def call(self, room, *words):
         words = [TOP / "tools" / "replay-at", *words, "a.go"]
@@ -124,29 +125,42 @@ class WithTheProgram(test_pictures.Case):
         ran = subprocess.run(words, cwd=room, env=env, capture_output=True, text=True, timeout=60, check=False)
         return ran.returncode, ran.stdout, ran.stderr
 
-    def test_recorded_runs_are_followed(self):
+    def replayed(self, text, journal):
+        """What `rgo replay` answers and prints for a journal and a program, and the last line that it reports."""
+        ran = self.rgo(journal + text, "replay")
+        return ran.returncode, ran.stdout, ran.stderr.decode()
+
+    def test_runs_are_replayed(self):
+        """What region_runs notes of its runs is replayed by the program, with the same print and end."""
         examples = [path.read_text() for path in sorted(TOP.glob("examples/*.go"))]
         for text in [*test_pictures.programs(), *examples]:
             with self.subTest(text):
-                ran = self.rgo(text.encode(), "record", "--steps", "20000")
-                printed = []
                 code = test_pictures.code_of(self.rgo(text.encode(), "emit").stdout)
-                found = journals.follow(code, journals.read(ran.stderr), journals.ENOUGH, printed.append)
+                noted, printed = [], []
+                ran = region_runs.run(code, region_runs.Limits(steps=20000), printed.append, noted)
+                journal = journals.write(noted)
+                status, out, err = self.replayed(text.encode(), journal)
+                self.assertEqual(b"".join(printed), out)
+                # Limits of a run are none of a replay. A run whose steps were spent may be at a deadlock.
+                wanted = {0: [0], 2: [2], 3: [3], 8: [13, 3]}.get(ran.end.status, [13])
+                self.assertIn(status, wanted)
+                if status == 2:
+                    self.assertRegex(err, rf"\Argo: \d+:\d+: {ran.end.said}\n\Z")
+                again = []
+                found = journals.follow(code, journals.read(journal), journals.ENOUGH, again.append)
                 self.assertFalse(found.is_stuck)
-                self.assertEqual(ran.stdout, b"".join(printed))
-                ends = [found.end.status] if found.end else [4, 5, 6, 7, 8, 12]
-                # A run whose steps were spent may be at a deadlock.
-                self.assertIn(ran.returncode, [*ends, 8] if ends == [3] else ends)
+                self.assertEqual((printed, status), (again, found.end.status if found.end else 13))
 
     def test_the_tool(self):
         text = b"package main\nfunc main() {\n\tc := make(chan int)\n\tc <- 1\n}\n"
-        ran = self.rgo(text, "record")
-        self.assertEqual(3, ran.returncode)
-        steps = len(journals.read(ran.stderr).picks)
+        noted = []
+        region_runs.run(test_pictures.code_of(self.rgo(text, "emit").stdout), region_runs.Limits(), picks=noted)
+        journal = journals.write(noted)
+        steps = len(journals.read(journal).picks)
         waits = "goroutine 0: main, 4:4: waits to send to the channel made at 3:7\n    c <- 1\n"
         with tempfile.TemporaryDirectory() as room:
             for name, data in {
-                "a.go": text, "a.picks": ran.stderr, "b.picks": picks("one 1"), "c.picks": b"rgo picks 1\none\ntext\n"
+                "a.go": text, "a.picks": journal, "b.picks": picks("one 1"), "c.picks": b"rgo picks 1\none\ntext\n"
             }.items():  # fmt: skip
                 pathlib.Path(room, name).write_bytes(data)
             self.assertEqual((0, f"after {steps} steps: deadlock\n{waits}", ""), self.call(room, "a.picks"))
@@ -156,6 +170,27 @@ class WithTheProgram(test_pictures.Case):
             self.assertEqual((1, "after 0 steps: the next line has no step"), (status, out.splitlines()[0]))
             self.assertEqual("replay-at: b.picks: line 2: pick\n", err)
             self.assertEqual((1, "", "replay-at: c.picks: line 2: picks text\n"), self.call(room, "c.picks"))
+
+
+class Page(test_pictures.Case):
+    """docs/JOURNALS.md: its commands, one after the other in one folder."""
+
+    def test_commands_print_what_is_shown(self):
+        page = TOP.joinpath("docs", "JOURNALS.md").read_text(encoding="utf-8")
+        with tempfile.TemporaryDirectory() as room:
+            for name in ("tools", "examples"):
+                pathlib.Path(room, name).symlink_to(TOP / name)
+            pathlib.Path(room, "rgo").symlink_to(self.program)
+            for language, block in error_pages.BLOCK.findall(page):
+                shown = test_guide.sessions(f"```\n{block}```\n") if not language else [(block, "")] if language == "sh" else []
+                for command, printed in shown:
+                    with self.subTest(command):
+                        self.assertEqual(printed, self.printed(room, command))
+
+    def printed(self, room, command):
+        env = {**os.environ, "RGO": str(self.program)}
+        ran = subprocess.run(["bash", "-c", command], cwd=room, env=env, stdout=subprocess.PIPE, stderr=subprocess.STDOUT, timeout=60, check=False)
+        return ran.stdout.decode()
 
 
 if __name__ == "__main__":

@@ -1,0 +1,23 @@
+package main
+
+import "fmt"
+
+// Each clerk needs both keys, and they do not take them in the same order.
+func clerk(name int, first, second, done chan int) {
+	first <- name
+	second <- name
+	fmt.Println("clerk", name, "has both keys")
+	<-second
+	<-first
+	done <- name
+}
+
+func main() {
+	left := make(chan int, 1)
+	right := make(chan int, 1)
+	done := make(chan int)
+	go clerk(1, left, right, done)
+	go clerk(2, right, left, done)
+	<-done
+	<-done
+}
