@@ -96,7 +96,7 @@ measure_move T g c at here =
 second_is : {X : Type 0} (a b a' b' : X) (xs ys : List X) → a ∷ b ∷ xs ≡ a' ∷ b' ∷ ys → b ≡ b'
 second_is a b a' b' xs ys e = cc
 
-second_type : (f : TacFn) (p q : ℕ) (from : List ℕ) (operands : List «Type») (t u : «Type») (tys : List «Type») → operands ≡ t ∷ u ∷ tys
+pub second_type : (f : TacFn) (p q : ℕ) (from : List ℕ) (operands : List «Type») (t u : «Type») (tys : List «Type») → operands ≡ t ∷ u ∷ tys
     → HaveTypes f (p ∷ q ∷ from) operands → HasType f q u
 second_type f p q from operands t u tys e h =
     second_is (slice_get f.variables p) (slice_get f.variables q) (Some t) (Some u) (map (slice_get f.variables) from) (map Some tys)

@@ -22,6 +22,7 @@ mod Parts
 mod Slices
 mod Links
 mod Elements
+mod ElementTraps
 mod LinkExamples
 mod Contents
 mod MakesObject

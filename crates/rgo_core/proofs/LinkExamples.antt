@@ -76,6 +76,10 @@ examples = record {
       let e : 4 ≡ i.measured.elements = ap (λ (m : Measured). m.elements) (measured_is i.measured i.read) in
       let w = i.within in omega (arith, e, w);
   unread = λ i. no_measure i.measured i.read;
+  beyond = record { measured = four; read = refl; now = refl; its = refl; beyond = omega arith };
+  not_beyond = λ i.
+      let e : 4 ≡ i.measured.elements = ap (λ (m : Measured). m.elements) (measured_is i.measured i.read) in
+      let w = i.beyond in omega (arith, e, w);
   late = λ i.
       let e : 0 ≡ i.measured.steps = ap (λ (m : Measured). m.steps) (measured_is i.measured i.read) in
       let w : i.measured.steps ≡ 1 = i.now in omega (arith, e, w);

@@ -62,7 +62,7 @@ use Rattle.rgo_core.proofs.Standing.{at_instruction, frame_at, frames_here, imag
 use Rattle.rgo_core.proofs.Links.{CountsOne, all_kept, links_low, one_later}
 use Rattle.rgo_core.proofs.Counting.{instructed_counts}
 
-marked_is : (m : Option Mark) (end : End) → marked m (Some end) ≡ first_mark m (Ended end)
+pub marked_is : (m : Option Mark) (end : End) → marked m (Some end) ≡ first_mark m (Ended end)
 marked_is None end = refl
 marked_is (Some m) end = refl
 
@@ -109,7 +109,7 @@ module _ {T : Setup} {g : ℕ} {c : Record} (x : Here T g c) (a : AtInstruction)
   }
 
 -- from what each state says
-by_ends : (T : Setup) (g : ℕ) (c : Record) (trap : Trap) (place : ℕ)
+pub by_ends : (T : Setup) (g : ℕ) (c : Record) (trap : Trap) (place : ℕ)
     → ((x : Here T g c) → Ends x (Ended (the_end.Trap trap place)) (trapped c (slice_index x.words 0) trap place))
     → Moves T g c clock_at (λ n. bit_or n 9223372036854775808) (λ n d. d ≡ trapped c n trap place)
 by_ends T g c trap place ends =

@@ -26,4 +26,5 @@ pub mod Claims
 pub mod Regions
 pub mod Traces
 pub mod TraceExamples
+pub mod ElementTraps
 pub mod LinkExamples

@@ -9,6 +9,7 @@ use Rattle.rgo_region_machine.specs.Examples.{code_of, int_slot, main_of, plain}
 use Rattle.rgo_typed.specs.declared.actions.Action.TheVariants.{At}
 use Rattle.rgo_core.specs.Accesses.{IsInSlice, measures}
 use Rattle.rgo_core.specs.ChannelExamples.{with_words}
+use Rattle.rgo_core.specs.ElementTraps.{IsOutside}
 use Rattle.rgo_core.specs.Links.{IsAtElement, Knows, Link, left_to_free}
 use Rattle.rgo_core.specs.Records.{Record, begins_with, instructed}
 use Rattle.rgo_core.specs.TraceExamples.{filled_words, tiny}
@@ -52,6 +53,8 @@ pub record LinkExamples : Type 0 where
   pub inside : IsInSlice knowing 5 3
   pub outside : IsInSlice knowing 5 4 → ⊥
   pub unread : IsInSlice loads 5 3 → ⊥
+  pub beyond : IsOutside knowing 5 4
+  pub not_beyond : IsOutside knowing 5 3 → ⊥
   -- nothing is known after an instruction
   pub late : IsInSlice later 5 3 → ⊥
   -- the slice still has the length, or it has not

@@ -3,6 +3,7 @@
 ghost use Rattle.rgo_core.specs.Accesses.{AtMove, GetMove, LenMove, LoadMove, MeasureMove, PutMove, SetMove, StoreMove};
 ghost use Rattle.rgo_core.specs.Chains.{ClearMove, FreeMove, HangMove, HeadMove, LinkMove, NextMove, SlotMove};
 ghost use Rattle.rgo_core.specs.Claims.{ClaimMove};
+ghost use Rattle.rgo_core.specs.ElementTraps.{AtTrapMove, PutTrapMove};
 ghost use Rattle.rgo_core.specs.LinkExamples.{LinkExamples};
 ghost use Rattle.rgo_core.specs.NewObjects.{ObjectMove, WordMove};
 ghost use Rattle.rgo_core.specs.Regions.{CreateMove, LeaveMove, ShareMove};
@@ -36,6 +37,16 @@ pub fn at_move()
 /// A store of an element is the instruction.
 pub fn put_move()
     ensures { PutMove }
+{}
+
+/// A load of an element that the slice does not have ends the run.
+pub fn at_trap_move()
+    ensures { AtTrapMove }
+{}
+
+/// So does a store of one.
+pub fn put_trap_move()
+    ensures { PutTrapMove }
 {}
 
 /// A load of a package variable reads what the instruction reads.

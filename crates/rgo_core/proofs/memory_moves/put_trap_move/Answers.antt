@@ -1,0 +1,5 @@
+use Rattle.rgo_core.proofs.ElementTraps.{put_trap_move}
+use Rattle.rgo_core.proofs.memory_moves.put_trap_move.Goals as goal
+
+pub returns : goal.returns
+returns c = put_trap_move
