@@ -1,5 +1,5 @@
 -- Accesses to elements that trap.
-use Rattle.std.proofs.Common.{◌≡◌, ◌⊎◌, inl, inr, ⊎_elim, ℕ, suc, ◌+◌, ◌<◌, ◌≤◌, ◌^◌, bit_or, nat_lt, Bool, true, false, FitsSigned, ℤ, pos, negsuc, List, [], ◌∷◌, Option, Some, None, Result, Err, length, map, if◌then◌else◌, slice_get, slice_set, slice_index, refl, ap, sym, subst, ◌∙◌, arith, w64, Contains}
+use Rattle.std.proofs.Common.{◌≡◌, inl, inr, ℕ, suc, ◌+◌, ◌<◌, ◌≤◌, ◌^◌, bit_or, nat_lt, Bool, false, FitsSigned, ℤ, pos, negsuc, List, [], ◌∷◌, Option, Some, None, Result, Err, length, map, if◌then◌else◌, slice_get, slice_set, slice_index, refl, ap, sym, subst, ◌∙◌, arith, w64, Contains}
 use Rattle.std.proofs.lemmas.Bool.Decides.{nat_tests}
 use Rattle.std.proofs.lemmas.Int.{of_z-to_z}
 use Rattle.std.proofs.lemmas.Option.{slice_get_past}
@@ -34,7 +34,6 @@ use Rattle.rgo_core_frames.proofs.Ending.{trap_law}
 use Rattle.rgo_core_frames.proofs.Operands.{int_law, pointer_law}
 use Rattle.rgo_core_frames.proofs.Sound.{next_sound}
 use Rattle.rgo_core_frames.specs.Fits.{AllFit}
-use Rattle.rgo_core_frames.specs.Records.{Rec as FrameRec}
 use Rattle.rgo_core_frames.specs.Steps.{StepsTo}
 use Rattle.rgo_core_frames.specs.WordFrames.{word_at as word_of_frame}
 use Rattle.rgo_core_frames.specs.Words.{Shows}
