@@ -17,6 +17,7 @@ import unittest
 import error_pages
 import go_programs
 import go_subset
+import journals
 from go_subset import find_statements, find_values, library, tokens
 from error_pages import TOP
 
@@ -109,7 +110,8 @@ class Finds(unittest.TestCase):
         texts = {path.name: path.read_text(encoding="utf-8") for path in paths}
         for page in map(error_pages.read_page, error_pages.page_paths()):
             if not error_pages.is_of_code(page):
-                texts[page.path.name] = page.corrected.decode()
+                is_journal = page.corrected.startswith(journals.FIRST)
+                texts[page.path.name] = (journals.read(page.corrected).rest if is_journal else page.corrected).decode()
         texts |= {seed: go_programs.Program(seed).text() for seed in range(10)}
         for name, text in texts.items():
             with self.subTest(name):
