@@ -40,9 +40,11 @@ _rgo_run_options() {
 _rgo() {
     COMPREPLY=()
     if ((COMP_CWORD == 1)); then
-        _rgo_words run check emit code big replay runcode
+        _rgo_words run check emit code big record replay runcode
     elif [[ ${COMP_WORDS[1]} == run || ${COMP_WORDS[1]} == runcode ]]; then
         _rgo_run_options
+    elif [[ ${COMP_WORDS[1]} == record ]]; then
+        [[ ${COMP_WORDS[COMP_CWORD - 1]} == --* ]] || _rgo_words --steps --goroutines --pages --page-words --regions
     fi
 }
 

@@ -18,7 +18,7 @@ from error_pages import TOP
 LIMITS = ["--goroutines", "--page-words", "--pages", "--regions", "--steps"]
 NUMBERS = [*LIMITS, "--workers"]
 OPTIONS = sorted([*NUMBERS, "--stats"])
-COMMANDS = ["big", "check", "code", "emit", "replay", "run", "runcode"]
+COMMANDS = ["big", "check", "code", "emit", "record", "replay", "run", "runcode"]
 FAKE = '#!/bin/sh\necho "$@"\ncat >/dev/null\necho "rgo: 2:15: type 4 NoSuchName" >&2\nexit 1\n'
 TEXT = "package main\nfunc main() { zz() }\n"
 
@@ -140,7 +140,7 @@ class Completions(Case):
 
     LINES = [
         ("rgo ", COMMANDS),
-        ("rgo r", ["replay", "run", "runcode"]),
+        ("rgo r", ["record", "replay", "run", "runcode"]),
         ("rgo c", ["check", "code"]),
         ("rgo run", ["run", "runcode"]),
         ("rgo runc", ["runcode"]),
@@ -156,6 +156,9 @@ class Completions(Case):
         ("rgo runcode --w", ["--workers"]),
         ("rgo runcode --steps ", []),
         ("rgo runcode --stats --", NUMBERS),
+        ("rgo record --", LIMITS),
+        ("rgo record --steps ", []),
+        ("rgo record --steps 5 --", [option for option in LIMITS if option != "--steps"]),
         ("rgo check --", []),
         ("rgo code --", []),
         ("rgo b", ["big"]),

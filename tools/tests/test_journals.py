@@ -151,6 +151,21 @@ class WithTheProgram(test_pictures.Case):
                 self.assertFalse(found.is_stuck)
                 self.assertEqual((printed, status), (again, found.end.status if found.end else 13))
 
+    def test_recorded_runs(self):
+        """What `rgo record` writes is what region_runs notes of the same run, and is replayed with the same print and end."""
+        for text in test_pictures.programs():
+            with self.subTest(text):
+                ran = self.rgo(text.encode(), "record", "--steps", "20000")
+                code = test_pictures.code_of(self.rgo(text.encode(), "emit").stdout)
+                noted, printed = [], []
+                end = region_runs.run(code, region_runs.Limits(steps=20000), printed.append, noted).end
+                journal = journals.write(noted)
+                self.assertEqual((end.status, b"".join(printed)), (ran.returncode, ran.stdout))
+                self.assertEqual(journal, ran.stderr[: len(journal)])
+                status, out, _ = self.replayed(text.encode(), journal)
+                self.assertEqual(ran.stdout, out)
+                self.assertIn(status, [ran.returncode] if ran.returncode in (0, 2, 3) else [13, 3])
+
     def test_the_tool(self):
         text = b"package main\nfunc main() {\n\tc := make(chan int)\n\tc <- 1\n}\n"
         noted = []

@@ -20,11 +20,12 @@ pub record IsNoName (w : Text) : Type 0 where
   pub emit : bytes_eq (codes "emit") w ≡ false
   pub code : bytes_eq (codes "code") w ≡ false
   pub big : bytes_eq (codes "big") w ≡ false
+  pub recorded : bytes_eq (codes "record") w ≡ false
   pub replay : bytes_eq (codes "replay") w ≡ false
   pub run_code : bytes_eq (codes "runcode") w ≡ false
 
 no_name : (w : Text) → IsNoName w → find (answers_to w) names ≡ None
-no_name w is = rw (is.run, is.check, is.emit, is.code, is.big, is.replay, is.run_code) refl
+no_name w is = rw (is.run, is.check, is.emit, is.code, is.big, is.recorded, is.replay, is.run_code) refl
 
 pub other_word : (program w : Text) (rest : List Text) → IsNoName w → command_of (program ∷ w ∷ rest) ≡ None
 unfolding clap_on_literals

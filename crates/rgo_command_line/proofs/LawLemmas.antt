@@ -1,7 +1,8 @@
 -- Which words ask for a command.
-use Rattle.std.proofs.Common.{◌≡◌, ◌∙◌, refl, sym, ap, subst, codes, cond, Bool, true, false, List, [], ◌∷◌, ◌++◌, map}
+use Rattle.std.proofs.Common.{◌≡◌, ◌∙◌, refl, sym, ap, ap₂, subst, codes, cond, Bool, true, false, List, [], ◌∷◌, ◌++◌, map}
 use Rattle.std.proofs.Common.{Option, Some, None, inl, inr, ℕ, ◌*◌, ◌≤◌, nat_le, option_map, arith}
-use Rattle.std.specs.Prelude.{is_some, option_and_then}
+use Rattle.std.specs.Prelude.{◌||◌, if◌then◌else◌, is_some, option_and_then}
+use Rattle.std.proofs.lemmas.Option.{same_Some}
 use Rattle.std.specs.List.Sorted.{IsPermutation}
 use Rattle.std.specs.Str.{bytes_eq}
 use Rattle.std.specs.Str.Parse.{digits_value}
@@ -10,13 +11,13 @@ use Rattle.std.proofs.lemmas.List.Sorted.{IsPermutation-map}
 use Rattle.std.proofs.lemmas.Slice.Eq.{bytes_eq-Decides}
 use Rattle.clap.specs.Words.{Text}
 use Rattle.rgo_command_line.specs.Commands.{command_of}
-use Rattle.rgo_command_line.specs.Laws.{ArePlain, AreWordsOf, AskExactly, AskToRun, IsEnd, SetFlag, SetOptions}
+use Rattle.rgo_command_line.specs.Laws.{ArePlain, AreWordsOf, AskExactly, AskToRun, Give, IsEnd, SetFlag, SetOptions}
 use Rattle.rgo_command_line.specs.Laws.{HoldNumber, joined}
 use Rattle.rgo_command_line.specs.Limits.{Fits, big_by, goroutine_bounds, limit_by, most_words, page_bounds, page_word_bounds}
 use Rattle.rgo_command_line.specs.Limits.{region_bounds, step_bounds, worker_bounds}
 use Rattle.rgo_command_line.specs.Numbers.{is_numeral, within}
 use Rattle.rgo_command_line.specs.declared.commands.Command.{Command}
-use Rattle.rgo_command_line.specs.declared.commands.Command.TheVariants.{Run, Check, Emit, Code, Big, Replay, RunCode}
+use Rattle.rgo_command_line.specs.declared.commands.Command.TheVariants.{Run, Check, Emit, Code, Big, Record, Replay, RunCode}
 use Rattle.rgo_command_line.specs.declared.limits.Bounds.{Bounds}
 use Rattle.rgo_command_line.specs.declared.limits.RunOptions.{RunOptions}
 use Rattle.rgo_machine.specs.declared.limits.Sizes.{Sizes}
@@ -24,9 +25,10 @@ use Rattle.rgo_command_line.proofs.BigLemmas as big
 use Rattle.rgo_command_line.proofs.FirstWordLemmas.{other_word}
 use Rattle.rgo_command_line.proofs.OptionLemmas.{AreOptions, Gives, IsNumeral, MetOptions, asks, met_options}
 use Rattle.rgo_command_line.proofs.OrderLemmas.{names, names_in_order}
-use Rattle.rgo_command_line.proofs.RestLemmas.{Plain, after_run_code, check, code, emit, more_rest, name_of, of_code, other_rest, plain_command, replay}
+use Rattle.rgo_command_line.proofs.RestLemmas.{Met, Plain, check, code, emit, more_rest, name_of, of_code, of_record, of_run, other_rest, plain_command}
+use Rattle.rgo_command_line.proofs.RestLemmas.{replay}
 use Rattle.rgo_command_line.proofs.LiteralLemmas.{commands, nothing}
-use Rattle.rgo_command_line.proofs.RunLemmas.{at_first, between, from}
+use Rattle.rgo_command_line.proofs.RunLemmas.{at_first, at_first_of_code, at_first_of_record, between, from}
 use Rattle.rgo_command_line.proofs.StatusLemmas.{Values, options_from, run_by}
 use Rattle.rgo_command_line.proofs.WordLemmas.{Name, Number, goroutines, number, page_words, pages, regions}
 use Rattle.rgo_command_line.proofs.WordLemmas.{stats, steps, workers}
@@ -57,12 +59,15 @@ fits_by n e = grind (arith, nat_tests, e)
 test_fits : (n : ℕ) → n ≤ most_words → nat_le n most_words ≡ true
 test_fits n h = grind (arith, nat_tests, h)
 
--- values that ask for a command set its options
-abbrev Found : Values → Command → Type 0
-Found v command = (options : RunOptions) × Sets v options × (Run options ≡ command)
+-- the number of workers that the values give, if they do, and the options that they set
+abbrev with_workers_of : Values → RunOptions → Met
+with_workers_of v options = (options, is_some (v (number workers)))
 
-found : (v : Values) (command : Command) → run_by v ≡ Some command → Found v command
-found v command asked =
+abbrev Found : Values → Met → Type 0
+Found v met = (options : RunOptions) × Sets v options × (with_workers_of v options ≡ met)
+
+found : (v : Values) (met : Met) → run_by v ≡ Some met → Found v met
+found v met asked =
     by_numbers (limit_by step_bounds (v (number steps))) (limit_by goroutine_bounds (v (number goroutines)))
     (limit_by page_bounds (v (number pages))) (limit_by page_word_bounds (v (number page_words)))
     (limit_by region_bounds (v (number regions))) (limit_by worker_bounds (v (number workers)))
@@ -76,13 +81,13 @@ found v command asked =
         → limit_by page_word_bounds (v (number page_words)) ≡ Some sizes.page_words
         → limit_by region_bounds (v (number regions)) ≡ Some sizes.regions
         → limit_by worker_bounds (v (number workers)) ≡ Some k
-        → option_map Run (option_and_then (λ (z : Sizes). Some (record {
+        → option_map (with_workers_of v) (option_and_then (λ (z : Sizes). Some (record {
           limits = record { steps = s; goroutines = g };
           sizes = z;
           workers = k;
           stats = is_some (v stats);
-        })) (cond b (Some sizes) None)) ≡ Some command
-        → Found v command
+        })) (cond b (Some sizes) None)) ≡ Some met
+        → Found v met
     by_fit s g k sizes false fit hs hg hp hw hr hk e = cc
     by_fit s g k sizes true fit hs hg hp hw hr hk e =
         let options : RunOptions = record {
@@ -91,7 +96,7 @@ found v command asked =
           workers = k;
           stats = is_some (v stats);
         } in
-        let is : Run options ≡ command = cc in (
+        let is : with_workers_of v options ≡ met = cc in (
           options,
           record {
             is_steps = hs;
@@ -108,8 +113,8 @@ found v command asked =
 
     -- where the number of workers is not one that its option takes, nothing is asked for
     no_workers : (sizes : Sizes) (b : Bool)
-        → option_map Run (option_and_then (λ (z : Sizes). None) (cond b (Some sizes) None)) ≡ Some command
-        → Found v command
+        → option_map (with_workers_of v) (option_and_then (λ (z : Sizes). None) (cond b (Some sizes) None)) ≡ Some met
+        → Found v met
     no_workers sizes false e = cc
     no_workers sizes true e = cc
 
@@ -120,8 +125,8 @@ found v command asked =
         → limit_by page_word_bounds (v (number page_words)) ≡ w
         → limit_by region_bounds (v (number regions)) ≡ r
         → limit_by worker_bounds (v (number workers)) ≡ k
-        → option_map Run (options_from s g p w r k (is_some (v stats))) ≡ Some command
-        → Found v command
+        → option_map (with_workers_of v) (options_from s g p w r k (is_some (v stats))) ≡ Some met
+        → Found v met
     by_numbers None g p w r k hs hg hp hw hr hk e = cc
     by_numbers (Some s) None p w r k hs hg hp hw hr hk e = cc
     by_numbers (Some s) (Some g) p None r k hs hg hp hw hr hk e = cc
@@ -133,17 +138,23 @@ found v command asked =
         by_fit s g k (record { page_words = w; pages = p; regions = r }) (nat_le (p * w) most_words) refl
         hs hg hp hw hr hk e
 
--- the words set the options that a run is asked for with, and end
-abbrev SetAndEnd : List Text → RunOptions → Type 0
-SetAndEnd rest options =
-    (set ending : List Text) × SetOptions options set × IsEnd ending × (rest ≡ set ++ ending)
+-- the words set these options, and end; if `is_given` is false, none of them gives the number of workers
+abbrev SetAndEnd : List Text → RunOptions → (is_given : Bool) → Type 0
+SetAndEnd rest options is_given =
+    (set ending : List Text) × (sets : SetOptions options set) × (is_given ≡ false → sets.workers ≡ [])
+    × IsEnd ending × (rest ≡ set ++ ending)
 
-abbrev AsksSo : List Text → Command → Type 0
-AsksSo rest command = (options : RunOptions) × SetAndEnd rest options × (Run options ≡ command)
+abbrev AsksSo : List Text → Met → Type 0
+AsksSo rest met = SetAndEnd rest met.0 met.1
 
-asks_so : (rest : List Text) (command : Command) → from (between [] None) rest ≡ Some command → AsksSo rest command
-asks_so rest command met = by_met (met_options rest)
+asks_so : (rest : List Text) (met : Met) → from (between [] None) rest ≡ Some met → AsksSo rest met
+asks_so rest met asked = by_met (met_options rest)
   where
+    no_words : (value : Option Text) (mine : List Text) → Gives (number workers) value mine → is_some value ≡ false
+        → mine ≡ []
+    no_words None mine give is = give
+    no_words (Some text) mine give is = cc
+
     flag : (value : Option Text) (b : Bool) (mine : List Text)
         → is_some value ≡ b
         → Gives stats value mine
@@ -156,7 +167,7 @@ asks_so rest command met = by_met (met_options rest)
     of_options : (v : Values) (options : RunOptions)
         → AreOptions v rest
         → Sets v options
-        → SetAndEnd rest options
+        → SetAndEnd rest options (is_some (v (number workers)))
     of_options v options are sets = (
       joined (map are.words are.order),
       are.ending,
@@ -180,50 +191,74 @@ asks_so rest command met = by_met (met_options rest)
         permuted = IsPermutation-map are.words names are.order are.permuted;
         whole = refl;
       },
+      no_words (v (number workers)) (are.words (number workers)) (are.gives (number workers)),
       are.ends,
       are.whole,
     )
 
-    by_found : (v : Values) → AreOptions v rest → Found v command → AsksSo rest command
-    by_found v are (options, sets, is) = (options, of_options v options are sets, is)
+    by_found : (v : Values) → AreOptions v rest → Found v met → AsksSo rest met
+    by_found v are (options, sets, is) = subst (AsksSo rest) is (of_options v options are sets)
 
-    by_met : MetOptions rest → AsksSo rest command
-    by_met (inl none) = absurd (let nothing : None ≡ Some command = sym none ∙ met in cc)
-    by_met (inr (v, are, is)) = by_found v are (found v command (sym is ∙ met))
+    by_met : MetOptions rest → AsksSo rest met
+    by_met (inl none) = absurd (let nothing : None ≡ Some met = sym none ∙ asked in cc)
+    by_met (inr (v, are, is)) = by_found v are (found v met (sym is ∙ asked))
 
 -- words that set options and end, after the name of a command
-named_words : (name program : Text) (rest : List Text) (options : RunOptions) → SetAndEnd rest options
-    → AskToRun name options (program ∷ name ∷ rest)
-named_words name program rest options (set, ending, sets, ends, is) =
+named_words : (name program : Text) (rest : List Text) (met : Met) → AsksSo rest met
+    → AskToRun name met.0 (program ∷ name ∷ rest)
+named_words name program rest met (set, ending, sets, none, ends, is) =
     (program, set, ending, sets, ends, ap (λ r. program ∷ name ∷ r) is)
 
-after_run : (program : Text) (rest : List Text) → Tells (program ∷ codes "run" ∷ rest)
-after_run program rest command e =
-    let asks = asks_so rest command (sym (at_first program rest) ∙ e) in
-    subst (λ c. AreWordsOf c (program ∷ codes "run" ∷ rest)) asks.2
-    (named_words (codes "run") program rest asks.0 asks.1)
+-- the words after a command that has options are those of the command that they ask for
+module _ (name program : Text) (rest : List Text) (of_met : Met → Option Command)
+    (first : command_of (program ∷ name ∷ rest) ≡ option_and_then of_met (from (between [] None) rest))
+    (are : (met : Met) (command : Command) → AsksSo rest met → of_met met ≡ Some command
+    → AreWordsOf command (program ∷ name ∷ rest)) where
+  after_options : Tells (program ∷ name ∷ rest)
+  after_options command e = by_asked (from (between [] None) rest) refl (sym first ∙ e)
+    where
+      by_asked : (asked : Option Met) → from (between [] None) rest ≡ asked → option_and_then of_met asked ≡ Some command
+          → AreWordsOf command (program ∷ name ∷ rest)
+      by_asked None met same = absurd (let none : None ≡ Some command = same in cc)
+      by_asked (Some met) is same = are met command (asks_so rest met is) same
 
--- the words after `runcode` are read as those after `run`
-code_first : (program : Text) (rest : List Text)
-    → command_of (program ∷ codes "runcode" ∷ rest) ≡ option_map of_code (from (between [] None) rest)
-code_first program rest = after_run_code program rest ∙ ap (option_map of_code) (at_first program rest)
+after_run : (program : Text) (rest : List Text) → Tells (program ∷ codes "run" ∷ rest)
+after_run program rest = after_options (codes "run") program rest of_run (at_first program rest) are
+  where
+    are : (met : Met) (command : Command) → AsksSo rest met → of_run met ≡ Some command
+        → AreWordsOf command (program ∷ codes "run" ∷ rest)
+    are met command asks same =
+        let is : Run met.0 ≡ command = same_Some _ _ same in
+        subst (λ c. AreWordsOf c (program ∷ codes "run" ∷ rest)) is (named_words (codes "run") program rest met asks)
 
 after_code : (program : Text) (rest : List Text) → Tells (program ∷ codes "runcode" ∷ rest)
-after_code program rest command e = by_asked (from (between [] None) rest) refl (sym (code_first program rest) ∙ e)
+after_code program rest = after_options (codes "runcode") program rest of_code (at_first_of_code program rest) are
+  where
+    are : (met : Met) (command : Command) → AsksSo rest met → of_code met ≡ Some command
+        → AreWordsOf command (program ∷ codes "runcode" ∷ rest)
+    are met command asks same =
+        let is : RunCode met.0 ≡ command = same_Some _ _ same in
+        subst (λ c. AreWordsOf c (program ∷ codes "runcode" ∷ rest)) is
+        (named_words (codes "runcode") program rest met asks)
+
+after_record : (program : Text) (rest : List Text) → Tells (program ∷ codes "record" ∷ rest)
+after_record program rest =
+    after_options (codes "record") program rest of_record (at_first_of_record program rest) are
   where
     words : List Text
-    words = program ∷ codes "runcode" ∷ rest
+    words = program ∷ codes "record" ∷ rest
 
-    by_command : (other : Command) → AsksSo rest other → of_code other ≡ command → AreWordsOf command words
-    by_command other (options, sets, is) same =
-        let asked : RunCode options ≡ command = ap of_code is ∙ same in
-        subst (λ c. AreWordsOf c words) asked (named_words (codes "runcode") program rest options sets)
+    by_given : (options : RunOptions) (given counts : Bool) (command : Command) → SetAndEnd rest options given
+        → options.stats ≡ counts → (if given || counts then None else Some (Record options)) ≡ Some command
+        → AreWordsOf command words
+    by_given options true counts command asks is same = absurd (let none : None ≡ Some command = same in cc)
+    by_given options false true command asks is same = absurd (let none : None ≡ Some command = same in cc)
+    by_given options false false command (set, ending, sets, none, ends, whole) is same =
+        subst (λ c. AreWordsOf c words) (same_Some _ _ same)
+        (program, set, ending, sets, none refl, is, ends, ap (λ r. program ∷ codes "record" ∷ r) whole)
 
-    by_asked : (asked : Option Command) → from (between [] None) rest ≡ asked
-        → option_map of_code asked ≡ Some command → AreWordsOf command words
-    by_asked None met same = absurd cc
-    by_asked (Some other) met same =
-        let is : of_code other ≡ command = cc in by_command other (asks_so rest other met) is
+    are : (met : Met) (command : Command) → AsksSo rest met → of_record met ≡ Some command → AreWordsOf command words
+    are met command asks same = by_given met.0 met.1 met.0.stats command asks refl same
 
 -- what sets a number is a numeral
 sets_by_numeral : (bounds : Bounds) (n : Number) (value : Option Text) (k : ℕ)
@@ -238,11 +273,11 @@ sets_by_numeral bounds n (Some text) k e = by_numeral (is_numeral text) e
     by_numeral true e = refl
     by_numeral false e = cc
 
--- words that set these options ask for a run with them
+-- words that set these options ask for them
 asks_set : (options : RunOptions) (set ending : List Text)
-    → SetOptions options set
+    → (sets : SetOptions options set)
     → IsEnd ending
-    → from (between [] None) (set ++ ending) ≡ Some (Run options)
+    → from (between [] None) (set ++ ending) ≡ Some (options, is_some sets.set_workers.0)
 asks_set options set ending sets ends =
     ap (λ w. from (between [] None) (w ++ ending)) (sets.whole ∙ ap joined places.2)
     ∙ asks values words ending gives numerals ends places.0 places.1
@@ -392,14 +427,16 @@ tells (program ∷ w ∷ rest) = by_run (bytes_eq (codes "run") w) refl
         → bytes_eq (codes "emit") w ≡ false
         → bytes_eq (codes "code") w ≡ false
         → bytes_eq (codes "big") w ≡ false
+        → bytes_eq (codes "record") w ≡ false
         → bytes_eq (codes "replay") w ≡ false
         → bytes_eq (codes "runcode") w ≡ b
         → Tells (program ∷ w ∷ rest)
-    by_run_code true r c e o g p is =
+    by_run_code true r c e o g d p is =
         subst (λ w. Tells (program ∷ w ∷ rest)) ((bytes_eq-Decides (codes "runcode") w).0 is) (after_code program rest)
-    by_run_code false r c e o g p is =
+    by_run_code false r c e o g d p is =
         tells_nothing (program ∷ w ∷ rest)
-        (other_word program w rest (record { run = r; check = c; emit = e; code = o; big = g; replay = p; run_code = is }))
+        (other_word program w rest
+        (record { run = r; check = c; emit = e; code = o; big = g; recorded = d; replay = p; run_code = is }))
 
     by_replay : (b : Bool)
         → bytes_eq (codes "run") w ≡ false
@@ -407,10 +444,23 @@ tells (program ∷ w ∷ rest) = by_run (bytes_eq (codes "run") w) refl
         → bytes_eq (codes "emit") w ≡ false
         → bytes_eq (codes "code") w ≡ false
         → bytes_eq (codes "big") w ≡ false
+        → bytes_eq (codes "record") w ≡ false
         → bytes_eq (codes "replay") w ≡ b
         → Tells (program ∷ w ∷ rest)
-    by_replay true r c e o g is = at_plain replay program w rest is
-    by_replay false r c e o g is = by_run_code (bytes_eq (codes "runcode") w) r c e o g is refl
+    by_replay true r c e o g d is = at_plain replay program w rest is
+    by_replay false r c e o g d is = by_run_code (bytes_eq (codes "runcode") w) r c e o g d is refl
+
+    by_record : (b : Bool)
+        → bytes_eq (codes "run") w ≡ false
+        → bytes_eq (codes "check") w ≡ false
+        → bytes_eq (codes "emit") w ≡ false
+        → bytes_eq (codes "code") w ≡ false
+        → bytes_eq (codes "big") w ≡ false
+        → bytes_eq (codes "record") w ≡ b
+        → Tells (program ∷ w ∷ rest)
+    by_record true r c e o g is =
+        subst (λ w. Tells (program ∷ w ∷ rest)) ((bytes_eq-Decides (codes "record") w).0 is) (after_record program rest)
+    by_record false r c e o g is = by_replay (bytes_eq (codes "replay") w) r c e o g is refl
 
     by_big : (b : Bool)
         → bytes_eq (codes "run") w ≡ false
@@ -421,7 +471,7 @@ tells (program ∷ w ∷ rest) = by_run (bytes_eq (codes "run") w) refl
         → Tells (program ∷ w ∷ rest)
     by_big true r c e o is =
         subst (λ w. Tells (program ∷ w ∷ rest)) ((bytes_eq-Decides (codes "big") w).0 is) (after_big program rest)
-    by_big false r c e o is = by_replay (bytes_eq (codes "replay") w) r c e o is refl
+    by_big false r c e o is = by_record (bytes_eq (codes "record") w) r c e o is refl
 
     by_code : (b : Bool)
         → bytes_eq (codes "run") w ≡ false
@@ -458,12 +508,25 @@ ask_plain p words (program, ending, inl none, is) =
 ask_plain p words (program, ending, inr dashes, is) =
     ap command_of (is ∙ ap (λ e. program ∷ name_of p ∷ e) dashes) ∙ ended p program
 
+-- an option of which there are no words has no value
+none_given : (value : Option Text) (mine : List Text) → Give (codes "workers") value mine → mine ≡ []
+    → is_some value ≡ false
+none_given None mine give empty = refl
+none_given (Some text) mine (inl give) empty = absurd (let one : [] ≡ (codes "--" ++ codes "workers") ∷ text ∷ [] = sym empty ∙ give in cc)
+none_given (Some text) mine (inr give) empty =
+    absurd (let one : [] ≡ (codes "--" ++ (codes "workers" ++ (codes "=" ++ text))) ∷ [] = sym empty ∙ give in cc)
+
 ask : (words : List Text) (command : Command) → AreWordsOf command words → command_of words ≡ Some command
 ask words (Run options) (program, set, ending, sets, ends, is) =
-    ap command_of is ∙ at_first program (set ++ ending) ∙ asks_set options set ending sets ends
+    ap command_of is ∙ at_first program (set ++ ending) ∙ ap (option_and_then of_run) (asks_set options set ending sets ends)
 ask words (RunCode options) (program, set, ending, sets, ends, is) =
-    ap command_of is ∙ code_first program (set ++ ending)
-    ∙ ap (option_map of_code) (asks_set options set ending sets ends)
+    ap command_of is ∙ at_first_of_code program (set ++ ending)
+    ∙ ap (option_and_then of_code) (asks_set options set ending sets ends)
+ask words (Record options) (program, set, ending, sets, none, plain, ends, is) =
+    ap command_of is ∙ at_first_of_record program (set ++ ending)
+    ∙ ap (option_and_then of_record) (asks_set options set ending sets ends)
+    ∙ ap₂ (λ (b c : Bool). if b || c then None else Some (Record options))
+    (none_given sets.set_workers.0 sets.workers sets.set_workers.2 none) plain
 ask words Check are = ask_plain check words are
 ask words Emit are = ask_plain emit words are
 ask words Code are = ask_plain code words are

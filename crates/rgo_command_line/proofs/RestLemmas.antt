@@ -3,9 +3,9 @@ use Rattle.std.proofs.Common.{◌≡◌, ◌∙◌, refl, sym, ap, ap₂, codes,
 use Rattle.std.proofs.Common.{false, List, [], ◌∷◌, ◌++◌, Option, Some, None}
 use Rattle.std.proofs.Common.{append-nil, append_assoc, option_map}
 use Rattle.std.specs.List.{fold}
-use Rattle.std.specs.Prelude.{is_some}
+use Rattle.std.specs.Prelude.{◌||◌, if◌then◌else◌, is_some, option_and_then}
 use Rattle.std.specs.Str.{bytes_eq}
-use Rattle.clap.specs.Words.{App, Kinds, Row, Shape, Text, built}
+use Rattle.clap.specs.Words.{App, Kinds, Row, Shape, Text, built, first_of}
 use Rattle.clap.specs.Kinds.{or_else}
 use Rattle.clap.specs.Simple.{built_leaf, entered, inherited, names_of, new_shape}
 use Rattle.clap.specs.Walk.{Names, Walk, finished, nothing_held, rows_after, settled, walk, walk_from, walked}
@@ -13,11 +13,11 @@ use Rattle.clap.specs.Faults.{check_fault, defaults_fault, entered_fault, level_
 use Rattle.clap.specs.Faults.{settle_fault, turn_fault, walk_fault}
 use Rattle.clap.proofs.OnLiterals.{clap_on_literals}
 use Rattle.rgo_command_line.specs.Commands.{command_met, command_of, has_fault}
-use Rattle.rgo_command_line.specs.Limits.{big_of, options_of}
+use Rattle.rgo_command_line.specs.Limits.{big_of, options_of, recording_of}
 use Rattle.rgo_command_line.specs.Parser.{bare_parser, big_parser, parser, run_parser}
 use Rattle.rgo_command_line.specs.declared.commands.Command.{Command}
 use Rattle.rgo_command_line.specs.declared.limits.RunOptions.{RunOptions}
-use Rattle.rgo_command_line.specs.declared.commands.Command.TheVariants.{Run, Check, Emit, Code, Big, Replay, RunCode}
+use Rattle.rgo_command_line.specs.declared.commands.Command.TheVariants.{Run, Check, Emit, Code, Big, Record, Replay, RunCode}
 use Rattle.rgo_command_line.proofs.StrayLemmas.{stray, with_first}
 
 abbrev app : App
@@ -35,6 +35,9 @@ run_leaf = built_leaf (inherited bare_parser.top (run_parser (codes "run")).top)
 
 abbrev pub run_code_leaf : Shape
 run_code_leaf = built_leaf (inherited bare_parser.top (run_parser (codes "runcode")).top)
+
+abbrev pub record_leaf : Shape
+record_leaf = built_leaf (inherited bare_parser.top (run_parser (codes "record")).top)
 
 abbrev pub big_leaf : Shape
 big_leaf = built_leaf (inherited bare_parser.top big_parser.top)
@@ -97,64 +100,135 @@ just_one (x ∷ xs) = refl
 abbrev pub rest_fault : Shape → List Text → Kinds
 rest_fault leaf rest = level_fault leaf [] nothing_held rest false []
 
--- what the words after `run` ask for, where nothing is wrong with them
-abbrev pub run_met : List Row → Option Command
-run_met rows = option_map Run (options_of rows)
+-- What the words after `run` set: its options, and whether the number of workers is given.
+abbrev pub Met : Type 0
+Met = RunOptions × Bool
 
-pub after_run : (program : Text) (rest : List Text)
-    → command_of (program ∷ codes "run" ∷ rest)
-    ≡ cond (has_fault (rest_fault run_leaf rest)) None (run_met (rows_after run_leaf.rules [] rest))
-unfolding clap_on_literals
-after_run program rest =
-    ap₂ whole (stays (codes "run") [] rest) (no_fault (codes "run") [] rest)
-    ∙ ap (λ b. cond b None (run_met (rows_after run_leaf.rules [] rest))) (just_one (rest_fault run_leaf rest))
+abbrev pub run_met : List Row → Option Met
+run_met rows = option_map (λ options. (options, is_some (first_of (codes "workers") rows))) (options_of rows)
 
--- `runcode` refuses the same words as `run`
-same_walk : (w : Walk) (rest : List Text) → walk_fault run_code_leaf [] w rest ≡ walk_fault run_leaf [] w rest
-unfolding walk_fault
-same_walk w [] = refl
-same_walk w (x ∷ xs) =
-    ap (or_else (turn_fault run_leaf [] w x)) (same_walk (walked run_leaf.rules [] w x) xs)
+-- the commands with these options
+abbrev pub of_run : Met → Option Command
+of_run met = Some (Run met.0)
 
-same_fault : (rest : List Text) → rest_fault run_code_leaf rest ≡ rest_fault run_leaf rest
-same_fault rest =
-    let end = (walk run_leaf.rules [] nothing_held rest).held in
-    ap (λ k. or_else k (or_else (settle_fault run_leaf.rules run_leaf.args_override_self end)
-    (or_else (defaults_fault (settled run_leaf.rules end).rows run_leaf.rules)
-    (check_fault run_leaf (finished run_leaf.rules end) false)))) (same_walk (walk_from nothing_held) rest)
+abbrev pub of_code : Met → Option Command
+of_code met = Some (RunCode met.0)
 
--- the command that runs code with the options of one that runs a program
-abbrev pub of_code : Command → Command
-of_code (Run options) = RunCode options
-of_code other = other
+abbrev pub of_record : Met → Option Command
+of_record met = if met.1 || met.0.stats then None else Some (Record met.0)
 
-abbrev code_met : List Row → Option Command
-code_met rows = option_map RunCode (options_of rows)
+-- what is wrong with the words comes first
+by_fault : (b : Bool) (x : Option Command) (f : Met → Option Command) (m : Option Met) → x ≡ option_and_then f m
+    → cond b None x ≡ option_and_then f (cond b None m)
+by_fault true x f m e = refl
+by_fault false x f m e = e
 
-met_of_code : (rows : List Row) → code_met rows ≡ option_map of_code (run_met rows)
-met_of_code rows = by_options (options_of rows)
+met_of_run : (rows : List Row) → option_map Run (options_of rows) ≡ option_and_then of_run (run_met rows)
+met_of_run rows = by_options (options_of rows)
   where
-    by_options : (o : Option RunOptions) → option_map RunCode o ≡ option_map of_code (option_map Run o)
+    by_options : (o : Option RunOptions)
+        → option_map Run o
+        ≡ option_and_then of_run (option_map (λ options. (options, is_some (first_of (codes "workers") rows))) o)
     by_options None = refl
     by_options (Some options) = refl
 
--- after `runcode` the same words ask for the same options as after `run`
-pub after_run_code : (program : Text) (rest : List Text)
-    → command_of (program ∷ codes "runcode" ∷ rest) ≡ option_map of_code (command_of (program ∷ codes "run" ∷ rest))
+met_of_code : (rows : List Row) → option_map RunCode (options_of rows) ≡ option_and_then of_code (run_met rows)
+met_of_code rows = by_options (options_of rows)
+  where
+    by_options : (o : Option RunOptions)
+        → option_map RunCode o
+        ≡ option_and_then of_code (option_map (λ options. (options, is_some (first_of (codes "workers") rows))) o)
+    by_options None = refl
+    by_options (Some options) = refl
+
+met_of_record : (rows : List Row) → option_map Record (recording_of rows) ≡ option_and_then of_record (run_met rows)
+met_of_record rows = by_options (options_of rows)
+  where
+    given : Bool
+    given = is_some (first_of (codes "workers") rows)
+
+    by_given : (b : Bool) (options : RunOptions)
+        → option_map Record (if b then None else Some options) ≡ (if b then None else Some (Record options))
+    by_given true options = refl
+    by_given false options = refl
+
+    by_options : (o : Option RunOptions)
+        → option_map Record (option_and_then (λ options. if given || options.stats then None else Some options) o)
+        ≡ option_and_then of_record (option_map (λ options. (options, given)) o)
+    by_options None = refl
+    by_options (Some options) = by_given (given || options.stats) options
+
+pub after_run : (program : Text) (rest : List Text)
+    → command_of (program ∷ codes "run" ∷ rest)
+    ≡ option_and_then of_run
+    (cond (has_fault (rest_fault run_leaf rest)) None (run_met (rows_after run_leaf.rules [] rest)))
 unfolding clap_on_literals
-after_run_code program rest =
-    ap₂ whole (stays (codes "runcode") [] rest) (no_fault (codes "runcode") [] rest)
-    ∙ ap (λ b. cond b None (code_met rows)) (just_one (rest_fault run_code_leaf rest) ∙ ap has_fault (same_fault rest))
-    ∙ by_fault (has_fault (rest_fault run_leaf rest)) (met_of_code rows)
-    ∙ ap (option_map of_code) (sym (after_run program rest))
+after_run program rest =
+    ap₂ whole (stays (codes "run") [] rest) (no_fault (codes "run") [] rest)
+    ∙ ap (λ b. cond b None (option_map Run (options_of rows))) (just_one (rest_fault run_leaf rest))
+    ∙ by_fault (has_fault (rest_fault run_leaf rest)) (option_map Run (options_of rows)) of_run (run_met rows)
+    (met_of_run rows)
   where
     rows : List Row
     rows = rows_after run_leaf.rules [] rest
 
-    by_fault : (b : Bool) → code_met rows ≡ option_map of_code (run_met rows)
-        → cond b None (code_met rows) ≡ option_map of_code (cond b None (run_met rows))
-    by_fault true e = refl
-    by_fault false e = e
+-- `runcode` refuses the same words as `run`
+same_walk_run_code : (w : Walk) (rest : List Text) → walk_fault run_code_leaf [] w rest ≡ walk_fault run_leaf [] w rest
+unfolding walk_fault
+same_walk_run_code w [] = refl
+same_walk_run_code w (x ∷ xs) =
+    ap (or_else (turn_fault run_leaf [] w x)) (same_walk_run_code (walked run_leaf.rules [] w x) xs)
+
+same_fault_run_code : (rest : List Text) → rest_fault run_code_leaf rest ≡ rest_fault run_leaf rest
+same_fault_run_code rest =
+    let end = (walk run_leaf.rules [] nothing_held rest).held in
+    ap (λ k. or_else k (or_else (settle_fault run_leaf.rules run_leaf.args_override_self end)
+    (or_else (defaults_fault (settled run_leaf.rules end).rows run_leaf.rules)
+    (check_fault run_leaf (finished run_leaf.rules end) false)))) (same_walk_run_code (walk_from nothing_held) rest)
+
+-- after `runcode` the same words ask for the same options as after `run`
+pub after_run_code : (program : Text) (rest : List Text)
+    → command_of (program ∷ codes "runcode" ∷ rest)
+    ≡ option_and_then of_code
+    (cond (has_fault (rest_fault run_leaf rest)) None (run_met (rows_after run_leaf.rules [] rest)))
+unfolding clap_on_literals
+after_run_code program rest =
+    ap₂ whole (stays (codes "runcode") [] rest) (no_fault (codes "runcode") [] rest)
+    ∙ ap (λ b. cond b None (option_map RunCode (options_of rows)))
+    (just_one (rest_fault run_code_leaf rest) ∙ ap has_fault (same_fault_run_code rest))
+    ∙ by_fault (has_fault (rest_fault run_leaf rest)) (option_map RunCode (options_of rows)) of_code (run_met rows) (met_of_code rows)
+  where
+    rows : List Row
+    rows = rows_after run_leaf.rules [] rest
+
+-- `record` refuses the same words as `run`
+same_walk_record : (w : Walk) (rest : List Text) → walk_fault record_leaf [] w rest ≡ walk_fault run_leaf [] w rest
+unfolding walk_fault
+same_walk_record w [] = refl
+same_walk_record w (x ∷ xs) =
+    ap (or_else (turn_fault run_leaf [] w x)) (same_walk_record (walked run_leaf.rules [] w x) xs)
+
+same_fault_record : (rest : List Text) → rest_fault record_leaf rest ≡ rest_fault run_leaf rest
+same_fault_record rest =
+    let end = (walk run_leaf.rules [] nothing_held rest).held in
+    ap (λ k. or_else k (or_else (settle_fault run_leaf.rules run_leaf.args_override_self end)
+    (or_else (defaults_fault (settled run_leaf.rules end).rows run_leaf.rules)
+    (check_fault run_leaf (finished run_leaf.rules end) false)))) (same_walk_record (walk_from nothing_held) rest)
+
+-- and after `record`, but for the number of workers and the counts
+pub after_record : (program : Text) (rest : List Text)
+    → command_of (program ∷ codes "record" ∷ rest)
+    ≡ option_and_then of_record
+    (cond (has_fault (rest_fault run_leaf rest)) None (run_met (rows_after run_leaf.rules [] rest)))
+unfolding clap_on_literals
+after_record program rest =
+    ap₂ whole (stays (codes "record") [] rest) (no_fault (codes "record") [] rest)
+    ∙ ap (λ b. cond b None (option_map Record (recording_of rows)))
+    (just_one (rest_fault record_leaf rest) ∙ ap has_fault (same_fault_record rest))
+    ∙ by_fault (has_fault (rest_fault run_leaf rest)) (option_map Record (recording_of rows)) of_record (run_met rows) (met_of_record rows)
+  where
+    rows : List Row
+    rows = rows_after run_leaf.rules [] rest
 
 -- what the words after `big` ask for, where nothing is wrong with them
 abbrev pub big_met : List Row → Option Command

@@ -3,7 +3,7 @@ use Rattle.std.proofs.Common.{◌≡◌, ◌∙◌, refl, sym, ap, ap₂, codes,
 use Rattle.std.proofs.Common.{true, false, ◌||◌, ◌&&◌, ℕ, List, [], ◌∷◌}
 use Rattle.std.proofs.Common.{Option, Some, None, ◌⊎◌, inl, inr}
 use Rattle.std.specs.List.{fold}
-use Rattle.std.specs.Prelude.{if◌then◌else◌, slice_get}
+use Rattle.std.specs.Prelude.{if◌then◌else◌, option_and_then, slice_get}
 use Rattle.std.specs.Str.{bytes_eq, chars}
 use Rattle.clap.specs.Words.{Kinds, Row, Text}
 use Rattle.clap.specs.Kinds.{or_else}
@@ -15,8 +15,8 @@ use Rattle.clap.specs.declared.error.kind.ErrorKind.TheVariants.{ArgumentConflic
 use Rattle.clap.proofs.OnLiterals.{clap_on_literals}
 use Rattle.rgo_command_line.specs.Commands.{command_of, has_fault}
 use Rattle.rgo_command_line.specs.Numbers.{is_numeral}
-use Rattle.rgo_command_line.specs.declared.commands.Command.{Command}
-use Rattle.rgo_command_line.proofs.RestLemmas.{after_run, just_one, run_leaf, run_met}
+use Rattle.rgo_command_line.proofs.RestLemmas.{Met, after_record, after_run, after_run_code, just_one, of_code, of_record, of_run}
+use Rattle.rgo_command_line.proofs.RestLemmas.{run_leaf, run_met}
 use Rattle.rgo_command_line.proofs.StrayLemmas.{IsNoOption, IsUnknown, holding, option_of, stats_flag, stray}
 use Rattle.rgo_command_line.proofs.StrayLemmas.{with_first}
 use Rattle.rgo_command_line.proofs.WordLemmas.{Kind, Name, Number, IsPlain, dashed, dashes}
@@ -31,12 +31,12 @@ end_fault held =
     (or_else (defaults_fault (settled run_leaf.rules held).rows run_leaf.rules)
     (check_fault run_leaf (finished run_leaf.rules held) false))
 
--- what the words ask for, with this wrong on the way, and with what is held after them
-abbrev verdict : Kinds → Held → Option Command
+-- what the words set, with this wrong on the way, and with what is held after them
+abbrev verdict : Kinds → Held → Option Met
 verdict k held = cond (has_fault (or_else k (end_fault held))) None (run_met (finished run_leaf.rules held))
 
 -- what the words ask for that follow those that led here
-unfoldable pub from : Walk → List Text → Option Command
+unfoldable pub from : Walk → List Text → Option Met
 from w rest = verdict (walk_fault run_leaf [] w rest) (fold (walked run_leaf.rules []) w rest).held
 
 -- between two words, where an option may have its value without being a row, and may wait for one
@@ -59,9 +59,21 @@ abbrev settled_at : List Row → Option (Text × List Text) → List Row
 settled_at rows pending = settled_rows run_leaf.rules pending rows
 
 pub at_first : (program : Text) (rest : List Text)
-    → command_of (program ∷ codes "run" ∷ rest) ≡ from (between [] None) rest
+    → command_of (program ∷ codes "run" ∷ rest) ≡ option_and_then of_run (from (between [] None) rest)
 unfolding from
 at_first program rest = after_run program rest
+
+-- the words after `runcode` are read as those after `run`
+pub at_first_of_code : (program : Text) (rest : List Text)
+    → command_of (program ∷ codes "runcode" ∷ rest) ≡ option_and_then of_code (from (between [] None) rest)
+unfolding from
+at_first_of_code program rest = after_run_code program rest
+
+-- and those after `record`
+pub at_first_of_record : (program : Text) (rest : List Text)
+    → command_of (program ∷ codes "record" ∷ rest) ≡ option_and_then of_record (from (between [] None) rest)
+unfolding from
+at_first_of_record program rest = after_record program rest
 
 -- at the end of the words
 pub at_no_more : (rows : List Row)
@@ -103,7 +115,7 @@ given (number n) value rows = used (option_of (number_text n)) (value ∷ []) ro
 given stats value rows = used stats_flag [] rows
 
 -- what the words ask for that follow an option and its value
-abbrev pub after : List Row → Name → Text → List Text → Option Command
+abbrev pub after : List Row → Name → Text → List Text → Option Met
 after rows name value rest =
     cond (has_row (text_of name) rows) None (from (between (given name value rows) None) rest)
 
@@ -248,7 +260,7 @@ abbrev Settles : List Row → Option (Text × List Text) → List Text → Type 
 Settles rows pending rest = from (between rows pending) rest
     ≡ cond (has_fault (settling rows pending)) None (from (between (settled_at rows pending) None) rest)
 
-by_end : (k ends : Kinds) (met : Option Command)
+by_end : (k ends : Kinds) (met : Option Met)
     → cond (has_fault (or_else k ends)) None met ≡ cond (has_fault k) None (cond (has_fault ends) None met)
 by_end [] ends met = refl
 by_end (x ∷ xs) ends met = refl
@@ -260,11 +272,11 @@ settles_end rows pending =
     (run_met (finished run_leaf.rules (holding (settled_at rows pending) None)))
 
 -- what asks for nothing in both
-both_none : (x y : Option Command) (b : Bool) → x ≡ None → y ≡ None → x ≡ cond b None y
+both_none : (x y : Option Met) (b : Bool) → x ≡ None → y ≡ None → x ≡ cond b None y
 both_none x y true e f = e
 both_none x y false e f = e ∙ sym f
 
-one_after : (a b : Bool) (x : Option Command) → cond (a || b) None x ≡ cond a None (cond b None x)
+one_after : (a b : Bool) (x : Option Met) → cond (a || b) None x ≡ cond a None (cond b None x)
 one_after true b x = refl
 one_after false b x = refl
 
@@ -282,16 +294,16 @@ settles rows pending (x ∷ xs) = by_kind x xs (kind_of_word x)
     whole name value x xs here there =
         leads _ _ x xs _ here
         ∙ one_after b (has_row (text_of name) (settled_at rows pending)) _
-        ∙ ap (λ (o : Option Command). cond b None o) (sym (leads _ _ x xs _ there))
+        ∙ ap (λ (o : Option Met). cond b None o) (sym (leads _ _ x xs _ there))
 
     by_kind : (x : Text) (xs : List Text) → Kind x → Settles rows pending (x ∷ xs)
     by_kind _ [] dashes =
         at_ending rows pending ∙ settles_end rows pending
-        ∙ ap (λ (o : Option Command). cond b None o) (sym (at_ending (settled_at rows pending) None))
+        ∙ ap (λ (o : Option Met). cond b None o) (sym (at_ending (settled_at rows pending) None))
     by_kind _ (y ∷ ys) dashes = both_none _ _ b (at_more _ _ y ys) (at_more _ _ y ys)
     by_kind _ xs (named (number n)) =
         leads _ _ (dashed (number n)) xs _ (leads_named n rows pending)
-        ∙ ap (λ (o : Option Command). cond b None o) (sym (at_dashed (settled_at rows pending) n xs))
+        ∙ ap (λ (o : Option Met). cond b None o) (sym (at_dashed (settled_at rows pending) n xs))
     by_kind _ xs (named stats) =
         whole stats [] (dashed stats) xs (leads_flag [] rows pending) (leads_flag [] (settled_at rows pending) None)
     by_kind _ xs (valued (number n) value) =

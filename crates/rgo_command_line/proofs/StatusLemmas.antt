@@ -17,10 +17,8 @@ use Rattle.clap.proofs.OnLiterals.{clap_on_literals}
 use Rattle.rgo_command_line.specs.Commands.{has_fault}
 use Rattle.rgo_command_line.specs.Limits.{fitting, goroutine_bounds, is_given, limit_by, page_bounds}
 use Rattle.rgo_command_line.specs.Limits.{page_word_bounds, region_bounds, step_bounds, worker_bounds}
-use Rattle.rgo_command_line.specs.declared.commands.Command.{Command}
-use Rattle.rgo_command_line.specs.declared.commands.Command.TheVariants.{Run}
 use Rattle.rgo_command_line.specs.declared.limits.RunOptions.{RunOptions}
-use Rattle.rgo_command_line.proofs.RestLemmas.{run_leaf, run_met}
+use Rattle.rgo_command_line.proofs.RestLemmas.{Met, run_leaf, run_met}
 use Rattle.rgo_command_line.proofs.RunLemmas.{at_no_more, between, end_fault, from, given}
 use Rattle.rgo_command_line.proofs.StrayLemmas.{holding, option_of, stats_flag}
 use Rattle.rgo_command_line.proofs.WordLemmas.{Name, Number, goroutines, number, number_text, page_words, pages}
@@ -198,10 +196,10 @@ options_by s g p w r k is_stats =
     options_from (limit_by step_bounds s) (limit_by goroutine_bounds g) (limit_by page_bounds p)
     (limit_by page_word_bounds w) (limit_by region_bounds r) (limit_by worker_bounds k) is_stats
 
--- what a run is asked for, by the values of its options
-abbrev pub run_by : Values → Option Command
+-- what is set, by the values of the options
+abbrev pub run_by : Values → Option Met
 run_by v =
-    option_map Run (options_by (v (number steps)) (v (number goroutines)) (v (number pages)) (v (number page_words))
+    option_map (λ options. (options, is_some (v (number workers)))) (options_by (v (number steps)) (v (number goroutines)) (v (number pages)) (v (number page_words))
     (v (number regions)) (v (number workers)) (is_some (v stats)))
 
 same_rows : (b : Bool) (rows : List Row) → cond b rows rows ≡ rows
@@ -349,7 +347,7 @@ pub at_end : (rows : List Row) (values : Values)
 at_end rows values shows are =
     at_no_more rows
     ∙ ap₂ (λ (b : Bool) (r : List Row). cond b None (run_met r)) (no_end_fault rows) (finished_rows rows)
-    ∙ (λ i. option_map Run (options_by (all.numbers steps i) (all.numbers goroutines i) (all.numbers pages i)
+    ∙ (λ i. option_map (λ options. (options, is_some (all.numbers workers i))) (options_by (all.numbers steps i) (all.numbers goroutines i) (all.numbers pages i)
     (all.numbers page_words i) (all.numbers regions i) (all.numbers workers i) (all.flag i)))
   where
     all : Gives (with_default rows stats_flag) values

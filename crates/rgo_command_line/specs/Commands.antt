@@ -3,10 +3,10 @@ use Rattle.std.specs.Prelude.{⊤, ◌≡◌, Bool, true, false, List, [], ◌�
 use Rattle.std.specs.Prelude.{if◌then◌else◌, option_and_then, option_map}
 use Rattle.std.specs.Str.{bytes_eq}
 use Rattle.clap.specs.Words.{Kinds, Row, Text, fault_of, subcommand_of}
-use Rattle.rgo_command_line.specs.Limits.{IsBig, LieInBounds, big_of, options_of}
+use Rattle.rgo_command_line.specs.Limits.{IsBig, LieInBounds, big_of, options_of, recording_of}
 use Rattle.rgo_command_line.specs.Parser.{parser}
 use Rattle.rgo_command_line.specs.declared.commands.Command.{Command}
-use Rattle.rgo_command_line.specs.declared.commands.Command.TheVariants.{Run, Check, Emit, Code, Big, Replay, RunCode}
+use Rattle.rgo_command_line.specs.declared.commands.Command.TheVariants.{Run, Check, Emit, Code, Big, Record, Replay, RunCode}
 use Rattle.rgo_command_line.specs.declared.commands.WordsError.{WordsError}
 use Rattle.rgo_command_line.specs.declared.commands.WordsError.TheVariants.{Usage}
 
@@ -18,8 +18,9 @@ command_named name rows =
     else (if bytes_eq name (codes "emit") then Some Emit
     else (if bytes_eq name (codes "code") then Some Code
     else (if bytes_eq name (codes "big") then option_map Big (big_of rows)
+    else (if bytes_eq name (codes "record") then option_map Record (recording_of rows)
     else (if bytes_eq name (codes "replay") then Some Replay
-    else (if bytes_eq name (codes "runcode") then option_map RunCode (options_of rows) else None))))))
+    else (if bytes_eq name (codes "runcode") then option_map RunCode (options_of rows) else None)))))))
 
 -- the command of the subcommand that was met, if any
 abbrev pub command_met : Option (Text × List Row) → Option Command
@@ -49,4 +50,5 @@ abbrev pub KeepsBounds : Command → Type 0
 KeepsBounds (Run options) = LieInBounds options
 KeepsBounds (Big n) = IsBig n
 KeepsBounds (RunCode options) = LieInBounds options
+KeepsBounds (Record options) = LieInBounds options × (options.stats ≡ false)
 KeepsBounds _ = ⊤

@@ -6,7 +6,7 @@ use Rattle.rgo_command_line.specs.Commands.{command_of}
 use Rattle.rgo_command_line.specs.Limits.{Fits, big_by, default_options, goroutine_bounds, limit_by, page_bounds, page_word_bounds}
 use Rattle.rgo_command_line.specs.Limits.{region_bounds, step_bounds, worker_bounds}
 use Rattle.rgo_command_line.specs.declared.commands.Command.{Command}
-use Rattle.rgo_command_line.specs.declared.commands.Command.TheVariants.{Run, Check, Emit, Code, Big, Replay, RunCode}
+use Rattle.rgo_command_line.specs.declared.commands.Command.TheVariants.{Run, Check, Emit, Code, Big, Record, Replay, RunCode}
 use Rattle.rgo_command_line.specs.declared.limits.Bounds.{Bounds}
 use Rattle.rgo_command_line.specs.declared.limits.RunOptions.{RunOptions}
 use Rattle.rgo_machine.specs.declared.limits.Limits.{Limits}
@@ -76,10 +76,17 @@ AskToRun name options words = (program : Text) × (set ending : List Text)
     × SetOptions options set × IsEnd ending
     × (words ≡ program ∷ name ∷ (set ++ ending))
 
+-- the same for `record`, with no word for the number of workers and none for the counts
+abbrev pub AskToRecord : RunOptions → List Text → Type 0
+AskToRecord options words = (program : Text) × (set ending : List Text)
+    × (sets : SetOptions options set) × (sets.workers ≡ []) × (options.stats ≡ false) × IsEnd ending
+    × (words ≡ program ∷ codes "record" ∷ (set ++ ending))
+
 -- any name of the program, the command's name, and what the command takes: nothing, its options or its number
 abbrev pub AreWordsOf : Command → List Text → Type 0
 AreWordsOf (Run options) words = AskToRun (codes "run") options words
 AreWordsOf (RunCode options) words = AskToRun (codes "runcode") options words
+AreWordsOf (Record options) words = AskToRecord options words
 AreWordsOf Check words = ArePlain (codes "check") words
 AreWordsOf Emit words = ArePlain (codes "emit") words
 AreWordsOf Code words = ArePlain (codes "code") words
@@ -162,6 +169,10 @@ pub record AskForCommands : Type 0 where
   pub emit_ended : Ask (codes "emit" ∷ codes "--" ∷ []) (Some Emit)
   pub code : Ask (codes "code" ∷ []) (Some Code)
   pub code_ended : Ask (codes "code" ∷ codes "--" ∷ []) (Some Code)
+  pub recorded : Ask (codes "record" ∷ []) (Some (Record default_options))
+  pub recorded_ended : Ask (codes "record" ∷ codes "--" ∷ []) (Some (Record default_options))
+  pub recorded_steps : Ask (codes "record" ∷ codes "--steps=5" ∷ [])
+      (Some (Record (with_limits (record { steps = 5; goroutines = 100000 }))))
   pub replay : Ask (codes "replay" ∷ []) (Some Replay)
   pub replay_ended : Ask (codes "replay" ∷ codes "--" ∷ []) (Some Replay)
   pub big : Ask (codes "big" ∷ codes "10" ∷ []) (Some (Big 10))
@@ -185,6 +196,9 @@ pub record AskForNothing : Type 0 where
   pub check_workers : Ask (codes "check" ∷ codes "--workers=2" ∷ []) None
   pub emit_option : Ask (codes "emit" ∷ codes "--steps=5" ∷ []) None
   pub code_option : Ask (codes "code" ∷ codes "--steps=5" ∷ []) None
+  pub record_workers : Ask (codes "record" ∷ codes "--workers=4" ∷ []) None
+  pub record_stats : Ask (codes "record" ∷ codes "--stats" ∷ []) None
+  pub record_no_steps : Ask (codes "record" ∷ codes "--steps=0" ∷ []) None
   pub replay_option : Ask (codes "replay" ∷ codes "--steps=5" ∷ []) None
   pub replay_twice : Ask (codes "replay" ∷ codes "replay" ∷ []) None
   pub two_commands : Ask (codes "emit" ∷ codes "code" ∷ []) None

@@ -1,6 +1,6 @@
 -- The limits, sizes and workers of a run, as the options of `run` set them.
 use Rattle.std.specs.Prelude.{◌*◌, ◌≤◌, Bool, false, List, Option, Some, None, ℕ, codes, nat_le, option_and_then}
-use Rattle.std.specs.Prelude.{if◌then◌else◌, option_map}
+use Rattle.std.specs.Prelude.{if◌then◌else◌, ◌||◌, is_some, option_map}
 use Rattle.std.specs.Option.{option_map_or}
 use Rattle.std.specs.Str.{bytes_eq}
 use Rattle.clap.specs.Words.{Row, Text, first_of}
@@ -113,6 +113,13 @@ options_of rows =
     }) (limit_of (codes "workers") worker_bounds rows))
     (sizes_of rows))
     (limits_of rows)
+
+-- What the options of `record` set: those of `run` but for the number of workers and the counts. None where the words give
+-- one of these.
+abbrev pub recording_of : List Row → Option RunOptions
+recording_of rows =
+    option_and_then (λ options. if is_some (first_of (codes "workers") rows) || options.stats then None else Some options)
+    (options_of rows)
 
 -- what `run` sets without options
 abbrev pub default_options : RunOptions

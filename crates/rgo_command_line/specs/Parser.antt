@@ -40,8 +40,9 @@ bare_parser = record (new_app (codes "rgo")) {
 abbrev pub with_plain : App → Text → App
 with_plain app name = with_subcommand app (new_app name).top
 
--- one level of subcommands, of which `run` and `runcode` have options, and `big` has a number
+-- one level of subcommands, of which `run`, `record` and `runcode` have options, and `big` has a number
 abbrev pub parser : App
-parser = with_subcommand (with_plain (with_subcommand (with_plain (with_plain (with_plain
+parser = with_subcommand (with_plain (with_subcommand (with_subcommand (with_plain (with_plain (with_plain
     (with_subcommand bare_parser (run_parser (codes "run")).top)
-    (codes "check")) (codes "emit")) (codes "code")) big_parser.top) (codes "replay")) (run_parser (codes "runcode")).top
+    (codes "check")) (codes "emit")) (codes "code")) big_parser.top) (run_parser (codes "record")).top)
+    (codes "replay")) (run_parser (codes "runcode")).top

@@ -5,7 +5,7 @@ ghost use Rattle.clap.specs.Words.{found_of, rows_of, subcommand_rows_of};
 ghost use Rattle.rgo_command_line.specs.Commands.{KeepsBounds, Reads, command_met, command_named};
 ghost use Rattle.rgo_command_line.specs.declared.commands.WordsError.TheVariants.{NoMemory};
 
-use crate::limits::{RunOptions, big_of, options_of};
+use crate::limits::{RunOptions, big_of, options_of, recording_of};
 use crate::parser::parser;
 use clap::ArgMatches;
 use clap::error::ErrorKind;
@@ -25,6 +25,9 @@ pub enum Command {
     Code,
     /// `big N`: runs a large program that starts this many goroutines, without reading a text.
     Big(u32),
+    /// `record`: reads a text, runs its program with these options, and writes the journal of the run. It has no option for
+    /// workers and none for counts.
+    Record(RunOptions),
     /// `replay`: reads a journal and the text that follows it, and takes the journal's picks in a run of the program.
     Replay,
     /// `runcode`: reads a code text, checks it and runs its code, with these options.
@@ -61,6 +64,7 @@ fn command_named(name: &str, matches: &ArgMatches<'_>) -> Option<Command>
         "emit" => Some(Command::Emit),
         "code" => Some(Command::Code),
         "big" => Some(Command::Big(big_of(matches)?)),
+        "record" => Some(Command::Record(recording_of(matches)?)),
         "replay" => Some(Command::Replay),
         "runcode" => Some(Command::RunCode(options_of(matches)?)),
         _ => None,

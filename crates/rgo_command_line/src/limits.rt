@@ -1,9 +1,9 @@
 //! What limits a run, and on how many workers it is, as the options of `run` set it.
 
-ghost use Rattle.std.specs.Prelude.{◌≡◌, IfSome};
+ghost use Rattle.std.specs.Prelude.{◌≡◌, false, IfSome};
 ghost use Rattle.clap.specs.Words.{found_of, rows_of};
 ghost use Rattle.rgo_command_line.specs.Limits.{Fits, IsBig, LieInBounds, LiesIn, LimitsLieInBounds, SizesLieInBounds};
-ghost use Rattle.rgo_command_line.specs.Limits.{big_of, fitting, is_given, limit_of, limits_of, options_of, sizes_of};
+ghost use Rattle.rgo_command_line.specs.Limits.{big_of, fitting, is_given, limit_of, limits_of, options_of, recording_of, sizes_of};
 
 use crate::numbers::number_within;
 use clap::ArgMatches;
@@ -173,6 +173,21 @@ pub(crate) fn options_of(matches: &ArgMatches<'_>) -> Option<RunOptions>
         workers: limit(matches, "workers", WORKERS)? as u32,
         stats: is_given(matches, "stats"),
     })
+}
+
+/// What the options of `record` set, which are those of `run` but for `--workers` and `--stats`; none where the words give
+/// one of these two.
+#[tactic(auto, using(crate::proofs::RowLemmas::first_value_rows))]
+pub(crate) fn recording_of(matches: &ArgMatches<'_>) -> Option<RunOptions>
+    ensures value { result ≡ recording_of (rows_of (found_of matches.now)) }
+    ensures range { IfSome result LieInBounds }
+    ensures plain { IfSome result (λ options. options.stats ≡ false) }
+{
+    let options = options_of(matches)?;
+    if matches.get_str("workers").is_some() || options.stats {
+        return None;
+    }
+    Some(options)
 }
 
 /// How many goroutines `big` starts, if that is a number from 1 to `MOST_BIG`.

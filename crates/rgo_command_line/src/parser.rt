@@ -60,6 +60,7 @@ pub(crate) fn parser<'a>(alloc: Global) -> Result<Command<'a>, AllocError>
 {
     let run = run_parser(alloc, "run")?;
     let big = big_parser(alloc)?;
+    let record = run_parser(alloc, "record")?;
     let run_code = run_parser(alloc, "runcode")?;
     Command::new(alloc, "rgo")
         .disable_help_flag(true)
@@ -70,6 +71,7 @@ pub(crate) fn parser<'a>(alloc: Global) -> Result<Command<'a>, AllocError>
         .subcommand(Command::new(alloc, "emit"))?
         .subcommand(Command::new(alloc, "code"))?
         .subcommand(big)?
+        .subcommand(record)?
         .subcommand(Command::new(alloc, "replay"))?
         .subcommand(run_code)
 }

@@ -23,6 +23,6 @@ mod replays;
 pub use errors::{PicksError, PicksText};
 pub use laws::{examples, one_replay, read_back, same_steps};
 pub use picks::{TacPick, journal_pick, machine_pick};
-pub use printing::print_picks;
+pub use printing::{print_pick, print_picks};
 pub use reading::{PickList, Picks, read_picks};
 pub use replays::{ReplayEnd, replay};

@@ -31,8 +31,12 @@ fn print_two(out: &mut Vec<u8>, word: &[u8], a: u32, b: u32) -> Result<(), Alloc
     print_number(out, b, b"\n")
 }
 
-/// The line of a pick.
-fn print_pick(out: &mut Vec<u8>, pick: TacPick) -> Result<(), AllocError>
+/// Appends the line of a pick.
+///
+/// # Errors
+///
+/// On allocation failure.
+pub fn print_pick(out: &mut Vec<u8>, pick: TacPick) -> Result<(), AllocError>
     ensures { OnOk result (out.new.items ≡ out.old.items ++ pick_line pick) }
 {
     match pick {

@@ -15,7 +15,7 @@ use Rattle.rgo_run.specs.declared.endings.Ending.{Ending}
 use Rattle.rgo_run.specs.declared.endings.Ending.TheVariants.{Valid, Ran, Usage, ReadFault}
 use Rattle.rgo_run.specs.declared.endings.Ending.TheVariants.{WriteFault, NoMemory}
 use Rattle.rgo_command_line.specs.declared.commands.Command.{Command}
-use Rattle.rgo_command_line.specs.declared.commands.Command.TheVariants.{Run, Check, Emit, Code, Big, Replay, RunCode}
+use Rattle.rgo_command_line.specs.declared.commands.Command.TheVariants.{Run, Check, Emit, Code, Big, Record, Replay, RunCode}
 use Rattle.rgo_run.specs.Calls.{Call, Asks, IsRun, IsEmit, SinkUse, SourceHeld, Failed, Held, Grew}
 use Rattle.rgo_run.specs.Calls.{IsUntouched, kind_of, run_of}
 use Rattle.rgo_run.specs.Compiled.{Emits, IsCodeText, WritesCode}
@@ -86,6 +86,7 @@ no_run call command kind options c k r = by_command command k (runs_with call co
     by_command Emit k r = k
     by_command (Big n) k r = k
     by_command Replay k r = k
+    by_command (Record _) k r = k
 
 no_emit : (call : Call) (command : Command) → Asks call command → OnlyChecks command → IsEmit call → ⊥
 no_emit call command c k d = subst OnlyChecks (same_command call command Emit c d) k
@@ -103,6 +104,7 @@ run_kind Check kind options r = absurd cc
 run_kind Emit kind options r = absurd cc
 run_kind Code kind options r = absurd cc
 run_kind Replay kind options r = absurd cc
+run_kind (Record o) kind options r = ap (λ (x : TextKind × RunOptions). x.0) (same_Some _ _ r)
 
 -- a refusal by a command that runs is that of a text of its kind
 run_refused : (call : Call) (command : Command) (kind : TextKind) (options : RunOptions) (text : List ℕ) (e : Ending)
@@ -129,6 +131,7 @@ accepted_passes (Run options) text p = absurd p
 accepted_passes (RunCode options) text p = absurd p
 accepted_passes (Big n) text p = absurd p
 accepted_passes Replay text p = absurd p
+accepted_passes (Record options) text p = absurd p
 
 -- what is run is valid
 runnable_passes : (kind : TextKind) (text : List ℕ) (what : Runnable) → IsRunnable kind text what → PassesAs kind text

@@ -10,7 +10,7 @@ use Rattle.rgo_driver.specs.Runs.{Gives}
 use Rattle.rgo_driver.specs.declared.ends.RunEnd.{RunEnd}
 use Rattle.rgo_driver.specs.declared.ends.RunEnd.TheVariants as run_end
 use Rattle.rgo_command_line.specs.declared.commands.Command.{Command}
-use Rattle.rgo_command_line.specs.declared.commands.Command.TheVariants.{Run, Check, Emit, Code, Big, Replay, RunCode}
+use Rattle.rgo_command_line.specs.declared.commands.Command.TheVariants.{Run, Check, Emit, Code, Big, Record, Replay, RunCode}
 use Rattle.rgo_command_line.specs.declared.limits.RunOptions.{RunOptions}
 use Rattle.rgo_command_line.specs.Commands.{command_of}
 use Rattle.rgo_command_line.specs.Limits.{default_options}
@@ -20,7 +20,7 @@ use Rattle.rgo_run.specs.declared.endings.TextKind.TheVariants as text_kind
 use Rattle.rgo_run.specs.declared.endings.Ending.{Ending}
 use Rattle.rgo_run.specs.declared.endings.Ending.TheVariants.{Valid, Ran, Usage, ReadFault, TooLong, CodeTooLong}
 use Rattle.rgo_run.specs.declared.endings.Ending.TheVariants.{WriteFault, NoMemory}
-use Rattle.rgo_run.specs.Calls.{AsksRun, Call, Asks, IsRun, SourceFailed, SourceHeld, IsUntouched, kind_of, run_of}
+use Rattle.rgo_run.specs.Calls.{AsksRun, Call, Asks, IsRun, SinkUse, SourceFailed, SourceHeld, IsUntouched, kind_of, run_of}
 use Rattle.rgo_run.specs.Endings.{status_of, is_run_status, is_fault_status}
 use Rattle.rgo_run.specs.Reports.{Tells, HasPlace, Reports}
 use Rattle.rgo_run.specs.Runs.{HasSourceRun, Runnable, RunsTo, of_code, of_program, stats_at}
@@ -65,7 +65,7 @@ headline_told call text e went t = record {
 }
 
 -- where no write failed, the whole print was given out
-whole_print : (end : RunEnd) (print : List ℕ) (old new : Option (List ℕ)) → (end ≡ run_end.WriteFault → ⊥)
+pub whole_print : (end : RunEnd) (print : List ℕ) (old new : Option (List ℕ)) → (end ≡ run_end.WriteFault → ⊥)
     → Gives end print old new → Appends old new print
 whole_print run_end.WriteFault print old new n g = absurd (n refl)
 whole_print (run_end.Ended end) print old new n g = g
@@ -76,7 +76,7 @@ whole_print run_end.StepsSpent print old new n g = g
 whole_print run_end.GoroutinesSpent print old new n g = g
 whole_print run_end.NoMemory print old new n g = g
 
-no_line_source : (what : Runnable) (limits : Limits) (end : RunEnd) (t : TacState) → HasSourceRun what limits end t
+pub no_line_source : (what : Runnable) (limits : Limits) (end : RunEnd) (t : TacState) → HasSourceRun what limits end t
     → HasSourceRun what limits run_end.NoMemory t
 no_line_source (of_program program) limits end t s = record {
   picks = s.picks;
@@ -89,10 +89,10 @@ no_line_source (of_program program) limits end t s = record {
 no_line_source (of_code code) limits end t s = s
 
 -- a run of which the lines had no memory counts as one that ran out of memory
-no_line_run : (kind : TextKind) (options : RunOptions) (text : List ℕ) (call : Call) (e : Ending)
-    (r : RunsTo kind options text e call.out) → (r.run_end ≡ run_end.WriteFault → ⊥)
-    → RunsTo kind options text (Ran kind run_end.NoMemory None) call.out
-no_line_run kind options text call e r no_fault = record {
+abbrev pub no_line_run : (kind : TextKind) (options : RunOptions) (text : List ℕ) (out : SinkUse) (e : Ending)
+    (r : RunsTo kind options text e out) → (r.run_end ≡ run_end.WriteFault → ⊥)
+    → RunsTo kind options text (Ran kind run_end.NoMemory None) out
+no_line_run kind options text out e r no_fault = record {
   what = r.what;
   is_what = r.is_what;
   run_end = run_end.NoMemory;
@@ -108,7 +108,7 @@ no_line_run kind options text call e r no_fault = record {
       ran = r.runs.runs.ran;
       early = r.runs.runs.early;
       ends = tt;
-      gives = whole_print r.run_end r.runs.runs.state.printed call.out.old call.out.new no_fault r.runs.runs.gives;
+      gives = whole_print r.run_end r.runs.runs.state.printed out.old out.new no_fault r.runs.runs.gives;
     };
     source = no_line_source r.what options.limits r.run_end r.runs.runs.state r.runs.source;
     regions = record {
@@ -158,7 +158,7 @@ no_line call text e went (ran kind options c r) h t =
       is_text = went.is_text;
       held = went.held;
       asks = inl (run_asks call kind options c);
-      outcome = ran kind options c (no_line_run kind options text call e r
+      outcome = ran kind options c (no_line_run kind options text call.out e r
           (no_fault_line kind r.run_end r.stats r.runs.regions.state options.stats r.stats_are (subst HasPlace r.is_end h)));
     }) t
 no_line call text e went (emitted c em) h t = absurd (no_place e (emit_ends call text e em) h)
@@ -199,6 +199,7 @@ performed_outcome call (RunCode options) text e c (inr f) = failed_outcome call 
 performed_outcome call (Big n) text e c (inl r) = ran text_kind.Go default_options (ap (option_and_then run_of) c) r
 performed_outcome call (Big n) text e c (inr f) = failed_outcome call (Big n) text e c f.0 f.1
 performed_outcome call Replay text e c p = absurd p
+performed_outcome call (Record options) text e c p = absurd p
 performed_outcome call Emit text e c (inl em) = emitted c em
 performed_outcome call Emit text e c (inr f) = failed_outcome call Emit text e c f.0 f.1
 
@@ -212,6 +213,30 @@ headline_of_text call command text e read performs reports =
       held = read.held;
       asks = inl (command, read.asked);
       outcome = performed_outcome call command text e read.asked performs;
+    }) reports
+
+-- a call that has run a program with these options, and recorded it
+pub headline_of_recorded : (call : Call) (options : RunOptions) (text : List ℕ) (e : Ending)
+    → IsRead call.words call.source (Record options) text → RunsTo text_kind.Go options text e call.out
+    → Reports text e call.status call.err → Headline call
+headline_of_recorded call options text e read runs reports =
+    headline_of call text e (record {
+      is_text = subst (λ o. IsTextOf o call.source.left text) (sym read.asked) read.is_text;
+      held = read.held;
+      asks = inl (Record options, read.asked);
+      outcome = ran text_kind.Go options (ap (option_and_then run_of) read.asked) runs;
+    }) reports
+
+-- or not, since the text was refused or memory ran out
+pub headline_of_unrecorded : (call : Call) (options : RunOptions) (text : List ℕ) (e : Ending)
+    → IsRead call.words call.source (Record options) text → FailsAs text_kind.Go text e → IsUntouched call.out
+    → Reports text e call.status call.err → Headline call
+headline_of_unrecorded call options text e read fails untouched reports =
+    headline_of call text e (record {
+      is_text = subst (λ o. IsTextOf o call.source.left text) (sym read.asked) read.is_text;
+      held = read.held;
+      asks = inl (Record options, read.asked);
+      outcome = failed_outcome call (Record options) text e read.asked fails untouched;
     }) reports
 
 -- ---- other calls
@@ -236,6 +261,7 @@ is_some_text (Some Check) left = is_left_text left
 is_some_text (Some Emit) left = is_left_text left
 is_some_text (Some Code) left = is_left_text left
 is_some_text (Some Replay) left = is_left_text left
+is_some_text (Some (Record options)) left = is_left_text left
 is_some_text (Some (RunCode options)) left = is_left_text left
 is_some_text (Some (Big n)) left = refl
 

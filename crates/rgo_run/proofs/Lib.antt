@@ -10,6 +10,8 @@ pub mod OneCompiled
 pub mod Printed
 pub mod ProgramLemmas
 pub mod RegionNumbers
+pub mod RecordLemmas
+pub mod RecordedReplays
 pub mod ReplayLemmas
 pub mod Sufficing
 pub mod TextLemmas

@@ -6,7 +6,7 @@ use Rattle.rgo_driver.specs.declared.ends.RunEnd.{RunEnd}
 use Rattle.rgo_driver.specs.declared.ends.RunEnd.TheVariants as run_end
 use Rattle.rgo_outside.specs.Causes.{Rose}
 use Rattle.rgo_command_line.specs.declared.commands.Command.{Command}
-use Rattle.rgo_command_line.specs.declared.commands.Command.TheVariants.{Run, Check, Emit, Code, Big, Replay, RunCode}
+use Rattle.rgo_command_line.specs.declared.commands.Command.TheVariants.{Run, Check, Emit, Code, Big, Record, Replay, RunCode}
 use Rattle.rgo_command_line.specs.Commands.{command_of}
 use Rattle.std.specs.declared.alloc.AllocError.{AllocError}
 use Rattle.std.proofs.lemmas.List.{take_all}
@@ -15,6 +15,8 @@ use Rattle.rgo_journal.specs.declared.errors.PicksError.{PicksError}
 use Rattle.rgo_journal.specs.declared.errors.PicksError.TheVariants as picks_error
 use Rattle.rgo_journal.specs.Forms.{Refuses}
 use Rattle.rgo_journal.specs.Text.{IsJournal}
+use Rattle.rgo_command_line.specs.declared.limits.RunOptions.{RunOptions}
+use Rattle.std.proofs.lemmas.Option.{same_Some}
 use Rattle.rgo_journal.specs.declared.replays.ReplayEnd.{ReplayEnd}
 use Rattle.rgo_journal.specs.declared.replays.ReplayEnd.TheVariants as replay_end
 use Rattle.rgo_run.specs.declared.endings.Ending.{Ending}
@@ -28,11 +30,13 @@ use Rattle.rgo_run.specs.CodeVerdicts.{code_limit}
 use Rattle.rgo_run.specs.Endings.{is_fault_status, is_run_status, line_of, status_of, status_of_run}
 use Rattle.rgo_run.specs.Headline.{Faults, Headline}
 use Rattle.rgo_run.specs.Replayed.{Claim, EndsOn, HasNumber, IsReadWhole, IsSplit, NotReplayed, ReadsNothing, ReplayHeadline, ReplaysBytes, ReplaysTo, ReportsReplay, error_of, line_of_replay, status_of_end, status_of_replay}
+use Rattle.rgo_run.specs.Recorded.{RecordHeadline, Records, after}
 use Rattle.rgo_run.specs.Reports.{Reports, Tells, Writes}
 use Rattle.rgo_run.specs.Texts.{FailsAs, IsRead, IsTextOf, NotRead, Performs, RefusedBy}
 use Rattle.rgo_run.specs.Verdicts.{Refused}
 use Rattle.rgo_run.proofs.EndingLemmas.{refused_status}
 use Rattle.rgo_run.proofs.HeadlineLemmas.{headline_of_text, headline_of_words, ran_by_status}
+use Rattle.rgo_run.proofs.RecordLemmas.{headline_of_records, record_of_words}
 
 -- ---- what the status says of the ending
 
@@ -223,13 +227,24 @@ claim_of_bytes call command bytes read is r = inl (
 
 -- another call that has read its text
 pub claim_of_text : (call : Call) (command : Command) (text : List ℕ) (e : Ending)
-    → IsRead call.words call.source command text → (command ≡ Replay → ⊥) → Performs command text e call.out
+    → IsRead call.words call.source command text → (command ≡ Replay → ⊥)
+    → ((options : RunOptions) → command ≡ Record options → ⊥) → Performs command text e call.out
     → Reports text e call.status call.err → Claim call
-claim_of_text call command text e read other performs reports =
-    inr (
-      λ asked. other (let same : Some command ≡ Some Replay = sym read.asked ∙ asked in cc),
-      headline_of_text call command text e read performs reports,
-    )
+claim_of_text call command text e read other unrecorded performs reports = inr (inr (
+  λ asked. other (same_Some command Replay (sym read.asked ∙ asked)),
+  λ options asked. unrecorded options (same_Some command (Record options) (sym read.asked ∙ asked)),
+  headline_of_text call command text e read performs reports,
+))
+
+-- a call of `record` that has read its text
+pub claim_of_records : (call : Call) (command : Command) (text : List ℕ) (options : RunOptions)
+    → IsRead call.words call.source command text → command ≡ Record options
+    → Records options text call.status call.out call.err → Claim call
+claim_of_records call command text options read is records = inr (inl (
+  options,
+  read.asked ∙ ap Some is,
+  headline_of_records call options text (subst (λ c. IsRead call.words call.source c text) is read) records,
+))
 
 -- whether the words ask for `replay`
 asks_replay : (asked : Option Command) → (asked ≡ Some Replay) ⊎ (asked ≡ Some Replay → ⊥)
@@ -241,6 +256,20 @@ asks_replay (Some Code) = inr (λ s. cc)
 asks_replay (Some (Big n)) = inr (λ s. cc)
 asks_replay (Some Replay) = inl refl
 asks_replay (Some (RunCode options)) = inr (λ s. cc)
+asks_replay (Some (Record options)) = inr (λ s. cc)
+
+-- whether they ask for `record`
+asks_record : (asked : Option Command) → ((options : RunOptions) × (asked ≡ Some (Record options)))
+    ⊎ ((options : RunOptions) → asked ≡ Some (Record options) → ⊥)
+asks_record None = inr (λ options s. cc)
+asks_record (Some (Run given)) = inr (λ options s. cc)
+asks_record (Some Check) = inr (λ options s. cc)
+asks_record (Some Emit) = inr (λ options s. cc)
+asks_record (Some Code) = inr (λ options s. cc)
+asks_record (Some (Big n)) = inr (λ options s. cc)
+asks_record (Some Replay) = inr (λ options s. cc)
+asks_record (Some (RunCode given)) = inr (λ options s. cc)
+asks_record (Some (Record options)) = inl (options, refl)
 
 -- what a source has left, where it reports that
 abbrev left_bytes : Option (List ℕ) → List ℕ
@@ -319,14 +348,22 @@ claim_of_words call e n u t = by (asks_replay (command_of call.words))
   where
     by : (command_of call.words ≡ Some Replay) ⊎ (command_of call.words ≡ Some Replay → ⊥) → Claim call
     by (inl asked) = inl (asked, replay_of_words call e n u t asked)
-    by (inr other) = inr (other, headline_of_words call e n u t)
+    by (inr other) = inr (by_record (asks_record (command_of call.words)))
+      where
+        by_record : ((options : RunOptions) × (command_of call.words ≡ Some (Record options)))
+            ⊎ ((options : RunOptions) → command_of call.words ≡ Some (Record options) → ⊥)
+            → ((options : RunOptions) × Asks call (Record options) × RecordHeadline options call)
+            ⊎ ((Asks call Replay → ⊥) × ((options : RunOptions) → Asks call (Record options) → ⊥) × Headline call)
+        by_record (inl (options, asked)) = inl (options, asked, record_of_words call options e n u t asked)
+        by_record (inr unrecorded) = inr (other, unrecorded, headline_of_words call e n u t)
 
 -- ---- what a status alone says
 
 pub ran : (call : Call) → Claim call → is_run_status call.status ≡ true
     → AsksRun call.words ⊎ (command_of call.words ≡ Some Replay)
 ran call (inl c) s = inr c.0
-ran call (inr c) s = inl (ran_by_status call c.1 s)
+ran call (inr (inl c)) s = inl (ran_by_status (after c.2.said call) c.2.as_run s)
+ran call (inr (inr c)) s = inl (ran_by_status call c.2 s)
 
 end_13 : (end : RunEnd) → status_of_run end ≡ 13 → ⊥
 end_13 (run_end.Ended the_end.Exit) s = cc
@@ -357,16 +394,29 @@ status_13 (Breaks refusal) s = cc
 status_13 WriteFault s = cc
 status_13 NoMemory s = cc
 
+not_13 : (text : List ℕ) (e : Ending) (n : ℕ) (err : SinkUse) → Tells text e n err → n ≡ 13 → ⊥
+not_13 text e n err (inl t) s = status_13 e (sym t.0 ∙ s)
+not_13 text e n err (inr t) s = let wrong = sym t.0 ∙ s in cc
+
 -- only a replay is unfinished
 pub unfinished : (call : Call) → Claim call → call.status ≡ 13 → command_of call.words ≡ Some Replay
 unfinished call (inl c) s = c.0
-unfinished call (inr c) s = by c.1.end.told
-  where
-    by : Tells c.1.text c.1.ending call.status call.err → command_of call.words ≡ Some Replay
-    by (inl t) = absurd (status_13 c.1.ending (sym t.0 ∙ s))
-    by (inr t) = absurd (let wrong = sym t.0 ∙ s in cc)
+unfinished call (inr (inl c)) s =
+    absurd (not_13 c.2.as_run.text c.2.as_run.ending call.status (after c.2.said call).err c.2.as_run.end.told s)
+unfinished call (inr (inr c)) s = absurd (not_13 c.2.text c.2.ending call.status call.err c.2.end.told s)
 
 pub held : (call : Call) → Claim call → is_fault_status call.status ≡ false
     → SourceHeld call.source × Held call.out × Held call.err
 held call (inl c) s = c.1.faults.none s
-held call (inr c) s = c.1.faults.none s
+held call (inr (inl c)) s = c.2.as_run.faults.none s
+held call (inr (inr c)) s = c.2.faults.none s
+
+-- a write that failed
+pub fault_of : (call : Call) → Claim call → call.status ≡ 10 → Failed call.out ⊎ Failed call.err
+fault_of call (inl c) s = c.1.faults.write s
+fault_of call (inr (inl c)) s = by (c.2.as_run.faults.write s)
+  where
+    by : Failed call.out ⊎ Failed (after c.2.said call).err → Failed call.out ⊎ Failed call.err
+    by (inl f) = inl f
+    by (inr f) = inr (record { counted = f.counted; broken = f.broken })
+fault_of call (inr (inr c)) s = c.2.faults.write s

@@ -38,7 +38,7 @@ use Rattle.rgo_sound.proofs.Room.{room_is_kept}
 use Rattle.rgo_sound.proofs.Safe.{safety}
 use Rattle.rgo_command_line.specs.Commands.{command_of}
 use Rattle.rgo_command_line.specs.declared.commands.Command.{Command}
-use Rattle.rgo_command_line.specs.declared.commands.Command.TheVariants.{Big, Check, Code, Emit, Replay, Run, RunCode}
+use Rattle.rgo_command_line.specs.declared.commands.Command.TheVariants.{Big, Check, Code, Emit, Record, Replay, Run, RunCode}
 use Rattle.rgo_command_line.specs.Limits.{IsBig}
 use Rattle.rgo_command_line.specs.declared.limits.RunOptions.{RunOptions}
 use Rattle.rgo_big.specs.Big.{big_text}
@@ -89,6 +89,7 @@ left_is_text Check left text reads is = is
 left_is_text Emit left text reads is = is
 left_is_text Code left text reads is = is
 left_is_text Replay left text reads is = is
+left_is_text (Record options) left text reads is = is
 left_is_text (RunCode options) left text reads is = is
 left_is_text (Big n) left text reads is = absurd (reads n refl)
 
@@ -251,7 +252,7 @@ region_run_of code sizes end t events state checked ascends leads is printed lac
 }
 
 -- the run of the program, if one is run, that a run of its code follows
-followed_if : (what : Runnable) (code : code.Code) (limits : Limits) (before : ℕ) (picks : List Pick) (end : RunEnd) (t : TacState)
+pub followed_if : (what : Runnable) (code : code.Code) (limits : Limits) (before : ℕ) (picks : List Pick) (end : RunEnd) (t : TacState)
     → IsCodeFor what code → LeadsWithin (tac (erased code)) limits (tac_start (erased code)) picks t
     → Ends (tac (erased code)) limits before (length picks) t end → HasSourceRun what limits end t
 followed_if (of_program program) code limits before picks end t is ran ends =

@@ -3,7 +3,7 @@ use Rattle.std.specs.Prelude.{◌≡◌, ℕ, Bool, true, List, [], Option, Some
 use Rattle.std.specs.Io.KnownBytes.{Appends}
 use Rattle.rgo_outside.specs.Causes.{Rose}
 use Rattle.rgo_command_line.specs.declared.commands.Command.{Command}
-use Rattle.rgo_command_line.specs.declared.commands.Command.TheVariants.{Run, Check, Emit, Code, Big, Replay, RunCode}
+use Rattle.rgo_command_line.specs.declared.commands.Command.TheVariants.{Run, Check, Emit, Code, Big, Record, Replay, RunCode}
 use Rattle.rgo_command_line.specs.declared.limits.RunOptions.{RunOptions}
 use Rattle.rgo_command_line.specs.Commands.{command_of}
 use Rattle.rgo_command_line.specs.Limits.{default_options}
@@ -54,6 +54,7 @@ kind_of _ = text_kind.Go
 abbrev pub run_of : Command → Option (TextKind × RunOptions)
 run_of (Run options) = Some (text_kind.Go, options)
 run_of (RunCode options) = Some (text_kind.Code, options)
+run_of (Record options) = Some (text_kind.Go, options)
 run_of (Big n) = Some (text_kind.Go, default_options)
 run_of _ = None
 

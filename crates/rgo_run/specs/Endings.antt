@@ -121,7 +121,7 @@ lines_of_run kind text end (Some tally) = stats_lines tally (line_of_run kind te
 abbrev pub line_of : List ℕ → Ending → List ℕ
 line_of text Valid = []
 line_of text (Ran kind end stats) = lines_of_run kind text end stats
-line_of text Usage = codes "usage: rgo run [--steps N] [--pages N] [--page-words N] [--regions N] [--goroutines N] [--workers N] [--stats] | check | emit | code | big N | replay | runcode [--steps N] [--pages N] [--page-words N] [--regions N] [--goroutines N] [--workers N] [--stats]\n"
+line_of text Usage = codes "usage: rgo run [--steps N] [--pages N] [--page-words N] [--regions N] [--goroutines N] [--workers N] [--stats] | check | emit | code | big N | record [--steps N] [--pages N] [--page-words N] [--regions N] [--goroutines N] | replay | runcode [--steps N] [--pages N] [--page-words N] [--regions N] [--goroutines N] [--workers N] [--stats]\n"
 line_of text ReadFault = codes "rgo: read failed\n"
 line_of text TooLong = codes "rgo: text longer than 1048576 bytes\n"
 line_of text CodeTooLong = codes "rgo: text longer than 67108864 bytes\n"

@@ -8,6 +8,8 @@ pub mod Errors
 pub mod Headline
 pub mod Positions
 pub mod Programs
+pub mod RecordLaws
+pub mod Recorded
 pub mod Replayed
 pub mod Reports
 pub mod Runs

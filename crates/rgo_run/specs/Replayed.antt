@@ -4,7 +4,8 @@ use Rattle.std.specs.Prelude.{◌≡◌, ◌⊎◌, ◌+◌, ◌≤◌, ◌<◌,
 use Rattle.rgo_machine.specs.declared.picks.End.TheVariants as the_end
 use Rattle.rgo_driver.specs.declared.ends.RunEnd.TheVariants as run_end
 use Rattle.rgo_tac.specs.Code.{Tac}
-use Rattle.rgo_command_line.specs.declared.commands.Command.TheVariants.{Replay}
+use Rattle.rgo_command_line.specs.declared.commands.Command.TheVariants.{Record, Replay}
+use Rattle.rgo_command_line.specs.declared.limits.RunOptions.{RunOptions}
 use Rattle.rgo_journal.specs.declared.errors.PicksError.{PicksError}
 use Rattle.rgo_journal.specs.declared.errors.PicksError.TheVariants as picks_error
 use Rattle.rgo_journal.specs.declared.picks.TacPick.{TacPick}
@@ -22,6 +23,7 @@ use Rattle.rgo_run.specs.Calls.{Asks, Call, SinkUse, SourceUse, SourceFailed, So
 use Rattle.rgo_run.specs.CodeVerdicts.{code_limit}
 use Rattle.rgo_run.specs.Endings.{line_of, line_of_run, numbered_line, status_of}
 use Rattle.rgo_run.specs.Headline.{Faults, Headline}
+use Rattle.rgo_run.specs.Recorded.{RecordHeadline}
 use Rattle.rgo_run.specs.Reports.{HasPlace, Writes}
 use Rattle.rgo_run.specs.Runs.{IsCodeOf}
 use Rattle.rgo_run.specs.Verdicts.{Refused}
@@ -137,6 +139,9 @@ pub record ReplayHeadline (call : Call) : Type 0 where
   pub told : ReportsReplay text ending call.status call.err
   pub faults : Faults call
 
--- what a call does, by whether its words ask for `replay`
+-- what a call does, by whether its words ask for `replay`, for `record`, or for neither
 abbrev pub Claim : Call → Type 0
-Claim call = (Asks call Replay × ReplayHeadline call) ⊎ ((Asks call Replay → ⊥) × Headline call)
+Claim call =
+    (Asks call Replay × ReplayHeadline call)
+    ⊎ (((options : RunOptions) × Asks call (Record options) × RecordHeadline options call)
+    ⊎ ((Asks call Replay → ⊥) × ((options : RunOptions) → Asks call (Record options) → ⊥) × Headline call))

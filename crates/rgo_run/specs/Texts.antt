@@ -1,7 +1,7 @@
 -- What reading, checking and running a text leave, by the ending, before it is reported.
 use Rattle.std.specs.Prelude.{◌≡◌, ◌⊎◌, ◌≤◌, List, ℕ, None, Some, Option, IfSome, length}
 use Rattle.rgo_command_line.specs.declared.commands.Command.{Command}
-use Rattle.rgo_command_line.specs.declared.commands.Command.TheVariants.{Run, Check, Emit, Code, Big, Replay, RunCode}
+use Rattle.rgo_command_line.specs.declared.commands.Command.TheVariants.{Run, Check, Emit, Code, Big, Record, Replay, RunCode}
 use Rattle.rgo_command_line.specs.Commands.{command_of}
 use Rattle.rgo_command_line.specs.Limits.{default_options}
 use Rattle.rgo_command_line.specs.declared.limits.RunOptions.{RunOptions}
@@ -96,12 +96,13 @@ abbrev pub RunsOrFails : TextKind → RunOptions → List ℕ → Ending → Sin
 RunsOrFails kind options text ending out =
     RunsTo kind options text ending out ⊎ (FailsAs kind text ending × IsUntouched out)
 
--- what a command other than `replay` leaves of a text
+-- what a command other than `record` and `replay` leaves of a text
 abbrev pub Performs : Command → List ℕ → Ending → SinkUse → Type 0
 Performs Check text ending out = Checks text_kind.Go text ending × IsUntouched out
 Performs Code text ending out = Checks text_kind.Code text ending × IsUntouched out
 Performs (Run options) text ending out = RunsOrFails text_kind.Go options text ending out
 Performs (Big n) text ending out = RunsOrFails text_kind.Go default_options text ending out
 Performs (RunCode options) text ending out = RunsOrFails text_kind.Code options text ending out
+Performs (Record options) text ending out = ⊥
 Performs Replay text ending out = ⊥
 Performs Emit text ending out = Emits text ending out ⊎ (Fails text ending × IsUntouched out)

@@ -5,7 +5,8 @@ ghost use Rattle.rgo_code.specs.Erasure.{erased};
 ghost use Rattle.rgo_code_printing.specs.Text.{text_of};
 ghost use Rattle.rgo_command_line.specs.Commands.{KeepsBounds};
 ghost use Rattle.rgo_command_line.specs.Limits.{LiesIn, worker_bounds};
-ghost use Rattle.rgo_command_line.specs.declared.commands.Command.TheVariants.{Check, Emit, Replay};
+ghost use Rattle.rgo_command_line.specs.declared.commands.Command.TheVariants.{Check, Emit, Record, Replay};
+ghost use Rattle.rgo_command_line.specs.declared.limits.RunOptions.{RunOptions};
 ghost use Rattle.rgo_run.specs.declared.endings.TextKind.TheVariants as text_kind;
 ghost use Rattle.rgo_run.specs.Calls.{kind_of, sink_use};
 ghost use Rattle.rgo_run.specs.declared.endings.Ending.TheVariants.{NoMemory};
@@ -214,6 +215,7 @@ pub(crate) fn perform<H: Threads + Wait + Sync, K: Sink, G: Gate + Sync>(
 ) -> Ending
     requires bounds { KeepsBounds command }
     requires other { command ≡ Replay → ⊥ }
+    requires unrecorded { (options : RunOptions) → command ≡ Record options → ⊥ }
     ensures performs { Performs command text.now result (sink_use (K.contents out.old)
         (K.contents out.new) (K.faults out.old) (K.faults out.new) (K.broken out.new)) }
     ensures checked { command ≡ Check → out.new ≡ out.old }
@@ -226,6 +228,6 @@ pub(crate) fn perform<H: Threads + Wait + Sync, K: Sink, G: Gate + Sync>(
         Command::Code => check_code_text(alloc, text),
         Command::Big(_) => run_text(rt, alloc, RunOptions::default(), text, out, gate),
         Command::RunCode(options) => run_code_text(rt, alloc, options, text, out, gate),
-        Command::Replay => unreachable!(),
+        Command::Record(_) | Command::Replay => unreachable!(),
     }
 }

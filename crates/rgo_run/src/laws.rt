@@ -3,6 +3,7 @@
 ghost use Rattle.rgo_run.specs.Accepted.{EmittedPasses};
 ghost use Rattle.rgo_run.specs.CodeVerdicts.{OneCodeVerdict};
 ghost use Rattle.rgo_run.specs.Compiled.{OneCompiled};
+ghost use Rattle.rgo_run.specs.RecordLaws.{RecordedIsReplayed};
 ghost use Rattle.rgo_run.specs.Programs.{ProgramsAreWellFormed};
 ghost use Rattle.rgo_run.specs.Sufficing.{FewSuffice};
 ghost use Rattle.rgo_run.specs.Verdicts.{OneVerdict};
@@ -38,4 +39,10 @@ pub fn one_compiled()
 /// function.
 pub fn few_suffice()
     ensures { FewSuffice }
+{}
+
+/// `replay` of the journal that `record` wrote, with the text behind it, writes the same bytes and answers the same status,
+/// where the run came to its own end. Where it was cut off, the replay is unfinished, or perhaps in a deadlock.
+pub fn recorded_is_replayed()
+    ensures { RecordedIsReplayed }
 {}

@@ -8,6 +8,7 @@ mod endings;
 mod laws;
 mod pipeline;
 mod positions;
+mod recording;
 mod replaying;
 mod report;
 mod top;
@@ -15,7 +16,7 @@ mod top;
 pub use endings::{Ending, TextKind};
 pub use laws::{
     emitted_passes, few_suffice, one_code_verdict, one_compiled, one_verdict,
-    programs_are_well_formed,
+    programs_are_well_formed, recorded_is_replayed,
 };
 pub use pipeline::{compile, lower_text};
 pub use replaying::ReplayEnding;

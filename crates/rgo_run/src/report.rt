@@ -21,7 +21,7 @@ use rgo_world::Tally;
 use std::alloc::{AllocError, Global};
 
 const USAGE: &[u8] =
-    b"usage: rgo run [--steps N] [--pages N] [--page-words N] [--regions N] [--goroutines N] [--workers N] [--stats] | check | emit | code | big N | replay | runcode [--steps N] [--pages N] [--page-words N] [--regions N] [--goroutines N] [--workers N] [--stats]\n";
+    b"usage: rgo run [--steps N] [--pages N] [--page-words N] [--regions N] [--goroutines N] [--workers N] [--stats] | check | emit | code | big N | record [--steps N] [--pages N] [--page-words N] [--regions N] [--goroutines N] | replay | runcode [--steps N] [--pages N] [--page-words N] [--regions N] [--goroutines N] [--workers N] [--stats]\n";
 
 // What is wrong at a place.
 fn line_at(alloc: Global, text: &[u8], at: Place, message: &str) -> Result<String, AllocError>

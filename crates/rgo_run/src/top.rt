@@ -14,6 +14,7 @@ ghost use Rattle.rgo_run.specs.Replayed.{Claim};
 use crate::commands::{kind_of, perform};
 use crate::endings::{Ending, TextKind};
 use crate::pipeline::limit_of;
+use crate::recording::record_text;
 use crate::replaying::replay_bytes;
 use crate::report::report;
 use rgo_big::big_source;
@@ -75,7 +76,9 @@ fn read<S: Source>(
 /// it was, and does what `run` without options does with the large text of `rgo_big` that starts `N`
 /// goroutines. `replay` reads a journal, as `rgo_journal` describes it, and behind it a text, together at most 67,108,864
 /// bytes. It takes the journal's picks one after the other in a run of the text's three-address code, and writes what they
-/// print to `out`; places are those of the text behind the journal. At most one line is written to `err`, and before it, with `--stats`, one that counts what
+/// print to `out`; places are those of the text behind the journal. `record`, with the options of `run` but for `--workers` and
+/// `--stats`, does what `run` with one worker does, and writes the journal of the run to `err`, in one piece, before the line of
+/// its end; none where memory ran out or a write failed. At most one line is written to `err`, and before it, with `--stats`, one that counts what
 /// the run has made. After a failed write nothing more is written to that sink.
 ///
 /// A run is in rounds, in which every goroutine that can step has a turn; no clause says so. With one
@@ -145,6 +148,9 @@ pub fn rgo<H: Threads + Wait + Sync, S: Source, K: Sink, E: Sink, G: Gate + Sync
         Ok((command, text)) => {
             if let Command::Replay = command {
                 return replay_bytes(alloc, &text, out, err);
+            }
+            if let Command::Record(options) = command {
+                return record_text(alloc, options, &text, out, err);
             }
             let ending = perform(rt, alloc, command, &text, out, gate);
             report(alloc, &text, ending, err)

@@ -89,6 +89,11 @@ fn code_texts_are_checked_and_run(rt: HostRuntime) -> Result<(), Fail> {
 }
 
 #[test]
+fn runs_are_recorded(rt: HostRuntime) -> Result<(), Fail> {
+    are_called(&rt, Lines::Whole, journals::RECORDED)
+}
+
+#[test]
 fn journals_are_replayed(rt: HostRuntime) -> Result<(), Fail> {
     are_called(&rt, Lines::Whole, journals::REPLAYED)?;
     are_called(&rt, Lines::Whole, journals::REFUSED)

@@ -32,6 +32,7 @@ fn shown(alloc: Global, found: Result<Command, WordsError>) -> Result<String, Al
         Ok(Command::Check) => String::from_str(alloc, "check"),
         Ok(Command::Emit) => String::from_str(alloc, "emit"),
         Ok(Command::Code) => String::from_str(alloc, "code"),
+        Ok(Command::Record(options)) => shown_options(alloc, "record", options),
         Ok(Command::Replay) => String::from_str(alloc, "replay"),
         Err(WordsError::Usage) => String::from_str(alloc, "usage"),
         Err(WordsError::NoMemory) => String::from_str(alloc, "no memory"),
@@ -190,6 +191,14 @@ big 10000: rgo|big|--|10000
 big 7: rgo|big|007
 big 10: rgo|big|--|0010
 big 10000: rgo|big|0010000|--
+# `record` has the options of `run` but for `--workers` and `--stats`.
+record 4398046511104 100000 4096 256 65536 4 false: rgo|record
+record 4398046511104 100000 4096 256 65536 4 false: rgo|record|--
+record 4398046511104 100000 4096 256 65536 4 false: |record
+record 4398046511104 100000 4096 256 65536 4 false: replay|record
+record 5 100000 4096 256 65536 4 false: rgo|record|--steps|5
+record 1 2 5 32 7 4 false: rgo|record|--pages=5|--regions=7|--page-words|32|--goroutines=2|--steps|1|--
+record 4398046511104 100000 65536 256 65536 4 false: rgo|record|--pages=65536|--page-words=256
 # `runcode` has the options of `run`.
 runcode 4398046511104 100000 4096 256 65536 4 false: rgo|runcode
 runcode 4398046511104 100000 4096 256 65536 4 false: rgo|runcode|--
@@ -263,6 +272,20 @@ usage: rgo|emit|--steps=5
 usage: rgo|code|x
 usage: rgo|code|--|--
 usage: rgo|code|--goroutines|5
+usage: rgo|records
+usage: rgo|record|
+usage: rgo|record|x
+usage: rgo|record|record
+usage: rgo|record|replay
+usage: rgo|record|--|--
+usage: rgo|record|--workers|1
+usage: rgo|record|--workers=1
+usage: rgo|record|--stats
+usage: rgo|record|--steps|0
+usage: rgo|record|--steps=5|--steps=5
+usage: rgo|record|--pages=65536|--page-words=257
+usage: rgo|--steps=5|record
+usage: rgo|--record
 usage: rgo|replays
 usage: rgo|replay|
 usage: rgo|replay|x

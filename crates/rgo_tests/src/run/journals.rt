@@ -1,4 +1,51 @@
-//! Journals that are replayed, as tables of calls, worked out by hand from the code of their programs.
+//! Runs that are recorded and journals that are replayed, as tables of calls, worked out by hand from the code of the
+//! programs.
+
+/// Programs, and the journals of their runs.
+pub(super) const RECORDED: &str = "
+> rgo record // two constants, the print, and the return
+package main
+import \"fmt\"
+func main() { fmt.Println(\"hi\", 1, true) }
+
+< 0
+hi 1 true
+!
+rgo picks 1
+one 0
+one 0
+one 0
+one 0
+text
+
+> rgo record -- // main makes its channel, starts the other and waits; they meet
+package main
+func f(c chan int) { c <- 7 }
+func main() { c := make(chan int); go f(c); <-c }
+
+< 0
+!
+rgo picks 1
+one 0
+one 0
+one 0
+one 0
+one 1
+meet 0 1
+one 1
+one 0
+text
+
+> rgo record // a refused text has no journal
+package main
+func main() {
+\tbreak
+}
+
+< 1
+!
+rgo: 3:2: type 33 LoopOutside
+";
 
 /// Journals and programs that follow them.
 pub(super) const REPLAYED: &str = "

@@ -10,9 +10,9 @@ use std::test::Fail;
 use std::thread::Threads;
 
 const USAGE: &str =
-    "usage: rgo run [--steps N] [--pages N] [--page-words N] [--regions N] [--goroutines N] [--workers N] [--stats] | check | emit | code | big N | replay | runcode [--steps N] [--pages N] [--page-words N] [--regions N] [--goroutines N] [--workers N] [--stats]\n";
+    "usage: rgo run [--steps N] [--pages N] [--page-words N] [--regions N] [--goroutines N] [--workers N] [--stats] | check | emit | code | big N | record [--steps N] [--pages N] [--page-words N] [--regions N] [--goroutines N] | replay | runcode [--steps N] [--pages N] [--page-words N] [--regions N] [--goroutines N] [--workers N] [--stats]\n";
 
-static OTHER_WORDS: [&str; 15] = [
+static OTHER_WORDS: [&str; 17] = [
     "rgo",
     "rgo big 0",
     "rgo help",
@@ -26,6 +26,8 @@ static OTHER_WORDS: [&str; 15] = [
     "rgo run run",
     "rgo  run",
     "rgo run code",
+    "rgo record --workers 1",
+    "rgo record --stats",
     "rgo runcode --steps 0",
     "rgo runcode code",
 ];

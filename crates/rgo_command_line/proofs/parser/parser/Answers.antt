@@ -18,8 +18,10 @@ returns c =
     (ap (λ (a : App). a.top) c.new-4.ensures.app) in
     let big = with_command _ _ _ _ _ c.in_ok-subcommand-5.ensures c.in_ok-big.ensures.local code
     (ap (λ (a : App). a.top) c.in_ok-big.ensures.app) in
-    let replay = with_command _ _ _ _ _ c.in_ok-subcommand-6.ensures c.new-5.ensures.local big
+    let recorded = with_command _ _ _ _ _ c.in_ok-subcommand-6.ensures c.in_ok-record.ensures.local big
+    (ap (λ (a : App). a.top) c.in_ok-record.ensures.app) in
+    let replay = with_command _ _ _ _ _ c.in_ok-subcommand-7.ensures c.new-5.ensures.local recorded
     (ap (λ (a : App). a.top) c.new-5.ensures.app) in
-    IfOk-weaker c.subcommand-7.result _ _
+    IfOk-weaker c.subcommand-8.result _ _
     (λ r adds. with_command _ _ _ _ _ adds c.in_ok-run_code.ensures.local replay
-    (ap (λ (a : App). a.top) c.in_ok-run_code.ensures.app)) c.subcommand-7.ensures
+    (ap (λ (a : App). a.top) c.in_ok-run_code.ensures.app)) c.subcommand-8.ensures

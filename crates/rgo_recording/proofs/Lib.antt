@@ -1,0 +1,5 @@
+pub mod Ended
+pub mod Leading
+pub mod Replaying
+pub mod Starting
+pub mod Texts

@@ -1,0 +1,9 @@
+//! What holds of recorded runs.
+
+ghost use Rattle.rgo_recording.specs.Laws.{RecordedReplays};
+
+/// The picks that were noted of a run, replayed on the same code, end as the run did and print the same; after a run that was cut
+/// off, the replay is unfinished, or in a deadlock.
+pub fn recorded_replays()
+    ensures { RecordedReplays }
+{}

@@ -1,0 +1,12 @@
+//! Recorded runs: code runs with its regions on the caller's thread, and each of its steps is noted.
+#![tactic(auto)]
+
+mod laws;
+mod notes;
+mod printing;
+mod recorders;
+mod recording;
+
+pub use laws::recorded_replays;
+pub use notes::{Note, Notes};
+pub use recording::{Recorded, run_recorded};

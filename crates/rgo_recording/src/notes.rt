@@ -1,0 +1,62 @@
+//! What is noted of a run: its picks, in the order in which they were taken.
+
+ghost use Rattle.std.specs.Prelude.{◌≡◌, ◌++◌, [], Some, replicate, IfSome};
+ghost use Rattle.rgo_recording.specs.Notes.{HasRoom, picks_in, picks_of};
+
+use rgo_journal::TacPick;
+use std::alloc::Global;
+
+/// A pick that was taken so many times in a row.
+#[derive(Clone, Copy, Debug, PartialEq, Eq)]
+pub struct Note {
+    pub pick: TacPick,
+    pub times: usize,
+}
+
+/// The picks of a run so far. Those of one turn take the room of one.
+#[derive(Drop)]
+pub struct Notes {
+    pub(crate) list: Vec<Note>,
+}
+
+impl Notes {
+    /// No picks.
+    pub fn new(alloc: Global) -> Notes
+        ensures { picks_of result ≡ [] }
+    {
+        Notes {
+            list: Vec::new(alloc),
+        }
+    }
+
+    /// The notes, in order.
+    pub fn list(&self) -> &[Note]
+        ensures { picks_in result.now ≡ picks_of self.now }
+    {
+        &self.list
+    }
+
+    /// Takes the room for one note more, of this pick if there is one. Returns it; `None` where there is none, or no room.
+    pub(crate) fn prepare(&mut self, pick: Option<TacPick>) -> Option<TacPick>
+        ensures same { IfSome result (λ p. pick ≡ Some p) }
+        ensures room { IfSome result (λ p. HasRoom self.new) }
+        ensures picks { picks_of self.new ≡ picks_of self.old }
+    {
+        let pick = pick?;
+        match self.list.reserve(1) {
+            Ok(()) => Some(pick),
+            Err(_) => None,
+        }
+    }
+
+    /// The pick was taken so many times, one after the other. There is room for a note.
+    pub(crate) fn note(&mut self, pick: TacPick, times: usize)
+        requires { HasRoom self.old }
+        ensures { picks_of self.new ≡ picks_of self.old ++ replicate times pick }
+    {
+        if times == 0 {
+            return;
+        }
+        self.list.push_reserved(Note { pick, times });
+    }
+}

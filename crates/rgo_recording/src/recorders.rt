@@ -1,0 +1,108 @@
+//! A run with its regions whose steps are noted, as a driver takes it on.
+
+ghost use Rattle.std.specs.Prelude.{◌≡◌, IfSome};
+ghost use Rattle.rgo_journal.specs.declared.picks.TacPick.TheVariants.{One, Meet};
+ghost use Rattle.rgo_journal.specs.Text.{Fits};
+
+use crate::notes::Notes;
+use rgo_code::Code;
+use rgo_driver::Running;
+use rgo_journal::TacPick;
+use rgo_machine::{Limits, Sizes, Stand, Stop, Turned};
+use rgo_tac::Frame;
+use rgo_world::World;
+use std::alloc::{AllocError, Global};
+
+/// A run with its regions, and what is noted of it: all its steps, from its start.
+#[derive(Drop)]
+pub struct Recorder<'a> {
+    pub world: World<'a>,
+    pub notes: Notes,
+}
+
+/// The pick of a goroutine that steps alone. `None` where its number has more than 32 bits, which none has: far fewer
+/// goroutines can be started.
+fn one(g: usize) -> Option<TacPick>
+    ensures { IfSome result (λ pick. (pick ≡ One g) × Fits pick) }
+{
+    match u32::try_from(g) {
+        Ok(g) => Some(TacPick::One(g)),
+        Err(_) => None,
+    }
+}
+
+/// The pick of a receiver and a sender that meet, in the same way.
+fn meeting(receiver: usize, sender: usize) -> Option<TacPick>
+    ensures { IfSome result (λ pick. (pick ≡ Meet receiver sender) × Fits pick) }
+{
+    let Ok(receiver) = u32::try_from(receiver) else {
+        return None;
+    };
+    let Ok(sender) = u32::try_from(sender) else {
+        return None;
+    };
+    Some(TacPick::Meet(receiver, sender))
+}
+
+impl<'a> Running for Recorder<'a> {
+    ghost use Rattle.rgo_recording.specs.Recorders.{view_of};
+
+    type Frame = Frame;
+
+    type Fixed = (Code, Sizes);
+
+    ghost view = { view_of };
+
+    ghost use Rattle.std.proofs.Common.{ap};
+
+    ghost shown_prints = { λ run given s at. ap (λ v. v.printed) at.stands.reaches.is };
+
+    ghost shown_leaves = { λ run given s at. record { reaches = at.stands.reaches; lead = at.lead } };
+
+    fn goroutines(&self) -> usize {
+        self.world.goroutines()
+    }
+
+    fn standing(&self, g: usize) -> Option<Stand> {
+        self.world.standing(g)
+    }
+
+    fn printed(&self) -> &[u8] {
+        self.world.printed()
+    }
+
+    fn clear_printed(&mut self) {
+        self.world.clear_printed();
+    }
+
+    fn turn(&mut self, alloc: Global, limits: Limits, g: usize, at_most: usize) -> Turned {
+        // The room for what is noted of the turn comes first, so that no step is lost.
+        let Some(pick) = self.notes.prepare(one(g)) else {
+            return Turned {
+                steps: 0,
+                stop: Stop::NoMemory,
+            };
+        };
+        let turned = self.world.turn(alloc, limits, g, at_most);
+        self.notes.note(pick, turned.steps);
+        turned
+    }
+
+    fn meet(&mut self, alloc: Global, receiver: usize, sender: usize) -> Result<bool, AllocError> {
+        let Some(pick) = self.notes.prepare(meeting(receiver, sender)) else {
+            return Err(AllocError);
+        };
+        match self.world.meet(alloc, receiver, sender) {
+            Ok(true) => {
+                self.notes.note(pick, 1);
+                Ok(true)
+            }
+            Ok(false) => Ok(false),
+            Err(_) => Err(AllocError),
+        }
+    }
+
+    fn find_meeting(&self, alloc: Global) -> Result<Option<(usize, usize)>, AllocError> {
+        self.world.find_meeting(alloc)
+    }
+}

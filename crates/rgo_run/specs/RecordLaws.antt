@@ -1,0 +1,49 @@
+-- What `replay` does with the journal that `record` wrote: it writes what the recorded run wrote, and ends as that did.
+use Rattle.std.specs.Prelude.{◌≡◌, ◌⊎◌, ◌≤◌, ℕ, Bool, true, false, ◌==◌, ◌||◌, List, ◌++◌, length, Some}
+use Rattle.rgo_command_line.specs.declared.commands.Command.TheVariants.{Record, Replay}
+use Rattle.rgo_command_line.specs.declared.limits.RunOptions.{RunOptions}
+use Rattle.rgo_journal.specs.declared.picks.TacPick.{TacPick}
+use Rattle.rgo_journal.specs.Text.{journal}
+use Rattle.rgo_run.specs.Calls.{Asks, Call, Grew}
+use Rattle.rgo_run.specs.CodeVerdicts.{code_limit}
+use Rattle.rgo_run.specs.Recorded.{IsOfNoRun}
+use Rattle.rgo_run.specs.Replayed.{Claim}
+
+-- the run came to its own end: `main` returned, a goroutine trapped, or there was a deadlock
+abbrev pub is_own_status : ℕ → Bool
+is_own_status status = status == 0 || status == 2 || status == 3
+
+-- The run was cut off by the room that it had, or by its steps. The three-address machine has no such limits, and where it was
+-- cut, no goroutine may have a step.
+abbrev pub is_cut_status : ℕ → Bool
+is_cut_status status = status == 4 || status == 5 || status == 6 || status == 8
+
+-- how a replay is answered of a run that was answered so: as that was; or that it is unfinished, where the run was cut off
+pub record AnswersAs (ran replayed : ℕ) : Type 0 where
+  pub own : is_own_status ran ≡ true → replayed ≡ ran
+  pub cut : is_own_status ran ≡ false → (replayed ≡ 13) ⊎ ((replayed ≡ 3) × (is_cut_status ran ≡ true))
+
+-- the same bytes on `out` of both, and the status of the one as that of the other says
+pub record ReplaysCall (recorded replayed : Call) : Type 0 where
+  pub bytes : List ℕ
+  pub ran : Grew recorded.out bytes
+  pub replays : Grew replayed.out bytes
+  pub answers : AnswersAs recorded.status replayed.status
+
+-- no read or write failed, and memory sufficed
+abbrev pub IsUnhindered : ℕ → Type 0
+IsUnhindered status = (status ≡ 9 → ⊥) × (status ≡ 10 → ⊥) × (status ≡ 11 → ⊥)
+
+-- `err` took a journal first, and each call of `replay` that reads it and the text behind it replays the call
+pub record LeavesJournal (recorded : Call) (text : List ℕ) : Type 0 where
+  pub picks : List TacPick
+  pub line : List ℕ
+  pub wrote : Grew recorded.err (journal picks ++ line)
+  pub replays : (replayed : Call) → Asks replayed Replay → Claim replayed
+      → replayed.source.left ≡ Some (journal picks ++ text) → length (journal picks ++ text) ≤ code_limit
+      → IsUnhindered replayed.status → ReplaysCall recorded replayed
+
+-- Where a call of `record` has a status that only runs have, it leaves such a journal.
+abbrev pub RecordedIsReplayed : Type 0
+RecordedIsReplayed = (options : RunOptions) (recorded : Call) (text : List ℕ) → Asks recorded (Record options) → Claim recorded
+    → recorded.source.left ≡ Some text → (IsOfNoRun recorded.status → ⊥) → LeavesJournal recorded text
