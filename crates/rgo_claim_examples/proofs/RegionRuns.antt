@@ -11,13 +11,12 @@ use Rattle.rgo_tac.specs.Tac.{TacState, tac, tac_start}
 use Rattle.rgo_code.specs.Erasure.{erased}
 use Rattle.rgo_region_machine.specs.Counts.{counts_of}
 use Rattle.rgo_region_machine.specs.Machine.{Attend, Event, Instruct, TakePage, region_run, region_start}
-use Rattle.rgo_region_machine.specs.Room.{roomy_run}
-use Rattle.rgo_region_machine.specs.States.{RegionState}
+use Rattle.rgo_region_machine.specs.Room.{roomy_run, LacksIn}
+use Rattle.rgo_region_machine.specs.States.{RegionState, plain_at}
 use Rattle.rgo_sound.specs.Safety.{IsSafe}
 use Rattle.rgo_sound.proofs.Room.{room_is_kept}
 use Rattle.rgo_sound.proofs.Safe.{safety}
 use Rattle.rgo_sound.proofs.Offers.{names_only_live}
-use Rattle.rgo_world.specs.Worlds.{LacksIn, plain_at}
 use Rattle.rgo_driver.specs.declared.ends.RunEnd.{RunEnd}
 use Rattle.rgo_driver.specs.declared.ends.RunEnd.TheVariants as run_end
 use Rattle.rgo_command_line.specs.Limits.{default_options}

@@ -15,7 +15,7 @@ use Rattle.rgo_region_machine.specs.Machine.{Attend, Event, region_run, region_s
 use Rattle.rgo_region_machine.specs.Regions.{Bindings, RegionInfo}
 use Rattle.rgo_region_machine.specs.States.{Duty, Holder, NoOffer, RegionState, Remove, Taken}
 use Rattle.rgo_sound.specs.Safety.{IsSafe}
-use Rattle.rgo_world.specs.Worlds.{LacksIn}
+use Rattle.rgo_region_machine.specs.Room.{LacksIn}
 use Rattle.rgo_run.specs.Runs.{NamesLive}
 
 -- ---- parts of states

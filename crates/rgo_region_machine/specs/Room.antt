@@ -1,13 +1,18 @@
 -- How much room a state uses, and the steps for which there is room: a page is taken only where fewer are in use than
 -- there may be, and a region is created only where fewer are live.
-use Rattle.std.specs.Prelude.{◌≤◌, ◌-◌, ℕ, Bool, true, List, [], ◌∷◌, Option, Some, None}
-use Rattle.std.specs.Prelude.{slice_get, nat_lt, if◌then◌else◌}
+use Rattle.std.specs.Prelude.{◌≡◌, ◌≤◌, ◌<◌, ◌-◌, ℕ, Bool, true, List, [], ◌∷◌, Option, Some, None}
+use Rattle.std.specs.Prelude.{IsSome, slice_get, nat_lt, if◌then◌else◌}
 use Rattle.rgo_machine.specs.declared.limits.Sizes.{Sizes}
+use Rattle.rgo_machine.specs.declared.picks.Pick.TheVariants.{One}
+use Rattle.rgo_machine.specs.declared.turns.Shortage.{Shortage}
+use Rattle.rgo_machine.specs.declared.turns.Shortage.TheVariants as shortage
 use Rattle.rgo_machine.specs.Runs.{run}
+use Rattle.rgo_tac.specs.Tac.{TacState}
 use Rattle.rgo_code.specs.Code.{Code}
 use Rattle.rgo_region_machine.specs.Counts.{counts_of}
 use Rattle.rgo_region_machine.specs.Machine.{Event, Instruct, Attend, TakePage, MakeOffer, Acknowledge, Finish}
-use Rattle.rgo_region_machine.specs.Machine.{region_start, region_step}
+use Rattle.rgo_region_machine.specs.Machine.{plain_step, region_start, region_step}
+use Rattle.rgo_region_machine.specs.Objects.{new_object, words}
 use Rattle.rgo_region_machine.specs.States.{Duty, Create, Share, Protect, Unprotect, Remove, EndBase, Holder, RegionState}
 
 -- the pages of live regions and of Global
@@ -57,3 +62,20 @@ roomy_step code sizes s event =
 -- the state behind these events, if each has a step with room in its turn
 abbrev pub roomy_run : Code → Sizes → List Event → Option RegionState
 roomy_run code sizes events = run (roomy_step code sizes) (region_start code) events
+
+-- ---- where there is none
+
+-- the step makes an object larger than a page
+abbrev pub MakesTooLarge : ℕ → TacState → TacState → Type 0
+MakesTooLarge page_words old next = (object : _) × (new_object old next ≡ Some object) × (page_words < words object)
+
+-- some goroutine is to take a page, create a region, or make an object that is larger than a page
+abbrev pub LacksIn : Code → Sizes → Shortage → RegionState → Type 0
+LacksIn code sizes shortage.Pages s =
+    (g : ℕ) × IsSome (region_step code sizes.page_words s (TakePage g)) × (sizes.pages ≤ pages_in_use s)
+LacksIn code sizes shortage.Regions s =
+    (g k : ℕ) × (h : Holder) × (duties : List Duty) × (slice_get s.holders g ≡ Some h) × (h.duties ≡ Create k ∷ duties)
+    × (sizes.regions ≤ live_regions s)
+LacksIn code sizes shortage.ObjectSize s =
+    (g : ℕ) × (next : TacState) × (plain_step code s.plain (One g) ≡ Some next)
+    × MakesTooLarge sizes.page_words s.plain next

@@ -69,6 +69,18 @@ pub record RegionState : Type 0 where
   -- The first end is kept. Steps may follow it, which print nothing.
   pub mark : Option Mark
 
+-- ---- the three-address machine's state
+
+-- the end of the program, unless a limit stopped the run
+abbrev pub end_in : Option Mark → Option End
+end_in (Some (Ended end)) = Some end
+end_in (Some (Stopped limit)) = None
+end_in None = None
+
+-- with this print, and the end that marks the run
+abbrev pub plain_at : RegionState → List ℕ → TacState
+plain_at s printed = record s.plain { printed = printed; ended = end_in s.mark }
+
 -- ---- frames
 
 abbrev pub frames_in : Option (List Frame) → List Frame

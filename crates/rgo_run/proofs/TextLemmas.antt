@@ -51,10 +51,9 @@ use Rattle.rgo_code.specs.Code as code
 use Rattle.rgo_code.specs.Erasure.{erased}
 use Rattle.rgo_code.specs.NameRules.{Ascends}
 use Rattle.rgo_region_machine.specs.Machine.{Event}
-use Rattle.rgo_region_machine.specs.Room.{roomy_run}
-use Rattle.rgo_region_machine.specs.States.{RegionState}
+use Rattle.rgo_region_machine.specs.Room.{roomy_run, LacksIn}
+use Rattle.rgo_region_machine.specs.States.{RegionState, plain_at}
 use Rattle.rgo_world.specs.declared.tally.Tally.{Tally}
-use Rattle.rgo_world.specs.Worlds.{LacksIn, plain_at}
 use Rattle.rgo_code_printing.specs.Text.{text_of}
 use Rattle.rgo_code_text.specs.Walk.{Refuses as ReadFails}
 use Rattle.rgo_code_text.specs.declared.refusals.ReadError.{ReadError}

@@ -11,7 +11,8 @@ use Rattle.rgo_driver.specs.declared.ends.RunEnd.{RunEnd}
 use Rattle.rgo_driver.specs.declared.ends.RunEnd.TheVariants as run_end
 use Rattle.rgo_world.specs.declared.tally.Tally.{Tally}
 use Rattle.rgo_world.specs.declared.worlds.World.{World}
-use Rattle.rgo_world.specs.Worlds.{Lacks, LacksIn, Reaches, Shown, Stands}
+use Rattle.rgo_region_machine.specs.Room.{LacksIn}
+use Rattle.rgo_world.specs.Worlds.{Lacks, Reaches, Shown, Stands}
 use Rattle.rgo_run.specs.Runs.{RegionRun, stats_at}
 use Rattle.rgo_run.proofs.TextLemmas.{region_run_of}
 

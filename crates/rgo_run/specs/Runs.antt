@@ -19,12 +19,12 @@ use Rattle.rgo_lower.specs.Lowered.{IsLowered}
 use Rattle.rgo_region_machine.specs.Counts.{counts_of}
 use Rattle.rgo_region_machine.specs.Machine.{Event, region_run}
 use Rattle.rgo_region_machine.specs.declared.regions.Region.{Region}
-use Rattle.rgo_region_machine.specs.Room.{FitsIn}
-use Rattle.rgo_region_machine.specs.States.{Holder, RegionState}
+use Rattle.rgo_region_machine.specs.Room.{FitsIn, LacksIn}
+use Rattle.rgo_region_machine.specs.States.{Holder, RegionState, plain_at}
 use Rattle.rgo_sound.specs.NextNames.{HasStake, NextNames}
 use Rattle.rgo_sound.specs.Safety.{IsSafe}
 use Rattle.rgo_world.specs.declared.tally.Tally.{Tally}
-use Rattle.rgo_world.specs.Worlds.{LacksIn, plain_at, tally_of}
+use Rattle.rgo_world.specs.Worlds.{tally_of}
 use Rattle.rgo_driver.specs.declared.ends.RunEnd.{RunEnd}
 use Rattle.rgo_driver.specs.declared.ends.RunEnd.TheVariants.{Deadlock, NoMemory, NoRoom, WriteFault}
 use Rattle.rgo_driver.specs.Runs.{RunsFreely}

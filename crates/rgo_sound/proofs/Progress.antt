@@ -57,7 +57,8 @@ use Rattle.rgo_sound.specs.Good.{AllGood}
 use Rattle.rgo_sound.specs.Invariant.{Fine, GoodHolder, HasInstr, Settled}
 use Rattle.rgo_sound.specs.NextNames.{HasStake}
 use Rattle.rgo_sound.specs.Offers.{OfferFits, StandsAtSend}
-use Rattle.rgo_sound.specs.Progress.{CanInstruct, IsLike, IsRegionStep, MakesTooLarge, NoStepMissing}
+use Rattle.rgo_region_machine.specs.Room.{MakesTooLarge}
+use Rattle.rgo_sound.specs.Progress.{CanInstruct, IsLike, IsRegionStep, NoStepMissing}
 use Rattle.rgo_sound.specs.Stakes.{is_in, one_if, total}
 use Rattle.rgo_tac.specs.Code.{Tac, TacFn}
 use Rattle.rgo_tac.specs.Flow.{writes}

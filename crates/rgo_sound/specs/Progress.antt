@@ -1,5 +1,5 @@
 -- No step is missing: each step of the three-address machine can be done after some region steps.
-use Rattle.std.specs.Prelude.{IsSome, List, Some, [], ℕ, ◌<◌, ◌∷◌, ◌≡◌}
+use Rattle.std.specs.Prelude.{IsSome, List, Some, [], ℕ, ◌∷◌, ◌≡◌}
 use Rattle.rgo_code.specs.Checked.{IsChecked}
 use Rattle.rgo_code.specs.Code.{Code}
 use Rattle.rgo_code.specs.Erasure.{erased}
@@ -8,7 +8,7 @@ use Rattle.rgo_machine.specs.Runs.{Leads}
 use Rattle.rgo_machine.specs.declared.picks.Pick.{Pick}
 use Rattle.rgo_machine.specs.declared.picks.Pick.TheVariants.{Meet, One}
 use Rattle.rgo_region_machine.specs.Machine.{Event, Finish, Instruct, region_run, region_step, Attend, TakePage, MakeOffer, Acknowledge}
-use Rattle.rgo_region_machine.specs.Objects.{new_object, words}
+use Rattle.rgo_region_machine.specs.Room.{MakesTooLarge}
 use Rattle.rgo_region_machine.specs.States.{RegionState}
 use Rattle.rgo_tac.specs.Tac.{TacState, tac_step}
 
@@ -24,10 +24,6 @@ IsRegionStep (Acknowledge g) = Unit {0}
 abbrev pub AreRegionSteps : List Event → Type 0
 AreRegionSteps [] = Unit {0}
 AreRegionSteps (event ∷ events) = IsRegionStep event × AreRegionSteps events
-
--- the step makes an object larger than a page
-abbrev pub MakesTooLarge : ℕ → TacState → TacState → Type 0
-MakesTooLarge page_words old next = (object : _) × (new_object old next ≡ Some object) × (page_words < words object)
 
 -- a pick of the same kind: the same goroutine, or a meeting of the same receiver, perhaps with another sender
 abbrev pub IsLike : Pick → Pick → Type 0

@@ -15,7 +15,7 @@ use Rattle.rgo_tac.specs.Ops.{operation_of}
 use Rattle.rgo_tac.specs.Tac.{TacState}
 use Rattle.rgo_code.specs.Code.{Code}
 use Rattle.rgo_region_machine.specs.Owed.{removes_behind}
-use Rattle.rgo_region_machine.specs.States.{RegionState}
+use Rattle.rgo_region_machine.specs.States.{RegionState, end_in, plain_at}
 use Rattle.rgo_world.specs.declared.objects.Making.{Making}
 use Rattle.rgo_world.specs.declared.worlds.Halt.{Halt}
 use Rattle.rgo_world.specs.declared.worlds.Halt.TheVariants as halt
@@ -23,7 +23,7 @@ use Rattle.rgo_world.specs.declared.worlds.Next.{Next}
 use Rattle.rgo_world.specs.declared.worlds.World.{World}
 use Rattle.rgo_world.specs.Objects.{HasNoRoom, HasRoom, IsRoomy, MakesNext, RemovesBehind, making_by}
 use Rattle.rgo_world.specs.Works.{IsNext, IsNextOf, IsReady, Ready, TakesStep, first_of, halted, newest_of}
-use Rattle.rgo_world.specs.Worlds.{LacksIn, end_in, plain_at}
+use Rattle.rgo_region_machine.specs.Room.{LacksIn}
 use Rattle.rgo_world.proofs.OneHolder.{the_same}
 use Rattle.rgo_world.proofs.Taking.{takes_after, takes_nothing}
 

@@ -35,7 +35,8 @@ use Rattle.rgo_world.specs.declared.worlds.World.{World}
 use Rattle.rgo_world.specs.Holders.{HolderShows, fill_in}
 use Rattle.rgo_world.specs.Tables.{TableShows}
 use Rattle.rgo_world.specs.Works.{ActsBy, ActsNext, IsNextOf, OthersOwe, Ready, TakesTurn, Works}
-use Rattle.rgo_world.specs.Worlds.{HoldersShow, OwesNext, Prepared, Shown, end_in}
+use Rattle.rgo_region_machine.specs.States.{end_in}
+use Rattle.rgo_world.specs.Worlds.{HoldersShow, OwesNext, Prepared, Shown}
 use Rattle.rgo_world.proofs.Instructed.{acted_by, acts_by, instructs, steps_alone}
 use Rattle.rgo_world.proofs.LiftingGood.{StateShows, StepShows}
 use Rattle.rgo_world.proofs.LiftingMemory.{NoneGone}

@@ -32,7 +32,7 @@ use Rattle.rgo_sound.proofs.OneStep.{current_erased}
 use Rattle.rgo_sound.proofs.Places.{get_append_last}
 use Rattle.rgo_sound.proofs.Progress.{HasTarget}
 use Rattle.rgo_sound.proofs.Tests.{split}
-use Rattle.rgo_sound.specs.Progress.{MakesTooLarge}
+use Rattle.rgo_region_machine.specs.Room.{MakesTooLarge}
 use Rattle.rgo_world.specs.declared.objects.Making.{Making}
 use Rattle.rgo_world.specs.Objects.{making_by, making_of, words_made}
 use Rattle.rgo_world.proofs.Making.{Makes, acts_none, makes, makes_none}

@@ -11,11 +11,11 @@ use Rattle.rgo_code.specs.Erasure.{erased}
 use Rattle.rgo_region_machine.specs.declared.regions.Region.{Region}
 use Rattle.rgo_region_machine.specs.Instructions.{marked, plain_after, printed_if}
 use Rattle.rgo_region_machine.specs.Machine.{plain_step}
-use Rattle.rgo_region_machine.specs.States.{Mark, RegionState}
+use Rattle.rgo_region_machine.specs.States.{Mark, RegionState, end_in, plain_at}
 use Rattle.rgo_sound.specs.Good.{AllGood}
 use Rattle.rgo_world.specs.declared.worlds.World.{World}
 use Rattle.rgo_world.specs.Tables.{MemoryShows, kept_memory}
-use Rattle.rgo_world.specs.Worlds.{Shown, end_in, plain_at}
+use Rattle.rgo_world.specs.Worlds.{Shown}
 use Rattle.rgo_world.proofs.Lifting.{GoesAlike, Keeps, StepsAlike, TouchesKept, keeps_more, none_of_whole, step_of_kept}
 use Rattle.rgo_world.proofs.Lifting.{step_of_whole, steps_alike, toucher, touches_live}
 use Rattle.rgo_world.proofs.LiftingMemory.{IsSafe, NoneGone, Steady}

@@ -57,7 +57,7 @@ use Rattle.rgo_region_machine.specs.Regions.{RegionInfo, is_live}
 use Rattle.rgo_region_machine.specs.Room.{roomy_step}
 use Rattle.rgo_region_machine.specs.States as spec
 use Rattle.rgo_region_machine.specs.States.{Create, Duty, NoOffer, RegionState, Remove, Standing, Taken, frames_in}
-use Rattle.rgo_region_machine.specs.States.{frames_of}
+use Rattle.rgo_region_machine.specs.States.{frames_of, plain_at}
 use Rattle.rgo_sound.proofs.ErasureLemmas.{Yields, yields, yields_is, yields_none, yields_where}
 use Rattle.rgo_sound.proofs.Leads.{joins_agree, live_read}
 use Rattle.rgo_sound.proofs.Offers.{steps_keep_good}
@@ -76,7 +76,7 @@ use Rattle.rgo_world.specs.Holders.{HolderShows, fill_in}
 use Rattle.rgo_world.specs.Orderly.{Orderly}
 use Rattle.rgo_world.specs.Tables.{TableShows}
 use Rattle.rgo_world.specs.Works.{Between, BothWork, HasNoNext, IsNextOf, Meets, Settled, first_of}
-use Rattle.rgo_world.specs.Worlds.{HoldersShow, OwesNext, Prepared, Shown, next_creates, plain_at}
+use Rattle.rgo_world.specs.Worlds.{HoldersShow, OwesNext, Prepared, Shown, next_creates}
 use Rattle.rgo_world.proofs.Attending.{leads_append}
 use Rattle.rgo_world.proofs.LiftingGood.{StateShows, StepShows, plain_at_after, shown_after, shown_none, shown_step}
 use Rattle.rgo_world.proofs.LiftingGood.{state_shows}

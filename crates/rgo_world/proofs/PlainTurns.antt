@@ -24,11 +24,10 @@ use Rattle.rgo_code.specs.Code.{Code}
 use Rattle.rgo_code.specs.Erasure.{erased}
 use Rattle.rgo_region_machine.specs.declared.regions.Region.{Region}
 use Rattle.rgo_region_machine.specs.Regions.{RegionInfo}
-use Rattle.rgo_region_machine.specs.States.{RegionState}
+use Rattle.rgo_region_machine.specs.States.{RegionState, plain_at}
 use Rattle.rgo_sound.specs.Good.{AllGood}
 use Rattle.rgo_world.specs.Tables.{is_gone, kept_memory}
 use Rattle.rgo_world.specs.Works.{goes_by, without_regions}
-use Rattle.rgo_world.specs.Worlds.{plain_at}
 use Rattle.rgo_world.proofs.Lifting.{Keeps, StepsAlike, none_of_whole}
 use Rattle.rgo_world.proofs.LiftingGood.{StateShows, StepShows, shown_keeps, shown_step, shown_steps_alike}
 use Rattle.rgo_world.proofs.LiftingMemory.{IsLost, IsSafe, Steady, kept_get}

@@ -21,7 +21,7 @@ use Rattle.rgo_code.specs.Erasure.{erased_op}
 use Rattle.rgo_code.specs.Lists.{creates_in, passes_of, protects_of}
 use Rattle.rgo_region_machine.specs.Owed.{current, current_in, duties_before, duties_of_op, next_duties}
 use Rattle.rgo_region_machine.specs.Owed.{regions_named}
-use Rattle.rgo_region_machine.specs.Room.{live_regions}
+use Rattle.rgo_region_machine.specs.Room.{live_regions, LacksIn}
 use Rattle.rgo_region_machine.specs.States as spec
 use Rattle.rgo_region_machine.specs.States.{Create, Duty, Protect, RegionState, Share, frames_in, frames_of}
 use Rattle.rgo_sound.proofs.Places.{get_some}
@@ -35,7 +35,7 @@ use Rattle.rgo_world.specs.declared.worlds.World.{World}
 use Rattle.rgo_world.specs.Attending.{CreatesAll, DoesAll, FailsToCreate, ProtectsAll, SharesAll, SharesOne, SharesTo, StopsAt}
 use Rattle.rgo_world.specs.Attending.{PendsBy}
 use Rattle.rgo_world.specs.Orderly.{shares_in}
-use Rattle.rgo_world.specs.Worlds.{LacksIn, OwesNext, Shown, next_creates}
+use Rattle.rgo_world.specs.Worlds.{OwesNext, Shown, next_creates}
 use Rattle.rgo_world.specs.Works.{Attended, Attends, Between, Falls, Halts, IsNextOf, KeepsOthers, OthersOwe, Readies}
 use Rattle.rgo_world.specs.Works.{SameOthers, SameRun, StopsShort, Works, done_in, done_of}
 use Rattle.rgo_world.proofs.Attending.{attended_none, attended_then, attended_to, same_then}

@@ -30,7 +30,7 @@ use Rattle.rgo_world.specs.Holders.{HolderShows, fill_in}
 use Rattle.rgo_world.specs.Objects.{AddsPage, HasRoom, MakesNext, fill_for, fill_held, making_by, making_of}
 use Rattle.rgo_world.specs.Objects.{named_region, region_for, region_of_class, words_made}
 use Rattle.rgo_world.specs.Works.{IsNextOf, Ready}
-use Rattle.rgo_world.specs.Worlds.{LacksIn}
+use Rattle.rgo_region_machine.specs.Room.{LacksIn}
 use Rattle.rgo_world.proofs.Attending.{attended_none, shown_holder, there_is}
 use Rattle.rgo_world.proofs.Instructed.{its_region, makes_one, page_step, region_live, too_large}
 use Rattle.rgo_world.proofs.OneHolder.{the_same}

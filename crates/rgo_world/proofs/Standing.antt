@@ -25,14 +25,14 @@ use Rattle.rgo_code.specs.Erasure.{erased}
 use Rattle.rgo_code.specs.NameRules.{Ascends}
 use Rattle.rgo_driver.specs.Running as driver
 use Rattle.rgo_region_machine.specs.Machine.{Event, region_run, region_start}
-use Rattle.rgo_region_machine.specs.Room.{roomy_run, roomy_step}
-use Rattle.rgo_region_machine.specs.States.{RegionState}
+use Rattle.rgo_region_machine.specs.Room.{roomy_run, roomy_step, LacksIn}
+use Rattle.rgo_region_machine.specs.States.{RegionState, end_in, plain_at}
 use Rattle.rgo_sound.proofs.Offers.{runs_are_good}
 use Rattle.rgo_sound.proofs.Room.{room_is_kept}
 use Rattle.rgo_world.specs.declared.worlds.World.{World}
 use Rattle.rgo_world.specs.Views.{view_of}
 use Rattle.rgo_world.specs.Works.{Between, IsOn, Meets, SamePrint, Starts, Takes, TakesStep, TriesMeeting}
-use Rattle.rgo_world.specs.Worlds.{HoldersShow, LacksIn, Prepared, Reaches, Shown, Stands, end_in, plain_at}
+use Rattle.rgo_world.specs.Worlds.{HoldersShow, Prepared, Reaches, Shown, Stands}
 use Rattle.rgo_world.proofs.Attending.{leads_append}
 use Rattle.rgo_world.proofs.Lifting.{none_of_kept}
 use Rattle.rgo_world.proofs.LiftingGood.{shown_none, shown_steps_alike, state_shows}

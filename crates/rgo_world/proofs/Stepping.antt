@@ -20,7 +20,7 @@ use Rattle.rgo_tac.specs.Tac.{TacState, tac}
 use Rattle.rgo_code.specs.Erasure.{erased}
 use Rattle.rgo_region_machine.specs.Owed.{current, current_in}
 use Rattle.rgo_region_machine.specs.States as spec
-use Rattle.rgo_region_machine.specs.States.{RegionState, frames_in}
+use Rattle.rgo_region_machine.specs.States.{RegionState, frames_in, end_in, plain_at}
 use Rattle.rgo_sound.proofs.Places.{get_some}
 use Rattle.rgo_sound.proofs.ValueSteps.{Top, top_of}
 use Rattle.rgo_sound.specs.Invariant.{GoodHolder}
@@ -30,7 +30,7 @@ use Rattle.rgo_world.specs.declared.worlds.Next.{Next}
 use Rattle.rgo_world.specs.declared.worlds.World.{World}
 use Rattle.rgo_world.specs.Works.{ActsBy, Between, Falls, HasNoNext, IsNext, IsNextOf, IsOn, IsReady, Readies, Ready}
 use Rattle.rgo_world.specs.Works.{StopsShort, Takes, TakesStep, first_of, halted}
-use Rattle.rgo_world.specs.Worlds.{LacksIn, end_in, plain_at}
+use Rattle.rgo_region_machine.specs.Room.{LacksIn}
 use Rattle.rgo_world.proofs.OneHolder.{none_some}
 use Rattle.rgo_world.proofs.Taking.{plain_at_same, takes_after, takes_nothing}
 

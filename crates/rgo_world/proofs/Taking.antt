@@ -19,8 +19,8 @@ use Rattle.rgo_region_machine.specs.declared.regions.Region.{Region}
 use Rattle.rgo_region_machine.specs.Instructions.{marked, plain_after, printed_if}
 use Rattle.rgo_region_machine.specs.Machine.{Event, Instruct, region_step}
 use Rattle.rgo_region_machine.specs.Owed.{next_duties}
-use Rattle.rgo_region_machine.specs.Room.{roomy_step}
-use Rattle.rgo_region_machine.specs.States.{Duty, RegionState, frames_of}
+use Rattle.rgo_region_machine.specs.Room.{roomy_step, LacksIn}
+use Rattle.rgo_region_machine.specs.States.{Duty, RegionState, frames_of, end_in, plain_at}
 use Rattle.rgo_sound.proofs.Offers.{steps_keep_good}
 use Rattle.rgo_sound.specs.Good.{AllGood}
 use Rattle.rgo_world.specs.declared.holders.Holder.{Holder}
@@ -30,7 +30,7 @@ use Rattle.rgo_world.specs.declared.worlds.World.{World}
 use Rattle.rgo_world.specs.Orderly.{Orderly}
 use Rattle.rgo_world.specs.Works.{Attended, Between, KeepsOthers, OthersOwe, SamePrint, SameRun, Settled, TakesStep}
 use Rattle.rgo_world.specs.Works.{TakesTurn, done_in, done_of, halted}
-use Rattle.rgo_world.specs.Worlds.{LacksIn, OwesNext, Prepared, Shown, end_in, plain_at}
+use Rattle.rgo_world.specs.Worlds.{OwesNext, Prepared, Shown}
 use Rattle.rgo_world.proofs.Attending.{leads_append, same_then}
 use Rattle.rgo_world.proofs.LiftingGood.{StateShows, StepShows, plain_at_after, shown_after, state_shows}
 use Rattle.rgo_world.proofs.LiftingMemory.{NoneGone}

@@ -28,7 +28,7 @@ use Rattle.rgo_world.specs.declared.worlds.World.{World}
 use Rattle.rgo_world.specs.Holders.{Fills, fill_in, region_in}
 use Rattle.rgo_world.specs.Tables.{TableShows, regions_with_page, pages_with}
 use Rattle.rgo_world.specs.Works.{Attended, IsNextOf, Ready, SameRun}
-use Rattle.rgo_world.specs.Worlds.{LacksIn}
+use Rattle.rgo_region_machine.specs.Room.{LacksIn}
 
 -- ---- which object an instruction makes
 

@@ -20,8 +20,8 @@ use Rattle.rgo_code.specs.Code.{CodeInstr, Code}
 use Rattle.rgo_code.specs.Erasure.{erased, erased_op}
 use Rattle.rgo_region_machine.specs.Machine.{Event, region_start}
 use Rattle.rgo_region_machine.specs.Owed.{current, function_of, next_duties}
-use Rattle.rgo_region_machine.specs.Room.{live_regions, roomy_step}
-use Rattle.rgo_region_machine.specs.States.{Duty, Remove, RegionState, frames_of}
+use Rattle.rgo_region_machine.specs.Room.{live_regions, roomy_step, LacksIn}
+use Rattle.rgo_region_machine.specs.States.{Duty, Remove, RegionState, frames_of, end_in, plain_at}
 use Rattle.rgo_region_machine.specs.States as spec
 use Rattle.rgo_sound.specs.Good.{AllGood}
 use Rattle.rgo_sound.specs.Progress.{AreRegionSteps}
@@ -32,7 +32,7 @@ use Rattle.rgo_world.specs.declared.worlds.Halt.TheVariants as halt
 use Rattle.rgo_world.specs.declared.worlds.Next.{Next}
 use Rattle.rgo_world.specs.declared.worlds.World.{World}
 use Rattle.rgo_world.specs.Orderly.{Orderly}
-use Rattle.rgo_world.specs.Worlds.{Prepared, Shown, OwesNext, AllOweNext, LacksIn, end_in, plain_at}
+use Rattle.rgo_world.specs.Worlds.{Prepared, Shown, OwesNext, AllOweNext}
 
 -- ---- states at which a world is
 

@@ -1,10 +1,7 @@
 -- A run with its regions: which run of the region machine it is at.
 use Rattle.std.specs.Prelude.{◌≡◌, ◌≤◌, ◌<◌, ◌^◌, ◌-◌, ℕ, min, Bool, false, List, [], ◌∷◌, ◌++◌, drop, length, map, Option, Some, None}
-use Rattle.std.specs.Prelude.{IsSome, if◌then◌else◌, slice_get}
-use Rattle.rgo_machine.specs.declared.picks.End.{End}
-use Rattle.rgo_machine.specs.declared.picks.Pick.TheVariants.{One}
+use Rattle.std.specs.Prelude.{if◌then◌else◌, slice_get}
 use Rattle.rgo_machine.specs.declared.turns.Shortage.{Shortage}
-use Rattle.rgo_machine.specs.declared.turns.Shortage.TheVariants as shortage
 use Rattle.rgo_tac.specs.declared.marks.Mark.{Mark as WayMark}
 use Rattle.rgo_tac.specs.Frames.{Frame}
 use Rattle.rgo_tac.specs.Stretches.{is_marked}
@@ -15,27 +12,20 @@ use Rattle.rgo_code.specs.Lists.{creates_in, removes_in, otherwise_in}
 use Rattle.rgo_code.specs.NameRules.{Ascends}
 use Rattle.rgo_code.specs.Names.{region_parameters}
 use Rattle.rgo_region_machine.specs.Counts.{Counts}
-use Rattle.rgo_region_machine.specs.Machine.{Event, TakePage, plain_step, region_step}
+use Rattle.rgo_region_machine.specs.Machine.{Event}
 use Rattle.rgo_region_machine.specs.declared.regions.Region.TheVariants.{Numbered}
 use Rattle.rgo_region_machine.specs.Objects.{fill_of}
 use Rattle.rgo_region_machine.specs.Owed.{current, next_duties}
-use Rattle.rgo_region_machine.specs.Room.{live_regions, pages_in_use, roomy_run}
-use Rattle.rgo_region_machine.specs.States.{Duty, Create, Mark, Ended, Stopped, RegionState, frames_of}
+use Rattle.rgo_region_machine.specs.Room.{roomy_run, LacksIn}
+use Rattle.rgo_region_machine.specs.States.{RegionState, frames_of, end_in, plain_at}
 use Rattle.rgo_region_machine.specs.States as spec
-use Rattle.rgo_sound.specs.Progress.{MakesTooLarge}
 use Rattle.rgo_world.specs.declared.holders.Holder.{Holder}
-use Rattle.rgo_machine.specs.declared.limits.Sizes.{Sizes}
 use Rattle.rgo_world.specs.declared.tally.Tally.{Tally}
 use Rattle.rgo_world.specs.declared.worlds.World.{World}
 use Rattle.rgo_world.specs.Holders.{HolderShows, fill_in}
 use Rattle.rgo_world.specs.Tables.{TableShows, MemoryShows}
 
 -- ---- what the code keeps of a state
-
-abbrev pub end_in : Option Mark → Option End
-end_in (Some (Ended end)) = Some end
-end_in (Some (Stopped limit)) = None
-end_in None = None
 
 -- of each goroutine
 pub record HoldersShow (w : World) (s : RegionState) : Type 0 where
@@ -104,10 +94,6 @@ abbrev pub AllOweNext : World → RegionState → Type 0
 AllOweNext w s = (g : ℕ) (c : Holder) (h : spec.Holder) → slice_get w.holders.items g ≡ Some c
     → slice_get s.holders g ≡ Some h → OwesNext w.code.now s g c h
 
--- the state of the three-address machine, with the end that marks the run
-abbrev pub plain_at : RegionState → List ℕ → TacState
-plain_at s printed = record s.plain { printed = printed; ended = end_in s.mark }
-
 -- A run of the region machine over the world's code, with room for each of its steps, has come to this state of the
 -- three-address machine. The print of the run is what was given out before, and then that of the world.
 pub record Reaches (w : World) (given : List ℕ) (p : TacState) : Type 0 where
@@ -129,17 +115,6 @@ pub record Stands (w : World) (given : List ℕ) (p : TacState) : Type 0 where
   pub unstopped : end_in reaches.state.mark ≡ None → reaches.state.mark ≡ None
 
 -- ---- why there is no room
-
--- some goroutine is to take a page, create a region, or make an object that is larger than a page
-abbrev pub LacksIn : Code → Sizes → Shortage → RegionState → Type 0
-LacksIn code sizes shortage.Pages s =
-    (g : ℕ) × IsSome (region_step code sizes.page_words s (TakePage g))
-    × (sizes.pages ≤ pages_in_use s)
-LacksIn code sizes shortage.Regions s =
-    (g k : ℕ) × (h : spec.Holder) × (duties : List Duty) × (slice_get s.holders g ≡ Some h) × (h.duties ≡ Create k ∷ duties)
-    × (sizes.regions ≤ live_regions s)
-LacksIn code sizes shortage.ObjectSize s =
-    (g : ℕ) × (next : TacState) × (plain_step code s.plain (One g) ≡ Some next) × MakesTooLarge sizes.page_words s.plain next
 
 abbrev pub Lacks : World → Shortage → (given : List ℕ) → TacState → Type 0
 Lacks w why given p = (at : Stands w given p) × LacksIn w.code.now w.sizes why at.reaches.state

@@ -5,11 +5,10 @@ ghost use Rattle.rgo_machine.specs.Limits.{is_within};
 ghost use Rattle.rgo_code.specs.Code.{Code};
 ghost use Rattle.rgo_region_machine.specs.Owed as owed;
 ghost use Rattle.rgo_region_machine.specs.States as region;
-ghost use Rattle.rgo_region_machine.specs.States.{EndBase, Remove, Unprotect, RegionState, frames_of};
+ghost use Rattle.rgo_region_machine.specs.States.{EndBase, Remove, Unprotect, RegionState, frames_of, plain_at};
 ghost use Rattle.rgo_world.specs.Objects.{IsRoomy, MakesNext, MakesNone, RemovesBehind};
 ghost use Rattle.rgo_world.specs.Works as works;
 ghost use Rattle.rgo_world.specs.Works.{Between, BothWork, Ready, IsOn, IsReady, IsNext, IsNextOf, ActsNext, CallsNext, StartsNext, ReturnsNext, OthersOwe, Settled, MayStep, TakesTurn, TakesStep, Takes, Works};
-ghost use Rattle.rgo_world.specs.Worlds.{plain_at};
 
 use crate::objects::{Making, next_object};
 use crate::worlds::{Next, World};
