@@ -13,7 +13,7 @@ use Rattle.rgo_core_frames.proofs.Ints.{ints_stay}
 use Rattle.rgo_core_frames.proofs.Opening.{opening_law as frames_open}
 use Rattle.rgo_core_frames.proofs.Sound.{sound_stays}
 use Rattle.rgo_core_frames.specs.Fits.{AllFit}
-use Rattle.rgo_core_frames.specs.LocalLaws.{ConstantsFit}
+use Rattle.rgo_core_frames.specs.Constants.{ConstantsFit}
 use Rattle.rgo_core_frames.specs.Opening.{main_record}
 use Rattle.rgo_core_frames.specs.Records.{Rec as FrameRec}
 use Rattle.rgo_core_frames.specs.WordFrames.{WordFrame, bare_all, word_called}

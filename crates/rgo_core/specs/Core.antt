@@ -2,7 +2,7 @@
 use Rattle.std.specs.Prelude.{◌≡◌, ◌≤◌, ℕ, List, map, Some, slice_get}
 use Rattle.rgo_code.specs.Code.{Code}
 use Rattle.rgo_core_frames.specs.Ints.{IntsFit}
-use Rattle.rgo_core_frames.specs.LocalLaws.{ConstantsFit}
+use Rattle.rgo_core_frames.specs.Constants.{ConstantsFit}
 use Rattle.rgo_core_frames.specs.States.{IsSound}
 use Rattle.rgo_core_memory.specs.declared.layout.TableSizes.{TableSizes}
 use Rattle.rgo_machine.specs.Limits.{most_goroutines}

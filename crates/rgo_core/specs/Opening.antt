@@ -3,7 +3,7 @@ use Rattle.std.specs.Prelude.{◌≤◌, ℕ, suc, List, [], ◌∷◌, bytes_eq
 use Rattle.rgo_code.specs.Checked.{IsChecked}
 use Rattle.rgo_code.specs.Code.{Code, CodeFn}
 use Rattle.rgo_code.specs.NameRules.{Ascends}
-use Rattle.rgo_core_frames.specs.LocalLaws.{ConstantsFit}
+use Rattle.rgo_core_frames.specs.Constants.{ConstantsFit}
 use Rattle.rgo_core_frames.specs.Records.{Rec as FrameRec}
 use Rattle.rgo_core_frames.specs.WordFrames.{WordFrame, bare_all, word_called}
 use Rattle.rgo_core_memory.specs.Opening.{first_words}

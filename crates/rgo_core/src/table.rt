@@ -8,7 +8,6 @@ ghost use Rattle.rgo_core.specs.Opening.{first_of, opening};
 ghost use Rattle.rgo_core.specs.Image.{table_sizes};
 ghost use Rattle.rgo_core.specs.Plans.{setup_of};
 ghost use Rattle.rgo_core.specs.Records.{accesses, looked};
-ghost use Rattle.rgo_core_frames.specs.LocalLaws.{ConstantsFit};
 ghost use Rattle.rgo_core_memory.specs.Words.{all_words as words_in_all};
 ghost use Rattle.rgo_core_rule.specs.Rule.{Closing};
 ghost use Rattle.rgo_core_rule.specs.Steps.{Leaves};
@@ -20,6 +19,7 @@ ghost use Rattle.rgo_region_machine.specs.Machine.{Event as RegionEvent};
 use crate::records::Record;
 use atomic_table::Closed;
 use rgo_code::Checked;
+use rgo_core_frames::constants::constants_fit;
 use rgo_core_memory::layout::{TableSizes, all_words, count_at};
 use rgo_core_rule::rule::{Cells, Chair, Explanation};
 use rgo_core_rule::seats;
@@ -68,7 +68,6 @@ pub fn open(
 ) -> Result<(RunTable, RunSeat), AllocError>
     requires variables { variables ≡ length code.now.variables }
     requires fits { words_in_all (table_sizes code.now sizes) ≤ 2 ^ 32 }
-    requires constants { ConstantsFit code.now }
     requires goroutines { most_goroutines limits ≤ 1000000 }
     ensures table { IfOk result (λ t. (t.0.shared.table_id.words ≡ words_in_all (table_sizes code.now sizes))
         × (t.0.shared.table_id.slots ≡ 0)
@@ -77,6 +76,7 @@ pub fn open(
         × (t.1.me ≡ (view ((0, first_of code.now) ∷ []) [], []))) }
 {
     code.code().ascends();
+    constants_fit(code.code());
     let layout = TableSizes {
         pages: sizes.pages,
         page_words: sizes.page_words,

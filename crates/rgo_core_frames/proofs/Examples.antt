@@ -10,7 +10,7 @@ use Rattle.rgo_region_machine.specs.Examples.{int_slot, main_of, plain}
 use Rattle.rgo_region_machine.specs.Regions.{bound, is_live}
 use Rattle.rgo_core_frames.specs.Examples.{FrameExamples, IntExamples, LocalExamples, RecordExamples, WordExamples, one_constant, small_table, two_owners, two_regions}
 use Rattle.rgo_core_frames.specs.Fits.{IsOfLive}
-use Rattle.rgo_core_frames.specs.LocalLaws.{ConstantsFit}
+use Rattle.rgo_core_frames.specs.Constants.{ConstantsFit}
 
 words : WordExamples
 words = record {

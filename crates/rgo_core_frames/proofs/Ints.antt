@@ -44,7 +44,7 @@ use Rattle.rgo_sound.proofs.ErasureLemmas.{Always, Follows, step_follows, yields
 use Rattle.rgo_sound.proofs.OneStep.{ReceivesAt, SendsAt, StandsAt, current_erased, stands_at_channel}
 use Rattle.rgo_sound.proofs.Places.{each_get, each_replicate, each_set, each_snoc, length_set}
 use Rattle.rgo_core_frames.specs.Ints.{FramesIntsFit, IntFits, IntsFit, IntsStay, MemoryIntsFit, ObjectIntsFit}
-use Rattle.rgo_core_frames.specs.LocalLaws.{ConstantsFit}
+use Rattle.rgo_core_frames.specs.Constants.{ConstantsFit}
 use Rattle.rgo_core_frames.proofs.Computing.{ConstantFits}
 use Rattle.rgo_core_frames.proofs.WordLemmas.{IsWord, ints_word, wrapped_fits}
 

@@ -28,3 +28,4 @@ pub mod Examples
 pub mod Making
 pub mod Sending
 pub mod Ints
+pub mod ConstantLemmas

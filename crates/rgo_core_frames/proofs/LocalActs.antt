@@ -34,7 +34,7 @@ use Rattle.rgo_sound.specs.Types.{CalledFrom, FramesHaveKinds, HaveKinds, IsCall
 use Rattle.rgo_sound.specs.Values.{call_target}
 use Rattle.rgo_core_frames.specs.Fits.{IsOfLive, ObjectsDiffer}
 use Rattle.rgo_core_frames.specs.Local.{local_op, word_branch, word_returned}
-use Rattle.rgo_core_frames.specs.LocalLaws.{ConstantsFit}
+use Rattle.rgo_core_frames.specs.Constants.{ConstantsFit}
 use Rattle.rgo_core_frames.specs.Operators.{computed}
 use Rattle.rgo_core_frames.specs.Shown.{CallerShows, CallersShow, FramesShow, NewestShows}
 use Rattle.rgo_core_frames.specs.WordFrames.{WordFrame, bare, is_set, word_at, word_called, word_going, word_moved, word_resumed_at, words_of}

@@ -20,7 +20,8 @@ use Rattle.rgo_sound.proofs.Acting.{Acted, after, end_by}
 use Rattle.rgo_sound.specs.Good.{AllGood}
 use Rattle.rgo_core_frames.specs.Fits.{AllFit, Fits, IsOfLive, IsPast, IsShown}
 use Rattle.rgo_core_frames.specs.Local.{local, local_by, local_duty, local_frames, local_instr, local_op}
-use Rattle.rgo_core_frames.specs.LocalLaws.{ConstantsFit, LocalLaw, event_by, event_of, end_by_frames, end_of}
+use Rattle.rgo_core_frames.specs.Constants.{ConstantsFit}
+use Rattle.rgo_core_frames.specs.LocalLaws.{LocalLaw, event_by, event_of, end_by_frames, end_of}
 use Rattle.rgo_core_frames.specs.Records.{Rec, after_op}
 use Rattle.rgo_core_frames.specs.Shown.{CallersShow, FramesShow, NewestShows}
 use Rattle.rgo_core_frames.specs.Slots.{slot_duties, slot_duty, slotted}

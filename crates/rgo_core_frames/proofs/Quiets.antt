@@ -9,7 +9,8 @@ use Rattle.rgo_region_machine.specs.States.{RegionState, Duty}
 use Rattle.rgo_sound.proofs.Places.{get_set_same}
 use Rattle.rgo_core_frames.specs.Fits.{AllFit}
 use Rattle.rgo_core_frames.specs.Local.{local}
-use Rattle.rgo_core_frames.specs.LocalLaws.{event_of, ConstantsFit, end_by_frames, end_of, event_by}
+use Rattle.rgo_core_frames.specs.Constants.{ConstantsFit}
+use Rattle.rgo_core_frames.specs.LocalLaws.{event_of, end_by_frames, end_of, event_by}
 use Rattle.rgo_core_frames.specs.Quiet.{HasQuietRun, QuietLaw, is_exit, quiet, quiet_events, quiets, unless_exit, OnlyOne}
 use Rattle.rgo_core_frames.specs.Records.{Rec}
 use Rattle.rgo_core_frames.specs.Steps.{StaysElse, LeavesRest, StepsTo}

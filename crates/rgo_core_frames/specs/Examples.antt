@@ -22,7 +22,8 @@ use Rattle.rgo_core_frames.specs.Creations.{GivesSlot}
 use Rattle.rgo_core_frames.specs.Fits.{AllFit, ObjectsDiffer, SlotsDiffer}
 use Rattle.rgo_core_frames.specs.Ints.{IntFits, ObjectIntsFit}
 use Rattle.rgo_core_frames.specs.Local.{local_duty}
-use Rattle.rgo_core_frames.specs.LocalLaws.{ConstantsFit, end_by_frames}
+use Rattle.rgo_core_frames.specs.Constants.{ConstantsFit}
+use Rattle.rgo_core_frames.specs.LocalLaws.{end_by_frames}
 use Rattle.rgo_core_frames.specs.NameTables.{NameTable, TableShows}
 use Rattle.rgo_core_frames.specs.Opening.{main_record}
 use Rattle.rgo_core_frames.specs.Operators.{computed}

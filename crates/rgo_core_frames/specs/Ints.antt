@@ -10,7 +10,7 @@ use Rattle.rgo_tac.specs.Frames.{Frame}
 use Rattle.rgo_tac.specs.Tac.{TacState}
 use Rattle.std.specs.Int.{w64}
 use Rattle.std.specs.Prelude.{FitsSigned, List, Some, length, pos, ℕ, ◌≡◌}
-use Rattle.rgo_core_frames.specs.LocalLaws.{ConstantsFit}
+use Rattle.rgo_core_frames.specs.Constants.{ConstantsFit}
 
 -- an int fits in a word; so does every value of another kind
 abbrev pub IntFits : Value → Type 0

@@ -2,6 +2,7 @@ pub mod Actions
 pub mod Before
 pub mod BeforeLaws
 pub mod Children
+pub mod Constants
 pub mod Creations
 pub mod Ends
 pub mod Examples

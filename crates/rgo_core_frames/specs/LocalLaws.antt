@@ -1,26 +1,18 @@
 -- Local steps of a record are steps of the region machine.
-use Rattle.rgo_code.specs.Code.{Code, CodeFn, CodeInstr, Do}
+use Rattle.rgo_code.specs.Code.{Code}
 use Rattle.rgo_machine.specs.declared.picks.End.TheVariants.{Exit}
 use Rattle.rgo_machine.specs.declared.picks.End.{End}
 use Rattle.rgo_machine.specs.declared.picks.Pick.TheVariants.{One}
 use Rattle.rgo_region_machine.specs.Instructions.{marked}
 use Rattle.rgo_region_machine.specs.Machine.{Attend, Event, Instruct}
 use Rattle.rgo_region_machine.specs.States.{Duty}
-use Rattle.rgo_typed.specs.declared.actions.Action.TheVariants as action
-use Rattle.std.specs.Int.{w64}
-use Rattle.std.specs.Prelude.{FitsSigned, List, None, Option, Some, [], slice_get, slice_set, suc, zero, ℕ, ℤ, ◌∷◌, ◌≡◌}
+use Rattle.std.specs.Prelude.{List, None, Option, Some, [], slice_set, suc, zero, ℕ, ◌∷◌, ◌≡◌}
+use Rattle.rgo_core_frames.specs.Constants.{ConstantsFit}
 use Rattle.rgo_core_frames.specs.Local.{local}
 use Rattle.rgo_core_frames.specs.Records.{Rec}
 use Rattle.rgo_core_frames.specs.States.{Here}
 use Rattle.rgo_core_frames.specs.Steps.{StepsTo}
 use Rattle.rgo_core_frames.specs.WordFrames.{WordFrame}
-
--- each constant is one of 64 bits
-abbrev pub ConstantsFit : Code → Type 0
-ConstantsFit code =
-    (n i : ℕ) (fn : CodeFn) (instr : CodeInstr) (to : Option ℕ) (k : ℤ) (from removes : List ℕ)
-    → slice_get code.functions n ≡ Some fn → slice_get fn.body i ≡ Some instr
-    → instr.op ≡ Do to (action.Int k) from removes → FitsSigned w64 k
 
 -- the event of a goroutine's next local step
 abbrev pub event_by : ℕ → List Duty → Event

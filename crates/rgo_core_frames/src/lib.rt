@@ -2,9 +2,11 @@
 //! stand for the frames and the stakes of the region machine, and what each step does to a record.
 //!
 //! Each law of [`laws`] is about one state: where the record of a goroutine is before a step, the region machine has that step,
-//! and the records after it stand for the goroutines of the state after it. [`words`] has the operators as they run on words.
+//! and the records after it stand for the goroutines of the state after it. [`words`] has the operators as they run on words, and [`constants`] what the
+//! laws ask of a code's constants.
 #![tactic(auto)]
 
+pub mod constants;
 pub mod laws;
 pub mod records;
 pub mod words;

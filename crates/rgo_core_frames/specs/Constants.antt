@@ -1,0 +1,31 @@
+-- The constants of code: each is one of 64 bits.
+use Rattle.std.specs.Int.{w64}
+use Rattle.std.specs.Prelude.{All, FitsSigned, List, Option, Some, slice_get, ℕ, ℤ, ◌≡◌, ⊤}
+use Rattle.rgo_code.specs.Code.{Code, CodeFn, CodeInstr, Do}
+use Rattle.rgo_tac.specs.Code.{Instr, Op, TacFn}
+use Rattle.rgo_tac.specs.Code as tac
+use Rattle.rgo_typed.specs.declared.actions.Action.TheVariants as action
+use Rattle.rgo_typed.specs.declared.actions.Action.{Action}
+
+-- each constant is one of 64 bits
+abbrev pub ConstantsFit : Code → Type 0
+ConstantsFit code =
+    (n i : ℕ) (fn : CodeFn) (instr : CodeInstr) (to : Option ℕ) (k : ℤ) (from removes : List ℕ)
+    → slice_get code.functions n ≡ Some fn → slice_get fn.body i ≡ Some instr
+    → instr.op ≡ Do to (action.Int k) from removes → FitsSigned w64 k
+
+-- ---- the same of what three-address code is made of
+
+abbrev pub ActionFits : Action → Type 0
+ActionFits (action.Int k) = FitsSigned w64 k
+ActionFits _ = ⊤
+
+abbrev pub OpFits : Op → Type 0
+OpFits (tac.Do to action from) = ActionFits action
+OpFits _ = ⊤
+
+abbrev pub InstrFits : Instr → Type 0
+InstrFits instr = OpFits instr.op
+
+abbrev pub FnFits : TacFn → Type 0
+FnFits fn = All InstrFits fn.body

@@ -1,0 +1,77 @@
+//! That the constants of code have 64 bits: their type says it, and a walk over the code collects it.
+
+ghost use Rattle.std.specs.Prelude.{IfSome, slice_get};
+ghost use Rattle.rgo_core_frames.specs.Constants.{ActionFits, ConstantsFit, FnFits, InstrFits, OpFits};
+ghost use Rattle.rgo_tac.specs.Ops.{operation_of};
+
+use rgo_code::Code;
+use rgo_tac::{Op, TacFn};
+use rgo_typed::Action;
+
+fn action_fits(action: Action)
+    ensures { ActionFits action }
+{
+    match action {
+        Action::Int(_)
+        | Action::Bool(_)
+        | Action::Nil
+        | Action::Copy
+        | Action::Binary(_)
+        | Action::Neg
+        | Action::Not
+        | Action::IsNil
+        | Action::Len
+        | Action::Load(_)
+        | Action::Store(_)
+        | Action::At
+        | Action::Put
+        | Action::New(_)
+        | Action::Slice
+        | Action::Chan
+        | Action::Recv
+        | Action::Send
+        | Action::Close
+        | Action::Get(_)
+        | Action::Set(_) => {}
+    }
+}
+
+fn op_fits(op: Op<'_>)
+    ensures { OpFits (operation_of op.entry) }
+{
+    match op {
+        Op::Do { action, .. } => action_fits(action),
+        Op::Call { .. }
+        | Op::Go { .. }
+        | Op::Print { .. }
+        | Op::Jump(_)
+        | Op::Branch { .. }
+        | Op::Return(_) => {}
+    }
+}
+
+fn instr_fits(f: &TacFn, n: usize)
+    ensures { IfSome (slice_get f.now.body n) InstrFits }
+{
+    if let Some(op) = f.op(n) {
+        op_fits(op);
+    }
+}
+
+fn function_fits(f: &TacFn)
+    ensures { FnFits f.now }
+{
+    for n in 0..f.len() {
+        instr_fits(f, n);
+    }
+}
+
+/// Each constant of the code is one of 64 bits. For callers who rely on this; it only looks at each instruction.
+pub fn constants_fit(code: &Code)
+    ensures { ConstantsFit code.now }
+{
+    let functions = code.tac().functions();
+    for n in 0..functions.len() {
+        function_fits(&functions[n]);
+    }
+}
