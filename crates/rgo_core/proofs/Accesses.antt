@@ -60,6 +60,7 @@ use Rattle.rgo_core.proofs.Slices as slices
 use Rattle.rgo_core.proofs.Parts.{I}
 use Rattle.rgo_core.proofs.Performing.{channels_after, performs}
 use Rattle.rgo_core.proofs.Links.{claims_high, lengths_apart, lengths_in}
+use Rattle.rgo_core.proofs.MakesObject.{struct_no_channel}
 
 -- ---- types
 
@@ -78,9 +79,6 @@ len_takes code f d tys fits = let r = fits.2 in (r.0, r.1)
 get_gives : (code : Tac) (f : TacFn) (d k : ℕ) (tys : List «Type») → DoFits code f (Some d) (action.Get k) tys
     → (t : «Type») × (slice_get (declared_by code).variables k ≡ Some t)
 get_gives code f d k tys fits = let r = fits.2 in (fits.0, r.1)
-
-struct_no_channel : (cells : List Value) (k : Chan) → StructObject cells ≡ channel k → ⊥
-struct_no_channel cells k e = cc
 
 struct_no_slice : (cells others : List Value) → StructObject cells ≡ SliceObject others → ⊥
 struct_no_slice cells others e = cc e

@@ -3,6 +3,7 @@ use Rattle.std.proofs.Common.{◌≡◌, inl, inr, ℕ, ◌+◌, List, ◌∷◌
 use Rattle.std.proofs.lemmas.Option.{same_Some}
 use Rattle.rgo_typed.specs.declared.actions.Action.{Action}
 use Rattle.rgo_typed.specs.declared.types.Type.{«Type»}
+use Rattle.rgo_typed.specs.declared.actions.Action.TheVariants.{Send}
 use Rattle.rgo_wellformed.specs.TypeRules.{chan_of}
 use Rattle.rgo_memory.specs.declared.values.Value.{Value}
 use Rattle.rgo_memory.specs.declared.values.Value.TheVariants as value
@@ -12,7 +13,7 @@ use Rattle.rgo_code.specs.Code.{CodeOp, Do}
 use Rattle.rgo_code.specs.Erasure.{erased, erased_fn, erased_op}
 use Rattle.rgo_code.specs.Types.{HasType, OpFits}
 use Rattle.rgo_region_machine.specs.States.{Holder, NoOffer, Offer, Standing, Taken}
-use Rattle.rgo_sound.proofs.Places.{contains_here}
+use Rattle.rgo_sound.proofs.Places.{contains_here, head_is}
 use Rattle.rgo_sound.proofs.TypedSteps.{types}
 use Rattle.rgo_core_channels.specs.Channels.{Accepted, Calm, Chan, Offered, OfferOf, On, Phase, holder_offer}
 use Rattle.rgo_core_channels.specs.Records.{Nowhere, Offering, Post}
@@ -31,14 +32,19 @@ use Rattle.rgo_core.specs.Next.{IsAt}
 use Rattle.rgo_core.specs.Records.{Record}
 use Rattle.rgo_core.proofs.Standing.{at_instruction, side_at}
 
-first_is : {X : Type 0} (a b : X) (xs ys : List X) → a ∷ xs ≡ b ∷ ys → a ≡ b
-first_is a b xs ys e = cc
-
 no_standing : Standing 0 ≡ NoOffer → ⊥
 no_standing e = cc
 
 no_taken : Taken 0 ≡ NoOffer → ⊥
 no_taken e = cc
+
+pub standing_or_taken : (o p : ℕ) → Standing o ≡ Taken p → ⊥
+standing_or_taken o p e = cc
+
+-- two sends that are one have the same operands
+pub same_operands : (to to' : Option ℕ) (from from' removes removes' : List ℕ)
+    → Do to Send from removes ≡ Do to' Send from' removes' → from ≡ from'
+same_operands to to' from from' removes removes' e = cc
 
 module _ {T : Setup} {g : ℕ} {c : Record} (x : Here T g c) where
   -- a record with an offer that the state does not have, or one at a channel
@@ -84,7 +90,7 @@ module _ {T : Setup} {g : ℕ} {c : Record} (x : Here T g c) where
         let t = op_fits in
         let f = first_type T.code x.core.sound.checked x.s g x.core.sound.good action a.of_channel a.here.fn to t.0 t.2 in (
           f.0,
-          first_is (slice_get (erased_fn a.here.fn).variables a.channel) (Some (chan_of f.0))
+          head_is (slice_get (erased_fn a.here.fn).variables a.channel) (Some (chan_of f.0))
               (map (slice_get (erased_fn a.here.fn).variables) others) (map Some f.1)
               (t.1 ∙ ap (map Some) f.2),
         )

@@ -14,6 +14,7 @@ use Rattle.rgo_core.specs.AtChannels.{IsAtChannel, Operates}
 use Rattle.rgo_core.specs.ChannelExamples.{ChannelExamples, offered, sending, with_words}
 use Rattle.rgo_core.specs.Core.{Setup, layout}
 use Rattle.rgo_core.specs.Records.{begins_with}
+use Rattle.rgo_sound.proofs.Places.{head_is, no_cons}
 
 operates : (sizes : Sizes) (limits : Limits) → Operates (sending sizes limits) (with_words (6 ∷ 3 ∷ [])) None Send (1 ∷ [])
     (base (layout (sending sizes limits)) + 5)
@@ -38,14 +39,8 @@ operates sizes limits = record {
   lies = refl;
 }
 
-no_cons : (w : WordFrame) (ws : List WordFrame) → ◌≡◌ {A = List WordFrame} [] (w ∷ ws) → ⊥
-no_cons w ws e = cc
-
 zero_suc : (n : ℕ) → 0 ≡ suc n → ⊥
 zero_suc n e = omega (arith, e)
-
-first_of : (v w : WordFrame) (vs ws : List WordFrame) → v ∷ vs ≡ w ∷ ws → v ≡ w
-first_of v w vs ws e = cc
 
 channel_of : (n m : ℕ) (ns ms removes others : List ℕ) → Do None Send (n ∷ ns) removes ≡ Do None Send (m ∷ ms) others → n ≡ m
 channel_of n m ns ms removes others e = cc
@@ -89,7 +84,7 @@ examples = record {
     nil : {sizes : Sizes} {limits : Limits} {control : ℕ}
         → Operates (sending sizes limits) (with_words (0 ∷ 3 ∷ [])) None Send (1 ∷ []) control → ⊥
     nil {sizes} {limits} a =
-        let w = first_of nil_frame a.here.w [] a.here.ws a.here.frames in
+        let w = head_is nil_frame a.here.w [] a.here.ws a.here.frames in
         let i = same_Some sends a.here.instr
         (ap (λ (f : WordFrame). current (sending sizes limits).code (bare f)) w ∙ a.here.cur) in
         let channel = channel_of 0 a.channel (1 ∷ []) (1 ∷ []) [] a.removes (ap (λ (j : CodeInstr). j.op) i ∙ a.here.is) in

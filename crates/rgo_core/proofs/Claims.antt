@@ -1,5 +1,5 @@
 -- The exchange that claims a page.
-use Rattle.std.proofs.Common.{◌≡◌, ◌≢◌, inl, ℕ, zero, suc, ◌+◌, ◌<◌, ◌≤◌, ◌==◌, ◌&&◌, Bool, true, false, List, [], ◌∷◌, Option, Some, None, map, if◌then◌else◌, option_and_then, slice_get, slice_set, slice_index, refl, ap, sym, subst, ◌∙◌, arith}
+use Rattle.std.proofs.Common.{◌≡◌, ◌≢◌, inl, ℕ, zero, suc, ◌+◌, ◌<◌, ◌≤◌, ◌==◌, ◌&&◌, Bool, true, false, List, [], ◌∷◌, Option, Some, map, if◌then◌else◌, option_and_then, slice_get, slice_set, slice_index, refl, ap, sym, subst, ◌∙◌, arith}
 use Rattle.std.proofs.lemmas.Bool.Decides.{nat_tests}
 use Rattle.std.proofs.lemmas.Option.{same_Some}
 use Rattle.rgo_code.specs.Code.{Do}
@@ -58,14 +58,11 @@ use Rattle.rgo_core.specs.Links.{Links}
 use Rattle.rgo_core.proofs.Links.{Waits, all_kept, lengths_low, links_closing, links_with}
 use Rattle.rgo_core.proofs.Standing.{memory_at}
 use Rattle.rgo_core.proofs.Counting.{plus_zero}
+use Rattle.rgo_core.proofs.Duties.{test_of}
 
 and_last : (a b : Bool) → (a && b) ≡ true → b ≡ true
 and_last true b e = e
 and_last false b e = cc
-
-test_of : (b : Bool) (o : Option RegionState) (t : RegionState) → (if b then o else None) ≡ Some t → b ≡ true
-test_of true o t e = refl
-test_of false o t e = cc
 
 -- ---- a page more leaves all else
 

@@ -18,11 +18,12 @@ use Rattle.rgo_core.specs.Core.{CoreAt, Here, Setup, layout}
 use Rattle.rgo_core.specs.Records.{ClockRec, Record, blank, clock_of, counted, frame_of, looked, with_child, with_refusal}
 use Rattle.rgo_core.specs.Story.{Story}
 use Rattle.rgo_core.proofs.Lift.{all_within, clock_at, few_records, shallow_here, stays_core, within_set}
-use Rattle.rgo_core.proofs.Lists.{get_of, set_own}
+use Rattle.rgo_core.proofs.Lists.{get_of}
 use Rattle.rgo_core.proofs.Numbers.{drawn_low}
 use Rattle.rgo_core.proofs.Standing.{image_made, image_same, wide}
 use Rattle.rgo_core.proofs.Stories.{story_ends, story_prints, story_refused, story_starts}
 use Rattle.rgo_core.proofs.Links.{Waits, all_kept, links_low, links_same}
+use Rattle.rgo_core_channels.proofs.Lists.{set_own}
 
 pub ticket_law : TicketLaw
 ticket_law T g c bytes after short is finds words recs run core at fits =

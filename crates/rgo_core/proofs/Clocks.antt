@@ -12,11 +12,11 @@ use Rattle.rgo_core_memory.proofs.Rows.{at_set, below, set_else, set_here}
 use Rattle.rgo_core_rule.specs.Lists.{flattened}
 use Rattle.rgo_region_machine.specs.Instructions.{printed_if}
 use Rattle.rgo_region_machine.specs.States.{Mark, RegionState}
-use Rattle.rgo_sound.proofs.Places.{get_append_last, get_snoc}
+use Rattle.rgo_sound.proofs.Places.{get_append_last, get_snoc, get_front}
 use Rattle.rgo_core.specs.Clock.{Clock, has_ticket, prints_in}
 use Rattle.rgo_core.specs.ClockSteps.{first_mark, first_set}
 use Rattle.rgo_core.specs.Records.{ClockRec, Drawn, drawn_at, end_bit, has_ended}
-use Rattle.rgo_core.proofs.Lists.{at_longer, cond_other, cond_same, count_push, flattened_snoc, one_if, sum_most, sum_same, sum_set, word_new}
+use Rattle.rgo_core.proofs.Lists.{cond_other, cond_same, count_push, flattened_snoc, one_if, sum_most, sum_same, sum_set, word_new}
 
 yes_le : (a b : ℕ) → a ≤ b → nat_le a b ≡ true
 yes_le a b h = grind (arith, nat_tests)
@@ -261,7 +261,7 @@ module _ (words : List ℕ) (recs : List ClockRec) (s next : RegionState) (befor
   old_piece : (h i : ℕ) (y : ClockRec) (z : Drawn) → slice_get recs h ≡ Some y → slice_get y.prints i ≡ Some z
       → (slice_get more z.ticket ≡ Some z.bytes) × (z.is_void ≡ nat_le (length (before_after s.mark before b)) z.ticket)
   old_piece h i y z e e' = let p = k.pieces h i y z e e' in (
-    ap (λ (l : List (List ℕ)). slice_get l z.ticket) grown ∙ at_longer sofar (b ∷ []) z.ticket z.bytes p.0,
+    ap (λ (l : List (List ℕ)). slice_get l z.ticket) grown ∙ get_front sofar (b ∷ []) z.ticket z.bytes p.0,
     p.1 ∙ old_void z.ticket (below sofar z.ticket z.bytes p.0),
   )
 
@@ -327,7 +327,7 @@ clock_child words recs s before late child no_prints no_first k = record {
   first = λ g c m e f. ⊎_elim (λ t. k.first g c m t f)
       (λ (t : (g ≡ length recs) × (c ≡ child)). absurd (not_first m (sym no_first ∙ (ap (λ (y : ClockRec). y.first) (sym t.1) ∙ f))))
       (get_snoc recs child g c e);
-  setter = λ m e. let s = k.setter m e in (s.0, s.1, at_longer recs (child ∷ []) s.0 s.1 s.2, s.3);
+  setter = λ m e. let s = k.setter m e in (s.0, s.1, get_front recs (child ∷ []) s.0 s.1 s.2, s.3);
 }
   where
     none_more : (f : ClockRec → ℕ) → f child ≡ 0 → sum_by f (recs ++ child ∷ []) ≡ sum_by f recs

@@ -38,7 +38,7 @@ some_of : (b : Bool) (o : Option RegionState) (t : RegionState) → (if b then o
 some_of true o t e = e
 some_of false o t e = cc
 
-test_of : (b : Bool) (o : Option RegionState) (t : RegionState) → (if b then o else None) ≡ Some t → b ≡ true
+pub test_of : (b : Bool) (o : Option RegionState) (t : RegionState) → (if b then o else None) ≡ Some t → b ≡ true
 test_of true o t e = refl
 test_of false o t e = cc
 

@@ -55,6 +55,7 @@ use Rattle.rgo_core.proofs.Parts.{I, frame_stays, image_with, side_stays}
 use Rattle.rgo_core.proofs.Performing.{channels_after, performs}
 use Rattle.rgo_core.proofs.Slices as slices
 use Rattle.rgo_core.proofs.Standing.{at_instruction, memory_at}
+use Rattle.rgo_core.proofs.MakesObject.{slice_no_channel}
 
 -- ---- a length is read
 
@@ -233,9 +234,6 @@ put_here cells i v low = by (nat_lt i (length cells)) (grind (arith, nat_tests))
         → (if b then DoesSo (SliceObject (slice_set cells i v)) value.Nil else Rattle.rgo_memory.specs.Effects.Traps Rattle.rgo_memory.specs.declared.traps.Trap.TheVariants.IndexRange)
         ≡ DoesSo (SliceObject (slice_set cells i v)) value.Nil
     by b e = rw e refl
-
-slice_no_channel : (cells : List Value) (k : Chan) → SliceObject cells ≡ channel k → ⊥
-slice_no_channel cells k e = cc
 
 second_word : (cells : List Value) (others : List Value) (i : ℕ) → SliceObject cells ≡ SliceObject others → 0 ≢ suc i
 second_word cells others i same e = omega (arith, e)

@@ -1,9 +1,9 @@
 -- A run is ended for want of room, or by a limit.
-use Rattle.std.proofs.Common.{◌≡◌, ℕ, ◌+◌, true, option_map, List, ◌∷◌, Option, Some, None, length, map, slice_get, slice_set, slice_index, bit_or, refl, ap, sym, subst, ◌∙◌, arith}
+use Rattle.std.proofs.Common.{◌≡◌, ℕ, ◌+◌, true, option_map, List, ◌∷◌, Option, Some, None, length, map, slice_set, slice_index, bit_or, refl, ap, sym, subst, ◌∙◌, arith}
 use Rattle.std.proofs.lemmas.List.{length-map}
-use Rattle.std.proofs.lemmas.Option.{same_Some, slice_get-map}
+use Rattle.std.proofs.lemmas.Option.{same_Some}
 use Rattle.rgo_code.specs.Code.{Call, Code, CodeFn, CodeInstr, CodeOp, Go}
-use Rattle.rgo_code.specs.Erasure.{erased, erased_fn, erased_instr, erased_op}
+use Rattle.rgo_code.specs.Erasure.{erased, erased_instr, erased_op}
 use Rattle.rgo_core_channels.proofs.Quiet.{finish_keeps}
 use Rattle.rgo_core_channels.specs.Channels.{Channels}
 use Rattle.rgo_core_frames.proofs.Ending.{finish_law}
@@ -20,6 +20,7 @@ use Rattle.rgo_region_machine.specs.declared.limits.Limit.{Limit}
 use Rattle.rgo_region_machine.specs.declared.limits.Limit.TheVariants.{Calls, Goroutines}
 use Rattle.rgo_sound.proofs.OneStep.{current_erased}
 use Rattle.rgo_sound.specs.Tally.{no_share}
+use Rattle.rgo_sound.proofs.Ruled.{erased_found}
 use Rattle.rgo_tac.specs.Frames.{Frame, moved_to, values_of}
 use Rattle.rgo_tac.specs.Steps.{at_function, stand, stand_at, stand_before}
 use Rattle.rgo_tac.specs.declared.regions.Class.{Class}
@@ -92,9 +93,6 @@ stands : (code : Code) (frame : Frame) (instr : CodeInstr) → current code fram
     → stand (erased code) frame ≡ stand_before (erased code) frame (erased_op instr.op) instr.place
 stands code frame instr cur = ap (stand_at (erased code) frame) (current_erased code frame ∙ ap (option_map erased_instr) cur)
 
-there : (code : Code) (f : ℕ) (callee : CodeFn) → function_of code f ≡ Some callee → slice_get (erased code).functions f ≡ Some (erased_fn callee)
-there code f callee is = slice_get-map erased_fn code.functions f ∙ ap (option_map erased_fn) is
-
 module _ {T : Setup} {g : ℕ} {c : Record} (x : Here T g c) (f : ℕ) (callee : CodeFn) (from : List ℕ) (passes : List Class) (removes : List ℕ)
     (is : function_of T.code f ≡ Some callee) where
   too_deep : (to : Option ℕ) (protects : List ℕ) → IsAt T.code c (Call to f from passes protects removes) → length c.frame.frames ≡ deepest
@@ -110,7 +108,7 @@ module _ {T : Setup} {g : ℕ} {c : Record} (x : Here T g c) (f : ℕ) (callee :
         calls = subst IsAtCall
             (sym (stands T.code b.frame a.instr b.cur
             ∙ (ap (λ (op : CodeOp). stand_before (erased T.code) b.frame (erased_op op) a.instr.place) a.is
-            ∙ ap (at_function (AtCall b.frame) f (values_of b.frame from)) (there T.code f callee is)))) tt;
+            ∙ ap (at_function (AtCall b.frame) f (values_of b.frame from)) (erased_found T.code f callee is)))) tt;
       }
 
   no_more : IsAt T.code c (Go f from passes removes) → c.clock.refused ≡ true → Stops T.code T.sizes T.limits Goroutines x.s
@@ -128,7 +126,7 @@ module _ {T : Setup} {g : ℕ} {c : Record} (x : Here T g c) (f : ℕ) (callee :
         starts = subst IsAtStart
             (sym (stands T.code b.frame a.instr b.cur
             ∙ (ap (λ (op : CodeOp). stand_before (erased T.code) b.frame (erased_op op) a.instr.place) a.is
-            ∙ ap (at_function (AtStart (moved_to b.frame (b.frame.next + 1))) f (values_of b.frame from)) (there T.code f callee is)))) tt;
+            ∙ ap (at_function (AtStart (moved_to b.frame (b.frame.next + 1))) f (values_of b.frame from)) (erased_found T.code f callee is)))) tt;
       }
 
 pub calls_move : CallsMove

@@ -12,6 +12,7 @@ use Rattle.rgo_core.specs.LinkExamples.{LinkExamples, four, knowing, loading, lo
 use Rattle.rgo_core.specs.Links.{BeforeLoad, BeforeStore, IsAtElement}
 use Rattle.rgo_core.specs.Next.{IsAt}
 use Rattle.rgo_core.specs.Records.{begins_with}
+use Rattle.rgo_sound.proofs.Places.{head_is, no_cons}
 
 abbrev frame : WordFrame
 frame = record { function = 0; next = 0; variables = 6 ∷ 3 ∷ 0 ∷ [] }
@@ -46,12 +47,6 @@ knows_it = record {
   none = refl;
   free = refl;
 }
-
-no_cons : (w : WordFrame) (ws : List WordFrame) → ◌≡◌ {A = List WordFrame} [] (w ∷ ws) → ⊥
-no_cons w ws e = cc
-
-first_of : (v w : WordFrame) (vs ws : List WordFrame) → v ∷ vs ≡ w ∷ ws → v ≡ w
-first_of v w vs ws e = cc
 
 slice_is : (d e n m : ℕ) (ns ms removes others : List ℕ) → Do (Some d) At (n ∷ ns) removes ≡ Do (Some e) At (m ∷ ms) others → n ≡ m
 slice_is d e n m ns ms removes others e' = cc
@@ -100,12 +95,12 @@ examples = record {
   where
     other : IsAtElement loading loads 6 → ⊥
     other (BeforeLoad d p q removes a points) =
-        let w = first_of frame a.w [] a.ws a.frames in
+        let w = head_is frame a.w [] a.ws a.frames in
         let i = same_Some instr a.instr (ap (λ (f : WordFrame). current loading (bare f)) w ∙ a.cur) in
         let slice = slice_is 2 d 0 p (1 ∷ []) (q ∷ []) [] removes (ap (λ (j : CodeInstr). j.op) i ∙ a.is) in
         let e : ◌≡◌ {A = ℕ} 6 7 = (λ j. word_at (w j) (slice j)) ∙ points in omega (arith, e)
     other (BeforeStore p q r removes a points) =
-        let w = first_of frame a.w [] a.ws a.frames in
+        let w = head_is frame a.w [] a.ws a.frames in
         let i = same_Some instr a.instr (ap (λ (f : WordFrame). current loading (bare f)) w ∙ a.cur) in
         no_put 2 (0 ∷ 1 ∷ []) (p ∷ q ∷ r ∷ []) [] removes (ap (λ (j : CodeInstr). j.op) i ∙ a.is)
 

@@ -13,7 +13,7 @@ use Rattle.rgo_region_machine.specs.declared.regions.Region.{Region}
 use Rattle.rgo_typed.specs.declared.actions.Action.TheVariants as action
 use Rattle.rgo_core_frames.specs.Records.{Rec as FrameRec}
 use Rattle.rgo_core_frames.specs.WordFrames.{WordFrame, bare}
-use Rattle.rgo_sound.proofs.Places.{get_snoc}
+use Rattle.rgo_sound.proofs.Places.{get_snoc, head_is}
 use Rattle.rgo_core_memory.specs.Ground.{Stands, ground_of}
 use Rattle.rgo_core_memory.specs.Image.{Memory, word_at}
 use Rattle.rgo_core_memory.specs.Opening.{first_record}
@@ -259,9 +259,6 @@ links_beside x i v recs M high = links_with x (slice_set x.words i v) (lengths_s
 
 -- ---- a record that is before another instruction
 
-frame_first : (w w' : WordFrame) (ws ws' : List WordFrame) → w ∷ ws ≡ w' ∷ ws' → w ≡ w'
-frame_first w w' ws ws' e = cc
-
 load_no_send : (d : ℕ) (to : Option ℕ) (from from' removes removes' : List ℕ) → Do (Some d) action.At from removes ≡ Do to action.Send from' removes' → ⊥
 load_no_send d to from from' removes removes' e = cc e
 
@@ -272,7 +269,7 @@ module _ (code : Code) (c : Record) (w : WordFrame) (ws : List WordFrame) (frame
     (cur : current code (bare w) ≡ Some instr) (to : Option ℕ) (from removes : List ℕ) (is : instr.op ≡ Do to action.Send from removes) where
   op_is : {op : CodeOp} → IsAt code c op → op ≡ Do to action.Send from removes
   op_is a =
-      let f : a.w ≡ w = frame_first a.w w a.ws ws (sym a.frames ∙ frames) in
+      let f : a.w ≡ w = head_is a.w w a.ws ws (sym a.frames ∙ frames) in
       let i : a.instr ≡ instr = same_Some a.instr instr (sym a.cur ∙ (ap (λ (y : WordFrame). current code (bare y)) f ∙ cur)) in
       sym a.is ∙ (ap (λ (y : CodeInstr). y.op) i ∙ is)
 

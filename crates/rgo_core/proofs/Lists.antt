@@ -19,11 +19,6 @@ get_of [] i a e = absurd (some-ne-none a (sym e))
 get_of (x ∷ l) zero a e = ap Some (some-injective x a e)
 get_of (x ∷ l) (suc i) a e = get_of l i a e
 
-pub at_longer : {A : Type 0} (l m : List A) (i : ℕ) (a : A) → slice_get l i ≡ Some a → slice_get (l ++ m) i ≡ Some a
-at_longer [] m i a e = cc
-at_longer (x ∷ l) m zero a e = e
-at_longer (x ∷ l) m (suc i) a e = at_longer l m i a e
-
 pub take_before : {A : Type 0} (k : ℕ) (xs ys : List A) → k ≤ length xs → take k (xs ++ ys) ≡ take k xs
 take_before zero xs ys h = refl
 take_before (suc k) [] ys h = absurd (omega arith)
@@ -40,11 +35,6 @@ word_same words i j x n = get_or-set_other words i j x 0 n
 
 pub word_new : (words : List ℕ) (i x : ℕ) → i < length words → slice_index (slice_set words i x) i ≡ x
 word_new words i x h = get_or-set_same words i x 0 h
-
-pub set_own : (words : List ℕ) (i : ℕ) → slice_set words i (slice_index words i) ≡ words
-set_own [] i = refl
-set_own (x ∷ words) zero = refl
-set_own (x ∷ words) (suc i) = ap (λ (l : List ℕ). x ∷ l) (set_own words i)
 
 -- ---- sums
 

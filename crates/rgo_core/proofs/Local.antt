@@ -13,6 +13,7 @@ use Rattle.rgo_core_frames.specs.Quiet.{is_exit, quiet, unless_exit}
 use Rattle.rgo_core_frames.specs.Records.{Rec as FrameRec, after_op}
 use Rattle.rgo_core_frames.specs.Steps.{StepsTo, steps_after}
 use Rattle.rgo_core_frames.specs.WordFrames.{WordFrame, bare}
+use Rattle.rgo_core_frames.proofs.Quiets.{no_end, acts_alone}
 use Rattle.rgo_core_memory.proofs.Elsewhere.{ground_keeps}
 use Rattle.rgo_core_memory.proofs.Quiets.{quiet_keeps}
 use Rattle.rgo_core_memory.specs.Image.{Memory}
@@ -26,7 +27,6 @@ use Rattle.rgo_region_machine.specs.Instructions.{marked}
 use Rattle.rgo_region_machine.specs.Machine.{Instruct, region_step}
 use Rattle.rgo_region_machine.specs.Owed.{current}
 use Rattle.rgo_region_machine.specs.States.{Duty, Ended, Holder, Mark, RegionState}
-use Rattle.rgo_sound.specs.Leaving.{ActsAlone}
 use Rattle.rgo_sound.specs.Tally.{counts_plus, no_share}
 use Rattle.rgo_tac.specs.Frames.{Frame}
 use Rattle.rgo_core.specs.Core.{Here, Setup, layout}
@@ -56,12 +56,6 @@ quiet_is code g c e q = go (local code c) q
     go : (o : Option FrameRec) → option_and_then (unless_exit g) o ≡ Some e → (o ≡ Some e) × (is_exit g e.frames ≡ false)
     go None q = cc
     go (Some d) q = unless (is_exit g d.frames) d refl q
-
-no_end : (g : ℕ) (ds : List Duty) (ws : List WordFrame) → is_exit g ws ≡ false → end_by_frames g ds ws ≡ None
-no_end zero [] [] e = cc
-no_end zero [] (w ∷ ws) e = refl
-no_end zero (d ∷ ds) ws e = refl
-no_end (suc g) ds ws e = refl
 
 some_end : (g : ℕ) (ws : List WordFrame) → is_exit g ws ≡ true → end_by_frames g [] ws ≡ Some Exit
 some_end zero [] e = refl
@@ -113,10 +107,6 @@ is_local code c e loc none = frames c.frames refl (sym (ap (local_by code c) non
     frames (w ∷ ws) is q = instr w ws is (current code (bare w)) refl q
 
 -- ---- what it is in the machine
-
-pub alone_by : (g : ℕ) (ds : List Duty) → ActsAlone (event_by g ds) g
-alone_by g [] = refl
-alone_by g (d ∷ ds) = refl
 
 abbrev pub instructions : List Duty → ℕ
 instructions [] = 1
@@ -175,7 +165,7 @@ module _ {T : Setup} {g : ℕ} {c : Record} (x : Here T g c) (rest : c.side ≡ 
 
   local_image : (clock : ClockRec) → Image T.code (layout T) x.words (slice_set x.recs g (after clock)) p.state
   local_image clock =
-      image_stays x (event_of g c.frame) p.state p.steps (alone_by g ds) rest p.same.memory p.same.owners p.regions_are (after clock) refl refl p.fit
+      image_stays x (event_of g c.frame) p.state p.steps (acts_alone g ds) rest p.same.memory p.same.owners p.regions_are (after clock) refl refl p.fit
       (shown ds refl p.state p.steps p.same.memory p.same.owners p.regions_are p.same.global_pages)
 
   local_keeps : (l : List Duty) → Keeps c (after (clock_after l c.clock))

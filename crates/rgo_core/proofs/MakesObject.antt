@@ -14,7 +14,7 @@ use Rattle.rgo_region_machine.specs.Owed.{function_at, function_of}
 use Rattle.rgo_region_machine.specs.States.{top_names}
 use Rattle.rgo_region_machine.specs.declared.regions.Region.{Region}
 use Rattle.rgo_sound.proofs.Acting.{performed}
-use Rattle.rgo_sound.proofs.Places.{contains_here}
+use Rattle.rgo_sound.proofs.Places.{contains_here, head_is}
 use Rattle.rgo_sound.proofs.TypedSteps.{types}
 use Rattle.rgo_tac.specs.Code.{Tac, TacFn}
 use Rattle.rgo_tac.specs.Flow.{reads}
@@ -43,13 +43,10 @@ use Rattle.rgo_core.proofs.Standing.{at_instruction}
 
 -- ---- types of operands
 
-heads : {X : Type 0} (x y : X) (xs ys : List X) → x ∷ xs ≡ y ∷ ys → x ≡ y
-heads x y xs ys e = cc
-
 pub first_type : (f : TacFn) (p : ℕ) (from : List ℕ) (operands : List «Type») (ty : «Type») (tys : List «Type») → operands ≡ ty ∷ tys
     → HaveTypes f (p ∷ from) operands → HasType f p ty
 first_type f p from operands ty tys e h =
-    heads (slice_get f.variables p) (Some ty) (map (slice_get f.variables) from) (map Some tys) (h ∙ ap (map Some) e)
+    head_is (slice_get f.variables p) (Some ty) (map (slice_get f.variables) from) (map Some tys) (h ∙ ap (map Some) e)
 
 slice_takes : (code : Tac) (f : TacFn) (to : Option ℕ) (operands : List «Type») → DoFits code f to action.Slice operands → operands ≡ int ∷ []
 slice_takes code f None operands d = absurd d
@@ -67,10 +64,10 @@ type_alike code frame w alike (Some d) = ap (λ k. type_in (slice_get code.funct
 
 -- ---- what kinds of objects are
 
-struct_no_channel : (cells : List Value) (k : Chan) → StructObject cells ≡ channel k → ⊥
+pub struct_no_channel : (cells : List Value) (k : Chan) → StructObject cells ≡ channel k → ⊥
 struct_no_channel cells k e = cc
 
-slice_no_channel : (cells : List Value) (k : Chan) → SliceObject cells ≡ channel k → ⊥
+pub slice_no_channel : (cells : List Value) (k : Chan) → SliceObject cells ≡ channel k → ⊥
 slice_no_channel cells k e = cc
 
 module _ {T : Setup} {g : ℕ} {c : Record} (x : Here T g c) (to : Option ℕ) (act : Action) (from removes : List ℕ)

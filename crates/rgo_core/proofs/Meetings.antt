@@ -13,8 +13,8 @@ use Rattle.rgo_code.specs.Erasure.{erased_op}
 use Rattle.rgo_region_machine.specs.Duties.{attended}
 use Rattle.rgo_region_machine.specs.Machine.{Acknowledge, Instruct, MakeOffer}
 use Rattle.rgo_region_machine.specs.Owed.{current}
-use Rattle.rgo_region_machine.specs.States.{Holder, NoOffer, RegionState, Standing, Taken, frames_in}
-use Rattle.rgo_sound.proofs.Places.{contains_here, contains_there, length_set}
+use Rattle.rgo_region_machine.specs.States.{Holder, NoOffer, RegionState, Standing, frames_in}
+use Rattle.rgo_sound.proofs.Places.{contains_here, contains_there, length_set, head_is}
 use Rattle.rgo_sound.specs.Offers.{StandsAtSend}
 use Rattle.rgo_sound.specs.Tally.{no_share}
 use Rattle.rgo_core_channels.specs.After.{after_meeting}
@@ -50,6 +50,7 @@ use Rattle.rgo_core.proofs.Parts.{adds_of, image_with, memory_stays, shallow}
 use Rattle.rgo_core.proofs.Standing.{frames_here, moment, side_at}
 use Rattle.rgo_core.proofs.Links.{CountsOne, IsElsewhere, all_kept, as_much, at_send, links_beside, one_later}
 use Rattle.rgo_core.proofs.Lift.{moves_by}
+use Rattle.rgo_core.proofs.AtChannels.{same_operands, standing_or_taken}
 
 module _ {T : Setup} {g : ℕ} {c : Record} (x : Here T g c) where
   -- the control of its channel is stored, as memory shows it
@@ -113,18 +114,8 @@ offer_move T g c to sent at n a hold sizing shut idle =
 
 -- ---- a meeting
 
-newest : (f f' : Frame) (fs fs' : List Frame) → f ∷ fs ≡ f' ∷ fs' → f ≡ f'
-newest f f' fs fs' e = cc
-
-operands : (to to' : Option ℕ) (from from' removes removes' : List ℕ) → Do to Send from removes ≡ Do to' Send from' removes'
-    → from ≡ from'
-operands to to' from from' removes removes' e = cc
-
 second : (u u' v v' : Value) → ◌≡◌ {A = List Value} (u ∷ v ∷ []) (u' ∷ v' ∷ []) → v ≡ v'
 second u u' v v' e = cc
-
-no_two : (o p : ℕ) → Standing o ≡ Taken p → ⊥
-no_two o p e = cc
 
 module _ {T : Setup} {g : ℕ} {c : Record} (x : Here T g c) (s o : ℕ) (v : Value)
     (sends : Next T.code x.s s Send (value.Object o ∷ v ∷ [])) (stands : sends.holder.offer ≡ Standing o)
@@ -151,12 +142,12 @@ module _ {T : Setup} {g : ℕ} {c : Record} (x : Here T g c) (s o : ℕ) (v : Va
           let N = sends.before in
           let fs : N.frame ∷ N.callers ≡ q.frame ∷ q.callers
           = same_Some (N.frame ∷ N.callers) F.frames (sym N.at ∙ F.at) ∙ frames_are in
-          let f : N.frame ≡ q.frame = newest N.frame q.frame N.callers q.callers fs in
+          let f : N.frame ≡ q.frame = head_is N.frame q.frame N.callers q.callers fs in
           let i : N.instr ≡ q.instr = same_Some N.instr q.instr (sym N.cur ∙ (ap (current T.code) f ∙ q.cur)) in
           let op : Do N.to Send N.from N.removes ≡ Do q.to Send (q.channel ∷ q.sent ∷ []) q.removes
           = sym N.is ∙ (ap (λ (j : CodeInstr). j.op) i ∙ q.is) in
           let from : N.from ≡ q.channel ∷ q.sent ∷ []
-          = operands N.to q.to N.from (q.channel ∷ q.sent ∷ []) N.removes q.removes op in
+          = same_operands N.to q.to N.from (q.channel ∷ q.sent ∷ []) N.removes q.removes op in
           second (value.Object o) (value_at q.frame q.channel) v (value_at q.frame q.sent)
           (sym N.operands ∙ (ap (λ (w : Frame). values_of w N.from) f ∙ ap (values_of q.frame) from))
 
@@ -177,7 +168,7 @@ module _ {T : Setup} {g : ℕ} {c : Record} (x : Here T g c) (s o : ℕ) (v : Va
       by (inl shown) =
           in_words r.0.frame.frames (subst (λ fs. FramesShow T.code x.core.image.addresses fs r.0.frame.frames) frames_are
           shown.shown)
-      by (inr past) = absurd (no_two o past.offer (sym standing ∙ ap (λ (h : Holder). h.offer) past.holder_is))
+      by (inr past) = absurd (standing_or_taken o past.offer (sym standing ∙ ap (λ (h : Holder). h.offer) past.holder_is))
 
 module _ {T : Setup} {g : ℕ} {c : Record} (x : Here T g c) {to : Option ℕ} {at : ℕ} (a : Operates T c to Recv [] at)
     (n word : ℕ) (hold : c.side.hold ≡ Read at n 0 word) (sizing : c.side.size ≡ Sized at 0)

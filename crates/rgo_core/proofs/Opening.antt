@@ -17,7 +17,7 @@ use Rattle.rgo_core_frames.specs.Constants.{ConstantsFit}
 use Rattle.rgo_core_frames.specs.Opening.{main_record}
 use Rattle.rgo_core_frames.specs.Records.{Rec as FrameRec}
 use Rattle.rgo_core_frames.specs.WordFrames.{WordFrame, bare_all, word_called}
-use Rattle.rgo_core_memory.proofs.Opening.{opens as memory_opens}
+use Rattle.rgo_core_memory.proofs.Opening.{opens as memory_opens, zeros, many}
 use Rattle.rgo_core_memory.specs.Image.{code_of}
 use Rattle.rgo_core_memory.specs.Opening.{first_words, nowhere}
 use Rattle.rgo_core_memory.specs.Words.{all_words, count_at}
@@ -45,15 +45,6 @@ use Rattle.rgo_core_memory.specs.Records.{Measured}
 
 -- ---- words
 
-zeros : (n i : ℕ) → slice_index (replicate n 0) i ≡ 0
-zeros zero i = refl
-zeros (suc n) zero = refl
-zeros (suc n) (suc i) = zeros n i
-
-long : (n : ℕ) → length {A = ℕ} (replicate n 0) ≡ n
-long zero = refl
-long (suc n) = ap suc (long n)
-
 module _ (z : TableSizes) where
   abbrev plain : List ℕ
   plain = replicate (all_words z) 0
@@ -62,7 +53,7 @@ module _ (z : TableSizes) where
   clock_word = word_same (slice_set plain 16 1) (count_at z z.slots) 0 2 (λ e. omega arith) ∙ (word_same plain 16 0 1 (λ e. omega arith) ∙ zeros (all_words z) 0)
 
   pub made_word : slice_index (first_words z) 16 ≡ 1
-  made_word = word_same (slice_set plain 16 1) (count_at z z.slots) 16 2 (λ e. omega arith) ∙ word_new plain 16 1 (let l = long (all_words z) in omega arith)
+  made_word = word_same (slice_set plain 16 1) (count_at z z.slots) 16 2 (λ e. omega arith) ∙ word_new plain 16 1 (let l = many (all_words z) in omega arith)
 
 -- ---- `main`
 

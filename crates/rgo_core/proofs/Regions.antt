@@ -8,7 +8,7 @@ use native.Mathlib.Decide.{ℕ_discrete}
 use Rattle.rgo_region_machine.specs.Counts.{Counts, counts_of}
 use Rattle.rgo_region_machine.specs.Machine.{Attend}
 use Rattle.rgo_region_machine.specs.Regions.{RegionInfo, has_stakes, is_live, one_fewer, one_more}
-use Rattle.rgo_region_machine.specs.States.{Create, Duty, EndBase, Holder, Protect, RegionState, Remove, Share, Unprotect}
+use Rattle.rgo_region_machine.specs.States.{Create, Duty, Holder, RegionState}
 use Rattle.rgo_region_machine.specs.declared.regions.Region.{Region}
 use Rattle.rgo_region_machine.specs.declared.regions.Region.TheVariants.{Global as GlobalRegion, Numbered}
 use Rattle.rgo_sound.proofs.Places.{get_append_left}
@@ -17,10 +17,9 @@ use Rattle.rgo_sound.specs.Tally.{counts_plus, no_share, share_of_last}
 use Rattle.rgo_core_channels.specs.Records.{at_rest}
 use Rattle.rgo_core_frames.specs.Creations.{created_in}
 use Rattle.rgo_core_frames.specs.Fits.{Fits, IsPast, IsShown}
-use Rattle.rgo_core_frames.specs.Slots.{slot_duty}
 use Rattle.rgo_core_frames.specs.Stakes.{ChangesStakes, stake_ended, stake_shared}
 use Rattle.rgo_core_frames.specs.Steps.{HasStep}
-use Rattle.rgo_core_frames.proofs.Creating.{create_law}
+use Rattle.rgo_core_frames.proofs.Creating.{create_law, create_duty}
 use Rattle.rgo_core_frames.proofs.StakeDuties.{OwesFirst, end_law, owes_first, past_owes, share_law}
 use Rattle.rgo_core_memory.specs.Image.{Memory, Where}
 use Rattle.rgo_core_memory.specs.Parts.{Closing, Living}
@@ -42,9 +41,10 @@ use Rattle.rgo_core.proofs.Attending.{attends, else_stays}
 use Rattle.rgo_core.proofs.Chains.{as_before, look_image, remembered}
 use Rattle.rgo_core.proofs.Lift.{Reaches, access_law, few_records, told_law}
 use Rattle.rgo_core.proofs.Parts.{I, memory_stays, shallow}
-use Rattle.rgo_core.proofs.Stakes.{EndsStake, SharesStake, ends_stake, live_changed, share_is, share_kept, share_last, shares_stake}
+use Rattle.rgo_core.proofs.Stakes.{EndsStake, SharesStake, ends_stake, share_is, share_kept, share_last, shares_stake}
 use Rattle.rgo_core_memory.specs.Owed.{claimed_for}
 use Rattle.rgo_core_memory.proofs.Owing.{still_claimed}
+use Rattle.rgo_core_memory.proofs.Infos.{info_fewer}
 use Rattle.rgo_core.specs.Links.{Links, left_to_free}
 use Rattle.rgo_core.proofs.Links.{IsElsewhere, all_kept, as_much, claims_apart, has_duty, lengths_low, links_between, links_freeing}
 use Rattle.rgo_core.proofs.Standing.{frames_here, frame_at, memory_at}
@@ -60,14 +60,6 @@ counts_none k = λ i. record {
   objects = plus_zero k.objects k.objects refl i;
   goroutines = plus_zero k.goroutines k.goroutines refl i;
 }
-
-create_is : (slot_of : ℕ → ℕ) (d : Duty) (k : ℕ) → slot_duty slot_of d ≡ Create k → d ≡ Create k
-create_is slot_of (Create n) k e = e
-create_is slot_of (Share n) k e = cc
-create_is slot_of (Protect n) k e = cc
-create_is slot_of (Unprotect n) k e = cc
-create_is slot_of (Remove n) k e = cc
-create_is slot_of (EndBase r) k e = cc
 
 plus_one : (n : ℕ) → n < 18446744073709551615 → (n + 1) % 18446744073709551616 ≡ n + 1
 plus_one n l = omega (arith, l)
@@ -124,7 +116,7 @@ module _ {T : Setup} {g : ℕ} {c : Record} (x : Here T g c) (k p : ℕ) (ds : L
     first = owes_first (I x).places.slot f.h (Create k) ds (ap (λ (y : Holder). y.duties) (sym shown.holder) ∙ owed)
 
     owes : f.h.duties ≡ Create k ∷ first.others
-    owes = first.owed ∙ ap (λ y. y ∷ first.others) (create_is (I x).places.slot first.duty k first.is_duty)
+    owes = first.owed ∙ ap (λ y. y ∷ first.others) (create_duty (I x).places.slot first.duty k first.is_duty)
 
     lives : (o : ℕ) (r : Region) → slice_get x.s.owners o ≡ Some r → is_live t.regions r ≡ true → is_live x.s.regions r ≡ true
     lives o GlobalRegion e l = refl
@@ -214,7 +206,7 @@ module _ {T : Setup} {g : ℕ} {c : Record} (x : Here T g c) (d : Duty) (ds : Li
   shared = shares_stake x.s S.h S.duty S.others S.region S.after S.owed S.does
 
   share_lives : (o : ℕ) (r : Region) → slice_get x.s.owners o ≡ Some r → is_live S.step.state.regions r ≡ true → is_live x.s.regions r ≡ true
-  share_lives o r e l = live_changed x.s.regions S.region one_more S.live r
+  share_lives o r e l = info_fewer x.s.regions S.region one_more S.live r
       (ap (λ (rs : List RegionInfo). is_live rs r) (sym S.step.regions_are) ∙ l)
 
   share_memory : Memory (layout T) (slice_set x.words (count_at (layout T) p) (slice_index x.words (count_at (layout T) p) + 1))
@@ -281,7 +273,7 @@ module _ {T : Setup} {g : ℕ} {c : Record} (x : Here T g c) (d : Duty) (ds : Li
   n_is = count_is x E.region p E.slot_is E.live
 
   end_lives : (o : ℕ) (r : Region) → slice_get x.s.owners o ≡ Some r → is_live E.step.state.regions r ≡ true → is_live x.s.regions r ≡ true
-  end_lives o r e l = live_changed x.s.regions E.region one_fewer E.live r
+  end_lives o r e l = info_fewer x.s.regions E.region one_fewer E.live r
       (ap (λ (rs : List RegionInfo). is_live rs r) (sym E.step.regions_are) ∙ l)
 
   end_free : IsFreeOf c.memory ((I x).places.slot E.region)

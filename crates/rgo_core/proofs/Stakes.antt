@@ -1,24 +1,19 @@
 -- Duties that change the count of a region, by what they do to a holder.
-use Rattle.std.proofs.Common.{◌≡◌, ◌≢◌, inl, inr, ℕ, Bool, true, false, List, ◌∷◌, Option, Some, None, nat_eq, if◌then◌else◌, option_and_then, slice_get, refl, ap, sym, subst, ◌∙◌, arith}
+use Rattle.std.proofs.Common.{◌≡◌, ◌≢◌, inl, inr, ℕ, Bool, true, false, List, ◌∷◌, Option, Some, None, nat_eq, if◌then◌else◌, slice_get, refl, ap, subst, ◌∙◌, arith}
 use Rattle.std.proofs.lemmas.Bool.Decides.{nat_tests}
 use Rattle.std.proofs.lemmas.Option.{same_Some}
 use Rattle.std.specs.List.{list_any}
 use Rattle.rgo_code.specs.Code.{Code}
 use Rattle.rgo_region_machine.specs.Duties.{guards}
 use Rattle.rgo_region_machine.specs.Machine.{Attend}
-use Rattle.rgo_region_machine.specs.Regions.{RegionInfo, bound, has_stakes, is_live, removed_once, unbind, with_info, without}
+use Rattle.rgo_region_machine.specs.Regions.{RegionInfo, bound, removed_once, unbind, without}
 use Rattle.rgo_region_machine.specs.States.{Create, Duty, EndBase, Holder, Protect, RegionState, Remove, Share, Unprotect, top_names, with_top}
 use Rattle.rgo_region_machine.specs.declared.regions.Region.{Region}
 use Rattle.rgo_region_machine.specs.declared.regions.Region.TheVariants.{Global as GlobalRegion, Numbered}
-use Rattle.rgo_sound.proofs.Attends.{with_info_other}
-use Rattle.rgo_sound.proofs.Tests.{eq_of, split}
 use Rattle.rgo_sound.specs.Tally.{no_share, share_of, share_of_duty, share_of_first, share_of_holder, share_of_last, share_of_named, share_of_removal}
 use Rattle.rgo_core_frames.specs.Stakes.{ended, shared_in, stake_ended, stake_shared}
+use Rattle.rgo_core_frames.proofs.LocalActs.{chained}
 use Rattle.rgo_core_memory.specs.Events.{Leaves}
-
-chained : {A B : Type 0} (f : A → Option B) (o : Option A) (y : B) → option_and_then f o ≡ Some y → (x : A) × (o ≡ Some x) × (f x ≡ Some y)
-chained f None y e = cc
-chained f (Some x) y e = (x, refl, e)
 
 first_is : {A B : Type 0} (a b : A) (c d : B) → ◌≡◌ {A = Option (A × B)} (Some (a, c)) (Some (b, d)) → a ≡ b
 first_is {A} {B} a b c d e = ap (λ (p : A × B). p.0) (same_Some {A = A × B} (a, c) (b, d) e)
@@ -135,11 +130,3 @@ shares_stake s h (Share n) others j k owed e =
     record { name = n; owed = owed; named = x.1 ∙ ap Some y.0; fresh = y.1; share = refl }
 
 -- ---- what lives
-
--- a change of one region's stakes after which it lives only if it did
-pub live_changed : (regions : List RegionInfo) (j : ℕ) (change : RegionInfo → RegionInfo) → is_live regions (Numbered j) ≡ true
-    → (r : Region) → is_live (with_info regions j change) r ≡ true → is_live regions r ≡ true
-live_changed regions j change live GlobalRegion e = refl
-live_changed regions j change live (Numbered q) e = split (nat_eq j q)
-    (λ t. subst (λ n. is_live regions (Numbered n) ≡ true) (eq_of j q t) live)
-    (λ n. ap has_stakes (sym (with_info_other regions j q change n)) ∙ e)

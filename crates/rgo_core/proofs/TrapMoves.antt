@@ -14,7 +14,7 @@ use Rattle.rgo_machine.specs.declared.picks.End.{End}
 use Rattle.rgo_machine.specs.declared.picks.End.TheVariants as the_end
 use Rattle.rgo_machine.specs.declared.picks.Pick.TheVariants.{One}
 use Rattle.rgo_tac.specs.Flow.{reads}
-use Rattle.rgo_tac.specs.Frames.{Frame, value_at, values_of}
+use Rattle.rgo_tac.specs.Frames.{value_at, values_of}
 use Rattle.rgo_tac.specs.Steps.{type_of}
 use Rattle.rgo_code.specs.Code.{CodeInstr, CodeOp, Do}
 use Rattle.rgo_code.specs.Erasure.{erased, erased_fn, erased_op}
@@ -23,9 +23,9 @@ use Rattle.rgo_region_machine.specs.Duties.{may_go}
 use Rattle.rgo_region_machine.specs.Instructions.{marked}
 use Rattle.rgo_region_machine.specs.Machine.{Instruct, region_step}
 use Rattle.rgo_region_machine.specs.Owed.{current}
-use Rattle.rgo_region_machine.specs.States.{Ended, Holder, Mark, RegionState, Standing, Taken}
+use Rattle.rgo_region_machine.specs.States.{Ended, Holder, Mark, RegionState, Standing}
 use Rattle.rgo_sound.proofs.Acting.{performed, silent}
-use Rattle.rgo_sound.proofs.Places.{contains_here}
+use Rattle.rgo_sound.proofs.Places.{contains_here, head_is}
 use Rattle.rgo_sound.proofs.TypedSteps.{types}
 use Rattle.rgo_sound.specs.Tally.{no_share}
 use Rattle.rgo_core_channels.specs.After.{after_trap}
@@ -61,6 +61,7 @@ use Rattle.rgo_core.proofs.Parts.{adds_of, shallow}
 use Rattle.rgo_core.proofs.Standing.{at_instruction, frame_at, frames_here, image_clock, image_same, moment, side_at}
 use Rattle.rgo_core.proofs.Links.{CountsOne, all_kept, links_low, one_later}
 use Rattle.rgo_core.proofs.Counting.{instructed_counts}
+use Rattle.rgo_core.proofs.AtChannels.{same_operands, standing_or_taken}
 
 pub marked_is : (m : Option Mark) (end : End) → marked m (Some end) ≡ first_mark m (Ended end)
 marked_is None end = refl
@@ -164,9 +165,6 @@ close_trap_move T g c to at a saw =
 
 -- ---- a close of nil
 
-head_is : {X : Type 0} (u v : X) (xs ys : List X) → u ∷ xs ≡ v ∷ ys → u ≡ v
-head_is u v xs ys e = cc
-
 module _ {T : Setup} {g : ℕ} {c : Record} (x : Here T g c) {to : Option ℕ} {channel : ℕ} {removes : List ℕ}
     (a : IsAt T.code c (Do to Close (channel ∷ []) removes)) (nil : word_at a.w channel ≡ 0) where
   op_fits : OpFits (erased T.code) (erased_fn a.fn) (erased_op (Do to Close (channel ∷ []) removes))
@@ -222,16 +220,6 @@ close_nil_move T g c to channel removes a nil = by_ends T g c CloseNil a.instr.p
 
 -- ---- a send whose offer stands
 
-heads : (f f' : Frame) (fs fs' : List Frame) → f ∷ fs ≡ f' ∷ fs' → f ≡ f'
-heads f f' fs fs' e = cc
-
-froms : (to to' : Option ℕ) (from from' removes removes' : List ℕ) → Do to Send from removes ≡ Do to' Send from' removes'
-    → from ≡ from'
-froms to to' from from' removes removes' e = cc
-
-standing_or_taken : (o p : ℕ) → Standing o ≡ Taken p → ⊥
-standing_or_taken o p e = cc
-
 module _ {T : Setup} {g : ℕ} {c : Record} (x : Here T g c) (a : IsAtSend T c) (o : ℕ) (k : Chan) (on : On x.s o k) (shut : k.closed ≡ true)
     (v : Value) (n : Next T.code x.s g Send (value.Object o ∷ v ∷ [])) (stands : n.holder.offer ≡ Standing o) where
   offer_of : (h : Holder) → slice_get x.s.holders g ≡ Some h → h.offer ≡ Standing o
@@ -262,7 +250,7 @@ module _ {T : Setup} {g : ℕ} {c : Record} (x : Here T g c) (a : IsAtSend T c) 
   }
 
   frame_is : at_send.before.frame ≡ n.before.frame
-  frame_is = heads at_send.before.frame n.before.frame at_send.before.callers n.before.callers
+  frame_is = head_is at_send.before.frame n.before.frame at_send.before.callers n.before.callers
       (same_Some (at_send.before.frame ∷ at_send.before.callers) (n.before.frame ∷ n.before.callers)
       (sym at_send.before.at ∙ n.before.at))
 
@@ -271,7 +259,7 @@ module _ {T : Setup} {g : ℕ} {c : Record} (x : Here T g c) (a : IsAtSend T c) 
 
   operands_are : values_of at_send.before.frame a.from ≡ value.Object o ∷ v ∷ []
   operands_are =
-      (λ j. values_of (frame_is j) (froms a.to n.before.to a.from n.before.from a.removes n.before.removes
+      (λ j. values_of (frame_is j) (same_operands a.to n.before.to a.from n.before.from a.removes n.before.removes
       (sym a.is ∙ ap (λ (i : CodeInstr). i.op) (sym instr_is) ∙ n.before.is) j)) ∙ n.before.operands
 
   stranded_ends : ChannelTraps (moment x) g SendClosed n.before.instr.place

@@ -30,7 +30,7 @@ use Rattle.rgo_core_channels.proofs.Lists.{length_more, old_or_new}
 use Rattle.rgo_core_channels.proofs.Live.{live_at, operand_is_live, taken_is_live}
 use Rattle.rgo_core_channels.proofs.Steps.{Same, held, next_same, one_place, place_in, rest_knows}
 
-nothing_there : {X : Type 0} (o : ℕ) (x : X) → slice_get [] o ≡ Some x → ⊥
+pub nothing_there : {X : Type 0} (o : ℕ) (x : X) → slice_get [] o ≡ Some x → ⊥
 nothing_there o x e = let z : None ≡ Some x = e in cc z
 
 -- only goroutine g takes part

@@ -1,5 +1,5 @@
 -- The opening is an image.
-use Rattle.std.proofs.Common.{◌≡◌, ℕ, zero, suc, [], ◌∷◌, Some, None, slice_get, refl, ap, sym, subst, ◌∙◌}
+use Rattle.std.proofs.Common.{◌≡◌, ℕ, zero, suc, [], ◌∷◌, Some, slice_get, refl, ap, sym, subst, ◌∙◌}
 use Rattle.std.proofs.lemmas.Option.{same_Some}
 use Rattle.rgo_region_machine.specs.Machine.{region_start}
 use Rattle.rgo_region_machine.specs.States.{Holder, NoOffer}
@@ -7,9 +7,7 @@ use Rattle.rgo_core_channels.specs.Channels.{Chan, On, channel}
 use Rattle.rgo_core_channels.specs.Opening.{Opens}
 use Rattle.rgo_core_channels.specs.Records.{HoldsAt, InCell, KnowsOf, Nothing, Nowhere, Offering, Rec, Shut, Sized, Stranded, Unknown, at_rest}
 use Rattle.rgo_core_channels.proofs.Steps.{rest_knows}
-
-nothing_there : {X : Type 0} (o : ℕ) (x : X) → slice_get [] o ≡ Some x → ⊥
-nothing_there o x e = let z : None ≡ Some x = e in cc z
+use Rattle.rgo_core_channels.proofs.Elsewhere.{nothing_there}
 
 -- the only record of the opening
 pub only : (j : ℕ) (y : Rec) → slice_get (at_rest ∷ []) j ≡ Some y → at_rest ≡ y

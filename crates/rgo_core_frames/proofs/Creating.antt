@@ -1,7 +1,7 @@
 -- A new region at a free slot: the records fit after it.
 use Rattle.std.proofs.Common.{◌≡◌, ◌≢◌, ◌⊎◌, ℕ, ◌<◌, ◌||◌, Bool, true, false, List, [], ◌∷◌, ◌++◌, map, length, Option, Some, None, refl, sym, ap, ◌∙◌, subst, inl, inr}
 use Rattle.std.proofs.Common.{slice_get, slice_set, nat_eq, arith, if◌then◌else◌, option_and_then, true≢false}
-use Rattle.std.proofs.lemmas.Option.{same_Some, slice_get_within}
+use Rattle.std.proofs.lemmas.Option.{same_Some}
 use Rattle.std.specs.List.{list_any}
 use Rattle.rgo_tac.specs.Frames.{Frame}
 use Rattle.rgo_code.specs.Code.{Code, CodeOp}
@@ -27,6 +27,7 @@ use Rattle.rgo_core_frames.proofs.Leaving.{has_step}
 use Rattle.rgo_core_frames.proofs.SlotLemmas.{ends_slot, top_slot, unbind_slot, with_top_slot}
 use Rattle.rgo_core_frames.proofs.StakeDuties.{owes_first, past_owes}
 use Rattle.rgo_sound.specs.Owners.{OwnersMade}
+use Rattle.rgo_sound.proofs.OwnersMade.{live_made}
 
 later : (a b : Bool) → b ≡ true → (if a then true else b) ≡ true
 later true b e = refl
@@ -200,14 +201,6 @@ new_or_old regions info r e = go (slice_get (regions ++ info ∷ []) r) refl e
     go None q l = absurd (true≢false (sym l))
     go (Some x) q l = by x l (get_snoc regions info r x q)
 
--- a live region was made
-live_made : (regions : List RegionInfo) (r : ℕ) → is_live regions (Numbered r) ≡ true → r < length regions
-live_made regions r e = go (slice_get regions r) refl e
-  where
-    go : (o : Option RegionInfo) → slice_get regions r ≡ o → has_stakes o ≡ true → r < length regions
-    go None q l = absurd (true≢false (sym l))
-    go (Some x) q l = slice_get_within regions r x q
-
 module _ (code : Code) (page_words : ℕ) (slot_of : ℕ → ℕ) (addresses : List ℕ) (s : RegionState) (good : AllGood code s)
     (made : OwnersMade s) (records : List Rec) (all : AllFit code slot_of addresses s records) (g : ℕ) (c : Rec)
     (is_c : slice_get records g ≡ Some c) (p : ℕ) (fresh : (r : ℕ) → is_live s.regions (Numbered r) ≡ true → slot_of r ≢ p)
@@ -350,7 +343,7 @@ module _ (code : Code) (page_words : ℕ) (slot_of : ℕ → ℕ) (addresses : L
         addresses_differ = λ o q a x y. all.addresses_differ o q a (stood o x) (stood q y);
       }) (record { memory = refl; printed = refl; owners = refl; global_pages = refl }) refl refl refl
 
-create_duty : (slot_of : ℕ → ℕ) (x : Duty) (k : ℕ) → slot_duty slot_of x ≡ Create k → x ≡ Create k
+pub create_duty : (slot_of : ℕ → ℕ) (x : Duty) (k : ℕ) → slot_duty slot_of x ≡ Create k → x ≡ Create k
 create_duty slot_of (Create n) k e = e
 create_duty slot_of (Share n) k e = cc
 create_duty slot_of (Protect n) k e = cc

@@ -6,7 +6,7 @@ use Rattle.rgo_memory.specs.Memory.{Memory}
 use Rattle.rgo_machine.specs.declared.picks.Pick.TheVariants.{One}
 use Rattle.rgo_tac.specs.Frames.{Frame}
 use Rattle.rgo_tac.specs.Tac.{TacState}
-use Rattle.rgo_code.specs.Code.{Branch, Call, Code, CodeInstr, CodeOp, Do, Go, Jump, Print, Return}
+use Rattle.rgo_code.specs.Code.{Code, CodeInstr}
 use Rattle.rgo_code.specs.Erasure.{erased, erased_instr, erased_op}
 use Rattle.rgo_region_machine.specs.declared.regions.Region.{Region}
 use Rattle.rgo_region_machine.specs.Duties.{may_go}
@@ -26,17 +26,7 @@ use Rattle.rgo_core_frames.specs.WordFrames.{WordFrame, bare, bare_all}
 use Rattle.rgo_core_frames.proofs.Bookkeeping.{after_slot}
 use Rattle.rgo_core_frames.proofs.Keeping.{Changes}
 use Rattle.rgo_sound.proofs.Progress.{one_step}
-
--- an instruction leaves the offer
-pub offer_after : (code : Code) (h : Holder) (frame : Frame) (callers : List Frame) (op : CodeOp) (next : List Frame)
-    → (holder_after code h frame callers op next).offer ≡ h.offer
-offer_after code h frame callers (Do to a from removes) next = refl
-offer_after code h frame callers (Call to n from passes protects removes) next = refl
-offer_after code h frame callers (Go n from passes removes) next = refl
-offer_after code h frame callers (Print pieces from removes) next = refl
-offer_after code h frame callers (Jump target removes) next = refl
-offer_after code h frame callers (Branch test target removes other otherwise) next = refl
-offer_after code h frame callers (Return value) next = refl
+use Rattle.rgo_sound.proofs.Offers.{after_offer}
 
 -- goroutine g is before this instruction, owes nothing, and touches what is live
 pub record IsReady
@@ -124,7 +114,7 @@ module _ {code : Code} {s : RegionState} {g : ℕ} {h : Holder} {frame : Frame} 
 
       pub shown_after : IsShown code slot_of addresses' a.frames next_holder (after_op code c.holder w ws instr.op next)
       shown_after = record {
-        calm = ap may_go (offer_after code given.0 frame callers instr.op a.frames
+        calm = ap may_go (after_offer code given.0 frame callers instr.op a.frames
             ∙ ap (λ (k : Holder). k.offer) same.same) ∙ i.free;
         shown = shows;
         holder = ap (λ (k : Holder). holder_after code k (bare w) (bare_all ws) instr.op (bare_all next))

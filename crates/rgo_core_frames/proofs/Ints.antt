@@ -1,5 +1,5 @@
 -- Each step of the three-address machine leaves ints that fit in words.
-use Rattle.std.proofs.Common.{◌≡◌, ℕ, zero, suc, ◌+◌, Bool, true, false, List, [], ◌∷◌, ◌++◌, map, drop, get_or, length, bytes_eq, codes, replicate, Option, Some, None, Result, Ok, Err, refl, sym, ap, subst, ℤ, pos, negsuc, nat_eq, nat_lt, if◌then◌else◌, arith, slice_get, slice_set, option_map, option_and_then}
+use Rattle.std.proofs.Common.{◌≡◌, ℕ, zero, suc, Bool, true, false, List, [], ◌∷◌, ◌++◌, map, drop, get_or, length, bytes_eq, codes, replicate, Option, Some, None, Result, Ok, Err, refl, sym, ap, subst, ℤ, pos, negsuc, nat_eq, nat_lt, if◌then◌else◌, arith, slice_get, slice_set, option_map, option_and_then}
 use Rattle.std.proofs.lemmas.List.{length-replicate}
 use Rattle.rgo_ast.specs.declared.ops.BinaryOp.{BinaryOp}
 use Rattle.rgo_ast.specs.declared.ops.BinaryOp.TheVariants as binary

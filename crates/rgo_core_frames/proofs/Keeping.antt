@@ -1,7 +1,7 @@
 -- Records fit again after a step of one goroutine.
 use Rattle.std.proofs.Common.{◌≡◌, ◌⊎◌, ℕ, ◌+◌, ◌<◌, ◌≤◌, true, false, List, [], ◌∷◌, length, Option, Some, None, refl, sym, ap, ◌∙◌, subst, inl, inr}
 use Rattle.std.proofs.Common.{slice_get, slice_set, nat_eq, nat_lt, arith}
-use Rattle.std.proofs.lemmas.Option.{same_Some, slice_get_within}
+use Rattle.std.proofs.lemmas.Option.{same_Some}
 use Rattle.std.specs.List.{list_any}
 use Rattle.rgo_memory.specs.Memory.{Memory}
 use Rattle.rgo_tac.specs.Frames.{Frame}
@@ -11,7 +11,7 @@ use Rattle.rgo_region_machine.specs.declared.regions.Region.TheVariants.{Numbere
 use Rattle.rgo_region_machine.specs.Regions.{RegionInfo, has_stakes, is_live, same_region}
 use Rattle.rgo_region_machine.specs.States.{Environment, Holder, RegionState, frames_of}
 use Rattle.rgo_sound.proofs.Attends.{total_at, staked_live}
-use Rattle.rgo_sound.proofs.Places.{get_set_other, get_set_same, get_some, length_set}
+use Rattle.rgo_sound.proofs.Places.{get_set_other, get_set_same, get_some, length_set, get_front}
 use Rattle.rgo_sound.proofs.Tests.{eq_of, split}
 use Rattle.rgo_sound.specs.Core.{AreStaked, RegionsStaked}
 use Rattle.rgo_sound.specs.Invariant.{Fine, GoodHolder}
@@ -24,7 +24,7 @@ use Rattle.rgo_core_frames.proofs.WordLemmas.{shows_more}
 use Rattle.rgo_sound.specs.Values.{call_target}
 use Rattle.rgo_tac.specs.Frames.{value_at}
 use Rattle.std.proofs.Common.{◌++◌, append-nil, length-append}
-use Rattle.rgo_sound.proofs.Places.{get_append_last, get_append_left, get_snoc}
+use Rattle.rgo_sound.proofs.Places.{get_append_last, get_snoc}
 use Rattle.rgo_core_frames.proofs.SlotLemmas.{ProtectionsLive}
 
 -- ---- more objects
@@ -90,9 +90,6 @@ pub record Changes
     : Type 0 where
   pub goroutines : t.plain.goroutines ≡ slice_set s.plain.goroutines g frames ++ started
   pub holders : t.holders ≡ slice_set s.holders g h ++ children
-
-get_front : {X : Type 0} (xs ys : List X) (i : ℕ) (x : X) → slice_get xs i ≡ Some x → slice_get (xs ++ ys) i ≡ Some x
-get_front xs ys i x e = get_append_left xs ys i (slice_get_within xs i x e) ∙ e
 
 module _ (code : Code) (slot_of : ℕ → ℕ) (addresses more : List ℕ) (s t : RegionState) (g : ℕ) (frames : List Frame) (h : Holder)
     (frames' : List Frame) (h' : Holder) (started : List (List Frame)) (children : List Holder)

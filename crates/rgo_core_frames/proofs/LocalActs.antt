@@ -1,8 +1,8 @@
 -- A local instruction on frames, and on frames of words.
 use Rattle.std.specs.Int.{from_bool}
 use Rattle.std.proofs.Common.{◌≡◌, ℕ, ◌+◌, Bool, true, false, List, [], ◌∷◌, Option, Some, None, refl, sym, ap, ◌∙◌, subst, option_map}
-use Rattle.std.proofs.Common.{Contains, is_some, true≢false, if◌then◌else◌, option_and_then}
-use Rattle.std.proofs.lemmas.Option.{same_Some, slice_get-map}
+use Rattle.std.proofs.Common.{Contains, if◌then◌else◌, option_and_then}
+use Rattle.std.proofs.lemmas.Option.{same_Some}
 use Rattle.rgo_typed.specs.declared.actions.Action.{Action}
 use Rattle.rgo_typed.specs.declared.actions.Action.TheVariants as action
 use Rattle.rgo_typed.specs.declared.types.Type.{«Type»}
@@ -11,14 +11,13 @@ use Rattle.rgo_memory.specs.declared.values.Value.{Value}
 use Rattle.rgo_memory.specs.declared.values.Value.TheVariants as value
 use Rattle.rgo_memory.specs.Memory.{Memory}
 use Rattle.rgo_machine.specs.Actions.{is_true}
-use Rattle.rgo_tac.specs.Code.{TacFn}
 use Rattle.rgo_tac.specs.Flow.{reads, writes}
 use Rattle.rgo_tac.specs.Frames.{Frame, called, going, moved_to, value_at, values_of}
 use Rattle.rgo_tac.specs.Steps.{resumed, type_of}
 use Rattle.rgo_code.specs.Checked.{IsChecked}
 use Rattle.rgo_code.specs.Code.{Branch, Call, Code, CodeFn, CodeInstr, CodeOp, Do, Go, Jump, Print, Return}
 use Rattle.rgo_code.specs.Erasure.{erased, erased_fn, erased_op}
-use Rattle.rgo_code.specs.Exists.{OpExists, declared_by}
+use Rattle.rgo_code.specs.Exists.{declared_by}
 use Rattle.rgo_code.specs.Names.{edges}
 use Rattle.rgo_code.specs.Types.{DoFits, OpFits}
 use Rattle.rgo_code.specs.declared.rules.Line.TheVariants as line
@@ -31,7 +30,7 @@ use Rattle.rgo_sound.proofs.Ruled.{erased_found}
 use Rattle.rgo_sound.proofs.TypedSteps.{here, types, var_kind, vars_kinds}
 use Rattle.rgo_sound.specs.Invariant.{HasInstr}
 use Rattle.rgo_sound.specs.Types.{CalledFrom, FramesHaveKinds, HaveKinds, IsCallOf}
-use Rattle.rgo_sound.specs.Values.{call_target}
+use Rattle.rgo_sound.proofs.Leads.{no_target}
 use Rattle.rgo_core_frames.specs.Fits.{IsOfLive, ObjectsDiffer}
 use Rattle.rgo_core_frames.specs.Local.{local_op, word_branch, word_returned}
 use Rattle.rgo_core_frames.specs.Constants.{ConstantsFit}
@@ -254,29 +253,6 @@ module _ (code : Code) (checked : IsChecked code) (constants : ConstantsFit code
 
   -- ---- a return
 
-  -- a function that returns without a value has no result, and so its call no target
-  no_target : (cfn : CodeFn) (op : CodeOp) → instr.op ≡ Return None → IsCallOf code op fn
-      → OpExists (erased code) (erased_fn cfn) (erased_op op) → call_target op ≡ None
-  no_target cfn (Call to n from passes protects removes) is calls exists =
-      go to (exists.target ∙ ap is_some (ap (λ (t : TacFn). t.result_type) (sym same) ∙ no_result))
-    where
-      no_result : (erased_fn fn).result_type ≡ None
-      no_result = op_fits (Return None) is
-
-      same : erased_fn fn ≡ exists.callee
-      same = same_Some (erased_fn fn) exists.callee (sym (slice_get-map erased_fn code.functions n
-          ∙ ap (option_map erased_fn) calls) ∙ exists.declared)
-
-      go : (t : Option ℕ) → is_some t ≡ false → t ≡ None
-      go None e = refl
-      go (Some d) e = absurd (true≢false e)
-  no_target cfn (Do to action from removes) is calls exists = absurd calls
-  no_target cfn (Go n from passes removes) is calls exists = absurd calls
-  no_target cfn (Print pieces from removes) is calls exists = absurd calls
-  no_target cfn (Jump j removes) is calls exists = absurd calls
-  no_target cfn (Branch v j removes k others) is calls exists = absurd calls
-  no_target cfn (Return value) is calls exists = absurd calls
-
   returns_alike : (value : Option ℕ) → instr.op ≡ Return value
       → ActsAlike code addresses m frame callers instr (word_returned code (option_map (word_at w) value) ws)
   returns_alike value is =
@@ -289,7 +265,7 @@ module _ (code : Code) (checked : IsChecked code) (constants : ConstantsFit code
           → NewestShows code addresses (resumed (erased code) caller (option_map (value_at frame) value))
           (word_resumed_at u (current code (bare u)) (option_map (word_at w) value))
       continues None is caller u c cfn is_cfn call cur_c calls =
-          resumes addresses code caller u c call cur_c (no_target cfn call.op is calls
+          resumes addresses code caller u c call cur_c (no_target code fn cfn call.op (op_fits (Return None) is) calls
           (checked rule.Exists (line.Instr caller.function caller.next) cfn call is_cfn
           (here code checked caller cfn call is_cfn cur_c)).exists)
       continues (Some v) is caller u c cfn is_cfn call cur_c calls =

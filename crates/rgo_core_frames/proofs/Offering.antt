@@ -43,13 +43,14 @@ use Rattle.rgo_core_frames.specs.Words.{Shows}
 use Rattle.rgo_core_frames.proofs.ActionSteps.{ready_now}
 use Rattle.rgo_core_frames.proofs.Before.{no_offer}
 use Rattle.rgo_core_frames.proofs.Bookkeeping.{after_slot, current_alike}
-use Rattle.rgo_core_frames.proofs.Instructing.{IsReady, offer_after, ready_test}
+use Rattle.rgo_core_frames.proofs.Instructing.{IsReady, ready_test}
 use Rattle.rgo_core_frames.proofs.Keeping.{Changes, all_fit_kept}
 use Rattle.rgo_sound.proofs.Acting.{set_same}
 use Rattle.rgo_sound.specs.Running.{IsRunning}
 use Rattle.rgo_core_frames.proofs.Showing.{goes_on}
 use Rattle.rgo_core_frames.proofs.Standing.{touched_live}
 use Rattle.rgo_sound.proofs.Progress.{live_of}
+use Rattle.rgo_sound.proofs.Offers.{after_offer}
 use Rattle.rgo_core_frames.proofs.WordLemmas.{other_numbers, same_numbers}
 use Rattle.rgo_core_frames.specs.States.{AtInstruction, Here}
 use Rattle.rgo_core_frames.proofs.Leaving.{has_step, has_still_step, mark_stays, print_stays}
@@ -374,7 +375,7 @@ module _ (code : Code) (page_words : ℕ) (checked : IsChecked code) (slot_of : 
 
   receiver_stands : IsShown code slot_of addresses (receiver_frame ∷ b.callers) receiver_after got
   receiver_stands = record {
-    calm = ap may_go (offer_after code b.h b.frame b.callers instr.op (receiver_frame ∷ b.callers)) ∙ b.free;
+    calm = ap may_go (after_offer code b.h b.frame b.callers instr.op (receiver_frame ∷ b.callers)) ∙ b.free;
     shown = receiver_shows;
     holder =
         ap (λ (h : Holder). holder_after code h (bare w) (bare_all ws) instr.op (bare_all (word_going w to word ∷ ws))) b.holder

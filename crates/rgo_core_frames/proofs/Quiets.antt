@@ -4,6 +4,7 @@ use Rattle.std.proofs.Common.{slice_set, option_and_then, option_map, unwrap_or,
 use Rattle.std.proofs.lemmas.Option.{same_Some}
 use Rattle.rgo_code.specs.Code.{Code}
 use Rattle.rgo_machine.specs.Runs.{run}
+use Rattle.rgo_machine.proofs.Items.{set_twice}
 use Rattle.rgo_region_machine.specs.Machine.{region_step}
 use Rattle.rgo_region_machine.specs.States.{RegionState, Duty}
 use Rattle.rgo_sound.proofs.Places.{get_set_same}
@@ -24,11 +25,6 @@ use Rattle.rgo_core_frames.proofs.Leaving.{mark_stays}
 use Rattle.rgo_region_machine.specs.Instructions.{marked}
 use Rattle.rgo_core_frames.proofs.Sound.{next_sound}
 
-set_again : {X : Type 0} (xs : List X) (i : ℕ) (x y : X) → slice_set (slice_set xs i x) i y ≡ slice_set xs i y
-set_again [] i x y = refl
-set_again (z ∷ xs) zero x y = refl
-set_again (z ∷ xs) (suc i) x y = ap (λ zs. z ∷ zs) (set_again xs i x y)
-
 unless : (g : ℕ) (d e : Rec) → unless_exit g d ≡ Some e → (d ≡ e) × (is_exit g d.frames ≡ false)
 unless g d e q = go (is_exit g d.frames) refl
   where
@@ -44,7 +40,7 @@ quiet_is code g c x e =
     (y.1 ∙ ap Some z.0, sym (ap (λ (r : Rec). is_exit g r.frames) z.0) ∙ z.1)
 
 -- so it marks no end
-no_end : (g : ℕ) (ds : List Duty) (ws : List WordFrame) → is_exit g ws ≡ false → end_by_frames g ds ws ≡ None
+pub no_end : (g : ℕ) (ds : List Duty) (ws : List WordFrame) → is_exit g ws ≡ false → end_by_frames g ds ws ≡ None
 no_end zero [] [] e = absurd (true≢false e)
 no_end zero [] (w ∷ ws) e = refl
 no_end zero (d ∷ ds) ws e = refl
@@ -69,7 +65,7 @@ only_takes : (g j : ℕ) (ds : List Duty) → (j ≡ g → ⊥) → TakesPart (e
 only_takes g j [] n e = n e
 only_takes g j (d ∷ ds) n e = n e
 
-acts_alone : (g : ℕ) (ds : List Duty) → ActsAlone (event_by g ds) g
+pub acts_alone : (g : ℕ) (ds : List Duty) → ActsAlone (event_by g ds) g
 acts_alone g [] = refl
 acts_alone g (d ∷ ds) = refl
 
@@ -103,7 +99,7 @@ one_more x q y d e no_exit k more =
       runs = ap (option_and_then (λ (u : RegionState). run (region_step x.code x.page_words) u (quiet_events x.code x.g q y))) k.steps
           ∙ more.runs;
       sound = more.sound;
-      fit = subst (AllFit x.code x.slot_of x.addresses more.state) (set_again x.records x.g y d) more.fit;
+      fit = subst (AllFit x.code x.slot_of x.addresses more.state) (set_twice x.records x.g y d) more.fit;
       same = both_stay x.s k.state more.state k.same more.same;
       only = only_both x.g x.s k.state more.state (only_one x.g x.c.holder.duties x.s k.state k.rest) more.only;
       regions_are = more.regions_are ∙ k.regions_are;

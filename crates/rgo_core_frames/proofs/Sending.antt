@@ -1,7 +1,7 @@
 -- What a sender's record sends.
 use Rattle.std.proofs.Common.{◌≡◌, ℕ, List, [], ◌∷◌, Option, sym, ap, ◌∙◌, subst, Contains}
 use Rattle.std.proofs.lemmas.Option.{same_Some}
-use Rattle.rgo_sound.proofs.Places.{contains_here, contains_there}
+use Rattle.rgo_sound.proofs.Places.{contains_here, contains_there, head_is}
 use Rattle.rgo_typed.specs.declared.actions.Action.TheVariants.{Send}
 use Rattle.rgo_code.specs.Code.{CodeInstr, CodeOp, Do}
 use Rattle.rgo_code.specs.Erasure.{erased_op}
@@ -17,9 +17,6 @@ same_sent : (to to' : Option ℕ) (channel sent channel' sent' : ℕ) (removes r
     → Do to Send (channel ∷ sent ∷ []) removes ≡ Do to' Send (channel' ∷ sent' ∷ []) removes' → sent ≡ sent'
 same_sent to to' channel sent channel' sent' removes removes' e = cc
 
-newest_same : (f g : Frame) (fs gs : List Frame) → f ∷ fs ≡ g ∷ gs → f ≡ g
-newest_same f g fs gs e = cc
-
 pub sent_law : SentLaw
 sent_law x to channel sent removes o is y =
     subst (λ v. Shows x.here.addresses (value_at y.frame v) (word_at x.w sent)) same
@@ -28,7 +25,7 @@ sent_law x to channel sent removes o is y =
     (contains_there channel (sent ∷ []) sent (contains_here sent [])))))
   where
     frame_is : x.before.frame ≡ y.frame
-    frame_is = newest_same x.before.frame y.frame x.before.callers y.callers (sym (ap frames_in x.before.at) ∙ y.at)
+    frame_is = head_is x.before.frame y.frame x.before.callers y.callers (sym (ap frames_in x.before.at) ∙ y.at)
 
     instr_is : x.instr ≡ y.instr
     instr_is = same_Some x.instr y.instr (sym x.before.cur ∙ ap (current x.here.code) frame_is ∙ y.cur)

@@ -1,5 +1,5 @@
 -- Words that show what operators give for values.
-use Rattle.std.proofs.Common.{◌≡◌, ◌≢◌, ℕ, zero, suc, ◌/◌, ◌%◌, ◌^◌, ◌<◌, ◌≤◌, ◌==◌, ◌⊎◌, inl, inr, Bool, true, false, not, List, [], ◌∷◌, ◌++◌}
+use Rattle.std.proofs.Common.{◌≡◌, ◌≢◌, ℕ, zero, suc, ◌/◌, ◌%◌, ◌^◌, ◌<◌, ◌≤◌, ◌==◌, ◌⊎◌, inl, inr, Bool, true, false, not, List, ◌++◌}
 use Rattle.std.proofs.Common.{Some, Result, Ok, Err, refl, sym, ap, ◌∙◌, subst, arith, slice_get, ℤ, pos, negsuc, neg_ℤ}
 use Rattle.std.proofs.Common.{if◌then◌else◌, int_div, int_rem, FitsSigned, w64, true≢false, mod-lt, pow_pos, div-le_self}
 use Rattle.std.proofs.lemmas.Bool.Decides.{nat_tests, Decides-int_eq}
@@ -22,21 +22,17 @@ use Rattle.rgo_memory.specs.declared.values.Value.{Value}
 use Rattle.rgo_memory.specs.declared.values.Value.TheVariants as value
 use Rattle.rgo_memory.specs.Operators.{on_ints, binary_of, divided, same_bool}
 use Rattle.rgo_sound.specs.Types.{HasKind}
+use Rattle.rgo_sound.proofs.Places.{get_front}
 use Rattle.rgo_core_frames.specs.Operators.{binary_on_words, word_in, word_of}
 use Rattle.rgo_core_frames.specs.Words.{Shows}
 
 -- ---- more objects
 
-append_get : {X : Type 0} (xs ys : List X) (i : ℕ) (x : X) → slice_get xs i ≡ Some x → slice_get (xs ++ ys) i ≡ Some x
-append_get [] ys i x e = cc
-append_get (y ∷ xs) ys zero x e = e
-append_get (y ∷ xs) ys (suc i) x e = append_get xs ys i x e
-
 pub shows_more : (addresses more : List ℕ) (v : Value) (w : ℕ) → Shows addresses v w → Shows (addresses ++ more) v w
 shows_more addresses more (value.Int z) w h = h
 shows_more addresses more (value.Bool b) w h = h
 shows_more addresses more value.Nil w h = h
-shows_more addresses more (value.Object o) w (a, e, q) = (a, append_get addresses more o a e, q)
+shows_more addresses more (value.Object o) w (a, e, q) = (a, get_front addresses more o a e, q)
 
 -- ---- ints
 

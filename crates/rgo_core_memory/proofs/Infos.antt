@@ -1,6 +1,5 @@
 -- One region changes: what lives, what counts say, and how many pages were taken.
-use Rattle.std.proofs.Common.{◌≡◌, ◌≢◌, ℕ, zero, suc, ◌<◌, true, List, [], ◌∷◌, Some, slice_get, option_map, sum_by, refl, ap, sym, subst, ◌∙◌, arith}
-use Rattle.std.proofs.lemmas.List.Sums.{sum_by-cons}
+use Rattle.std.proofs.Common.{◌≡◌, ◌≢◌, ℕ, suc, ◌<◌, true, List, Some, slice_get, option_map, refl, ap, sym, subst, ◌∙◌, arith}
 use mathlib.Core.Logic.{dite}
 use native.Mathlib.Decide.{ℕ_discrete}
 use Rattle.rgo_memory.specs.Memory.{Object}
@@ -62,17 +61,3 @@ counts_change z counts more top recs regions slot uses k change info c there liv
           (λ n. c.lives j other (sym (info_else regions k j change n) ∙ e) q);
       closes = c.closes;
     }
-
-pub pages_kept : (regions : List RegionInfo) (k : ℕ) (change : RegionInfo → RegionInfo) → ((i : RegionInfo) → (change i).pages ≡ i.pages)
-    → sum_by (λ (i : RegionInfo). i.pages) (with_info regions k change) ≡ sum_by (λ (i : RegionInfo). i.pages) regions
-pages_kept [] k change h = refl
-pages_kept (i ∷ is) zero change h =
-    let a = sum_by-cons (λ (i : RegionInfo). i.pages) (change i) is in
-    let b = sum_by-cons (λ (i : RegionInfo). i.pages) i is in
-    let c = h i in
-    omega (arith, a, b, c)
-pages_kept (i ∷ is) (suc k) change h =
-    let a = sum_by-cons (λ (i : RegionInfo). i.pages) i (with_info is k change) in
-    let b = sum_by-cons (λ (i : RegionInfo). i.pages) i is in
-    let c = pages_kept is k change h in
-    omega (arith, a, b, c)

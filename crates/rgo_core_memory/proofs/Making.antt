@@ -23,6 +23,7 @@ use Rattle.rgo_core_memory.proofs.Refilling.{refilled}
 use Rattle.rgo_core_memory.proofs.Rows.{set_here, snoc_at, below}
 use Rattle.rgo_core_memory.proofs.Slots.{live_info, uses_live}
 use Rattle.rgo_core_memory.proofs.Zeroing.{word_stored}
+use Rattle.rgo_machine.proofs.Items.{set_twice}
 
 -- an own page that is filled further, and the others
 raised_within : (s n : ℕ) (fs : List Fill) (f : Fill) → Within f (raised s n fs)
@@ -307,11 +308,6 @@ module _ (z : TableSizes) (words : List ℕ) (recs : List Rec) (x : Ground) (pla
     paged = k.paged;
     taken = taken_same recs g c d own z k.w.state k.w.count _ _ places.slot places.page k.taken refl refl;
   }
-
-set_twice : {A : Type 0} (l : List A) (i : ℕ) (a b : A) → slice_set (slice_set l i a) i b ≡ slice_set l i b
-set_twice [] i a b = refl
-set_twice (y ∷ l) zero a b = refl
-set_twice (y ∷ l) (suc i) a b = ap (λ m. y ∷ m) (set_twice l i a b)
 
 -- the last opening store
 pub object_made : (z : TableSizes) (words : List ℕ) (recs : List Rec) (x : Ground) (places : Where) (k : Image z words recs x places) → Steady x

@@ -25,12 +25,12 @@ use Rattle.rgo_core_memory.proofs.Rows.{below}
 use Rattle.rgo_core_memory.proofs.Steadies.{map_back}
 use Rattle.rgo_core_memory.proofs.Writes.{writes_count, writes_made}
 
-zeros : (n i : ℕ) → slice_index (replicate n 0) i ≡ 0
+pub zeros : (n i : ℕ) → slice_index (replicate n 0) i ≡ 0
 zeros zero i = refl
 zeros (suc n) zero = refl
 zeros (suc n) (suc i) = zeros n i
 
-many : (n : ℕ) → length {A = ℕ} (replicate n 0) ≡ n
+pub many : (n : ℕ) → length {A = ℕ} (replicate n 0) ≡ n
 many zero = refl
 many (suc n) = ap suc (many n)
 

@@ -12,6 +12,7 @@ use Rattle.rgo_sound.proofs.Attends.{length_with_info}
 use Rattle.rgo_sound.proofs.CoreLemmas.{in_without, not_in_without}
 use Rattle.rgo_sound.proofs.Tests.{ne_of}
 use Rattle.rgo_sound.specs.Stakes.{is_in}
+use Rattle.rgo_sound.proofs.Paged.{pages_kept}
 use Rattle.rgo_core_memory.specs.declared.layout.TableSizes.{TableSizes}
 use Rattle.rgo_core_memory.specs.Words.{put, count_at}
 use Rattle.rgo_core_memory.specs.Records.{Fill, Amid, Claim, Give, Calm, Owes, Rec, Has, Within, Owns, Claims, Closes, dropped}
@@ -20,7 +21,7 @@ use Rattle.rgo_core_memory.specs.Parts.{Lies, Own, Filled, slot_of, StakeAt, Use
 use Rattle.rgo_core_memory.specs.Image.{Image, Where}
 use Rattle.rgo_core_memory.proofs.Counting.{taken_count}
 use Rattle.rgo_core_memory.proofs.Frames.{lies_fewer, own_frame, stay_alike}
-use Rattle.rgo_core_memory.proofs.Infos.{info_here, info_else, info_fewer, stands_fewer, counts_change, pages_kept}
+use Rattle.rgo_core_memory.proofs.Infos.{info_here, info_else, info_fewer, stands_fewer, counts_change}
 use Rattle.rgo_core_memory.proofs.Keeping.{here, was, stays, mine, owns_was, owns_mine, owns_other, owns_old, own_fewer, counts_calm, taken_same, pages_same, dropped_within, within_dropped}
 use Rattle.rgo_core_memory.proofs.Paging.{paged_change}
 use Rattle.rgo_core_memory.proofs.Puts.{put_here, put_else}

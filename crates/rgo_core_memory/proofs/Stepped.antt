@@ -19,6 +19,7 @@ use Rattle.rgo_region_machine.specs.declared.regions.Region.{Region}
 use Rattle.rgo_sound.proofs.Acting.{after, Acted, act, act_at, alone, effected, performed, trap_place}
 use Rattle.rgo_sound.proofs.ErasureLemmas.{yields_is}
 use Rattle.rgo_sound.proofs.OneStep.{OneDone, one_done, current_erased}
+use Rattle.rgo_sound.proofs.Places.{head_is}
 use Rattle.rgo_tac.specs.Frames.{Frame, going}
 use Rattle.rgo_tac.specs.Steps.{type_of}
 use Rattle.rgo_tac.specs.Tac.{TacState}
@@ -58,12 +59,6 @@ held_unless None before after h = h
 held_unless (Some Exit) before after h = h
 held_unless (Some (Trap trap place)) before after h = refl
 
-heads : (f f2 : Frame) (fs fs2 : List Frame) → f ∷ fs ≡ f2 ∷ fs2 → f ≡ f2
-heads f f2 fs fs2 e = cc
-
-tails : (f f2 : Frame) (fs fs2 : List Frame) → f ∷ fs ≡ f2 ∷ fs2 → fs ≡ fs2
-tails f f2 fs fs2 e = cc
-
 module _ (code : Code) (page_words : ℕ) (s t : RegionState) (g : ℕ) (action : Action) (values : List Value) (m : Memory) (u : Value)
     (e : region_step code page_words s (Instruct (One g)) ≡ Some t) (b : Before code s g action values)
     (does : performed code.structs action (type_of (erased code) b.frame b.to) values s.plain.memory ≡ Some (Does m u)) where
@@ -74,7 +69,7 @@ module _ (code : Code) (page_words : ℕ) (s t : RegionState) (g : ℕ) (action 
   same_frames = same_Some (done.frame ∷ done.callers) (b.frame ∷ b.callers) (sym done.at ∙ b.at)
 
   same_frame : done.frame ≡ b.frame
-  same_frame = heads done.frame b.frame done.callers b.callers same_frames
+  same_frame = head_is done.frame b.frame done.callers b.callers same_frames
 
   same_instr : done.instr ≡ b.instr
   same_instr = same_Some done.instr b.instr (sym done.cur ∙ (ap (current code) same_frame ∙ b.cur))

@@ -410,6 +410,27 @@ each_drop P zero xs h = h
 each_drop P (suc n) [] h = tt
 each_drop P (suc n) (x ∷ xs) h = each_drop P n xs h.1
 
+-- a function that returns without a value has no result, and so its call no target
+pub no_target : (code : Code) (fn cfn : CodeFn) (op : CodeOp)
+    → (erased_fn fn).result_type ≡ None → IsCallOf code op fn
+    → OpExists (erased code) (erased_fn cfn) (erased_op op) → call_target op ≡ None
+no_target code fn cfn (Call to n from passes protects removes) no_result calls exists =
+    go to (exists.target ∙ ap is_some (ap (λ (t : TacFn). t.result_type) (sym same) ∙ no_result))
+  where
+    same : erased_fn fn ≡ exists.callee
+    same = same_Some (erased_fn fn) exists.callee (sym (slice_get-map erased_fn code.functions n
+        ∙ ap (option_map erased_fn) calls) ∙ exists.declared)
+
+    go : (t : Option ℕ) → is_some t ≡ false → t ≡ None
+    go None e = refl
+    go (Some d) e = absurd (true≢false e)
+no_target code fn cfn (Do to action from removes) no_result calls exists = absurd calls
+no_target code fn cfn (Go n from passes removes) no_result calls exists = absurd calls
+no_target code fn cfn (Print pieces from removes) no_result calls exists = absurd calls
+no_target code fn cfn (Jump j removes) no_result calls exists = absurd calls
+no_target code fn cfn (Branch v j removes k others) no_result calls exists = absurd calls
+no_target code fn cfn (Return value) no_result calls exists = absurd calls
+
 module _ (code : Code) (checked : IsChecked code) (owners : List Region) (m : Memory) (home : MemoryHome owners m)
     (frame : Frame) (callers : List Frame) (instr : CodeInstr) (cur : current code frame ≡ Some instr) (f : Environment)
     (fs : List Environment) (lead : FramesLead code owners (frame ∷ callers) (f ∷ fs)) (fn : CodeFn)
@@ -785,30 +806,10 @@ module _ (code : Code) (checked : IsChecked code) (owners : List Region) (m : Me
 
   -- ---- a return
 
-  -- a function that returns without a value has no result, and so its call no target
-  no_target : (cfn : CodeFn) (op : CodeOp) → instr.op ≡ Return None → IsCallOf code op fn
-      → OpExists (erased code) (erased_fn cfn) (erased_op op) → call_target op ≡ None
-  no_target cfn (Call to n from passes protects removes) is calls exists =
-      go to (exists.target ∙ ap is_some (ap (λ (t : TacFn). t.result_type) (sym same) ∙ no_result))
-    where
-      no_result : (erased_fn fn).result_type ≡ None
-      no_result = (let x : OpFits (erased code) (erased_fn fn) (erased_op (Return None)) =
-          subst (λ op. OpFits (erased code) (erased_fn fn) (erased_op op)) is
-          (checked rule.Types (line.Instr frame.function frame.next) fn instr is_fn instr_here) in x)
-
-      same : erased_fn fn ≡ exists.callee
-      same = same_Some (erased_fn fn) exists.callee (sym (slice_get-map erased_fn code.functions n
-          ∙ ap (option_map erased_fn) calls) ∙ exists.declared)
-
-      go : (t : Option ℕ) → is_some t ≡ false → t ≡ None
-      go None e = refl
-      go (Some d) e = absurd (true≢false e)
-  no_target cfn (Do to action from removes) is calls exists = absurd calls
-  no_target cfn (Go n from passes removes) is calls exists = absurd calls
-  no_target cfn (Print pieces from removes) is calls exists = absurd calls
-  no_target cfn (Jump j removes) is calls exists = absurd calls
-  no_target cfn (Branch v j removes k others) is calls exists = absurd calls
-  no_target cfn (Return value) is calls exists = absurd calls
+  no_value : instr.op ≡ Return None → (erased_fn fn).result_type ≡ None
+  no_value is = let x : OpFits (erased code) (erased_fn fn) (erased_op (Return None)) =
+      subst (λ op. OpFits (erased code) (erased_fn fn) (erased_op op)) is
+      (checked rule.Types (line.Instr frame.function frame.next) fn instr is_fn instr_here) in x
 
   -- a pointer that is returned has the class of the result
   result_agrees : (v : ℕ) → instr.op ≡ Return (Some v) → class_of fn v ≢ NoClass → class_of fn v ≡ result_class fn
@@ -966,7 +967,7 @@ module _ (code : Code) (checked : IsChecked code) (owners : List Region) (m : Me
           by : (w : Option ℕ) → back ≡ w → TopLeads code (owners ++ given)
               (resumed_by caller (erased_op caller_instr.op) (option_map (value_at frame) w)) d.names
           by None e cfn is_c v l = other cfn v is_c l (λ z. none_some v
-              (sym (no_target t.0.0 caller_instr.op (is ∙ ap Return e) calls_fn exists) ∙ z))
+              (sym (no_target code fn t.0.0 caller_instr.op (no_value (is ∙ ap Return e)) calls_fn exists) ∙ z))
           by (Some u) e cfn is_c v l = subst (λ o. LeadsHome (owners ++ given) d.names (class_of cfn v)
               (get_or (assigned caller.variables o (value_at frame u)) v value.Nil)) (sym (target caller_instr.op))
               (set cfn v is_c l u e (call_target caller_instr.op) refl)

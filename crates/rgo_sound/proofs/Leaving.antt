@@ -1,11 +1,9 @@
 -- What an event leaves as it was.
-use Rattle.std.proofs.Common.{◌≡◌, ℕ, inl, inr, false, List, [], ◌∷◌, ◌++◌, Option, Some, None, refl, sym, ap, subst, ◌∙◌}
+use Rattle.std.proofs.Common.{◌≡◌, ℕ, inl, inr, false, List, [], ◌∷◌, ◌++◌, Some, refl, sym, ap, subst, ◌∙◌}
 use Rattle.std.proofs.Common.{slice_get, slice_set, nat_eq, arith}
 use Rattle.std.proofs.lemmas.Bool.Decides.{nat_tests}
 use Rattle.std.proofs.lemmas.Option.{same_Some, slice_get_within}
-use Rattle.rgo_code.specs.Code.{Branch, Call, Code, CodeOp, Do, Go, Jump, Print, Return}
-use Rattle.rgo_machine.specs.declared.picks.End.{End}
-use Rattle.rgo_machine.specs.declared.picks.End.TheVariants.{Exit, Trap}
+use Rattle.rgo_code.specs.Code.{Code}
 use Rattle.rgo_machine.specs.declared.picks.Pick.TheVariants.{Meet, One}
 use Rattle.rgo_region_machine.specs.Duties.{attend, attended, duty_done, protected, removal, shared, unprotected}
 use Rattle.rgo_region_machine.specs.Instructions.{child_holder, holder_after, last_frames, unless_trapped}
@@ -24,6 +22,7 @@ use Rattle.rgo_sound.proofs.ErasureLemmas.{yields_then}
 use Rattle.rgo_sound.proofs.OneStep.{MeetDone, OneDone, meet_done, one_done}
 use Rattle.rgo_sound.proofs.Places.{get_append_left, get_set_other, get_set_same, length_set}
 use Rattle.rgo_sound.specs.Leaving.{ActsAlone, LeavesOthers, OffersStay, OthersStay, TakesPart}
+use Rattle.rgo_sound.proofs.Offers.{after_offer, unless_offer}
 use Rattle.rgo_tac.specs.Frames.{Frame}
 
 apart : (g j : ℕ) → (j ≡ g → ⊥) → nat_eq g j ≡ false
@@ -127,23 +126,6 @@ module _ (s : RegionState) (g : ℕ) where
 
 -- ---- an instruction
 
--- it leaves the offer
-offer_after : (code : Code) (h : Holder) (frame : Frame) (callers : List Frame) (op : CodeOp) (next : List Frame)
-    → (holder_after code h frame callers op next).offer ≡ h.offer
-offer_after code h frame callers (Do to a from removes) next = refl
-offer_after code h frame callers (Call to n from passes protects removes) next = refl
-offer_after code h frame callers (Go n from passes removes) next = refl
-offer_after code h frame callers (Print pieces from removes) next = refl
-offer_after code h frame callers (Jump target removes) next = refl
-offer_after code h frame callers (Branch test target removes other otherwise) next = refl
-offer_after code h frame callers (Return value) next = refl
-
-unless_offer : (e : Option End) (before after : Holder) → after.offer ≡ before.offer
-    → (unless_trapped e before after).offer ≡ before.offer
-unless_offer None before after h = h
-unless_offer (Some Exit) before after h = h
-unless_offer (Some (Trap trap place)) before after h = refl
-
 module _ (code : Code) (page_words : ℕ) (s : RegionState) where
   module _ (g : ℕ) (t : RegionState) (x : OneDone code page_words s g t) where
     abbrev now : Holder
@@ -169,7 +151,7 @@ module _ (code : Code) (page_words : ℕ) (s : RegionState) where
           now,
           ap (λ hs. slice_get hs g) holders_are ∙ (get_append_left (slice_set s.holders g now) _ g l ∙ own),
           unless_offer (after s.plain g x.a).ended x.given.0 _
-              (offer_after code x.given.0 x.frame x.callers x.instr.op (frames_of (after s.plain g x.a) g))
+              (after_offer code x.given.0 x.frame x.callers x.instr.op (frames_of (after s.plain g x.a) g))
               ∙ (ap (λ (k : Holder). k.offer) x.same.same ∙ ap (λ (k : Holder). k.offer) (same_Some x.h h (sym x.there ∙ e))),
         )
 

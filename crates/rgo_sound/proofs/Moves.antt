@@ -40,7 +40,7 @@ same_regions (Numbered r) GlobalRegion e = cc
 same_regions (Numbered r) (Numbered s) e = ap Numbered (eq_of r s e)
 
 -- one less of q, where there is one
-times_removed : (r q : Region) (protections : List Region) → 1 ≤ times q protections
+pub times_removed : (r q : Region) (protections : List Region) → 1 ≤ times q protections
     → times r (removed_once q protections) + one_if (same_region r q) ≡ times r protections
 times_removed r q [] h = absurd (omega (arith, h))
 times_removed r q (s ∷ ss) h = go (same_region q s) refl (λ l. times_removed r q ss l)

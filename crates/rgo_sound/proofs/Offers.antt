@@ -5,7 +5,7 @@ use Rattle.std.proofs.Common.{slice_get, slice_set, option_map, option_and_then,
 use Rattle.std.proofs.lemmas.Option.{slice_get_within, same_Some}
 use Rattle.std.specs.Prelude.{ℤ, pos, negsuc, Result, Ok, Err}
 use Rattle.rgo_sound.proofs.Places.{contains_here, get_append_left, get_append_place, get_set_other, get_set_same}
-use Rattle.rgo_sound.proofs.Places.{length_set}
+use Rattle.rgo_sound.proofs.Places.{length_set, head_is}
 use Rattle.rgo_sound.proofs.Tests.{split, eq_of}
 use Rattle.rgo_sound.proofs.Bullets.{name_staked, duty_staked, has_stake}
 use Rattle.rgo_sound.proofs.ErasureLemmas.{Always, Yields, yields, yields_none, yields_if, yields_then, yields_is}
@@ -550,21 +550,18 @@ after_offer code k frame callers (Jump j removes) next = refl
 after_offer code k frame callers (Branch v j removes k' others) next = refl
 after_offer code k frame callers (Return value) next = refl
 
-unless_offer : (end : Option End) (before after : Holder) → after.offer ≡ before.offer
+pub unless_offer : (end : Option End) (before after : Holder) → after.offer ≡ before.offer
     → (unless_trapped end before after).offer ≡ before.offer
 unless_offer None before after h = h
 unless_offer (Some Exit) before after h = h
 unless_offer (Some (Trap kind place)) before after h = refl
-
-the_frames : (f g : Frame) (fs gs : List Frame) → f ∷ fs ≡ g ∷ gs → f ≡ g
-the_frames f g fs gs e = cc
 
 -- a goroutine that stands at a send, from another view of its frames
 pub at_send : (code : Code) (p : TacState) (g o : ℕ) (st : StandsAtSend code p g o) (frame : Frame)
     (callers : List Frame) (instr : CodeInstr) → frames_of p g ≡ frame ∷ callers → current code frame ≡ Some instr
     → (instr.op ≡ Do st.to Send (st.channel ∷ st.sent ∷ []) st.removes) × (value_at frame st.channel ≡ value.Object o)
 at_send code p g o st frame callers instr q cur =
-    let same : st.frame ≡ frame = the_frames st.frame frame st.callers callers (sym st.at ∙ q) in
+    let same : st.frame ≡ frame = head_is st.frame frame st.callers callers (sym st.at ∙ q) in
     let one : st.instr ≡ instr = same_Some st.instr instr (sym st.cur ∙ ap (current code) same ∙ cur) in
     (ap (λ (i : CodeInstr). i.op) (sym one) ∙ st.is, ap (λ f. value_at f st.channel) (sym same) ∙ st.channel_is)
 

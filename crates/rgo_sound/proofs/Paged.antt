@@ -58,10 +58,11 @@ use Rattle.rgo_sound.proofs.Offers.{alone_steady, SteadyActed, makes_at}
 use Rattle.rgo_sound.proofs.OneStep.{OneDone, one_done, MeetDone, meet_done, current_erased, gone_on, none_owed}
 use Rattle.rgo_sound.proofs.OneStep.{receive_goes, send_goes}
 use Rattle.rgo_sound.proofs.Others.{fine_step, fine_start}
-use Rattle.rgo_sound.proofs.Places.{get_append_left, get_set_other, get_set_same, length_set}
+use Rattle.rgo_sound.proofs.Places.{get_append_left, get_set_other, get_set_same, length_set, head_is}
 use Rattle.rgo_sound.proofs.Progress.{fill_with}
 use Rattle.rgo_sound.proofs.RunLemmas.{run_keeps}
 use Rattle.rgo_sound.specs.Invariant.{Fine}
+use Rattle.rgo_sound.proofs.Places.{tail_is}
 
 -- ---- what an instruction makes is a matter of its frame alone
 
@@ -343,7 +344,7 @@ sum_beyond c n (suc more) h z = split (nat_eq n (suc more)) (λ t. ap (sum_to c)
 
 -- ---- the pages of regions
 
-pages_kept : (infos : List RegionInfo) (r : ℕ) (change : RegionInfo → RegionInfo)
+pub pages_kept : (infos : List RegionInfo) (r : ℕ) (change : RegionInfo → RegionInfo)
     → ((i : RegionInfo) → (change i).pages ≡ i.pages) → sum_by (λ (i : RegionInfo). i.pages) (with_info infos r change)
     ≡ sum_by (λ (i : RegionInfo). i.pages) infos
 pages_kept [] r change h = refl
@@ -394,12 +395,6 @@ heap_grows code m frame callers instr a cur acts = split (makes_at instr.op)
 
 differs : (j g : ℕ) → g < j → nat_eq j g ≡ false
 differs j g l = grind arith
-
-the_heads : (f g : Frame) (fs gs : List Frame) → f ∷ fs ≡ g ∷ gs → f ≡ g
-the_heads f g fs gs e = cc
-
-the_tails : (f g : Frame) (fs gs : List Frame) → f ∷ fs ≡ g ∷ gs → fs ≡ gs
-the_tails f g fs gs e = cc
 
 -- the holder behind an instruction
 abbrev after_of : {code : Code} → {page_words : ℕ} → {s : RegionState} → {g : ℕ} → {t : RegionState}
@@ -603,8 +598,8 @@ module _ (code : Code) (page_words : ℕ) (s : RegionState) (paged : Paged code 
             where
               clash : Full code page_words s.plain g h → ⊥
               clash f =
-                  let fr : f.frame ≡ frame = the_heads f.frame frame f.callers callers (sym f.at ∙ at) in
-                  let tl : f.callers ≡ callers = the_tails f.frame frame f.callers callers (sym f.at ∙ at) in
+                  let fr : f.frame ≡ frame = head_is f.frame frame f.callers callers (sym f.at ∙ at) in
+                  let tl : f.callers ≡ callers = tail_is f.frame frame f.callers callers (sym f.at ∙ at) in
                   let i : f.instr ≡ instr = same_Some f.instr instr (sym f.cur ∙ ap (current code) fr ∙ cur) in
                   let rr : f.region ≡ r = same_Some f.region r (sym f.making
                   ∙ ap (λ (y : CodeInstr). making_region (function_at code f.frame) (top_names h.environments) y.op)
@@ -823,7 +818,7 @@ module _ (code : Code) (page_words : ℕ) (s : RegionState) (paged : Paged code 
 
       i : f.instr ≡ instr
       i = same_Some f.instr instr (sym f.cur ∙ ap (current code)
-          (the_heads f.frame frame f.callers callers (sym f.at ∙ at)) ∙ cur)
+          (head_is f.frame frame f.callers callers (sym f.at ∙ at)) ∙ cur)
 
   paged_meet : (r u : ℕ) (t : RegionState) → MeetDone code s r u t → Paged code page_words t
   paged_meet r u t x =

@@ -44,14 +44,9 @@ use Rattle.rgo_sound.proofs.OneStep.{ReceivesAt, SendsAt, StandsAt, current_eras
 use Rattle.rgo_sound.proofs.Places.{each_get, get_append_cases, get_set_other, get_set_same}
 use Rattle.rgo_sound.proofs.Types.{Extends, GivesKind, Performed, get_kinds, more_kinds, returns, same_chan, set_kinds}
 use Rattle.rgo_sound.proofs.Types.{takes, zeros_kinds}
+use Rattle.rgo_sound.proofs.Places.{head_is, tail_is}
 
 -- ---- variables
-
-head_is : {X : Type 0} (x y : X) (xs ys : List X) → x ∷ xs ≡ y ∷ ys → x ≡ y
-head_is x y xs ys e = cc
-
-tail_is : {X : Type 0} (x y : X) (xs ys : List X) → x ∷ xs ≡ y ∷ ys → xs ≡ ys
-tail_is x y xs ys e = cc
 
 module _ (kinds : List «Type») (fn : TacFn) (frame : Frame) (h : HaveKinds kinds fn.variables frame.variables) where
   pub var_kind : (v : ℕ) (ty : «Type») → HasType fn v ty → HasKind kinds ty (value_at frame v)
