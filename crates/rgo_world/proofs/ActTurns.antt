@@ -1,5 +1,5 @@
 -- Turns of an instruction that is no call, no start and no return: where it makes no object, and where it makes one.
-use Rattle.std.proofs.Common.{◌≡◌, ◌⊎◌, inl, inr, ℕ, zero, suc, ◌+◌, ◌≤◌, true, false, List, [], ◌∷◌, ◌++◌, map}
+use Rattle.std.proofs.Common.{◌≡◌, ◌⊎◌, inl, inr, ℕ, ◌+◌, ◌≤◌, true, false, List, [], ◌∷◌, ◌++◌, map}
 use Rattle.std.proofs.Common.{length, Option, Some, None, refl, sym, ap, ◌∙◌, subst, nat_le, nat_lt, arith, true≢false}
 use Rattle.std.proofs.Common.{slice_get, slice_set, unwrap_or}
 use Rattle.std.proofs.lemmas.Bool.Decides.{nat_tests}
@@ -23,7 +23,7 @@ use Rattle.rgo_region_machine.specs.Objects.{allotted, fill_of, fits, making_reg
 use Rattle.rgo_region_machine.specs.Owed.{function_at, next_duties, removes_behind}
 use Rattle.rgo_region_machine.specs.Regions.{is_live}
 use Rattle.rgo_region_machine.specs.States.{Duty, RegionState, Remove, frames_of, top_names}
-use Rattle.rgo_sound.proofs.Acting.{after, end_by}
+use Rattle.rgo_sound.proofs.Acting.{after, no_end, set_same}
 use Rattle.rgo_sound.proofs.OneStep.{IsSimple}
 use Rattle.rgo_sound.proofs.Places.{get_append_left}
 use Rattle.rgo_world.specs.declared.holders.Holder.{Holder}
@@ -36,7 +36,7 @@ use Rattle.rgo_world.specs.Tables.{TableShows}
 use Rattle.rgo_world.specs.Works.{ActsNext, OthersOwe, Ready, SameRun, Settled, TakesStep, TakesTurn, Works, goes_by}
 use Rattle.rgo_world.proofs.Acts.{ActsSo, acts_so, ends_so, next_state, next_step, others_so, prepared_so, simple_next}
 use Rattle.rgo_world.proofs.Acts.{still_running, works_so}
-use Rattle.rgo_world.proofs.Attending.{same_then, set_same, shown_holder, there_is}
+use Rattle.rgo_world.proofs.Attending.{same_then, shown_holder, there_is}
 use Rattle.rgo_world.proofs.Instructed.{allots, its_region, made, making_act, making_acts, no_object, region_live}
 use Rattle.rgo_world.proofs.Lifting.{live_not_gone}
 use Rattle.rgo_world.proofs.LiftingGood.{StepShows}
@@ -47,6 +47,7 @@ use Rattle.rgo_world.proofs.PlainTurns.{goes_running, stays_ended}
 use Rattle.rgo_world.proofs.Rooms.{before, fill_is, is_making, region_found}
 use Rattle.rgo_world.proofs.Taking.{leads_on, none_or_one, shows_step, takes_end, takes_fail, takes_none, takes_settled}
 use Rattle.rgo_world.proofs.Targets.{IsBefore}
+use Rattle.rgo_world.proofs.Quiet.{nothing_more}
 
 -- ---- turns
 
@@ -228,10 +229,6 @@ fits_used page_words n (Some used) e = (used, refl, below (used + n) page_words 
     below : (a b : ℕ) → nat_le a b ≡ true → a ≤ b
     below a b e = grind (arith, nat_tests)
 
-no_end : (g : ℕ) (f : Frame) (fs : List Frame) → end_by g (f ∷ fs) None ≡ None
-no_end zero f fs = refl
-no_end (suc g) f fs = refl
-
 -- a new object changes no channel
 made_same : (m : Memory) (object : Object) → SameChannels m (record m { heap = m.heap ++ object ∷ [] })
 made_same m object o channel e = go (slice_get m.heap o) refl e
@@ -241,13 +238,6 @@ made_same m object o channel e = go (slice_get m.heap o) refl e
     go None q e = cc
     go (Some old) q e =
         ap channel_in (get_append_left m.heap (object ∷ []) o (slice_get_within m.heap o old q) ∙ q) ∙ e
-
-nothing_more : (xs ys : List ℕ) → xs ++ ys ≡ xs ++ [] → ys ≡ []
-nothing_more [] ys e = e
-nothing_more (x ∷ xs) ys e = nothing_more xs ys (tail (xs ++ ys) (xs ++ []) e)
-  where
-    tail : (us vs : List ℕ) → x ∷ us ≡ x ∷ vs → us ≡ vs
-    tail us vs e = cc
 
 module _ (w v : World) (s : RegionState) (limits : Limits) (g : ℕ) (next : Next) (making : Making) (turned : Turned)
     (kind : ActsNext next) (roomy : IsRoomy w s g next making) (takes : TakesTurn w v limits g turned) where

@@ -1,6 +1,6 @@
 -- A step with a region that a goroutine owes: the region machine has it, and where the code has done it, the world shows
 -- the state after it.
-use Rattle.std.proofs.Common.{◌≡◌, ℕ, zero, suc, ◌+◌, ◌≤◌, ◌<◌, Bool, true, false, List, [], ◌∷◌, ◌++◌, map, length}
+use Rattle.std.proofs.Common.{◌≡◌, ℕ, suc, ◌+◌, ◌≤◌, ◌<◌, Bool, true, false, List, [], ◌∷◌, ◌++◌, map, length}
 use Rattle.std.proofs.Common.{Option, Some, None, refl, sym, ap, ◌∙◌, subst, nat_eq, nat_lt, if◌then◌else◌, ◌||◌, arith}
 use Rattle.std.proofs.Common.{◌-◌, true≢false, cond, is_some, get_or, slice_get, slice_set, option_and_then, option_map, length-append}
 use Rattle.std.specs.List.{list_any}
@@ -12,6 +12,7 @@ use Rattle.rgo_code.specs.Code.{Code}
 use Rattle.rgo_code.specs.NameRules.{Ascends}
 use Rattle.rgo_machine.specs.declared.limits.Sizes.{Sizes}
 use Rattle.rgo_machine.specs.Runs.{run}
+use Rattle.rgo_machine.proofs.Items.{set_twice}
 use Rattle.rgo_memory.specs.Memory.{Memory, Object}
 use Rattle.rgo_region_machine.specs.declared.regions.Region.{Region}
 use Rattle.rgo_region_machine.specs.declared.regions.Region.TheVariants.{Global as GlobalRegion, Numbered}
@@ -32,6 +33,7 @@ use Rattle.rgo_sound.proofs.Tests.{eq_of, split}
 use Rattle.rgo_sound.specs.Good.{AllGood}
 use Rattle.rgo_sound.specs.Invariant.{Fine, FramesFit, times}
 use Rattle.rgo_sound.specs.Progress.{AreRegionSteps}
+use Rattle.rgo_sound.proofs.Acting.{set_same}
 use Rattle.rgo_tac.specs.Frames.{Frame}
 use Rattle.rgo_world.specs.declared.holders.Holder.{Holder}
 use Rattle.rgo_world.specs.declared.worlds.World.{World}
@@ -84,19 +86,6 @@ duty_goes code page_words s g h d ds checked written all orderly e q n =
     x = duties_go code page_words s g h all.good.fine e (λ z. some_none (sym q ∙ z)) goes
 
 -- ---- lists by number
-
-pub set_same : {X : Type 0} (xs : List X) (i : ℕ) (x : X) → slice_get xs i ≡ Some x → slice_set xs i x ≡ xs
-set_same [] i x e = refl
-set_same (y ∷ ys) zero x e = ap (λ z. z ∷ ys) (the_same x y (sym e))
-  where
-    the_same : {X : Type 0} (x y : X) → Some x ≡ Some y → x ≡ y
-    the_same x y e = cc
-set_same (y ∷ ys) (suc i) x e = ap (λ zs. y ∷ zs) (set_same ys i x e)
-
-pub set_set : {X : Type 0} (xs : List X) (i : ℕ) (x y : X) → slice_set (slice_set xs i x) i y ≡ slice_set xs i y
-set_set [] i x y = refl
-set_set (z ∷ zs) zero x y = refl
-set_set (z ∷ zs) (suc i) x y = ap (λ ws. z ∷ ws) (set_set zs i x y)
 
 none_some : {X : Type 0} {x : X} → None ≡ Some x → ⊥
 none_some e = cc
@@ -713,7 +702,7 @@ module _ (w u v : World) (s : RegionState) (g : ℕ) (d : Duty) (ds : List Duty)
       same_length = length_with_info s.regions r one_fewer
 
       holders' : v.holders.items ≡ slice_set w.holders.items g x.holder
-      holders' = x.holders ∙ ap (λ l. slice_set l g x.holder) holders ∙ set_set w.holders.items g c' x.holder
+      holders' = x.holders ∙ ap (λ l. slice_set l g x.holder) holders ∙ set_twice w.holders.items g c' x.holder
 
       below : (q : ℕ) → length s.regions ≤ q → r < length s.regions → nat_eq r q ≡ false
       below q l m = grind arith

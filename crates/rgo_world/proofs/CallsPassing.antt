@@ -20,6 +20,7 @@ use Rattle.rgo_region_machine.specs.Regions.{Bindings, bound, class_region, same
 use Rattle.rgo_world.specs.declared.holders.Holder.{Holder}
 use Rattle.rgo_world.specs.Calls.{StandFor, UnbindsAll, class_in, bound_except, bound_first, or_else}
 use Rattle.rgo_world.specs.Holders.{Names, Same, SameElse, Unbinds, bound_in, bound_with, bound_without}
+use Rattle.rgo_sound.proofs.Tests.{nat_eq_refl}
 
 -- ---- the regions that are passed
 
@@ -303,15 +304,12 @@ seen_other q r rs differ =
     go true = ap (λ s. s || list_any (same_region (Numbered r)) (twice rs)) differ
     go false = refl
 
-same_test_here : (q : ℕ) → nat_eq q q ≡ true
-same_test_here q = eq-eqb q q refl
-
 -- it is now seen, and twice if it was seen before
 pub seen_here : (q : ℕ) (rs : List (Option Region)) → Some (stands_in (Numbered q) rs) ≡ seen_in q (Some (Numbered q) ∷ rs)
 seen_here q rs =
-    sym (ap (λ t. if t || stands_in (Numbered q) rs then Some (list_any (same_region (Numbered q)) (twice (Some (Numbered q) ∷ rs))) else None) (same_test_here q)
+    sym (ap (λ t. if t || stands_in (Numbered q) rs then Some (list_any (same_region (Numbered q)) (twice (Some (Numbered q) ∷ rs))) else None) (nat_eq_refl q)
     ∙ ap Some (any_if (Numbered q) (Numbered q) (twice rs) _
-    ∙ ap (λ s. if stands_in (Numbered q) rs && not (list_any (same_region (Numbered q)) (twice rs)) then s || list_any (same_region (Numbered q)) (twice rs) else list_any (same_region (Numbered q)) (twice rs)) (same_test_here q)
+    ∙ ap (λ s. if stands_in (Numbered q) rs && not (list_any (same_region (Numbered q)) (twice rs)) then s || list_any (same_region (Numbered q)) (twice rs) else list_any (same_region (Numbered q)) (twice rs)) (nat_eq_refl q)
     ∙ go (stands_in (Numbered q) rs) (list_any (same_region (Numbered q)) (twice rs)) (not_twice q rs) (twice_stands q rs)))
   where
     go : (s t : Bool) → (s ≡ false → t ≡ false) → (t ≡ true → s ≡ true) → (if s && not t then true || t else t) ≡ s

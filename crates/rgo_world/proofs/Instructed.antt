@@ -30,13 +30,13 @@ use Rattle.rgo_sound.proofs.ErasureLemmas.{Always}
 use Rattle.rgo_sound.proofs.Offers.{SteadyActed, alone_steady, makes_at}
 use Rattle.rgo_sound.proofs.OneStep.{current_erased}
 use Rattle.rgo_sound.proofs.Places.{get_append_last}
-use Rattle.rgo_sound.proofs.Progress.{HasTarget}
+use Rattle.rgo_sound.proofs.Progress.{HasTarget, live_of}
 use Rattle.rgo_sound.proofs.Tests.{split}
 use Rattle.rgo_region_machine.specs.Room.{MakesTooLarge}
 use Rattle.rgo_world.specs.declared.objects.Making.{Making}
 use Rattle.rgo_world.specs.Objects.{making_by, making_of, words_made}
 use Rattle.rgo_world.proofs.Making.{Makes, acts_none, makes, makes_none}
-use Rattle.rgo_world.proofs.Targets.{IsBefore, live_of, ready_now, region_staked, region_there, target, top}
+use Rattle.rgo_world.proofs.Targets.{IsBefore, ready_now, region_staked, region_there, target, top}
 
 -- what a goroutine does alone, by its frames
 abbrev pub acted : Code → TacState → ℕ → Option Acted

@@ -1,6 +1,6 @@
 -- The start of a run is orderly, and each step of the region machine keeps that.
-use Rattle.std.proofs.Common.{◌≡◌, ℕ, zero, suc, ◌+◌, ◌≤◌, ◌<◌, Bool, true, false, List, [], ◌∷◌, ◌++◌, map, length}
-use Rattle.std.proofs.Common.{Option, Some, None, refl, sym, ap, ◌∙◌, subst, nat_eq, if◌then◌else◌, arith, true≢false}
+use Rattle.std.proofs.Common.{◌≡◌, ℕ, zero, suc, ◌+◌, ◌≤◌, ◌<◌, false, List, [], ◌∷◌, ◌++◌, map, length}
+use Rattle.std.proofs.Common.{Option, Some, None, refl, sym, ap, ◌∙◌, subst, nat_eq, arith}
 use Rattle.std.proofs.Common.{◌⊎◌, inl, inr, slice_get, slice_set, length-append, append_assoc}
 use Rattle.std.proofs.lemmas.Option.{slice_get_within}
 use Rattle.rgo_code.specs.Checked.{IsChecked}
@@ -22,7 +22,7 @@ use Rattle.rgo_region_machine.specs.Offers.{acknowledge, make_offer, offer_for, 
 use Rattle.rgo_region_machine.specs.Owed.{caller_duties, current, current_in, duties_before, duties_behind, duties_behind_call}
 use Rattle.rgo_region_machine.specs.Owed.{duties_of_op, entry_removes, function_at, function_of, next_duties}
 use Rattle.rgo_region_machine.specs.Owed.{regions_named, removes_behind}
-use Rattle.rgo_region_machine.specs.Regions.{Bindings, RegionInfo, bound, has_stakes, is_live, one_fewer, one_more, one_page_more}
+use Rattle.rgo_region_machine.specs.Regions.{Bindings, bound, one_fewer, one_more, one_page_more}
 use Rattle.rgo_region_machine.specs.Regions.{removed_once, same_region, unbind, without}
 use Rattle.rgo_region_machine.specs.States.{Create, Duty, EndBase, Environment, Holder, Mark, NoOffer, Offer, Protect, RegionState}
 use Rattle.rgo_region_machine.specs.States.{Remove, Share, Standing, Taken, Unprotect, frames_in, frames_of, top_names}
@@ -34,7 +34,7 @@ use Rattle.rgo_sound.proofs.Acting.{after}
 use Rattle.rgo_sound.proofs.Attends.{length_with_info, same_reflexive}
 use Rattle.rgo_sound.proofs.ErasureLemmas.{Yields, yields, yields_at, yields_if, yields_is, yields_none, yields_then}
 use Rattle.rgo_sound.proofs.Offers.{all_good_start, class_has_stake, making_class, steps_keep_good}
-use Rattle.rgo_sound.proofs.Moves.{same_regions}
+use Rattle.rgo_sound.proofs.Moves.{times_removed}
 use Rattle.rgo_sound.proofs.OneStep.{Allots, MeetDone, OneDone, OnFrom, IsSimple, gone_on, meet_done, one_done, receive_goes}
 use Rattle.rgo_sound.proofs.OneStep.{send_goes}
 use Rattle.rgo_sound.proofs.Places.{get_append_left, get_append_place, get_append_right, get_set_other, get_set_same}
@@ -48,6 +48,7 @@ use Rattle.rgo_sound.specs.Invariant.{AllWait, AreProtections, Fine, FramesFit, 
 use Rattle.rgo_sound.specs.Invariant.{shared_before, shared_names, times, to_share}
 use Rattle.rgo_sound.specs.NextNames.{HasStake}
 use Rattle.rgo_sound.specs.Stakes.{one_if}
+use Rattle.rgo_sound.proofs.OwnersMade.{live_made}
 use Rattle.rgo_tac.specs.Frames.{Frame}
 use Rattle.rgo_tac.specs.Tac.{TacState}
 use Rattle.rgo_world.specs.Orderly.{Orderly, OrderlyHolder, Unprotects, UnprotectsIn, shares_in}
@@ -202,24 +203,6 @@ ends_none_in : (ds : List Duty) → EndsNone ds → (es : List Environment) → 
 ends_none_in ds n [] = tt
 ends_none_in ds n (e ∷ es) = ends_none ds n e.names e.protections
 
--- one less of q, where there is one
-pub times_removed : (r q : Region) (protections : List Region) → 1 ≤ times q protections
-    → times r (removed_once q protections) + one_if (same_region r q) ≡ times r protections
-times_removed r q [] h = absurd (omega (arith, h))
-times_removed r q (s ∷ ss) h = go (same_region q s) refl (λ l. times_removed r q ss l)
-  where
-    go : (b : Bool) → same_region q s ≡ b → (1 ≤ times q ss → times r (removed_once q ss) + one_if (same_region r q)
-        ≡ times r ss) → times r (if b then ss else s ∷ removed_once q ss) + one_if (same_region r q)
-        ≡ one_if (same_region r s) + times r ss
-    go true t next =
-        let e : one_if (same_region r q) ≡ one_if (same_region r s) =
-        ap (λ x. one_if (same_region r x)) (same_regions q s t) in
-        omega (arith, e)
-    go false n next =
-        let z : one_if (same_region q s) ≡ 0 = ap one_if n in
-        let k = next (omega (arith, h, z)) in
-        omega (arith, k)
-
 -- the protections of these names end one after the other
 unprotects_all : (ks : List ℕ) (ds : List Duty) (names : Bindings) (protections : List Region)
     → AreProtections protections names ks → EndsNone ds → Unprotects (map Unprotect ks ++ ds) names protections
@@ -304,13 +287,6 @@ orderly_shared code frames h k old d u =
     record { within = omega (arith, a, d); none = λ q. absurd (omega (arith, a, d, q)); unprotects = u }
 
 -- ---- regions
-
-live_below : (regions : List RegionInfo) (r : ℕ) → is_live regions (Numbered r) ≡ true → r < length regions
-live_below regions r l = go (slice_get regions r) refl
-  where
-    go : (o : Option RegionInfo) → slice_get regions r ≡ o → r < length regions
-    go None e = absurd (true≢false (sym l ∙ ap has_stakes e))
-    go (Some info) e = slice_get_within regions r info e
 
 running_before : (mark : Option Mark) (end : Option End) → marked mark end ≡ None → (mark ≡ None) × (end ≡ None)
 running_before None None e = (refl, refl)
@@ -563,7 +539,7 @@ module _ (code : Code) (s : RegionState) (old : Orderly code s) where
               ∙ ap (λ y. making_region y (top_names x.h.environments) x.instr.op) (sym top.stands.is_fn) ∙ m) in
               let stake : HasStake s x.h (Numbered r) = class_has_stake code s g x.h x.frame x.callers top c.0 (Numbered r)
               all.good.fine x.there c.1 in
-              live_below s.regions r stake.0
+              live_made s.regions r stake.0
 
       own_orderly : s.mark ≡ None → OrderlyHolder code (frames_of (after s.plain g x.a) g) own
       own_orderly m =

@@ -14,11 +14,11 @@ use Rattle.rgo_sound.proofs.CoreLemmas.{bound_unbind, bound_unbind_other, in_wit
 use Rattle.rgo_sound.proofs.Tests.{eq_of, split}
 use Rattle.rgo_sound.specs.Invariant.{times}
 use Rattle.rgo_sound.specs.Stakes.{is_in, one_if}
+use Rattle.rgo_sound.proofs.Moves.{times_removed}
 use Rattle.rgo_world.specs.declared.holders.Holder.{Holder}
 use Rattle.rgo_world.specs.Holders.{HolderShows, Binds, Unbinds, Protects, Unprotects, Leaves, EndsBase, Names, Renames}
 use Rattle.rgo_world.specs.Holders.{SameBindings, bound_in, bound_with, bound_without, fill_in, frames_of, is_number, newest}
 use Rattle.rgo_world.specs.Holders.{protections_in, protections_of, region_in, times_region}
-use Rattle.rgo_world.proofs.Orderly.{times_removed}
 
 -- ---- numbers
 

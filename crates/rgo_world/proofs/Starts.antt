@@ -23,7 +23,7 @@ use Rattle.rgo_region_machine.specs.Owed.{result_of, twice}
 use Rattle.rgo_region_machine.specs.States as spec
 use Rattle.rgo_region_machine.specs.States.{NoOffer, RegionState, Remove, environment_of, frames_in, frames_of}
 use Rattle.rgo_region_machine.specs.States.{top_names}
-use Rattle.rgo_sound.proofs.Acting.{act}
+use Rattle.rgo_sound.proofs.Acting.{act, set_same}
 use Rattle.rgo_sound.proofs.ErasureLemmas.{Always}
 use Rattle.rgo_sound.proofs.Offers.{steps_keep_good}
 use Rattle.rgo_sound.proofs.Places.{get_append_last, get_append_left, get_set_other, get_set_same, get_snoc, length_set}
@@ -39,7 +39,7 @@ use Rattle.rgo_world.specs.Works.{Works, goes_by}
 use Rattle.rgo_world.specs.Worlds.{HoldersShow, OwesNext}
 use Rattle.rgo_world.proofs.Acts.{ActsSo}
 use Rattle.rgo_world.proofs.ActTurns.{only_stays}
-use Rattle.rgo_world.proofs.Attending.{set_same, shown_holder, there_is}
+use Rattle.rgo_world.proofs.Attending.{shown_holder, there_is}
 use Rattle.rgo_world.proofs.Holding.{alike_shown, begin_shown}
 use Rattle.rgo_world.proofs.Instructed.{acts_by}
 use Rattle.rgo_world.proofs.LiftingGood.{StepShows}

@@ -12,26 +12,22 @@ use Rattle.rgo_code.specs.Code.{Code, CodeInstr, Do}
 use Rattle.rgo_code.specs.Erasure.{erased_fn}
 use Rattle.rgo_code.specs.NameRules.{Ascends}
 use Rattle.rgo_region_machine.specs.declared.regions.Region.{Region}
-use Rattle.rgo_region_machine.specs.declared.regions.Region.TheVariants.{Global as GlobalRegion, Numbered}
+use Rattle.rgo_region_machine.specs.declared.regions.Region.TheVariants.{Numbered}
 use Rattle.rgo_region_machine.specs.Duties.{may_go}
 use Rattle.rgo_region_machine.specs.Instructions.{has_none, is_ready, touches}
 use Rattle.rgo_region_machine.specs.Objects.{makes_object, making_region, may_touch, owner_live, touched}
 use Rattle.rgo_region_machine.specs.Owed.{current, function_at}
-use Rattle.rgo_region_machine.specs.Regions.{class_region, is_live}
+use Rattle.rgo_region_machine.specs.Regions.{class_region}
 use Rattle.rgo_region_machine.specs.States.{Holder, RegionState, frames_in, top_names}
 use Rattle.rgo_sound.proofs.Offers.{class_has_stake, makes_at, making_class, touched_home}
 use Rattle.rgo_sound.proofs.Places.{get_some}
 use Rattle.rgo_sound.proofs.Progress as progress
-use Rattle.rgo_sound.proofs.Progress.{HasTarget}
+use Rattle.rgo_sound.proofs.Progress.{HasTarget, live_of}
 use Rattle.rgo_sound.proofs.ValueSteps.{Top, top_of}
 use Rattle.rgo_sound.specs.Good.{AllGood}
 use Rattle.rgo_sound.specs.Invariant.{GoodHolder}
 use Rattle.rgo_sound.specs.NextNames.{HasStake}
 use Rattle.rgo_sound.specs.Stakes.{is_in}
-
-pub live_of : (s : RegionState) (h : Holder) (r : Region) → HasStake s h r → is_live s.regions r ≡ true
-live_of s h GlobalRegion x = refl
-live_of s h (Numbered q) x = x.0
 
 -- what the next instruction of a goroutine touches is live
 pub next_live : (code : Code) (s : RegionState) (g : ℕ) → IsChecked code → AllGood code s → (frame : Frame)

@@ -1,9 +1,10 @@
 use Rattle.std.proofs.Common.{refl, sym, ap, ◌∙◌, ◌≡◌, Some, None}
 use Rattle.std.proofs.lemmas.Option.{slice_get_past}
 use Rattle.std.specs.Vec.{with_item}
-use Rattle.rgo_world.proofs.Attending.{count_kept, ends_guarded, ends_unguarded, found, set_same}
+use Rattle.rgo_world.proofs.Attending.{count_kept, ends_guarded, ends_unguarded, found}
 use Rattle.rgo_world.specs.declared.holders.Holder.{Holder}
 use Rattle.rgo_world.proofs.worlds.World.end_stake.Goals as goal
+use Rattle.rgo_sound.proofs.Acting.{set_same}
 
 nothing_there : (x : Holder) → Some x ≡ None → ⊥
 nothing_there x e = cc
