@@ -1,4 +1,5 @@
 pub mod Ended
+pub mod Going
 pub mod Leading
 pub mod Replaying
 pub mod Starting

@@ -1,15 +1,11 @@
 -- A replay of what was noted of a run comes to the state in which the run ended, and ends so.
-use Rattle.std.proofs.Common.{◌≡◌, ◌⊎◌, inl, inr, ℕ, List, ◌∷◌, ◌++◌, length, Option, Some, None, refl, sym, ap, ◌∙◌, subst}
-use Rattle.std.proofs.Common.{slice_get, option_and_then}
+use Rattle.std.proofs.Common.{◌≡◌, ◌⊎◌, inl, inr, ℕ, List, ◌++◌, length, Option, Some, None, refl, sym, ap, ◌∙◌, subst}
 use Rattle.std.specs.Io.KnownBytes.{Appends}
 use Rattle.std.proofs.lemmas.Option.{same_Some}
 use Rattle.rgo_machine.specs.declared.limits.Limits.{Limits}
 use Rattle.rgo_machine.specs.declared.picks.End.{End}
-use Rattle.rgo_machine.specs.declared.picks.Pick.TheVariants.{One}
+use Rattle.rgo_machine.specs.declared.turns.Shortage.{Shortage}
 use Rattle.rgo_machine.specs.Deadlocks.{IsDeadlock}
-use Rattle.rgo_machine.specs.Limits.{IsAtCall, IsAtStart, IsFull, IsTooDeep}
-use Rattle.rgo_machine.specs.Machines.{Machine, Stand, State, alone, stepped, unless_ended}
-use Rattle.rgo_machine.specs.Machines.{AtCall, AtClose, AtReceive, AtSend, AtStart, Elsewhere}
 use Rattle.rgo_tac.specs.Code.{Tac}
 use Rattle.rgo_tac.specs.Tac.{TacState, tac}
 use Rattle.rgo_code.specs.Erasure.{erased}
@@ -26,44 +22,7 @@ use Rattle.rgo_journal.specs.Replays.{Takes}
 use Rattle.rgo_journal.proofs.Replaying.{one_replay}
 use Rattle.rgo_recording.specs.Notes.{picks_of}
 use Rattle.rgo_recording.specs.Laws.{RecordedReplays, ReplaysAs}
-
--- ---- who has a step
-
-module _ {F : Type 0} (machine : Machine F) (s : State F) (g : ℕ) (f : F) (callers : List F) where
-  calls_steps : (stand : Stand F) → IsAtCall stand → stepped machine s g f callers stand ≡ None → ⊥
-  calls_steps (AtCall next callee) at none = cc
-  calls_steps (AtReceive channel blank next) at none = at
-  calls_steps (AtSend channel value place next) at none = at
-  calls_steps (AtClose channel place next) at none = at
-  calls_steps (AtStart next child) at none = at
-  calls_steps Elsewhere at none = at
-
-  starts_steps : (stand : Stand F) → IsAtStart stand → stepped machine s g f callers stand ≡ None → ⊥
-  starts_steps (AtStart next child) at none = cc
-  starts_steps (AtReceive channel blank next) at none = at
-  starts_steps (AtSend channel value place next) at none = at
-  starts_steps (AtClose channel place next) at none = at
-  starts_steps (AtCall next callee) at none = at
-  starts_steps Elsewhere at none = at
-
--- in a deadlock no goroutine has a step, by its newest frame
-no_step : {F : Type 0} (machine : Machine F) (s : State F) → IsDeadlock machine s → (g : ℕ) (f : F) (callers : List F)
-    → slice_get s.goroutines g ≡ Some (f ∷ callers) → stepped machine s g f callers (machine.stand f) ≡ None
-no_step machine s dead g f callers frames =
-    ap (λ e. unless_ended e (stepped machine s g f callers (machine.stand f))) (sym dead.0)
-    ∙ ap (λ o. unless_ended s.ended (option_and_then (alone machine s g) o)) (sym frames)
-    ∙ dead.1 (One g)
-
-deep_goes_on : {F : Type 0} (machine : Machine F) (s : State F) → IsTooDeep machine s → IsDeadlock machine s → ⊥
-deep_goes_on machine s deep dead =
-    calls_steps machine s deep.goroutine deep.frame deep.callers (machine.stand deep.frame) deep.calls
-    (no_step machine s dead deep.goroutine deep.frame deep.callers deep.frames)
-
-full_goes_on : {F : Type 0} (machine : Machine F) (limits : Limits) (s : State F) → IsFull machine limits s
-    → IsDeadlock machine s → ⊥
-full_goes_on machine limits s full dead =
-    starts_steps machine s full.goroutine full.frame full.callers (machine.stand full.frame) full.starts
-    (no_step machine s dead full.goroutine full.frame full.callers full.frames)
+use Rattle.rgo_recording.proofs.Going.{deep_goes_on, full_goes_on, recorded_goes_on}
 
 -- ---- how the replay ends
 
@@ -94,19 +53,21 @@ module _ (code : Tac) (picks : List TacPick) (t : TacState) (takes : Takes code 
     either replay_end.WriteFault is = absurd (subst IsWhole is is_whole)
     either replay_end.NoMemory is = absurd (subst IsWhole is is_whole)
 
-  -- by how the run ended, after so many steps
+  unfinished : t.ended ≡ None → (IsDeadlock (tac code) t → ⊥) → e ≡ replay_end.Unfinished
+  unfinished open_yet goes_on = (same_end replay_end.Unfinished tt (takes, open_yet, goes_on)).0
+
+  -- by how the run ended, after so many steps; one that lacked room could go on without its regions
   pub replays_as : (limits : Limits) (before steps : ℕ) (end : RunEnd) → Ends (tac code) limits before steps t end
-      → ReplaysAs end e
-  replays_as limits before steps (run_end.Ended end) is = (same_end (replay_end.Ended end) tt (takes, is)).0
-  replays_as limits before steps run_end.Deadlock is = (same_end replay_end.Deadlock tt (takes, is)).0
-  replays_as limits before steps run_end.CallsTooDeep is =
-      (same_end replay_end.Unfinished tt (takes, is.0, deep_goes_on (tac code) t is.1)).0
-  replays_as limits before steps run_end.GoroutinesSpent is =
-      (same_end replay_end.Unfinished tt (takes, is.0, full_goes_on (tac code) limits t is.1)).0
-  replays_as limits before steps run_end.StepsSpent is = either is.0 e refl
-  replays_as limits before steps (run_end.NoRoom shortage) is = either is e refl
-  replays_as limits before steps run_end.WriteFault is = tt
-  replays_as limits before steps run_end.NoMemory is = tt
+      → ((why : Shortage) → end ≡ run_end.NoRoom why → IsDeadlock (tac code) t → ⊥) → ReplaysAs end e
+  replays_as limits before steps (run_end.Ended end) is room = (same_end (replay_end.Ended end) tt (takes, is)).0
+  replays_as limits before steps run_end.Deadlock is room = (same_end replay_end.Deadlock tt (takes, is)).0
+  replays_as limits before steps run_end.CallsTooDeep is room = unfinished is.0 (deep_goes_on (tac code) t is.1)
+  replays_as limits before steps run_end.GoroutinesSpent is room =
+      unfinished is.0 (full_goes_on (tac code) t limits is.1)
+  replays_as limits before steps run_end.StepsSpent is room = either is.0 e refl
+  replays_as limits before steps (run_end.NoRoom why) is room = unfinished is (room why refl)
+  replays_as limits before steps run_end.WriteFault is room = tt
+  replays_as limits before steps run_end.NoMemory is room = tt
 
   -- all picks have a step
   never_foreign : (index : ℕ) → e ≡ replay_end.Foreign index → ⊥
@@ -145,7 +106,8 @@ recorded_replays code sizes limits old new r records e before after x w =
     let same = comes (erased code) (picks_of r.notes) run.state records.noted e x.state w x.ends e refl in
     record {
       ends = replays_as (erased code) (picks_of r.notes) run.state records.noted e x.state w x.ends limits
-          (length (all_of run.rounds)) (length (all_of run.rounds ++ run.last)) r.end run.ends;
+          (length (all_of run.rounds)) (length (all_of run.rounds ++ run.last)) r.end run.ends
+          (recorded_goes_on code sizes limits old new r records);
       bytes = run.state.printed;
       ran = run.gives;
       replayed = subst (λ bytes. Appends before after bytes) (ap (λ v. v.printed) same)

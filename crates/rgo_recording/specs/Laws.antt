@@ -16,16 +16,16 @@ use Rattle.rgo_recording.specs.declared.recording.Recorded.{Recorded}
 use Rattle.rgo_recording.specs.Notes.{picks_of}
 use Rattle.rgo_recording.specs.Recordings.{Records}
 
--- How a replay ends of what was noted of a run that ended so. A run that was cut off has not ended: its replay is
--- unfinished. Where it was cut after so many steps, or where there was no room for what some goroutine does next, it may be
--- that no pick has a step then. Where memory ran out or a write failed, nothing is said.
+-- How a replay of what was noted of a run ends, by how the run ended. A run that was cut off has not ended, so its replay is
+-- unfinished. If the steps were spent, there may be a deadlock just then. Where a run lacked room, or met a limit of calls or
+-- of goroutines, some goroutine has a step on the three-address machine. If memory ran out or a write failed, nothing is said.
 abbrev pub ReplaysAs : RunEnd → ReplayEnd → Type 0
 ReplaysAs (run_end.Ended end) e = e ≡ replay_end.Ended end
 ReplaysAs run_end.Deadlock e = e ≡ replay_end.Deadlock
 ReplaysAs run_end.CallsTooDeep e = e ≡ replay_end.Unfinished
 ReplaysAs run_end.GoroutinesSpent e = e ≡ replay_end.Unfinished
 ReplaysAs run_end.StepsSpent e = (e ≡ replay_end.Unfinished) ⊎ (e ≡ replay_end.Deadlock)
-ReplaysAs (run_end.NoRoom shortage) e = (e ≡ replay_end.Unfinished) ⊎ (e ≡ replay_end.Deadlock)
+ReplaysAs (run_end.NoRoom shortage) e = e ≡ replay_end.Unfinished
 ReplaysAs run_end.WriteFault e = ⊤
 ReplaysAs run_end.NoMemory e = ⊤
 

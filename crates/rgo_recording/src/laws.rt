@@ -2,8 +2,8 @@
 
 ghost use Rattle.rgo_recording.specs.Laws.{RecordedReplays};
 
-/// The picks that were noted of a run, replayed on the same code, end as the run did and print the same; after a run that was cut
-/// off, the replay is unfinished, or in a deadlock.
+/// The picks that were noted of a run, replayed on the same code, end as the run did and print the same. The replay of a run
+/// that was cut off is unfinished; if the steps were spent, it may be in a deadlock.
 pub fn recorded_replays()
     ensures { RecordedReplays }
 {}

@@ -21,10 +21,11 @@ const SIZES: Sizes = Sizes {
     regions: 100,
 };
 
-/// A program, how its run ends and what it prints, and how the replay of its journal ends.
+/// A program and what limits its run, how the run ends and what it prints, and how the replay of its journal ends.
 struct Row {
     text: &'static str,
     limits: Limits,
+    sizes: Sizes,
     end: RunEnd,
     printed: &'static str,
     replayed: ReplayEnd,
@@ -62,10 +63,20 @@ func main() { for { head = &N{1, head} } }
 
 const STARTS: &str = "package main\nfunc f() { }\nfunc main() { go f(); go f() }\n";
 
-static ROWS: [Row; 8] = [
+const TWO: &str = "package main
+type N struct { v int; p *N }
+func main() { x := &N{1, nil}; y := &N{2, nil}; x.v = y.v }
+";
+
+const LONG: &str = "package main\nfunc main() { s := make([]int, 256); s[0] = 1 }\n";
+
+const DEEP: &str = "package main\nfunc f() { f() }\nfunc main() { f() }\n";
+
+static ROWS: [Row; 12] = [
     Row {
         text: GREETING,
         limits: LIMITS,
+        sizes: SIZES,
         end: RunEnd::Ended(End::Exit),
         printed: "hi 1 true\n",
         replayed: ReplayEnd::Ended(End::Exit),
@@ -73,6 +84,7 @@ static ROWS: [Row; 8] = [
     Row {
         text: ECHO,
         limits: LIMITS,
+        sizes: SIZES,
         end: RunEnd::Ended(End::Exit),
         printed: "1\n11\n21\n31\n41\n",
         replayed: ReplayEnd::Ended(End::Exit),
@@ -80,6 +92,7 @@ static ROWS: [Row; 8] = [
     Row {
         text: PAIR,
         limits: LIMITS,
+        sizes: SIZES,
         end: RunEnd::Ended(End::Exit),
         printed: "",
         replayed: ReplayEnd::Ended(End::Exit),
@@ -87,6 +100,7 @@ static ROWS: [Row; 8] = [
     Row {
         text: DIVIDED,
         limits: LIMITS,
+        sizes: SIZES,
         end: RunEnd::Ended(End::Trap(Trap::DivideZero, 70)),
         printed: "1\n",
         replayed: ReplayEnd::Ended(End::Trap(Trap::DivideZero, 70)),
@@ -97,6 +111,7 @@ static ROWS: [Row; 8] = [
             steps: 10,
             goroutines: 1,
         },
+        sizes: SIZES,
         end: RunEnd::StepsSpent,
         printed: "",
         replayed: ReplayEnd::Unfinished,
@@ -104,6 +119,7 @@ static ROWS: [Row; 8] = [
     Row {
         text: WAITS,
         limits: LIMITS,
+        sizes: SIZES,
         end: RunEnd::Deadlock,
         printed: "2\n",
         replayed: ReplayEnd::Deadlock,
@@ -111,6 +127,7 @@ static ROWS: [Row; 8] = [
     Row {
         text: GROWS,
         limits: LIMITS,
+        sizes: SIZES,
         end: RunEnd::NoRoom(Shortage::Pages),
         printed: "",
         replayed: ReplayEnd::Unfinished,
@@ -121,9 +138,50 @@ static ROWS: [Row; 8] = [
             steps: 1000,
             goroutines: 2,
         },
+        sizes: SIZES,
         end: RunEnd::GoroutinesSpent,
         printed: "",
         replayed: ReplayEnd::Unfinished,
+    },
+    Row {
+        text: TWO,
+        limits: LIMITS,
+        sizes: Sizes {
+            page_words: 16,
+            pages: 2,
+            regions: 1,
+        },
+        end: RunEnd::NoRoom(Shortage::Regions),
+        printed: "",
+        replayed: ReplayEnd::Unfinished,
+    },
+    Row {
+        text: LONG,
+        limits: LIMITS,
+        sizes: SIZES,
+        end: RunEnd::NoRoom(Shortage::ObjectSize),
+        printed: "",
+        replayed: ReplayEnd::Unfinished,
+    },
+    Row {
+        text: DEEP,
+        limits: LIMITS,
+        sizes: SIZES,
+        end: RunEnd::CallsTooDeep,
+        printed: "",
+        replayed: ReplayEnd::Unfinished,
+    },
+    // The steps are spent just when `main` waits.
+    Row {
+        text: WAITS,
+        limits: Limits {
+            steps: 5,
+            goroutines: 1,
+        },
+        sizes: SIZES,
+        end: RunEnd::StepsSpent,
+        printed: "2\n",
+        replayed: ReplayEnd::Deadlock,
     },
 ];
 
@@ -134,7 +192,7 @@ fn check<R: Abort + AllocGlobal>(rt: &R, row: &Row) -> Result<(), Fail> {
         return Err(Fail::from("no program"));
     };
     let mut out = MemSink::new(alloc, 1000, Vec::new(alloc))?;
-    let recorded = run_recorded(alloc, &code, SIZES, row.limits, &mut out)?;
+    let recorded = run_recorded(alloc, &code, row.sizes, row.limits, &mut out)?;
     assert_eq!(rt; recorded.end, row.end, "{}", row.text);
     assert_eq!(rt; out.bytes(), row.printed.as_bytes(), "{}", row.text);
     let journal = recorded.notes.journal(alloc)?;

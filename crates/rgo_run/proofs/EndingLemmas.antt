@@ -1,5 +1,6 @@
 -- What endings and statuses exclude.
-use Rattle.std.proofs.Common.{◌≡◌, inl, inr, true, ℕ, List, [], Option, Some, Result, Ok, Err, IfOk, MatchResult, refl, subst}
+use Rattle.std.proofs.Common.{◌≡◌, ◌⊎◌, inl, inr, Bool, true, false, ◌||◌, ℕ, List, [], Option, Some, Result, Ok, Err, IfOk, MatchResult, refl, sym, ap, ◌∙◌, subst, true≢false}
+use Rattle.std.specs.Prelude.{◌==◌}
 use Rattle.std.specs.declared.alloc.AllocError.{AllocError}
 use Rattle.rgo_machine.specs.declared.picks.End.TheVariants as the_end
 use Rattle.rgo_machine.specs.declared.turns.Shortage.TheVariants as shortage
@@ -38,19 +39,62 @@ pub refused_status : (kind : TextKind) (text : List ℕ) (e : Ending) → Refuse
 refused_status text_kind.Go text e r = text_refused text e r
 refused_status text_kind.Code text e r = code_refused text e r
 
--- the status of a run is none of a refusal or of a failed read
+-- the statuses of runs: those of runs alone, and 0, 10 and 11
+abbrev pub has_run_status : ℕ → Bool
+has_run_status n = n == 0 || n == 10 || n == 11 || is_run_status n
+
+run_has_status : (end : RunEnd) → has_run_status (status_of_run end) ≡ true
+run_has_status (run_end.Ended the_end.Exit) = refl
+run_has_status (run_end.Ended (the_end.Trap trap at)) = refl
+run_has_status run_end.Deadlock = refl
+run_has_status (run_end.NoRoom shortage.Pages) = refl
+run_has_status (run_end.NoRoom shortage.Regions) = refl
+run_has_status (run_end.NoRoom shortage.ObjectSize) = refl
+run_has_status run_end.CallsTooDeep = refl
+run_has_status run_end.StepsSpent = refl
+run_has_status run_end.GoroutinesSpent = refl
+run_has_status run_end.WriteFault = refl
+run_has_status run_end.NoMemory = refl
+
+-- a run has no other
+pub no_run_status : (n : ℕ) → has_run_status n ≡ false → (end : RunEnd) → status_of_run end ≡ n → ⊥
+no_run_status n none end s = true≢false (sym (run_has_status end) ∙ ap has_run_status s ∙ none)
+
 pub not_status_1 : (end : RunEnd) → status_of_run end ≡ 1 → ⊥
-not_status_1 (run_end.Ended the_end.Exit) s = cc
-not_status_1 (run_end.Ended (the_end.Trap trap at)) s = cc
-not_status_1 run_end.Deadlock s = cc
-not_status_1 (run_end.NoRoom shortage.Pages) s = cc
-not_status_1 (run_end.NoRoom shortage.Regions) s = cc
-not_status_1 (run_end.NoRoom shortage.ObjectSize) s = cc
-not_status_1 run_end.CallsTooDeep s = cc
-not_status_1 run_end.StepsSpent s = cc
-not_status_1 run_end.GoroutinesSpent s = cc
-not_status_1 run_end.WriteFault s = cc
-not_status_1 run_end.NoMemory s = cc
+not_status_1 end s = no_run_status 1 refl end s
+
+-- with status 10 of a run a write failed
+pub fault_of_run : (end : RunEnd) → status_of_run end ≡ 10 → end ≡ run_end.WriteFault
+fault_of_run run_end.WriteFault s = refl
+fault_of_run (run_end.Ended the_end.Exit) s = absurd (let wrong = s in cc)
+fault_of_run (run_end.Ended (the_end.Trap trap at)) s = absurd (let wrong = s in cc)
+fault_of_run run_end.Deadlock s = absurd (let wrong = s in cc)
+fault_of_run (run_end.NoRoom shortage.Pages) s = absurd (let wrong = s in cc)
+fault_of_run (run_end.NoRoom shortage.Regions) s = absurd (let wrong = s in cc)
+fault_of_run (run_end.NoRoom shortage.ObjectSize) s = absurd (let wrong = s in cc)
+fault_of_run run_end.CallsTooDeep s = absurd (let wrong = s in cc)
+fault_of_run run_end.StepsSpent s = absurd (let wrong = s in cc)
+fault_of_run run_end.GoroutinesSpent s = absurd (let wrong = s in cc)
+fault_of_run run_end.NoMemory s = absurd (let wrong = s in cc)
+
+-- ---- statuses that are neither that of wrong words nor that of a failed read
+
+abbrev pub IsLate : ℕ → Type 0
+IsLate n = (n ≡ 64 → ⊥) × (n ≡ 9 → ⊥)
+
+pub run_is_late : (end : RunEnd) → IsLate (status_of_run end)
+run_is_late end = (no_run_status 64 refl end, no_run_status 9 refl end)
+
+-- why a text was not run: a refusal, or want of memory
+pub failing_late : (e : Ending) → (e ≡ NoMemory) ⊎ (status_of e ≡ 1) → IsLate (status_of e)
+failing_late e (inl is) = subst (λ x. IsLate (status_of x)) (sym is) (λ s. cc, λ s. cc)
+failing_late e (inr is) = subst IsLate (sym is) (λ s. cc, λ s. cc)
+
+pub failing_ten : (e : Ending) → (e ≡ NoMemory) ⊎ (status_of e ≡ 1) → status_of e ≡ 10 → ⊥
+failing_ten e (inl is) ten = let wrong = sym (ap status_of is) ∙ ten in cc
+failing_ten e (inr is) ten = let wrong = sym is ∙ ten in cc
+
+-- ---- endings
 
 -- an ending with status 1 is none with another status
 pub not_one : (e other : Ending) → status_of e ≡ 1 → (status_of other ≡ 1 → ⊥) → e ≡ other → ⊥
@@ -69,17 +113,7 @@ one_is_no_emit _ s m = m
 -- with status 9 a read failed
 pub read_fault : (e : Ending) → status_of e ≡ 9 → e ≡ ReadFault
 read_fault ReadFault s = refl
-read_fault (Ran kind (run_end.Ended the_end.Exit) stats) s = cc
-read_fault (Ran kind (run_end.Ended (the_end.Trap trap at)) stats) s = cc
-read_fault (Ran kind run_end.Deadlock stats) s = cc
-read_fault (Ran kind (run_end.NoRoom shortage.Pages) stats) s = cc
-read_fault (Ran kind (run_end.NoRoom shortage.Regions) stats) s = cc
-read_fault (Ran kind (run_end.NoRoom shortage.ObjectSize) stats) s = cc
-read_fault (Ran kind run_end.CallsTooDeep stats) s = cc
-read_fault (Ran kind run_end.StepsSpent stats) s = cc
-read_fault (Ran kind run_end.GoroutinesSpent stats) s = cc
-read_fault (Ran kind run_end.WriteFault stats) s = cc
-read_fault (Ran kind run_end.NoMemory stats) s = cc
+read_fault (Ran kind end stats) s = absurd (no_run_status 9 refl end s)
 read_fault Valid s = cc
 read_fault Usage s = cc
 read_fault TooLong s = cc
@@ -95,18 +129,8 @@ read_fault NoMemory s = cc
 
 -- with status 10 of an ending a write to `out` failed
 pub write_fault : (e : Ending) → status_of e ≡ 10 → IsWriteFault e
-write_fault (Ran kind run_end.WriteFault stats) s = inl (kind, stats, refl)
+write_fault (Ran kind end stats) s = inl (kind, stats, ap (λ e. Ran kind e stats) (fault_of_run end s))
 write_fault WriteFault s = inr refl
-write_fault (Ran kind (run_end.Ended the_end.Exit) stats) s = cc
-write_fault (Ran kind (run_end.Ended (the_end.Trap trap at)) stats) s = cc
-write_fault (Ran kind run_end.Deadlock stats) s = cc
-write_fault (Ran kind (run_end.NoRoom shortage.Pages) stats) s = cc
-write_fault (Ran kind (run_end.NoRoom shortage.Regions) stats) s = cc
-write_fault (Ran kind (run_end.NoRoom shortage.ObjectSize) stats) s = cc
-write_fault (Ran kind run_end.CallsTooDeep stats) s = cc
-write_fault (Ran kind run_end.StepsSpent stats) s = cc
-write_fault (Ran kind run_end.GoroutinesSpent stats) s = cc
-write_fault (Ran kind run_end.NoMemory stats) s = cc
 write_fault ReadFault s = cc
 write_fault Valid s = cc
 write_fault Usage s = cc

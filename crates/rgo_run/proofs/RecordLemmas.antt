@@ -6,8 +6,6 @@ use Rattle.std.specs.Io.KnownBytes.{Appends, append_known}
 use Rattle.rgo_outside.specs.Causes.{Rose}
 use Rattle.rgo_typed.specs.Tree.{Typed}
 use Rattle.rgo_machine.specs.declared.limits.Limits.{Limits}
-use Rattle.rgo_machine.specs.declared.picks.End.TheVariants as the_end
-use Rattle.rgo_machine.specs.declared.turns.Shortage.TheVariants as shortage
 use Rattle.rgo_tac.specs.Code.{Tac}
 use Rattle.rgo_tac.specs.Tac.{tac, tac_start}
 use Rattle.rgo_code.specs.Code.{Code}
@@ -22,6 +20,7 @@ use Rattle.rgo_journal.specs.Text.{journal}
 use Rattle.rgo_recording.specs.declared.recording.Recorded.{Recorded}
 use Rattle.rgo_recording.specs.Notes.{picks_of}
 use Rattle.rgo_recording.specs.Recordings as recording
+use Rattle.rgo_recording.proofs.Going.{recorded_goes_on}
 use Rattle.rgo_command_line.specs.declared.commands.Command.TheVariants.{Record}
 use Rattle.rgo_command_line.specs.declared.limits.RunOptions.{RunOptions}
 use Rattle.rgo_run.specs.declared.endings.Ending.{Ending}
@@ -29,7 +28,7 @@ use Rattle.rgo_run.specs.declared.endings.Ending.TheVariants.{Ran, NoMemory, Usa
 use Rattle.rgo_run.specs.declared.endings.TextKind.TheVariants as text_kind
 use Rattle.rgo_run.specs.Calls.{Asks, Call, SinkUse, Failed, Held, Grew, IsUntouched, sink_use}
 use Rattle.rgo_run.specs.Compiled.{IsCompiledFrom}
-use Rattle.rgo_run.specs.Endings.{line_of, status_of, status_of_run}
+use Rattle.rgo_run.specs.Endings.{line_of, status_of}
 use Rattle.rgo_run.specs.Headline.{EndsRun}
 use Rattle.rgo_run.specs.Recorded.{IsCut, IsOfNoRun, Keeps, KeepsNotes, Noted, RecordHeadline, Records, ReportsKept, Says, WritesJournal}
 use Rattle.rgo_run.specs.Recorded.{after, nothing, part, rest, whole}
@@ -37,7 +36,7 @@ use Rattle.rgo_run.specs.Reports.{Reports, Writes}
 use Rattle.rgo_run.specs.Runs.{RegionRun, of_program, stats_at}
 use Rattle.rgo_run.specs.Texts.{Fails, IsRead, NotRead}
 use Rattle.rgo_run.specs.Verdicts.{IsProgram}
-use Rattle.rgo_run.proofs.EndingLemmas.{one_is_no_run, refused_status}
+use Rattle.rgo_run.proofs.EndingLemmas.{IsLate, failing_late, failing_ten, fault_of_run, one_is_no_run, refused_status, run_is_late}
 use Rattle.rgo_run.proofs.HeadlineLemmas.{headline_of_recorded, headline_of_unrecorded, headline_of_words, no_line_run}
 use Rattle.rgo_run.proofs.TextLemmas.{followed_if}
 use Rattle.rgo_run.proofs.WorldLemmas.{Ended, ended_so, region_run}
@@ -237,6 +236,7 @@ module _ (options : RunOptions) (text : List ℕ) (program : Typed) (code : Code
     };
     takes = records.noted;
     fit = records.fit;
+    goes_on = recorded_goes_on code options.sizes options.limits out.old out.new r records;
   }
 
   -- where there was no memory for its journal
@@ -247,6 +247,7 @@ module _ (options : RunOptions) (text : List ℕ) (program : Typed) (code : Code
     runs = no_line_run text_kind.Go options text out (Ran text_kind.Go r.end None) noted_run.runs no_fault;
     takes = noted_run.takes;
     fit = noted_run.fit;
+    goes_on = λ why is dead. cc;
   }
 
   -- what was kept of it
@@ -264,37 +265,16 @@ module _ (options : RunOptions) (text : List ℕ) (program : Typed) (code : Code
 
 -- ---- the status
 
--- a status that is neither that of wrong words nor that of a failed read
-abbrev IsLate : ℕ → Type 0
-IsLate n = (n ≡ 64 → ⊥) × (n ≡ 9 → ⊥)
-
-run_is_late : (end : RunEnd) → IsLate (status_of_run end)
-run_is_late (run_end.Ended the_end.Exit) = (λ s. cc, λ s. cc)
-run_is_late (run_end.Ended (the_end.Trap trap at)) = (λ s. cc, λ s. cc)
-run_is_late run_end.Deadlock = (λ s. cc, λ s. cc)
-run_is_late (run_end.NoRoom shortage.Pages) = (λ s. cc, λ s. cc)
-run_is_late (run_end.NoRoom shortage.Regions) = (λ s. cc, λ s. cc)
-run_is_late (run_end.NoRoom shortage.ObjectSize) = (λ s. cc, λ s. cc)
-run_is_late run_end.CallsTooDeep = (λ s. cc, λ s. cc)
-run_is_late run_end.StepsSpent = (λ s. cc, λ s. cc)
-run_is_late run_end.GoroutinesSpent = (λ s. cc, λ s. cc)
-run_is_late run_end.WriteFault = (λ s. cc, λ s. cc)
-run_is_late run_end.NoMemory = (λ s. cc, λ s. cc)
-
 -- a refusal, or want of memory
-failing : (text : List ℕ) (e : Ending) → Fails text e → (e ≡ NoMemory) ⊎ (status_of e ≡ 1)
+pub failing : (text : List ℕ) (e : Ending) → Fails text e → (e ≡ NoMemory) ⊎ (status_of e ≡ 1)
 failing text NoMemory f = inl refl
 failing text e f = inr (refused_status text_kind.Go text e f)
 
-reported_late : (text : List ℕ) (e : Ending) (n : ℕ) (err : SinkUse) → IsLate (status_of e) → Reports text e n err → IsLate n
+pub reported_late : (text : List ℕ) (e : Ending) (n : ℕ) (err : SinkUse) → IsLate (status_of e) → Reports text e n err → IsLate n
 reported_late text e n err late (inl (inl w)) = subst IsLate (sym w.0) late
 reported_late text e n err late (inl (inr w)) = subst IsLate (sym w.0) (λ s. cc, λ s. cc)
 reported_late text e n err late (inr (h, inl w)) = subst IsLate (sym w.0) (λ s. cc, λ s. cc)
 reported_late text e n err late (inr (h, inr w)) = subst IsLate (sym w.0) (λ s. cc, λ s. cc)
-
-failing_late : (e : Ending) → (e ≡ NoMemory) ⊎ (status_of e ≡ 1) → IsLate (status_of e)
-failing_late e (inl is) = subst (λ x. IsLate (status_of x)) (sym is) (λ s. cc, λ s. cc)
-failing_late e (inr is) = subst IsLate (sym is) (λ s. cc, λ s. cc)
 
 records_late : (options : RunOptions) (text : List ℕ) (n : ℕ) (out err : SinkUse) → Records options text n out err
     → IsLate n
@@ -312,29 +292,12 @@ pub not_read : (options : RunOptions) (text : List ℕ) (n : ℕ) (out err : Sin
     → n ≡ 9 → ⊥
 not_read options text n out err r = (records_late options text n out err r).1
 
-fault_of_run : (end : RunEnd) → status_of_run end ≡ 10 → end ≡ run_end.WriteFault
-fault_of_run run_end.WriteFault s = refl
-fault_of_run (run_end.Ended the_end.Exit) s = absurd (let wrong = s in cc)
-fault_of_run (run_end.Ended (the_end.Trap trap at)) s = absurd (let wrong = s in cc)
-fault_of_run run_end.Deadlock s = absurd (let wrong = s in cc)
-fault_of_run (run_end.NoRoom shortage.Pages) s = absurd (let wrong = s in cc)
-fault_of_run (run_end.NoRoom shortage.Regions) s = absurd (let wrong = s in cc)
-fault_of_run (run_end.NoRoom shortage.ObjectSize) s = absurd (let wrong = s in cc)
-fault_of_run run_end.CallsTooDeep s = absurd (let wrong = s in cc)
-fault_of_run run_end.StepsSpent s = absurd (let wrong = s in cc)
-fault_of_run run_end.GoroutinesSpent s = absurd (let wrong = s in cc)
-fault_of_run run_end.NoMemory s = absurd (let wrong = s in cc)
-
 -- what is known of a sink to which a write failed
 abbrev Broke : SinkUse → Type 0
 Broke sink = Rose sink.faults_old sink.faults_new × (sink.broken ≡ true)
 
 broke : (said : List ℕ) (err : SinkUse) → Failed (rest said err) → Broke err
 broke said err f = (f.counted, f.broken)
-
-failing_ten : (e : Ending) → (e ≡ NoMemory) ⊎ (status_of e ≡ 1) → status_of e ≡ 10 → ⊥
-failing_ten e (inl is) ten = let wrong = sym (ap status_of is) ∙ ten in cc
-failing_ten e (inr is) ten = let wrong = sym is ∙ ten in cc
 
 -- a write failed, where the answer says so
 pub write_failed : (options : RunOptions) (text : List ℕ) (n : ℕ) (out err : SinkUse) → Records options text n out err

@@ -1,14 +1,12 @@
 -- A journal that `record` wrote, replayed with its text.
-use Rattle.std.proofs.Common.{◌≡◌, ◌⊎◌, inl, inr, ℕ, ◌≤◌, ◌<◌, Bool, true, false, List, [], ◌∷◌, ◌++◌, drop, take, length, IfSome, Option, None, Some, refl, sym}
-use Rattle.std.proofs.Common.{ap, ◌∙◌, subst, arith, append_assoc}
+use Rattle.std.proofs.Common.{◌≡◌, ◌⊎◌, inl, inr, ℕ, ◌≤◌, ◌<◌, true, false, List, [], ◌∷◌, ◌++◌, drop, length, IfSome, Option, None, Some, refl, sym}
+use Rattle.std.proofs.Common.{ap, ◌∙◌, subst, arith, true≢false, append_assoc}
 use Rattle.std.specs.Io.KnownBytes.{Appends, append_known}
 use Rattle.std.proofs.lemmas.Option.{same_Some}
-use Rattle.rgo_typed.specs.Tree.{Typed}
-use Rattle.rgo_machine.specs.declared.limits.Limits.{Limits}
 use Rattle.rgo_machine.specs.declared.picks.End.TheVariants as the_end
 use Rattle.rgo_machine.specs.declared.turns.Shortage.TheVariants as shortage
 use Rattle.rgo_tac.specs.Code.{Tac}
-use Rattle.rgo_tac.specs.Tac.{TacState, tac, tac_start}
+use Rattle.rgo_tac.specs.Tac.{tac, tac_start}
 use Rattle.rgo_code.specs.Code.{Code}
 use Rattle.rgo_code.specs.Erasure.{erased}
 use Rattle.rgo_lower.specs.Lowered.{IsLowered}
@@ -20,7 +18,7 @@ use Rattle.rgo_journal.specs.declared.picks.TacPick.{TacPick}
 use Rattle.rgo_journal.specs.declared.replays.ReplayEnd.{ReplayEnd}
 use Rattle.rgo_journal.specs.declared.replays.ReplayEnd.TheVariants as replay_end
 use Rattle.rgo_journal.specs.Laws.{IsWhole}
-use Rattle.rgo_journal.specs.Replays.{Replays, Takes}
+use Rattle.rgo_journal.specs.Replays.{Replays}
 use Rattle.rgo_journal.specs.Text.{IsJournal, journal}
 use Rattle.rgo_journal.proofs.OneJournal.{read_back}
 use Rattle.rgo_recording.specs.Laws.{ReplaysAs}
@@ -35,12 +33,12 @@ use Rattle.rgo_run.specs.declared.replaying.ReplayEnding.TheVariants.{NoJournal,
 use Rattle.rgo_run.specs.Calls.{Asks, Call, SinkUse, Grew, IsUntouched}
 use Rattle.rgo_run.specs.CodeVerdicts.{code_limit}
 use Rattle.rgo_run.specs.Endings.{line_of, status_of, status_of_run}
-use Rattle.rgo_run.specs.RecordLaws.{AnswersAs, IsUnhindered, LeavesJournal, RecordedIsReplayed, ReplaysCall, is_cut_status, is_own_status}
+use Rattle.rgo_run.specs.RecordLaws.{AnswersAs, IsUnhindered, LeavesJournal, RecordedIsReplayed, ReplaysCall, is_own_status}
 use Rattle.rgo_run.specs.Recorded.{IsCut, IsOfNoRun, Noted, RecordHeadline, RecordedText, RecordsRun, Says, nothing, part, rest, whole}
-use Rattle.rgo_run.specs.Replayed.{Claim, EndsOn, HasNumber, IsReadWhole, IsSplit, NotReplayed, ReadsNothing, ReplayHeadline, ReplaysTo, ReportsReplay, status_of_end, status_of_replay}
+use Rattle.rgo_run.specs.Replayed.{Claim, EndsOn, IsReadWhole, IsSplit, NotReplayed, ReadsNothing, ReplayHeadline, ReplaysTo, ReportsReplay, status_of_end, status_of_replay}
 use Rattle.rgo_run.specs.Reports.{Reports}
-use Rattle.rgo_run.specs.Runs.{IsCodeFor, IsCodeOf, IsRunnable, Runnable, RunsTo, of_code, of_program}
-use Rattle.rgo_run.specs.Verdicts.{IsProgram, Passes, Refused}
+use Rattle.rgo_run.specs.Runs.{IsCodeFor, IsCodeOf, IsRunnable, Runnable, of_code, of_program}
+use Rattle.rgo_run.specs.Verdicts.{Passes, Refused}
 use Rattle.rgo_run.proofs.VerdictLemmas.{never_both, one_program}
 
 -- ---- the bytes on `err`
@@ -63,22 +61,16 @@ answers : (end : RunEnd) (e : ReplayEnd) → IsRunStatus end → ReplaysAs end e
     → AnswersAs (status_of_run end) (status_of_end e)
 answers end e s same_end = by end e s same_end
   where
-    unfinished : (status : ℕ) → is_own_status status ≡ false → AnswersAs status 13
-    unfinished status other = record { own = λ own. absurd (let both = sym own ∙ other in cc); cut = λ o. inl refl }
-
-    dead : (status : ℕ) → is_own_status status ≡ false → is_cut_status status ≡ true → AnswersAs status 3
-    dead status other cut =
-        record { own = λ own. absurd (let both = sym own ∙ other in cc); cut = λ o. inr (refl, cut) }
-
     same : (status : ℕ) → is_own_status status ≡ true → AnswersAs status status
     same status own = record { own = λ o. refl; cut = λ other. absurd (let both = sym own ∙ other in cc) }
 
-    either : (status : ℕ) (e : ReplayEnd) → is_own_status status ≡ false → is_cut_status status ≡ true
-        → (e ≡ replay_end.Unfinished) ⊎ (e ≡ replay_end.Deadlock) → AnswersAs status (status_of_end e)
-    either status e other cut (inl is) =
-        subst (λ x. AnswersAs status (status_of_end x)) (sym is) (unfinished status other)
-    either status e other cut (inr is) =
-        subst (λ x. AnswersAs status (status_of_end x)) (sym is) (dead status other cut)
+    unfinished : (status : ℕ) → is_own_status status ≡ false → AnswersAs status 13
+    unfinished status other = record { own = λ own. absurd (let both = sym own ∙ other in cc); cut = λ o. inl refl }
+
+    spent : (e : ReplayEnd) → (e ≡ replay_end.Unfinished) ⊎ (e ≡ replay_end.Deadlock) → AnswersAs 8 (status_of_end e)
+    spent e (inl is) = subst (λ x. AnswersAs 8 (status_of_end x)) (sym is) (unfinished 8 refl)
+    spent e (inr is) = subst (λ x. AnswersAs 8 (status_of_end x)) (sym is)
+        (record { own = λ own. absurd (true≢false (sym own)); cut = λ other. inr (refl, refl) })
 
     by : (end : RunEnd) (e : ReplayEnd) → IsRunStatus end → ReplaysAs end e
         → AnswersAs (status_of_run end) (status_of_end e)
@@ -87,10 +79,11 @@ answers end e s same_end = by end e s same_end
     by run_end.Deadlock e s is = subst (λ x. AnswersAs 3 (status_of_end x)) (sym is) (same 3 refl)
     by run_end.CallsTooDeep e s is = subst (λ x. AnswersAs 7 (status_of_end x)) (sym is) (unfinished 7 refl)
     by run_end.GoroutinesSpent e s is = subst (λ x. AnswersAs 12 (status_of_end x)) (sym is) (unfinished 12 refl)
-    by run_end.StepsSpent e s is = either 8 e refl refl is
-    by (run_end.NoRoom shortage.Pages) e s is = either 4 e refl refl is
-    by (run_end.NoRoom shortage.Regions) e s is = either 5 e refl refl is
-    by (run_end.NoRoom shortage.ObjectSize) e s is = either 6 e refl refl is
+    by run_end.StepsSpent e s is = spent e is
+    by (run_end.NoRoom shortage.Pages) e s is = subst (λ x. AnswersAs 4 (status_of_end x)) (sym is) (unfinished 4 refl)
+    by (run_end.NoRoom shortage.Regions) e s is = subst (λ x. AnswersAs 5 (status_of_end x)) (sym is) (unfinished 5 refl)
+    by (run_end.NoRoom shortage.ObjectSize) e s is =
+        subst (λ x. AnswersAs 6 (status_of_end x)) (sym is) (unfinished 6 refl)
     by run_end.WriteFault e s is = absurd s
     by run_end.NoMemory e s is = absurd s
 
@@ -103,14 +96,14 @@ replay_status text e n err ok (inr (h, inl w)) = absurd (ok.2 w.0)
 replay_status text e n err ok (inr (h, inr w)) = absurd (ok.1 w.0)
 
 -- what the report of a run answers and writes, where the status is that of a run
-run_told : (text : List ℕ) (e : Ending) (n : ℕ) (err : SinkUse) → (IsOfNoRun n → ⊥) → Reports text e n err
+pub run_told : (text : List ℕ) (e : Ending) (n : ℕ) (err : SinkUse) → (IsOfNoRun n → ⊥) → Reports text e n err
     → (n ≡ status_of e) × Grew err (line_of text e)
 run_told text e n err of_run (inl (inl w)) = (w.0, w.1)
 run_told text e n err of_run (inl (inr w)) = absurd (of_run (inr (inr (inl w.0))))
 run_told text e n err of_run (inr (h, inl w)) = absurd (of_run (inr (inr (inr w.0))))
 run_told text e n err of_run (inr (h, inr w)) = absurd (of_run (inr (inr (inl w.0))))
 
-cut_is_of_no_run : (e : Ending) → IsCut e → IsOfNoRun (status_of e)
+pub cut_is_of_no_run : (e : Ending) → IsCut e → IsOfNoRun (status_of e)
 cut_is_of_no_run (Ran kind run_end.NoMemory stats) cut = inr (inr (inr refl))
 cut_is_of_no_run (Ran kind run_end.WriteFault stats) cut = inr (inr (inl refl))
 cut_is_of_no_run _ cut = absurd cut
@@ -188,7 +181,7 @@ module _ (options : RunOptions) (recorded replayed : Call) (text : List ℕ) (en
       let w : IsWhole e = whole_by_status e (subst IsUnhindered is ok) in
       let ends_so : ReplaysAs noted.runs.run_end e =
       replays_as (erased code) picks run.state noted.takes e again.state w again.ends options.limits run.tested
-      (length run.picks) noted.runs.run_end run.ends in
+      (length run.picks) noted.runs.run_end run.ends noted.goes_on in
       let same : again.state ≡ run.state = comes (erased code) picks run.state noted.takes e again.state w again.ends
       e refl in
       record {
@@ -201,13 +194,13 @@ module _ (options : RunOptions) (recorded replayed : Call) (text : List ℕ) (en
             (answers noted.runs.run_end e by_itself ends_so));
       }
 
-  -- what was read is the journal, and the text behind it
+  -- what was read is the journal, and the text after it
   is_journal : IsJournal (journal picks ++ text) picks (length (journal picks))
   is_journal = read_back.is picks text noted.fit
 
-  text_behind : (bytes behind : List ℕ) (found : List TacPick) → bytes ≡ journal picks ++ text → IsSplit bytes found behind
-      → (found ≡ picks) × (behind ≡ text)
-  text_behind bytes behind found is split =
+  text_after : (bytes after : List ℕ) (found : List TacPick) → bytes ≡ journal picks ++ text → IsSplit bytes found after
+      → (found ≡ picks) × (after ≡ text)
+  text_after bytes after found is split =
       let one = read_back.one bytes found picks split.n (length (journal picks)) split.journal
       (subst (λ b. IsJournal b picks (length (journal picks))) (sym is) is_journal) in (
         one.0,
@@ -219,34 +212,34 @@ module _ (options : RunOptions) (recorded replayed : Call) (text : List ℕ) (en
       drop_past [] b = refl
       drop_past (x ∷ a) b = drop_past a b
 
-  -- the text behind it is valid
-  refused : (bytes behind : List ℕ) → bytes ≡ journal picks ++ text → (e : Ending) (found : List TacPick)
-      → IsSplit bytes found behind → Refused behind e → ⊥
-  refused bytes behind is e found split why =
+  -- the text after it is valid
+  refused : (bytes after : List ℕ) → bytes ≡ journal picks ++ text → (e : Ending) (found : List TacPick)
+      → IsSplit bytes found after → Refused after e → ⊥
+  refused bytes after is e found split why =
       never_both text e (passes_of text noted.runs.what noted.runs.is_what)
-      (subst (λ t. Refused t e) (text_behind bytes behind found is split).1 why)
+      (subst (λ t. Refused t e) (text_after bytes after found is split).1 why)
 
-  refuses_not : (bytes : List ℕ) (behind : List ℕ) → bytes ≡ journal picks ++ text → (e : Ending)
-      → IsUnhindered (status_of e) → NotReplayed bytes behind e → ⊥
-  refuses_not bytes behind is NoMemory fine n = fine.2 refl
-  refuses_not bytes behind is TooLong fine n = refused bytes behind is TooLong n.0 n.1 n.2
-  refuses_not bytes behind is (Lexical why) fine n = refused bytes behind is (Lexical why) n.0 n.1 n.2
-  refuses_not bytes behind is (Syntax at) fine n = refused bytes behind is (Syntax at) n.0 n.1 n.2
-  refuses_not bytes behind is (Nesting at) fine n = refused bytes behind is (Nesting at) n.0 n.1 n.2
-  refuses_not bytes behind is (Typing why) fine n = refused bytes behind is (Typing why) n.0 n.1 n.2
-  refuses_not bytes behind is _ fine n = n.2
+  refuses_not : (bytes : List ℕ) (after : List ℕ) → bytes ≡ journal picks ++ text → (e : Ending)
+      → IsUnhindered (status_of e) → NotReplayed bytes after e → ⊥
+  refuses_not bytes after is NoMemory fine n = fine.2 refl
+  refuses_not bytes after is TooLong fine n = refused bytes after is TooLong n.0 n.1 n.2
+  refuses_not bytes after is (Lexical why) fine n = refused bytes after is (Lexical why) n.0 n.1 n.2
+  refuses_not bytes after is (Syntax at) fine n = refused bytes after is (Syntax at) n.0 n.1 n.2
+  refuses_not bytes after is (Nesting at) fine n = refused bytes after is (Nesting at) n.0 n.1 n.2
+  refuses_not bytes after is (Typing why) fine n = refused bytes after is (Typing why) n.0 n.1 n.2
+  refuses_not bytes after is _ fine n = n.2
 
-  by_end : (bytes behind : List ℕ) → bytes ≡ journal picks ++ text → (e : ReplayEnding)
-      → replayed.status ≡ status_of_replay e → EndsOn bytes behind e replayed.out → ReplaysCall recorded replayed
-  by_end bytes behind is (NoJournal line) status ends =
+  by_end : (bytes after : List ℕ) → bytes ≡ journal picks ++ text → (e : ReplayEnding)
+      → replayed.status ≡ status_of_replay e → EndsOn bytes after e replayed.out → ReplaysCall recorded replayed
+  by_end bytes after is (NoJournal line) status ends =
       absurd (read_back.not_both bytes picks (length (journal picks)) line
       (subst (λ b. IsJournal b picks (length (journal picks))) (sym is) is_journal) ends.0)
-  by_end bytes behind is (Replayed e) status ends =
-      let at = text_behind bytes behind ends.0 is ends.1 in
+  by_end bytes after is (Replayed e) status ends =
+      let at = text_after bytes after ends.0 is ends.1 in
       of_replay e status (subst (λ t. ReplaysTo picks t e replayed.out) at.1
-      (subst (λ p. ReplaysTo p behind e replayed.out) at.0 ends.2))
-  by_end bytes behind is (Other e) status ends =
-      absurd (refuses_not bytes behind is e (subst IsUnhindered status ok) ends.0)
+      (subst (λ p. ReplaysTo p after e replayed.out) at.0 ends.2))
+  by_end bytes after is (Other e) status ends =
+      absurd (refuses_not bytes after is e (subst IsUnhindered status ok) ends.0)
 
   by_reading : (bytes : List ℕ) (e : ReplayEnding) → replayed.status ≡ status_of_replay e
       → replayed.source.left ≡ Some (journal picks ++ text) → length (journal picks ++ text) ≤ code_limit

@@ -1,9 +1,6 @@
 -- What a call of `replay` leaves, by its ending.
-use Rattle.std.proofs.Common.{◌≡◌, Bool, true, false, ℕ, ◌⊎◌, inl, inr, ◌<◌, ◌≤◌, ◌-◌, arith, length-drop, take, drop, List, [], Option, None, Some, Result, Ok, Err, IfOk, MatchResult, IfSome, length, refl, sym, ap, ◌∙◌, subst}
+use Rattle.std.proofs.Common.{◌≡◌, true, false, ℕ, ◌⊎◌, inl, inr, ◌-◌, arith, length-drop, take, drop, List, [], Option, None, Some, Result, Ok, Err, IfOk, MatchResult, length, refl, sym, ap, ◌∙◌, subst}
 use Rattle.rgo_machine.specs.declared.picks.End.TheVariants as the_end
-use Rattle.rgo_machine.specs.declared.turns.Shortage.TheVariants as shortage
-use Rattle.rgo_driver.specs.declared.ends.RunEnd.{RunEnd}
-use Rattle.rgo_driver.specs.declared.ends.RunEnd.TheVariants as run_end
 use Rattle.rgo_outside.specs.Causes.{Rose}
 use Rattle.rgo_command_line.specs.declared.commands.Command.{Command}
 use Rattle.rgo_command_line.specs.declared.commands.Command.TheVariants.{Run, Check, Emit, Code, Big, Record, Replay, RunCode}
@@ -25,16 +22,14 @@ use Rattle.rgo_run.specs.declared.endings.Ending.TheVariants.{Lexical, Syntax, N
 use Rattle.rgo_run.specs.declared.endings.TextKind.TheVariants as text_kind
 use Rattle.rgo_run.specs.declared.replaying.ReplayEnding.{ReplayEnding}
 use Rattle.rgo_run.specs.declared.replaying.ReplayEnding.TheVariants.{NoJournal, Replayed, Other}
-use Rattle.rgo_run.specs.Calls.{AsksRun, Asks, Call, SinkUse, SourceUse, SourceFailed, SourceHeld, Failed, Held, IsUntouched}
-use Rattle.rgo_run.specs.CodeVerdicts.{code_limit}
-use Rattle.rgo_run.specs.Endings.{is_fault_status, is_run_status, line_of, status_of, status_of_run}
+use Rattle.rgo_run.specs.Calls.{AsksRun, Asks, Call, SinkUse, SourceHeld, Failed, Held, IsUntouched}
+use Rattle.rgo_run.specs.Endings.{is_fault_status, is_run_status, line_of, status_of}
 use Rattle.rgo_run.specs.Headline.{Faults, Headline}
-use Rattle.rgo_run.specs.Replayed.{Claim, EndsOn, HasNumber, IsReadWhole, IsSplit, NotReplayed, ReadsNothing, ReplayHeadline, ReplaysBytes, ReplaysTo, ReportsReplay, error_of, line_of_replay, status_of_end, status_of_replay}
+use Rattle.rgo_run.specs.Replayed.{Claim, EndsOn, HasNumber, IsReadWhole, IsSplit, NotReplayed, ReplayHeadline, ReplaysBytes, ReplaysTo, ReportsReplay, error_of, line_of_replay, status_of_end, status_of_replay}
 use Rattle.rgo_run.specs.Recorded.{RecordHeadline, Records, after}
 use Rattle.rgo_run.specs.Reports.{Reports, Tells, Writes}
 use Rattle.rgo_run.specs.Texts.{FailsAs, IsRead, IsTextOf, NotRead, Performs, RefusedBy}
-use Rattle.rgo_run.specs.Verdicts.{Refused}
-use Rattle.rgo_run.proofs.EndingLemmas.{refused_status}
+use Rattle.rgo_run.proofs.EndingLemmas.{IsLate, failing_late, failing_ten, no_run_status, refused_status}
 use Rattle.rgo_run.proofs.HeadlineLemmas.{headline_of_text, headline_of_words, ran_by_status}
 use Rattle.rgo_run.proofs.RecordLemmas.{headline_of_records, record_of_words}
 
@@ -52,14 +47,7 @@ told_as text e n err (inl (inr w)) = failed w.0 w.1
 told_as text e n err (inr (h, inl w)) = no_memory w.0 h w.2
 told_as text e n err (inr (h, inr w)) = failed w.0 w.1
 
--- the statuses of what is no fault of reading
-abbrev IsStatus : ℕ → Type 0
-IsStatus n = (n ≡ 64 → ⊥) × (n ≡ 9 → ⊥)
-
-status_of_one : (n : ℕ) → n ≡ 1 → IsStatus n
-status_of_one n e = (λ s. cc, λ s. cc)
-
-end_status : (end : ReplayEnd) → IsStatus (status_of_end end)
+end_status : (end : ReplayEnd) → IsLate (status_of_end end)
 end_status (replay_end.Ended the_end.Exit) = (λ s. cc, λ s. cc)
 end_status (replay_end.Ended (the_end.Trap trap at)) = (λ s. cc, λ s. cc)
 end_status replay_end.Deadlock = (λ s. cc, λ s. cc)
@@ -73,17 +61,13 @@ not_replayed : (bytes text : List ℕ) (e : Ending) → NotReplayed bytes text e
 not_replayed bytes text NoMemory n = inl refl
 not_replayed bytes text e n = inr (refused_status text_kind.Go text e n.2)
 
-other_status : (e : Ending) → (e ≡ NoMemory) ⊎ (status_of e ≡ 1) → IsStatus (status_of e)
-other_status e (inl is) = subst (λ x. IsStatus (status_of x)) (sym is) (λ s. cc, λ s. cc)
-other_status e (inr is) = status_of_one (status_of e) is
-
-ends_status : (bytes text : List ℕ) (e : ReplayEnding) (out : SinkUse) → EndsOn bytes text e out → IsStatus (status_of_replay e)
+ends_status : (bytes text : List ℕ) (e : ReplayEnding) (out : SinkUse) → EndsOn bytes text e out → IsLate (status_of_replay e)
 ends_status bytes text (NoJournal line) out ends = (λ s. cc, λ s. cc)
 ends_status bytes text (Replayed end) out ends = end_status end
-ends_status bytes text (Other e) out ends = other_status e (not_replayed bytes text e ends.0)
+ends_status bytes text (Other e) out ends = failing_late e (not_replayed bytes text e ends.0)
 
-told_status : (e : ReplayEnding) (n : ℕ) (err : SinkUse) → IsStatus (status_of_replay e) → Told e n err → IsStatus n
-told_status e n err is (whole w h) = subst IsStatus (sym w) is
+told_status : (e : ReplayEnding) (n : ℕ) (err : SinkUse) → IsLate (status_of_replay e) → Told e n err → IsLate n
+told_status e n err is (whole w h) = subst IsLate (sym w) is
 told_status e n err is (failed w h) = (λ s. cc, λ s. cc)
 told_status e n err is (no_memory w h k) = (λ s. cc, λ s. cc)
 
@@ -128,10 +112,6 @@ split_at bytes picks n j = record {
 
 -- ---- faults
 
-not_ten : (e : Ending) → (e ≡ NoMemory) ⊎ (status_of e ≡ 1) → status_of e ≡ 10 → ⊥
-not_ten e (inl is) s = let eleven : status_of e ≡ 11 = ap status_of is in cc
-not_ten e (inr is) s = cc
-
 -- with status 10 of an ending a write to `out` failed, and with no other
 ends_failed : (bytes text : List ℕ) (e : ReplayEnding) (out : SinkUse) → EndsOn bytes text e out → status_of_replay e ≡ 10
     → Failed out
@@ -143,7 +123,7 @@ ends_failed bytes text (Replayed replay_end.Unfinished) out ends s = absurd cc
 ends_failed bytes text (Replayed (replay_end.Foreign index)) out ends s = absurd cc
 ends_failed bytes text (Replayed replay_end.WriteFault) out ends s = ends.2.failed refl
 ends_failed bytes text (Replayed replay_end.NoMemory) out ends s = absurd cc
-ends_failed bytes text (Other e) out ends s = absurd (not_ten e (not_replayed bytes text e ends.0) s)
+ends_failed bytes text (Other e) out ends s = absurd (failing_ten e (not_replayed bytes text e ends.0) s)
 
 ends_held : (bytes text : List ℕ) (e : ReplayEnding) (out : SinkUse) → EndsOn bytes text e out
     → (e ≡ Replayed replay_end.WriteFault → ⊥) → Held out
@@ -365,21 +345,8 @@ ran call (inl c) s = inr c.0
 ran call (inr (inl c)) s = inl (ran_by_status (after c.2.said call) c.2.as_run s)
 ran call (inr (inr c)) s = inl (ran_by_status call c.2 s)
 
-end_13 : (end : RunEnd) → status_of_run end ≡ 13 → ⊥
-end_13 (run_end.Ended the_end.Exit) s = cc
-end_13 (run_end.Ended (the_end.Trap trap at)) s = cc
-end_13 run_end.Deadlock s = cc
-end_13 (run_end.NoRoom shortage.Pages) s = cc
-end_13 (run_end.NoRoom shortage.Regions) s = cc
-end_13 (run_end.NoRoom shortage.ObjectSize) s = cc
-end_13 run_end.CallsTooDeep s = cc
-end_13 run_end.StepsSpent s = cc
-end_13 run_end.GoroutinesSpent s = cc
-end_13 run_end.WriteFault s = cc
-end_13 run_end.NoMemory s = cc
-
 status_13 : (e : Ending) → status_of e ≡ 13 → ⊥
-status_13 (Ran kind end stats) s = end_13 end s
+status_13 (Ran kind end stats) s = no_run_status 13 refl end s
 status_13 Valid s = cc
 status_13 Usage s = cc
 status_13 ReadFault s = cc

@@ -1,7 +1,5 @@
 -- What the parts of the compiler say of a text, as the endings that report it.
-use Rattle.std.proofs.Common.{◌≡◌, ℕ, suc, ◌+◌, ◌*◌, ◌<◌, ◌≤◌, inl, Bool, true, false, List, [], ◌∷◌, length, Option, None, Some, IfSome, refl, ap, arith, subst, sym}
-use Rattle.std.specs.Prelude.{max, nat_le, codes, bytes_eq, if◌then◌else◌}
-use Rattle.std.proofs.lemmas.Bool.Decides.{nat_tests}
+use Rattle.std.proofs.Common.{◌≡◌, ℕ, ◌+◌, ◌*◌, ◌<◌, ◌≤◌, inl, List, length, Option, None, Some, IfSome, refl, ap, arith, subst, sym}
 use Rattle.rgo_outside.specs.Moves.{ReadsAll, GivesTooMany}
 use Rattle.rgo_outside.specs.declared.whole.ReadEnd.{ReadEnd}
 use Rattle.rgo_outside.specs.declared.whole.ReadEnd.TheVariants as read
@@ -16,21 +14,17 @@ use Rattle.rgo_typing_rules.specs.declared.errors.TypeError.{TypeError}
 use Rattle.rgo_typing_rules.specs.declared.errors.TypeError.TheVariants as type
 use Rattle.rgo_typed.specs.Tree.{Typed}
 use Rattle.rgo_types.specs.Programs.{sites_of}
-use Rattle.rgo_memory.specs.Memory.{Memory}
 use Rattle.rgo_machine.specs.declared.turns.Shortage.{Shortage}
 use Rattle.rgo_machine.specs.Deadlocks.{IsDeadlock}
-use Rattle.rgo_machine.specs.Limits.{LeadsWithin, is_within}
+use Rattle.rgo_machine.specs.Limits.{LeadsWithin}
 use Rattle.rgo_machine.specs.declared.picks.Pick.{Pick}
-use Rattle.rgo_machine.specs.Machines.{start_of}
 use Rattle.rgo_machine.proofs.Waiting.{deadlocks_wait}
 use Rattle.rgo_simulation.specs.Simulations.{RunsWithinAs}
 use Rattle.rgo_meaning.specs.Source.{source, source_start}
-use Rattle.rgo_memory.specs.Opening.{opening}
-use Rattle.rgo_tac.specs.Code.{TacFn, Tac}
-use Rattle.rgo_tac.specs.Frames.{called}
-use Rattle.rgo_tac.specs.Tac.{TacState, tac, main_frames, tac_start}
+use Rattle.rgo_tac.specs.Code.{Tac}
+use Rattle.rgo_tac.specs.Tac.{TacState, tac, tac_start}
 use Rattle.rgo_lower.proofs.follows.Whole.{lowering_simulates}
-use Rattle.rgo_driver.specs.Runs.{Ends, IsReady, RunsFreely}
+use Rattle.rgo_driver.specs.Runs.{Ends, RunsFreely}
 use Rattle.rgo_driver.specs.declared.ends.RunEnd.{RunEnd}
 use Rattle.rgo_driver.specs.declared.ends.RunEnd.TheVariants.{Deadlock, NoRoom, WriteFault}
 use Rattle.rgo_sound.proofs.Offers.{names_only_live}
@@ -182,35 +176,6 @@ type_fails text tree type.NoMemory is_tree fails = tt
 type_fails text tree (type.Refused refusal) is_tree fails = record { tree = tree; is_tree = is_tree; broken = fails }
 
 -- ---- the run of a program
-
-one_fits : (n : ℕ) → nat_le 1 (max 1 n) ≡ true
-one_fits n = grind (arith, nat_tests)
-
-pub within : {F : Type 0} (limits : Limits) (m : Memory) (frames : List F) → length frames ≤ 1
-    → is_within limits (start_of m frames) ≡ true
-within limits m [] h = rw (one_fits limits.goroutines) refl
-within limits m (f ∷ []) h = rw (one_fits limits.goroutines) refl
-within limits m (f ∷ g ∷ frames) h = absurd (omega (arith, h))
-
-one_or_more : {F : Type 0} (b : Bool) (f : F) (more : List F) → length more ≤ 1
-    → length (if b then f ∷ [] else more) ≤ 1
-one_or_more true f more h = omega arith
-one_or_more false f more h = h
-
-one_main : (fns : List TacFn) (n : ℕ) → length (main_frames fns n) ≤ 1
-one_main [] n = omega arith
-one_main (fn ∷ fns) n =
-    one_or_more (bytes_eq fn.name (codes "main")) (called fn n []) (main_frames fns (suc n)) (one_main fns (suc n))
-
-starts_within : (limits : Limits) (code : Tac) → is_within limits (tac_start code) ≡ true
-starts_within limits code =
-    within limits (opening code.variables) (main_frames code.functions 0) (one_main code.functions 0)
-
-pub starts_ready : (limits : Limits) (code : Tac) → IsReady limits (tac_start code)
-starts_ready limits code = record {
-  on = record { running = refl; within = starts_within limits code };
-  silent = refl;
-}
 
 of_deadlock : (code : Tac) (limits : Limits) (before steps : ℕ) (t : TacState) (end : RunEnd)
     → Ends (tac code) limits before steps t end → end ≡ Deadlock → IsDeadlock (tac code) t

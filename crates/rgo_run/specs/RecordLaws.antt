@@ -13,15 +13,11 @@ use Rattle.rgo_run.specs.Replayed.{Claim}
 abbrev pub is_own_status : ℕ → Bool
 is_own_status status = status == 0 || status == 2 || status == 3
 
--- The run was cut off by the room that it had, or by its steps. The three-address machine has no such limits, and where it was
--- cut, no goroutine may have a step.
-abbrev pub is_cut_status : ℕ → Bool
-is_cut_status status = status == 4 || status == 5 || status == 6 || status == 8
-
--- how a replay is answered of a run that was answered so: as that was; or that it is unfinished, where the run was cut off
+-- The status of a replay, by that of the run: the same, or that the replay is unfinished if the run was cut off. A run whose
+-- steps were spent may be in a deadlock just then.
 pub record AnswersAs (ran replayed : ℕ) : Type 0 where
   pub own : is_own_status ran ≡ true → replayed ≡ ran
-  pub cut : is_own_status ran ≡ false → (replayed ≡ 13) ⊎ ((replayed ≡ 3) × (is_cut_status ran ≡ true))
+  pub cut : is_own_status ran ≡ false → (replayed ≡ 13) ⊎ ((replayed ≡ 3) × (ran ≡ 8))
 
 -- the same bytes on `out` of both, and the status of the one as that of the other says
 pub record ReplaysCall (recorded replayed : Call) : Type 0 where
@@ -34,7 +30,7 @@ pub record ReplaysCall (recorded replayed : Call) : Type 0 where
 abbrev pub IsUnhindered : ℕ → Type 0
 IsUnhindered status = (status ≡ 9 → ⊥) × (status ≡ 10 → ⊥) × (status ≡ 11 → ⊥)
 
--- `err` took a journal first, and each call of `replay` that reads it and the text behind it replays the call
+-- `err` took a journal first, and each call of `replay` that reads it, followed by the text, replays the call
 pub record LeavesJournal (recorded : Call) (text : List ℕ) : Type 0 where
   pub picks : List TacPick
   pub line : List ℕ

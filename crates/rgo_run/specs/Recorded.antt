@@ -2,6 +2,9 @@
 -- line of the ending.
 use Rattle.std.specs.Prelude.{◌≡◌, ◌⊎◌, ℕ, Bool, true, false, List, [], take, All, None, Some}
 use Rattle.std.specs.Io.KnownBytes.{append_known}
+use Rattle.rgo_machine.specs.declared.turns.Shortage.{Shortage}
+use Rattle.rgo_machine.specs.Deadlocks.{IsDeadlock}
+use Rattle.rgo_tac.specs.Tac.{tac}
 use Rattle.rgo_code.specs.Erasure.{erased}
 use Rattle.rgo_driver.specs.declared.ends.RunEnd.{RunEnd}
 use Rattle.rgo_driver.specs.declared.ends.RunEnd.TheVariants as run_end
@@ -28,11 +31,14 @@ abbrev pub after : List ℕ → Call → Call
 after said call = record call { err = rest said call.err }
 
 -- A run of the text's program gave out what `out` took, and the ending reports how it ended. The code that was run has without
--- its regions a run with exactly these picks, to the same state; each can stand in a journal.
+-- its regions a run with exactly these picks, to the same state; each can stand in a journal. If the run ended for want of
+-- room, the one without regions has a step then.
 pub record Noted (options : RunOptions) (text : List ℕ) (ending : Ending) (out : SinkUse) (picks : List TacPick) : Type 0 where
   pub runs : RunsTo text_kind.Go options text ending out
   pub takes : Takes (erased runs.runs.code) picks runs.runs.runs.state
   pub fit : All Fits picks
+  pub goes_on : (why : Shortage) → runs.run_end ≡ run_end.NoRoom why
+      → IsDeadlock (tac (erased runs.runs.code)) runs.runs.runs.state → ⊥
 
 -- a run that ended for want of memory, or since a write failed
 abbrev pub IsCut : Ending → Type 0

@@ -1,6 +1,6 @@
 -- What a call of `replay` does: it reads a journal and the text that follows it, and takes the journal's picks in a run of the
 -- text's three-address code.
-use Rattle.std.specs.Prelude.{◌≡◌, ◌⊎◌, ◌+◌, ◌≤◌, ◌<◌, ℕ, List, [], ◌++◌, drop, length, IfSome, codes}
+use Rattle.std.specs.Prelude.{◌≡◌, ◌⊎◌, ◌+◌, ◌≤◌, ◌<◌, ℕ, List, [], drop, length, IfSome, codes}
 use Rattle.rgo_machine.specs.declared.picks.End.TheVariants as the_end
 use Rattle.rgo_driver.specs.declared.ends.RunEnd.TheVariants as run_end
 use Rattle.rgo_tac.specs.Code.{Tac}
@@ -19,7 +19,7 @@ use Rattle.rgo_run.specs.declared.endings.Ending.TheVariants.{CodeTooLong, ReadF
 use Rattle.rgo_run.specs.declared.endings.TextKind.TheVariants as text_kind
 use Rattle.rgo_run.specs.declared.replaying.ReplayEnding.{ReplayEnding}
 use Rattle.rgo_run.specs.declared.replaying.ReplayEnding.TheVariants.{NoJournal, Replayed, Other}
-use Rattle.rgo_run.specs.Calls.{Asks, Call, SinkUse, SourceUse, SourceFailed, SourceHeld, Failed, Held, IsUntouched}
+use Rattle.rgo_run.specs.Calls.{Asks, Call, SinkUse, SourceFailed, SourceHeld, Failed, Held, IsUntouched}
 use Rattle.rgo_run.specs.CodeVerdicts.{code_limit}
 use Rattle.rgo_run.specs.Endings.{line_of, line_of_run, numbered_line, status_of}
 use Rattle.rgo_run.specs.Headline.{Faults, Headline}

@@ -41,8 +41,8 @@ pub fn few_suffice()
     ensures { FewSuffice }
 {}
 
-/// `replay` of the journal that `record` wrote, with the text behind it, writes the same bytes and answers the same status,
-/// where the run came to its own end. Where it was cut off, the replay is unfinished, or perhaps in a deadlock.
+/// `replay` of the journal that `record` wrote, followed by its text, writes the same bytes. It answers the same status if the
+/// run came to its own end, and 13 if the run was cut off; if its steps were spent, the answer may be 3.
 pub fn recorded_is_replayed()
     ensures { RecordedIsReplayed }
 {}

@@ -74,12 +74,13 @@ fn read<S: Source>(
 /// code, at most 67,108,864 bytes, checks it, and leaves `out` as it was. `runcode` reads and checks a code
 /// text as `code` does, and runs its code as `run` runs that of a program. `big N` leaves the source as
 /// it was, and does what `run` without options does with the large text of `rgo_big` that starts `N`
-/// goroutines. `replay` reads a journal, as `rgo_journal` describes it, and behind it a text, together at most 67,108,864
-/// bytes. It takes the journal's picks one after the other in a run of the text's three-address code, and writes what they
-/// print to `out`; places are those of the text behind the journal. `record`, with the options of `run` but for `--workers` and
-/// `--stats`, does what `run` with one worker does, and writes the journal of the run to `err`, in one piece, before the line of
-/// its end; none where memory ran out or a write failed. At most one line is written to `err`, and before it, with `--stats`, one that counts what
-/// the run has made. After a failed write nothing more is written to that sink.
+/// goroutines. `replay` reads a journal, as `rgo_journal` describes it, and the text that follows it, together
+/// at most 67,108,864 bytes. It takes the journal's picks one after the other in a run of the text's
+/// three-address code, and writes what they print to `out`; places are those of the text. `record`, with the
+/// options of `run` but `--workers` and `--stats`, does what `run` with one worker does. After the run it writes
+/// its journal to `err`, in one piece; none if memory ran out or a write failed. At most one more line is written
+/// to `err`, which reports the end, and before it, with `--stats`, one that counts what the run has made. After a
+/// failed write nothing more is written to that sink.
 ///
 /// A run is in rounds, in which every goroutine that can step has a turn; no clause says so. With one
 /// worker the turns come one after the other, on the caller's thread. With more, `rt` starts threads in

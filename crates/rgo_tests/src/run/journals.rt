@@ -36,6 +36,54 @@ one 1
 one 0
 text
 
+> rgo record // the line of a trap follows the journal
+package main
+func main() {
+\tx := 0
+\tx = 1 / x
+}
+
+< 2
+!
+rgo picks 1
+one 0
+one 0
+one 0
+one 0
+text
+rgo: 4:8: trap 3 DivideZero
+
+> rgo record --steps 3 // the steps are spent just when all wait: the replay is a deadlock, as below
+package main
+func main() { c := make(chan int); <-c }
+
+< 8
+!
+rgo picks 1
+one 0
+one 0
+one 0
+text
+rgo: steps spent
+
+> rgo record --regions 1 // the second object has no region; its `nil` has not been made
+package main
+type N struct { v int; p *N }
+func main() { x := &N{1, nil}; y := &N{2, nil}; x.v = y.v }
+
+< 5
+!
+rgo picks 1
+one 0
+one 0
+one 0
+one 0
+one 0
+one 0
+one 0
+text
+rgo: regions spent
+
 > rgo record // a refused text has no journal
 package main
 func main() {

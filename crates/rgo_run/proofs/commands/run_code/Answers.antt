@@ -2,7 +2,8 @@ use Rattle.std.proofs.Common.{[], ◌∙◌, subst}
 use Rattle.rgo_code.specs.Erasure.{erased}
 use Rattle.rgo_tac.specs.Tac.{tac_start}
 use Rattle.rgo_world.proofs.Standing.{starts_stand}
-use Rattle.rgo_run.proofs.TextLemmas.{ran, starts_ready}
+use Rattle.rgo_recording.proofs.Starting.{starts_ready}
+use Rattle.rgo_run.proofs.TextLemmas.{ran}
 use Rattle.rgo_run.proofs.WorldLemmas.{Went, ended_so, region_run}
 use Rattle.rgo_run.proofs.commands.run_code.Goals as goal
 
