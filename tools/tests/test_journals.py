@@ -153,7 +153,7 @@ class WithTheProgram(test_pictures.Case):
 
     def test_recorded_runs(self):
         """What `rgo record` writes is what region_runs notes of the same run, and is replayed with the same print and end."""
-        for text in test_pictures.programs():
+        for text in [*test_pictures.programs(), *(path.read_text() for path in sorted(TOP.glob("examples/*.go")))]:
             with self.subTest(text):
                 ran = self.rgo(text.encode(), "record", "--steps", "20000")
                 code = test_pictures.code_of(self.rgo(text.encode(), "emit").stdout)
@@ -164,7 +164,21 @@ class WithTheProgram(test_pictures.Case):
                 self.assertEqual(journal, ran.stderr[: len(journal)])
                 status, out, _ = self.replayed(text.encode(), journal)
                 self.assertEqual(ran.stdout, out)
-                self.assertIn(status, [ran.returncode] if ran.returncode in (0, 2, 3) else [13, 3])
+                # If the steps were spent just when all wait, the replay is a deadlock.
+                own = ran.returncode in (0, 2, 3)
+                self.assertIn(status, [ran.returncode] if own else [13, 3] if ran.returncode == 8 else [13])
+
+    def test_runs_that_lack_room(self):
+        """A run that met a limit is replayed up to there, and some goroutine has a step then."""
+        for text in test_pictures.programs():
+            for limit in ("--pages=1", "--regions=1", "--page-words=16", "--goroutines=2"):
+                with self.subTest(text, limit=limit):
+                    ran = self.rgo(text.encode(), "record", "--steps=20000", limit)
+                    journal = ran.stderr[: ran.stderr.index(b"\ntext\n") + len(b"\ntext\n")]
+                    status, out, _ = self.replayed(text.encode(), journal)
+                    self.assertEqual(ran.stdout, out)
+                    wanted = {0: [0], 2: [2], 3: [3], 8: [13, 3]}.get(ran.returncode, [13])
+                    self.assertIn(status, wanted)
 
     def test_the_tool(self):
         text = b"package main\nfunc main() {\n\tc := make(chan int)\n\tc <- 1\n}\n"
