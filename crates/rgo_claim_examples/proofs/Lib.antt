@@ -14,6 +14,7 @@ pub mod PlainRuns
 pub mod ProgramTexts
 pub mod ProgramsSuffice
 pub mod Quiet
+pub mod Recorded
 pub mod RegionRuns
 pub mod Search
 pub mod StateExamples

@@ -50,13 +50,13 @@ step = Instruct (One 0)
 abbrev events : List Event
 events = Attend 0 ∷ TakePage 0 ∷ step ∷ step ∷ step ∷ Attend 0 ∷ step ∷ step ∷ []
 
-abbrev last : RegionState
+abbrev pub last : RegionState
 last = unwrap_or (region_run code 256 events) (region_start code)
 
 not_lacking : (why : Shortage) → run_end.Ended Exit ≡ run_end.NoRoom why → ⊥
 not_lacking why e = cc
 
-exits : RegionRun code default_options.sizes (run_end.Ended Exit) (plain_at last last.plain.printed)
+pub exits : RegionRun code default_options.sizes (run_end.Ended Exit) (plain_at last last.plain.printed)
 exits = record {
   events = events;
   state = last;

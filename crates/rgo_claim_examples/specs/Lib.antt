@@ -2,6 +2,7 @@ pub mod CompiledCode
 pub mod EmittedCode
 pub mod Ends
 pub mod Programs
+pub mod Recorded
 pub mod RegionRuns
 pub mod States
 pub mod Sufficing

@@ -5,6 +5,6 @@
 mod laws;
 
 pub use laws::{
-    compiled_examples, emitted_examples, end_examples, programs_suffice, region_run_examples,
-    room_examples, state_examples, text_examples, texts_run,
+    compiled_examples, emitted_examples, end_examples, programs_suffice, record_examples,
+    region_run_examples, room_examples, state_examples, text_examples, texts_run,
 };
