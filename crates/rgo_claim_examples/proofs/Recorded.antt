@@ -38,7 +38,7 @@ use Rattle.rgo_run.proofs.RecordedReplays.{cut_is_of_no_run, recorded_is_replaye
 use Rattle.rgo_run.proofs.TextLemmas.{followed_if}
 use Rattle.rgo_run.proofs.VerdictLemmas.{one_program}
 use Rattle.rgo_claim_examples.specs.Programs.{one_object}
-use Rattle.rgo_claim_examples.specs.Recorded.{RecordsExamples, left_by, picks}
+use Rattle.rgo_claim_examples.specs.Recorded.{RecordExamples, left_by, picks}
 use Rattle.rgo_claim_examples.specs.RegionRuns.{code}
 use Rattle.rgo_claim_examples.specs.Texts.{object_text}
 use Rattle.rgo_claim_examples.proofs.Codes.{one_object_code}
@@ -223,7 +223,7 @@ lost words h =
     (subst (λ e. Ends (tac (erased run.runs.code)) default_options.limits run.runs.runs.tested
     (length run.runs.runs.picks) run.runs.runs.state e) end run.runs.runs.ends)
 
-pub record_examples : RecordsExamples
+pub record_examples : RecordExamples
 record_examples words asked = record {
   recorded = recorded words asked;
   leaves =

@@ -26,7 +26,7 @@ left_by words err = record {
 }
 
 -- for words that ask for `record` without options
-pub record RecordExamples (words : List (List ℕ)) : Type 0 where
+pub record ExamplesFor (words : List (List ℕ)) : Type 0 where
   pub recorded : RecordHeadline default_options (left_by words (journal picks))
   pub leaves : LeavesJournal (left_by words (journal picks)) object_text
   -- no journal
@@ -35,5 +35,5 @@ pub record RecordExamples (words : List (List ℕ)) : Type 0 where
   -- the journal of a run in which a pick is lost
   pub lost : RecordHeadline default_options (left_by words (journal (drop 1 picks))) → ⊥
 
-abbrev pub RecordsExamples : Type 0
-RecordsExamples = (words : List (List ℕ)) → command_of words ≡ Some (Record default_options) → RecordExamples words
+abbrev pub RecordExamples : Type 0
+RecordExamples = (words : List (List ℕ)) → command_of words ≡ Some (Record default_options) → ExamplesFor words

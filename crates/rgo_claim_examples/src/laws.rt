@@ -3,7 +3,7 @@
 ghost use Rattle.rgo_claim_examples.specs.CompiledCode.{CompiledExamples};
 ghost use Rattle.rgo_claim_examples.specs.EmittedCode.{EmittedExamples};
 ghost use Rattle.rgo_claim_examples.specs.Ends.{EndExamples};
-ghost use Rattle.rgo_claim_examples.specs.Recorded.{RecordsExamples};
+ghost use Rattle.rgo_claim_examples.specs.Recorded.{RecordExamples};
 ghost use Rattle.rgo_claim_examples.specs.RegionRuns.{RegionRunExamples};
 ghost use Rattle.rgo_claim_examples.specs.States.{RoomExamples, StateExamples};
 ghost use Rattle.rgo_claim_examples.specs.Sufficing.{ProgramsSuffice};
@@ -64,5 +64,5 @@ pub fn texts_run()
 /// A call of `record` with the journal of its run, of which a replay does the same; one without a journal, and one whose
 /// journal has lost a pick, which are none of `record`.
 pub fn record_examples()
-    ensures { RecordsExamples }
+    ensures { RecordExamples }
 {}
