@@ -1,7 +1,7 @@
 -- How large the code of a program is at most, counted over its tree, so that it is known before there is any code. What is
 -- counted are the instructions, variables, lists of variables, texts and labels of a function, all together: each of them
--- has a number of 32 bits below this count. A text of n bytes has a tree of at most n terms and statements, so the count
--- of a function stays below 12 n + 4, and that of 1,048,576 bytes far below the limit.
+-- has a number of 32 bits below this count. The program of a text of n bytes counts at most 12 n + 12, as the laws of
+-- rgo_size_laws say, so that of a text of at most 1,048,576 bytes is never too large.
 use Rattle.std.specs.Prelude.{ℕ, ◌+◌, ◌*◌, ◌^◌, ◌≤◌, max, List, [], ◌∷◌, length, Option, Some, None}
 use Rattle.rgo_typed.specs.declared.programs.Struct.{Struct}
 use Rattle.rgo_typed.specs.Tree as tree

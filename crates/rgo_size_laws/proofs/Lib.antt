@@ -1,0 +1,9 @@
+pub mod Declarations
+pub mod ExampleProofs
+pub mod Expressions
+pub mod Lexemes
+pub mod Names
+pub mod Programs
+pub mod Simple
+pub mod Statements
+pub mod Terms
