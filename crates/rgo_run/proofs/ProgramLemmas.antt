@@ -1,11 +1,14 @@
--- The program of every valid text is well-formed, its code is typed, and what is inserted makes it compiled code.
-use Rattle.std.proofs.Common.{◌≡◌, ℕ, List, sym, subst}
+-- The program of every valid text is well-formed and not too large, its code is typed, and what is inserted makes it
+-- compiled code.
+use Rattle.std.proofs.Common.{◌≡◌, ℕ, List, sym, subst, arith}
 use Rattle.std.specs.List.{AllByRecursion}
 use Rattle.rgo_wellformed.specs.Endings.{Ends}
 use Rattle.rgo_wellformed.specs.WellFormed.{IsWellFormed}
 use Rattle.rgo_typing_laws.proofs.Programs.{parsed_well}
+use Rattle.rgo_size_laws.proofs.Programs.{never_large}
 use Rattle.rgo_tac.specs.Code.{Tac}
 use Rattle.rgo_lower.specs.Lowered.{IsLowered}
+use Rattle.rgo_lower.specs.Sizes.{IsTooLarge}
 use Rattle.rgo_lowering_laws.proofs.Programs.{lowered_is_typed}
 use Rattle.rgo_classes.specs.declared.classes.Summary.{Summary}
 use Rattle.rgo_summaries.specs.Families.{IsLeastFamily}
@@ -17,7 +20,7 @@ use Rattle.rgo_code.specs.TypedCode.{IsTypedCode}
 use Rattle.rgo_insert.specs.Bare.{nothing_undeclared}
 use Rattle.rgo_insert.specs.Inserted.{HasClasses}
 use Rattle.rgo_run.specs.Compiled.{IsCompiled}
-use Rattle.rgo_run.specs.Programs.{ProgramsAreWellFormed}
+use Rattle.rgo_run.specs.Programs.{NoProgramIsTooLarge, ProgramsAreWellFormed}
 use Rattle.rgo_run.specs.Runs.{IsCodeOf}
 
 pub programs_are_well_formed : ProgramsAreWellFormed
@@ -25,6 +28,12 @@ programs_are_well_formed text program h =
     let valid = h.is_well_typed in
     subst (λ p. IsWellFormed p × AllByRecursion Ends p.functions) (sym h.typed)
     (parsed_well valid.is_tree.lexemes h.tree valid.is_tree.parsed.derived valid.unbroken)
+
+pub no_program_is_too_large : NoProgramIsTooLarge
+no_program_is_too_large text program h large =
+    let tree = h.is_well_typed.is_tree in
+    never_large text tree.lexemes h.tree tree.lexed tree.parsed.derived (omega (arith, tree.within))
+    (subst IsTooLarge h.typed large)
 
 pub is_typed : (text : List ℕ) (code : Tac) → IsCodeOf text code → IsTypedCode code
 is_typed text code is =

@@ -6,7 +6,6 @@ use Rattle.rgo_outside.specs.declared.whole.ReadEnd.{ReadEnd}
 use Rattle.rgo_outside.specs.declared.whole.ReadEnd.TheVariants as read
 use Rattle.rgo_lexer.specs.declared.refusals.LexError.{LexError}
 use Rattle.rgo_lexer.specs.declared.refusals.LexError.TheVariants as lex
-use Rattle.rgo_lower.specs.declared.errors.LowerError.{LowerError}
 use Rattle.rgo_typing_rules.specs.declared.errors.TypeError.{TypeError}
 use Rattle.rgo_typing_rules.specs.declared.errors.TypeError.TheVariants as type
 use Rattle.rgo_code_text.specs.declared.refusals.ReadError.{ReadError}
@@ -47,10 +46,6 @@ check_error check.NoMemory = NoMemory
 abbrev pub lex_error : LexError → Ending
 lex_error (lex.Refused refusal) = Lexical refusal
 lex_error lex.NoMemory = NoMemory
-
--- a text within the limit is not too large to be lowered
-abbrev pub lower_error : LowerError → Ending
-lower_error error = NoMemory
 
 abbrev pub memory_error : AllocError → Ending
 memory_error error = NoMemory

@@ -1,7 +1,7 @@
 //! How a call of `rgo` ends.
 
 ghost use Rattle.std.specs.Prelude.{◌≡◌};
-ghost use Rattle.rgo_run.specs.Errors.{check_error, command_error, lex_error, lower_error, memory_error, reading_error, type_error};
+ghost use Rattle.rgo_run.specs.Errors.{check_error, command_error, lex_error, memory_error, reading_error, type_error};
 
 use rgo_ast::Place;
 use rgo_checker::CheckError;
@@ -10,7 +10,6 @@ use rgo_code_text::ReadError;
 use rgo_command_line::WordsError;
 use rgo_driver::RunEnd;
 use rgo_lexer::{LexError, LexRefusal};
-use rgo_lower::LowerError;
 use rgo_typing_rules::{TypeError, TypeRefusal};
 use rgo_world::Tally;
 use std::alloc::AllocError;
@@ -121,18 +120,6 @@ impl From<AllocError> for Ending {
 
     fn from(_error: AllocError) -> Ending {
         Ending::NoMemory
-    }
-}
-
-impl From<LowerError> for Ending {
-    ghost from_gives = { λ error ending. ending ≡ lower_error error };
-
-    fn from(error: LowerError) -> Ending {
-        match error {
-            // A term or statement counts less than 12 and takes a byte of the text at least, so a text of at most TEXT_LIMIT
-            // bytes is far from too large.
-            LowerError::NoMemory | LowerError::TooLarge => Ending::NoMemory,
-        }
     }
 }
 

@@ -4,7 +4,7 @@ ghost use Rattle.rgo_run.specs.Accepted.{EmittedPasses};
 ghost use Rattle.rgo_run.specs.CodeVerdicts.{OneCodeVerdict};
 ghost use Rattle.rgo_run.specs.Compiled.{OneCompiled};
 ghost use Rattle.rgo_run.specs.RecordLaws.{RecordedIsReplayed};
-ghost use Rattle.rgo_run.specs.Programs.{ProgramsAreWellFormed};
+ghost use Rattle.rgo_run.specs.Programs.{NoProgramIsTooLarge, ProgramsAreWellFormed};
 ghost use Rattle.rgo_run.specs.Sufficing.{FewSuffice};
 ghost use Rattle.rgo_run.specs.Verdicts.{OneVerdict};
 
@@ -27,6 +27,11 @@ pub fn emitted_passes()
 /// The program of every valid text is well-formed, and no function with a result reaches the end of its body.
 pub fn programs_are_well_formed()
     ensures { ProgramsAreWellFormed }
+{}
+
+/// The program of no text is too large to be lowered, so that lowering fails only where memory runs out.
+pub fn no_program_is_too_large()
+    ensures { NoProgramIsTooLarge }
 {}
 
 /// A program is compiled to one code, so there is one text that `emit` may print of it.

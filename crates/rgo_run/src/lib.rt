@@ -15,8 +15,8 @@ mod top;
 
 pub use endings::{Ending, TextKind};
 pub use laws::{
-    emitted_passes, few_suffice, one_code_verdict, one_compiled, one_verdict,
-    programs_are_well_formed, recorded_is_replayed,
+    emitted_passes, few_suffice, no_program_is_too_large, one_code_verdict, one_compiled,
+    one_verdict, programs_are_well_formed, recorded_is_replayed,
 };
 pub use pipeline::{compile, lower_text};
 pub use replaying::ReplayEnding;

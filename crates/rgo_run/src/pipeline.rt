@@ -21,7 +21,7 @@ use rgo_code::Checked;
 use rgo_code_text::read_code;
 use rgo_insert::insert;
 use rgo_lexer::{Lexeme, lex};
-use rgo_lower::lower;
+use rgo_lower::{LowerError, lower};
 use rgo_parser::{ParseError, ParseRefusal, parse};
 use rgo_summaries::summaries;
 use rgo_tac::Tac;
@@ -109,15 +109,18 @@ pub fn lower_text(alloc: Global, text: &[u8]) -> Result<Tac, Ending>
     ensures err { IfErr result (Fails text.now) }
 {
     let program = check_text(alloc, text)?;
-    Ok(lower(alloc, &program)?)
+    match lower(alloc, &program) {
+        Ok(code) => Ok(code),
+        Err(LowerError::NoMemory) => Err(Ending::NoMemory),
+        Err(LowerError::TooLarge) => unreachable!(),
+    }
 }
 
 /// The code of a text's program, which says where regions are created, passed, protected and removed.
 ///
 /// # Errors
 ///
-/// If the text is not a valid program: why not, and where. On allocation failure, and for a function with 2³² - 1
-/// instructions or variables or more.
+/// If the text is not a valid program: why not, and where. On allocation failure.
 pub fn compile(alloc: Global, text: &[u8]) -> Result<Checked, Ending>
     ensures ok { IfOk result (IsCompiled text.now) }
     ensures err { IfErr result (Fails text.now) }
