@@ -7,16 +7,20 @@ use Rattle.rgo_code.specs.Code.{Do}
 use Rattle.rgo_code.specs.Erasure.{erased, erased_fn}
 use Rattle.rgo_code.specs.Exists.{declared_by}
 use Rattle.rgo_code.specs.Types.{DoFits}
+use Rattle.rgo_machine.specs.declared.picks.Pick.TheVariants.{One}
 use Rattle.rgo_memory.specs.Effects.{Does as DoesSo, answered, to_object}
 use Rattle.rgo_memory.specs.Elements.{length_in}
 use Rattle.rgo_memory.specs.Fields.{field_of, load, or_nil, store, stored}
 use Rattle.rgo_memory.specs.Memory.{Memory as Heap, Object, SliceObject, StructObject, with_object}
 use Rattle.rgo_memory.specs.declared.values.Value.{Value}
 use Rattle.rgo_memory.specs.declared.values.Value.TheVariants as value
+use Rattle.rgo_region_machine.specs.Machine.{Instruct}
 use Rattle.rgo_region_machine.specs.Objects.{words as words_of}
+use Rattle.rgo_region_machine.specs.declared.regions.Region.TheVariants.{Global as GlobalRegion}
 use Rattle.rgo_sound.proofs.Acting.{performed}
-use Rattle.rgo_sound.proofs.Places.{contains_here, contains_there, length_set}
+use Rattle.rgo_sound.proofs.Places.{contains_here, contains_there, each_get, length_set}
 use Rattle.rgo_sound.proofs.Types.{get_kinds}
+use Rattle.rgo_sound.specs.Values.{LeadsInto}
 use Rattle.rgo_tac.specs.Code.{Tac, TacFn}
 use Rattle.rgo_tac.specs.Frames.{value_at, values_of}
 use Rattle.rgo_tac.specs.Steps.{type_of}
@@ -40,35 +44,40 @@ use Rattle.rgo_core_memory.specs.Ground.{ground_of}
 use Rattle.rgo_core_memory.specs.Image.{Memory, code_of, word_at}
 use Rattle.rgo_core_memory.specs.Words.{base, variable_at}
 use Rattle.rgo_core_memory.proofs.Frames.{content_below}
+use Rattle.rgo_core_memory.proofs.Quiets.{quiet_keeps}
 use Rattle.rgo_core_memory.proofs.Rows.{at_set, set_else}
 use Rattle.rgo_core_memory.proofs.Steadies.{steady_of}
 use Rattle.rgo_core_memory.proofs.Storing.{gets}
 use Rattle.rgo_core_memory.proofs.Typing.{get_law, len_law, load_law, loads_from, set_law, store_law, stores_to}
 use Rattle.rgo_core_memory.proofs.Writes.{in_pages}
-use Rattle.rgo_core.specs.Accesses.{GetMove, LenMove, LoadMove, SetMove, StoreMove}
+use Rattle.rgo_core.specs.Accesses.{GetMove, LenMove, LenNilStill, LoadMove, SetMove, StoreMove}
+use Rattle.rgo_core.specs.Bounds.{Gives, LieInPages, Points, target_type}
 use Rattle.rgo_core.specs.Core.{Here, Setup, layout}
 use Rattle.rgo_core.specs.Image.{place_of}
 use Rattle.rgo_core.specs.Next.{IsAt, acted}
-use Rattle.rgo_core.specs.Records.{Record, frame_of, memory_of}
+use Rattle.rgo_core.specs.Records.{Record, frame_of, instructed, memory_of}
 use Rattle.rgo_core.specs.Steps.{Does, Steps}
-use Rattle.rgo_core.proofs.Encodings.{shows_it, word_is}
+use Rattle.rgo_core.proofs.Bounds.{LeadsToLive, gives_points, held_live}
+use Rattle.rgo_core.proofs.Encodings.{shows_it, small_int, word_is}
 use Rattle.rgo_core.proofs.Contents.{variable_fits}
 use Rattle.rgo_core.proofs.Leaving.{apart_from, channel_stands, channel_word}
-use Rattle.rgo_core.proofs.Lift.{access_law}
+use Rattle.rgo_core.proofs.Lift.{access_law, moves_by, quiet_law}
+use Rattle.rgo_core.proofs.MakesObject.{first_type}
 use Rattle.rgo_core.proofs.Operands as operands
 use Rattle.rgo_core.proofs.Slices as slices
 use Rattle.rgo_core.proofs.Parts.{I}
+use Rattle.rgo_core.proofs.Printing.{not_go}
 use Rattle.rgo_core.proofs.Performing.{channels_after, performs}
 use Rattle.rgo_core.proofs.Links.{claims_high, lengths_apart, lengths_in}
 use Rattle.rgo_core.proofs.MakesObject.{struct_no_channel}
 
 -- ---- types
 
-load_takes : (code : Tac) (f : TacFn) (d k : ℕ) (tys : List «Type») → DoFits code f (Some d) (action.Load k) tys
+pub load_takes : (code : Tac) (f : TacFn) (d k : ℕ) (tys : List «Type») → DoFits code f (Some d) (action.Load k) tys
     → (n : ℕ) × (tys ≡ pointer_to n ∷ [])
 load_takes code f d k tys fits = let r = fits.2 in (r.0, r.1)
 
-store_takes : (code : Tac) (f : TacFn) (k : ℕ) (tys : List «Type») → DoFits code f None (action.Store k) tys
+pub store_takes : (code : Tac) (f : TacFn) (k : ℕ) (tys : List «Type») → DoFits code f None (action.Store k) tys
     → (n : ℕ) × (t : «Type») × (tys ≡ pointer_to n ∷ t ∷ [])
 store_takes code f k tys fits = (fits.0, fits.1, fits.2)
 
@@ -102,11 +111,16 @@ module _ {T : Setup} {g : ℕ} {c : Record} (x : Here T g c) (rests : c.side ≡
       → Steps x (slice_set x.words i (slice_index x.words i)) (acted T.code c a (Some d) (slice_index x.words i))
   reads_word M = inl (subst (λ (w : List ℕ). Does x w (acted T.code c a (Some d) (slice_index x.words i))) (sym (set_own x.words i))
       (performs x rests x.s.plain.memory (operands.b x (Some d) act from removes a).h
-      (after_action T.code c.frame a.w a.ws a.instr (Some d) (slice_index x.words i)) read_step x.words refl
+      (after_action T.code c.frame a.w a.ws a.instr (Some d) (slice_index x.words i)) read_step x.words (suc c.clock.accesses) refl
       (operands.as_deep x (Some d) act from removes a (slice_index x.words i)) M
       (channels_after x rests x.s.plain.memory (operands.b x (Some d) act from removes a).h
       (after_action T.code c.frame a.w a.ws a.instr (Some d) (slice_index x.words i)) read_step x.words
       (λ o k is. is) (λ o k is. is) refl (λ o j k on l. refl)) (λ r. refl) (λ o cells r stands. refl)))
+
+  -- and points where it may
+  pub read_points : LeadsToLive x.s v → Points T (target_type T a.w (Some d)) (slice_index x.words i)
+  read_points live = gives_points x (Some d) act from removes a x.s.plain.memory v does x.words (map memory_of x.recs) x.s (I x).places (I x).memory
+      (I x).addresses (I x).addressed refl (slice_index x.words i) live shows
 
 -- ---- a field is loaded
 
@@ -155,10 +169,18 @@ module _ {T : Setup} {g : ℕ} {c : Record} (x : Here T g c) (rests : c.side ≡
       g load_from.object k (I x).places x.core.sound.checked x.core.sound.good (I x).memory
       (read_step x rests d (action.Load k) (p ∷ []) removes a (base (layout T) + (at + k)) load_there.2 load_does load_shows).steps load_before).1
 
+  pub load_points : Points T (target_type T a.w (Some d)) (slice_index x.words (base (layout T) + (at + k)))
+  load_points = read_points x rests d (action.Load k) (p ∷ []) removes a (base (layout T) + (at + k)) load_there.2 load_does load_shows
+      (held_live x load_from.object (StructObject load_there.0) load_from.region
+      (operands.stands x (Some d) (action.Load k) (p ∷ []) removes a p at (pointer_to load_types.0) [] [] load_types.1 refl refl
+      (contains_here p []) points (StructObject load_there.0) load_there.1)
+      k load_there.2 load_there.3)
+
 pub load_move : LoadMove
 load_move T g c d k p at removes a rests points =
-    access_law T g c (base (layout T) + (at + k)) (λ n. n) (λ n. acted T.code c a (Some d) n) (omega arith) (λ n. refl)
-    (λ x small. load_steps x rests d k p at removes a points)
+    moves_by T g c (base (layout T) + (at + k)) (λ n. n) (λ n. acted T.code c a (Some d) n) (Gives T c a (Some d)) (λ n. refl)
+    (λ x. omega arith) (λ x small. load_steps x rests d k p at removes a points)
+    (λ x. (refl, load_points x rests d k p at removes a points))
 
 -- ---- the length of a slice is loaded
 
@@ -206,10 +228,63 @@ module _ {T : Setup} {g : ℕ} {c : Record} (x : Here T g c) (rests : c.side ≡
       g len_from.object (I x).places x.core.sound.checked x.core.sound.good (I x).memory
       (read_step x rests d action.Len (p ∷ []) removes a (base (layout T) + at) long len_does len_shows).steps len_before).1
 
+  pub len_points : Points T (target_type T a.w (Some d)) (slice_index x.words (base (layout T) + at))
+  len_points = read_points x rests d action.Len (p ∷ []) removes a (base (layout T) + at) long len_does len_shows (λ o e. absurd (no_object o e))
+    where
+      no_object : (o : ℕ) → long ≡ value.Object o → ⊥
+      no_object o e = cc e
+
+  pub elements_lie : LieInPages T at (suc (slice_index x.words (base (layout T) + at)))
+  elements_lie = slices.lies x (Some d) action.Len p [] removes a len_types.0 [] len_types.1 (contains_here p []) at points
+
 pub len_move : LenMove
 len_move T g c d p at removes a rests points =
-    access_law T g c (base (layout T) + at) (λ n. n) (λ n. acted T.code c a (Some d) n) (omega arith) (λ n. refl)
+    moves_by T g c (base (layout T) + at) (λ n. n) (λ n. acted T.code c a (Some d) n)
+    (λ n e. Gives T c a (Some d) n e × LieInPages T at (suc n)) (λ n. refl) (λ x. omega arith)
     (λ x small. len_steps x rests d p at removes a points)
+    (λ x. ((refl, len_points x rests d p at removes a points), elements_lie x rests d p at removes a points))
+
+-- ---- the length of nil
+
+module _ {T : Setup} {g : ℕ} {c : Record} (x : Here T g c) (rests : c.side ≡ at_rest) (d p : ℕ) (removes : List ℕ)
+    (a : IsAt T.code c (Do (Some d) action.Len (p ∷ []) removes)) (nil : word_of_frame a.w p ≡ 0) where
+  nil_types : (u : «Type») × ((operands.rule x (Some d) action.Len (p ∷ []) removes a).0 ≡ slice_of u ∷ [])
+  nil_types = len_takes (erased T.code) (erased_fn a.fn) d (operands.rule x (Some d) action.Len (p ∷ []) removes a).0
+      (operands.rule x (Some d) action.Len (p ∷ []) removes a).2
+
+  nil_does : performed T.code.structs action.Len (type_of (erased T.code) (operands.b x (Some d) action.Len (p ∷ []) removes a).frame (Some d))
+      (values_of (operands.b x (Some d) action.Len (p ∷ []) removes a).frame (p ∷ [])) x.s.plain.memory
+      ≡ Some (DoesSo x.s.plain.memory (value.Int (pos 0)))
+  nil_does = ap (λ (v : Value). performed T.code.structs action.Len
+      (type_of (erased T.code) (operands.b x (Some d) action.Len (p ∷ []) removes a).frame (Some d)) (v ∷ []) x.s.plain.memory)
+      (operands.nil_there x (Some d) action.Len (p ∷ []) removes a p (slice_of nil_types.0) (contains_here p [])
+      (first_type (erased_fn a.fn) p [] (operands.rule x (Some d) action.Len (p ∷ []) removes a).0 (slice_of nil_types.0) [] nil_types.1
+      (operands.rule x (Some d) action.Len (p ∷ []) removes a).1) refl nil)
+
+  zero_shows : Shows (I x).addresses (value.Int (pos 0)) 0
+  zero_shows = (omega arith, sym (small_int 0 (omega arith)))
+
+  nil_step : HasInstruction T.code T.sizes.page_words (I x).places.slot (I x).addresses x.s g x.s.plain.memory []
+      ((operands.b x (Some d) action.Len (p ∷ []) removes a).h, [])
+      (slice_set (map frame_of x.recs) g (after_action T.code c.frame a.w a.ws a.instr (Some d) 0))
+  nil_step = operands.acts x (Some d) action.Len (p ∷ []) removes a x.s.plain.memory (value.Int (pos 0)) 0 nil_does refl zero_shows
+
+  pub length_of_nil : Does x x.words
+      (record c { clock = instructed c.clock; frame = after_action T.code c.frame a.w a.ws a.instr (Some d) 0 })
+  length_of_nil = performs x rests x.s.plain.memory (operands.b x (Some d) action.Len (p ∷ []) removes a).h
+      (after_action T.code c.frame a.w a.ws a.instr (Some d) 0) nil_step x.words c.clock.accesses refl
+      (operands.as_deep x (Some d) action.Len (p ∷ []) removes a 0)
+      (quiet_keeps T.code (layout T) x.words (map memory_of x.recs) x.s nil_step.state (Instruct (One g)) (I x).places (I x).memory nil_step.steps
+      (nil_step.memory_is, not_go x a (λ z. z)))
+      (channels_after x rests x.s.plain.memory (operands.b x (Some d) action.Len (p ∷ []) removes a).h
+      (after_action T.code c.frame a.w a.ws a.instr (Some d) 0) nil_step x.words
+      (λ o k is. is) (λ o k is. is) refl (λ o j k on l. refl))
+      (λ r. refl) (λ o cells r stands. refl)
+
+pub len_nil_still : LenNilStill
+len_nil_still T g c d p removes a rests nil =
+    quiet_law T g c (record c { clock = instructed c.clock; frame = after_action T.code c.frame a.w a.ws a.instr (Some d) 0 })
+    (λ x. length_of_nil x rests d p removes a nil)
 
 -- ---- a package variable is loaded
 
@@ -245,10 +320,20 @@ module _ {T : Setup} {g : ℕ} {c : Record} (x : Here T g c) (rests : c.side ≡
       (read_step x rests d (action.Get k) [] removes a (variable_at (layout T) k) variable_there.0 get_does get_shows).steps
       (operands.before x (Some d) (action.Get k) [] removes a [] refl)).1
 
+  -- what a package variable holds is Global
+  pub get_points : Points T (target_type T a.w (Some d)) (slice_index x.words (variable_at (layout T) k))
+  get_points = read_points x rests d (action.Get k) [] removes a (variable_at (layout T) k) variable_there.0 get_does get_shows (λ o e. (
+    GlobalRegion,
+    subst (LeadsInto x.s.owners GlobalRegion) e
+        (each_get (LeadsInto x.s.owners GlobalRegion) x.s.plain.memory.variables k variable_there.0
+        x.core.sound.good.good.values.memory.variables variable_there.1),
+    refl,
+  ))
+
 pub get_move : GetMove
 get_move T g c d k removes a rests =
-    access_law T g c (variable_at (layout T) k) (λ n. n) (λ n. acted T.code c a (Some d) n) (omega arith) (λ n. refl)
-    (λ x small. get_steps x rests d k removes a)
+    moves_by T g c (variable_at (layout T) k) (λ n. n) (λ n. acted T.code c a (Some d) n) (Gives T c a (Some d)) (λ n. refl)
+    (λ x. omega arith) (λ x small. get_steps x rests d k removes a) (λ x. (refl, get_points x rests d k removes a))
 
 -- ---- a field is stored
 
@@ -333,7 +418,8 @@ module _ {T : Setup} {g : ℕ} {c : Record} (x : Here T g c) (rests : c.side ≡
 
   store_done : Does x words (acted T.code c a None 0)
   store_done = performs x rests mem (operands.b x None (action.Store k) (p ∷ q ∷ []) removes a).h
-      (after_action T.code c.frame a.w a.ws a.instr None 0) store_step words (length_set x.s.plain.memory.heap o object)
+      (after_action T.code c.frame a.w a.ws a.instr None 0) store_step words (suc c.clock.accesses)
+      (length_set x.s.plain.memory.heap o object)
       (operands.as_deep x None (action.Store k) (p ∷ q ∷ []) removes a 0) store_memory
       (channels_after x rests mem (operands.b x None (action.Store k) (p ∷ q ∷ []) removes a).h
       (after_action T.code c.frame a.w a.ws a.instr None 0) store_step words stays was
@@ -397,7 +483,7 @@ module _ {T : Setup} {g : ℕ} {c : Record} (x : Here T g c) (rests : c.side ≡
 
   pub set_steps : Steps x set_words (acted T.code c a None 0)
   set_steps = inl (performs x rests set_mem (operands.b x None (action.Set k) (q ∷ []) removes a).h
-      (after_action T.code c.frame a.w a.ws a.instr None 0) set_step set_words refl
+      (after_action T.code c.frame a.w a.ws a.instr None 0) set_step set_words (suc c.clock.accesses) refl
       (operands.as_deep x None (action.Set k) (q ∷ []) removes a 0) set_memory
       (channels_after x rests set_mem (operands.b x None (action.Set k) (q ∷ []) removes a).h
       (after_action T.code c.frame a.w a.ws a.instr None 0) set_step set_words (λ j l is. is) (λ j l is. is)

@@ -1,5 +1,6 @@
 -- Accesses to chains of pages.
-use Rattle.std.proofs.Common.{◌≡◌, inl, inr, ⊎_elim, ℕ, suc, ◌+◌, ◌-◌, ◌<◌, ◌≤◌, List, [], ◌∷◌, map, drop, slice_set, slice_index, refl, ap, sym, subst, ◌∙◌, arith}
+use Rattle.std.proofs.Common.{◌≡◌, inl, inr, ⊎_elim, ℕ, zero, suc, ◌+◌, ◌-◌, ◌<◌, ◌≤◌, List, [], ◌∷◌, map, drop, slice_set, slice_index, refl, ap, sym, subst, ◌∙◌, arith}
+use Rattle.std.proofs.lemmas.Bool.Decides.{nat_tests}
 use Rattle.rgo_core_channels.specs.Channels.{Chan, On, channel}
 use Rattle.rgo_core_channels.proofs.Lists.{set_own}
 use Rattle.rgo_core_channels.proofs.Quiet.{word_keeps}
@@ -8,8 +9,8 @@ use native.Mathlib.Decide.{ℕ_discrete}
 use Rattle.rgo_core_memory.specs.Ground.{Ground, Steady, ground_of}
 use Rattle.rgo_core_memory.specs.Image.{Image as MemoryImage, Memory, Where, code_of}
 use Rattle.rgo_core_memory.specs.Pages.{Chain, Chained, Free, Place, times}
-use Rattle.rgo_core_memory.specs.Parts.{Living, Use, Vacant}
-use Rattle.rgo_core_memory.specs.Records.{Calm, Claim, Claims, Closes, Gave, Give, Gives, Giving, Got, Has, Hung, Idle, Past, Rec as MemoryRec, with_claim, with_give}
+use Rattle.rgo_core_memory.specs.Parts.{Living, Use, Vacant, pages_at}
+use Rattle.rgo_core_memory.specs.Records.{Calm, Claim, Claims, Closes, Gave, Give, Gives, Giving, Got, Has, Hung, Idle, Past, Rec as MemoryRec, with_claim, with_give, Owes}
 use Rattle.rgo_core_memory.specs.Words.{base, count_at, head_at, next_at, put, state_at}
 use Rattle.rgo_core_memory.specs.declared.layout.TableSizes.{TableSizes}
 use Rattle.rgo_core_memory.proofs.Chains.{times_else, times_first}
@@ -24,7 +25,7 @@ use Rattle.rgo_core.specs.Image.{Image, place_of}
 use Rattle.rgo_core.specs.Records.{ClockRec, Record, counted, memory_of, side_of}
 use Rattle.rgo_core.specs.Steps.{Steps}
 use Rattle.rgo_core.proofs.Leaving.{channel_stands}
-use Rattle.rgo_core.proofs.Lift.{access_law, told_law}
+use Rattle.rgo_core.proofs.Lift.{access_law, moves_by, told_law}
 use Rattle.rgo_core.proofs.Parts.{I, frame_stays, image_with, side_stays}
 use Rattle.rgo_core.specs.Links.{Links, left_to_free}
 use Rattle.rgo_core_memory.specs.Owed.{claimed_for}
@@ -149,6 +150,39 @@ one_less c r q n owed = λ i. record (counted c.clock) {
   returned = (let e : suc c.clock.share.returned + (c.clock.owed - 1) ≡ c.clock.share.returned + c.clock.owed = omega (arith, owed) in e) i;
 }
 
+-- ---- how many pages are owed
+
+claims_few : (states : ℕ → ℕ) (n r : ℕ) → pages_at states n r ≤ n
+claims_few states zero r = omega arith
+claims_few states (suc n) r = let a = claims_few states n r in grind (arith, nat_tests, a)
+
+module _ {T : Setup} {g : ℕ} {c : Record} (x : Here T g c) (r : ℕ) where
+  few_owed : c.memory.give ≡ Owes r → c.clock.owed ≤ T.sizes.pages
+  few_owed owes =
+      let a : c.clock.owed ≡ claimed_for (layout T) x.words r = (x.core.links g c x.is_c).owed ∙ ap (left_to_free (layout T) x.words) owes in
+      let b = claims_few (λ p. slice_index x.words (state_at (layout T) p)) (layout T).pages r in
+      omega (arith, a, b)
+
+  -- by the page that is freed
+  one_owed : (p q : ℕ) → c.memory.give ≡ Past r (suc p) q → 0 < c.clock.owed
+  one_owed p q past =
+      let freed = (still_claimed.free T.code (layout T) x.words (map memory_of x.recs) x.s (I x).places x.core.sound.good (I x).memory g r p q
+      c.memory (memory_at x) past).0 in
+      let a : c.clock.owed ≡ claimed_for (layout T) x.words r = (x.core.links g c x.is_c).owed ∙ ap (left_to_free (layout T) x.words) past in
+      omega (arith, freed, a)
+
+  none_owed : c.memory.give ≡ Giving r 0 → c.clock.owed ≡ 0
+  none_owed gives =
+      let k = (I x).places in
+      let words = slice_set x.words (head_at (layout T) r) 0 in
+      let a : c.clock.owed ≡ claimed_for (layout T) x.words r = (x.core.links g c x.is_c).owed ∙ ap (left_to_free (layout T) x.words) gives in
+      let same : claimed_for (layout T) words r ≡ claimed_for (layout T) x.words r =
+      still_claimed.beside (layout T) x.words (head_at (layout T) r) 0 (λ p l e. omega (arith, l, e)) r in
+      let b = still_claimed.none T.code (layout T) words (slice_set (map memory_of x.recs) g (with_give c.memory (Gave r))) x.s k x.core.sound.good
+      (clear_keeps T.code (layout T) x.words (map memory_of x.recs) x.s k g c.memory x.core.sound.good (I x).memory (memory_at x) r gives)
+      g r (with_give c.memory (Gave r)) (set_here (map memory_of x.recs) g (with_give c.memory (Gave r)) c.memory (memory_at x)) refl in
+      omega (arith, a, b, same)
+
 pub hang_move : HangMove
 hang_move T g c p r got =
     access_law T g c (head_at (layout T) r) (λ n. suc p) (λ n. remembers c (with_claim c.memory (Hung p r n))) (omega arith) (λ n. refl)
@@ -174,7 +208,7 @@ link_move T g c p r old hung =
 pub head_move : HeadMove
 head_move T g c r owes =
     told_law T g c (head_at (layout T) r) (λ n. n)
-    (λ n d. (d ≡ remembers c (with_give c.memory (Giving r n))) × (n ≤ T.sizes.pages)) (λ x. omega arith)
+    (λ n d. (d ≡ remembers c (with_give c.memory (Giving r n))) × (n ≤ T.sizes.pages) × (c.clock.owed ≤ T.sizes.pages)) (λ x. omega arith)
     (λ x small.
     let k = (I x).places in
     let n : ℕ = slice_index x.words (head_at (layout T) r) in
@@ -193,6 +227,7 @@ head_move T g c r owes =
         refl,
         giving_low (layout T) x.words (slice_set (map memory_of x.recs) g d) (ground_of x.s) k M g d
             (set_here (map memory_of x.recs) g d c.memory (memory_at x)) r n refl,
+        few_owed x r owes,
       );
     })
 
@@ -222,7 +257,8 @@ next_move T g c r p gives =
 
 pub free_move : FreeMove
 free_move T g c r p q past =
-    access_law T g c (state_at (layout T) p) (λ n. 0) (λ n. frees c r q) (omega arith) (λ n. refl)
+    moves_by T g c (state_at (layout T) p) (λ n. 0) (λ n. frees c r q) (λ n d. (d ≡ frees c r q) × (0 < c.clock.owed)) (λ n. refl)
+    (λ x. omega arith)
     (λ x small.
     let k = (I x).places in
     let low = (past_low (layout T) x.words (map memory_of x.recs) (ground_of x.s) k (I x).memory g c.memory (memory_at x) r p q past).0 in
@@ -240,10 +276,12 @@ free_move T g c r p q past =
           (subst (λ (y : Give). Closes y r) (sym past) refl) (map_get memory_of x.recs j e is) (subst (Closes e.memory.give) same closes))))
           (omega (arith, owed)) refl (Waits refl refl);
     }))
+    (λ x. (refl, one_owed x r p q past))
 
 pub clear_move : ClearMove
 clear_move T g c r gives =
-    access_law T g c (head_at (layout T) r) (λ n. 0) (λ n. remembers c (with_give c.memory (Gave r))) (omega arith) (λ n. refl)
+    moves_by T g c (head_at (layout T) r) (λ n. 0) (λ n. remembers c (with_give c.memory (Gave r)))
+    (λ n d. (d ≡ remembers c (with_give c.memory (Gave r))) × (c.clock.owed ≡ 0)) (λ n. refl) (λ x. omega arith)
     (λ x small.
     let k = (I x).places in
     let low = closing_low (layout T) x.words (map memory_of x.recs) (ground_of x.s) k (I x).memory g c.memory (memory_at x) r
@@ -252,6 +290,7 @@ clear_move T g c r gives =
     (clear_keeps T.code (layout T) x.words (map memory_of x.recs) x.s k g c.memory x.core.sound.good (I x).memory (memory_at x) r gives))
     (as_before x (head_at (layout T) r) 0 (omega arith) (omega (arith, low)) _ refl
     (sym (ap (left_to_free (layout T) x.words) gives))))
+    (λ x. (refl, none_owed x r gives))
 
 pub slot_move : SlotMove
 slot_move T g c r gave =

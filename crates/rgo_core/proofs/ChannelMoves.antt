@@ -1,13 +1,14 @@
 -- Loads of a channel's control, capacity and cells, the lock, and the store of a cell: the region machine makes no step.
-use Rattle.std.proofs.Common.{◌≡◌, ℕ, suc, ◌+◌, ◌^◌, ◌<◌, ◌≤◌, ◌==◌, if◌then◌else◌, List, length, map, None, slice_set, slice_index, refl, ap, sym, subst, arith, inr}
+use Rattle.std.proofs.Common.{◌≡◌, ℕ, suc, ◌+◌, ◌^◌, ◌<◌, ◌≤◌, ◌==◌, if◌then◌else◌, List, length, map, None, slice_get, slice_set, slice_index, Some, refl, ap, sym, subst, arith, inl, inr, ◌⊎◌, ◌∙◌}
 use Rattle.rgo_region_machine.specs.Objects.{words as words_in}
-use Rattle.rgo_core_channels.specs.Channels.{Chan, Channels, On, Places, channel}
-use Rattle.rgo_core_channels.specs.Controls.{extent, head_of}
-use Rattle.rgo_core_channels.specs.Moments.{Looks}
-use Rattle.rgo_core_channels.specs.Records.{Rec as SideRec, Sized, with_hold, with_lock, with_look, with_own_look, with_size}
+use Rattle.rgo_core_channels.specs.Channels.{Accepted, Calm, Chan, Channels, Offered, OfferOf, On, Phase, Places, channel, phase_number}
+use Rattle.rgo_core_channels.specs.Controls.{count_of, extent, head_of}
+use Rattle.rgo_core_channels.specs.Moments.{Looks, Moment}
+use Rattle.rgo_core_channels.specs.Records.{Offering, Rec as SideRec, Sized, with_hold, with_lock, with_look, with_own_look, with_size}
 use Rattle.rgo_core_channels.specs.Records.{Read, Wrote}
 use Rattle.rgo_core_channels.proofs.Lists.{set_own}
-use Rattle.rgo_core_channels.proofs.Locks.{capacity_is, cell_load_is, cell_store_is, control_is, lock_is_taken, own_control_is}
+use Rattle.rgo_core_channels.proofs.Locks.{capacity_is, cell_load_is, cell_store_is, control_is, lock_is_taken, own_control_is, shown}
+use Rattle.rgo_core_channels.proofs.Steps.{no_buffer}
 use Rattle.rgo_core_memory.specs.Encoding.{content}
 use Rattle.rgo_core_memory.specs.Ground.{ground_of}
 use Rattle.rgo_core_memory.specs.Image.{Memory, code_of, word_at}
@@ -86,18 +87,43 @@ module _ {T : Setup} {g : ℕ} {c : Record} (x : Here T g c) where
 pub control_move : ControlMove
 control_move T g c a r =
     moves_by T g c a (λ n. n) (λ n. knows c (with_look c.side a n))
-    (λ n d. (d ≡ knows c (with_look c.side a n)) × (n + 4 < 2 ^ 64)) (λ n. refl) (λ x. high x (reaches x r))
-    (λ x small. inr (loaded x a (with_look c.side a (slice_index x.words a)) (is x).0)) (λ x. (refl, (is x).1))
+    (λ n d. (d ≡ knows c (with_look c.side a n)) × (n + 4 < 2 ^ 64)
+    × ((size : ℕ) → c.side.size ≡ Sized a size → head_of n < extent size)) (λ n. refl) (λ x. high x (reaches x r))
+    (λ x small. inr (loaded x a (with_look c.side a (slice_index x.words a)) (is x).0)) (λ x. (refl, (is x).1, (is x).2))
   where
     is : (x : Here T g c) → Looks (moment x) g a (with_look c.side a) × (slice_index x.words a + 4 < 2 ^ 64)
         × ((size : ℕ) → c.side.size ≡ Sized a size → head_of (slice_index x.words a) < extent size)
     is x = control_is (moment x) g c.side (side_at x) a (at_channel x r)
 
+-- the phase of the channel at which a goroutine's offer stands
+own_phase : (M : Moment) (g : ℕ) (c : SideRec) → slice_get M.recs g ≡ Some c → (a : ℕ) → c.post ≡ Offering a
+    → (count_of (slice_index M.words a) ≡ 1) ⊎ (count_of (slice_index M.words a) ≡ 2)
+own_phase M g c mine a post =
+    let t = M.channels.posts g a c mine post in
+    subst (λ b. (count_of (slice_index M.words b) ≡ 1) ⊎ (count_of (slice_index M.words b) ≡ 2)) t.3
+    (by t.0 t.1 t.2 (M.at.phase t.0) refl t.4)
+  where
+    is : (o : ℕ) (k : Chan) → On M.state o k → OfferOf (M.at.phase o) g
+        → count_of (slice_index M.words (M.place o)) ≡ phase_number (M.at.phase o)
+    is o k on own =
+        let n = (shown M g c mine o k on).1 in
+        let none = no_buffer M.code M.encode M.place M.words M.recs M.state M.at M.channels o g k on own in
+        let l : length k.queue ≡ 0 = ap length (M.channels.unbuffered o k on none).0 in
+        omega arith
+
+    by : (o : ℕ) (k : Chan) → On M.state o k → (p : Phase) → M.at.phase o ≡ p → OfferOf (M.at.phase o) g
+        → (count_of (slice_index M.words (M.place o)) ≡ 1) ⊎ (count_of (slice_index M.words (M.place o)) ≡ 2)
+    by o k on Calm e own = absurd (subst (λ p. OfferOf p g) e own)
+    by o k on (Offered j) e own = inl (is o k on own ∙ ap phase_number e)
+    by o k on (Accepted j) e own = inr (is o k on own ∙ ap phase_number e)
+
 pub own_control_move : OwnControlMove
 own_control_move T g c a r =
     moves_by T g c a (λ n. n) (λ n. knows c (with_own_look c.side a n))
-    (λ n d. (d ≡ knows c (with_own_look c.side a n)) × (n + 4 < 2 ^ 64)) (λ n. refl) (λ x. high x (reaches x (inr r)))
-    (λ x small. inr (loaded x a (with_own_look c.side a (slice_index x.words a)) (is x).0)) (λ x. (refl, (is x).1))
+    (λ n d. (d ≡ knows c (with_own_look c.side a n)) × (n + 4 < 2 ^ 64) × ((count_of n ≡ 1) ⊎ (count_of n ≡ 2)))
+    (λ n. refl) (λ x. high x (reaches x (inr r)))
+    (λ x small. inr (loaded x a (with_own_look c.side a (slice_index x.words a)) (is x).0))
+    (λ x. (refl, (is x).1, own_phase (moment x) g c.side (side_at x) a r))
   where
     is : (x : Here T g c) → Looks (moment x) g a (with_own_look c.side a) × (slice_index x.words a + 4 < 2 ^ 64)
     is x = own_control_is (moment x) g c.side (side_at x) a r

@@ -6,6 +6,7 @@ use Rattle.std.proofs.lemmas.List.Sums.{sum_by_push}
 use Rattle.std.proofs.lemmas.Nat.{or_block}
 use Rattle.std.proofs.lemmas.Option.{same_Some}
 use Rattle.std.specs.Int.Bits.{or_zero_r}
+use Rattle.std.specs.Option.{option_len}
 use mathlib.Core.Logic.{dite}
 use native.Mathlib.Decide.{ℕ_discrete}
 use Rattle.rgo_core_memory.proofs.Rows.{at_set, below, set_else, set_here}
@@ -13,7 +14,7 @@ use Rattle.rgo_core_rule.specs.Lists.{flattened}
 use Rattle.rgo_region_machine.specs.Instructions.{printed_if}
 use Rattle.rgo_region_machine.specs.States.{Mark, RegionState}
 use Rattle.rgo_sound.proofs.Places.{get_append_last, get_snoc, get_front}
-use Rattle.rgo_core.specs.Clock.{Clock, has_ticket, prints_in}
+use Rattle.rgo_core.specs.Clock.{Clock, has_set, has_ticket, prints_in}
 use Rattle.rgo_core.specs.ClockSteps.{first_mark, first_set}
 use Rattle.rgo_core.specs.Records.{ClockRec, Drawn, drawn_at, end_bit, has_ended}
 use Rattle.rgo_core.proofs.Lists.{cond_other, cond_same, count_push, flattened_snoc, one_if, sum_most, sum_same, sum_set, word_new}
@@ -21,8 +22,16 @@ use Rattle.rgo_core.proofs.Lists.{cond_other, cond_same, count_push, flattened_s
 yes_le : (a b : ℕ) → a ≤ b → nat_le a b ≡ true
 yes_le a b h = grind (arith, nat_tests)
 
-no_le : (a b : ℕ) → b < a → nat_le a b ≡ false
+pub no_le : (a b : ℕ) → b < a → nat_le a b ≡ false
 no_le a b h = grind (arith, nat_tests)
+
+at_most_one : {A : Type 0} (o : Option A) → option_len o ≤ 1
+at_most_one None = omega arith
+at_most_one (Some x) = omega arith
+
+none_set : (o : Option Mark) → ((m : Mark) → o ≡ Some m → ⊥) → option_len o ≤ 0
+none_set None h = omega arith
+none_set (Some m) h = absurd (h m refl)
 
 -- the clock has room for one ticket more
 pub room : (words : List ℕ) (recs : List ClockRec) (s : RegionState) (before late : List (List ℕ)) → Clock words recs s before late
@@ -69,6 +78,9 @@ module _ (words : List ℕ) (recs : List ClockRec) (s : RegionState) (before lat
       (λ q. (g, d, set_here recs g d c at, first ∙ (ap (λ (u : ClockRec). u.first) (same_Some c y (sym at ∙ (ap (λ z. slice_get recs z) (sym q) ∙ e))) ∙ f)))
       (λ ne. (h, y, set_else recs g h d ne ∙ e, f))
 
+  sole_same : d.first ≡ c.first → sum_by has_set recs' ≤ 1
+  sole_same first = let s = sum_same has_set recs g c d at (ap option_len first) in let o = k.sole in omega arith
+
   -- a step that neither prints nor ends the run
   pub clock_same : (more : List ℕ) (next : RegionState) → d.first ≡ c.first → slice_index more 0 ≡ slice_index words 0 → next.mark ≡ s.mark
       → next.plain.printed ≡ s.plain.printed → Clock more recs' next before late
@@ -86,6 +98,7 @@ module _ (words : List ℕ) (recs : List ClockRec) (s : RegionState) (before lat
         (λ (t : (h ≢ g) × (slice_get recs h ≡ Some y)). k.first h y m t.1 f)
         (at_set recs g h d y e);
     setter = λ m e. setter_same first m (k.setter m (sym mark ∙ e));
+    sole = sole_same first;
   }
 
   -- ---- an end
@@ -147,6 +160,21 @@ module _ (words : List ℕ) (recs : List ClockRec) (s : RegionState) (before lat
         go None e = let z = is_first e in (g, d, set_here recs g d c at, z.0 ∙ (sym z.1 ∙ q))
         go (Some m) e = let z = is_later m e in setter_same z.0 w (k.setter w (e ∙ (sym z.1 ∙ q)))
 
+    -- nobody has set the mark while there is none
+    sole_now : sum_by has_set recs' ≤ 1
+    sole_now = go s.mark refl
+      where
+        nobody : s.mark ≡ None → (h : ℕ) (y : ClockRec) → slice_get recs h ≡ Some y → has_set y ≤ 0
+        nobody e h y q = none_set y.first (λ m f. let z : None ≡ Some m = sym e ∙ k.first h y m q f in cc z)
+
+        go : (m : Option Mark) → s.mark ≡ m → sum_by has_set recs' ≤ 1
+        go (Some m) e = sole_same (is_later m e).0
+        go None e =
+            let z = sum_most has_set recs 0 (nobody e) in
+            let t = sum_set has_set recs g c d at in
+            let o = at_most_one d.first in
+            omega arith
+
     pub clock_end : Clock (slice_set words 0 (bit_or word 9223372036854775808)) recs' next before late
     clock_end = record {
       shows = word_new words 0 _ wide ∙ (let z = ended_word in let m = some_mark in omega arith);
@@ -162,6 +190,7 @@ module _ (words : List ℕ) (recs : List ClockRec) (s : RegionState) (before lat
           (λ (t : (h ≢ g) × (slice_get recs h ≡ Some y)). others_say h y w t.1 f)
           (at_set recs g h d y e);
       setter = who_set;
+      sole = sole_now;
     }
 
 -- ---- a print
@@ -300,6 +329,7 @@ module _ (words : List ℕ) (recs : List ClockRec) (s next : RegionState) (befor
         (λ (t : (h ≢ g) × (slice_get recs h ≡ Some y)). k.first h y m t.1 f)
         (at_set recs g h d y e);
     setter = λ m e. setter_after m (k.setter m (sym marked ∙ e));
+    sole = let s = sum_same has_set recs g c d at (ap option_len same_first) in let o = k.sole in omega arith;
   }
     where
       setter_after : (m : Mark) → (h : ℕ) × (y : ClockRec) × (slice_get recs h ≡ Some y) × (y.first ≡ Some m)
@@ -328,6 +358,7 @@ clock_child words recs s before late child no_prints no_first k = record {
       (λ (t : (g ≡ length recs) × (c ≡ child)). absurd (not_first m (sym no_first ∙ (ap (λ (y : ClockRec). y.first) (sym t.1) ∙ f))))
       (get_snoc recs child g c e);
   setter = λ m e. let s = k.setter m e in (s.0, s.1, get_front recs (child ∷ []) s.0 s.1 s.2, s.3);
+  sole = let s = none_more has_set (ap option_len no_first) in let o = k.sole in omega arith;
 }
   where
     none_more : (f : ClockRec → ℕ) → f child ≡ 0 → sum_by f (recs ++ child ∷ []) ≡ sum_by f recs

@@ -1,5 +1,5 @@
 -- The store that commits an operation of one goroutine on a channel: a send, a receive, the zero of a closed channel, a close.
-use Rattle.std.proofs.Common.{◌≡◌, ◌⊎◌, ℕ, zero, suc, ◌+◌, ◌-◌, ◌%◌, ◌<◌, ◌≤◌, false, List, [], ◌∷◌, ◌++◌, Option, Some, length, map, max, option_map, slice_set, refl, ap, sym, subst, ◌∙◌, inl, arith, append-nil, pos, Contains}
+use Rattle.std.proofs.Common.{◌≡◌, ◌⊎◌, ℕ, zero, suc, ◌+◌, ◌-◌, ◌%◌, ◌<◌, ◌≤◌, false, List, [], ◌∷◌, ◌++◌, Option, Some, length, map, max, option_map, slice_set, refl, ap, sym, subst, ◌∙◌, inl, arith, append-nil, pos, Contains, slice_get}
 use Rattle.std.proofs.lemmas.Option.{same_Some, slice_get_past, slice_get_within}
 use Rattle.rgo_typed.specs.declared.actions.Action.{Action}
 use Rattle.rgo_typed.specs.declared.actions.Action.TheVariants.{Close, Recv, Send}
@@ -46,12 +46,14 @@ use Rattle.rgo_core_memory.proofs.Accesses.{image_of}
 use Rattle.rgo_core_memory.proofs.Attending.{same_held}
 use Rattle.rgo_core_memory.proofs.Channels.{requeued, untold}
 use Rattle.rgo_core.specs.AtChannels.{Operates, commits}
-use Rattle.rgo_core.specs.CommitMoves.{CloseMove, ReceiveMove, SendMove, ZeroMove}
+use Rattle.rgo_core.specs.Bounds.{Points, target_type}
+use Rattle.rgo_core.specs.CommitMoves.{CloseMove, ReceiveMove, Receives, SendMove, ZeroMove}
 use Rattle.rgo_core.specs.Core.{Here, Setup, layout}
 use Rattle.rgo_core.specs.Image.{place_of}
 use Rattle.rgo_core.specs.Records.{Record, frame_of, memory_of, steps_of}
 use Rattle.rgo_core.specs.Steps.{Does}
 use Rattle.rgo_core.proofs.AtChannels.{calm, here, next, object, place_is, points_to, reached}
+use Rattle.rgo_core.proofs.Bounds.{LeadsToLive, gives_points, held_live}
 use Rattle.rgo_core.proofs.ChannelMoves.{above, high, written}
 use Rattle.rgo_core.proofs.Encodings.{shows_it, word_is}
 use Rattle.rgo_core.proofs.Leaving.{channel_stands}
@@ -178,6 +180,15 @@ module _ {T : Setup} {g : ℕ} {c : Record} (x : Here T g c) {to : Option ℕ} {
       same = record { prints = refl; first = refl; children = refl; refused = refl };
     }
 
+    -- and it points where it may
+    pub commit_points : LeadsToLive x.s v → Points T (target_type T a.here.w to) word
+    commit_points live =
+        gives_points x to action (a.channel ∷ others) a.removes a.here (with_object x.s.plain.memory (object x a) (channel y)) v
+        (ap (λ (u : Value). performed T.code.structs action its_type
+        (u ∷ values_of (here x a).before.frame others) x.s.plain.memory) (points_to x a).is ∙ does)
+        (slice_set x.words (word_at (layout T) x.core.image.places (object x a) 0) w) (map memory_of x.recs) t x.core.image.places memory_then
+        x.core.image.addresses x.core.image.addressed refl word live shows
+
 -- ---- the four operations
 
 module _ {T : Setup} {g : ℕ} {c : Record} (x : Here T g c) {to : Option ℕ} {sent at : ℕ} (a : Operates T c to Send (sent ∷ []) at)
@@ -249,6 +260,19 @@ module _ {T : Setup} {g : ℕ} {c : Record} (x : Here T g c) {to : Option ℕ} {
       (control (closed_of n) (count_of n - 1) ((head_of n + 1) % size)) L.6
       (subst (Shows x.core.image.addresses L.2) L.5 (queue_shows (object x a) L.0 L.2 L.3 L.1 L.4)) L.7
 
+  -- what is received was in the queue
+  receive_points : (n i word size : ℕ) → c.side.hold ≡ Read at n i word → c.side.size ≡ Sized at size
+      → 0 < count_of n → 0 < size → i ≡ head_of n → Points T (target_type T a.here.w to) word
+  receive_points n i word size hold sizing filled some_size at_head =
+      let p = sym (place_is x a) in
+      let L = receive_is (moment x) g c.side (side_at x) (object x a) n i word size (next x a)
+      (hold ∙ ap (λ j. Read j n i word) p) (calm x a.here) (sizing ∙ ap (λ j. Sized j size) p) filled some_size at_head in
+      commit_points x a L.0 (popped L.0 L.3) L.1 refl L.2 word
+      (control (closed_of n) (count_of n - 1) ((head_of n + 1) % size)) L.6
+      (subst (Shows x.core.image.addresses L.2) L.5 (queue_shows (object x a) L.0 L.2 L.3 L.1 L.4)) L.7
+      (held_live x (object x a) (channel L.0) (channel_stands x.s (object x a) L.0 L.1).0 (channel_stands x.s (object x a) L.0 L.1).1 0 L.2
+      (ap (λ (q : List Value). slice_get q 0) L.4))
+
   zero_does : (n size : ℕ) → c.side.hold ≡ Locked at n → c.side.size ≡ Sized at size → closed_of n ≡ 1
       → (size ≡ 0) ⊎ (count_of n ≡ 0) → Does x (slice_set x.words at n) (commits a 0)
   zero_does n size hold sizing shut empty =
@@ -261,8 +285,9 @@ module _ {T : Setup} {g : ℕ} {c : Record} (x : Here T g c) {to : Option ℕ} {
 pub receive_move : ReceiveMove
 receive_move T g c to at n i word size a hold sizing filled some_size at_head =
     moves_by T g c at (λ w. control (closed_of n) (count_of n - 1) ((head_of n + 1) % size)) (λ w. commits a word)
-    (λ w d. d ≡ commits a word) (λ w. refl) (λ x. high x (reached x a))
-    (λ x small. inl (receive_does x a n i word size hold sizing filled some_size at_head)) (λ x. refl)
+    (λ w. Receives a word) (λ w. refl) (λ x. high x (reached x a))
+    (λ x small. inl (receive_does x a n i word size hold sizing filled some_size at_head))
+    (λ x. (refl, receive_points x a n i word size hold sizing filled some_size at_head))
 
 pub zero_move : ZeroMove
 zero_move T g c to at n size a hold sizing shut empty =

@@ -1,14 +1,13 @@
 -- Accesses to elements that trap.
-use Rattle.std.proofs.Common.{◌≡◌, inl, inr, ℕ, suc, ◌+◌, ◌<◌, ◌≤◌, ◌^◌, bit_or, nat_lt, Bool, false, FitsSigned, ℤ, pos, negsuc, List, [], ◌∷◌, Option, Some, None, Result, Err, length, map, if◌then◌else◌, slice_get, slice_set, slice_index, refl, ap, sym, subst, ◌∙◌, arith, w64, Contains}
+use Rattle.std.proofs.Common.{◌≡◌, inl, inr, ℕ, suc, ◌+◌, ◌<◌, ◌≤◌, ◌^◌, nat_lt, Bool, false, FitsSigned, ℤ, pos, negsuc, List, [], ◌∷◌, Option, Some, None, Result, Err, length, if◌then◌else◌, slice_get, slice_set, slice_index, refl, ap, sym, subst, ◌∙◌, arith, w64, Contains}
 use Rattle.std.proofs.lemmas.Bool.Decides.{nat_tests}
 use Rattle.std.proofs.lemmas.Int.{of_z-to_z}
 use Rattle.std.proofs.lemmas.Option.{slice_get_past}
 use Rattle.std.specs.Int.{cast_signed, cast_unsigned}
 use borrow.Author.Gap.{read_sfits}
-use Rattle.rgo_code.specs.Code.{CodeOp, Do}
+use Rattle.rgo_code.specs.Code.{Do}
 use Rattle.rgo_code.specs.Erasure.{erased, erased_fn, erased_op}
-use Rattle.rgo_machine.specs.declared.picks.End.TheVariants as the_end
-use Rattle.rgo_machine.specs.declared.picks.Pick.TheVariants.{One}
+use Rattle.rgo_code.specs.Types.{HasType}
 use Rattle.rgo_memory.specs.Effects.{Does as DoesSo, Outcome, Traps, answered, in_memory, to_object}
 use Rattle.rgo_memory.specs.Elements.{element, element_in, or_out_of_range, put_in}
 use Rattle.rgo_memory.specs.Memory.{Object, SliceObject}
@@ -16,12 +15,8 @@ use Rattle.rgo_memory.specs.declared.traps.Trap.{Trap}
 use Rattle.rgo_memory.specs.declared.traps.Trap.TheVariants.{IndexRange}
 use Rattle.rgo_memory.specs.declared.values.Value.{Value}
 use Rattle.rgo_memory.specs.declared.values.Value.TheVariants as value
-use Rattle.rgo_region_machine.specs.Instructions.{marked}
-use Rattle.rgo_region_machine.specs.Machine.{Instruct}
-use Rattle.rgo_region_machine.specs.States.{Ended}
 use Rattle.rgo_sound.proofs.Acting.{performed}
 use Rattle.rgo_sound.proofs.Places.{contains_here, contains_there}
-use Rattle.rgo_sound.specs.Tally.{no_share}
 use Rattle.rgo_tac.specs.Flow.{reads}
 use Rattle.rgo_tac.specs.Frames.{value_at, values_of}
 use Rattle.rgo_tac.specs.Steps.{type_of}
@@ -29,78 +24,28 @@ use Rattle.rgo_typed.specs.declared.actions.Action.{Action}
 use Rattle.rgo_typed.specs.declared.actions.Action.TheVariants as action
 use Rattle.rgo_typed.specs.declared.types.Type.{«Type»}
 use Rattle.rgo_wellformed.specs.TypeRules.{int, slice_of}
-use Rattle.rgo_core_channels.specs.Records.{at_rest}
 use Rattle.rgo_core_frames.proofs.Ending.{trap_law}
-use Rattle.rgo_core_frames.proofs.Operands.{int_law, pointer_law}
-use Rattle.rgo_core_frames.proofs.Sound.{next_sound}
-use Rattle.rgo_core_frames.specs.Fits.{AllFit}
-use Rattle.rgo_core_frames.specs.Steps.{StepsTo}
 use Rattle.rgo_core_frames.specs.WordFrames.{word_at as word_of_frame}
-use Rattle.rgo_core_frames.specs.Words.{Shows}
-use Rattle.rgo_core_memory.proofs.Quiets.{quiet_keeps}
-use Rattle.rgo_core_memory.proofs.Rows.{set_again}
-use Rattle.rgo_core_memory.specs.Quiet.{IsGo}
-use Rattle.rgo_core.specs.ClockSteps.{Ends}
+use Rattle.rgo_core_memory.specs.Words.{base}
 use Rattle.rgo_core.specs.Core.{Here, Setup, layout}
 use Rattle.rgo_core.specs.ElementTraps.{AtTrapMove, HasNoElement, IsOutside, PutTrapMove}
 use Rattle.rgo_core.specs.Next.{IsAt}
-use Rattle.rgo_core.specs.Records.{Record, frame_of, steps_of}
-use Rattle.rgo_core.specs.TrapMoves.{trapped}
-use Rattle.rgo_core.proofs.Counting.{instructed_counts}
+use Rattle.rgo_core.specs.Records.{Record}
 use Rattle.rgo_core.proofs.Elements.{second_type}
 use Rattle.rgo_core.proofs.Encodings.{small_word}
-use Rattle.rgo_core.proofs.Lift.{many_set, shallow_here}
-use Rattle.rgo_core.proofs.Links.{CountsOne, all_kept, links_low, one_later}
 use Rattle.rgo_core.proofs.MakesObject.{first_type}
 use Rattle.rgo_core.proofs.Operands as operands
-use Rattle.rgo_core.proofs.Parts.{I}
-use Rattle.rgo_core.proofs.Printing.{counts_step, not_go}
 use Rattle.rgo_core.proofs.Slices as slices
-use Rattle.rgo_core.proofs.Standing.{at_instruction, frame_at, frames_here, image_clock}
-use Rattle.rgo_core.proofs.Staying.{image_stays}
-use Rattle.rgo_core.proofs.TrapMoves.{by_ends, marked_is}
-
--- ---- a trap of an instruction of a goroutine that is at no channel
-
-module _ {T : Setup} {g : ℕ} {c : Record} (x : Here T g c) (rests : c.side ≡ at_rest) {op : CodeOp} (a : IsAt T.code c op) (no_go : IsGo op → ⊥)
-    (trap : Trap)
-    (F : StepsTo (frames_here x) (Instruct (One g)) x.s.regions (marked x.s.mark (Some (the_end.Trap trap a.instr.place))) (map frame_of x.recs)) where
-  abbrev d : Record
-  d = trapped c (slice_index x.words 0) trap a.instr.place
-
-  traps_so : Ends x (Ended (the_end.Trap trap a.instr.place)) d
-  traps_so =
-      let sound = next_sound T.code T.sizes.page_words x.s F.state (Instruct (One g)) x.core.sound F.steps in
-      let shown = quiet_keeps T.code (layout T) x.words _ x.s F.state (Instruct (One g)) x.core.image.places x.core.image.memory F.steps
-      (F.same.memory, not_go x a no_go) in
-      let fit : AllFit T.code x.core.image.places.slot x.core.image.addresses F.state (slice_set (map frame_of x.recs) g d.frame) =
-      subst (AllFit T.code x.core.image.places.slot x.core.image.addresses F.state) (sym (set_again (map frame_of x.recs) g c.frame (frame_at x))) F.fit in
-      let image = image_stays x (Instruct (One g)) F.state F.steps refl rests F.same.memory F.same.owners F.regions_are d refl refl fit shown in
-      record {
-        goes = record {
-          event = Instruct (One g);
-          next = F.state;
-          steps = F.steps;
-          gain = record no_share { steps = 1 };
-          adds = counts_step x.s F.state 1 F.regions_are F.same.global_pages F.same.memory (many_set x x.words d F.state sound image) F.counted;
-          counted = instructed_counts c.clock;
-          shallow = shallow_here x g c.frame (frame_at x);
-          image = image_clock T.code (layout T) x.words (slice_set x.recs g d) F.state (bit_or (slice_index x.words 0) 9223372036854775808) image;
-          links = links_low x 0 (bit_or (slice_index x.words 0) 9223372036854775808) (omega arith) d (all_kept refl refl refl)
-              (CountsOne (one_later (steps_of c)));
-        };
-        marked = F.mark_is ∙ marked_is x.s.mark (the_end.Trap trap a.instr.place);
-        printed = F.same.printed;
-        cause = λ e. tt;
-      }
+use Rattle.rgo_core.proofs.Standing.{at_instruction}
+use Rattle.rgo_core.proofs.Traps.{by_ends, traps_so}
 
 -- ---- indices
 
-index_of : (w n : ℕ) → w < 2 ^ 64 → cast_signed w64 w ≡ pos n → n ≡ w
+pub index_of : (w n : ℕ) → w < 2 ^ 64 → cast_signed w64 w ≡ pos n → (n ≡ w) × (n < 2 ^ 63)
 index_of w n small e =
     let f : FitsSigned w64 (pos n) = subst (FitsSigned w64) e (read_sfits w64 w) in
     let low : n < 2 ^ 63 = omega (arith, f.sfits) in
-    sym (small_word n low) ∙ (ap (cast_unsigned w64) (sym e) ∙ of_z-to_z w64 w (omega (arith, small)))
+    (sym (small_word n low) ∙ (ap (cast_unsigned w64) (sym e) ∙ of_z-to_z w64 w (omega (arith, small))), low)
 
 no_element : (cells : List Value) (z : ℤ) → ((n : ℕ) → z ≡ pos n → length cells ≤ n) → element cells z ≡ Err IndexRange
 no_element cells (pos n) h = ap or_out_of_range (slice_get_past cells n (h n refl))
@@ -125,29 +70,20 @@ module _ {T : Setup} {g : ℕ} {c : Record} (x : Here T g c) (to : Option ℕ) (
   abbrev index : ℤ
   index = cast_signed w64 (word_of_frame a.w q)
 
+  index_typed : HasType (erased_fn a.fn) q int
+  index_typed = second_type (erased_fn a.fn) p q others (operands.rule x to act (p ∷ q ∷ others) removes a).0 (slice_of u) int tys types_are
+      (operands.rule x to act (p ∷ q ∷ others) removes a).1
+
   index_is : value_at (at_instruction x a).before.frame q ≡ value.Int index
-  index_is = int_law (at_instruction x a) q (record {
-    fn = a.fn;
-    is_fn = a.in_fn;
-    read = subst (λ (o : CodeOp). Contains (reads (erased_op o)) q) (sym a.is) reads_index;
-    typed = second_type (erased_fn a.fn) p q others (operands.rule x to act (p ∷ q ∷ others) removes a).0 (slice_of u) int tys types_are
-        (operands.rule x to act (p ∷ q ∷ others) removes a).1;
-  })
+  index_is = operands.int_there x to act (p ∷ q ∷ others) removes a q int reads_index index_typed refl
 
   nil_is : word_of_frame a.w p ≡ 0 → value_at (at_instruction x a).before.frame p ≡ value.Nil
-  nil_is nil = (pointer_law (at_instruction x a) p (slice_of u) (record {
-    fn = a.fn;
-    is_fn = a.in_fn;
-    read = subst (λ (o : CodeOp). Contains (reads (erased_op o)) p) (sym a.is) reads_slice;
-    typed = first_type (erased_fn a.fn) p (q ∷ others) (operands.rule x to act (p ∷ q ∷ others) removes a).0 (slice_of u) (int ∷ tys) types_are
-        (operands.rule x to act (p ∷ q ∷ others) removes a).1;
-  }) refl).0 nil
+  nil_is = operands.nil_there x to act (p ∷ q ∷ others) removes a p (slice_of u) reads_slice
+      (first_type (erased_fn a.fn) p (q ∷ others) (operands.rule x to act (p ∷ q ∷ others) removes a).0 (slice_of u) (int ∷ tys) types_are
+      (operands.rule x to act (p ∷ q ∷ others) removes a).1) refl
 
   word_small : word_of_frame a.w q < 2 ^ 64
-  word_small =
-      let sh : Shows (I x).addresses (value.Int index) (word_of_frame a.w q) =
-      subst (λ (v : Value). Shows (I x).addresses v (word_of_frame a.w q)) index_is (operands.shown x to act (p ∷ q ∷ others) removes a q reads_index) in
-      let l = sh.0 in omega (arith, l)
+  word_small = operands.int_small x to act (p ∷ q ∷ others) removes a q int reads_index index_typed refl
 
   module _ (at : ℕ) (points : word_of_frame a.w p ≡ suc at) (outside : IsOutside c at (word_of_frame a.w q)) where
     abbrev it : ℕ
@@ -165,10 +101,10 @@ module _ {T : Setup} {g : ℕ} {c : Record} (x : Here T g c) (to : Option ℕ) (
     beyond : (n : ℕ) → index ≡ pos n → length cells ≤ n
     beyond n e =
         let k = (x.core.links g c x.is_c).knows outside.measured outside.read in
-        let w = ap (λ n. slice_index x.words (Rattle.rgo_core_memory.specs.Words.base (layout T) + n)) (sym outside.its) ∙ k.still outside.now in
+        let w = ap (λ n. slice_index x.words (base (layout T) + n)) (sym outside.its) ∙ k.still outside.now in
         let l = slices.length_word x to act p (q ∷ others) removes a u (int ∷ tys) types_are reads_slice at points in
         let same : length cells ≡ outside.measured.elements = sym l ∙ w in
-        let i = index_of (word_of_frame a.w q) n word_small e in
+        let i = (index_of (word_of_frame a.w q) n word_small e).0 in
         let b = outside.beyond in omega (arith, same, i, b)
 
 -- ---- a load
@@ -209,8 +145,8 @@ module _ {T : Setup} {g : ℕ} {c : Record} (x : Here T g c) (d p q : ℕ) (remo
 
 pub at_trap_move : AtTrapMove
 at_trap_move T g c d p q removes a rests none = by_ends T g c IndexRange a.instr.place (λ x.
-    traps_so x rests a (λ z. z) IndexRange
-    (trap_law (at_instruction x a) (Some d) action.At (p ∷ q ∷ []) removes IndexRange a.is (load_traps x d p q removes a none)))
+    traps_so x IndexRange a.instr.place
+    (trap_law (at_instruction x a) (Some d) action.At (p ∷ q ∷ []) removes IndexRange a.is (load_traps x d p q removes a none)) rests a (λ z. z))
 
 -- ---- a store
 
@@ -254,5 +190,5 @@ module _ {T : Setup} {g : ℕ} {c : Record} (x : Here T g c) (p q r : ℕ) (remo
 
 pub put_trap_move : PutTrapMove
 put_trap_move T g c p q r removes a rests none = by_ends T g c IndexRange a.instr.place (λ x.
-    traps_so x rests a (λ z. z) IndexRange
-    (trap_law (at_instruction x a) None action.Put (p ∷ q ∷ r ∷ []) removes IndexRange a.is (store_traps x p q r removes a none)))
+    traps_so x IndexRange a.instr.place
+    (trap_law (at_instruction x a) None action.Put (p ∷ q ∷ r ∷ []) removes IndexRange a.is (store_traps x p q r removes a none)) rests a (λ z. z))

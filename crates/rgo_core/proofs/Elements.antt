@@ -3,7 +3,7 @@ use Rattle.std.proofs.Common.{◌≡◌, ◌≢◌, inl, inr, ⊎_elim, ℕ, suc
 use Rattle.std.proofs.Math.ListN.{length-set}
 use Rattle.std.proofs.lemmas.Bool.Decides.{nat_tests}
 use Rattle.std.proofs.lemmas.Option.{same_Some}
-use Rattle.rgo_code.specs.Code.{CodeOp, Do}
+use Rattle.rgo_code.specs.Code.{Do}
 use Rattle.rgo_code.specs.Erasure.{erased, erased_fn, erased_op}
 use Rattle.rgo_code.specs.Types.{HasType, HaveTypes}
 use Rattle.rgo_memory.specs.Effects.{Does as DoesSo, Outcome, answered, in_memory, to_object}
@@ -30,7 +30,6 @@ use Rattle.rgo_core_frames.specs.Operands.{PointsTo}
 use Rattle.rgo_core_frames.specs.Steps.{HasInstruction}
 use Rattle.rgo_core_frames.specs.WordFrames.{word_at as word_of_frame}
 use Rattle.rgo_core_frames.specs.Words.{Shows}
-use Rattle.rgo_core_frames.proofs.Operands.{int_law}
 use Rattle.rgo_core_memory.specs.Accesses.{Before}
 use Rattle.rgo_core_memory.specs.Encoding.{address}
 use Rattle.rgo_core_memory.specs.Image.{Memory, code_of, word_at}
@@ -40,21 +39,23 @@ use Rattle.rgo_core_memory.proofs.Keeps.{measured_keeps}
 use Rattle.rgo_core_memory.proofs.Rows.{at_set, set_else}
 use Rattle.rgo_core_memory.proofs.Typing.{at_law, put_law}
 use Rattle.rgo_core.specs.Accesses.{AtMove, IsInSlice, MeasureMove, PutMove, measures}
+use Rattle.rgo_core.specs.Bounds.{Gives, LieInPages, Points, target_type}
 use Rattle.rgo_core.specs.Core.{Here, Setup, layout}
 use Rattle.rgo_core.specs.Links.{IsAtElement}
 use Rattle.rgo_core.specs.Next.{IsAt, acted}
 use Rattle.rgo_core.specs.Records.{Record, frame_of, memory_of, steps_of}
 use Rattle.rgo_core.specs.Steps.{Does, Stays, Steps}
-use Rattle.rgo_core.proofs.Accesses.{read_step, reads_word}
+use Rattle.rgo_core.proofs.Accesses.{read_points, read_step, reads_word}
+use Rattle.rgo_core.proofs.Bounds.{held_live}
 use Rattle.rgo_core.proofs.Encodings.{small_int, word_is}
 use Rattle.rgo_core.proofs.Leaving.{apart_from}
-use Rattle.rgo_core.proofs.Lift.{access_law}
+use Rattle.rgo_core.proofs.Lift.{access_law, moves_by}
 use Rattle.rgo_core.proofs.Links.{as_much, claims_high, lengths_in, links_by, same_place}
 use Rattle.rgo_core.proofs.Operands as operands
 use Rattle.rgo_core.proofs.Parts.{I, frame_stays, image_with, side_stays}
 use Rattle.rgo_core.proofs.Performing.{channels_after, performs}
 use Rattle.rgo_core.proofs.Slices as slices
-use Rattle.rgo_core.proofs.Standing.{at_instruction, memory_at}
+use Rattle.rgo_core.proofs.Standing.{memory_at}
 use Rattle.rgo_core.proofs.MakesObject.{slice_no_channel}
 
 -- ---- a length is read
@@ -90,7 +91,8 @@ module _ {T : Setup} {g : ℕ} {c : Record} (x : Here T g c) (at : ℕ) (here : 
 
 pub measure_move : MeasureMove
 measure_move T g c at here =
-    access_law T g c (base (layout T) + at) (λ n. n) (λ n. measures c at n) (omega arith) (λ n. refl) (λ x small. measured_steps x at here)
+    moves_by T g c (base (layout T) + at) (λ n. n) (λ n. measures c at n) (λ n d. (d ≡ measures c at n) × LieInPages T at (suc n)) (λ n. refl)
+    (λ x. omega arith) (λ x small. measured_steps x at here) (λ x. (refl, (slices.at_slice x at here).lies))
 
 -- ---- the operands
 
@@ -135,13 +137,9 @@ module _ {T : Setup} {g : ℕ} {c : Record} (x : Here T g c) (to : Option ℕ) (
   index_is =
       let small = slices.length_small x to act p (q ∷ others) removes a u (int ∷ tys) types_are reads_slice at points in
       let low = within in
-      int_law (at_instruction x a) q (record {
-        fn = a.fn;
-        is_fn = a.in_fn;
-        read = subst (λ (o : CodeOp). Contains (reads (erased_op o)) q) (sym a.is) reads_index;
-        typed = second_type (erased_fn a.fn) p q others (operands.rule x to act (p ∷ q ∷ others) removes a).0 (slice_of u) int tys types_are
-            (operands.rule x to act (p ∷ q ∷ others) removes a).1;
-      })
+      operands.int_there x to act (p ∷ q ∷ others) removes a q int reads_index
+      (second_type (erased_fn a.fn) p q others (operands.rule x to act (p ∷ q ∷ others) removes a).0 (slice_of u) int tys types_are
+      (operands.rule x to act (p ∷ q ∷ others) removes a).1) refl
       ∙ ap (λ z. value.Int z) (small_int index (omega (arith, small, low)))
 
   pub word_low : suc index < words_of (SliceObject cells)
@@ -219,10 +217,16 @@ module _ {T : Setup} {g : ℕ} {c : Record} (x : Here T g c) (rests : c.side ≡
       (read_step x rests d action.At (p ∷ q ∷ []) removes a (base (layout T) + (at + suc i)) element.0 at_does at_shows).steps at_before
       (ap length_in at_there) at_within).3
 
+  pub at_points : Points T (target_type T a.w (Some d)) (slice_index x.words (base (layout T) + (at + suc i)))
+  at_points = read_points x rests d action.At (p ∷ q ∷ []) removes a (base (layout T) + (at + suc i)) element.0 at_does at_shows
+      (held_live x at_from.object (SliceObject at_cells) at_from.region
+      (slices.slice_stands x (Some d) action.At p (q ∷ []) removes a at_types.0 (int ∷ []) at_types.1 reads_p at points) i element.0 element.1)
+
 pub at_move : AtMove
 at_move T g c d p q at removes a rests points inside =
-    access_law T g c (base (layout T) + (at + suc (word_of_frame a.w q))) (λ n. n) (λ n. acted T.code c a (Some d) n) (omega arith) (λ n. refl)
-    (λ x small. at_steps x rests d p q at removes a points inside)
+    moves_by T g c (base (layout T) + (at + suc (word_of_frame a.w q))) (λ n. n) (λ n. acted T.code c a (Some d) n) (Gives T c a (Some d)) (λ n. refl)
+    (λ x. omega arith) (λ x small. at_steps x rests d p q at removes a points inside)
+    (λ x. (refl, at_points x rests d p q at removes a points inside))
 
 -- ---- an element is stored
 
@@ -339,7 +343,8 @@ module _ {T : Setup} {g : ℕ} {c : Record} (x : Here T g c) (rests : c.side ≡
 
   put_done : Does x words (acted T.code c a None 0)
   put_done = performs x rests mem (operands.b x None action.Put from removes a).h
-      (after_action T.code c.frame a.w a.ws a.instr None 0) put_step words (length_set x.s.plain.memory.heap o object)
+      (after_action T.code c.frame a.w a.ws a.instr None 0) put_step words (suc c.clock.accesses)
+      (length_set x.s.plain.memory.heap o object)
       (operands.as_deep x None action.Put from removes a 0) put_memory
       (channels_after x rests mem (operands.b x None action.Put from removes a).h
       (after_action T.code c.frame a.w a.ws a.instr None 0) put_step words stays was

@@ -1,6 +1,6 @@
 -- One encoding of values: the word that shows a value is the one that encodes it. Pointers to objects that were made are
 -- encoded as before when an object more has been placed.
-use Rattle.std.proofs.Common.{◌≡◌, ℕ, suc, ◌+◌, ◌*◌, ◌<◌, ◌^◌, FitsSigned, ℤ, pos, List, [], ◌∷◌, length, Some}
+use Rattle.std.proofs.Common.{◌≡◌, ℕ, suc, ◌+◌, ◌*◌, ◌<◌, ◌^◌, FitsSigned, ℤ, pos, List, [], ◌∷◌, length, Option, Some}
 use Rattle.std.proofs.Common.{slice_get, refl, ap, sym, subst, ◌∙◌, arith, w64}
 use Rattle.std.specs.Int.{cast_signed, cast_unsigned}
 use Rattle.std.proofs.lemmas.Int.{of_z-to_z}
@@ -8,10 +8,12 @@ use mir.ValLaws as laws
 use Rattle.rgo_memory.specs.declared.values.Value.{Value}
 use Rattle.rgo_memory.specs.declared.values.Value.TheVariants as value
 use Rattle.rgo_code.specs.Checked.{IsChecked}
-use Rattle.rgo_code.specs.Code.{Code, Do}
+use Rattle.rgo_code.specs.Code.{Code, CodeFn, Do}
 use Rattle.rgo_code.specs.Erasure.{erased, erased_fn, erased_op}
-use Rattle.rgo_code.specs.Types.{OpFits}
+use Rattle.rgo_code.specs.Types.{DoFits, OpFits}
+use Rattle.rgo_region_machine.specs.Owed.{function_at}
 use Rattle.rgo_region_machine.specs.States.{RegionState}
+use Rattle.rgo_tac.specs.Frames.{Frame}
 use Rattle.rgo_memory.specs.Memory.{Object}
 use Rattle.rgo_sound.proofs.Places.{each_get, get_some}
 use Rattle.rgo_sound.proofs.TypedSteps.{types, vars_kinds}
@@ -86,17 +88,36 @@ module _ (code : Code) (s : RegionState) (all : AllGood code s) where
   second_made kinds (t ∷ []) v u p h e = absurd h.1
   second_made kinds (t ∷ r ∷ tys) v u p h e = kind_made kinds r p (subst (HasKind kinds r) e h.1.0)
 
-  -- what an instruction is to send or to store
-  pub operand_made : IsChecked code → (g : ℕ) (a : Action) (u v : Value) (p : ℕ) → Before code s g a (u ∷ v ∷ []) → v ≡ value.Object p
-      → p < length s.plain.memory.heap
-  operand_made checked g a u v p b e =
+  -- the operands of an action have the types that it takes
+  pub record OperandsFit (a : Action) (values : List Value) (to : Option ℕ) (frame : Frame) : Type 0 where
+    pub fn : CodeFn
+    pub fn_is : function_at code frame ≡ Some fn
+    pub types : List «Type»
+    pub have : HaveKinds all.good.typed.kinds types values
+    pub fits : DoFits (erased code) (erased_fn fn) to a types
+
+  pub operands_fit : IsChecked code → (g : ℕ) (a : Action) (values : List Value) (b : Before code s g a values)
+      → OperandsFit a values b.to b.frame
+  operands_fit checked g a values b =
       let typed = all.good.typed in
       let frames : FramesHaveKinds code typed.kinds (b.frame ∷ b.callers) = typed.frames g (b.frame ∷ b.callers) b.at in
       let top : FrameFits code typed.kinds b.frame = frames.0 in
       let rule : OpFits (erased code) (erased_fn top.0) (erased_op (Do b.to a b.from b.removes)) =
       types code checked b.frame top.0 b.instr top.1 b.cur (Do b.to a b.from b.removes) b.is in
-      let have : HaveKinds typed.kinds rule.0 (u ∷ v ∷ []) =
-      subst (HaveKinds typed.kinds rule.0) b.operands (vars_kinds typed.kinds (erased_fn top.0) b.frame top.2 b.from rule.0 rule.1) in
-      let l = second_made typed.kinds rule.0 v u p have e in
-      let m = typed.memory.no_more in
+      record {
+        fn = top.0;
+        fn_is = top.1;
+        types = rule.0;
+        have = subst (HaveKinds typed.kinds rule.0) b.operands
+            (vars_kinds typed.kinds (erased_fn top.0) b.frame top.2 b.from rule.0 rule.1);
+        fits = rule.2;
+      }
+
+  -- what an instruction is to send or to store
+  pub operand_made : IsChecked code → (g : ℕ) (a : Action) (u v : Value) (p : ℕ) → Before code s g a (u ∷ v ∷ []) → v ≡ value.Object p
+      → p < length s.plain.memory.heap
+  operand_made checked g a u v p b e =
+      let f = operands_fit checked g a (u ∷ v ∷ []) b in
+      let l = second_made all.good.typed.kinds f.types v u p f.have e in
+      let m = all.good.typed.memory.no_more in
       omega (arith, l, m)

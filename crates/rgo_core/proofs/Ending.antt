@@ -1,8 +1,8 @@
 -- A run is ended for want of room, or by a limit.
-use Rattle.std.proofs.Common.{◌≡◌, ℕ, ◌+◌, true, option_map, List, ◌∷◌, Option, Some, None, length, map, slice_set, slice_index, bit_or, refl, ap, sym, subst, ◌∙◌, arith}
+use Rattle.std.proofs.Common.{◌≡◌, ℕ, ◌+◌, ◌<◌, ◌^◌, true, option_map, List, [], ◌∷◌, ◌++◌, Option, Some, None, length, map, slice_set, slice_index, bit_or, refl, ap, sym, subst, ◌∙◌, arith}
 use Rattle.std.proofs.lemmas.List.{length-map}
 use Rattle.std.proofs.lemmas.Option.{same_Some}
-use Rattle.rgo_code.specs.Code.{Call, Code, CodeFn, CodeInstr, CodeOp, Go}
+use Rattle.rgo_code.specs.Code.{Call, Code, CodeFn, CodeInstr, CodeOp, Do, Go}
 use Rattle.rgo_code.specs.Erasure.{erased, erased_instr, erased_op}
 use Rattle.rgo_core_channels.proofs.Quiet.{finish_keeps}
 use Rattle.rgo_core_channels.specs.Channels.{Channels}
@@ -13,27 +13,37 @@ use Rattle.rgo_core_memory.specs.Ground.{ground_of}
 use Rattle.rgo_core_memory.specs.Image.{code_of}
 use Rattle.rgo_machine.specs.Limits.{IsAtCall, IsAtStart, deepest}
 use Rattle.rgo_machine.specs.Machines.{AtCall, AtStart}
+use Rattle.rgo_memory.specs.Memory.{Object}
+use Rattle.rgo_memory.specs.declared.values.Value.TheVariants as value
 use Rattle.rgo_region_machine.specs.Machine.{Finish, finished, kept}
+use Rattle.rgo_region_machine.specs.Objects.{words as words_of}
 use Rattle.rgo_region_machine.specs.Owed.{current, function_of}
 use Rattle.rgo_region_machine.specs.States.{Mark, RegionState, Stopped}
 use Rattle.rgo_region_machine.specs.declared.limits.Limit.{Limit}
-use Rattle.rgo_region_machine.specs.declared.limits.Limit.TheVariants.{Calls, Goroutines}
+use Rattle.rgo_region_machine.specs.declared.limits.Limit.TheVariants.{Calls, Goroutines, ObjectSize}
+use Rattle.rgo_sound.proofs.Acting.{Acted, act as act_of, act_at, after, alone, effected, trap_place}
 use Rattle.rgo_sound.proofs.OneStep.{current_erased}
+use Rattle.rgo_sound.proofs.Places.{get_append_last}
+use Rattle.rgo_sound.proofs.Progress.{one_step}
 use Rattle.rgo_sound.specs.Tally.{no_share}
 use Rattle.rgo_sound.proofs.Ruled.{erased_found}
-use Rattle.rgo_tac.specs.Frames.{Frame, moved_to, values_of}
+use Rattle.rgo_tac.specs.Frames.{Frame, going, moved_to, values_of}
 use Rattle.rgo_tac.specs.Steps.{at_function, stand, stand_at, stand_before}
+use Rattle.rgo_tac.specs.Tac.{TacState}
+use Rattle.rgo_typed.specs.declared.actions.Action.{Action}
 use Rattle.rgo_tac.specs.declared.regions.Class.{Class}
 use Rattle.rgo_core.specs.Causes.{Stops}
 use Rattle.rgo_core.specs.ClockSteps.{Ends, first_mark}
 use Rattle.rgo_core.specs.Core.{Here, Setup, layout}
 use Rattle.rgo_core.specs.Image.{Image, place_of}
 use Rattle.rgo_core.specs.Laws.{CallsMove, FullMove, StopMove}
+use Rattle.rgo_core.specs.NewObjects.{LargeMove, ObjectOf}
 use Rattle.rgo_core.specs.Next.{IsAt}
 use Rattle.rgo_core.specs.Records.{Record, clock_of, counted, frame_of, memory_of, side_of, with_end}
 use Rattle.rgo_core.proofs.ClockLifts.{end_law}
 use Rattle.rgo_core.proofs.Counting.{plus_none}
 use Rattle.rgo_core.proofs.Lift.{as_long, clock_at, many, many_set, shallow_here}
+use Rattle.rgo_core.proofs.MakesObject.{b, makes_it}
 use Rattle.rgo_core.proofs.Printing.{counts_step}
 use Rattle.rgo_core.proofs.Standing.{at_instruction, frame_at, frames_here, image_clock, image_same}
 use Rattle.rgo_core.proofs.Links.{Waits, all_kept, links_low}
@@ -136,3 +146,47 @@ calls_move T g c to f callee from passes protects removes a is deep =
 pub full_move : FullMove
 full_move T g c f callee from passes removes a is refused =
     stop_move T g c Goroutines (λ x. no_more x f callee from passes removes is a refused)
+
+-- ---- an object that no page holds
+
+module _ {T : Setup} {g : ℕ} {c : Record} (x : Here T g c) (to : Option ℕ) (act : Action) (from removes : List ℕ)
+    (a : IsAt T.code c (Do to act from removes)) (object : Object) (makes : ObjectOf (2 ^ 63) T.code a.w to act from object)
+    (large : T.sizes.page_words < words_of object) where
+  abbrev old : TacState
+  old = x.s.plain
+
+  abbrev frame : Frame
+  frame = (b x to act from removes a object).frame
+
+  abbrev callers : List Frame
+  callers = (b x to act from removes a object).callers
+
+  abbrev done : Acted
+  done = record {
+    memory = record old.memory { heap = old.memory.heap ++ object ∷ [] };
+    frames = going frame to (value.Object (length old.memory.heap)) ∷ callers;
+    started = [];
+    printed = [];
+    trap = None;
+  }
+
+  acts_so : alone (erased T.code) old.memory (frame ∷ callers) ≡ Some done
+  acts_so =
+      ap (λ i. act_at (erased T.code) old.memory i frame callers)
+      (current_erased T.code frame ∙ ap (option_map erased_instr) (b x to act from removes a object).cur)
+      ∙ (ap (λ op. act_of (erased T.code) old.memory (erased_op op) a.instr.place frame callers) a.is
+      ∙ ap (effected old.memory frame callers to (trap_place act a.instr.place))
+      (makes_it x to act from removes a object (2 ^ 63) (omega arith) makes))
+
+  too_large : Stops T.code T.sizes T.limits ObjectSize x.s
+  too_large = (
+    g,
+    after old g done,
+    one_step T.code old g (frame ∷ callers) x.core.sound.running (b x to act from removes a object).at
+        ∙ ap (option_map (after old g)) acts_so,
+    (object, get_append_last old.memory.heap object (length old.memory.heap) refl, large),
+  )
+
+pub large_move : LargeMove
+large_move T g c to act from removes a object makes large =
+    stop_move T g c ObjectSize (λ x. too_large x to act from removes a object makes large)

@@ -6,7 +6,7 @@ use Rattle.rgo_code.specs.Code.{Code}
 use Rattle.rgo_region_machine.specs.States.{Ended, Holder, Mark, RegionState}
 use Rattle.rgo_machine.specs.declared.picks.End.TheVariants.{Exit}
 use Rattle.rgo_core.specs.Clock.{Clock, has_ticket}
-use Rattle.rgo_core.specs.Examples.{CauseExamples, ClockExamples, CoreExamples, NumberExamples, ended_then_printed, having_printed, late_mark, parent_and_child, second_then_first}
+use Rattle.rgo_core.specs.Examples.{CauseExamples, ClockExamples, CoreExamples, NumberExamples, both_have_set, ended_then_printed, having_printed, late_mark, parent_and_child, second_then_first}
 use Rattle.rgo_core.specs.Numbers.{Numbers, has_child}
 use Rattle.rgo_core.proofs.Lists.{cond_other, one_if, word_new}
 use Rattle.rgo_core.proofs.Opening.{at_least_one, made_word}
@@ -52,6 +52,7 @@ in_order_here code = record {
   bound = each_of_two (with_print fresh 1 (7 ∷ 8 ∷ [])) (with_print blank 0 (9 ∷ [])) (λ g c. length c.prints ≤ 8796093022208) (omega arith) (omega arith);
   first = λ g c m e f. absurd (each_of_two (with_print fresh 1 (7 ∷ 8 ∷ [])) (with_print blank 0 (9 ∷ [])) (λ g c. c.first ≡ Some m → ⊥) (not_some m) (not_some m) g c e f);
   setter = λ m e. absurd (not_some m e);
+  sole = omega arith;
 }
   where
     once : (t : ℕ) → t < 2 → sum_by (has_ticket t) second_then_first ≡ 1
@@ -84,6 +85,7 @@ late_here code = record {
   first = λ g c m e f. each_of_two (with_end fresh 0 (Ended Exit)) (with_print blank 9223372036854775808 (9 ∷ [])) (λ g c. c.first ≡ Some m → late_mark ≡ Some m)
       (λ q. q) (λ q. absurd (not_some m q)) g c e f;
   setter = λ m e. (0, with_end fresh 0 (Ended Exit), refl, e);
+  sole = omega arith;
 }
   where
     once : (t : ℕ) → t < 1 → sum_by (has_ticket t) ended_then_printed ≡ 1
@@ -118,6 +120,8 @@ clock_examples = record {
       none_before before late p.1 k.print;
   unset = λ code before late k. let s = k.setter (Ended Exit) refl in
       each_of_one fresh (λ g c. c.first ≡ Some (Ended Exit) → ⊥) (not_some (Ended Exit)) s.0 s.1 s.2 s.3;
+  set_twice = λ code before late k.
+      let z : sum_by Rattle.rgo_core.specs.Clock.has_set both_have_set ≡ 2 = refl in let s = k.sole in omega arith;
   ticket = refl;
   first_kept = refl;
   mark_kept = refl;

@@ -1,45 +1,49 @@
-mod Lists
-mod Counting
-mod Runs
-mod Clocks
-mod Numbers
-mod Stories
-mod Lift
-mod ClockLifts
-mod Opening
-mod Standing
-mod Staying
-mod Printing
-mod Duties
-mod Local
-mod Starting
-mod Ending
-mod Examples
-mod Disjoint
-mod Encodings
-mod Leaving
-mod Parts
-mod Slices
-mod Links
-mod Elements
-mod ElementTraps
-mod LinkExamples
-mod Contents
-mod MakesObject
-mod NewObjects
-mod Objects
-mod Performing
-mod Operands
-mod Accesses
-mod Chains
-mod Claims
-mod Attending
-mod Stakes
-mod Regions
-mod Traces
-mod AtChannels
-mod ChannelMoves
-mod Commits
-mod Meetings
-mod TrapMoves
-mod ChannelExamples
+pub mod Lists
+pub mod Counting
+pub mod Runs
+pub mod Clocks
+pub mod Numbers
+pub mod Stories
+pub mod Lift
+pub mod ClockLifts
+pub mod Opening
+pub mod Standing
+pub mod Staying
+pub mod Printing
+pub mod Duties
+pub mod Local
+pub mod Starting
+pub mod Ending
+pub mod Examples
+pub mod Disjoint
+pub mod Encodings
+pub mod Leaving
+pub mod Parts
+pub mod Bounds
+pub mod BoundExamples
+pub mod Slices
+pub mod Links
+pub mod Elements
+pub mod ElementTraps
+pub mod OperandTraps
+pub mod LinkExamples
+pub mod Contents
+pub mod MakesObject
+pub mod NewObjects
+pub mod Objects
+pub mod Performing
+pub mod Operands
+pub mod Accesses
+pub mod Chains
+pub mod Claims
+pub mod Attending
+pub mod Stakes
+pub mod Regions
+pub mod Traces
+pub mod AtChannels
+pub mod ChannelMoves
+pub mod Commits
+pub mod Meetings
+pub mod Traps
+pub mod TrapMoves
+pub mod ChannelExamples

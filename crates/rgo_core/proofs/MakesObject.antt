@@ -1,5 +1,5 @@
 -- What the object that a record makes next says of the region machine.
-use Rattle.std.proofs.Common.{◌≡◌, inl, inr, ℕ, ◌<◌, ◌^◌, false, pos, List, [], ◌∷◌, Option, Some, None, map, replicate, slice_get, refl, ap, sym, subst, ◌∙◌, arith, Contains}
+use Rattle.std.proofs.Common.{◌≡◌, inl, inr, ℕ, ◌<◌, ◌≤◌, ◌^◌, false, pos, List, [], ◌∷◌, Option, Some, None, map, replicate, slice_get, refl, ap, sym, subst, ◌∙◌, arith, Contains}
 use Rattle.std.specs.Int.{cast_signed, w64}
 use Rattle.rgo_code.specs.Code.{CodeOp, Do}
 use Rattle.rgo_code.specs.Erasure.{erased, erased_fn, erased_op}
@@ -36,7 +36,7 @@ use Rattle.rgo_core_memory.specs.Accesses.{Before}
 use Rattle.rgo_core_memory.specs.Allocations.{MakesNext}
 use Rattle.rgo_core.specs.Core.{Here, Setup}
 use Rattle.rgo_core.specs.Next.{IsAt}
-use Rattle.rgo_core.specs.NewObjects.{MakesObject, AStruct, ASlice, AChannel}
+use Rattle.rgo_core.specs.NewObjects.{AChannel, ASlice, AStruct, MakesObject, ObjectOf}
 use Rattle.rgo_core.specs.Records.{Record}
 use Rattle.rgo_core.proofs.Encodings.{small_int}
 use Rattle.rgo_core.proofs.Standing.{at_instruction}
@@ -48,16 +48,16 @@ pub first_type : (f : TacFn) (p : ℕ) (from : List ℕ) (operands : List «Type
 first_type f p from operands ty tys e h =
     head_is (slice_get f.variables p) (Some ty) (map (slice_get f.variables) from) (map Some tys) (h ∙ ap (map Some) e)
 
-slice_takes : (code : Tac) (f : TacFn) (to : Option ℕ) (operands : List «Type») → DoFits code f to action.Slice operands → operands ≡ int ∷ []
+pub slice_takes : (code : Tac) (f : TacFn) (to : Option ℕ) (operands : List «Type») → DoFits code f to action.Slice operands → operands ≡ int ∷ []
 slice_takes code f None operands d = absurd d
 slice_takes code f (Some q) operands d = let r = d.2 in r.0
 
-channel_takes : (code : Tac) (f : TacFn) (to : Option ℕ) (operands : List «Type») → DoFits code f to action.Chan operands → operands ≡ int ∷ []
+pub channel_takes : (code : Tac) (f : TacFn) (to : Option ℕ) (operands : List «Type») → DoFits code f to action.Chan operands → operands ≡ int ∷ []
 channel_takes code f None operands d = absurd d
 channel_takes code f (Some q) operands d = let r = d.2 in r.0
 
 -- the type of a target, by words
-type_alike : (code : Tac) (frame : Frame) (w : WordFrame) → IsAlike frame w → (to : Option ℕ)
+pub type_alike : (code : Tac) (frame : Frame) (w : WordFrame) → IsAlike frame w → (to : Option ℕ)
     → type_of code (bare w) to ≡ type_of code frame to
 type_alike code frame w alike None = refl
 type_alike code frame w alike (Some d) = ap (λ k. type_in (slice_get code.functions k) d) alike.function
@@ -120,34 +120,58 @@ module _ {T : Setup} {g : ℕ} {c : Record} (x : Here T g c) (to : Option ℕ) (
       })
       ∙ ap (λ z. value.Int z) (ap (cast_signed w64) en ∙ small_int n small)
 
+  slice_size : (p : ℕ) → act ≡ action.Slice → from ≡ p ∷ [] → word_at a.w p < 2 ^ 63
+      → value_at b.frame p ≡ value.Int (pos (word_at a.w p))
+  slice_size p ea ef small = sized p (word_at a.w p) action.Slice ea ef refl small
+      (λ operands d. slice_takes (erased T.code) (erased_fn a.fn) to operands d) (contains_here p [])
+
+  channel_size : (p : ℕ) → act ≡ action.Chan → from ≡ p ∷ [] → word_at a.w p < 2 ^ 63
+      → value_at b.frame p ≡ value.Int (pos (word_at a.w p))
+  channel_size p ea ef small = sized p (word_at a.w p) action.Chan ea ef refl small
+      (λ operands d. channel_takes (erased T.code) (erased_fn a.fn) to operands d) (contains_here p [])
+
+  slice_is : (p : ℕ) → object ≡ SliceObject (replicate (word_at a.w p) (element_zero (type_of (erased T.code) (bare a.w) to)))
+      → object ≡ SliceObject (replicate (word_at a.w p) (element_zero (type_of (erased T.code) b.frame to)))
+  slice_is p eo =
+      eo
+      ∙ ap (λ ty. SliceObject (replicate (word_at a.w p) (element_zero ty))) (type_alike (erased T.code) b.frame a.w b.newest.alike to)
+
+  -- the action makes the object
+  pub makes_it : (most : ℕ) → most ≤ 2 ^ 63 → ObjectOf most T.code a.w to act from object
+      → performed T.code.structs act (type_of (erased T.code) b.frame to) (values_of b.frame from) mem ≡ Some (made_effect mem object)
+  makes_it most low (AStruct n s ea ef es eo) =
+      (λ i. performed T.code.structs (ea i) (type_of (erased T.code) b.frame to) (values_of b.frame (ef i)) mem)
+      ∙ (ap (λ (y : Option Struct). Some (made_struct y mem)) es ∙ ap (λ (y : Object). Some (made_effect mem y)) (sym eo))
+  makes_it most low (ASlice p ea ef small eo) =
+      (λ i. performed T.code.structs (ea i) (type_of (erased T.code) b.frame to) (values_of b.frame (ef i)) mem)
+      ∙ (ap (λ (y : Value). performed T.code.structs action.Slice (type_of (erased T.code) b.frame to) (y ∷ []) mem) (slice_size p ea ef small)
+      ∙ ap (λ (y : Object). Some (made_effect mem y)) (sym (slice_is p eo)))
+  makes_it most low (AChannel p ea ef small eo) =
+      (λ i. performed T.code.structs (ea i) (type_of (erased T.code) b.frame to) (values_of b.frame (ef i)) mem)
+      ∙ (ap (λ (y : Value). performed T.code.structs action.Chan (type_of (erased T.code) b.frame to) (y ∷ []) mem)
+      (channel_size p ea ef (omega (arith, small, low)))
+      ∙ ap (λ (y : Object). Some (made_effect mem y)) (sym eo))
+
   pub made : MakesObject T.code a.w to act from object → Made
   made (AStruct n s ea ef es eo) = record {
-    does = (λ i. performed T.code.structs (ea i) (type_of (erased T.code) b.frame to) (values_of b.frame (ef i)) mem)
-        ∙ (ap (λ (y : Option Struct). Some (made_struct y mem)) es ∙ ap (λ (y : Object). Some (made_effect mem y)) (sym eo));
+    does = makes_it 1073741820 (omega arith) (AStruct n s ea ef es eo);
     next = λ r region. inl (n, s, before_is (action.New n) [] [] ea ef refl, es, eo, region);
     fresh = λ k e. absurd (struct_no_channel (map zero_of s.fields) k (sym eo ∙ e));
   }
   made (ASlice p ea ef small eo) =
       let n = word_at a.w p in
-      let v : value_at b.frame p ≡ value.Int (pos n) = sized p n action.Slice ea ef refl small
-      (λ operands d. slice_takes (erased T.code) (erased_fn a.fn) to operands d) (contains_here p []) in
-      let o : object ≡ SliceObject (replicate n (element_zero (type_of (erased T.code) b.frame to))) =
-      eo ∙ ap (λ ty. SliceObject (replicate n (element_zero ty))) (type_alike (erased T.code) b.frame a.w b.newest.alike to) in
+      let v = slice_size p ea ef small in
       record {
-        does = (λ i. performed T.code.structs (ea i) (type_of (erased T.code) b.frame to) (values_of b.frame (ef i)) mem)
-            ∙ (ap (λ (y : Value). performed T.code.structs action.Slice (type_of (erased T.code) b.frame to) (y ∷ []) mem) v
-            ∙ ap (λ (y : Object). Some (made_effect mem y)) (sym o));
-        next = λ r region. inr (inl (n, before_is action.Slice (p ∷ []) (value.Int (pos n) ∷ []) ea ef (ap (λ (y : Value). y ∷ []) v), o, region));
+        does = makes_it 1073741820 (omega arith) (ASlice p ea ef small eo);
+        next = λ r region.
+            inr (inl (n, before_is action.Slice (p ∷ []) (value.Int (pos n) ∷ []) ea ef (ap (λ (y : Value). y ∷ []) v), slice_is p eo, region));
         fresh = λ k e. absurd (slice_no_channel (replicate n (element_zero (type_of (erased T.code) (bare a.w) to))) k (sym eo ∙ e));
       }
   made (AChannel p ea ef small eo) =
       let n = word_at a.w p in
-      let v : value_at b.frame p ≡ value.Int (pos n) = sized p n action.Chan ea ef refl (omega (arith, small))
-      (λ operands d. channel_takes (erased T.code) (erased_fn a.fn) to operands d) (contains_here p []) in
+      let v = channel_size p ea ef (omega (arith, small)) in
       record {
-        does = (λ i. performed T.code.structs (ea i) (type_of (erased T.code) b.frame to) (values_of b.frame (ef i)) mem)
-            ∙ (ap (λ (y : Value). performed T.code.structs action.Chan (type_of (erased T.code) b.frame to) (y ∷ []) mem) v
-            ∙ ap (λ (y : Object). Some (made_effect mem y)) (sym eo));
+        does = makes_it 1073741820 (omega arith) (AChannel p ea ef small eo);
         next = λ r region. inr (inr (n, before_is action.Chan (p ∷ []) (value.Int (pos n) ∷ []) ea ef (ap (λ (y : Value). y ∷ []) v), eo, region));
         fresh = λ k e.
             let same : record { capacity = n; queue = []; closed = false } ≡ k =

@@ -1,5 +1,5 @@
 -- The store that commits an offer, a meeting or an acknowledgement.
-use Rattle.std.proofs.Common.{◌≡◌, ◌⊎◌, ℕ, ◌+◌, ◌-◌, ◌≤◌, List, [], ◌∷◌, Option, Some, length, map, slice_get, slice_set, refl, ap, sym, subst, ◌∙◌, inl, inr, arith, Contains}
+use Rattle.std.proofs.Common.{◌≡◌, ◌⊎◌, ℕ, ◌+◌, ◌-◌, ◌≤◌, List, [], ◌∷◌, Option, Some, None, length, map, slice_get, slice_set, refl, ap, sym, subst, ◌∙◌, inl, inr, arith, Contains}
 use Rattle.std.proofs.lemmas.Option.{same_Some}
 use Rattle.rgo_typed.specs.declared.actions.Action.TheVariants.{Recv, Send}
 use Rattle.rgo_memory.specs.declared.values.Value.{Value}
@@ -8,15 +8,22 @@ use Rattle.rgo_machine.specs.Limits.{deepest}
 use Rattle.rgo_machine.specs.declared.picks.Pick.TheVariants.{Meet}
 use Rattle.rgo_tac.specs.Flow.{reads}
 use Rattle.rgo_tac.specs.Frames.{Frame, value_at, values_of}
-use Rattle.rgo_code.specs.Code.{CodeInstr, CodeOp, Do}
-use Rattle.rgo_code.specs.Erasure.{erased_op}
+use Rattle.rgo_tac.specs.Steps.{type_of}
+use Rattle.rgo_typed.specs.declared.types.Type.{«Type»}
+use Rattle.rgo_wellformed.specs.TypeRules.{chan_of}
+use Rattle.rgo_code.specs.Code.{CodeInstr, CodeOp}
+use Rattle.rgo_code.specs.Erasure.{erased, erased_fn, erased_op}
+use Rattle.rgo_code.specs.Types.{DoFits}
 use Rattle.rgo_region_machine.specs.Duties.{attended}
 use Rattle.rgo_region_machine.specs.Machine.{Acknowledge, Instruct, MakeOffer}
 use Rattle.rgo_region_machine.specs.Owed.{current}
 use Rattle.rgo_region_machine.specs.States.{Holder, NoOffer, RegionState, Standing, frames_in}
 use Rattle.rgo_sound.proofs.Places.{contains_here, contains_there, length_set, head_is}
-use Rattle.rgo_sound.specs.Offers.{StandsAtSend}
+use Rattle.rgo_sound.proofs.Progress.{frames_some}
+use Rattle.rgo_sound.proofs.Types.{same_chan}
+use Rattle.rgo_sound.specs.Offers.{OfferFits, StandsAtSend}
 use Rattle.rgo_sound.specs.Tally.{no_share}
+use Rattle.rgo_sound.specs.Types.{HasKind, HaveKinds}
 use Rattle.rgo_core_channels.specs.After.{after_meeting}
 use Rattle.rgo_core_channels.specs.Controls.{closed_of, count_of}
 use Rattle.rgo_core_channels.specs.Moments.{Gains}
@@ -31,13 +38,16 @@ use Rattle.rgo_core_frames.specs.WordFrames.{WordFrame, word_at as word_of}
 use Rattle.rgo_core_frames.specs.Words.{Shows}
 use Rattle.rgo_core_frames.proofs.Offering.{acknowledge_law, meet_law, offer_law}
 use Rattle.rgo_core_frames.proofs.Showing.{reads_show}
+use Rattle.rgo_core_frames.proofs.Standing.{reads_stand}
+use Rattle.rgo_core_memory.specs.Accesses.{Before}
 use Rattle.rgo_core_memory.specs.Encoding.{address}
 use Rattle.rgo_core_memory.specs.Image.{Memory}
 use Rattle.rgo_core_memory.proofs.Quiets.{quiet_keeps}
 use Rattle.rgo_core_memory.proofs.Steadies.{map_back}
 use Rattle.rgo_core_memory.proofs.Stepped.{map_get}
 use Rattle.rgo_core.specs.AtChannels.{Operates, commits}
-use Rattle.rgo_core.specs.CommitMoves.{AcknowledgeMove, IsAtSend, MeetMove, OfferMove, acknowledges, offers}
+use Rattle.rgo_core.specs.Bounds.{Points, target_type}
+use Rattle.rgo_core.specs.CommitMoves.{AcknowledgeMove, IsAtSend, MeetMove, OfferMove, Receives, acknowledges, offers}
 use Rattle.rgo_core.specs.Core.{Here, Setup, layout}
 use Rattle.rgo_core.specs.Records.{Record, counted, frame_of, memory_of, side_of, steps_of}
 use Rattle.rgo_core.specs.Steps.{Does}
@@ -45,7 +55,9 @@ use Rattle.rgo_core.proofs.AtChannels.{Reaches, here, calm, next, object, place_
 use Rattle.rgo_core.proofs.ChannelMoves.{above, high, written}
 use Rattle.rgo_core.proofs.Commits.{as_shallow, sent_is, value_sent}
 use Rattle.rgo_core.proofs.Counting.{instructed_counts, plus_none}
-use Rattle.rgo_core.proofs.Encodings.{word_is}
+use Rattle.rgo_core.proofs.Bounds.{LeadsToLive, leads_in, typed_at}
+use Rattle.rgo_core.proofs.Encodings.{OperandsFit, operands_fit, word_is}
+use Rattle.rgo_core.proofs.MakesObject.{type_alike}
 use Rattle.rgo_core.proofs.Parts.{adds_of, image_with, memory_stays, shallow}
 use Rattle.rgo_core.proofs.Standing.{frames_here, moment, side_at}
 use Rattle.rgo_core.proofs.Links.{CountsOne, IsElsewhere, all_kept, as_much, at_send, links_beside, one_later}
@@ -120,55 +132,113 @@ second u u' v v' e = cc
 module _ {T : Setup} {g : ℕ} {c : Record} (x : Here T g c) (s o : ℕ) (v : Value)
     (sends : Next T.code x.s s Send (value.Object o ∷ v ∷ [])) (stands : sends.holder.offer ≡ Standing o)
     (y : SideRec) (its : slice_get (map side_of x.recs) s ≡ Some y) where
-  -- the sender's record is before its send, whose word is the value's
-  sender_shows : (q : StandsAtSend T.code x.s.plain s o)
-      → Shows x.core.image.addresses (value_at q.frame q.sent) ((moment x).encode v)
-  sender_shows q = by F.fits
+  module _ (q : StandsAtSend T.code x.s.plain s o) where
+    frame_is : sends.before.frame ≡ q.frame
+    frame_is = head_is sends.before.frame q.frame sends.before.callers q.callers (sym (ap frames_in sends.before.at) ∙ q.at)
+
+    from_is : sends.before.from ≡ q.channel ∷ q.sent ∷ []
+    from_is =
+        let i : sends.before.instr ≡ q.instr
+        = same_Some sends.before.instr q.instr (sym sends.before.cur ∙ (ap (current T.code) frame_is ∙ q.cur)) in
+        same_operands sends.before.to q.to sends.before.from (q.channel ∷ q.sent ∷ []) sends.before.removes q.removes
+        (sym sends.before.is ∙ (ap (λ (j : CodeInstr). j.op) i ∙ q.is))
+
+    sent_is_v : v ≡ value_at q.frame q.sent
+    sent_is_v = second (value.Object o) (value_at q.frame q.channel) v (value_at q.frame q.sent)
+        (sym sends.before.operands
+        ∙ (ap (λ (w : Frame). values_of w sends.before.from) frame_is ∙ ap (values_of q.frame) from_is))
+
+    -- the sender's record is before its send, whose word is the value's
+    sender_shows : Shows x.core.image.addresses (value_at q.frame q.sent) ((moment x).encode v)
+    sender_shows = by F.fits
+      where
+        r : (d : Record) × (slice_get x.recs s ≡ Some d) × (side_of d ≡ y)
+        r = map_back side_of x.recs s y its
+
+        F : Fits T.code x.core.image.places.slot x.core.image.addresses x.s s r.0.frame
+        F = x.core.image.frames.each s r.0.frame (map_get frame_of x.recs s r.0 r.1)
+
+        frames_are : F.frames ≡ q.frame ∷ q.callers
+        frames_are = sym (ap frames_in F.at) ∙ q.at
+
+        standing : F.h.offer ≡ Standing o
+        standing = ap (λ (h : Holder). h.offer) (same_Some F.h sends.holder (sym F.there ∙ sends.there)) ∙ stands
+
+        in_words : (ws : List WordFrame) → FramesShow T.code x.core.image.addresses (q.frame ∷ q.callers) ws
+            → Shows x.core.image.addresses (value_at q.frame q.sent) ((moment x).encode v)
+        in_words [] h = absurd h
+        in_words (w ∷ ws) h =
+            let sh = reads_show x.core.image.addresses T.code q.frame w q.instr q.cur h.0 q.sent
+            (subst (λ (o : CodeOp). Contains (reads (erased_op o)) q.sent) (sym q.is)
+            (contains_there q.channel (q.sent ∷ []) q.sent (contains_here q.sent []))) in
+            subst (Shows x.core.image.addresses (value_at q.frame q.sent))
+            (sym (word_is x.core.image.addresses (address (layout T) x.core.image.places.spot) x.core.image.addressed
+            (value_at q.frame q.sent) (word_of w q.sent) sh) ∙ ap (moment x).encode (sym sent_is_v)) sh
+
+        by : IsShown T.code x.core.image.places.slot x.core.image.addresses F.frames F.h r.0.frame
+            ⊎ IsPast T.code x.core.image.places.slot x.core.image.addresses F.frames F.h r.0.frame
+            → Shows x.core.image.addresses (value_at q.frame q.sent) ((moment x).encode v)
+        by (inl shown) =
+            in_words r.0.frame.frames (subst (λ fs. FramesShow T.code x.core.image.addresses fs r.0.frame.frames) frames_are
+            shown.shown)
+        by (inr past) = absurd (standing_or_taken o past.offer (sym standing ∙ ap (λ (h : Holder). h.offer) past.holder_is))
+
+    -- what is sent is in a live region
+    sent_live : LeadsToLive x.s v
+    sent_live p e =
+        reads_stand T.code x.s s sends.holder q.frame q.callers q.instr x.core.sound.checked x.core.sound.good.good sends.there
+        (frames_some (slice_get x.s.plain.goroutines s) q.frame q.callers q.at) q.cur q.sent p
+        (subst (λ (o : CodeOp). Contains (reads (erased_op o)) q.sent) (sym q.is)
+        (contains_there q.channel (q.sent ∷ []) q.sent (contains_here q.sent [])))
+        (sym sent_is_v ∙ e)
+
+  -- the sender is before its send
+  before_send : StandsAtSend T.code x.s.plain s o
+  before_send =
+      (subst (OfferFits T.code x.s s sends.holder) stands (x.core.sound.good.offers.fits s sends.holder sends.there)).2
+
+  abbrev kinds : List «Type»
+  kinds = x.core.sound.good.good.typed.kinds
+
+  -- what is sent has the type of the channel's elements
+  sent_kind : (t : «Type») × (slice_get kinds o ≡ Some (chan_of t)) × HasKind kinds t v
+  sent_kind = by sends.before.to F.fits
     where
-      r : (d : Record) × (slice_get x.recs s ≡ Some d) × (side_of d ≡ y)
-      r = map_back side_of x.recs s y its
+      F : OperandsFit T.code x.s x.core.sound.good Send (value.Object o ∷ v ∷ []) sends.before.to sends.before.frame
+      F = operands_fit T.code x.s x.core.sound.good x.core.sound.checked s Send (value.Object o ∷ v ∷ []) sends.before
 
-      F : Fits T.code x.core.image.places.slot x.core.image.addresses x.s s r.0.frame
-      F = x.core.image.frames.each s r.0.frame (map_get frame_of x.recs s r.0 r.1)
+      by : (q : Option ℕ) → DoFits (erased T.code) (erased_fn F.fn) q Send F.types
+          → (t : «Type») × (slice_get kinds o ≡ Some (chan_of t)) × HasKind kinds t v
+      by None fits =
+          let h : HaveKinds kinds (chan_of fits.0 ∷ fits.0 ∷ []) (value.Object o ∷ v ∷ []) =
+          subst (λ (l : List «Type»). HaveKinds kinds l (value.Object o ∷ v ∷ [])) fits.1 F.have in
+          (fits.0, h.0.0, h.1.0)
+      by (Some d) fits = absurd fits.2
 
-      frames_are : F.frames ≡ q.frame ∷ q.callers
-      frames_are = sym (ap frames_in F.at) ∙ q.at
+  -- and so it points where its receiver's variable may
+  module _ {receiver : ℕ} (b : Before T.code x.s receiver Recv (value.Object o ∷ [])) (word : ℕ) (coded : (moment x).encode v ≡ word)
+    where
+      received_points : Points T (type_of (erased T.code) b.frame b.to) word
+      received_points = by b.to F.fits
+        where
+          F : OperandsFit T.code x.s x.core.sound.good Recv (value.Object o ∷ []) b.to b.frame
+          F = operands_fit T.code x.s x.core.sound.good x.core.sound.checked receiver Recv (value.Object o ∷ []) b
 
-      standing : F.h.offer ≡ Standing o
-      standing = ap (λ (h : Holder). h.offer) (same_Some F.h sends.holder (sym F.there ∙ sends.there)) ∙ stands
+          shows : Shows x.core.image.addresses v word
+          shows = subst (Shows x.core.image.addresses v) coded
+              (subst (λ (u : Value). Shows x.core.image.addresses u ((moment x).encode v)) (sym (sent_is_v before_send)) (sender_shows before_send))
 
-      v_is : v ≡ value_at q.frame q.sent
-      v_is =
-          let N = sends.before in
-          let fs : N.frame ∷ N.callers ≡ q.frame ∷ q.callers
-          = same_Some (N.frame ∷ N.callers) F.frames (sym N.at ∙ F.at) ∙ frames_are in
-          let f : N.frame ≡ q.frame = head_is N.frame q.frame N.callers q.callers fs in
-          let i : N.instr ≡ q.instr = same_Some N.instr q.instr (sym N.cur ∙ (ap (current T.code) f ∙ q.cur)) in
-          let op : Do N.to Send N.from N.removes ≡ Do q.to Send (q.channel ∷ q.sent ∷ []) q.removes
-          = sym N.is ∙ (ap (λ (j : CodeInstr). j.op) i ∙ q.is) in
-          let from : N.from ≡ q.channel ∷ q.sent ∷ []
-          = same_operands N.to q.to N.from (q.channel ∷ q.sent ∷ []) N.removes q.removes op in
-          second (value.Object o) (value_at q.frame q.channel) v (value_at q.frame q.sent)
-          (sym N.operands ∙ (ap (λ (w : Frame). values_of w N.from) f ∙ ap (values_of q.frame) from))
-
-      in_words : (ws : List WordFrame) → FramesShow T.code x.core.image.addresses (q.frame ∷ q.callers) ws
-          → Shows x.core.image.addresses (value_at q.frame q.sent) ((moment x).encode v)
-      in_words [] h = absurd h
-      in_words (w ∷ ws) h =
-          let sh = reads_show x.core.image.addresses T.code q.frame w q.instr q.cur h.0 q.sent
-          (subst (λ (o : CodeOp). Contains (reads (erased_op o)) q.sent) (sym q.is)
-          (contains_there q.channel (q.sent ∷ []) q.sent (contains_here q.sent []))) in
-          subst (Shows x.core.image.addresses (value_at q.frame q.sent))
-          (sym (word_is x.core.image.addresses (address (layout T) x.core.image.places.spot) x.core.image.addressed
-          (value_at q.frame q.sent) (word_of w q.sent) sh) ∙ ap (moment x).encode (sym v_is)) sh
-
-      by : IsShown T.code x.core.image.places.slot x.core.image.addresses F.frames F.h r.0.frame
-          ⊎ IsPast T.code x.core.image.places.slot x.core.image.addresses F.frames F.h r.0.frame
-          → Shows x.core.image.addresses (value_at q.frame q.sent) ((moment x).encode v)
-      by (inl shown) =
-          in_words r.0.frame.frames (subst (λ fs. FramesShow T.code x.core.image.addresses fs r.0.frame.frames) frames_are
-          shown.shown)
-      by (inr past) = absurd (standing_or_taken o past.offer (sym standing ∙ ap (λ (h : Holder). h.offer) past.holder_is))
+          by : (q : Option ℕ) → DoFits (erased T.code) (erased_fn F.fn) q Recv F.types → Points T (type_of (erased T.code) b.frame q) word
+          by None fits = absurd fits
+          by (Some d) fits =
+              let h : HaveKinds kinds (chan_of fits.0 ∷ []) (value.Object o ∷ []) =
+              subst (λ (l : List «Type»). HaveKinds kinds l (value.Object o ∷ [])) fits.2 F.have in
+              let k = sent_kind in
+              let same : k.0 ≡ fits.0 =
+              same_chan k.0 fits.0 (same_Some (chan_of k.0) (chan_of fits.0) (sym k.1 ∙ h.0.0)) in
+              subst (λ (ty : «Type»). Points T ty word) (same ∙ sym (typed_at T.code b.frame F.fn d fits.0 F.fn_is fits.1))
+              (leads_in T x.words (map memory_of x.recs) x.s x.core.image.places x.core.image.memory x.core.image.addresses x.core.image.addressed
+              kinds x.core.sound.good.good.typed.memory k.0 v word k.2 (sent_live before_send) shows)
 
 module _ {T : Setup} {g : ℕ} {c : Record} (x : Here T g c) {to : Option ℕ} {at : ℕ} (a : Operates T c to Recv [] at)
     (n word : ℕ) (hold : c.side.hold ≡ Read at n 0 word) (sizing : c.side.size ≡ Sized at 0)
@@ -211,10 +281,20 @@ module _ {T : Setup} {g : ℕ} {c : Record} (x : Here T g c) {to : Option ℕ} {
         same = record { prints = refl; first = refl; children = refl; refused = refl };
       }
 
+  meet_points : Points T (target_type T a.here.w to) word
+  meet_points =
+      let p = sym (place_is x a) in
+      let L = meet_is (moment x) g c.side (side_at x) (object x a) n word (next x a)
+      (hold ∙ ap (λ j. Read j n 0 word) p) (calm x a.here) (sizing ∙ ap (λ j. Sized j 0) p) shut one in
+      subst (λ (ty : «Type»). Points T ty word)
+      (sym (type_alike (erased T.code) (here x a).before.frame a.here.w (here x a).before.newest.alike to))
+      (received_points x L.0 (object x a) L.1 L.2 L.4 L.6 L.7 (next x a).before word L.5)
+
 pub meet_move : MeetMove
 meet_move T g c to at n word a hold sizing shut one =
-    moves_by T g c at (λ w. n + 4) (λ w. commits a word) (λ w d. d ≡ commits a word) (λ w. refl)
-    (λ x. high x (reached x a)) (λ x small. inl (meet_does x a n word hold sizing shut one)) (λ x. refl)
+    moves_by T g c at (λ w. n + 4) (λ w. commits a word) (λ w. Receives a word) (λ w. refl)
+    (λ x. high x (reached x a)) (λ x small. inl (meet_does x a n word hold sizing shut one))
+    (λ x. (refl, meet_points x a n word hold sizing shut one))
 
 -- ---- an acknowledgement
 

@@ -12,6 +12,7 @@ use Rattle.rgo_memory.specs.declared.values.Value.TheVariants as value
 use Rattle.rgo_region_machine.specs.Machine.{Instruct}
 use Rattle.rgo_region_machine.specs.Objects.{allotted, fill_of, making_region, placed, with_fill, words as words_of}
 use Rattle.rgo_region_machine.specs.Owed.{function_at, function_of}
+use Rattle.rgo_region_machine.specs.Regions.{is_live}
 use Rattle.rgo_region_machine.specs.States.{Holder, RegionState, top_names}
 use Rattle.rgo_region_machine.specs.declared.regions.Region.{Region}
 use Rattle.rgo_region_machine.specs.declared.regions.Region.TheVariants.{Global as GlobalRegion, Numbered}
@@ -49,12 +50,14 @@ use Rattle.rgo_core_memory.proofs.Rows.{below, set_again, set_here, snoc_at}
 use Rattle.rgo_core_memory.proofs.Slots.{one_region, uses_live}
 use Rattle.rgo_core_memory.proofs.Steadies.{steady_of}
 use Rattle.rgo_core_memory.proofs.Stepped.{map_get}
-use Rattle.rgo_core_memory.proofs.Writes.{in_pages}
+use Rattle.rgo_core_memory.proofs.Writes.{in_pages, pages_apart}
+use Rattle.rgo_core.specs.Bounds.{LieInPages, Points, target_type}
 use Rattle.rgo_core.specs.Core.{Here, Setup, layout}
 use Rattle.rgo_core.specs.Image.{place_of}
 use Rattle.rgo_core.specs.NewObjects.{MakesObject, slot_number}
 use Rattle.rgo_core.specs.Next.{IsAt}
 use Rattle.rgo_core.specs.Records.{Record, frame_of, memory_of, side_of}
+use Rattle.rgo_core.proofs.Bounds.{LeadsToLive, gives_points}
 use Rattle.rgo_core.proofs.Disjoint.{rows_apart}
 use Rattle.rgo_core.proofs.Encodings.{held_made, old_code, operand_made, small_word}
 use Rattle.rgo_core.proofs.Leaving.{above_fill, channel_stands, channel_word, touch_more}
@@ -285,6 +288,23 @@ module _ {T : Setup} {g : ℕ} {c : Record} (x : Here T g c) (to : Option ℕ) (
   pub memory_after : Memory z next_words (slice_set recs g (with_object c.memory f.slot many)) t places'
   memory_after = allocation_keeps T.code z x.words recs s t g i h r c.memory f object stored x.core.sound.good P M
       (b x to act from removes a object).there (memory_at x) (it.next r region.makes) in_slot makes small covers H.steps
+
+  -- ---- where the pointer to it points
+
+  pub made_lies : LieInPages T new_address (words_of object)
+  made_lies = let p = pages_apart f.page T.sizes.pages T.sizes.page_words page_in in let m = fits in omega (arith, p, m)
+
+  made_live : LeadsToLive t (value.Object n)
+  made_live o e =
+      let same : n ≡ o = cc e in (
+        r,
+        ap (λ (l : List Region). slice_get l o) H.owners ∙ get_append_last s.owners r o (sym same ∙ sym as_many_owners),
+        ap (λ q. is_live q r) H.regions ∙ uses_live z x.words recs (ground_of s) P M (steady_of T.code s x.core.sound.good) g (held_of h) r there used,
+      )
+
+  pub made_points : Points T (target_type T a.w to) (suc new_address)
+  made_points = gives_points x to act from removes a memory (value.Object n) it.does next_words
+      (slice_set recs g (with_object c.memory f.slot many)) t places' memory_after addresses' addressed H.memory_is (suc new_address) made_live shows
 
   -- ---- channels
 

@@ -1,5 +1,5 @@
 -- The stores of a new object's words.
-use Rattle.std.proofs.Common.{◌≡◌, ◌⊎◌, inl, inr, ⊎_elim, ℕ, suc, ◌+◌, ◌<◌, ◌≤◌, List, [], ◌∷◌, Option, Some, length, map, slice_set, refl, ap, sym, subst, ◌∙◌, arith}
+use Rattle.std.proofs.Common.{◌≡◌, ◌⊎◌, inl, inr, ⊎_elim, ℕ, suc, ◌+◌, ◌*◌, ◌<◌, ◌≤◌, List, [], ◌∷◌, Option, Some, length, map, slice_set, refl, ap, sym, subst, ◌∙◌, arith}
 use Rattle.std.proofs.lemmas.List.{append-nil, length-append}
 use Rattle.rgo_code.specs.Code.{Do}
 use Rattle.rgo_machine.specs.Limits.{deepest}
@@ -28,6 +28,7 @@ use Rattle.rgo_core_memory.specs.Records.{Fill, Owns, Within, with_word}
 use Rattle.rgo_core_memory.specs.Words.{cell_at}
 use Rattle.rgo_core_memory.proofs.Addresses.{free_apart}
 use Rattle.rgo_core_memory.proofs.Allocating.{word_keeps}
+use Rattle.rgo_core.specs.Bounds.{LieInPages, Points, target_type}
 use Rattle.rgo_core.specs.Core.{Here, Setup, layout}
 use Rattle.rgo_core.specs.Image.{place_of}
 use Rattle.rgo_core.specs.NewObjects.{MakesObject, ObjectMove, WordMove, made_object, slot_number}
@@ -36,7 +37,7 @@ use Rattle.rgo_core.specs.Records.{Record, accessed, counted, memory_of, side_of
 use Rattle.rgo_core.specs.Steps.{Steps}
 use Rattle.rgo_core.proofs.Disjoint.{rows_apart}
 use Rattle.rgo_core.proofs.Leaving.{channel_stands, channel_word}
-use Rattle.rgo_core.proofs.Lift.{access_law}
+use Rattle.rgo_core.proofs.Lift.{access_law, moves_by}
 use Rattle.rgo_core.proofs.NewObjects as new
 use Rattle.rgo_core.proofs.Parts.{I, adds_of, as_many, frame_stays, image_with, shallow, side_stays}
 use Rattle.rgo_core.proofs.Links.{CountsOne, LengthsStay, Waits, all_kept, claims_high, lengths_apart, links_with, one_later}
@@ -157,6 +158,13 @@ module _ {T : Setup} {g : ℕ} {c : Record} (x : Here T g c) (to : Option ℕ) (
 
 pub object_move : ObjectMove
 object_move T g c to act from removes a object by_slot f stored i rests mk making slotted makes small covers =
-    access_law T g c (cell_at (layout T) f.page (f.fill + i)) (λ n. opening (content object i)) (λ n. made_object T c a to f object) (omega arith)
-    (λ n. refl)
+    moves_by T g c (cell_at (layout T) f.page (f.fill + i)) (λ n. opening (content object i)) (λ n. made_object T c a to f object)
+    (λ n d. (d ≡ made_object T c a to f object) × LieInPages T (f.page * T.sizes.page_words + f.fill) (words_of object)
+    × Points T (target_type T a.w to) (suc (f.page * T.sizes.page_words + f.fill)))
+    (λ n. refl) (λ x. omega arith)
     (λ x fits. object_steps x to act from removes a object by_slot f stored i rests mk making slotted makes small covers)
+    (λ x. (
+      refl,
+      new.made_lies x to act from removes a object by_slot f stored i rests mk making slotted makes small covers,
+      new.made_points x to act from removes a object by_slot f stored i rests mk making slotted makes small covers,
+    ))

@@ -142,6 +142,7 @@ first_clock code z = record {
   bound = λ g c e. only (λ (y : ClockRec). length y.prints ≤ 8796093022208) (omega arith) g c e;
   first = λ g c mark e f. absurd (only (λ (y : ClockRec). y.first ≡ Some mark → ⊥) (λ q. let z : None ≡ Some mark = q in cc z) g c e f);
   setter = λ mark e. let z : None ≡ Some mark = e in absurd (cc z);
+  sole = omega arith;
 }
 
 first_numbers : (limit : ℕ) → 0 < limit → Numbers limit 1 (fresh ∷ [])

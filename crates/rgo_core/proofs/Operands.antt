@@ -1,11 +1,13 @@
 -- What the operands of a record's next instruction are, by the types of checked code; and an action that makes no object.
-use Rattle.std.proofs.Common.{◌≡◌, ℕ, suc, ◌+◌, ◌<◌, true, List, [], ◌∷◌, ◌++◌, Option, Some, length, map, slice_get, slice_set, slice_index, ap, sym, subst, ◌∙◌, arith, append-nil, Contains}
+use Rattle.std.proofs.Common.{◌≡◌, ℕ, suc, ◌+◌, ◌<◌, ◌^◌, w64, true, List, [], ◌∷◌, ◌++◌, Option, Some, length, map, slice_get, slice_set, slice_index, ap, sym, subst, ◌∙◌, arith, append-nil, Contains}
+use Rattle.std.specs.Int.{cast_signed}
 use Rattle.rgo_code.specs.Code.{CodeOp, Do}
 use Rattle.rgo_code.specs.Erasure.{erased, erased_fn, erased_op}
 use Rattle.rgo_code.specs.Types.{HasType, HaveTypes, OpFits}
 use Rattle.rgo_memory.specs.Effects.{Does}
 use Rattle.rgo_memory.specs.Memory.{Memory as Heap, Object}
 use Rattle.rgo_memory.specs.declared.values.Value.{Value}
+use Rattle.rgo_memory.specs.declared.values.Value.TheVariants as value
 use Rattle.rgo_region_machine.specs.Objects.{allotted, making_region, words as words_of}
 use Rattle.rgo_region_machine.specs.Owed.{function_at, function_of}
 use Rattle.rgo_region_machine.specs.Regions.{is_live}
@@ -19,15 +21,16 @@ use Rattle.rgo_tac.specs.Steps.{type_of}
 use Rattle.rgo_typed.specs.declared.actions.Action.{Action}
 use Rattle.rgo_typed.specs.declared.types.Type.{«Type»}
 use Rattle.rgo_typed.specs.Types.{is_pointer_like}
+use Rattle.rgo_wellformed.specs.TypeRules.{int}
 use Rattle.rgo_core_frames.specs.Actions.{after_action}
 use Rattle.rgo_core_frames.specs.Before.{IsBefore}
 use Rattle.rgo_core_frames.specs.Fits.{ObjectsDiffer}
-use Rattle.rgo_core_frames.specs.Operands.{PointsTo}
+use Rattle.rgo_core_frames.specs.Operands.{IsOperand, PointsTo}
 use Rattle.rgo_core_frames.specs.Steps.{HasInstruction}
 use Rattle.rgo_core_frames.specs.WordFrames.{word_at as word_of_frame}
 use Rattle.rgo_core_frames.specs.Words.{Shows}
 use Rattle.rgo_core_frames.proofs.ActionSteps.{action_law}
-use Rattle.rgo_core_frames.proofs.Operands.{pointer_law}
+use Rattle.rgo_core_frames.proofs.Operands.{int_law, pointer_law}
 use Rattle.rgo_core_memory.specs.Accesses.{Before}
 use Rattle.rgo_core_memory.specs.Encoding.{address, content}
 use Rattle.rgo_core_memory.specs.Ground.{Stands, ground_of}
@@ -73,6 +76,30 @@ module _ {T : Setup} {g : ℕ} {c : Record} (x : Here T g c) (to : Option ℕ) (
   pub shown : (v : ℕ) → Contains (reads (erased_op (Do to act from removes))) v → Shows (I x).addresses (value_at b.frame v) (word_of_frame a.w v)
   shown v read = b.shown v (subst (λ (o : CodeOp). Contains (reads (erased_op o)) v) (sym a.is) read)
 
+  -- ---- a variable that it reads
+
+  module _ (v : ℕ) (ty : «Type») (read : Contains (reads (erased_op (Do to act from removes))) v) (typed : HasType (erased_fn a.fn) v ty) where
+    pub operand : IsOperand (at_instruction x a) v ty
+    operand = record {
+      fn = a.fn;
+      is_fn = a.in_fn;
+      read = subst (λ (o : CodeOp). Contains (reads (erased_op o)) v) (sym a.is) read;
+      typed = typed;
+    }
+
+    pub nil_there : is_pointer_like ty ≡ true → word_of_frame a.w v ≡ 0 → value_at b.frame v ≡ value.Nil
+    nil_there like nil = (pointer_law (at_instruction x a) v ty operand like).0 nil
+
+    -- an int, of 64 bits
+    pub int_there : ty ≡ int → value_at b.frame v ≡ value.Int (cast_signed w64 (word_of_frame a.w v))
+    int_there is = int_law (at_instruction x a) v (subst (IsOperand (at_instruction x a) v) is operand)
+
+    pub int_small : ty ≡ int → word_of_frame a.w v < 2 ^ 64
+    int_small is =
+        let s : Shows (I x).addresses (value.Int (cast_signed w64 (word_of_frame a.w v))) (word_of_frame a.w v) =
+        subst (λ (u : Value). Shows (I x).addresses u (word_of_frame a.w v)) (int_there is) (shown v read) in
+        let l = s.0 in omega (arith, l)
+
   -- ---- an object to which the first operand points
   module _ (p at : ℕ) (ty : «Type») (tys : List «Type») (others : List ℕ) (types_are : rule.0 ≡ ty ∷ tys) (from_is : from ≡ p ∷ others)
       (like : is_pointer_like ty ≡ true) (read : Contains (reads (erased_op (Do to act from removes))) p)
@@ -82,12 +109,7 @@ module _ {T : Setup} {g : ℕ} {c : Record} (x : Here T g c) (to : Option ℕ) (
         (subst (λ (l : List ℕ). HaveTypes (erased_fn a.fn) l rule.0) from_is rule.1)
 
     pub to_it : PointsTo (I x).addresses x.s b.h (value_at b.frame p) at
-    to_it = (pointer_law (at_instruction x a) p ty (record {
-      fn = a.fn;
-      is_fn = a.in_fn;
-      read = subst (λ (o : CodeOp). Contains (reads (erased_op o)) p) (sym a.is) read;
-      typed = typed;
-    }) like).1 at points
+    to_it = (pointer_law (at_instruction x a) p ty (operand p ty read typed) like).1 at points
 
     pub live : is_live x.s.regions to_it.region ≡ true
     live = live_of x.s b.h to_it.region to_it.staked

@@ -1,4 +1,4 @@
--- Accesses that are an instruction of one goroutine, which makes no object and leaves the channels.
+-- Instructions of one goroutine, by an access or without one, that make no object and leave the channels.
 use Rattle.std.proofs.Common.{◌≡◌, inl, ℕ, ◌+◌, ◌<◌, List, [], Some, None, length, map, slice_get, slice_set, slice_index, refl, ap, sym, subst, ◌∙◌, arith}
 use Rattle.std.proofs.lemmas.List.{append-nil}
 use Rattle.rgo_machine.specs.declared.picks.Pick.TheVariants.{One}
@@ -22,7 +22,7 @@ use Rattle.rgo_core_memory.specs.Image.{Memory, code_of}
 use Rattle.rgo_core_memory.proofs.Rows.{below, set_again}
 use Rattle.rgo_core.specs.Core.{Here, Setup, layout}
 use Rattle.rgo_core.specs.Image.{place_of}
-use Rattle.rgo_core.specs.Records.{Record, frame_of, memory_of, side_of, ticked, steps_of}
+use Rattle.rgo_core.specs.Records.{Record, frame_of, instructed, memory_of, side_of, steps_of}
 use Rattle.rgo_core.specs.Steps.{Does}
 use Rattle.rgo_core.proofs.Leaving.{touch_same}
 use Rattle.rgo_core.proofs.Parts.{I, adds_of, as_many, image_with, memory_stays, shallow}
@@ -79,13 +79,14 @@ module _ {T : Setup} {g : ℕ} {c : Record} (x : Here T g c) (rests : c.side ≡
         one_fresh = λ o p k l n m. absurd n;
       }
 
-  -- what the access leaves
-  pub performs : length mem.heap ≡ length x.s.plain.memory.heap → length e.frames ≡ length c.frame.frames
+  -- what is left after so many accesses
+  pub performs : (n : ℕ) → length mem.heap ≡ length x.s.plain.memory.heap → length e.frames ≡ length c.frame.frames
       → Memory (layout T) words (map memory_of x.recs) t (I x).places
       → Channels T.code (code_of (layout T) (I x).places) (place_of (layout T) (I x).places) words
       (slice_set (map side_of x.recs) g c.side) t (I x).at
-      → ClaimsStay x words → LengthsStay x words → Does x words (record c { clock = ticked c.clock; frame = e })
-  performs objects deep M K claims lengths = record {
+      → ClaimsStay x words → LengthsStay x words
+      → Does x words (record c { clock = record (instructed c.clock) { accesses = n }; frame = e })
+  performs n objects deep M K claims lengths = record {
     goes = record {
       event = Instruct (One g);
       next = t;
@@ -96,9 +97,10 @@ module _ {T : Setup} {g : ℕ} {c : Record} (x : Here T g c) (rests : c.side ≡
           (as_many x t (I x).places.slot (I x).addresses e sound_after H.fit);
       counted = instructed_counts c.clock;
       shallow = let l = shallow x in omega (arith, deep, l);
-      image = image_with x words (record c { clock = ticked c.clock; frame = e }) t (I x).places (I x).at (I x).addresses (I x).addressed H.fit
+      image = image_with x words (record c { clock = record (instructed c.clock) { accesses = n }; frame = e }) t (I x).places (I x).at (I x).addresses (I x).addressed H.fit
           (memory_stays x words t (I x).places M) K;
-      links = links_with x words lengths claims (record c { clock = ticked c.clock; frame = e }) (all_kept refl refl refl) (CountsOne (one_later (steps_of c)));
+      links = links_with x words lengths claims (record c { clock = record (instructed c.clock) { accesses = n }; frame = e })
+          (all_kept refl refl refl) (CountsOne (one_later (steps_of c)));
     };
     mark = H.mark;
     printed = H.printed ∙ (ap (printed_if x.s.mark x.s.plain.printed) (append-nil x.s.plain.printed) ∙ printed_same x.s.mark x.s.plain.printed);

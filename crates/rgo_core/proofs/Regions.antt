@@ -326,12 +326,17 @@ module _ {T : Setup} {g : ℕ} {c : Record} (x : Here T g c) (d : Duty) (ds : Li
         (I x).memory E.there (memory_at x) end_of.leaves E.step.steps end_free calm
         (subst (λ m. found_at m ≡ 2) (sym E.slot_is) two))
 
+    owes_none : c.clock.owed ≡ 0
+    owes_none = (x.core.links g c x.is_c).owed ∙ ap (left_to_free (layout T) x.words) calm
+
     last_counts : counted (leaves_last c k p info.pages).clock ≡ counts_plus (counted c.clock) gain
     last_counts = λ i. record {
       made = plus_zero c.clock.share.made c.clock.share.made refl i;
       removed = (let e : suc c.clock.share.removed ≡ c.clock.share.removed + 1 = omega arith in e) i;
       taken = plus_zero c.clock.share.taken c.clock.share.taken refl i;
-      returned = (let e : c.clock.share.returned + (c.clock.owed + info.pages) ≡ c.clock.share.returned + c.clock.owed + info.pages = omega arith in e) i;
+      returned =
+          (let o = owes_none in
+          let e : c.clock.share.returned + info.pages ≡ c.clock.share.returned + c.clock.owed + info.pages = omega (arith, o) in e) i;
       steps = plus_zero c.clock.share.steps c.clock.share.steps refl i;
       objects = plus_zero c.clock.share.objects c.clock.share.objects refl i;
       goroutines = plus_zero c.clock.share.goroutines c.clock.share.goroutines refl i;
@@ -342,13 +347,12 @@ module _ {T : Setup} {g : ℕ} {c : Record} (x : Here T g c) (d : Duty) (ds : Li
     last_links =
         let words = slice_set x.words (count_at (layout T) p) (n - 1) in
         let claims = claims_apart x (count_at (layout T) p) (n - 1) (λ q l e. omega (arith, l, e)) in
-        let calm_now : c.clock.owed ≡ 0 = (x.core.links g c x.is_c).owed ∙ ap (left_to_free (layout T) x.words) calm in
         let live = info_of x E.region p E.slot_is E.live in
         let pages : info.pages ≡ claimed_for (layout T) x.words p =
         still_claimed.live (layout T) x.words (map memory_of x.recs) x.s (I x).places (I x).memory E.region info live.1 live.2
         ∙ ap (claimed_for (layout T) x.words) E.slot_is in
         links_freeing x words (lengths_low x (count_at (layout T) p) (n - 1) low_end) (leaves_last c k p info.pages) (λ j r e ne is closes. claims r)
-        (let e : c.clock.owed + info.pages ≡ info.pages = omega (arith, calm_now) in e ∙ (pages ∙ sym (claims p))) refl
+        (pages ∙ sym (claims p)) refl
         (IsElsewhere (as_much (steps_of c)) (has_duty T.code c d ds owed))
 
     last_does : Does x (slice_set x.words (count_at (layout T) p) (n - 1)) (leaves_last c k p info.pages)
@@ -366,7 +370,7 @@ module _ {T : Setup} {g : ℕ} {c : Record} (x : Here T g c) (d : Duty) (ds : Li
         after = leaves_last c k p info.pages;
         more = refl;
         steps = inl (subst (λ m. Does x (slice_set x.words (count_at (layout T) p) m) (leaves_last c k p info.pages)) (sym down) (last_does two));
-        tells_so = inr (two, info.pages, refl);
+        tells_so = inr (two, owes_none two, info.pages, refl);
       })
       (λ more. record {
         after = leaves c k p;

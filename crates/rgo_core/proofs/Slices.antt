@@ -26,10 +26,12 @@ use Rattle.rgo_core_memory.specs.Ground.{Stands, ground_of}
 use Rattle.rgo_core_memory.specs.Image.{word_at}
 use Rattle.rgo_core_memory.specs.Words.{base}
 use Rattle.rgo_core_memory.proofs.Storing.{loads}
+use Rattle.rgo_core.specs.Bounds.{LieInPages}
 use Rattle.rgo_core.specs.Core.{Here, Setup, layout}
 use Rattle.rgo_core.specs.Links.{BeforeLoad, BeforeStore, IsAtElement}
 use Rattle.rgo_core.specs.Next.{IsAt}
 use Rattle.rgo_core.specs.Records.{Record, memory_of}
+use Rattle.rgo_core.proofs.Bounds.{lies_in}
 use Rattle.rgo_core.proofs.Contents.{content_fits}
 use Rattle.rgo_core.proofs.Encodings.{small_word}
 use Rattle.rgo_core.proofs.Operands as operands
@@ -93,6 +95,14 @@ module _ {T : Setup} {g : ℕ} {c : Record} (x : Here T g c) (to : Option ℕ) (
       (value.Int (pos (length slice_there.0))) slice_stands refl
       ∙ small_word (length slice_there.0) length_small)
 
+  -- all its words lie in the pages
+  pub lies : LieInPages T at (suc (slice_index x.words (base (layout T) + at)))
+  lies =
+      let l = lies_in T x.words (map memory_of x.recs) x.s (I x).places (I x).memory it.object (SliceObject slice_there.0) it.region slice_stands in
+      let e = (I x).addressed it.object at it.at in
+      let n = length_word in
+      omega (arith, l, e, n)
+
 -- ---- the operands of accesses to elements
 
 pub at_takes : (code : Tac) (f : TacFn) (d : ℕ) (tys : List «Type») → DoFits code f (Some d) action.At tys
@@ -110,6 +120,7 @@ pub record HasSlice {T : Setup} {g : ℕ} {c : Record} (x : Here T g c) (at : �
   pub region : Region
   pub stands : Stands x.s.plain.memory.heap x.s.owners x.s.regions object (SliceObject cells) region
   pub first : word_at (layout T) (I x).places object 0 ≡ base (layout T) + at
+  pub lies : LieInPages T at (suc (slice_index x.words (base (layout T) + at)))
 
 pub at_slice : {T : Setup} {g : ℕ} {c : Record} (x : Here T g c) (at : ℕ) → IsAtElement T.code c at → HasSlice x at
 at_slice {T} x at (BeforeLoad d p q removes a points) =
@@ -122,6 +133,7 @@ at_slice {T} x at (BeforeLoad d p q removes a points) =
       region = (it x (Some d) action.At p (q ∷ []) removes a u.0 (int ∷ []) u.1 r at points).region;
       stands = slice_stands x (Some d) action.At p (q ∷ []) removes a u.0 (int ∷ []) u.1 r at points;
       first = first_word x (Some d) action.At p (q ∷ []) removes a u.0 (int ∷ []) u.1 r at points;
+      lies = lies x (Some d) action.At p (q ∷ []) removes a u.0 (int ∷ []) u.1 r at points;
     }
 at_slice {T} x at (BeforeStore p q r removes a points) =
     let u = put_takes (erased T.code) (erased_fn a.fn) (operands.rule x None action.Put (p ∷ q ∷ r ∷ []) removes a).0
@@ -133,4 +145,5 @@ at_slice {T} x at (BeforeStore p q r removes a points) =
       region = (it x None action.Put p (q ∷ r ∷ []) removes a u.0 (int ∷ u.0 ∷ []) u.1 m at points).region;
       stands = slice_stands x None action.Put p (q ∷ r ∷ []) removes a u.0 (int ∷ u.0 ∷ []) u.1 m at points;
       first = first_word x None action.Put p (q ∷ r ∷ []) removes a u.0 (int ∷ u.0 ∷ []) u.1 m at points;
+      lies = lies x None action.Put p (q ∷ r ∷ []) removes a u.0 (int ∷ u.0 ∷ []) u.1 m at points;
     }

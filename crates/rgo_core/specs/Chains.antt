@@ -1,6 +1,6 @@
 -- Accesses to the chains of pages: a claimed page is hung and linked; a chain is given back page by page. The region machine makes no
 -- step.
-use Rattle.std.specs.Prelude.{◌≡◌, ◌≤◌, ◌-◌, ℕ, suc}
+use Rattle.std.specs.Prelude.{◌≡◌, ◌<◌, ◌≤◌, ◌-◌, ℕ, suc}
 use Rattle.rgo_core_memory.specs.Records.{Calm, Gave, Giving, Got, Hung, Idle, Owes, Past, Rec as MemoryRec, with_claim, with_give}
 use Rattle.rgo_core_memory.specs.Words.{count_at, head_at, next_at, state_at}
 use Rattle.rgo_core.specs.Core.{Setup, layout}
@@ -21,11 +21,11 @@ abbrev pub LinkMove : Type 0
 LinkMove = (T : Setup) (g : ℕ) (c : Record) (p r old : ℕ) → c.memory.claim ≡ Hung p r old
     → Moves T g c (next_at (layout T) p) (λ n. old) (λ n d. d ≡ remembers c (with_claim c.memory Idle))
 
--- the head of a chain that is given back is loaded: a page by its number plus 1, or 0
+-- The head of a chain that is given back is loaded: a page by its number plus 1, or 0. No more pages are owed than there are.
 abbrev pub HeadMove : Type 0
 HeadMove = (T : Setup) (g : ℕ) (c : Record) (r : ℕ) → c.memory.give ≡ Owes r
     → Moves T g c (head_at (layout T) r) (λ n. n)
-    (λ n d. (d ≡ remembers c (with_give c.memory (Giving r n))) × (n ≤ T.sizes.pages))
+    (λ n d. (d ≡ remembers c (with_give c.memory (Giving r n))) × (n ≤ T.sizes.pages) × (c.clock.owed ≤ T.sizes.pages))
 
 -- the page after it is loaded
 abbrev pub NextMove : Type 0
@@ -40,15 +40,15 @@ frees c r q = record c {
   memory = with_give c.memory (Giving r q);
 }
 
--- the page is free again
+-- the page is free again; it was owed
 abbrev pub FreeMove : Type 0
 FreeMove = (T : Setup) (g : ℕ) (c : Record) (r p q : ℕ) → c.memory.give ≡ Past r (suc p) q
-    → Moves T g c (state_at (layout T) p) (λ n. 0) (λ n d. d ≡ frees c r q)
+    → Moves T g c (state_at (layout T) p) (λ n. 0) (λ n d. (d ≡ frees c r q) × (0 < c.clock.owed))
 
--- no page is left: the head is cleared
+-- no page is left: the head is cleared, and none is owed
 abbrev pub ClearMove : Type 0
 ClearMove = (T : Setup) (g : ℕ) (c : Record) (r : ℕ) → c.memory.give ≡ Giving r 0
-    → Moves T g c (head_at (layout T) r) (λ n. 0) (λ n d. d ≡ remembers c (with_give c.memory (Gave r)))
+    → Moves T g c (head_at (layout T) r) (λ n. 0) (λ n d. (d ≡ remembers c (with_give c.memory (Gave r))) × (c.clock.owed ≡ 0))
 
 -- and the slot is free
 abbrev pub SlotMove : Type 0

@@ -1,7 +1,7 @@
 -- Accesses to a channel before its operation takes effect: the control, the capacity and cells are loaded, the control is locked, and
 -- a cell is stored.
-use Rattle.std.specs.Prelude.{◌≡◌, ◌+◌, ◌%◌, ◌^◌, ◌<◌, ◌≤◌, ◌==◌, ℕ, suc, if◌then◌else◌}
-use Rattle.rgo_core_channels.specs.Controls.{extent}
+use Rattle.std.specs.Prelude.{◌≡◌, ◌⊎◌, ◌+◌, ◌%◌, ◌^◌, ◌<◌, ◌≤◌, ◌==◌, ℕ, suc, if◌then◌else◌}
+use Rattle.rgo_core_channels.specs.Controls.{count_of, extent, head_of}
 use Rattle.rgo_core_channels.specs.Locking.{IsSpare}
 use Rattle.rgo_core_channels.specs.Records.{Free, Locked, Offering, Read, Sized, Wrote, with_hold, with_lock, with_look, with_own_look, with_size}
 use Rattle.rgo_core_memory.specs.Words.{all_words}
@@ -10,15 +10,17 @@ use Rattle.rgo_core.specs.Core.{Setup, layout}
 use Rattle.rgo_core.specs.Records.{Record}
 use Rattle.rgo_core.specs.Steps.{Moves}
 
--- The control is loaded. What was found leaves room for what a commit adds.
+-- The control is loaded. What was found leaves room for what a commit adds; and its head is a cell, if the capacity is known.
 abbrev pub ControlMove : Type 0
 ControlMove = (T : Setup) (g : ℕ) (c : Record) (a : ℕ) → IsAtChannel T c a
-    → Moves T g c a (λ n. n) (λ n d. (d ≡ knows c (with_look c.side a n)) × (n + 4 < 2 ^ 64))
+    → Moves T g c a (λ n. n) (λ n d. (d ≡ knows c (with_look c.side a n)) × (n + 4 < 2 ^ 64)
+    × ((size : ℕ) → c.side.size ≡ Sized a size → head_of n < extent size))
 
--- A goroutine loads the control of the channel at which its offer stands.
+-- A goroutine loads the control of the channel at which its offer stands: the offer is not taken, or it is.
 abbrev pub OwnControlMove : Type 0
 OwnControlMove = (T : Setup) (g : ℕ) (c : Record) (a : ℕ) → c.side.post ≡ Offering a
-    → Moves T g c a (λ n. n) (λ n d. (d ≡ knows c (with_own_look c.side a n)) × (n + 4 < 2 ^ 64))
+    → Moves T g c a (λ n. n) (λ n d. (d ≡ knows c (with_own_look c.side a n)) × (n + 4 < 2 ^ 64)
+    × ((count_of n ≡ 1) ⊎ (count_of n ≡ 2)))
 
 -- The capacity is loaded. It is small, and the cells lie in the table.
 abbrev pub CapacityMove : Type 0

@@ -1,4 +1,5 @@
 -- The clock: which pieces of print have tickets, and whether the run has ended.
+use Rattle.std.specs.Option.{option_len}
 use Rattle.std.specs.Prelude.{◌≡◌, ◌≤◌, ◌<◌, ◌+◌, ◌^◌, ◌==◌, ℕ, nat_le, List, [], ◌++◌, length, count_by, sum_by, Some, None, slice_get, slice_index}
 use Rattle.rgo_core_memory.specs.Words.{clock_at}
 use Rattle.rgo_core_rule.specs.Lists.{flattened}
@@ -11,6 +12,10 @@ has_ticket t c = count_by (λ (d : Drawn). d.ticket == t) c.prints
 
 abbrev pub prints_in : ClockRec → ℕ
 prints_in c = length c.prints
+
+-- 1 if the record has set the end mark
+abbrev pub has_set : ClockRec → ℕ
+has_set c = option_len c.first
 
 -- The pieces in the order of their tickets: those drawn before the run ended, and those drawn after.
 pub record Clock (words : List ℕ) (recs : List ClockRec) (s : RegionState) (before late : List (List ℕ)) : Type 0 where
@@ -29,3 +34,5 @@ pub record Clock (words : List ℕ) (recs : List ClockRec) (s : RegionState) (be
   pub first : (g : ℕ) (c : ClockRec) (mark : Mark) → slice_get recs g ≡ Some c → c.first ≡ Some mark → s.mark ≡ Some mark
   pub setter : (mark : Mark) → s.mark ≡ Some mark
       → (g : ℕ) × (c : ClockRec) × (slice_get recs g ≡ Some c) × (c.first ≡ Some mark)
+  -- no other record has set one
+  pub sole : sum_by has_set recs ≤ 1

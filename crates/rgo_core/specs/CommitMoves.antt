@@ -9,6 +9,7 @@ use Rattle.rgo_core_frames.specs.WordFrames.{WordFrame, bare, word_at}
 use Rattle.rgo_region_machine.specs.Owed.{current}
 use Rattle.rgo_typed.specs.declared.actions.Action.TheVariants.{Close, Recv, Send}
 use Rattle.rgo_core.specs.AtChannels.{Operates, commits}
+use Rattle.rgo_core.specs.Bounds.{Points, target_type}
 use Rattle.rgo_core.specs.Core.{Setup}
 use Rattle.rgo_core.specs.Records.{Record, accessed}
 use Rattle.rgo_core.specs.Steps.{Moves}
@@ -20,12 +21,16 @@ SendMove = (T : Setup) (g : ℕ) (c : Record) (to : Option ℕ) (sent at n i siz
     → closed_of n ≡ 0 → count_of n < size → i ≡ (head_of n + count_of n) % size
     → Moves T g c at (λ w. n + 4) (λ w d. d ≡ commits a 0)
 
+-- the record after a receive of this word, which points where it may
+abbrev pub Receives : {T : Setup} {c : Record} {to : Option ℕ} {at : ℕ} → Operates T c to Recv [] at → (word : ℕ) → Record → Type 0
+Receives {T} {c} {to} a word d = (d ≡ commits a word) × Points T (target_type T a.here.w to) word
+
 -- The oldest value is received from a buffer; its word was loaded.
 abbrev pub ReceiveMove : Type 0
 ReceiveMove = (T : Setup) (g : ℕ) (c : Record) (to : Option ℕ) (at n i x size : ℕ) (a : Operates T c to Recv [] at)
     → c.side.hold ≡ Read at n i x → c.side.size ≡ Sized at size
     → 0 < count_of n → 0 < size → i ≡ head_of n
-    → Moves T g c at (λ w. control (closed_of n) (count_of n - 1) ((head_of n + 1) % size)) (λ w d. d ≡ commits a x)
+    → Moves T g c at (λ w. control (closed_of n) (count_of n - 1) ((head_of n + 1) % size)) (λ w. Receives a x)
 
 -- Zero is received from a closed channel in which nothing is left.
 abbrev pub ZeroMove : Type 0
@@ -57,7 +62,7 @@ abbrev pub MeetMove : Type 0
 MeetMove = (T : Setup) (g : ℕ) (c : Record) (to : Option ℕ) (at n x : ℕ) (a : Operates T c to Recv [] at)
     → c.side.hold ≡ Read at n 0 x → c.side.size ≡ Sized at 0
     → closed_of n ≡ 0 → count_of n ≡ 1
-    → Moves T g c at (λ w. n + 4) (λ w d. d ≡ commits a x)
+    → Moves T g c at (λ w. n + 4) (λ w. Receives a x)
 
 -- The record of a sender is before this send.
 pub record IsAtSend (T : Setup) (c : Record) : Type 0 where

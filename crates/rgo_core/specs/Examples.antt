@@ -31,6 +31,10 @@ second_then_first = with_print fresh 1 (7 ∷ 8 ∷ []) ∷ with_print blank 0 (
 abbrev pub ended_then_printed : List ClockRec
 ended_then_printed = with_end fresh 0 (Ended Exit) ∷ with_print blank 9223372036854775808 (9 ∷ []) ∷ []
 
+-- both goroutines have set the end
+abbrev pub both_have_set : List ClockRec
+both_have_set = with_end fresh 0 (Ended Exit) ∷ with_end blank 0 (Ended Exit) ∷ []
+
 abbrev pub late_mark : Option Mark
 late_mark = Some (Ended Exit)
 
@@ -49,6 +53,8 @@ pub record ClockExamples : Type 0 where
   pub not_late : (code : Code) (before late : List (List ℕ)) → Clock (9223372036854775809 ∷ []) ended_then_printed (having_printed code (9 ∷ []) late_mark) before late → ⊥
   -- an end that no goroutine has set
   pub unset : (code : Code) (before late : List (List ℕ)) → Clock (9223372036854775808 ∷ []) (fresh ∷ []) (having_printed code [] late_mark) before late → ⊥
+  -- an end that two goroutines have set
+  pub set_twice : (code : Code) (before late : List (List ℕ)) → Clock (9223372036854775808 ∷ []) both_have_set (having_printed code [] late_mark) before late → ⊥
   pub ticket : drawn_at 9223372036854775811 (5 ∷ []) ≡ record { ticket = 3; bytes = 5 ∷ []; is_void = true }
   pub first_kept : (with_end (with_end fresh 4 (Ended Exit)) 9223372036854775812 (Stopped Memory)).first ≡ Some (Ended Exit)
   pub mark_kept : first_mark (Some (Ended Exit)) (Stopped Memory) ≡ Some (Ended Exit)

@@ -6,6 +6,8 @@ pub mod Numbers
 pub mod Story
 pub mod Image
 pub mod Links
+pub mod Bounds
+pub mod BoundExamples
 pub mod Core
 pub mod Next
 pub mod Steps
@@ -27,4 +29,5 @@ pub mod Regions
 pub mod Traces
 pub mod TraceExamples
 pub mod ElementTraps
+pub mod OperandTraps
 pub mod LinkExamples

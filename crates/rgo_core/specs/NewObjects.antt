@@ -1,12 +1,13 @@
 -- A new object: which one a goroutine's next instruction makes, told by its record, and the record after the stores of its words.
-use Rattle.std.specs.Prelude.{◌≡◌, ℕ, suc, ◌+◌, ◌*◌, ◌<◌, ◌^◌, false, List, [], ◌∷◌, map, replicate, Option, Some, slice_get}
+use Rattle.std.specs.Prelude.{◌≡◌, ℕ, suc, ◌+◌, ◌*◌, ◌<◌, ◌^◌, bit_or, false, List, [], ◌∷◌, map, replicate, Option, Some, slice_get}
 use Rattle.rgo_code.specs.Code.{Code, CodeOp, Do}
 use Rattle.rgo_code.specs.Erasure.{erased}
 use Rattle.rgo_memory.specs.Memory.{Channel, Object, SliceObject, StructObject}
 use Rattle.rgo_memory.specs.Values.{element_zero, zero_of}
 use Rattle.rgo_region_machine.specs.Objects.{making_region, words as words_of}
 use Rattle.rgo_region_machine.specs.Owed.{function_of}
-use Rattle.rgo_region_machine.specs.States.{top_names}
+use Rattle.rgo_region_machine.specs.States.{Stopped, top_names}
+use Rattle.rgo_region_machine.specs.declared.limits.Limit.TheVariants.{ObjectSize}
 use Rattle.rgo_region_machine.specs.declared.regions.Region.{Region}
 use Rattle.rgo_region_machine.specs.declared.regions.Region.TheVariants.{Global as GlobalRegion, Numbered}
 use Rattle.rgo_tac.specs.Steps.{type_of}
@@ -19,23 +20,27 @@ use Rattle.rgo_core_frames.specs.WordFrames.{WordFrame, bare, word_at}
 use Rattle.rgo_core_memory.specs.Encoding.{content, opening}
 use Rattle.rgo_core_memory.specs.Parts.{Covers, Makes}
 use Rattle.rgo_core_memory.specs.Records.{Fill, with_object, with_word}
-use Rattle.rgo_core_memory.specs.Words.{cell_at}
+use Rattle.rgo_core_memory.specs.Words.{cell_at, clock_at}
 use Rattle.rgo_core_memory.specs.declared.layout.TableSizes.{TableSizes}
+use Rattle.rgo_core.specs.Bounds.{LieInPages, Points, target_type}
 use Rattle.rgo_core.specs.Core.{Setup, layout}
 use Rattle.rgo_core.specs.Next.{IsAt}
-use Rattle.rgo_core.specs.Records.{Record, accessed, ticked}
+use Rattle.rgo_core.specs.Records.{Record, accessed, ticked, with_end}
 use Rattle.rgo_core.specs.Steps.{Moves}
 
--- The object that an action makes, by the word of its size: a size is not negative, and a buffer is small. Each word of an object has
--- an address, so that a page has fewer words than a buffer may have.
-pub data MakesObject (code : Code) (w : WordFrame) (to : Option ℕ) (act : Action) (from : List ℕ) (object : Object) : Type 0 where
+-- The object that an action makes, by the word of its size. A size is not negative, and a channel has room for fewer than `most` values.
+pub data ObjectOf (most : ℕ) (code : Code) (w : WordFrame) (to : Option ℕ) (act : Action) (from : List ℕ) (object : Object) : Type 0 where
   AStruct : (n : ℕ) (made : Struct) → act ≡ action.New n → from ≡ [] → slice_get code.structs n ≡ Some made
-      → object ≡ StructObject (map zero_of made.fields) → MakesObject code w to act from object
+      → object ≡ StructObject (map zero_of made.fields) → ObjectOf most code w to act from object
   ASlice : (p : ℕ) → act ≡ action.Slice → from ≡ p ∷ [] → word_at w p < 2 ^ 63
       → object ≡ SliceObject (replicate (word_at w p) (element_zero (type_of (erased code) (bare w) to)))
-      → MakesObject code w to act from object
-  AChannel : (p : ℕ) → act ≡ action.Chan → from ≡ p ∷ [] → word_at w p < 1073741820
-      → object ≡ Channel (word_at w p) [] false → MakesObject code w to act from object
+      → ObjectOf most code w to act from object
+  AChannel : (p : ℕ) → act ≡ action.Chan → from ≡ p ∷ [] → word_at w p < most
+      → object ≡ Channel (word_at w p) [] false → ObjectOf most code w to act from object
+
+-- The control of a channel counts fewer values than this. Where a page has fewer words, every object that fits a page is one of these.
+abbrev pub MakesObject : Code → WordFrame → Option ℕ → Action → List ℕ → Object → Type 0
+MakesObject = ObjectOf 1073741820
 
 -- the slot by which a record knows a region
 abbrev pub slot_number : TableSizes → Region → ℕ
@@ -59,7 +64,8 @@ WordMove = (T : Setup) (g : ℕ) (c : Record) (f : Fill) (object : Object) (stor
     → Moves T g c (cell_at (layout T) f.page (f.fill + i)) (λ n. opening (content object i))
     (λ n d. d ≡ record c { clock = accessed c.clock; memory = with_word c.memory f object (i ∷ stored) })
 
--- the last of its words is stored: this is the instruction
+-- The last of its words is stored: this is the instruction. All words of the object lie in the pages, and the pointer to it points where
+-- it may.
 abbrev pub ObjectMove : Type 0
 ObjectMove = (T : Setup) (g : ℕ) (c : Record) (to : Option ℕ) (act : Action) (from removes : List ℕ)
     (a : IsAt T.code c (Do to act from removes)) (object : Object) (by_slot : Region) (f : Fill) (stored : List ℕ) (last : ℕ)
@@ -68,4 +74,12 @@ ObjectMove = (T : Setup) (g : ℕ) (c : Record) (to : Option ℕ) (act : Action)
     → f.slot ≡ slot_number (layout T) by_slot → Makes (layout T) c.memory f object stored → last < words_of object
     → Covers object (last ∷ stored)
     → Moves T g c (cell_at (layout T) f.page (f.fill + last)) (λ n. opening (content object last))
-    (λ n d. d ≡ made_object T c a to f object)
+    (λ n d. (d ≡ made_object T c a to f object) × LieInPages T (f.page * T.sizes.page_words + f.fill) (words_of object)
+    × Points T (target_type T a.w to) (suc (f.page * T.sizes.page_words + f.fill)))
+
+-- an object that no page holds ends the run
+abbrev pub LargeMove : Type 0
+LargeMove = (T : Setup) (g : ℕ) (c : Record) (to : Option ℕ) (act : Action) (from removes : List ℕ)
+    (a : IsAt T.code c (Do to act from removes)) (object : Object) → ObjectOf (2 ^ 63) T.code a.w to act from object
+    → T.sizes.page_words < words_of object
+    → Moves T g c clock_at (λ n. bit_or n (2 ^ 63)) (λ n d. d ≡ record c { clock = with_end c.clock n (Stopped ObjectSize) })

@@ -40,19 +40,20 @@ ShareMove = (T : Setup) (g : ℕ) (c : Record) (d : Duty) (ds : List Duty) (p : 
 abbrev pub leaves : Record → Holder → (slot : ℕ) → Record
 leaves c k p = record (with_holder c k) { memory = without_slot c.memory p }
 
--- and of the last one, in a region of so many pages, which are now to be given back
+-- and of the last one, in a region of so many pages, which the record now has to free
 abbrev pub leaves_last : Record → Holder → (slot pages : ℕ) → Record
 leaves_last c k p pages = record (with_holder c k) {
   clock = record (accessed c.clock) {
     share = record c.clock.share { removed = suc c.clock.share.removed };
-    owed = c.clock.owed + pages;
+    owed = pages;
   };
   memory = with_give (without_slot c.memory p) (Owes p);
 }
 
--- by the count that was found
+-- By the count that was found. A record that is about to free the pages of a region has no others to free.
 abbrev pub HasLeft : Record → Holder → (slot : ℕ) → (found : ℕ) → Record → Type 0
-HasLeft c k p n e = ((n ≢ 2) × (e ≡ leaves c k p)) ⊎ ((n ≡ 2) × (pages : ℕ) × (e ≡ leaves_last c k p pages))
+HasLeft c k p n e =
+    ((n ≢ 2) × (e ≡ leaves c k p)) ⊎ ((n ≡ 2) × (c.clock.owed ≡ 0) × (pages : ℕ) × (e ≡ leaves_last c k p pages))
 
 -- a stake ends; where it was the last, the region goes
 abbrev pub LeaveMove : Type 0

@@ -1,11 +1,13 @@
 //! What each access to memory does to what the table shows: loads and stores, new objects, pages, chains and the counts of
-//! regions. What a law asks is told by the goroutine's own record.
-ghost use Rattle.rgo_core.specs.Accesses.{AtMove, GetMove, LenMove, LoadMove, MeasureMove, PutMove, SetMove, StoreMove};
+//! regions; and what ends the run in place of one. What a law asks is told by the goroutine's own record.
+ghost use Rattle.rgo_core.specs.Accesses.{AtMove, GetMove, LenMove, LenNilStill, LoadMove, MeasureMove, PutMove, SetMove, StoreMove};
+ghost use Rattle.rgo_core.specs.BoundExamples.{BoundExamples};
 ghost use Rattle.rgo_core.specs.Chains.{ClearMove, FreeMove, HangMove, HeadMove, LinkMove, NextMove, SlotMove};
 ghost use Rattle.rgo_core.specs.Claims.{ClaimMove};
 ghost use Rattle.rgo_core.specs.ElementTraps.{AtTrapMove, PutTrapMove};
 ghost use Rattle.rgo_core.specs.LinkExamples.{LinkExamples};
-ghost use Rattle.rgo_core.specs.NewObjects.{ObjectMove, WordMove};
+ghost use Rattle.rgo_core.specs.NewObjects.{LargeMove, ObjectMove, WordMove};
+ghost use Rattle.rgo_core.specs.OperandTraps.{DivideTrapMove, LoadTrapMove, SizeTrapMove, StoreTrapMove};
 ghost use Rattle.rgo_core.specs.Regions.{CreateMove, LeaveMove, ShareMove};
 ghost use Rattle.rgo_core.specs.TraceExamples.{TraceExamples};
 
@@ -22,6 +24,11 @@ pub fn store_move()
 /// A load of the first word of a slice reads its length.
 pub fn len_move()
     ensures { LenMove }
+{}
+
+/// The length of nil is 0, without a load.
+pub fn len_nil_still()
+    ensures { LenNilStill }
 {}
 
 /// The length of a slice is read before an access to one of its elements.
@@ -49,6 +56,21 @@ pub fn put_trap_move()
     ensures { PutTrapMove }
 {}
 
+/// A load of a field of nil ends the run.
+pub fn load_trap_move()
+    ensures { LoadTrapMove }
+{}
+
+/// So does a store of one.
+pub fn store_trap_move()
+    ensures { StoreTrapMove }
+{}
+
+/// A division by zero ends the run.
+pub fn divide_trap_move()
+    ensures { DivideTrapMove }
+{}
+
 /// A load of a package variable reads what the instruction reads.
 pub fn get_move()
     ensures { GetMove }
@@ -67,6 +89,16 @@ pub fn word_move()
 /// With the last of its words an object is made.
 pub fn object_move()
     ensures { ObjectMove }
+{}
+
+/// A negative size of a new slice or channel ends the run.
+pub fn size_trap_move()
+    ensures { SizeTrapMove }
+{}
+
+/// So does an object that no page holds.
+pub fn large_move()
+    ensures { LargeMove }
 {}
 
 /// A page is claimed if it is free.
@@ -132,4 +164,9 @@ pub fn traces()
 /// Records that are before an access to an element, what they know of its slice, and what is still to be freed.
 pub fn links()
     ensures { LinkExamples }
+{}
+
+/// How many words objects have at least, and where words of a type may point.
+pub fn bounds()
+    ensures { BoundExamples }
 {}

@@ -1,0 +1,5 @@
+use Rattle.rgo_core.proofs.BoundExamples as lemmas
+use Rattle.rgo_core.proofs.memory_moves.bounds.Goals as goal
+
+pub returns : goal.returns
+returns c = lemmas.examples

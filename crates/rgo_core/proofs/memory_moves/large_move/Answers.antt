@@ -1,0 +1,5 @@
+use Rattle.rgo_core.proofs.Ending.{large_move}
+use Rattle.rgo_core.proofs.memory_moves.large_move.Goals as goal
+
+pub returns : goal.returns
+returns c = large_move

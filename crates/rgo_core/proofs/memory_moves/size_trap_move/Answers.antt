@@ -1,0 +1,5 @@
+use Rattle.rgo_core.proofs.OperandTraps.{size_trap_move}
+use Rattle.rgo_core.proofs.memory_moves.size_trap_move.Goals as goal
+
+pub returns : goal.returns
+returns c = size_trap_move

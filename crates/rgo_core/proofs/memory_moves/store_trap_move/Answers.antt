@@ -1,0 +1,5 @@
+use Rattle.rgo_core.proofs.OperandTraps.{store_trap_move}
+use Rattle.rgo_core.proofs.memory_moves.store_trap_move.Goals as goal
+
+pub returns : goal.returns
+returns c = store_trap_move

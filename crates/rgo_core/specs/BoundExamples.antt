@@ -1,0 +1,31 @@
+-- How many words objects of a type have at least, and where words of a type may point.
+use Rattle.std.specs.Prelude.{◌≡◌, ℕ, [], ◌∷◌}
+use Rattle.rgo_machine.specs.declared.limits.Limits.{Limits}
+use Rattle.rgo_region_machine.specs.Examples.{code_of, node}
+use Rattle.rgo_typed.specs.declared.types.Type.{«Type»}
+use Rattle.rgo_wellformed.specs.TypeRules.{chan_of, int, pointer_to, slice_of}
+use Rattle.rgo_core.specs.Bounds.{LieInPages, Points, least_words}
+use Rattle.rgo_core.specs.Core.{Setup}
+
+-- two pages of four words, for a code with a struct of two fields
+abbrev pub with_nodes : Limits → Setup
+with_nodes limits = record {
+  code = code_of (node ∷ []) [];
+  sizes = record { page_words = 4; pages = 2; regions = 1 };
+  limits = limits;
+}
+
+pub record BoundExamples : Type 0 where
+  pub pointer : least_words (node ∷ []) (pointer_to 0) ≡ 2
+  pub no_fields : least_words (record node { fields = [] } ∷ []) (pointer_to 0) ≡ 1
+  pub slice : least_words [] (slice_of int) ≡ 1
+  pub channel : least_words [] (chan_of int) ≡ 3
+  pub number : least_words [] int ≡ 0
+  pub all : (limits : Limits) → LieInPages (with_nodes limits) 0 8
+  pub too_many : (limits : Limits) → LieInPages (with_nodes limits) 1 8 → ⊥
+  -- the last two words, and one word beyond
+  pub last : (limits : Limits) → Points (with_nodes limits) (pointer_to 0) 7
+  pub beyond : (limits : Limits) → Points (with_nodes limits) (pointer_to 0) 8 → ⊥
+  pub nil : (T : Setup) (ty : «Type») → Points T ty 0
+  -- an int points nowhere
+  pub int : (T : Setup) (word : ℕ) → Points T int word
