@@ -1,0 +1,18 @@
+use Rattle.std.proofs.Common.{◌+◌}
+use Rattle.rgo_core_rule.specs.Views.{number_of}
+use Rattle.rgo_core.specs.Plans.{setup_of}
+use Rattle.rgo_core_steps.specs.Channels.{ShowsCapacity}
+use Rattle.rgo_core_steps.specs.Seats.{settled}
+use Rattle.rgo_core_steps.proofs.ChannelAccesses.{capacity_shows}
+use Rattle.rgo_core_steps.proofs.Settling.{settles}
+use Rattle.rgo_core_steps.proofs.channels.capacity.Goals as goal
+
+pub load-requires-clause-asks : goal.load-requires-clause-asks
+load-requires-clause-asks c =
+    let T = setup_of c.args.table.now.shared.key in
+    let me = c.args.seat.now.me in
+    let d = settled T c.args.behind me in (
+      c.requires.alone,
+      settles T c.args.behind me (c.args.at + 1) (λ n. n) (ShowsCapacity T d c.args.at) c.requires.settles
+          (capacity_shows T (number_of me) d c.args.at c.requires.here),
+    )

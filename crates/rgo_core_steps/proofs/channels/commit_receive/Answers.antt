@@ -1,0 +1,27 @@
+use Rattle.rgo_core_rule.specs.Views.{number_of}
+use Rattle.rgo_core_rule.specs.declared.accesses.Kind.TheVariants.{Commit}
+use Rattle.rgo_core.specs.Bounds.{Points}
+use Rattle.rgo_core.specs.Plans.{setup_of}
+use Rattle.rgo_core_steps.specs.Accesses.{given_type}
+use Rattle.rgo_core_steps.specs.After.{committing}
+use Rattle.rgo_core_steps.specs.Channels.{value_by}
+use Rattle.rgo_core_steps.specs.Seats.{mine}
+use Rattle.rgo_core_steps.proofs.Lefts.{stored_after}
+use Rattle.rgo_core_steps.proofs.ChannelAccesses.{receive_commits}
+use Rattle.rgo_core_steps.proofs.channels.commit_receive.Goals as goal
+
+pub store-requires-clause-asks : goal.store-requires-clause-asks
+store-requires-clause-asks c =
+    let T = setup_of c.args.table.now.shared.key in
+    let me = c.args.seat.now.me in
+    (c.requires.alone, rw c.without_oldest-new.ensures (receive_commits T (number_of me) (mine T me) c.args.at c.args.control c.args.size c.requires.ready))
+
+pub returns-clause-stored : goal.returns-clause-stored
+returns-clause-stored c =
+    let T = setup_of c.args.table.now.shared.key in
+    let d = mine T c.args.seat.now.me in
+    rw (← c.without_oldest-new.ensures) (stored_after T Commit c.args.at c.args.seat.now.me c.store.new.seat.me (λ n e. Points T (given_type T d) (value_by d.side.hold))
+    c.without_oldest-new.result (committing T.code d (value_by d.side.hold)) c.store.ensures.leaves)
+
+pub returns-clause-points : goal.returns-clause-points
+returns-clause-points c = c.store.ensures.leaves.1.1.tells_so.1

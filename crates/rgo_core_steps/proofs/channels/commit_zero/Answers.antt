@@ -1,0 +1,11 @@
+use Rattle.rgo_core_rule.specs.Views.{number_of}
+use Rattle.rgo_core.specs.Plans.{setup_of}
+use Rattle.rgo_core_steps.specs.Seats.{mine}
+use Rattle.rgo_core_steps.proofs.ChannelAccesses.{zero_commits}
+use Rattle.rgo_core_steps.proofs.channels.commit_zero.Goals as goal
+
+pub store-requires-clause-asks : goal.store-requires-clause-asks
+store-requires-clause-asks c =
+    let T = setup_of c.args.table.now.shared.key in
+    let me = c.args.seat.now.me in
+    (c.requires.alone, zero_commits T (number_of me) (mine T me) c.args.at c.args.control c.requires.ready)

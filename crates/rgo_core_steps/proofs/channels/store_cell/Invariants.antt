@@ -1,0 +1,14 @@
+use Rattle.std.proofs.Common.{◌≡◌}
+use Rattle.rgo_core_rule.specs.declared.accesses.Kind.TheVariants as kind
+use Rattle.rgo_core.specs.Plans.{setup_of}
+use Rattle.rgo_core.specs.AtChannels.{knows}
+use Rattle.rgo_core_channels.specs.Records.{Wrote, with_hold}
+use Rattle.rgo_core_steps.specs.Channels.{found_by}
+use Rattle.rgo_core_steps.specs.Seats.{mine}
+use Rattle.rgo_core_steps.proofs.channels.store_cell.Given as goal
+
+abbrev pub ghosts-store : goal.ghosts-store
+ghosts-store a =
+    let T = setup_of a.table.now.shared.key in
+    let c = mine T a.seat.now.me in
+    record { kind = kind.StoreCell; tells = λ n d. d ≡ knows c (with_hold c.side (Wrote a._about.now.0 (found_by c.side.hold) a._about.now.1 a.new)) }

@@ -1,0 +1,13 @@
+use Rattle.rgo_core_rule.specs.Views.{number_of}
+use Rattle.rgo_core.specs.Plans.{setup_of}
+use Rattle.rgo_core_steps.specs.Ends.{mark_of}
+use Rattle.rgo_core_steps.specs.Seats.{settled}
+use Rattle.rgo_core_steps.proofs.Clocking.{end_moves}
+use Rattle.rgo_core_steps.proofs.Settling.{settles}
+use Rattle.rgo_core_steps.proofs.clock.finish.Goals as goal
+
+pub fetch_or-requires-clause-asks : goal.fetch_or-requires-clause-asks
+fetch_or-requires-clause-asks c =
+    let T = setup_of c.args.table.now.shared.key in
+    let me = c.args.seat.now.me in
+    (c.requires.alone, settles T c.args.behind me _ _ _ c.requires.settles (end_moves T (number_of me) (settled T c.args.behind me) (mark_of c.args.mark) c.requires.cause))

@@ -1,0 +1,12 @@
+use Rattle.rgo_core_rule.specs.Views.{number_of}
+use Rattle.rgo_core.specs.Plans.{setup_of}
+use Rattle.rgo_core_steps.specs.Seats.{settled}
+use Rattle.rgo_core_steps.proofs.Clocking.{ticket_moves}
+use Rattle.rgo_core_steps.proofs.Settling.{settles}
+use Rattle.rgo_core_steps.proofs.clock.ticket.Goals as goal
+
+pub fetch_add-found-requires-clause-asks : goal.fetch_add-found-requires-clause-asks
+fetch_add-found-requires-clause-asks c =
+    let T = setup_of c.args.table.now.shared.key in
+    let me = c.args.seat.now.me in
+    (c.requires.alone, settles T c.args.behind me _ _ _ c.requires.settles (ticket_moves T (number_of me) (settled T c.args.behind me) c.requires.print))

@@ -1,0 +1,19 @@
+use Rattle.std.proofs.Common.{arith}
+use Rattle.rgo_core_rule.specs.Views.{number_of}
+use Rattle.rgo_core.specs.Plans.{setup_of}
+use Rattle.rgo_core.proofs.Chains.{slot_move}
+use Rattle.rgo_core_steps.proofs.Layouts.{count_low}
+use Rattle.rgo_core_steps.specs.Seats.{mine}
+use Rattle.rgo_core_steps.proofs.counts.free_slot.Goals as goal
+
+pub store-requires-clause-own : goal.store-requires-clause-own
+store-requires-clause-own c = (c.requires.own, rw c.count_at.ensures (count_low c.requires.layout c.args.slot (omega (arith, c.requires.slot))))
+
+pub store-requires-clause-asks : goal.store-requires-clause-asks
+store-requires-clause-asks c =
+    let T = setup_of c.args.table.now.shared.key in
+    let me = c.args.seat.now.me in
+    (c.requires.alone, rw (c.count_at.ensures, c.requires.layout.sizes) (slot_move T (number_of me) (mine T me) c.args.slot c.requires.gave))
+
+pub returns-clause-leaves : goal.returns-clause-leaves
+returns-clause-leaves c = rw c.count_at.ensures at c.store.ensures.leaves

@@ -1,0 +1,5 @@
+use Rattle.rgo_core_steps.proofs.Outcomes.{family_law as is}
+use Rattle.rgo_core_steps.proofs.laws.family_law.Goals as goal
+
+pub returns : goal.returns
+returns c = is

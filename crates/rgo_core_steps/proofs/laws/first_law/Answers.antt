@@ -1,0 +1,5 @@
+use Rattle.rgo_core_steps.proofs.Outcomes.{first_law as is}
+use Rattle.rgo_core_steps.proofs.laws.first_law.Goals as goal
+
+pub returns : goal.returns
+returns c = is

@@ -1,0 +1,12 @@
+use Rattle.std.proofs.Common.{◌≡◌}
+use Rattle.rgo_core_steps.specs.Making.{NewPoints, filling}
+use Rattle.rgo_core_rule.specs.declared.accesses.Kind.TheVariants as kind
+use Rattle.rgo_core.specs.Plans.{setup_of}
+use Rattle.rgo_core_steps.specs.Seats.{settled}
+use Rattle.rgo_core_steps.proofs.memory.zero.Given as goal
+
+abbrev pub ghosts-store : goal.ghosts-store
+ghosts-store a =
+    let T = setup_of a.table.now.shared.key in
+    let c = settled T a._about.now.1 a.seat.now.me in
+    record { kind = kind.Fill; tells = λ n d. (d ≡ filling T c a._about.now.0) × NewPoints T c a._about.now.0 }

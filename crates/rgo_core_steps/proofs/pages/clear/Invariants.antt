@@ -1,0 +1,13 @@
+use Rattle.std.proofs.Common.{◌≡◌}
+use Rattle.rgo_core.specs.Chains.{remembers}
+use Rattle.rgo_core_memory.specs.Records.{Gave, with_give}
+use Rattle.rgo_core_rule.specs.declared.accesses.Kind.TheVariants as kind
+use Rattle.rgo_core.specs.Plans.{setup_of}
+use Rattle.rgo_core_steps.specs.Seats.{mine}
+use Rattle.rgo_core_steps.proofs.pages.clear.Given as goal
+
+abbrev pub ghosts-store : goal.ghosts-store
+ghosts-store a =
+    let T = setup_of a.table.now.shared.key in
+    let c = mine T a.seat.now.me in
+    record { kind = kind.ClearHead; tells = λ n d. (d ≡ remembers c (with_give c.memory (Gave a._about.now))) × (c.clock.owed ≡ 0) }

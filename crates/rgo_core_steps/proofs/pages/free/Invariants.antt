@@ -1,0 +1,12 @@
+use Rattle.std.proofs.Common.{◌≡◌, ◌<◌}
+use Rattle.rgo_core.specs.Chains.{frees}
+use Rattle.rgo_core_rule.specs.declared.accesses.Kind.TheVariants as kind
+use Rattle.rgo_core.specs.Plans.{setup_of}
+use Rattle.rgo_core_steps.specs.Seats.{mine}
+use Rattle.rgo_core_steps.proofs.pages.free.Given as goal
+
+abbrev pub ghosts-store : goal.ghosts-store
+ghosts-store a =
+    let T = setup_of a.table.now.shared.key in
+    let c = mine T a.seat.now.me in
+    record { kind = kind.FreePage; tells = λ n d. (d ≡ frees c a._about.now.0 a._about.now.1) × (0 < c.clock.owed) }

@@ -1,0 +1,13 @@
+use Rattle.std.proofs.Common.{◌≡◌}
+use Rattle.rgo_core.specs.Chains.{remembers}
+use Rattle.rgo_core_memory.specs.Records.{Hung, with_claim}
+use Rattle.rgo_core_rule.specs.declared.accesses.Kind.TheVariants as kind
+use Rattle.rgo_core.specs.Plans.{setup_of}
+use Rattle.rgo_core_steps.specs.Seats.{mine}
+use Rattle.rgo_core_steps.proofs.pages.hang.Given as goal
+
+abbrev pub ghosts-swap : goal.ghosts-swap
+ghosts-swap a =
+    let T = setup_of a.table.now.shared.key in
+    let c = mine T a.seat.now.me in
+    record { kind = kind.HangPage; tells = λ n d. d ≡ remembers c (with_claim c.memory (Hung a._about.now.0 a._about.now.1 n)) }

@@ -1,0 +1,11 @@
+use Rattle.rgo_core_steps.proofs.MemoryExamples.{count_examples, making_examples, search_examples}
+use Rattle.rgo_core_steps.proofs.searches.examples.Goals as goal
+
+pub returns-clause-making : goal.returns-clause-making
+returns-clause-making c = making_examples
+
+pub returns-clause-counts : goal.returns-clause-counts
+returns-clause-counts c = count_examples
+
+pub returns-clause-searches : goal.returns-clause-searches
+returns-clause-searches c = search_examples

@@ -1,0 +1,41 @@
+-- Loads and stores that are the next instruction of a goroutine, as its record shows them.
+use Rattle.std.specs.Option.{option_map_or}
+use Rattle.std.specs.Prelude.{◌≡◌, ◌+◌, ℕ, suc, List, [], ◌∷◌, Some, None}
+use Rattle.rgo_code.specs.Code.{Do}
+use Rattle.rgo_typed.specs.declared.actions.Action.TheVariants as action
+use Rattle.rgo_typed.specs.declared.types.Type.{«Type»}
+use Rattle.rgo_wellformed.specs.TypeRules.{int}
+use Rattle.rgo_core_frames.specs.WordFrames.{word_at}
+use Rattle.rgo_core_memory.specs.Words.{base, variable_at}
+use Rattle.rgo_core.specs.Accesses.{IsInSlice}
+use Rattle.rgo_core.specs.Bounds.{target_type}
+use Rattle.rgo_core.specs.Core.{Setup, layout}
+use Rattle.rgo_core.specs.Next.{IsAt}
+use Rattle.rgo_core.specs.Records.{Record}
+use Rattle.rgo_core_steps.specs.After.{Position, given, position}
+
+-- the type of the variable to which the next instruction gives a word
+abbrev pub given_type : Setup → Record → «Type»
+given_type T c = option_map_or (λ (p : Position). target_type T p.w (given p.instr.op)) (position T.code c) int
+
+-- the next instruction loads this word: a field, an element, a length or a package variable
+pub data Loads (T : Setup) (c : Record) (word : ℕ) : Type 0 where
+  Field : (d k p address : ℕ) (removes : List ℕ) (a : IsAt T.code c (Do (Some d) (action.Load k) (p ∷ []) removes))
+      → word_at a.w p ≡ suc address → word ≡ base (layout T) + (address + k) → Loads T c word
+  Element : (d p q address : ℕ) (removes : List ℕ) (a : IsAt T.code c (Do (Some d) action.At (p ∷ q ∷ []) removes))
+      → word_at a.w p ≡ suc address → IsInSlice c address (word_at a.w q)
+      → word ≡ base (layout T) + (address + suc (word_at a.w q)) → Loads T c word
+  Length : (d p address : ℕ) (removes : List ℕ) (a : IsAt T.code c (Do (Some d) action.Len (p ∷ []) removes))
+      → word_at a.w p ≡ suc address → word ≡ base (layout T) + address → Loads T c word
+  Variable : (d k : ℕ) (removes : List ℕ) → IsAt T.code c (Do (Some d) (action.Get k) [] removes)
+      → word ≡ variable_at (layout T) k → Loads T c word
+
+-- the next instruction stores this value to this word: a field, an element or a package variable
+pub data Stores (T : Setup) (c : Record) (word value : ℕ) : Type 0 where
+  ToField : (k p q address : ℕ) (removes : List ℕ) (a : IsAt T.code c (Do None (action.Store k) (p ∷ q ∷ []) removes))
+      → word_at a.w p ≡ suc address → word ≡ base (layout T) + (address + k) → value ≡ word_at a.w q → Stores T c word value
+  ToElement : (p q r address : ℕ) (removes : List ℕ) (a : IsAt T.code c (Do None action.Put (p ∷ q ∷ r ∷ []) removes))
+      → word_at a.w p ≡ suc address → IsInSlice c address (word_at a.w q)
+      → word ≡ base (layout T) + (address + suc (word_at a.w q)) → value ≡ word_at a.w r → Stores T c word value
+  ToVariable : (k q : ℕ) (removes : List ℕ) (a : IsAt T.code c (Do None (action.Set k) (q ∷ []) removes))
+      → word ≡ variable_at (layout T) k → value ≡ word_at a.w q → Stores T c word value

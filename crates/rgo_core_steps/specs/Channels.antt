@@ -1,0 +1,138 @@
+-- What each access to a channel asks of the record of its goroutine, and what it shows. A channel is named by `at`, the word of its
+-- control.
+use Rattle.std.specs.Prelude.{◌≡◌, ◌⊎◌, ◌+◌, ◌%◌, ◌^◌, ◌<◌, ◌≤◌, ℕ, [], ◌∷◌, Option}
+use Rattle.rgo_core_channels.specs.Controls.{closed_of, count_of, extent, head_of}
+use Rattle.rgo_core_channels.specs.Locking.{IsSpare}
+use Rattle.rgo_core_channels.specs.Records.{Free, Hold, Locked, Offering, Read, Sized, Wrote, with_look, with_own_look, with_size}
+use Rattle.rgo_core_frames.specs.WordFrames.{word_at}
+use Rattle.rgo_core_memory.specs.Words.{all_words}
+use Rattle.rgo_typed.specs.declared.actions.Action.TheVariants.{Close, Recv, Send}
+use Rattle.rgo_core.specs.AtChannels.{Operates, knows}
+use Rattle.rgo_core.specs.CommitMoves.{IsAtSend}
+use Rattle.rgo_core.specs.Core.{Setup, layout}
+use Rattle.rgo_core.specs.Records.{Record}
+
+-- ---- what a goroutine has under the lock
+
+-- the control that it found when it locked the channel
+abbrev pub found_by : Hold → ℕ
+found_by Free = 0
+found_by (Locked at n) = n
+found_by (Wrote at n cell value) = n
+found_by (Read at n cell value) = n
+
+-- the word that it has stored in a cell, or has loaded from one
+abbrev pub value_by : Hold → ℕ
+value_by Free = 0
+value_by (Locked at n) = 0
+value_by (Wrote at n cell value) = value
+value_by (Read at n cell value) = value
+
+-- ---- loads
+
+-- n was found on a control: what a commit adds to it fits, and its head is a cell if the capacity is known
+pub record ShowsControl (c : Record) (at n : ℕ) (d : Record) : Type 0 where
+  pub is : d ≡ knows c (with_look c.side at n)
+  pub fits : n + 4 < 2 ^ 64
+  pub head : (size : ℕ) → c.side.size ≡ Sized at size → head_of n < extent size
+
+-- the same, by the goroutine whose offer is at the channel: the offer is not taken, or it is
+pub record ShowsOwnControl (c : Record) (at n : ℕ) (d : Record) : Type 0 where
+  pub is : d ≡ knows c (with_own_look c.side at n)
+  pub fits : n + 4 < 2 ^ 64
+  pub phase : (count_of n ≡ 1) ⊎ (count_of n ≡ 2)
+
+-- n is the capacity: it is small, and all cells are words of the table
+pub record ShowsCapacity (T : Setup) (c : Record) (at n : ℕ) (d : Record) : Type 0 where
+  pub is : d ≡ knows c (with_size c.side at n)
+  pub small : n < 1073741820
+  pub inside : at + 2 + extent n ≤ all_words (layout T)
+
+-- ---- cells
+
+-- The goroutine has locked the channel and knows its capacity, and the channel has this cell.
+pub record CanLoadCell (c : Record) (at cell : ℕ) : Type 0 where
+  pub n : ℕ
+  pub size : ℕ
+  pub locked : c.side.hold ≡ Locked at n
+  pub sized : c.side.size ≡ Sized at size
+  pub within : cell < extent size
+
+-- The same, and the cell holds nothing.
+pub record CanStoreCell (c : Record) (at cell : ℕ) : Type 0 where
+  pub n : ℕ
+  pub size : ℕ
+  pub locked : c.side.hold ≡ Locked at n
+  pub sized : c.side.size ≡ Sized at size
+  pub spare : IsSpare n size cell
+
+-- ---- commits. The goroutine has locked the channel, whose control was n.
+
+-- The next instruction sends into a buffer that has room, and the word of the value is in the first free cell.
+pub record CanSend (T : Setup) (c : Record) (at n : ℕ) : Type 0 where
+  pub to : Option ℕ
+  pub sent : ℕ
+  pub cell : ℕ
+  pub size : ℕ
+  pub here : Operates T c to Send (sent ∷ []) at
+  pub wrote : c.side.hold ≡ Wrote at n cell (word_at here.here.w sent)
+  pub sized : c.side.size ≡ Sized at size
+  pub is_open : closed_of n ≡ 0
+  pub room : count_of n < size
+  pub first : cell ≡ (head_of n + count_of n) % size
+
+-- The next instruction receives from a buffer that is not empty, and the oldest value was loaded.
+pub record CanReceive (T : Setup) (c : Record) (at n size : ℕ) : Type 0 where
+  pub to : Option ℕ
+  pub cell : ℕ
+  pub value : ℕ
+  pub here : Operates T c to Recv [] at
+  pub read : c.side.hold ≡ Read at n cell value
+  pub sized : c.side.size ≡ Sized at size
+  pub some : 0 < count_of n
+  pub buffer : 0 < size
+  pub oldest : cell ≡ head_of n
+
+-- The next instruction receives from a closed channel that has no value left.
+pub record CanReceiveZero (T : Setup) (c : Record) (at n : ℕ) : Type 0 where
+  pub to : Option ℕ
+  pub size : ℕ
+  pub here : Operates T c to Recv [] at
+  pub locked : c.side.hold ≡ Locked at n
+  pub sized : c.side.size ≡ Sized at size
+  pub closed : closed_of n ≡ 1
+  pub none : (size ≡ 0) ⊎ (count_of n ≡ 0)
+
+-- The next instruction closes a channel that is open.
+pub record CanClose (T : Setup) (c : Record) (at n : ℕ) : Type 0 where
+  pub to : Option ℕ
+  pub here : Operates T c to Close [] at
+  pub locked : c.side.hold ≡ Locked at n
+  pub is_open : closed_of n ≡ 0
+
+-- The next instruction sends on a channel without a buffer on which there is no offer, and the word of the value is in the cell.
+pub record CanOffer (T : Setup) (c : Record) (at n : ℕ) : Type 0 where
+  pub to : Option ℕ
+  pub sent : ℕ
+  pub here : Operates T c to Send (sent ∷ []) at
+  pub wrote : c.side.hold ≡ Wrote at n 0 (word_at here.here.w sent)
+  pub sized : c.side.size ≡ Sized at 0
+  pub is_open : closed_of n ≡ 0
+  pub none : count_of n ≡ 0
+
+-- The next instruction receives from a channel without a buffer on which there is an offer, and the word of its value was loaded.
+pub record CanMeet (T : Setup) (c : Record) (at n : ℕ) : Type 0 where
+  pub to : Option ℕ
+  pub value : ℕ
+  pub here : Operates T c to Recv [] at
+  pub read : c.side.hold ≡ Read at n 0 value
+  pub sized : c.side.size ≡ Sized at 0
+  pub is_open : closed_of n ≡ 0
+  pub offered : count_of n ≡ 1
+
+-- The goroutine's own offer was taken.
+pub record CanAcknowledge (T : Setup) (c : Record) (at n : ℕ) : Type 0 where
+  pub here : IsAtSend T c
+  pub own : c.side.post ≡ Offering at
+  pub locked : c.side.hold ≡ Locked at n
+  pub taken : count_of n ≡ 2

@@ -1,0 +1,103 @@
+-- Why a goroutine ends the run, as its record says, and the record after it has set the end mark.
+use Rattle.std.specs.Prelude.{◌≡◌, ◌⊎◌, ◌≤◌, ◌^◌, ℕ, true, List, [], ◌∷◌, Option, Some, None, length, unwrap_or}
+use Rattle.rgo_ast.specs.declared.ops.BinaryOp.{BinaryOp}
+use Rattle.rgo_ast.specs.declared.ops.BinaryOp.TheVariants.{Div, Rem}
+use Rattle.rgo_code.specs.Code.{Call, Code, CodeFn, Do, Go}
+use Rattle.rgo_core_channels.specs.Records.{Shut, Stranded, at_rest}
+use Rattle.rgo_core_frames.specs.Local.{local}
+use Rattle.rgo_core_frames.specs.Quiet.{is_exit}
+use Rattle.rgo_core_frames.specs.Records.{Rec as FrameRec}
+use Rattle.rgo_core_frames.specs.WordFrames.{word_at}
+use Rattle.rgo_machine.specs.Limits.{deepest}
+use Rattle.rgo_machine.specs.declared.picks.End.{End}
+use Rattle.rgo_machine.specs.declared.picks.End.TheVariants as the_end
+use Rattle.rgo_memory.specs.declared.traps.Trap.{Trap}
+use Rattle.rgo_memory.specs.declared.traps.Trap.TheVariants.{BadSize, CloseClosed, CloseNil, DivideZero, IndexRange, NilPointer, SendClosed}
+use Rattle.rgo_region_machine.specs.Owed.{function_of}
+use Rattle.rgo_region_machine.specs.States.{Ended, Mark, Stopped}
+use Rattle.rgo_region_machine.specs.declared.limits.Limit.{Limit}
+use Rattle.rgo_region_machine.specs.declared.limits.Limit.TheVariants as limit
+use Rattle.rgo_tac.specs.declared.regions.Class.{Class}
+use Rattle.rgo_typed.specs.declared.actions.Action.{Action}
+use Rattle.rgo_typed.specs.declared.actions.Action.TheVariants as action
+use Rattle.rgo_core.specs.AtChannels.{Operates}
+use Rattle.rgo_core.specs.Causes.{Stops as StopsBy}
+use Rattle.rgo_core.specs.CommitMoves.{IsAtSend}
+use Rattle.rgo_core.specs.Core.{Here, Setup}
+use Rattle.rgo_core.specs.ElementTraps.{HasNoElement}
+use Rattle.rgo_core.specs.Next.{IsAt}
+use Rattle.rgo_core.specs.Records.{Record, instructed, with_end}
+use Rattle.rgo_core_steps.specs.After.{place_of}
+use Rattle.rgo_core_steps.specs.declared.clock.Mark.{Mark as Given}
+use Rattle.rgo_core_steps.specs.declared.clock.Mark.TheVariants as given
+
+-- the mark that a call is given
+abbrev pub mark_of : Given → Mark
+mark_of (given.Ended end) = Ended end
+mark_of (given.Stopped limit) = Stopped limit
+
+-- ---- the record after the mark was set, where the clock was n
+
+-- `main` has returned; at a trap the goroutine stays where it is
+abbrev pub ended_frame : Code → FrameRec → End → FrameRec
+ended_frame code r the_end.Exit = unwrap_or (local code r) r
+ended_frame code r (the_end.Trap trap place) = r
+
+-- An end by the instruction counts the instruction; an end by a limit does not.
+abbrev pub ending : Code → Record → (clock : ℕ) → Mark → Record
+ending code c n (Ended end) = record c {
+  clock = with_end (instructed c.clock) n (Ended end);
+  frame = ended_frame code c.frame end;
+}
+ending code c n (Stopped limit) = record c { clock = with_end c.clock n (Stopped limit) }
+
+-- ---- traps
+
+-- the next instruction traps
+pub data Traps (T : Setup) (c : Record) (trap : Trap) : Type 0 where
+  -- a send on a channel that was found closed
+  Sends : (to : Option ℕ) (sent at : ℕ) → Operates T c to action.Send (sent ∷ []) at → c.side.saw ≡ Shut at
+      → trap ≡ SendClosed → Traps T c trap
+  -- the same where the offer of the goroutine stands
+  Offers : (at : ℕ) → IsAtSend T c → c.side.saw ≡ Stranded at → trap ≡ SendClosed → Traps T c trap
+  -- a close of a channel that was found closed
+  Closes : (to : Option ℕ) (at : ℕ) → Operates T c to action.Close [] at → c.side.saw ≡ Shut at
+      → trap ≡ CloseClosed → Traps T c trap
+  ClosesNil : (to : Option ℕ) (channel : ℕ) (removes : List ℕ) (a : IsAt T.code c (Do to action.Close (channel ∷ []) removes))
+      → word_at a.w channel ≡ 0 → trap ≡ CloseNil → Traps T c trap
+  -- a load or a store of an element that the slice does not have
+  Loads : (d p q : ℕ) (removes : List ℕ) (a : IsAt T.code c (Do (Some d) action.At (p ∷ q ∷ []) removes)) → c.side ≡ at_rest
+      → HasNoElement c a.w p q → trap ≡ IndexRange → Traps T c trap
+  Stores : (p q r : ℕ) (removes : List ℕ) (a : IsAt T.code c (Do None action.Put (p ∷ q ∷ r ∷ []) removes)) → c.side ≡ at_rest
+      → HasNoElement c a.w p q → trap ≡ IndexRange → Traps T c trap
+  -- a load or a store of a field of nil
+  LoadsNil : (d k p : ℕ) (removes : List ℕ) (a : IsAt T.code c (Do (Some d) (action.Load k) (p ∷ []) removes)) → c.side ≡ at_rest
+      → word_at a.w p ≡ 0 → trap ≡ NilPointer → Traps T c trap
+  StoresNil : (k p q : ℕ) (removes : List ℕ) (a : IsAt T.code c (Do None (action.Store k) (p ∷ q ∷ []) removes)) → c.side ≡ at_rest
+      → word_at a.w p ≡ 0 → trap ≡ NilPointer → Traps T c trap
+  -- a quotient or a remainder by zero
+  Divides : (op : BinaryOp) (d p q : ℕ) (removes : List ℕ) (a : IsAt T.code c (Do (Some d) (action.Binary op) (p ∷ q ∷ []) removes))
+      → (op ≡ Div) ⊎ (op ≡ Rem) → c.side ≡ at_rest → word_at a.w q ≡ 0 → trap ≡ DivideZero → Traps T c trap
+  -- a new slice or channel of a negative size
+  HasBadSize : (act : Action) (d p : ℕ) (removes : List ℕ) (a : IsAt T.code c (Do (Some d) act (p ∷ []) removes))
+      → (act ≡ action.Slice) ⊎ (act ≡ action.Chan) → c.side ≡ at_rest → 2 ^ 63 ≤ word_at a.w p → trap ≡ BadSize → Traps T c trap
+
+-- ---- ends
+
+pub data Ends (T : Setup) (g : ℕ) (c : Record) (mark : Mark) : Type 0 where
+  -- `main` returns
+  Exits : (e : FrameRec) → c.side ≡ at_rest → c.frame.holder.duties ≡ [] → local T.code c.frame ≡ Some e
+      → is_exit g e.frames ≡ true → mark ≡ Ended the_end.Exit → Ends T g c mark
+  Trapped : (trap : Trap) → Traps T c trap → mark ≡ Ended (the_end.Trap trap (place_of T.code c)) → Ends T g c mark
+  -- a call of a goroutine that has as many frames as it may
+  IsTooDeep : (to : Option ℕ) (f : ℕ) (callee : CodeFn) (from : List ℕ) (passes : List Class) (protects removes : List ℕ)
+      → IsAt T.code c (Call to f from passes protects removes) → function_of T.code f ≡ Some callee
+      → length c.frame.frames ≡ deepest → mark ≡ Stopped limit.Calls → Ends T g c mark
+  -- a start of a goroutine for which a number was refused
+  IsFull : (f : ℕ) (callee : CodeFn) (from : List ℕ) (passes : List Class) (removes : List ℕ)
+      → IsAt T.code c (Go f from passes removes) → function_of T.code f ≡ Some callee
+      → c.clock.refused ≡ true → mark ≡ Stopped limit.Goroutines → Ends T g c mark
+  -- memory has run out
+  WantsMemory : mark ≡ Stopped limit.Memory → Ends T g c mark
+  -- any limit that the run meets whatever the rest of the table is
+  Meets : (why : Limit) → ((x : Here T g c) → StopsBy T.code T.sizes T.limits why x.s) → mark ≡ Stopped why → Ends T g c mark

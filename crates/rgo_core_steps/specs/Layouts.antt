@@ -1,0 +1,12 @@
+-- The sizes of a table, by which calls find its words.
+use Rattle.std.specs.Prelude.{◌≡◌, ◌≤◌, ◌^◌}
+use Rattle.atomic_table.specs.Seated.{TableId}
+use Rattle.rgo_core_memory.specs.Words.{all_words}
+use Rattle.rgo_core_memory.specs.declared.layout.TableSizes.{TableSizes}
+use Rattle.rgo_core.specs.Core.{Setup, layout}
+
+-- these are the sizes of the table that was made for T, and the table has all its words
+pub record HasLayout (T : Setup) (z : TableSizes) (table : TableId) : Type 0 where
+  pub sizes : z ≡ layout T
+  pub fits : all_words z ≤ 2 ^ 32
+  pub words : table.words ≡ all_words z

@@ -1,0 +1,17 @@
+pub mod Seats
+pub mod After
+pub mod Prints
+pub mod Ends
+pub mod Starts
+pub mod Outcomes
+pub mod Examples
+pub mod Grown
+pub mod Channels
+pub mod Calls
+pub mod Layouts
+pub mod Accesses
+pub mod Making
+pub mod Counts
+pub mod Pages
+pub mod Searches
+pub mod MemoryExamples

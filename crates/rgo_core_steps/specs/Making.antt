@@ -1,0 +1,154 @@
+-- New objects: which one the next instruction of a goroutine makes, in which slot, and at the end of which page; and the record after
+-- each store of one of its words.
+use Rattle.std.specs.Option.{option_map, option_map_or}
+use Rattle.std.specs.Prelude.{◌≡◌, ◌⊎◌, ◌<◌, ◌≤◌, ◌+◌, ◌*◌, ◌==◌, ◌^◌, ℕ, zero, suc, Bool, true, false, List, [], ◌∷◌, Option, Some, None, if◌then◌else◌, map, nat_eq, nat_lt, option_and_then, replicate, slice_get}
+use Rattle.rgo_code.specs.Code.{Branch, Call, Code, CodeOp, Do, Go, Jump, Print, Return}
+use Rattle.rgo_code.specs.Erasure.{erased}
+use Rattle.rgo_memory.specs.Memory.{Channel, Object, SliceObject, StructObject}
+use Rattle.rgo_memory.specs.Values.{element_zero, zero_of}
+use Rattle.rgo_region_machine.specs.Objects.{making_region, words as words_of}
+use Rattle.rgo_region_machine.specs.Owed.{function_of}
+use Rattle.rgo_region_machine.specs.States.{top_names}
+use Rattle.rgo_region_machine.specs.declared.regions.Region.{Region}
+use Rattle.rgo_tac.specs.Steps.{type_of}
+use Rattle.rgo_typed.specs.declared.actions.Action.{Action}
+use Rattle.rgo_typed.specs.declared.actions.Action.TheVariants as action
+use Rattle.rgo_typed.specs.declared.programs.Struct.{Struct}
+use Rattle.rgo_core_channels.specs.Records.{at_rest}
+use Rattle.rgo_core_frames.specs.WordFrames.{WordFrame, bare, word_at}
+use Rattle.rgo_core_memory.specs.Encoding.{content, opening}
+use Rattle.rgo_core_memory.specs.Pages.{times}
+use Rattle.rgo_core_memory.specs.Records.{Amid, Fill, Idle, Make, Rec as MemoryRec, Rest, Within, with_word}
+use Rattle.rgo_core_memory.specs.Words.{cell_at}
+use Rattle.rgo_core.specs.Bounds.{LieInPages, Points}
+use Rattle.rgo_core.specs.Core.{Setup, layout}
+use Rattle.rgo_core.specs.NewObjects.{MakesObject, slot_number}
+use Rattle.rgo_core.specs.Next.{IsAt}
+use Rattle.rgo_core.specs.Records.{Record, accessed}
+use Rattle.rgo_core_steps.specs.Accesses.{given_type}
+use Rattle.rgo_core_steps.specs.After.{Position, making, position}
+
+-- ---- the object
+
+abbrev pub struct_of : Struct → Object
+struct_of made = StructObject (map zero_of made.fields)
+
+-- an object with n of something, below a limit
+abbrev pub sized : (n limit : ℕ) → Object → Option Object
+sized n limit object = if nat_lt n limit then Some object else None
+
+-- The object that an action makes: a size is not negative, and a buffer is small. The other actions make none.
+abbrev pub object_of : Code → WordFrame → Option ℕ → Action → List ℕ → Option Object
+object_of code w to (action.New n) from = option_map struct_of (slice_get code.structs n)
+object_of code w to action.Slice [] = None
+object_of code w to action.Slice (p ∷ ps) = sized (word_at w p) (2 ^ 63)
+    (SliceObject (replicate (word_at w p) (element_zero (type_of (erased code) (bare w) to))))
+object_of code w to action.Chan [] = None
+object_of code w to action.Chan (p ∷ ps) = sized (word_at w p) 1073741820 (Channel (word_at w p) [] false)
+object_of code w to _ from = None
+
+abbrev pub object_in : Code → WordFrame → CodeOp → Option Object
+object_in code w (Do to act from removes) = object_of code w to act from
+object_in code w (Call to n from passes protects removes) = None
+object_in code w (Go n from passes removes) = None
+object_in code w (Print pieces from removes) = None
+object_in code w (Jump target removes) = None
+object_in code w (Branch test target removes other otherwise) = None
+object_in code w (Return value) = None
+
+-- the object that the next instruction makes
+abbrev pub next_object : Setup → Record → Option Object
+next_object T c = option_and_then (λ (p : Position). object_in T.code p.w p.instr.op) (position T.code c)
+
+-- ---- its slot and its page
+
+abbrev pub region_at : Setup → Record → Position → Option Region
+region_at T c p = making_region (function_of T.code p.w.function) (top_names c.frame.holder.environments) p.instr.op
+
+-- the slot of the region in which the next instruction makes an object
+abbrev pub next_slot : Setup → Record → Option ℕ
+next_slot T c = option_map (slot_number (layout T)) (option_and_then (region_at T c) (position T.code c))
+
+-- the first own page of a slot
+abbrev pub page_of : (slot : ℕ) → List Fill → Option Fill
+page_of s [] = None
+page_of s (f ∷ fs) = if nat_eq s f.slot then Some f else page_of s fs
+
+-- the own page at whose end the words of the next object go
+abbrev pub next_page : Setup → Record → Option Fill
+next_page T c = option_and_then (λ (s : ℕ). page_of s c.memory.fills) (next_slot T c)
+
+-- the goroutine's next instruction makes this object in the region of this slot
+pub record MakesNext (T : Setup) (c : Record) (object : Object) (slot : ℕ) : Type 0 where
+  pub to : Option ℕ
+  pub act : Action
+  pub from : List ℕ
+  pub removes : List ℕ
+  pub here : IsAt T.code c (Do to act from removes)
+  pub makes : MakesObject T.code here.w to act from object
+  pub region : Region
+  pub in_region : making_region (function_of T.code here.w.function) (top_names c.frame.holder.environments) here.instr.op ≡ Some region
+  pub in_slot : slot_number (layout T) region ≡ slot
+
+-- ---- a page is needed
+
+-- The object fits a page, and not what is left of an own page of that slot.
+pub record NeedsPage (T : Setup) (c : Record) (slot : ℕ) : Type 0 where
+  pub object : Object
+  pub next : MakesNext T c object slot
+  pub fits : words_of object ≤ T.sizes.page_words
+  pub full : (f : Fill) → Within f c.memory.fills → f.slot ≡ slot → T.sizes.page_words < f.fill + words_of object
+
+-- nothing is pending: no operation on a channel, no page that is claimed and not yet linked, no object that is half made
+pub record IsCalm (c : Record) : Type 0 where
+  pub side : c.side ≡ at_rest
+  pub claim : c.memory.claim ≡ Idle
+  pub make : c.memory.make ≡ Rest
+
+-- ---- its words
+
+-- the words of the object that are stored
+abbrev pub stored_in : Make → List ℕ
+stored_in Rest = []
+stored_in (Amid f object stored) = stored
+
+-- no word of the object is stored yet and it fits the page, or some are stored
+abbrev pub IsMaking : (page_words : ℕ) → MemoryRec → Fill → Object → Type 0
+IsMaking n m f object = ((m.make ≡ Rest) × (f.fill + words_of object ≤ n)) ⊎ (m.make ≡ Amid f object (stored_in m.make))
+
+-- word i of the next object has this position in the table, and first holds this value
+pub record IsNewWord (T : Setup) (c : Record) (i word value : ℕ) : Type 0 where
+  pub object : Object
+  pub slot : ℕ
+  pub next : MakesNext T c object slot
+  pub page : Fill
+  pub is_page : page_of slot c.memory.fills ≡ Some page
+  pub making : IsMaking T.sizes.page_words c.memory page object
+  pub low : i < words_of object
+  pub at : word ≡ cell_at (layout T) page.page (page.fill + i)
+  pub opens : value ≡ opening (content object i)
+
+-- whether all of the first n words are among these
+abbrev pub covers : ℕ → List ℕ → Bool
+covers zero stored = true
+covers (suc n) stored = if times n stored == 0 then false else covers n stored
+
+-- the record after word i of this object is stored, on this page: with the last word the object is made
+abbrev pub with_new_word : Setup → Record → Fill → Object → (i : ℕ) → Record
+with_new_word T c f object i =
+    if covers (words_of object) (i ∷ stored_in c.memory.make) then making T c f object
+    else record c { clock = accessed c.clock; memory = with_word c.memory f object (i ∷ stored_in c.memory.make) }
+
+-- the same of the next object on its page
+abbrev pub filling : Setup → Record → (i : ℕ) → Record
+filling T c i = option_map_or (λ (object : Object). option_map_or (λ (f : Fill). with_new_word T c f object i) (next_page T c) c) (next_object T c) c
+
+-- all words of this object on this page lie in pages, and a pointer to it points where it may
+abbrev pub IsPlaced : Setup → Record → Fill → Object → Type 0
+IsPlaced T c f object = LieInPages T (f.page * T.sizes.page_words + f.fill) (words_of object)
+    × Points T (given_type T c) (suc (f.page * T.sizes.page_words + f.fill))
+
+-- the next object is so, if word i is the last of its words
+abbrev pub NewPoints : Setup → Record → (i : ℕ) → Type 0
+NewPoints T c i = (object : Object) (f : Fill) → next_object T c ≡ Some object → next_page T c ≡ Some f
+    → covers (words_of object) (i ∷ stored_in c.memory.make) ≡ true → IsPlaced T c f object

@@ -1,0 +1,87 @@
+-- The definitions of accesses to memory, pages and counts, each where it holds and where it must not.
+use Rattle.std.specs.Prelude.{◌≡◌, ◌+◌, ℕ, true, false, List, [], ◌∷◌, Some, None, pos}
+use Rattle.rgo_code.specs.Code.{Code}
+use Rattle.rgo_core_frames.specs.Opening.{no_record}
+use Rattle.rgo_core_frames.specs.WordFrames.{WordFrame}
+use Rattle.rgo_core_memory.specs.Records.{Fill}
+use Rattle.rgo_core_rule.specs.declared.accesses.Kind.TheVariants.{CreateRegion}
+use Rattle.rgo_core_rule.specs.Histories.{access}
+use Rattle.rgo_memory.specs.Memory.{Channel, Object, StructObject}
+use Rattle.rgo_memory.specs.declared.values.Value.TheVariants as value
+use Rattle.rgo_region_machine.specs.Examples.{code_of, node}
+use Rattle.rgo_region_machine.specs.States.{Create}
+use Rattle.rgo_typed.specs.declared.actions.Action.TheVariants as action
+use Rattle.rgo_core.specs.Core.{Setup}
+use Rattle.rgo_core.specs.Records.{Record, begins_with}
+use Rattle.rgo_core.specs.Regions.{creates}
+use Rattle.rgo_core_steps.specs.Accesses.{Loads, Stores}
+use Rattle.rgo_core_steps.specs.Counts.{IsCreating, IsLeaving, IsSharing, tried_slot, tries_slot}
+use Rattle.rgo_core_steps.specs.Examples.{idle}
+use Rattle.rgo_core_steps.specs.Making.{IsCalm, MakesNext, covers, next_object, next_slot, object_of, page_of}
+use Rattle.rgo_core_steps.specs.Pages.{tried_page, tries_page}
+use Rattle.rgo_core_steps.specs.Searches.{AreTaken, Miss, around, misses, missing, places_of, upward}
+
+-- a frame with these words
+abbrev pub frame_of : List ℕ → WordFrame
+frame_of words = record { function = 0; next = 0; variables = words }
+
+-- a code with one struct, which has two fields
+abbrev pub with_node : Code
+with_node = code_of (node ∷ []) []
+
+-- two own pages of slot 3 and one of slot 1
+abbrev pub own_pages : List Fill
+own_pages = record { slot = 1; page = 7; fill = 2 } ∷ record { slot = 3; page = 8; fill = 0 } ∷ record { slot = 3; page = 9; fill = 4 } ∷ []
+
+-- the goroutine owes these duties
+abbrev pub owing : Record
+owing = record (begins_with no_record) {
+  frame = record no_record { holder = record no_record.holder { duties = Create 5 ∷ Create 6 ∷ [] } };
+}
+
+pub record MakingExamples : Type 0 where
+  pub struct : object_of with_node (frame_of []) (Some 0) (action.New 0) [] ≡ Some (StructObject (value.Int (pos 0) ∷ value.Nil ∷ []))
+  pub no_struct : object_of with_node (frame_of []) (Some 0) (action.New 1) [] ≡ None
+  pub channel : object_of with_node (frame_of (4 ∷ [])) (Some 1) action.Chan (0 ∷ []) ≡ Some (Channel 4 [] false)
+  -- a buffer that is too large
+  pub large : object_of with_node (frame_of (1073741820 ∷ [])) (Some 1) action.Chan (0 ∷ []) ≡ None
+  -- a size below 0
+  pub negative : object_of with_node (frame_of (9223372036854775808 ∷ [])) (Some 1) action.Slice (0 ∷ []) ≡ None
+  pub copied : object_of with_node (frame_of (4 ∷ [])) (Some 1) action.Copy (0 ∷ []) ≡ None
+  -- the first own page of a slot
+  pub page : page_of 3 own_pages ≡ Some (record { slot = 3; page = 8; fill = 0 })
+  pub no_page : page_of 2 own_pages ≡ None
+  -- all of the first three words, in any order
+  pub covered : covers 3 (1 ∷ 0 ∷ 2 ∷ []) ≡ true
+  pub uncovered : covers 3 (2 ∷ 0 ∷ 2 ∷ []) ≡ false
+  -- without a frame nothing is made, loaded or stored
+  pub nothing : (T : Setup) → next_object T idle ≡ None
+  pub nowhere : (T : Setup) → next_slot T idle ≡ None
+  pub makes_none : (T : Setup) (object : Object) (slot : ℕ) → MakesNext T idle object slot → ⊥
+  pub loads_none : (T : Setup) (word : ℕ) → Loads T idle word → ⊥
+  pub stores_none : (T : Setup) (word value : ℕ) → Stores T idle word value → ⊥
+  pub calm : IsCalm idle
+
+pub record CountExamples : Type 0 where
+  pub creating : IsCreating owing
+  pub not_creating : IsCreating idle → ⊥
+  pub takes : tries_slot owing 2 0 ≡ creates owing 5 (Create 6 ∷ []) 2
+  pub misses : tries_slot owing 2 7 ≡ tried_slot owing 2
+  pub not_sharing : (slot : ℕ) → IsSharing owing slot → ⊥
+  pub not_leaving : (slot : ℕ) → IsLeaving owing slot → ⊥
+  pub page_missed : tries_page idle 4 2 1 ≡ tried_page idle 4
+
+-- slots 1 and 2 were found with these counts
+abbrev pub two_misses : List Miss
+two_misses = record { place = 1; found = 3 } ∷ record { place = 2; found = 2 } ∷ []
+
+pub record SearchExamples : Type 0 where
+  pub order : around 2 5 ≡ 2 ∷ 3 ∷ 4 ∷ 0 ∷ 1 ∷ []
+  pub from_zero : around 0 3 ≡ upward 0 3
+  pub at_the_end : around 3 3 ≡ upward 0 3
+  pub places : places_of two_misses ≡ 1 ∷ 2 ∷ []
+  pub taken : AreTaken two_misses
+  pub not_taken : AreTaken (record { place = 1; found = 0 } ∷ []) → ⊥
+  pub exchanges : misses CreateRegion (λ s. 64 + s) two_misses 9 ≡ access 9 CreateRegion 65 3 3 ∷ access 9 CreateRegion 66 2 2 ∷ []
+  -- the record remembers both
+  pub remembers : (missing tried_slot idle two_misses).memory.tried_slots ≡ 2 ∷ 1 ∷ []

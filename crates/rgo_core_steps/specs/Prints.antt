@@ -1,0 +1,17 @@
+-- Prints, as the record of a goroutine tells them.
+use Rattle.std.specs.Prelude.{◌≡◌, ◌<◌, ℕ, List, length}
+use Rattle.rgo_code.specs.Code.{Print}
+use Rattle.rgo_core_channels.specs.Records.{at_rest}
+use Rattle.rgo_typed.specs.declared.statements.Piece.{Piece}
+use Rattle.rgo_core.specs.Core.{Setup}
+use Rattle.rgo_core.specs.Next.{IsAt}
+use Rattle.rgo_core.specs.Records.{Record}
+
+-- The next instruction is a print, nothing is pending at a channel, and fewer than 2^43 tickets were drawn.
+pub record IsAtPrint (T : Setup) (c : Record) : Type 0 where
+  pub pieces : List Piece
+  pub from : List ℕ
+  pub removes : List ℕ
+  pub here : IsAt T.code c (Print pieces from removes)
+  pub rests : c.side ≡ at_rest
+  pub few : length c.clock.prints < 8796093022208

@@ -1,0 +1,221 @@
+//! Accesses to the words of a channel. `at` is the word of its control; the word after it has the capacity, and the cells follow.
+//!
+//! A goroutine operates on a channel in these steps, each of which is one access:
+//! 1. It loads the capacity and the control: [`capacity`], [`control`]; [`own_control`] where its own offer is at the channel.
+//! 2. It exchanges the unlocked control for the locked one: [`lock`]. If another goroutine has changed the control since, the
+//!    exchange changes nothing, and the goroutine begins again.
+//! 3. Under the lock it loads a cell or stores one that holds nothing: [`load_cell`], [`store_cell`].
+//! 4. It stores the unlocked control of the channel after the operation. With this store the operation takes effect:
+//!    [`commit_send`], [`commit_receive`], [`commit_zero`], [`commit_close`], [`commit_offer`], [`commit_meet`],
+//!    [`commit_acknowledge`].
+//!
+//! All other goroutines find a locked control between 2 and 4. `behind` is how many local steps the goroutine has made since its
+//! last access. Between the accesses of one operation, and while its offer is at a channel, it makes none.
+ghost use Rattle.std.specs.Prelude.{◌≡◌, ◌+◌, ◌-◌, ◌%◌, ◌^◌, ◌<◌, ◌==◌, ℕ};
+ghost use prog.Atomic.{either};
+ghost use Rattle.rgo_core.specs.AtChannels.{IsAtChannel, knows};
+ghost use Rattle.rgo_core.specs.Bounds.{Points};
+ghost use Rattle.rgo_core.specs.CommitMoves.{offers};
+ghost use Rattle.rgo_core.specs.Plans.{setup_of};
+ghost use Rattle.rgo_core_channels.specs.Controls.{closed_of, control as control_of, count_of, head_of};
+ghost use Rattle.rgo_core_channels.specs.Records.{Free, Offering, Read, Wrote, with_hold, with_lock};
+ghost use Rattle.rgo_core_rule.specs.declared.accesses.Kind.TheVariants as kind;
+ghost use Rattle.rgo_core_steps.specs.Accesses.{given_type};
+ghost use Rattle.rgo_core_steps.specs.After.{acknowledging, committing};
+ghost use Rattle.rgo_core_steps.specs.Channels.{CanAcknowledge, CanClose, CanLoadCell, CanMeet, CanOffer, CanReceive, CanReceiveZero, CanSend, CanStoreCell, ShowsCapacity, ShowsControl, ShowsOwnControl, found_by, value_by};
+ghost use Rattle.rgo_core_steps.specs.Seats.{HasOne, IsSeatOf, Left, Settles, Stored, mine, settled};
+
+use rgo_core::records::Record;
+use rgo_core::table::{ByRuns, Plan, RunSeat, RunTable};
+use rgo_core_channels::controls::without_oldest;
+use rgo_core_rule::steps::{compare_exchange, load, store};
+use std::marker::Brand;
+
+// ---- loads
+
+/// Loads the control, before the goroutine decides whether its operation can take effect. A goroutine calls it that is before an
+/// operation on the channel, or whose offer is there.
+pub fn control(table: &RunTable, seat: &mut RunSeat, behind: u64, at: usize) -> u64
+    requires own { IsSeatOf seat.old.table_id table.now.shared.table_id at }
+    requires alone { HasOne (setup_of table.now.shared.key) seat.old.me }
+    requires settles { Settles (setup_of table.now.shared.key) behind seat.old.me }
+    requires here { let T = setup_of table.now.shared.key in IsAtChannel T (settled T behind seat.old.me) at }
+    ensures own { (seat.new.table_id ≡ seat.old.table_id) × (seat.new.id ≡ seat.old.id) }
+    ensures leaves { let T = setup_of table.now.shared.key in
+        Left T kind.LoadControl at (λ n. n) (ShowsControl (settled T behind seat.old.me) at)
+        seat.old.me result seat.new.me }
+{
+    load::<Record, Plan, ByRuns, Brand, _>(table, seat, at, &behind)
+}
+
+/// Loads the control of the channel at which the goroutine's own offer is: was it taken?
+pub fn own_control(table: &RunTable, seat: &mut RunSeat, at: usize) -> u64
+    requires own { IsSeatOf seat.old.table_id table.now.shared.table_id at }
+    requires alone { HasOne (setup_of table.now.shared.key) seat.old.me }
+    requires offering { (mine (setup_of table.now.shared.key) seat.old.me).side.post ≡ Offering at }
+    ensures own { (seat.new.table_id ≡ seat.old.table_id) × (seat.new.id ≡ seat.old.id) }
+    ensures leaves { let T = setup_of table.now.shared.key in
+        Left T kind.LoadControl at (λ n. n) (ShowsOwnControl (mine T seat.old.me) at) seat.old.me result seat.new.me }
+{
+    load::<Record, Plan, ByRuns, Brand, _>(table, seat, at, &())
+}
+
+/// Loads the capacity, which never changes.
+pub fn capacity(table: &RunTable, seat: &mut RunSeat, behind: u64, at: usize) -> u64
+    requires own { IsSeatOf seat.old.table_id table.now.shared.table_id (at + 1) }
+    requires fits { at + 1 < 2 ^ 64 }
+    requires alone { HasOne (setup_of table.now.shared.key) seat.old.me }
+    requires settles { Settles (setup_of table.now.shared.key) behind seat.old.me }
+    requires here { let T = setup_of table.now.shared.key in IsAtChannel T (settled T behind seat.old.me) at }
+    ensures own { (seat.new.table_id ≡ seat.old.table_id) × (seat.new.id ≡ seat.old.id) }
+    ensures leaves { let T = setup_of table.now.shared.key in
+        Left T kind.Load (at + 1) (λ n. n) (ShowsCapacity T (settled T behind seat.old.me) at)
+        seat.old.me result seat.new.me }
+{
+    load::<Record, Plan, ByRuns, Brand, _>(table, seat, at + 1, &(behind, at))
+}
+
+// ---- the lock
+
+/// Locks the channel, if its control is still `control`, which is unlocked. Returns what the control was.
+pub fn lock(table: &RunTable, seat: &mut RunSeat, at: usize, control: u64) -> u64
+    requires own { IsSeatOf seat.old.table_id table.now.shared.table_id at }
+    requires alone { HasOne (setup_of table.now.shared.key) seat.old.me }
+    requires here { let T = setup_of table.now.shared.key in IsAtChannel T (mine T seat.old.me) at }
+    requires unlocked { control % 2 ≡ 0 }
+    requires free { (mine (setup_of table.now.shared.key) seat.old.me).side.hold ≡ Free }
+    ensures own { (seat.new.table_id ≡ seat.old.table_id) × (seat.new.id ≡ seat.old.id) }
+    ensures leaves { let T = setup_of table.now.shared.key in let c = mine T seat.old.me in
+        Left T kind.LockChannel at (λ n. either (n == control) (control + 1) n)
+        (λ n d. d ≡ knows c (with_lock c.side at control n)) seat.old.me result seat.new.me }
+{
+    compare_exchange::<Record, Plan, ByRuns, Brand, _>(table, seat, at, control, control + 1, &())
+}
+
+// ---- cells, under the lock
+
+/// Loads a cell.
+pub fn load_cell(table: &RunTable, seat: &mut RunSeat, at: usize, cell: usize) -> u64
+    requires own { IsSeatOf seat.old.table_id table.now.shared.table_id (at + 2 + cell) }
+    requires fits { at + 2 + cell < 2 ^ 64 }
+    requires alone { HasOne (setup_of table.now.shared.key) seat.old.me }
+    requires held { CanLoadCell (mine (setup_of table.now.shared.key) seat.old.me) at cell }
+    ensures own { (seat.new.table_id ≡ seat.old.table_id) × (seat.new.id ≡ seat.old.id) }
+    ensures leaves { let T = setup_of table.now.shared.key in let c = mine T seat.old.me in
+        Left T kind.LoadCell (at + 2 + cell) (λ n. n)
+        (λ n d. d ≡ knows c (with_hold c.side (Read at (found_by c.side.hold) cell n))) seat.old.me result seat.new.me }
+{
+    load::<Record, Plan, ByRuns, Brand, _>(table, seat, at + 2 + cell, &(at, cell))
+}
+
+/// Stores the word of a value in a cell that holds nothing.
+pub fn store_cell(table: &RunTable, seat: &mut RunSeat, at: usize, cell: usize, value: u64)
+    requires own { IsSeatOf seat.old.table_id table.now.shared.table_id (at + 2 + cell) }
+    requires fits { at + 2 + cell < 2 ^ 64 }
+    requires alone { HasOne (setup_of table.now.shared.key) seat.old.me }
+    requires held { CanStoreCell (mine (setup_of table.now.shared.key) seat.old.me) at cell }
+    ensures own { (seat.new.table_id ≡ seat.old.table_id) × (seat.new.id ≡ seat.old.id) }
+    ensures stored { let T = setup_of table.now.shared.key in let c = mine T seat.old.me in
+        Stored T kind.StoreCell (at + 2 + cell) value
+        (knows c (with_hold c.side (Wrote at (found_by c.side.hold) cell value))) seat.old.me seat.new.me }
+{
+    store::<Record, Plan, ByRuns, Brand, _>(table, seat, at + 2 + cell, value, &(at, cell));
+}
+
+// ---- commits. `control` is what the goroutine found when it locked the channel.
+
+/// Sends into a buffer: there is one value more.
+pub fn commit_send(table: &RunTable, seat: &mut RunSeat, at: usize, control: u64)
+    requires own { IsSeatOf seat.old.table_id table.now.shared.table_id at }
+    requires fits { control + 4 < 2 ^ 64 }
+    requires alone { HasOne (setup_of table.now.shared.key) seat.old.me }
+    requires ready { let T = setup_of table.now.shared.key in CanSend T (mine T seat.old.me) at control }
+    ensures own { (seat.new.table_id ≡ seat.old.table_id) × (seat.new.id ≡ seat.old.id) }
+    ensures stored { let T = setup_of table.now.shared.key in
+        Stored T kind.Commit at (control + 4) (committing T.code (mine T seat.old.me) 0) seat.old.me seat.new.me }
+{
+    store::<Record, Plan, ByRuns, Brand, _>(table, seat, at, control + 4, &());
+}
+
+/// Receives the oldest value of a buffer: there is one value less, and the next cell is the oldest. The word that was loaded is a
+/// value of the type of the variable that gets it.
+pub fn commit_receive(table: &RunTable, seat: &mut RunSeat, at: usize, control: u64, size: u64)
+    requires own { IsSeatOf seat.old.table_id table.now.shared.table_id at }
+    requires small { size < 1073741820 }
+    requires alone { HasOne (setup_of table.now.shared.key) seat.old.me }
+    requires ready { let T = setup_of table.now.shared.key in CanReceive T (mine T seat.old.me) at control size }
+    ensures own { (seat.new.table_id ≡ seat.old.table_id) × (seat.new.id ≡ seat.old.id) }
+    ensures stored { let T = setup_of table.now.shared.key in let c = mine T seat.old.me in
+        Stored T kind.Commit at (control_of (closed_of control) (count_of control - 1) ((head_of control + 1) % size))
+        (committing T.code c (value_by c.side.hold)) seat.old.me seat.new.me }
+    ensures points { let T = setup_of table.now.shared.key in let c = mine T seat.old.me in
+        Points T (given_type T c) (value_by c.side.hold) }
+{
+    let new = without_oldest(control, size);
+    store::<Record, Plan, ByRuns, Brand, _>(table, seat, at, new, &());
+}
+
+/// Receives zero from a closed channel in which nothing is left.
+pub fn commit_zero(table: &RunTable, seat: &mut RunSeat, at: usize, control: u64)
+    requires own { IsSeatOf seat.old.table_id table.now.shared.table_id at }
+    requires alone { HasOne (setup_of table.now.shared.key) seat.old.me }
+    requires ready { let T = setup_of table.now.shared.key in CanReceiveZero T (mine T seat.old.me) at control }
+    ensures own { (seat.new.table_id ≡ seat.old.table_id) × (seat.new.id ≡ seat.old.id) }
+    ensures stored { let T = setup_of table.now.shared.key in
+        Stored T kind.Commit at control (committing T.code (mine T seat.old.me) 0) seat.old.me seat.new.me }
+{
+    store::<Record, Plan, ByRuns, Brand, _>(table, seat, at, control, &());
+}
+
+/// Closes the channel.
+pub fn commit_close(table: &RunTable, seat: &mut RunSeat, at: usize, control: u64)
+    requires own { IsSeatOf seat.old.table_id table.now.shared.table_id at }
+    requires fits { control + 2 < 2 ^ 64 }
+    requires alone { HasOne (setup_of table.now.shared.key) seat.old.me }
+    requires ready { let T = setup_of table.now.shared.key in CanClose T (mine T seat.old.me) at control }
+    ensures own { (seat.new.table_id ≡ seat.old.table_id) × (seat.new.id ≡ seat.old.id) }
+    ensures stored { let T = setup_of table.now.shared.key in
+        Stored T kind.Commit at (control + 2) (committing T.code (mine T seat.old.me) 0) seat.old.me seat.new.me }
+{
+    store::<Record, Plan, ByRuns, Brand, _>(table, seat, at, control + 2, &());
+}
+
+/// Offers a value at a channel without a buffer. The goroutine stays at its send.
+pub fn commit_offer(table: &RunTable, seat: &mut RunSeat, at: usize, control: u64)
+    requires own { IsSeatOf seat.old.table_id table.now.shared.table_id at }
+    requires fits { control + 4 < 2 ^ 64 }
+    requires alone { HasOne (setup_of table.now.shared.key) seat.old.me }
+    requires ready { let T = setup_of table.now.shared.key in CanOffer T (mine T seat.old.me) at control }
+    ensures own { (seat.new.table_id ≡ seat.old.table_id) × (seat.new.id ≡ seat.old.id) }
+    ensures stored { let T = setup_of table.now.shared.key in
+        Stored T kind.Commit at (control + 4) (offers (mine T seat.old.me) at) seat.old.me seat.new.me }
+{
+    store::<Record, Plan, ByRuns, Brand, _>(table, seat, at, control + 4, &());
+}
+
+/// Takes the offer at a channel without a buffer. Its sender acknowledges that later.
+pub fn commit_meet(table: &RunTable, seat: &mut RunSeat, at: usize, control: u64)
+    requires own { IsSeatOf seat.old.table_id table.now.shared.table_id at }
+    requires fits { control + 4 < 2 ^ 64 }
+    requires alone { HasOne (setup_of table.now.shared.key) seat.old.me }
+    requires ready { let T = setup_of table.now.shared.key in CanMeet T (mine T seat.old.me) at control }
+    ensures own { (seat.new.table_id ≡ seat.old.table_id) × (seat.new.id ≡ seat.old.id) }
+    ensures stored { let T = setup_of table.now.shared.key in let c = mine T seat.old.me in
+        Stored T kind.Commit at (control + 4) (committing T.code c (value_by c.side.hold)) seat.old.me seat.new.me }
+    ensures points { let T = setup_of table.now.shared.key in let c = mine T seat.old.me in
+        Points T (given_type T c) (value_by c.side.hold) }
+{
+    store::<Record, Plan, ByRuns, Brand, _>(table, seat, at, control + 4, &());
+}
+
+/// Acknowledges that the goroutine's own offer was taken: the channel has no offer then, and the goroutine leaves its send.
+pub fn commit_acknowledge(table: &RunTable, seat: &mut RunSeat, at: usize, control: u64)
+    requires own { IsSeatOf seat.old.table_id table.now.shared.table_id at }
+    requires alone { HasOne (setup_of table.now.shared.key) seat.old.me }
+    requires ready { let T = setup_of table.now.shared.key in CanAcknowledge T (mine T seat.old.me) at control }
+    ensures own { (seat.new.table_id ≡ seat.old.table_id) × (seat.new.id ≡ seat.old.id) }
+    ensures stored { let T = setup_of table.now.shared.key in
+        Stored T kind.Commit at (control - 8) (acknowledging T.code (mine T seat.old.me)) seat.old.me seat.new.me }
+{
+    store::<Record, Plan, ByRuns, Brand, _>(table, seat, at, control - 8, &());
+}

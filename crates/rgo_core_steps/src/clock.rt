@@ -1,0 +1,79 @@
+//! The clock, word 0 of a table: prints draw their tickets from its low 63 bits, and bit 63 says that the run has ended.
+//!
+//! 1. A goroutine that prints finishes the piece, then adds 1: the number found is its ticket. No other access gives a piece its
+//!    place, so that no two pieces have one ticket.
+//! 2. A goroutine that ends the run sets bit 63. Who found it clear has ended the run; all later ones change nothing.
+//! 3. A ticket that was drawn after that is void: its piece is not part of the print.
+//!
+//! `behind` is how many local steps the goroutine has made since its last access. The code does not use it.
+ghost use Rattle.std.specs.Prelude.{◌≡◌, ◌≤◌, ◌<◌, ◌+◌, ◌%◌, ◌^◌, ℕ, bit_or, true};
+ghost use mathlib.Core.Logic.{◌↔◌};
+ghost use Rattle.rgo_core.specs.Plans.{setup_of};
+ghost use Rattle.rgo_core_memory.specs.Words.{clock_at};
+ghost use Rattle.rgo_core_rule.specs.Views.{number_of};
+ghost use Rattle.rgo_core_rule.specs.declared.accesses.Kind.TheVariants as kind;
+ghost use Rattle.rgo_core_steps.specs.After.{piece as piece_of, printing};
+ghost use Rattle.rgo_core_steps.specs.Ends.{Ends, ending, mark_of};
+ghost use Rattle.rgo_core_steps.specs.Prints.{IsAtPrint};
+ghost use Rattle.rgo_core_steps.specs.Seats.{HasOne, IsSeatOf, Left, Settles, settled};
+
+use rgo_core::records::Record;
+use rgo_core::table::{ByRuns, Plan, RunSeat, RunTable};
+use rgo_core_rule::steps::{fetch_add, fetch_or};
+use rgo_machine::End;
+use rgo_region_machine::Limit;
+use std::marker::Brand;
+
+/// What a print has drawn: the place of its piece among all pieces.
+#[derive(Clone, Copy, Debug, PartialEq, Eq)]
+pub struct Drawn {
+    pub ticket: u64,
+    /// The run had ended before: the piece is not part of its print.
+    pub is_void: bool,
+}
+
+/// How a run ends.
+#[derive(Clone, Copy, Debug, PartialEq, Eq)]
+pub enum Mark {
+    /// An instruction ended it.
+    Ended(End),
+    /// It met a limit.
+    Stopped(Limit),
+}
+
+/// Draws a ticket for the next instruction, which is a print. The caller has finished the piece: all its bytes are there.
+pub fn ticket(table: &RunTable, seat: &mut RunSeat, behind: u64, piece: &[u8]) -> Drawn
+    requires own { IsSeatOf seat.old.table_id table.now.shared.table_id clock_at }
+    requires alone { HasOne (setup_of table.now.shared.key) seat.old.me }
+    requires settles { Settles (setup_of table.now.shared.key) behind seat.old.me }
+    requires print { IsAtPrint (setup_of table.now.shared.key) (settled (setup_of table.now.shared.key) behind seat.old.me) }
+    requires piece { piece.now ≡ piece_of (setup_of table.now.shared.key).code
+        (settled (setup_of table.now.shared.key) behind seat.old.me) }
+    ensures own { (seat.new.table_id ≡ seat.old.table_id) × (seat.new.id ≡ seat.old.id) }
+    ensures drawn { (n : ℕ) × (result.ticket ≡ n % 2 ^ 63) × ((result.is_void ≡ true) ↔ (2 ^ 63 ≤ n))
+        × Left (setup_of table.now.shared.key) kind.DrawTicket clock_at (λ n. (n + 1) % 2 ^ 64)
+        (λ n d. d ≡ printing (setup_of table.now.shared.key).code (settled (setup_of table.now.shared.key) behind seat.old.me) n)
+        seat.old.me n seat.new.me }
+{
+    let found = fetch_add::<Record, Plan, ByRuns, Brand, _>(table, seat, 0, 1, &(piece, behind));
+    Drawn {
+        ticket: found % (1 << 63),
+        is_void: found >= 1 << 63,
+    }
+}
+
+/// Sets the end mark, for which the record of the goroutine shows the cause. Returns whether this has ended the run.
+pub fn finish(table: &RunTable, seat: &mut RunSeat, behind: u64, mark: Mark) -> bool
+    requires own { IsSeatOf seat.old.table_id table.now.shared.table_id clock_at }
+    requires alone { HasOne (setup_of table.now.shared.key) seat.old.me }
+    requires settles { Settles (setup_of table.now.shared.key) behind seat.old.me }
+    requires cause { Ends (setup_of table.now.shared.key) (number_of seat.old.me)
+        (settled (setup_of table.now.shared.key) behind seat.old.me) (mark_of mark) }
+    ensures own { (seat.new.table_id ≡ seat.old.table_id) × (seat.new.id ≡ seat.old.id) }
+    ensures ended { (n : ℕ) × ((result ≡ true) ↔ (n < 2 ^ 63))
+        × Left (setup_of table.now.shared.key) kind.EndRun clock_at (λ n. bit_or n (2 ^ 63))
+        (λ n d. d ≡ ending (setup_of table.now.shared.key).code (settled (setup_of table.now.shared.key) behind seat.old.me) n
+        (mark_of mark)) seat.old.me n seat.new.me }
+{
+    fetch_or::<Record, Plan, ByRuns, Brand, _>(table, seat, 0, 1 << 63, &(mark, behind)) < 1 << 63
+}

@@ -1,0 +1,10 @@
+//! What records say of new objects, of counts and of searches, by examples. The calls of [`crate::memory`], [`crate::pages`] and
+//! [`crate::counts`], and those of several accesses above them, cite the definitions.
+ghost use Rattle.rgo_core_steps.specs.MemoryExamples.{CountExamples, MakingExamples, SearchExamples};
+
+/// Where each definition holds and where it does not.
+pub fn examples()
+    ensures making { MakingExamples }
+    ensures counts { CountExamples }
+    ensures searches { SearchExamples }
+{}
