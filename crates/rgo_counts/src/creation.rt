@@ -1,0 +1,186 @@
+//! A region is created: a search for a slot whose count is 0.
+//!
+//! 1. Looks, which change nothing and show nothing, find the slot at which to begin: the first that looks free.
+//! 2. From there on once around, the count of each slot is exchanged, 2 for 0, until a count is found 0. That slot is the region's.
+//! 3. If none is found 0, each count was found in use by an exchange of this call, and the record remembers each slot.
+ghost use Rattle.std.specs.Prelude.{◌≡◌, ◌<◌, ◌≤◌, ◌+◌, ◌*◌, ◌-◌, ◌≢◌, ℕ, IfErr, IfOk, IfSome};
+ghost use Rattle.rgo_core.specs.Opening.{first_of};
+ghost use Rattle.rgo_core.specs.Plans.{setup_of};
+ghost use Rattle.rgo_core_channels.specs.Records.{at_rest};
+ghost use Rattle.rgo_core_steps.specs.Counts.{IsCreating};
+ghost use Rattle.rgo_core_steps.specs.Layouts.{HasLayout};
+ghost use Rattle.rgo_core_steps.specs.Seats.{HasOne, Settles, mine, settled};
+ghost use Rattle.rgo_counts.specs.Creation.{AllSlotsTried, FullLaw, SlotOrNone, SlotTaken, SlotsTried};
+
+use rgo_core::table::{RunSeat, RunTable};
+use rgo_core_memory::layout::TableSizes;
+use rgo_core_steps::counting::Steps;
+use rgo_core_steps::counts;
+use std::sync::ledger::Ledger;
+
+/// No slot is free.
+#[derive(Clone, Copy, Debug, PartialEq, Eq)]
+pub struct NoSlot;
+
+/// Creates the region of the first duty, and returns its slot. The search begins at slot 0.
+pub fn create<L: Ledger>(
+    table: &RunTable,
+    seat: &mut RunSeat,
+    behind: u64,
+    sizes: &TableSizes,
+    steps: &mut Steps<L>,
+) -> Result<u32, NoSlot>
+    requires own { seat.old.table_id ≡ table.now.shared.table_id }
+    requires layout { HasLayout (setup_of table.now.shared.key) sizes.now table.now.shared.table_id }
+    requires alone { HasOne (setup_of table.now.shared.key) seat.old.me }
+    requires settles { Settles (setup_of table.now.shared.key) behind seat.old.me }
+    requires rests { (settled (setup_of table.now.shared.key) behind seat.old.me).side ≡ at_rest }
+    requires creates { IsCreating (settled (setup_of table.now.shared.key) behind seat.old.me) }
+    requires some { 0 < sizes.now.slots }
+    ensures own { (seat.new.table_id ≡ seat.old.table_id) × (seat.new.id ≡ seat.old.id) }
+    ensures created { let T = setup_of table.now.shared.key in IfOk result (λ slot.
+        SlotTaken T sizes.now (settled T behind seat.old.me) slot seat.old.me seat.new.me) }
+    ensures full { let T = setup_of table.now.shared.key in IfErr result (λ e.
+        AllSlotsTried T sizes.now (settled T behind seat.old.me) seat.old.me seat.new.me) }
+    ensures cost { steps.new ≤ steps.old + 2 * sizes.now.slots }
+{
+    create_from(table, seat, behind, sizes, 0, steps)
+}
+
+/// The same, where the looks begin at slot `from`.
+pub fn create_from<L: Ledger>(
+    table: &RunTable,
+    seat: &mut RunSeat,
+    behind: u64,
+    sizes: &TableSizes,
+    from: u32,
+    steps: &mut Steps<L>,
+) -> Result<u32, NoSlot>
+    requires own { seat.old.table_id ≡ table.now.shared.table_id }
+    requires layout { HasLayout (setup_of table.now.shared.key) sizes.now table.now.shared.table_id }
+    requires alone { HasOne (setup_of table.now.shared.key) seat.old.me }
+    requires settles { Settles (setup_of table.now.shared.key) behind seat.old.me }
+    requires rests { (settled (setup_of table.now.shared.key) behind seat.old.me).side ≡ at_rest }
+    requires creates { IsCreating (settled (setup_of table.now.shared.key) behind seat.old.me) }
+    requires from { from < sizes.now.slots }
+    ensures own { (seat.new.table_id ≡ seat.old.table_id) × (seat.new.id ≡ seat.old.id) }
+    ensures created { let T = setup_of table.now.shared.key in IfOk result (λ slot.
+        SlotTaken T sizes.now (settled T behind seat.old.me) slot seat.old.me seat.new.me) }
+    ensures full { let T = setup_of table.now.shared.key in IfErr result (λ e.
+        AllSlotsTried T sizes.now (settled T behind seat.old.me) seat.old.me seat.new.me) }
+    ensures cost { steps.new ≤ steps.old + 2 * sizes.now.slots }
+{
+    match take(table, seat, behind, sizes, from as usize, steps) {
+        Some(slot) => Ok(slot as u32),
+        None => Err(NoSlot),
+    }
+}
+
+/// What a search in vain shows: each slot was found in use at an exchange of the call.
+pub fn full_law()
+    ensures { FullLaw }
+{}
+
+/// Takes a free slot, if there is one.
+fn take<L: Ledger>(
+    table: &RunTable,
+    seat: &mut RunSeat,
+    behind: u64,
+    sizes: &TableSizes,
+    from: usize,
+    steps: &mut Steps<L>,
+) -> Option<usize>
+    requires own { seat.old.table_id ≡ table.now.shared.table_id }
+    requires layout { HasLayout (setup_of table.now.shared.key) sizes.now table.now.shared.table_id }
+    requires alone { HasOne (setup_of table.now.shared.key) seat.old.me }
+    requires settles { Settles (setup_of table.now.shared.key) behind seat.old.me }
+    requires rests { (settled (setup_of table.now.shared.key) behind seat.old.me).side ≡ at_rest }
+    requires creates { IsCreating (settled (setup_of table.now.shared.key) behind seat.old.me) }
+    requires from { from < sizes.now.slots }
+    ensures own { (seat.new.table_id ≡ seat.old.table_id) × (seat.new.id ≡ seat.old.id) }
+    ensures taken { let T = setup_of table.now.shared.key in
+        SlotOrNone T sizes.now (settled T behind seat.old.me) result seat.old.me seat.new.me }
+    ensures cost { steps.new ≤ steps.old + 2 * sizes.now.slots }
+{
+    let start = beginning(table, sizes, from, steps);
+    steps.tick();
+    if counts::create(table, seat, behind, sizes, start) == 0 {
+        return Some(start);
+    }
+    match try_slots(table, seat, sizes, start + 1, sizes.slots, steps) {
+        Some(slot) => Some(slot),
+        None => try_slots(table, seat, sizes, 0, start, steps),
+    }
+}
+
+/// Where the exchanges begin: at the first slot that looks free, from `from` on once around; if none does, at `from`.
+fn beginning<L: Ledger>(
+    table: &RunTable,
+    sizes: &TableSizes,
+    from: usize,
+    steps: &mut Steps<L>,
+) -> usize
+    requires layout { HasLayout (setup_of table.now.shared.key) sizes.now table.now.shared.table_id }
+    requires from { from < sizes.now.slots }
+    ensures inside { result < sizes.now.slots }
+    ensures cost { steps.new ≤ steps.old + sizes.now.slots }
+{
+    if let Some(slot) = look(table, sizes, from, sizes.slots, steps) {
+        return slot;
+    }
+    match look(table, sizes, 0, from, steps) {
+        Some(slot) => slot,
+        None => from,
+    }
+}
+
+/// The first slot from `first` to `end` that looks free.
+fn look<L: Ledger>(
+    table: &RunTable,
+    sizes: &TableSizes,
+    first: usize,
+    end: usize,
+    steps: &mut Steps<L>,
+) -> Option<usize>
+    requires layout { HasLayout (setup_of table.now.shared.key) sizes.now table.now.shared.table_id }
+    requires ends { (first ≤ end) × (end ≤ sizes.now.slots) }
+    ensures inside { IfSome result (λ slot. slot < sizes.now.slots) }
+    ensures cost { steps.new ≤ steps.old + (end - first) }
+{
+    for slot in first..end {
+        steps.tick();
+        if counts::looks_free(table, sizes, slot) {
+            return Some(slot);
+        }
+    }
+    None
+}
+
+/// Exchanges the counts of the slots from `first` to `end` in turn, until one is found 0.
+fn try_slots<L: Ledger>(
+    table: &RunTable,
+    seat: &mut RunSeat,
+    sizes: &TableSizes,
+    first: usize,
+    end: usize,
+    steps: &mut Steps<L>,
+) -> Option<usize>
+    requires own { seat.old.table_id ≡ table.now.shared.table_id }
+    requires layout { HasLayout (setup_of table.now.shared.key) sizes.now table.now.shared.table_id }
+    requires alone { HasOne (setup_of table.now.shared.key) seat.old.me }
+    requires rests { (mine (setup_of table.now.shared.key) seat.old.me).side ≡ at_rest }
+    requires creates { IsCreating (mine (setup_of table.now.shared.key) seat.old.me) }
+    requires ends { (first ≤ end) × (end ≤ sizes.now.slots) }
+    ensures own { (seat.new.table_id ≡ seat.old.table_id) × (seat.new.id ≡ seat.old.id) }
+    ensures tried { let T = setup_of table.now.shared.key in
+        SlotsTried T sizes.now first end (mine T seat.old.me) result seat.old.me seat.new.me }
+    ensures cost { steps.new ≤ steps.old + (end - first) }
+{
+    for slot in first..end {
+        steps.tick();
+        if counts::create(table, seat, 0, sizes, slot) == 0 {
+            return Some(slot);
+        }
+    }
+    None
+}

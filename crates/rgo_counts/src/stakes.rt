@@ -1,0 +1,103 @@
+//! Stakes in regions, each by one access.
+ghost use Rattle.std.specs.Prelude.{◌≡◌, ◌<◌, ◌+◌, ◌-◌, ◌%◌, ◌^◌, ℕ};
+ghost use mathlib.Core.Logic.{◌↔◌};
+ghost use Rattle.rgo_core.specs.Chains.{remembers};
+ghost use Rattle.rgo_core.specs.Plans.{setup_of};
+ghost use Rattle.rgo_core_channels.specs.Records.{at_rest};
+ghost use Rattle.rgo_core_memory.specs.Records.{Calm, Gave, with_give};
+ghost use Rattle.rgo_core_memory.specs.Words.{count_at};
+ghost use Rattle.rgo_core_rule.specs.declared.accesses.Kind.TheVariants as kind;
+ghost use Rattle.rgo_core_steps.specs.Counts.{IsLeaving, IsSharing, Leaving, shared};
+ghost use Rattle.rgo_core_steps.specs.Layouts.{HasLayout};
+ghost use Rattle.rgo_core_steps.specs.Seats.{HasOne, Left as HasLeft, Settles, Stored, mine, settled};
+ghost use Rattle.rgo_counts.specs.declared.stakes.Left.TheVariants.{Last};
+
+use rgo_core::table::{RunSeat, RunTable};
+use rgo_core_memory::layout::TableSizes;
+use rgo_core_steps::counting::Steps;
+use rgo_core_steps::counts;
+use std::sync::ledger::Ledger;
+
+/// Who has a stake in a region after a goroutine has left it.
+#[derive(Clone, Copy, Debug, PartialEq, Eq)]
+pub enum Left {
+    /// At least one goroutine has.
+    Others,
+    /// None has. The goroutine is to give the pages back, and then to free the slot.
+    Last,
+}
+
+/// Takes the stake of a goroutine that is about to start: the first duty.
+pub fn share<L: Ledger>(
+    table: &RunTable,
+    seat: &mut RunSeat,
+    behind: u64,
+    sizes: &TableSizes,
+    slot: u32,
+    steps: &mut Steps<L>,
+)
+    requires own { seat.old.table_id ≡ table.now.shared.table_id }
+    requires layout { HasLayout (setup_of table.now.shared.key) sizes.now table.now.shared.table_id }
+    requires alone { HasOne (setup_of table.now.shared.key) seat.old.me }
+    requires settles { Settles (setup_of table.now.shared.key) behind seat.old.me }
+    requires rests { (settled (setup_of table.now.shared.key) behind seat.old.me).side ≡ at_rest }
+    requires slot { slot < sizes.now.slots }
+    requires shares { IsSharing (settled (setup_of table.now.shared.key) behind seat.old.me) slot }
+    ensures own { (seat.new.table_id ≡ seat.old.table_id) × (seat.new.id ≡ seat.old.id) }
+    ensures leaves { let T = setup_of table.now.shared.key in (n : ℕ)
+        × HasLeft T kind.ShareRegion (count_at sizes.now slot) (λ n. (n + 1) % 2 ^ 64)
+        (λ n d. d ≡ shared (settled T behind seat.old.me)) seat.old.me n seat.new.me }
+    ensures cost { steps.new ≡ steps.old + 1 }
+{
+    steps.tick();
+    counts::share(table, seat, behind, sizes, slot as usize);
+}
+
+/// Ends a stake of the goroutine: the first duty. `Last` comes exactly where the count was found to be 2.
+pub fn leave<L: Ledger>(
+    table: &RunTable,
+    seat: &mut RunSeat,
+    behind: u64,
+    sizes: &TableSizes,
+    slot: u32,
+    steps: &mut Steps<L>,
+) -> Left
+    requires own { seat.old.table_id ≡ table.now.shared.table_id }
+    requires layout { HasLayout (setup_of table.now.shared.key) sizes.now table.now.shared.table_id }
+    requires alone { HasOne (setup_of table.now.shared.key) seat.old.me }
+    requires settles { Settles (setup_of table.now.shared.key) behind seat.old.me }
+    requires rests { (settled (setup_of table.now.shared.key) behind seat.old.me).side ≡ at_rest }
+    requires slot { slot < sizes.now.slots }
+    requires leaves { IsLeaving (settled (setup_of table.now.shared.key) behind seat.old.me) slot }
+    ensures own { (seat.new.table_id ≡ seat.old.table_id) × (seat.new.id ≡ seat.old.id) }
+    ensures leaves { let T = setup_of table.now.shared.key in (n : ℕ) × ((result ≡ Last) ↔ (n ≡ 2))
+        × HasLeft T kind.LeaveRegion (count_at sizes.now slot) (λ n. (n + (2 ^ 64 - 1)) % 2 ^ 64)
+        (Leaving (settled T behind seat.old.me) slot) seat.old.me n seat.new.me }
+    ensures cost { steps.new ≡ steps.old + 1 }
+{
+    steps.tick();
+    let found = counts::leave(table, seat, behind, sizes, slot as usize);
+    if found == 2 { Left::Last } else { Left::Others }
+}
+
+/// Frees the slot of a region whose pages were given back.
+pub fn free_slot<L: Ledger>(
+    table: &RunTable,
+    seat: &mut RunSeat,
+    sizes: &TableSizes,
+    slot: u32,
+    steps: &mut Steps<L>,
+)
+    requires own { seat.old.table_id ≡ table.now.shared.table_id }
+    requires layout { HasLayout (setup_of table.now.shared.key) sizes.now table.now.shared.table_id }
+    requires alone { HasOne (setup_of table.now.shared.key) seat.old.me }
+    requires slot { slot < sizes.now.slots }
+    requires gave { (mine (setup_of table.now.shared.key) seat.old.me).memory.give ≡ Gave slot }
+    ensures own { (seat.new.table_id ≡ seat.old.table_id) × (seat.new.id ≡ seat.old.id) }
+    ensures leaves { let T = setup_of table.now.shared.key in Stored T kind.FreeSlot (count_at sizes.now slot) 0
+        (remembers (mine T seat.old.me) (with_give (mine T seat.old.me).memory Calm)) seat.old.me seat.new.me }
+    ensures cost { steps.new ≡ steps.old + 1 }
+{
+    steps.tick();
+    counts::free_slot(table, seat, sizes, slot as usize);
+}
