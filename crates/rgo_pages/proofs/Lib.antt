@@ -1,0 +1,5 @@
+pub mod Trying
+pub mod Chaining
+pub mod Moments
+pub mod Vain
+pub mod Examples

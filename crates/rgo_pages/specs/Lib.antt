@@ -1,0 +1,4 @@
+pub mod Claiming
+pub mod Releasing
+pub mod Laws
+pub mod Examples

@@ -1,0 +1,231 @@
+//! A page is claimed: a search for a page whose state is 0, and two accesses that put it on the chain of its slot.
+//!
+//! 1. Looks, which change nothing and show nothing, find the page at which to begin: the first that looks free.
+//! 2. From there on once around, the state of each page is exchanged, the slot plus 1 for 0, until a state is found 0.
+//! 3. That page is swapped in as the head of the chain, and the head found becomes its next word.
+//! 4. If no state is found 0, each page was found in use by an exchange of this call, and the record remembers each page.
+ghost use Rattle.std.specs.Prelude.{◌≡◌, ◌<◌, ◌≤◌, ◌+◌, ◌*◌, ◌-◌, ℕ, IfErr, IfOk, IfSome};
+ghost use Rattle.rgo_core.specs.Plans.{setup_of};
+ghost use Rattle.rgo_core_memory.specs.Records.{Got};
+ghost use Rattle.rgo_core_steps.specs.Layouts.{HasLayout};
+ghost use Rattle.rgo_core_steps.specs.Making.{IsCalm, NeedsPage};
+ghost use Rattle.rgo_core_steps.specs.Seats.{HasOne, Settles, mine, settled};
+ghost use Rattle.rgo_pages.specs.Claiming.{AllPagesTried, FullLaw, Hooked, PageClaimed, PageOrNone, PagesTried};
+
+use rgo_core::table::{RunSeat, RunTable};
+use rgo_core_memory::layout::TableSizes;
+use rgo_core_steps::counting::Steps;
+use rgo_core_steps::pages;
+use std::sync::ledger::Ledger;
+
+/// No page is free.
+#[derive(Clone, Copy, Debug, PartialEq, Eq)]
+pub struct NoPage;
+
+/// Claims a page for the slot of the region in which the next instruction makes an object. The search begins at page 0.
+pub fn claim<L: Ledger>(
+    table: &RunTable,
+    seat: &mut RunSeat,
+    behind: u64,
+    sizes: &TableSizes,
+    slot: u32,
+    steps: &mut Steps<L>,
+) -> Result<u32, NoPage>
+    requires own { seat.old.table_id ≡ table.now.shared.table_id }
+    requires layout { HasLayout (setup_of table.now.shared.key) sizes.now table.now.shared.table_id }
+    requires alone { HasOne (setup_of table.now.shared.key) seat.old.me }
+    requires settles { Settles (setup_of table.now.shared.key) behind seat.old.me }
+    requires slot { slot ≤ sizes.now.slots }
+    requires some { 0 < sizes.now.pages }
+    requires calm { IsCalm (settled (setup_of table.now.shared.key) behind seat.old.me) }
+    requires needs { let T = setup_of table.now.shared.key in NeedsPage T (settled T behind seat.old.me) slot }
+    ensures own { (seat.new.table_id ≡ seat.old.table_id) × (seat.new.id ≡ seat.old.id) }
+    ensures claimed { let T = setup_of table.now.shared.key in IfOk result (λ page.
+        PageClaimed T sizes.now slot (settled T behind seat.old.me) page seat.old.me seat.new.me) }
+    ensures full { let T = setup_of table.now.shared.key in IfErr result (λ e.
+        AllPagesTried T sizes.now (settled T behind seat.old.me) seat.old.me seat.new.me) }
+    ensures cost { steps.new ≤ steps.old + (2 * sizes.now.pages + 2) }
+{
+    claim_from(table, seat, behind, sizes, slot, 0, steps)
+}
+
+/// The same, where the looks begin at page `from`.
+pub fn claim_from<L: Ledger>(
+    table: &RunTable,
+    seat: &mut RunSeat,
+    behind: u64,
+    sizes: &TableSizes,
+    slot: u32,
+    from: u32,
+    steps: &mut Steps<L>,
+) -> Result<u32, NoPage>
+    requires own { seat.old.table_id ≡ table.now.shared.table_id }
+    requires layout { HasLayout (setup_of table.now.shared.key) sizes.now table.now.shared.table_id }
+    requires alone { HasOne (setup_of table.now.shared.key) seat.old.me }
+    requires settles { Settles (setup_of table.now.shared.key) behind seat.old.me }
+    requires slot { slot ≤ sizes.now.slots }
+    requires from { from < sizes.now.pages }
+    requires calm { IsCalm (settled (setup_of table.now.shared.key) behind seat.old.me) }
+    requires needs { let T = setup_of table.now.shared.key in NeedsPage T (settled T behind seat.old.me) slot }
+    ensures own { (seat.new.table_id ≡ seat.old.table_id) × (seat.new.id ≡ seat.old.id) }
+    ensures claimed { let T = setup_of table.now.shared.key in IfOk result (λ page.
+        PageClaimed T sizes.now slot (settled T behind seat.old.me) page seat.old.me seat.new.me) }
+    ensures full { let T = setup_of table.now.shared.key in IfErr result (λ e.
+        AllPagesTried T sizes.now (settled T behind seat.old.me) seat.old.me seat.new.me) }
+    ensures cost { steps.new ≤ steps.old + (2 * sizes.now.pages + 2) }
+{
+    match take(
+        table,
+        seat,
+        behind,
+        sizes,
+        slot as usize,
+        from as usize,
+        steps,
+    ) {
+        Some(page) => {
+            hook(table, seat, sizes, page, slot as usize, steps);
+            Ok(page as u32)
+        },
+        None => Err(NoPage),
+    }
+}
+
+/// What a search in vain shows: each page was found in use at an exchange of the call.
+pub fn full_law()
+    ensures { FullLaw }
+{}
+
+/// Puts a page that was taken at the head of the chain of its slot.
+fn hook<L: Ledger>(
+    table: &RunTable,
+    seat: &mut RunSeat,
+    sizes: &TableSizes,
+    page: usize,
+    slot: usize,
+    steps: &mut Steps<L>,
+)
+    requires own { seat.old.table_id ≡ table.now.shared.table_id }
+    requires layout { HasLayout (setup_of table.now.shared.key) sizes.now table.now.shared.table_id }
+    requires alone { HasOne (setup_of table.now.shared.key) seat.old.me }
+    requires page { page < sizes.now.pages }
+    requires slot { slot ≤ sizes.now.slots }
+    requires got { (mine (setup_of table.now.shared.key) seat.old.me).memory.claim ≡ Got page slot }
+    ensures own { (seat.new.table_id ≡ seat.old.table_id) × (seat.new.id ≡ seat.old.id) }
+    ensures hooked { let T = setup_of table.now.shared.key in
+        Hooked T sizes.now (mine T seat.old.me) page slot seat.old.me seat.new.me }
+    ensures cost { steps.new ≡ steps.old + 2 }
+{
+    steps.tick();
+    let head = pages::hang(table, seat, sizes, page, slot);
+    steps.tick();
+    pages::link(table, seat, sizes, page, slot, head);
+}
+
+/// Takes a free page, if there is one.
+fn take<L: Ledger>(
+    table: &RunTable,
+    seat: &mut RunSeat,
+    behind: u64,
+    sizes: &TableSizes,
+    slot: usize,
+    from: usize,
+    steps: &mut Steps<L>,
+) -> Option<usize>
+    requires own { seat.old.table_id ≡ table.now.shared.table_id }
+    requires layout { HasLayout (setup_of table.now.shared.key) sizes.now table.now.shared.table_id }
+    requires alone { HasOne (setup_of table.now.shared.key) seat.old.me }
+    requires settles { Settles (setup_of table.now.shared.key) behind seat.old.me }
+    requires slot { slot ≤ sizes.now.slots }
+    requires from { from < sizes.now.pages }
+    requires calm { IsCalm (settled (setup_of table.now.shared.key) behind seat.old.me) }
+    requires needs { let T = setup_of table.now.shared.key in NeedsPage T (settled T behind seat.old.me) slot }
+    ensures own { (seat.new.table_id ≡ seat.old.table_id) × (seat.new.id ≡ seat.old.id) }
+    ensures taken { let T = setup_of table.now.shared.key in
+        PageOrNone T sizes.now slot (settled T behind seat.old.me) result seat.old.me seat.new.me }
+    ensures cost { steps.new ≤ steps.old + 2 * sizes.now.pages }
+{
+    let start = beginning(table, sizes, from, steps);
+    steps.tick();
+    if pages::claim(table, seat, behind, sizes, start, slot) == 0 {
+        return Some(start);
+    }
+    match try_pages(table, seat, sizes, slot, start + 1, sizes.pages, steps) {
+        Some(page) => Some(page),
+        None => try_pages(table, seat, sizes, slot, 0, start, steps),
+    }
+}
+
+/// Where the exchanges begin: at the first page that looks free, from `from` on once around; if none does, at `from`.
+fn beginning<L: Ledger>(
+    table: &RunTable,
+    sizes: &TableSizes,
+    from: usize,
+    steps: &mut Steps<L>,
+) -> usize
+    requires layout { HasLayout (setup_of table.now.shared.key) sizes.now table.now.shared.table_id }
+    requires from { from < sizes.now.pages }
+    ensures inside { result < sizes.now.pages }
+    ensures cost { steps.new ≤ steps.old + sizes.now.pages }
+{
+    if let Some(page) = look(table, sizes, from, sizes.pages, steps) {
+        return page;
+    }
+    match look(table, sizes, 0, from, steps) {
+        Some(page) => page,
+        None => from,
+    }
+}
+
+/// The first page from `first` to `end` that looks free.
+fn look<L: Ledger>(
+    table: &RunTable,
+    sizes: &TableSizes,
+    first: usize,
+    end: usize,
+    steps: &mut Steps<L>,
+) -> Option<usize>
+    requires layout { HasLayout (setup_of table.now.shared.key) sizes.now table.now.shared.table_id }
+    requires ends { (first ≤ end) × (end ≤ sizes.now.pages) }
+    ensures inside { IfSome result (λ page. page < sizes.now.pages) }
+    ensures cost { steps.new ≤ steps.old + (end - first) }
+{
+    for page in first..end {
+        steps.tick();
+        if pages::looks_free(table, sizes, page) {
+            return Some(page);
+        }
+    }
+    None
+}
+
+/// Exchanges the states of the pages from `first` to `end` in turn, until one is found 0.
+fn try_pages<L: Ledger>(
+    table: &RunTable,
+    seat: &mut RunSeat,
+    sizes: &TableSizes,
+    slot: usize,
+    first: usize,
+    end: usize,
+    steps: &mut Steps<L>,
+) -> Option<usize>
+    requires own { seat.old.table_id ≡ table.now.shared.table_id }
+    requires layout { HasLayout (setup_of table.now.shared.key) sizes.now table.now.shared.table_id }
+    requires alone { HasOne (setup_of table.now.shared.key) seat.old.me }
+    requires slot { slot ≤ sizes.now.slots }
+    requires calm { IsCalm (mine (setup_of table.now.shared.key) seat.old.me) }
+    requires needs { let T = setup_of table.now.shared.key in NeedsPage T (mine T seat.old.me) slot }
+    requires ends { (first ≤ end) × (end ≤ sizes.now.pages) }
+    ensures own { (seat.new.table_id ≡ seat.old.table_id) × (seat.new.id ≡ seat.old.id) }
+    ensures tried { let T = setup_of table.now.shared.key in
+        PagesTried T sizes.now slot first end (mine T seat.old.me) result seat.old.me seat.new.me }
+    ensures cost { steps.new ≤ steps.old + (end - first) }
+{
+    for page in first..end {
+        steps.tick();
+        if pages::claim(table, seat, 0, sizes, page, slot) == 0 {
+            return Some(page);
+        }
+    }
+    None
+}

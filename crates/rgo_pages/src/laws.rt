@@ -1,0 +1,18 @@
+//! Who gives the pages of a region back, and when.
+//!
+//! A page changes its owner by two accesses alone. `claim` exchanges its state from 0, so that no page is claimed that is claimed for
+//! a region already; and `free` stores 0. A goroutine may free a page only while its record says that it gives back the chain of a
+//! slot. The record comes to say so by `leave` where that found the last stake, and by no other access; it stops with `free_slot`.
+ghost use Rattle.rgo_pages.specs.Examples.{PageExamples};
+ghost use Rattle.rgo_pages.specs.Laws.{ReleaseLaw};
+
+/// Pages of a region with a stake are not freed, and those of a region without one are freed by one goroutine, before its slot is
+/// free.
+pub fn release_law()
+    ensures { ReleaseLaw }
+{}
+
+/// Where each definition holds and where it does not.
+pub fn examples()
+    ensures { PageExamples }
+{}
