@@ -1,0 +1,10 @@
+pub mod Carrying
+pub mod Cells
+pub mod Looking
+pub mod UnderLock
+pub mod Answering
+pub mod Reading
+pub mod Closing
+pub mod Waiting
+pub mod Again
+pub mod Examples

@@ -1,0 +1,205 @@
+-- What is done under the lock: a cell is loaded or stored, and the operation takes effect.
+use Rattle.std.proofs.Common.{◌≡◌, ℕ, ◌+◌, ◌-◌, ◌%◌, ◌<◌, [], ◌∷◌, refl, ap, sym, subst, ◌∙◌}
+use Rattle.rgo_core_channels.specs.Controls.{closed_of, control, count_of, extent, head_of}
+use Rattle.rgo_core_channels.specs.Records.{Read, Rec as SideRec, Wrote, with_hold}
+use Rattle.rgo_core_rule.specs.Views.{Me}
+use Rattle.rgo_core_rule.specs.declared.accesses.Kind.TheVariants.{Commit, LoadCell, StoreCell}
+use Rattle.rgo_core.specs.AtChannels.{knows}
+use Rattle.rgo_core.specs.Bounds.{Points}
+use Rattle.rgo_core.specs.CommitMoves.{offers}
+use Rattle.rgo_core.specs.Core.{Setup}
+use Rattle.rgo_core.specs.Records.{Record}
+use Rattle.rgo_core_steps.specs.Accesses.{given_type}
+use Rattle.rgo_core_steps.specs.After.{committing}
+use Rattle.rgo_core_steps.specs.Calls.{Did, accessing}
+use Rattle.rgo_core_steps.specs.Channels.{CanLoadCell, CanMeet, CanOffer, CanReceive, CanSend, CanStoreCell, found_by, value_by}
+use Rattle.rgo_core_steps.specs.Seats.{Left, Stored, mine}
+use Rattle.rgo_core_steps.proofs.Calling.{did_as, did_one, did_then, left_record}
+use Rattle.rgo_chan.specs.Answers.{Holds, commits, loads_cell, stores_cell}
+use Rattle.rgo_chan.specs.Before.{ReceivesAt, SendsAt}
+use Rattle.rgo_chan.specs.Ready.{HasNoOffer, HasOffer, HasRoom, HasValue}
+use Rattle.rgo_chan.proofs.Carrying.{committed_as, committed_counts, receives_as, sends_as, type_as}
+use Rattle.rgo_chan.proofs.Cells.{next_spare, only_spare}
+
+module _ (T : Setup) (at size n : ℕ) where
+  -- ---- before the access to the cell
+
+  pub can_push : (c : Record) (cell : ℕ) → Holds at size n c.side → HasRoom size n → cell ≡ (head_of n + count_of n) % size
+      → CanStoreCell c at cell
+  can_push c cell held room is = record {
+    n = n;
+    size = size;
+    locked = held.0;
+    sized = held.1;
+    spare = subst (λ i. Rattle.rgo_core_channels.specs.Locking.IsSpare n size i) (sym is) (next_spare n size room.1);
+  }
+
+  pub can_load : (c : Record) (cell : ℕ) → Holds at size n c.side → cell < extent size → CanLoadCell c at cell
+  can_load c cell held within = record { n = n; size = size; locked = held.0; sized = held.1; within = within }
+
+  module _ (m v : Me Record) (held : Holds at size n (mine T m).side) where
+    abbrev c : Record
+    c = mine T m
+
+    -- ---- a cell was stored
+
+    module _ (cell value : ℕ) (here : SendsAt T c at value)
+        (a : Stored T StoreCell (at + 2 + cell) value (knows c (with_hold c.side (Wrote at (found_by c.side.hold) cell value))) m v) where
+      abbrev wrote : SideRec
+      wrote = with_hold c.side (Wrote at (found_by c.side.hold) cell value)
+
+      is_stored : mine T v ≡ knows c wrote
+      is_stored = left_record T m v a.1
+
+      abbrev still : SendsAt T (mine T v) at value
+      still = sends_as (mine T v) (ap (λ (d : Record). d.frame) is_stored) here
+
+      wrote_is : (mine T v).side.hold ≡ Wrote at n cell value
+      wrote_is = ap (λ (d : Record). d.side.hold) is_stored ∙ ap (λ k. Wrote at k cell value) (ap found_by held.0)
+
+      sized_is : (mine T v).side.size ≡ c.side.size
+      sized_is = ap (λ (d : Record). d.side.size) is_stored
+
+      pub can_send : cell ≡ (head_of n + count_of n) % size → HasRoom size n → CanSend T (mine T v) at n
+      can_send is room = record {
+        to = still.to;
+        sent = still.sent;
+        cell = cell;
+        size = size;
+        here = still.here;
+        wrote = wrote_is ∙ ap (Wrote at n cell) (sym still.word);
+        sized = sized_is ∙ held.1;
+        is_open = room.0;
+        room = room.1;
+        first = is;
+      }
+
+      pub pushed : (w : Me Record) (s t u : ℕ) → t ≡ s + 1 → u ≡ t + 1 → cell ≡ (head_of n + count_of n) % size
+          → Stored T Commit at (n + 4) (committing T.code (mine T v) 0) v w
+          → (x y : ℕ)
+          × Did T m s (λ g. stores_cell at ((head_of n + count_of n) % size) x value g ∷ commits at y (n + 4) g ∷ [])
+          (committing T.code (accessing 1 c) 0) w u
+      pushed w s t u one two is b = (
+        a.0,
+        b.0,
+        subst (λ i. Did T m s (λ g. stores_cell at i a.0 value g ∷ commits at b.0 (n + 4) g ∷ []) (committing T.code (accessing 1 c) 0) w u) is
+            (did_as T m w (committing T.code (mine T v) 0) (committing T.code (accessing 1 c) 0) s u
+            (ap (λ (d : Record). committing T.code d 0) is_stored ∙ committed_as here.here 1 wrote 0)
+            (did_then T m v w (knows c wrote) (committing T.code (mine T v) 0) s t u
+            (did_one T m v (knows c wrote) a.1 (λ q. q) refl s t one)
+            (did_one T v w (committing T.code (mine T v) 0) b.1 (λ q. q) (committed_counts still.here 0) t u two))),
+      )
+
+    -- ---- a cell was loaded
+
+    module _ (cell value : ℕ) (here : ReceivesAt T c at)
+        (a : Left T LoadCell (at + 2 + cell) (λ x. x)
+        (λ x d. d ≡ knows c (with_hold c.side (Read at (found_by c.side.hold) cell x))) m value v) where
+      abbrev read : SideRec
+      read = with_hold c.side (Read at (found_by c.side.hold) cell value)
+
+      is_loaded : mine T v ≡ knows c read
+      is_loaded = left_record T m v a
+
+      abbrev yet : ReceivesAt T (mine T v) at
+      yet = receives_as (mine T v) (ap (λ (d : Record). d.frame) is_loaded) here
+
+      read_is : (mine T v).side.hold ≡ Read at n cell value
+      read_is = ap (λ (d : Record). d.side.hold) is_loaded ∙ ap (λ k. Read at k cell value) (ap found_by held.0)
+
+      pub can_receive : cell ≡ head_of n → HasValue size n → CanReceive T (mine T v) at n size
+      can_receive is some = record {
+        to = yet.0;
+        cell = cell;
+        value = value;
+        here = yet.1;
+        read = read_is;
+        sized = ap (λ (d : Record). d.side.size) is_loaded ∙ held.1;
+        some = some.1;
+        buffer = some.0;
+        oldest = is;
+      }
+
+      -- the operation takes effect with the word that was loaded
+      pub received : (w : Me Record) (s t u : ℕ) → t ≡ s + 1 → u ≡ t + 1 → (x : ℕ) → Stored T Commit at x (committing T.code (mine T v) (value_by (mine T v).side.hold)) v w
+          → (y : ℕ) × Did T m s (λ g. loads_cell at cell value g ∷ commits at y x g ∷ []) (committing T.code (accessing 1 c) value) w u
+      received w s t u one two x b = (
+        b.0,
+        did_as T m w (committing T.code (mine T v) (value_by (mine T v).side.hold)) (committing T.code (accessing 1 c) value) s u
+            (ap (λ (d : Record). committing T.code d (value_by d.side.hold)) is_loaded ∙ committed_as here.1 1 read value)
+            (did_then T m v w (knows c read) (committing T.code (mine T v) (value_by (mine T v).side.hold)) s t u
+            (did_one T m v (knows c read) a (λ q. q) refl s t one)
+            (did_one T v w (committing T.code (mine T v) (value_by (mine T v).side.hold)) b.1 (λ q. q)
+            (committed_counts yet.1 (value_by (mine T v).side.hold)) t u two)),
+      )
+
+      -- where the word leads that was loaded
+      pub leads : Points T (given_type T (mine T v)) (value_by (mine T v).side.hold) → Points T (given_type T c) value
+      leads p = subst (λ ty. Points T ty value) (type_as T c (mine T v) (ap (λ (d : Record). d.frame) is_loaded))
+          (subst (Points T (given_type T (mine T v))) (ap value_by read_is) p)
+
+      -- the oldest value of a buffer
+      pub popped : (w : Me Record) (s t u : ℕ) → t ≡ s + 1 → u ≡ t + 1 → cell ≡ head_of n
+          → Stored T Commit at (control (closed_of n) (count_of n - 1) ((head_of n + 1) % size))
+          (committing T.code (mine T v) (value_by (mine T v).side.hold)) v w
+          → (y : ℕ)
+          × Did T m s
+          (λ g. loads_cell at (head_of n) value g
+          ∷ commits at y (control (closed_of n) (count_of n - 1) ((head_of n + 1) % size)) g ∷ [])
+          (committing T.code (accessing 1 c) value) w u
+      popped w s t u one two is b =
+          let r = received w s t u one two (control (closed_of n) (count_of n - 1) ((head_of n + 1) % size)) b in (
+            r.0,
+            subst (λ i. Did T m s
+                (λ g. loads_cell at i value g ∷ commits at r.0 (control (closed_of n) (count_of n - 1) ((head_of n + 1) % size)) g ∷ [])
+                (committing T.code (accessing 1 c) value) w u) is r.1,
+          )
+
+-- ---- without a buffer
+
+module _ (T : Setup) (at n : ℕ) where
+  pub can_put : (c : Record) → Holds at 0 n c.side → HasNoOffer 0 n → CanStoreCell c at 0
+  can_put c held none = record { n = n; size = 0; locked = held.0; sized = held.1; spare = only_spare n none.2 }
+
+  module _ (m v : Me Record) (held : Holds at 0 n (mine T m).side) where
+    module _ (value : ℕ) (here : SendsAt T (mine T m) at value)
+        (a : Stored T StoreCell (at + 2 + 0) value
+        (knows (mine T m) (with_hold (mine T m).side (Wrote at (found_by (mine T m).side.hold) 0 value))) m v) where
+      pub can_offer : HasNoOffer 0 n → CanOffer T (mine T v) at n
+      can_offer none =
+          let x = still T at 0 n m v held 0 value here a in record {
+            to = x.to;
+            sent = x.sent;
+            here = x.here;
+            wrote = wrote_is T at 0 n m v held 0 value here a ∙ ap (Wrote at n 0) (sym x.word);
+            sized = sized_is T at 0 n m v held 0 value here a ∙ held.1;
+            is_open = none.0;
+            none = none.2;
+          }
+
+      pub put_up : (w : Me Record) (s t u : ℕ) → t ≡ s + 1 → u ≡ t + 1 → Stored T Commit at (n + 4) (offers (mine T v) at) v w
+          → (x y : ℕ) × Did T m s (λ g. stores_cell at 0 x value g ∷ commits at y (n + 4) g ∷ []) (offers (accessing 1 (mine T m)) at) w u
+      put_up w s t u one two b =
+          let e = is_stored T at 0 n m v held 0 value here a in (
+            a.0,
+            b.0,
+            did_as T m w (offers (mine T v) at) (offers (accessing 1 (mine T m)) at) s u (ap (λ (d : Record). offers d at) e)
+                (did_then T m v w (knows (mine T m) (wrote T at 0 n m v held 0 value here a)) (offers (mine T v) at) s t u
+                (did_one T m v (knows (mine T m) (wrote T at 0 n m v held 0 value here a)) a.1 (λ q. q) refl s t one)
+                (did_one T v w (offers (mine T v) at) b.1 (λ q. q) refl t u two)),
+          )
+
+    module _ (value : ℕ) (here : ReceivesAt T (mine T m) at)
+        (a : Left T LoadCell (at + 2 + 0) (λ x. x)
+        (λ x d. d ≡ knows (mine T m) (with_hold (mine T m).side (Read at (found_by (mine T m).side.hold) 0 x))) m value v) where
+      pub can_meet : HasOffer 0 n → CanMeet T (mine T v) at n
+      can_meet offer =
+          let x = yet T at 0 n m v held 0 value here a in record {
+            to = x.0;
+            value = value;
+            here = x.1;
+            read = read_is T at 0 n m v held 0 value here a;
+            sized = ap (λ (d : Record). d.side.size) (is_loaded T at 0 n m v held 0 value here a) ∙ held.1;
+            is_open = offer.0;
+            offered = offer.2;
+          }

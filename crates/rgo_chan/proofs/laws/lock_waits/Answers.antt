@@ -1,0 +1,5 @@
+use Rattle.rgo_chan.proofs.Waiting as lemmas
+use Rattle.rgo_chan.proofs.laws.lock_waits.Goals as goal
+
+pub returns : goal.returns
+returns c = lemmas.lock_waits

@@ -1,0 +1,163 @@
+-- What each operation on a channel answers, which accesses its goroutine has made for that, and what its record is then. `c` is the
+-- record before them; m and w are what the seat knew before and knows after; s and t are the numbers of counted accesses.
+use Rattle.std.specs.Prelude.{◌≡◌, ◌≢◌, ◌⊎◌, ◌+◌, ◌-◌, ◌%◌, ◌<◌, ◌≤◌, ℕ, List, [], ◌∷◌, ◌++◌}
+use Rattle.rgo_core_channels.specs.Controls.{closed_of, control, count_of, extent, head_of}
+use Rattle.rgo_core_channels.specs.Records.{Locked, Rec as SideRec, Sized, with_look, with_own_look, with_size}
+use Rattle.rgo_core_rule.specs.Histories.{access}
+use Rattle.rgo_core_rule.specs.Views.{Me}
+use Rattle.rgo_core_rule.specs.declared.accesses.Access.{Access}
+use Rattle.rgo_core_rule.specs.declared.accesses.Kind.TheVariants.{Commit, Load, LoadCell, LoadControl, LockChannel, StoreCell}
+use Rattle.rgo_core.specs.Bounds.{Points}
+use Rattle.rgo_core.specs.CommitMoves.{offers}
+use Rattle.rgo_core_memory.specs.Words.{all_words}
+use Rattle.rgo_core.specs.Core.{Setup, layout}
+use Rattle.rgo_core.specs.Records.{Record}
+use Rattle.rgo_core_steps.specs.Accesses.{given_type}
+use Rattle.rgo_core_steps.specs.After.{acknowledging, committing}
+use Rattle.rgo_core_steps.specs.Calls.{Did, accessing, waited}
+use Rattle.rgo_chan.specs.Ready.{HasNoOffer, HasOffer, HasRoom, HasValue, IsClosed, IsDrained, IsEmpty, IsFull, IsOffered, IsOpen, IsTaken, IsUnlocked}
+use Rattle.rgo_chan.specs.declared.answers.Tried.{Tried}
+use Rattle.rgo_chan.specs.declared.answers.Tried.TheVariants.{Busy, Done, NotReady, Offered, Trap}
+
+-- ---- accesses of goroutine g to the channel whose control is word `at`
+
+module _ (at : ℕ) where
+  abbrev pub loads_capacity : (size g : ℕ) → Access
+  loads_capacity size g = access g Load (at + 1) size size
+
+  abbrev pub loads_control : (n g : ℕ) → Access
+  loads_control n g = access g LoadControl at n n
+
+  -- the capacity, and then the control
+  abbrev pub looks : (size n g : ℕ) → List Access
+  looks size n g = loads_capacity size g ∷ loads_control n g ∷ []
+
+  -- an exchange that finds the control that was loaded, and locks it
+  abbrev pub locks : (n g : ℕ) → Access
+  locks n g = access g LockChannel at n (n + 1)
+
+  -- an exchange that finds another one, and changes nothing
+  abbrev pub misses : (k g : ℕ) → Access
+  misses k g = access g LockChannel at k k
+
+  abbrev pub loads_cell : (cell value g : ℕ) → Access
+  loads_cell cell value g = access g LoadCell (at + 2 + cell) value value
+
+  abbrev pub stores_cell : (cell old value g : ℕ) → Access
+  stores_cell cell old value g = access g StoreCell (at + 2 + cell) old value
+
+  abbrev pub commits : (old new g : ℕ) → Access
+  commits old new g = access g Commit at old new
+
+  -- what a record knows of channels after it has found this capacity and this control
+  abbrev pub looked : SideRec → (size n : ℕ) → SideRec
+  looked side size n = with_look (with_size side at size) at n
+
+-- ---- answers
+
+module _ (T : Setup) (at : ℕ) (c : Record) where
+  -- A value was put into a cell of the buffer; an offer was put up; the channel was full; it was locked, or the exchange found another
+  -- control; it was closed.
+  abbrev pub Sends : (value : ℕ) → Tried → (m : Me Record) (s : ℕ) → (w : Me Record) (t : ℕ) → Type 0
+  Sends value (Done v) m s w t =
+      (v ≡ 0) × (size n x y : ℕ) × IsUnlocked n × HasRoom size n
+      × Did T m s
+      (λ g. looks at size n g ++ locks at n g ∷ stores_cell at ((head_of n + count_of n) % size) x value g
+      ∷ commits at y (n + 4) g ∷ [])
+      (committing T.code (accessing 4 c) 0) w t
+  Sends value Offered m s w t =
+      (n x y : ℕ) × IsUnlocked n × HasNoOffer 0 n
+      × Did T m s (λ g. looks at 0 n g ++ locks at n g ∷ stores_cell at 0 x value g ∷ commits at y (n + 4) g ∷ [])
+      (offers (accessing 4 c) at) w t
+  Sends value NotReady m s w t =
+      (size n : ℕ) × IsUnlocked n × IsFull size n
+      × Did T m s (looks at size n) (waited 2 c (looked at c.side size n)) w t
+  Sends value (Busy k) m s w t =
+      ((size : ℕ) × (k % 2 ≡ 1) × Did T m s (looks at size k) (waited 2 c (looked at c.side size k)) w t)
+      ⊎ ((size n : ℕ) × IsUnlocked n × (HasRoom size n ⊎ HasNoOffer size n) × (k ≢ n)
+      × Did T m s (λ g. looks at size n g ++ misses at k g ∷ []) (waited 3 c (looked at c.side size n)) w t)
+  Sends value (Trap e) m s w t =
+      (e ≡ 5) × (size n : ℕ) × IsUnlocked n × IsClosed n
+      × Did T m s (looks at size n) (waited 2 c (looked at c.side size n)) w t
+
+  -- A receive of v: the oldest value of the buffer; zero, since nothing is left; an offer. A pointer that was received leads to words of
+  -- pages.
+  abbrev pub ReceivesValue : (v : ℕ) → (m : Me Record) (s : ℕ) → (w : Me Record) (t : ℕ) → Type 0
+  ReceivesValue v m s w t =
+      (size n y : ℕ) × IsUnlocked n × HasValue size n × Points T (given_type T c) v
+      × Did T m s
+      (λ g. looks at size n g ++ locks at n g ∷ loads_cell at (head_of n) v g
+      ∷ commits at y (control (closed_of n) (count_of n - 1) ((head_of n + 1) % size)) g ∷ [])
+      (committing T.code (accessing 4 c) v) w t
+
+  abbrev pub ReceivesZero : (v : ℕ) → (m : Me Record) (s : ℕ) → (w : Me Record) (t : ℕ) → Type 0
+  ReceivesZero v m s w t =
+      (v ≡ 0) × (size n y : ℕ) × IsUnlocked n × IsDrained size n
+      × Did T m s (λ g. looks at size n g ++ locks at n g ∷ commits at y n g ∷ []) (committing T.code (accessing 3 c) 0) w t
+
+  abbrev pub TakesOffer : (v : ℕ) → (m : Me Record) (s : ℕ) → (w : Me Record) (t : ℕ) → Type 0
+  TakesOffer v m s w t =
+      (n y : ℕ) × IsUnlocked n × HasOffer 0 n × Points T (given_type T c) v
+      × Did T m s (λ g. looks at 0 n g ++ locks at n g ∷ loads_cell at 0 v g ∷ commits at y (n + 4) g ∷ [])
+      (committing T.code (accessing 4 c) v) w t
+
+  -- A value was received; the channel was empty; it was locked, or the exchange found another control.
+  abbrev pub Receives : Tried → (m : Me Record) (s : ℕ) → (w : Me Record) (t : ℕ) → Type 0
+  Receives (Done v) m s w t = ReceivesValue v m s w t ⊎ (ReceivesZero v m s w t ⊎ TakesOffer v m s w t)
+  Receives Offered m s w t = ⊥
+  Receives NotReady m s w t =
+      (size n : ℕ) × IsUnlocked n × IsEmpty size n
+      × Did T m s (looks at size n) (waited 2 c (looked at c.side size n)) w t
+  Receives (Busy k) m s w t =
+      ((size : ℕ) × (k % 2 ≡ 1) × Did T m s (looks at size k) (waited 2 c (looked at c.side size k)) w t)
+      ⊎ ((size n : ℕ) × IsUnlocked n × (HasValue size n ⊎ (IsDrained size n ⊎ HasOffer size n)) × (k ≢ n)
+      × Did T m s (λ g. looks at size n g ++ misses at k g ∷ []) (waited 3 c (looked at c.side size n)) w t)
+  Receives (Trap e) m s w t = ⊥
+
+  -- The offer had been taken, and was acknowledged; it was not taken; the channel was locked, or the exchange found another control; the
+  -- channel was closed with the offer.
+  abbrev pub Acknowledges : Tried → (m : Me Record) (s : ℕ) → (w : Me Record) (t : ℕ) → Type 0
+  Acknowledges (Done v) m s w t =
+      (v ≡ 0) × (n y : ℕ) × IsUnlocked n × IsTaken n
+      × Did T m s (λ g. loads_control at n g ∷ locks at n g ∷ commits at y (n - 8) g ∷ []) (acknowledging T.code (accessing 2 c)) w t
+  Acknowledges Offered m s w t = ⊥
+  Acknowledges NotReady m s w t =
+      (n : ℕ) × IsUnlocked n × IsOpen n × IsOffered n
+      × Did T m s (λ g. loads_control at n g ∷ []) (waited 1 c (with_own_look c.side at n)) w t
+  Acknowledges (Busy k) m s w t =
+      ((k % 2 ≡ 1) × Did T m s (λ g. loads_control at k g ∷ []) (waited 1 c (with_own_look c.side at k)) w t)
+      ⊎ ((n : ℕ) × IsUnlocked n × IsTaken n × (k ≢ n)
+      × Did T m s (λ g. loads_control at n g ∷ misses at k g ∷ []) (waited 2 c (with_own_look c.side at n)) w t)
+  Acknowledges (Trap e) m s w t =
+      (e ≡ 5) × (n : ℕ) × IsUnlocked n × IsClosed n × IsOffered n
+      × Did T m s (λ g. loads_control at n g ∷ []) (waited 1 c (with_own_look c.side at n)) w t
+
+  -- The channel was closed; it was locked, or the exchange found another control; it had been closed before.
+  abbrev pub Closes : Tried → (m : Me Record) (s : ℕ) → (w : Me Record) (t : ℕ) → Type 0
+  Closes (Done v) m s w t =
+      (v ≡ 0) × (n y : ℕ) × IsUnlocked n × IsOpen n
+      × Did T m s (λ g. loads_control at n g ∷ locks at n g ∷ commits at y (n + 2) g ∷ []) (committing T.code (accessing 2 c) 0) w t
+  Closes Offered m s w t = ⊥
+  Closes NotReady m s w t = ⊥
+  Closes (Busy k) m s w t =
+      ((k % 2 ≡ 1) × Did T m s (λ g. loads_control at k g ∷ []) (waited 1 c (with_look c.side at k)) w t)
+      ⊎ ((n : ℕ) × IsUnlocked n × IsOpen n × (k ≢ n)
+      × Did T m s (λ g. loads_control at n g ∷ misses at k g ∷ []) (waited 2 c (with_look c.side at n)) w t)
+  Closes (Trap e) m s w t =
+      (e ≡ 6) × (n : ℕ) × IsUnlocked n × IsClosed n
+      × Did T m s (λ g. loads_control at n g ∷ []) (waited 1 c (with_look c.side at n)) w t
+
+-- ---- what the parts of an operation leave
+
+-- The capacity and the control were loaded. What a commit adds to the control fits; the oldest cell is one of the cells, and all of them
+-- are words of the table.
+pub record Looked (T : Setup) (at : ℕ) (c : Record) (size n : ℕ) (m : Me Record) (s : ℕ) (w : Me Record) (t : ℕ) : Type 0 where
+  pub did : Did T m s (looks at size n) (waited 2 c (looked at c.side size n)) w t
+  pub fits : n + 4 < 18446744073709551616
+  pub head : head_of n < extent size
+  pub small : size < 1073741820
+  pub inside : at + 2 + extent size ≤ all_words (layout T)
+
+-- the goroutine has locked the channel, whose control was n, and knows its capacity
+abbrev pub Holds : (at size n : ℕ) → SideRec → Type 0
+Holds at size n side = (side.hold ≡ Locked at n) × (side.size ≡ Sized at size)

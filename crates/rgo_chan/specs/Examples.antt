@@ -1,0 +1,75 @@
+-- Controls that let an operation take effect, records before an operation, and answers; and such as are not.
+use Rattle.std.specs.Prelude.{◌+◌, ℕ, [], ◌∷◌}
+use Rattle.rgo_core.specs.ChannelExamples.{sending, with_words}
+use Rattle.rgo_core.specs.Core.{Setup, layout}
+use Rattle.rgo_core.specs.Records.{Record}
+use Rattle.rgo_core_memory.specs.Words.{base}
+use Rattle.rgo_core_rule.specs.Views.{Me, view}
+use Rattle.rgo_core_steps.specs.Calls.{waited}
+use Rattle.rgo_machine.specs.declared.limits.Limits.{Limits}
+use Rattle.rgo_machine.specs.declared.limits.Sizes.{Sizes}
+use Rattle.rgo_chan.specs.Answers.{Receives, Sends, looked, looks}
+use Rattle.rgo_chan.specs.Before.{IsBeforeReceive, IsBeforeSend, LiesIn, SendsAt}
+use Rattle.rgo_chan.specs.Ready.{HasNoOffer, HasOffer, HasRoom, HasValue, IsClosed, IsDrained, IsEmpty, IsFull, IsOpen, IsUnlocked}
+use Rattle.rgo_chan.specs.declared.answers.Tried.TheVariants.{Busy, Done, NotReady, Trap}
+
+-- before a send of 3 on the channel with address 5, and on nil
+abbrev pub before : Record
+before = with_words (6 ∷ 3 ∷ [])
+
+abbrev pub on_nil : Record
+on_nil = with_words (0 ∷ 3 ∷ [])
+
+-- a seat with this record of `main`, which has seen nothing
+abbrev pub first_seat : Record → Me Record
+first_seat c = (view ((0, c) ∷ []) [], [])
+
+-- the seat after a load of the capacity 2 and of this control at word 700
+abbrev pub looked_seat : Record → (control : ℕ) → Me Record
+looked_seat c n = (view ((0, waited 2 c (looked 700 c.side 2 n)) ∷ []) (looks 700 2 n 0), [])
+
+pub record ReadyExamples : Type 0 where
+  pub unlocked : IsUnlocked 4
+  pub locked : IsUnlocked 5 → ⊥
+  pub is_open : IsOpen 4
+  pub not_open : IsOpen 6 → ⊥
+  pub closed : IsClosed 6
+  pub room : HasRoom 2 4
+  pub no_room : HasRoom 2 8 → ⊥
+  pub full : IsFull 2 8
+  pub not_full : IsFull 2 4 → ⊥
+  pub offered_before : IsFull 0 4
+  pub no_offer : HasNoOffer 0 0
+  pub an_offer : HasNoOffer 0 4 → ⊥
+  -- a closed channel may have values
+  pub value : HasValue 2 6
+  pub no_value : HasValue 2 2 → ⊥
+  pub offer : HasOffer 0 4
+  pub taken : HasOffer 0 8 → ⊥
+  pub drained : IsDrained 2 2
+  pub not_drained : IsDrained 2 6 → ⊥
+  pub empty : IsEmpty 2 0
+  pub nothing_to_take : IsEmpty 0 8
+  pub not_empty : IsEmpty 0 4 → ⊥
+  pub not_waiting : IsEmpty 2 2 → ⊥
+
+pub record AnswerExamples : Type 0 where
+  pub sends : (sizes : Sizes) (limits : Limits) → IsBeforeSend (sending sizes limits) before 6 3
+  pub sends_another : (sizes : Sizes) (limits : Limits) → IsBeforeSend (sending sizes limits) before 6 4 → ⊥
+  pub sends_on_nil : (sizes : Sizes) (limits : Limits) → IsBeforeSend (sending sizes limits) on_nil 0 3
+  pub receives : (sizes : Sizes) (limits : Limits) → IsBeforeReceive (sending sizes limits) before 6 → ⊥
+  pub sends_there : (sizes : Sizes) (limits : Limits) → SendsAt (sending sizes limits) before (base (layout (sending sizes limits)) + 5) 3
+  pub nil_lies : (T : Setup) (base : ℕ) → LiesIn T base 0
+  -- the control was found to be 8: two values
+  pub not_ready : (T : Setup) → Sends T 700 before 3 NotReady (first_seat before) 5 (looked_seat before 8) 7
+  -- the accesses were not counted
+  pub uncounted : (T : Setup) → Sends T 700 before 3 NotReady (first_seat before) 5 (looked_seat before 8) 5 → ⊥
+  -- there is one value only
+  pub ready : (T : Setup) → Sends T 700 before 3 NotReady (first_seat before) 5 (looked_seat before 4) 7 → ⊥
+  -- nothing was stored
+  pub not_done : (T : Setup) → Sends T 700 before 3 (Done 0) (first_seat before) 5 (looked_seat before 4) 7 → ⊥
+  -- the control was found to be 9: it is locked
+  pub busy : (T : Setup) → Sends T 700 before 3 (Busy 9) (first_seat before) 5 (looked_seat before 9) 7
+  pub found_another : (T : Setup) → Sends T 700 before 3 (Busy 11) (first_seat before) 5 (looked_seat before 9) 7 → ⊥
+  -- a receive ends no run
+  pub no_trap : (T : Setup) (e : ℕ) → Receives T 700 before (Trap e) (first_seat before) 5 (looked_seat before 2) 7 → ⊥

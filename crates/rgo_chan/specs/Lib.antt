@@ -1,0 +1,5 @@
+pub mod Ready
+pub mod Before
+pub mod Answers
+pub mod Waits
+pub mod Examples

@@ -1,0 +1,39 @@
+//! What follows from the answers of operations on channels.
+ghost use Rattle.rgo_chan.specs.Examples.{AnswerExamples, ReadyExamples};
+ghost use Rattle.rgo_chan.specs.Waits.{AcknowledgeThen, CloseThen, LockWaits, NilReceiveWaits, NilSendWaits, OfferWaits, ReceiveThen, ReceiveWaits, SendThen, SendWaits};
+
+/// A goroutine is blocked at a send, as long as the words are what it found.
+pub fn send_waits()
+    ensures not_ready { SendWaits }
+    ensures nil { NilSendWaits }
+{}
+
+/// The same at a receive.
+pub fn receive_waits()
+    ensures not_ready { ReceiveWaits }
+    ensures nil { NilReceiveWaits }
+{}
+
+/// The same while its offer is not taken.
+pub fn offer_waits()
+    ensures { OfferWaits }
+{}
+
+/// The same while the control is locked.
+pub fn lock_waits()
+    ensures { LockWaits }
+{}
+
+/// What a goroutine may do after each answer: try again, acknowledge, or end the run.
+pub fn next_laws()
+    ensures send { SendThen }
+    ensures receive { ReceiveThen }
+    ensures close { CloseThen }
+    ensures acknowledge { AcknowledgeThen }
+{}
+
+/// Controls, records and answers that are so, and such as are not.
+pub fn examples()
+    ensures ready { ReadyExamples }
+    ensures answers { AnswerExamples }
+{}

@@ -1,0 +1,173 @@
+//! Receives.
+ghost use Rattle.std.specs.Prelude.{◌≡◌, ◌≢◌, ◌≤◌, ◌<◌, ◌+◌, ◌-◌, ◌^◌, ◌%◌, ℕ, [], ◌∷◌};
+ghost use Rattle.rgo_chan.specs.Answers.{Holds, Receives, commits, loads_cell};
+ghost use Rattle.rgo_chan.specs.Before.{IsBeforeReceive, LiesIn, ReceivesAt, control_at};
+ghost use Rattle.rgo_chan.specs.Ready.{HasOffer, HasValue, IsDrained};
+ghost use Rattle.rgo_chan.specs.declared.answers.Tried.TheVariants.{NotReady};
+ghost use Rattle.rgo_core.specs.Bounds.{Points};
+ghost use Rattle.rgo_core.specs.Core.{layout};
+ghost use Rattle.rgo_core.specs.Plans.{setup_of};
+ghost use Rattle.rgo_core_channels.specs.Controls.{closed_of, control as control_of, count_of, extent, head_of};
+ghost use Rattle.rgo_core_channels.specs.Records.{Free};
+ghost use Rattle.rgo_core_memory.specs.Words.{all_words, base as base_of};
+ghost use Rattle.rgo_core_steps.specs.Accesses.{given_type};
+ghost use Rattle.rgo_core_steps.specs.After.{committing};
+ghost use Rattle.rgo_core_steps.specs.Calls.{Did, IsSeatIn, accessing};
+ghost use Rattle.rgo_core_steps.specs.Seats.{HasOne, Settles, mine, settled};
+
+use crate::answers::{Tried, has_value, is_empty};
+use crate::looks::look;
+use rgo_core::table::{RunSeat, RunTable};
+use rgo_core_channels::controls::{head, is_closed, is_locked};
+use rgo_core_steps::channels::{commit_meet, commit_receive, commit_zero, load_cell, lock};
+use rgo_core_steps::counting::Steps;
+use std::sync::ledger::Ledger;
+
+/// Takes the oldest value of the buffer, under the lock.
+fn pop<L: Ledger>(
+    table: &RunTable,
+    seat: &mut RunSeat,
+    at: usize,
+    size: u64,
+    control: u64,
+    steps: &mut Steps<L>,
+) -> u64
+    requires own { IsSeatIn (setup_of table.now.shared.key) seat.old.table_id table.now.shared.table_id }
+    requires inside { at + 2 + extent size ≤ all_words (layout (setup_of table.now.shared.key)) }
+    requires cell { head_of control < extent size }
+    requires small { size < 1073741820 }
+    requires alone { HasOne (setup_of table.now.shared.key) seat.old.me }
+    requires held { Holds at size control (mine (setup_of table.now.shared.key) seat.old.me).side }
+    requires here { let T = setup_of table.now.shared.key in ReceivesAt T (mine T seat.old.me) at }
+    requires some { HasValue size control }
+    ensures own { (seat.new.table_id ≡ seat.old.table_id) × (seat.new.id ≡ seat.old.id) }
+    ensures steps { steps.new ≡ steps.old + 2 }
+    ensures popped { let T = setup_of table.now.shared.key in (y : ℕ)
+        × Did T seat.old.me steps.old
+        (λ g. loads_cell at (head_of control) result g
+        ∷ commits at y (control_of (closed_of control) (count_of control - 1) ((head_of control + 1) % size)) g
+        ∷ [])
+        (committing T.code (accessing 1 (mine T seat.old.me)) result) seat.new.me steps.new }
+    ensures points { let T = setup_of table.now.shared.key in
+        Points T (given_type T (mine T seat.old.me)) result }
+{
+    let value = load_cell(table, seat, at, head(control) as usize);
+    steps.tick();
+    commit_receive(table, seat, at, control, size);
+    steps.tick();
+    value
+}
+
+/// Takes the offer at a channel without a buffer, under the lock.
+fn take_offer<L: Ledger>(
+    table: &RunTable,
+    seat: &mut RunSeat,
+    at: usize,
+    control: u64,
+    steps: &mut Steps<L>,
+) -> u64
+    requires own { IsSeatIn (setup_of table.now.shared.key) seat.old.table_id table.now.shared.table_id }
+    requires inside { at + 3 ≤ all_words (layout (setup_of table.now.shared.key)) }
+    requires fits { control + 4 < 2 ^ 64 }
+    requires alone { HasOne (setup_of table.now.shared.key) seat.old.me }
+    requires held { Holds at 0 control (mine (setup_of table.now.shared.key) seat.old.me).side }
+    requires here { let T = setup_of table.now.shared.key in ReceivesAt T (mine T seat.old.me) at }
+    requires offered { HasOffer 0 control }
+    ensures own { (seat.new.table_id ≡ seat.old.table_id) × (seat.new.id ≡ seat.old.id) }
+    ensures steps { steps.new ≡ steps.old + 2 }
+    ensures taken { let T = setup_of table.now.shared.key in (y : ℕ)
+        × Did T seat.old.me steps.old
+        (λ g. loads_cell at 0 result g ∷ commits at y (control + 4) g ∷ [])
+        (committing T.code (accessing 1 (mine T seat.old.me)) result) seat.new.me steps.new }
+    ensures points { let T = setup_of table.now.shared.key in
+        Points T (given_type T (mine T seat.old.me)) result }
+{
+    let value = load_cell(table, seat, at, 0);
+    steps.tick();
+    commit_meet(table, seat, at, control);
+    steps.tick();
+    value
+}
+
+/// A receive from the channel whose control is word `at`.
+fn receive_at<L: Ledger>(
+    table: &RunTable,
+    seat: &mut RunSeat,
+    behind: u64,
+    at: usize,
+    steps: &mut Steps<L>,
+) -> Tried
+    requires own { IsSeatIn (setup_of table.now.shared.key) seat.old.table_id table.now.shared.table_id }
+    requires lies { at + 3 ≤ all_words (layout (setup_of table.now.shared.key)) }
+    requires alone { HasOne (setup_of table.now.shared.key) seat.old.me }
+    requires settles { Settles (setup_of table.now.shared.key) behind seat.old.me }
+    requires free { (settled (setup_of table.now.shared.key) behind seat.old.me).side.hold ≡ Free }
+    requires here { let T = setup_of table.now.shared.key in ReceivesAt T (settled T behind seat.old.me) at }
+    ensures own { (seat.new.table_id ≡ seat.old.table_id) × (seat.new.id ≡ seat.old.id) }
+    ensures steps { steps.new ≤ steps.old + 5 }
+    ensures answers { let T = setup_of table.now.shared.key in
+        Receives T at (settled T behind seat.old.me) result seat.old.me steps.old seat.new.me steps.new }
+{
+    let seen = look(table, seat, behind, at, steps);
+    let size = seen.size;
+    let control = seen.control;
+    if is_locked(control) {
+        return Tried::Busy { found: control };
+    }
+    if is_empty(size, control) {
+        return Tried::NotReady;
+    }
+    let found = lock(table, seat, at, control);
+    steps.tick();
+    if found != control {
+        return Tried::Busy { found };
+    }
+    if has_value(size, control) {
+        let value = pop(table, seat, at, size, control, steps);
+        return Tried::Done(value);
+    }
+    if is_closed(control) {
+        commit_zero(table, seat, at, control);
+        steps.tick();
+        return Tried::Done(0);
+    }
+    let value = take_offer(table, seat, at, control, steps);
+    Tried::Done(value)
+}
+
+/// Tries to receive, as the next instruction does. `base` is the word of the table that has address 0, and `channel` the word of
+/// the channel in the frame; the goroutine has made `behind` local steps since its last access.
+///
+/// - `Done(v)`: v is the oldest value of the buffer, or the value of an offer, or 0 since the channel is closed and nothing is left
+///   in it. The instruction is made.
+/// - `NotReady`: the channel is open, and its buffer is empty or it has no offer that could be taken; or it is nil, and then no
+///   access was made.
+/// - `Busy`: the control was locked, or the exchange found another.
+pub fn receive<L: Ledger>(
+    table: &RunTable,
+    seat: &mut RunSeat,
+    behind: u64,
+    base: usize,
+    channel: u64,
+    steps: &mut Steps<L>,
+) -> Tried
+    requires own { IsSeatIn (setup_of table.now.shared.key) seat.old.table_id table.now.shared.table_id }
+    requires first { base ≡ base_of (layout (setup_of table.now.shared.key)) }
+    requires lies { LiesIn (setup_of table.now.shared.key) base channel }
+    requires alone { HasOne (setup_of table.now.shared.key) seat.old.me }
+    requires settles { Settles (setup_of table.now.shared.key) behind seat.old.me }
+    requires free { (settled (setup_of table.now.shared.key) behind seat.old.me).side.hold ≡ Free }
+    requires here { let T = setup_of table.now.shared.key in IsBeforeReceive T (settled T behind seat.old.me) channel }
+    ensures own { (seat.new.table_id ≡ seat.old.table_id) × (seat.new.id ≡ seat.old.id) }
+    ensures steps { steps.new ≤ steps.old + 5 }
+    ensures nil { channel ≡ 0
+        → (result ≡ NotReady) × (seat.new.me ≡ seat.old.me) × (steps.new ≡ steps.old) }
+    ensures answers { channel ≢ 0 → let T = setup_of table.now.shared.key in
+        Receives T (control_at base channel) (settled T behind seat.old.me) result
+        seat.old.me steps.old seat.new.me steps.new }
+{
+    if channel == 0 {
+        return Tried::NotReady;
+    }
+    receive_at(table, seat, behind, base + (channel as usize - 1), steps)
+}

@@ -1,0 +1,176 @@
+//! Sends.
+ghost use Rattle.std.specs.Prelude.{◌≡◌, ◌≢◌, ◌≤◌, ◌<◌, ◌+◌, ◌^◌, ◌%◌, ℕ, [], ◌∷◌};
+ghost use Rattle.rgo_chan.specs.Answers.{Holds, Sends, commits, stores_cell};
+ghost use Rattle.rgo_chan.specs.Before.{IsBeforeSend, LiesIn, SendsAt, control_at};
+ghost use Rattle.rgo_chan.specs.Ready.{HasNoOffer, HasRoom};
+ghost use Rattle.rgo_chan.specs.declared.answers.Tried.TheVariants.{NotReady};
+ghost use Rattle.rgo_core.specs.CommitMoves.{offers};
+ghost use Rattle.rgo_core.specs.Core.{layout};
+ghost use Rattle.rgo_core.specs.Plans.{setup_of};
+ghost use Rattle.rgo_core.specs.Records.{accesses};
+ghost use Rattle.rgo_core_channels.specs.Controls.{count_of, extent, head_of};
+ghost use Rattle.rgo_core_channels.specs.Records.{Free};
+ghost use Rattle.rgo_core_memory.specs.Words.{all_words, base as base_of};
+ghost use Rattle.rgo_core_steps.specs.After.{committing};
+ghost use Rattle.rgo_core_steps.specs.Calls.{Did, IsSeatIn, accessing};
+ghost use Rattle.rgo_core_steps.specs.Seats.{HasOne, Settles, mine, settled};
+
+use crate::answers::{Tried, is_full};
+use crate::looks::look;
+use rgo_core::table::{RunSeat, RunTable};
+use rgo_core_channels::controls::{free_cell, is_closed, is_locked};
+use rgo_core_steps::channels::{commit_offer, commit_send, lock, store_cell};
+use rgo_core_steps::counting::Steps;
+use std::sync::ledger::Ledger;
+
+/// Puts a value into the buffer, under the lock.
+fn push<L: Ledger>(
+    table: &RunTable,
+    seat: &mut RunSeat,
+    at: usize,
+    size: u64,
+    control: u64,
+    value: u64,
+    steps: &mut Steps<L>,
+)
+    requires own { IsSeatIn (setup_of table.now.shared.key) seat.old.table_id table.now.shared.table_id }
+    requires inside { at + 2 + extent size ≤ all_words (layout (setup_of table.now.shared.key)) }
+    requires fits { control + 4 < 2 ^ 64 }
+    requires alone { HasOne (setup_of table.now.shared.key) seat.old.me }
+    requires held { Holds at size control (mine (setup_of table.now.shared.key) seat.old.me).side }
+    requires here { let T = setup_of table.now.shared.key in SendsAt T (mine T seat.old.me) at value }
+    requires room { HasRoom size control }
+    ensures own { (seat.new.table_id ≡ seat.old.table_id) × (seat.new.id ≡ seat.old.id) }
+    ensures steps { steps.new ≡ steps.old + 2 }
+    ensures pushed { let T = setup_of table.now.shared.key in (x y : ℕ)
+        × Did T seat.old.me steps.old
+        (λ g. stores_cell at ((head_of control + count_of control) % size) x value g
+        ∷ commits at y (control + 4) g ∷ [])
+        (committing T.code (accessing 1 (mine T seat.old.me)) 0) seat.new.me steps.new }
+{
+    let cell = free_cell(control, size);
+    store_cell(table, seat, at, cell as usize, value);
+    steps.tick();
+    commit_send(table, seat, at, control);
+    steps.tick();
+}
+
+/// Puts a value up at a channel without a buffer, under the lock.
+fn offer<L: Ledger>(
+    table: &RunTable,
+    seat: &mut RunSeat,
+    at: usize,
+    control: u64,
+    value: u64,
+    steps: &mut Steps<L>,
+)
+    requires own { IsSeatIn (setup_of table.now.shared.key) seat.old.table_id table.now.shared.table_id }
+    requires inside { at + 3 ≤ all_words (layout (setup_of table.now.shared.key)) }
+    requires fits { control + 4 < 2 ^ 64 }
+    requires alone { HasOne (setup_of table.now.shared.key) seat.old.me }
+    requires held { Holds at 0 control (mine (setup_of table.now.shared.key) seat.old.me).side }
+    requires here { let T = setup_of table.now.shared.key in SendsAt T (mine T seat.old.me) at value }
+    requires none { HasNoOffer 0 control }
+    ensures own { (seat.new.table_id ≡ seat.old.table_id) × (seat.new.id ≡ seat.old.id) }
+    ensures steps { steps.new ≡ steps.old + 2 }
+    ensures offered { let T = setup_of table.now.shared.key in (x y : ℕ)
+        × Did T seat.old.me steps.old
+        (λ g. stores_cell at 0 x value g ∷ commits at y (control + 4) g ∷ [])
+        (offers (accessing 1 (mine T seat.old.me)) at) seat.new.me steps.new }
+{
+    store_cell(table, seat, at, 0, value);
+    steps.tick();
+    commit_offer(table, seat, at, control);
+    steps.tick();
+}
+
+/// A send on the channel whose control is word `at`.
+fn send_at<L: Ledger>(
+    table: &RunTable,
+    seat: &mut RunSeat,
+    behind: u64,
+    at: usize,
+    value: u64,
+    steps: &mut Steps<L>,
+) -> Tried
+    requires own { IsSeatIn (setup_of table.now.shared.key) seat.old.table_id table.now.shared.table_id }
+    requires lies { at + 3 ≤ all_words (layout (setup_of table.now.shared.key)) }
+    requires alone { HasOne (setup_of table.now.shared.key) seat.old.me }
+    requires settles { Settles (setup_of table.now.shared.key) behind seat.old.me }
+    requires free { (settled (setup_of table.now.shared.key) behind seat.old.me).side.hold ≡ Free }
+    requires here { let T = setup_of table.now.shared.key in SendsAt T (settled T behind seat.old.me) at value }
+    ensures own { (seat.new.table_id ≡ seat.old.table_id) × (seat.new.id ≡ seat.old.id) }
+    ensures steps { steps.new ≤ steps.old + 5 }
+    ensures answers { let T = setup_of table.now.shared.key in
+        Sends T at (settled T behind seat.old.me) value result seat.old.me steps.old seat.new.me steps.new }
+{
+    let seen = look(table, seat, behind, at, steps);
+    let size = seen.size;
+    let control = seen.control;
+    if is_locked(control) {
+        return Tried::Busy { found: control };
+    }
+    if is_closed(control) {
+        return Tried::Trap(5);
+    }
+    if is_full(size, control) {
+        return Tried::NotReady;
+    }
+    let found = lock(table, seat, at, control);
+    steps.tick();
+    if found != control {
+        return Tried::Busy { found };
+    }
+    if size == 0 {
+        offer(table, seat, at, control, value, steps);
+        return Tried::Offered;
+    }
+    push(table, seat, at, size, control, value, steps);
+    Tried::Done(0)
+}
+
+/// Tries to send the next instruction's value. `base` is the word of the table that has address 0, and `channel` the word of the
+/// channel in the frame; the goroutine has made `behind` local steps since its last access.
+///
+/// - `Done(0)`: the value is in the buffer, and the instruction is made.
+/// - `Offered`: the value is offered, and the goroutine stays at the instruction until its offer was taken.
+/// - `NotReady`: the buffer is full, or there is an offer already; or the channel is nil, and then no access was made.
+/// - `Busy`: the control was locked, or the exchange found another.
+/// - `Trap(5)`: the channel is closed.
+pub fn send<L: Ledger>(
+    table: &RunTable,
+    seat: &mut RunSeat,
+    behind: u64,
+    base: usize,
+    channel: u64,
+    value: u64,
+    steps: &mut Steps<L>,
+) -> Tried
+    requires own { IsSeatIn (setup_of table.now.shared.key) seat.old.table_id table.now.shared.table_id }
+    requires first { base ≡ base_of (layout (setup_of table.now.shared.key)) }
+    requires lies { LiesIn (setup_of table.now.shared.key) base channel }
+    requires alone { HasOne (setup_of table.now.shared.key) seat.old.me }
+    requires settles { Settles (setup_of table.now.shared.key) behind seat.old.me }
+    requires free { (settled (setup_of table.now.shared.key) behind seat.old.me).side.hold ≡ Free }
+    requires here { let T = setup_of table.now.shared.key in
+        IsBeforeSend T (settled T behind seat.old.me) channel value }
+    ensures own { (seat.new.table_id ≡ seat.old.table_id) × (seat.new.id ≡ seat.old.id) }
+    ensures steps { steps.new ≤ steps.old + 5 }
+    ensures nil { channel ≡ 0
+        → (result ≡ NotReady) × (seat.new.me ≡ seat.old.me) × (steps.new ≡ steps.old) }
+    ensures answers { channel ≢ 0 → let T = setup_of table.now.shared.key in
+        Sends T (control_at base channel) (settled T behind seat.old.me) value result
+        seat.old.me steps.old seat.new.me steps.new }
+{
+    if channel == 0 {
+        return Tried::NotReady;
+    }
+    send_at(
+        table,
+        seat,
+        behind,
+        base + (channel as usize - 1),
+        value,
+        steps,
+    )
+}
