@@ -84,6 +84,43 @@ one 0
 text
 rgo: regions spent
 
+> rgo record --pages 1 --page-words 16 // the second slice has no page
+package main
+func main() { s := make([]int, 15); t := make([]int, 15); s[0] = t[0] }
+
+< 4
+!
+rgo picks 1
+one 0
+one 0
+one 0
+one 0
+text
+rgo: pages spent
+
+> rgo record // the slice has a word more than a page
+package main
+func main() { s := make([]int, 256); s[0] = 1 }
+
+< 6
+!
+rgo picks 1
+one 0
+text
+rgo: object larger than a page
+
+> rgo record --goroutines 2 // `main` is the other
+package main
+func f() { }
+func main() { go f(); go f() }
+
+< 12
+!
+rgo picks 1
+one 0
+text
+rgo: goroutines spent
+
 > rgo record // a refused text has no journal
 package main
 func main() {
