@@ -9,6 +9,7 @@
 ghost use Rattle.std.specs.Prelude.{◌≡◌, ◌≤◌, ◌<◌, ◌+◌, ◌%◌, ◌^◌, ℕ, bit_or, true};
 ghost use mathlib.Core.Logic.{◌↔◌};
 ghost use Rattle.rgo_core.specs.Plans.{setup_of};
+ghost use Rattle.rgo_core.specs.Records.{looked};
 ghost use Rattle.rgo_core_memory.specs.Words.{clock_at};
 ghost use Rattle.rgo_core_rule.specs.Views.{number_of};
 ghost use Rattle.rgo_core_rule.specs.declared.accesses.Kind.TheVariants as kind;
@@ -19,7 +20,7 @@ ghost use Rattle.rgo_core_steps.specs.Seats.{HasOne, IsSeatOf, Left, Settles, se
 
 use rgo_core::records::Record;
 use rgo_core::table::{ByRuns, Plan, RunSeat, RunTable};
-use rgo_core_rule::steps::{fetch_add, fetch_or};
+use rgo_core_rule::steps::{fetch_add, fetch_or, load};
 use rgo_machine::End;
 use rgo_region_machine::Limit;
 use std::marker::Brand;
@@ -60,6 +61,20 @@ pub fn ticket(table: &RunTable, seat: &mut RunSeat, behind: u64, piece: &[u8]) -
         ticket: found % (1 << 63),
         is_void: found >= 1 << 63,
     }
+}
+
+/// Loads the clock, and returns whether the run has ended. A goroutine that has made local steps since its last access has them
+/// in the run by this, without an instruction that needs an access.
+pub fn look(table: &RunTable, seat: &mut RunSeat, behind: u64) -> bool
+    requires own { IsSeatOf seat.old.table_id table.now.shared.table_id clock_at }
+    requires alone { HasOne (setup_of table.now.shared.key) seat.old.me }
+    requires settles { Settles (setup_of table.now.shared.key) behind seat.old.me }
+    ensures own { (seat.new.table_id ≡ seat.old.table_id) × (seat.new.id ≡ seat.old.id) }
+    ensures looked { (n : ℕ) × ((result ≡ true) ↔ (2 ^ 63 ≤ n))
+        × Left (setup_of table.now.shared.key) kind.Load clock_at (λ n. n)
+        (λ n d. d ≡ looked (settled (setup_of table.now.shared.key) behind seat.old.me)) seat.old.me n seat.new.me }
+{
+    load::<Record, Plan, ByRuns, Brand, _>(table, seat, 0, &behind) >= 1 << 63
 }
 
 /// Sets the end mark, for which the record of the goroutine shows the cause. Returns whether this has ended the run.

@@ -1,0 +1,12 @@
+use Rattle.rgo_core_rule.specs.Views.{number_of}
+use Rattle.rgo_core.specs.Plans.{setup_of}
+use Rattle.rgo_core.proofs.ClockLifts.{look_law}
+use Rattle.rgo_core_steps.specs.Seats.{settled}
+use Rattle.rgo_core_steps.proofs.Settling.{settles}
+use Rattle.rgo_core_steps.proofs.clock.look.Goals as goal
+
+pub load-requires-clause-asks : goal.load-requires-clause-asks
+load-requires-clause-asks c =
+    let T = setup_of c.args.table.now.shared.key in
+    let me = c.args.seat.now.me in
+    (c.requires.alone, settles T c.args.behind me _ _ _ c.requires.settles (look_law T (number_of me) (settled T c.args.behind me)))
