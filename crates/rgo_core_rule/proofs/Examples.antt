@@ -2,7 +2,10 @@
 use Rattle.std.proofs.Common.{◌≡◌, ℕ, zero, suc, ◌<◌, ◌≤◌, List, [], ◌∷◌, ◌++◌, Some, None, length, take, slice_index, count_by, refl, ap, sym, subst, ◌∙◌, ⊎_elim, arith, length-append, min}
 use mathlib.Core.Option.{some, some-injective, some-ne-none}
 use mathlib.Core.List.{IsPrefix}
+use mathlib.Core.Logic.{dite}
+use native.Mathlib.Decide.{dec_le}
 use lib.ListN.{get_elem?}
+use Rattle.std.proofs.Math.Nat.{min-eq_left, min-eq_right}
 use Rattle.rgo_core_rule.specs.Counting.{CountingExamples, RuleExamples, MoveExamples, Counts, Event, Adds, Starts, added, adds, child_record, child_view, draws, drew, four, gains, is_add_of, is_idle_of, main_record, main_view, new_adder, opening, owner, recs, rows, stale, starts, three, two}
 use Rattle.rgo_core_rule.specs.Histories.{access, accesses_by, glance, replay}
 use Rattle.rgo_core_rule.specs.Lists.{flattened}
@@ -15,6 +18,7 @@ use Rattle.rgo_core_rule.specs.declared.accesses.Kind.TheVariants.{DrawTicket, L
 use Rattle.rgo_core_rule.specs.declared.accesses.View.{View}
 use Rattle.rgo_core_rule.specs.declared.counting.Adder.{Adder}
 use Rattle.rgo_core_rule.proofs.Adding.{accesses, first_counts, other}
+use Rattle.rgo_core_rule.proofs.Lists.{at_below}
 
 -- ---- numbers that differ
 
@@ -293,8 +297,18 @@ rule_examples = record {
     lost [] owner o many drawn = let m : 0 ≡ min 2 8 = many ∙ ap (λ (n : ℕ). min n 8) (sym drawn) in apart 0 2 m (omega arith)
     lost (c ∷ rs) owner o many drawn = owned_by_main (c ∷ rs) owner o c refl
 
+no_ninth : (n d : ℕ) → 8 < n → n ≡ min (suc d) 8 → ⊥
+no_ninth n d low is = dite (dec_le (suc d) 8)
+    (λ le. let e = is ∙ min-eq_left le in omega arith)
+    (λ gt. let e = is ∙ min-eq_right {n = 8} {m = suc d} (omega arith) in omega arith)
+
 pub move_examples : MoveExamples
 move_examples = record {
+  occurs = record { words = 2 ∷ 2 ∷ []; recs = recs; run = the_run; explains = counts_here; its = refl };
+  ninth = λ c o.
+      let low = at_below o.recs 8 c o.its in
+      let many = o.explains.as_many in
+      no_ninth (length o.recs) (draws o.recs) low many;
   no_draw = λ move. let r = move opening (new_adder ∷ []) [] start refl (omega arith) in not_drawn r.after r.tells_so r.explains.drawn;
   no_child = λ move. ⊎_elim (λ (r : Moved accesses (Counts 8) opening (new_adder ∷ []) [] 0 new_adder 1 (λ n. suc n) (λ n d. (8 ≤ n)
       × (d ≡ drew new_adder))). let h = r.tells_so.0 in absurd (omega arith))

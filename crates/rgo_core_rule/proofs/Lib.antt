@@ -7,6 +7,7 @@ pub mod Awareness
 pub mod Lift
 pub mod Meetings
 pub mod Still
+pub mod Occurring
 pub mod Passes
 pub mod Settled
 pub mod Adding

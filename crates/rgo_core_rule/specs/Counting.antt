@@ -6,7 +6,7 @@ use Rattle.rgo_core_rule.specs.Histories.{Sound, access, accesses_by, glance, re
 use Rattle.rgo_core_rule.specs.Lists.{flattened}
 use Rattle.rgo_core_rule.specs.Passes.{AllAre, ChangesNothing, ChangesNothingBy, HasLooked, after_pass, passed}
 use Rattle.rgo_core_rule.specs.Rule.{Account, Aware, Closing, Explained}
-use Rattle.rgo_core_rule.specs.Steps.{Glanced, Move, MoveEither, Still, Told, ToldChild}
+use Rattle.rgo_core_rule.specs.Steps.{Glanced, Move, MoveEither, Occurs, Still, Told, ToldChild}
 use Rattle.rgo_core_rule.specs.Views.{Alone, Has, Me, Owned, Rows, Words, informed, joined, longer, number_of, record_of, rows_but, rows_of, view}
 use Rattle.rgo_core_rule.specs.declared.accesses.Access.{Access}
 use Rattle.rgo_core_rule.specs.declared.accesses.Kind.TheVariants.{DrawNumber, DrawTicket, Load, Join}
@@ -198,6 +198,11 @@ pub record RuleExamples : Type 0 where
   pub not_closing : Closing accesses (Counts 8) opening (2 ∷ 2 ∷ []) (view rows two) → ⊥
 
 pub record MoveExamples : Type 0 where
+  -- ---- records that are possible
+  pub occurs : Occurs (Counts 8) 1 child_record
+  -- at most eight goroutines start
+  pub ninth : (c : Adder) → Occurs (Counts 8) 8 c → ⊥
+  -- ---- accesses
   -- a goroutine that starts another has to draw a number
   pub no_draw : Move accesses (Counts 8) 0 new_adder 1 (λ n. n) (λ n d. d ≡ drew new_adder) → ⊥
   pub no_child : MoveEither accesses (Counts 8) 0 new_adder 1 (λ n. suc n) (λ n d. (8 ≤ n)

@@ -8,6 +8,14 @@ use Rattle.rgo_core_rule.specs.declared.accesses.Access.{Access}
 use Rattle.rgo_core_rule.specs.declared.accesses.Kind.{Kind}
 use Rattle.rgo_core_rule.specs.declared.accesses.Kind.TheVariants.{Load}
 
+-- There is a table in which goroutine g has the record c: some run explains its words and records.
+pub record Occurs {E R : Type 0} (Explains : List ℕ → List R → List E → Type 0) (g : ℕ) (c : R) : Type 0 where
+  pub words : List ℕ
+  pub recs : List R
+  pub run : List E
+  pub explains : Explains words recs run
+  pub its : get_elem? recs g ≡ some c
+
 module _ {E R : Type 0} (accesses : R → ℕ) (Explains : List ℕ → List R → List E → Type 0) where
   -- Goroutine g, whose record is c, leaves f n on a word i on which it finds n. Its record is then d, the run is longer by
   -- `gain`, and explains the words and records after the access.

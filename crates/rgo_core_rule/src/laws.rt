@@ -5,7 +5,7 @@ ghost use Rattle.rgo_core_rule.specs.Views.{rows_of, rows_but};
 ghost use Rattle.std.specs.Prelude.{◌≡◌, ◌<◌, ℕ, [], ◌∷◌};
 
 use crate::rule::Explanation;
-use crate::steps::Step;
+use crate::told::Step;
 
 /// If every goroutine has looked and changed nothing, all that they found was so at one moment.
 pub fn pass_is_still<R, K, X: Explanation<R, K>>()

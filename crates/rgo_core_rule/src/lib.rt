@@ -15,3 +15,4 @@ pub mod seats;
 pub mod steps;
 #[cfg(test)]
 mod tests;
+pub mod told;

@@ -1,124 +1,14 @@
 //! Accesses by a goroutine: each call is one atomic access to one word. A call asks for the law of its access, a `Move`; that
-//! the rule of the table allows the access then follows.
+//! the rule of the table allows the access then follows. What it leaves is possible: a run leads to a table with this record.
 ghost use Rattle.std.specs.Prelude.{◌≡◌, ◌⊎◌, ◌+◌, ◌-◌, ◌%◌, ◌^◌, ◌<◌, ◌==◌, ℕ, bit_or};
 ghost use prog.Atomic.{either};
-ghost use Rattle.rgo_core_rule.specs.Steps.{Asks, AsksEither, Leaves, Told, ToldChild};
-ghost use Rattle.rgo_core_rule.specs.Views.{number_of};
-ghost use Rattle.rgo_core_rule.specs.declared.accesses.Kind.{Kind as kinds};
-ghost use Rattle.rgo_core_rule.specs.declared.accesses.Kind.TheVariants as kind;
+ghost use Rattle.rgo_core_rule.specs.Steps.{Asks, AsksEither, Leaves, Occurs, Told, ToldChild};
+ghost use Rattle.rgo_core_rule.specs.Views.{Has, number_of, record_of};
 
-use crate::accesses::View;
 use crate::rule::{Cells, Chair, Explanation};
-use atomic_table::Play;
-use std::marker::{Brand, PhantomData};
-
-/// What an access is for, and what it tells of the number found and of the record after it. A call picks it.
-pub trait Step<R> {
-    ghost kind: { kinds };
-
-    ghost tells: { ℕ → R → Type 0 };
-}
-
-impl<R> Step<R> for Brand {
-    ghost kind = { kind.Load };
-
-    ghost tells = { λ n c. Unit {0} };
-}
-
-/// What an access that may start a goroutine tells: as [`Step`], and of the record of the new goroutine, too.
-pub trait Start<R> {
-    ghost kind: { kinds };
-
-    ghost tells: { ℕ → R → Type 0 };
-
-    ghost tells_child: { ℕ → R → R → Type 0 };
-}
-
-impl<R> Start<R> for Brand {
-    ghost kind = { kind.DrawNumber };
-
-    ghost tells = { λ n c. Unit {0} };
-
-    ghost tells_child = { λ n c d. Unit {0} };
-}
-
-/// The word stays as it is.
-pub struct Loads<K, X, T> {
-    of: PhantomData<(K, X, T)>,
-}
-
-impl<R, K, X: Explanation<R, K>, T: Step<R>> Play<(), View<R>> for Loads<K, X, T> {
-    ghost then = { λ s m n w. Told X.accesses (number_of m) T.kind s.word (λ n. n) T.tells m n w };
-}
-
-/// The word becomes the first operand.
-pub struct Swaps<K, X, T> {
-    of: PhantomData<(K, X, T)>,
-}
-
-impl<R, K, X: Explanation<R, K>, T: Step<R>> Play<(), View<R>> for Swaps<K, X, T> {
-    ghost then = { λ s m n w. Told X.accesses (number_of m) T.kind s.word (λ n. s.first) T.tells m n w };
-}
-
-/// The same, where what was found is not told.
-pub struct Stores<K, X, T> {
-    of: PhantomData<(K, X, T)>,
-}
-
-impl<R, K, X: Explanation<R, K>, T: Step<R>> Play<(), View<R>> for Stores<K, X, T> {
-    ghost then = { λ s m n w. (found : ℕ)
-        × Told X.accesses (number_of m) T.kind s.word (λ n. s.first) T.tells m found w };
-}
-
-/// The first operand is added, modulo 2^64.
-pub struct Adds<K, X, T> {
-    of: PhantomData<(K, X, T)>,
-}
-
-impl<R, K, X: Explanation<R, K>, T: Step<R>> Play<(), View<R>> for Adds<K, X, T> {
-    ghost then = { λ s m n w. Told X.accesses (number_of m) T.kind s.word
-        (λ n. (n + s.first) % 2 ^ 64) T.tells m n w };
-}
-
-/// The first operand is subtracted, modulo 2^64.
-pub struct Subtracts<K, X, T> {
-    of: PhantomData<(K, X, T)>,
-}
-
-impl<R, K, X: Explanation<R, K>, T: Step<R>> Play<(), View<R>> for Subtracts<K, X, T> {
-    ghost then = { λ s m n w. Told X.accesses (number_of m) T.kind s.word
-        (λ n. (n + (2 ^ 64 - s.first)) % 2 ^ 64) T.tells m n w };
-}
-
-/// The bits of the first operand are set.
-pub struct Sets<K, X, T> {
-    of: PhantomData<(K, X, T)>,
-}
-
-impl<R, K, X: Explanation<R, K>, T: Step<R>> Play<(), View<R>> for Sets<K, X, T> {
-    ghost then = { λ s m n w. Told X.accesses (number_of m) T.kind s.word (λ n. bit_or n s.first) T.tells m n w };
-}
-
-/// The word becomes the second operand if it is the first.
-pub struct Exchanges<K, X, T> {
-    of: PhantomData<(K, X, T)>,
-}
-
-impl<R, K, X: Explanation<R, K>, T: Step<R>> Play<(), View<R>> for Exchanges<K, X, T> {
-    ghost then = { λ s m n w. Told X.accesses (number_of m) T.kind s.word
-        (λ n. either (n == s.first) s.second n) T.tells m n w };
-}
-
-/// The first operand is added, modulo 2^64, and a goroutine may start.
-pub struct Draws<K, X, T> {
-    of: PhantomData<(K, X, T)>,
-}
-
-impl<R, K, X: Explanation<R, K>, T: Start<R>> Play<(), View<R>> for Draws<K, X, T> {
-    ghost then = { λ s m n w.
-        Told X.accesses (number_of m) T.kind s.word (λ n. (n + s.first) % 2 ^ 64) T.tells m n w
-        ⊎ ToldChild X.accesses (number_of m) T.kind s.word (λ n. (n + s.first) % 2 ^ 64) T.tells_child m n w };
-}
+use crate::told;
+use crate::told::{Start, Step};
+use std::marker::Brand;
 
 /// A load. `_about` is for the pick of `T` alone, here and below.
 pub fn load<R, K, X: Explanation<R, K>, T: Step<R>, A>(
@@ -133,8 +23,10 @@ pub fn load<R, K, X: Explanation<R, K>, T: Step<R>, A>(
     ensures own { (seat.new.table_id ≡ seat.old.table_id) × (seat.new.id ≡ seat.old.id) }
     ensures leaves { Leaves X.accesses (X.first table.now.shared.key) T.kind word
         (λ n. n) T.tells seat.old.me result seat.new.me }
+    ensures possible { Occurs (X.explains table.now.shared.key) (number_of seat.new.me)
+        (record_of (X.first table.now.shared.key) seat.new.me) }
 {
-    table.shared.load::<Loads<K, X, T>>(seat, word)
+    told::load::<R, K, X, Brand>(table, seat, word)
 }
 
 /// A store. What the word held is not told.
@@ -151,8 +43,10 @@ pub fn store<R, K, X: Explanation<R, K>, T: Step<R>, A>(
     ensures own { (seat.new.table_id ≡ seat.old.table_id) × (seat.new.id ≡ seat.old.id) }
     ensures leaves { (n : ℕ)
         × Leaves X.accesses (X.first table.now.shared.key) T.kind word (λ n. new) T.tells seat.old.me n seat.new.me }
+    ensures possible { Occurs (X.explains table.now.shared.key) (number_of seat.new.me)
+        (record_of (X.first table.now.shared.key) seat.new.me) }
 {
-    table.shared.store::<Stores<K, X, T>>(seat, word, new);
+    told::store::<R, K, X, Brand>(table, seat, word, new);
 }
 
 /// A swap.
@@ -169,8 +63,10 @@ pub fn swap<R, K, X: Explanation<R, K>, T: Step<R>, A>(
     ensures own { (seat.new.table_id ≡ seat.old.table_id) × (seat.new.id ≡ seat.old.id) }
     ensures leaves { Leaves X.accesses (X.first table.now.shared.key) T.kind word
         (λ n. new) T.tells seat.old.me result seat.new.me }
+    ensures possible { Occurs (X.explains table.now.shared.key) (number_of seat.new.me)
+        (record_of (X.first table.now.shared.key) seat.new.me) }
 {
-    table.shared.swap::<Swaps<K, X, T>>(seat, word, new)
+    told::swap::<R, K, X, Brand>(table, seat, word, new)
 }
 
 /// An addition, modulo 2^64.
@@ -187,8 +83,10 @@ pub fn fetch_add<R, K, X: Explanation<R, K>, T: Step<R>, A>(
     ensures own { (seat.new.table_id ≡ seat.old.table_id) × (seat.new.id ≡ seat.old.id) }
     ensures leaves { Leaves X.accesses (X.first table.now.shared.key) T.kind word
         (λ n. (n + k) % 2 ^ 64) T.tells seat.old.me result seat.new.me }
+    ensures possible { Occurs (X.explains table.now.shared.key) (number_of seat.new.me)
+        (record_of (X.first table.now.shared.key) seat.new.me) }
 {
-    table.shared.fetch_add::<Adds<K, X, T>>(seat, word, k)
+    told::fetch_add::<R, K, X, Brand>(table, seat, word, k)
 }
 
 /// A subtraction, modulo 2^64.
@@ -205,8 +103,10 @@ pub fn fetch_sub<R, K, X: Explanation<R, K>, T: Step<R>, A>(
     ensures own { (seat.new.table_id ≡ seat.old.table_id) × (seat.new.id ≡ seat.old.id) }
     ensures leaves { Leaves X.accesses (X.first table.now.shared.key) T.kind word
         (λ n. (n + (2 ^ 64 - k)) % 2 ^ 64) T.tells seat.old.me result seat.new.me }
+    ensures possible { Occurs (X.explains table.now.shared.key) (number_of seat.new.me)
+        (record_of (X.first table.now.shared.key) seat.new.me) }
 {
-    table.shared.fetch_sub::<Subtracts<K, X, T>>(seat, word, k)
+    told::fetch_sub::<R, K, X, Brand>(table, seat, word, k)
 }
 
 /// Bits are set.
@@ -223,8 +123,10 @@ pub fn fetch_or<R, K, X: Explanation<R, K>, T: Step<R>, A>(
     ensures own { (seat.new.table_id ≡ seat.old.table_id) × (seat.new.id ≡ seat.old.id) }
     ensures leaves { Leaves X.accesses (X.first table.now.shared.key) T.kind word
         (λ n. bit_or n k) T.tells seat.old.me result seat.new.me }
+    ensures possible { Occurs (X.explains table.now.shared.key) (number_of seat.new.me)
+        (record_of (X.first table.now.shared.key) seat.new.me) }
 {
-    table.shared.fetch_or::<Sets<K, X, T>>(seat, word, k)
+    told::fetch_or::<R, K, X, Brand>(table, seat, word, k)
 }
 
 /// The word becomes `new` if it is `old`.
@@ -242,10 +144,10 @@ pub fn compare_exchange<R, K, X: Explanation<R, K>, T: Step<R>, A>(
     ensures own { (seat.new.table_id ≡ seat.old.table_id) × (seat.new.id ≡ seat.old.id) }
     ensures leaves { Leaves X.accesses (X.first table.now.shared.key) T.kind word
         (λ n. either (n == old) new n) T.tells seat.old.me result seat.new.me }
+    ensures possible { Occurs (X.explains table.now.shared.key) (number_of seat.new.me)
+        (record_of (X.first table.now.shared.key) seat.new.me) }
 {
-    table
-        .shared
-        .compare_exchange::<Exchanges<K, X, T>>(seat, word, old, new)
+    told::compare_exchange::<R, K, X, Brand>(table, seat, word, old, new)
 }
 
 /// An addition, modulo 2^64, that may start a goroutine, whose number is then what was found.
@@ -264,6 +166,8 @@ pub fn fetch_add_start<R, K, X: Explanation<R, K>, T: Start<R>, A>(
         (λ n. (n + k) % 2 ^ 64) T.tells seat.old.me result seat.new.me
         ⊎ ToldChild X.accesses (number_of seat.old.me) T.kind word
         (λ n. (n + k) % 2 ^ 64) T.tells_child seat.old.me result seat.new.me }
+    ensures possible { (g : ℕ) (c : R) → Has seat.new.me.0.records g c
+        → Occurs (X.explains table.now.shared.key) g c }
 {
-    table.shared.fetch_add::<Draws<K, X, T>>(seat, word, k)
+    told::fetch_add_start::<R, K, X, Brand>(table, seat, word, k)
 }

@@ -1,9 +1,31 @@
 use Rattle.rgo_core_rule.specs.Views.{number_of, record_of}
-use Rattle.rgo_core_rule.proofs.Lift.{untold}
+use Rattle.rgo_core_rule.proofs.Occurring.{also, told, told_occurs}
 use Rattle.rgo_core_rule.proofs.steps.store.Goals as goal
 
-pub store-requires : goal.store-requires
-store-requires g c =
+pub store-requires-clause-asks : goal.store-requires-clause-asks
+store-requires-clause-asks g c =
+    let key = c.args.table.now.shared.key in
+    let me = c.args.seat.now.me in (
+      c.requires.asks.0,
+      also g.X.Explanation.accesses (g.X.Explanation.explains key) (number_of me) (record_of (g.X.Explanation.first key) me) c.args.word (λ n. c.args.new) g.T.Step.tells
+          c.requires.asks.1,
+    )
+
+pub returns-clause-leaves : goal.returns-clause-leaves
+returns-clause-leaves g c =
+    let key = c.args.table.now.shared.key in
+    let me = c.args.seat.now.me in (
+      c.store.ensures.leaves.0,
+      (
+        c.store.ensures.leaves.1.0,
+        told g.X.Explanation.accesses (g.X.Explanation.explains key) (number_of me) g.T.Step.kind c.args.word (λ n. c.args.new) me c.store.ensures.leaves.0 c.store.new.seat.me
+            g.T.Step.tells c.store.ensures.leaves.1.1,
+      ),
+    )
+
+pub returns-clause-possible : goal.returns-clause-possible
+returns-clause-possible g c =
     let key = c.args.table.now.shared.key in
     let me = c.args.seat.now.me in
-    (c.requires.own.0, c.requires.own.1, untold g.X.Explanation.accesses (g.X.Explanation.explains key) (g.X.Explanation.opening key) _ _ (number_of me) (record_of (g.X.Explanation.first key) me) me c.args.word (λ n. c.args.new) g.T.Step.tells g.T.Step.kind c.requires.asks.0 c.requires.asks.1)
+    told_occurs g.X.Explanation.accesses (g.X.Explanation.explains key) (number_of me) g.T.Step.kind c.args.word (λ n. c.args.new) me c.store.ensures.leaves.0 c.store.new.seat.me
+    (g.X.Explanation.first key) g.T.Step.tells c.store.ensures.leaves.1.1

@@ -1,0 +1,12 @@
+use Rattle.rgo_core_rule.specs.Views.{number_of}
+use Rattle.rgo_core_rule.proofs.Occurring.{Also}
+use Rattle.rgo_core_rule.proofs.steps.fetch_sub.Given as goal
+
+abbrev pub ghosts-fetch_sub : goal.ghosts-fetch_sub
+ghosts-fetch_sub g a =
+    let accesses = g.X.Explanation.accesses in
+    let Explains = g.X.Explanation.explains a.table.now.shared.key in
+    record {
+      kind = g.T.Step.kind;
+      tells = Also accesses Explains (number_of a.seat.now.me) g.T.Step.tells;
+    }
