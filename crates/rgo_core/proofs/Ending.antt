@@ -178,7 +178,7 @@ module _ {T : Setup} {g : ℕ} {c : Record} (x : Here T g c) (to : Option ℕ) (
       ∙ ap (effected old.memory frame callers to (trap_place act a.instr.place))
       (makes_it x to act from removes a object (2 ^ 63) (omega arith) makes))
 
-  too_large : Stops T.code T.sizes T.limits ObjectSize x.s
+  pub too_large : Stops T.code T.sizes T.limits ObjectSize x.s
   too_large = (
     g,
     after old g done,

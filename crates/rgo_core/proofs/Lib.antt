@@ -7,6 +7,7 @@ pub mod Stories
 pub mod Lift
 pub mod ClockLifts
 pub mod Opening
+pub mod Possible
 pub mod Standing
 pub mod Staying
 pub mod Printing

@@ -1,5 +1,5 @@
 -- Accesses to the counts of regions.
-use Rattle.std.proofs.Common.{◌≡◌, ◌≢◌, inl, inr, ⊎_elim, ℕ, suc, ◌+◌, ◌-◌, ◌%◌, ◌^◌, ◌<◌, ◌==◌, Bool, true, false, List, [], ◌∷◌, ◌++◌, Some, length, map, if◌then◌else◌, slice_get, slice_set, slice_index, refl, ap, sym, subst, ◌∙◌, arith}
+use Rattle.std.proofs.Common.{◌≡◌, ◌≢◌, inl, inr, ⊎_elim, ℕ, suc, ◌+◌, ◌-◌, ◌%◌, ◌^◌, ◌<◌, ◌==◌, Bool, true, false, List, [], ◌∷◌, ◌++◌, Some, length, map, if◌then◌else◌, nat_eq, slice_get, slice_set, slice_index, refl, ap, sym, subst, ◌∙◌, arith}
 use Rattle.std.proofs.lemmas.Bool.Decides.{nat_tests}
 use Rattle.std.proofs.lemmas.List.{length-map}
 use Rattle.std.proofs.lemmas.Option.{same_Some}
@@ -11,8 +11,11 @@ use Rattle.rgo_region_machine.specs.Regions.{RegionInfo, has_stakes, is_live, on
 use Rattle.rgo_region_machine.specs.States.{Create, Duty, Holder, RegionState}
 use Rattle.rgo_region_machine.specs.declared.regions.Region.{Region}
 use Rattle.rgo_region_machine.specs.declared.regions.Region.TheVariants.{Global as GlobalRegion, Numbered}
+use Rattle.rgo_sound.proofs.Attends.{staked_live}
 use Rattle.rgo_sound.proofs.Places.{get_append_left}
 use Rattle.rgo_sound.proofs.Tally.{tally_adds}
+use Rattle.rgo_sound.proofs.Tests.{eq_of, nat_eq_refl, split}
+use Rattle.rgo_sound.specs.Stakes.{is_in}
 use Rattle.rgo_sound.specs.Tally.{counts_plus, no_share, share_of_last}
 use Rattle.rgo_core_channels.specs.Records.{at_rest}
 use Rattle.rgo_core_frames.specs.Creations.{created_in}
@@ -39,7 +42,7 @@ use Rattle.rgo_core.specs.Regions.{CreateMove, HasLeft, LeaveMove, ShareMove, cr
 use Rattle.rgo_core.specs.Steps.{Does, Steps}
 use Rattle.rgo_core.proofs.Attending.{attends, else_stays}
 use Rattle.rgo_core.proofs.Chains.{as_before, look_image, remembered}
-use Rattle.rgo_core.proofs.Lift.{Reaches, access_law, few_records, told_law}
+use Rattle.rgo_core.proofs.Lift.{Reaches, access_law, few_records, moves_by, told_law}
 use Rattle.rgo_core.proofs.Parts.{I, memory_stays, shallow}
 use Rattle.rgo_core.proofs.Stakes.{EndsStake, SharesStake, ends_stake, share_is, share_kept, share_last, shares_stake}
 use Rattle.rgo_core_memory.specs.Owed.{claimed_for}
@@ -68,6 +71,18 @@ minus_one : (n : ℕ) → 0 < n → n < 18446744073709551616 → (n + 1844674407
 minus_one n p l = omega (arith, p, l)
 
 -- ---- a region is created
+
+later : (a b : Bool) → b ≡ true → (if a then true else b) ≡ true
+later true b e = refl
+later false b e = e
+
+not_among : (slot_of : ℕ → ℕ) (p : ℕ) (rs : List ℕ) → ((r : ℕ) → is_in r rs ≡ true → slot_of r ≢ p) → is_in p (map slot_of rs) ≡ false
+not_among slot_of p [] none = refl
+not_among slot_of p (r ∷ rs) none =
+    split (nat_eq p (slot_of r))
+    (λ t. absurd (none r (ap (λ b. if b then true else is_in r rs) (nat_eq_refl r)) (sym (eq_of p (slot_of r) t))))
+    (λ f. ap (λ b. if b then true else is_in p (map slot_of rs)) f
+    ∙ not_among slot_of p rs (λ q i. none q (later (nat_eq q r) (is_in q rs) i)))
 
 module _ {T : Setup} {g : ℕ} {c : Record} (x : Here T g c) (k p : ℕ) (ds : List Duty) (rests : c.side ≡ at_rest)
     (owed : c.frame.holder.duties ≡ Create k ∷ ds) (low : p < T.sizes.regions) where
@@ -124,6 +139,11 @@ module _ {T : Setup} {g : ℕ} {c : Record} (x : Here T g c) (k p : ℕ) (ds : L
         ap has_stakes (sym (get_append_left x.s.regions (record { stakes = 1; pages = 0 } ∷ []) j (x.core.sound.made o j e)))
         ∙ (ap (λ (rs : List RegionInfo). is_live rs (Numbered j)) (sym step.regions_are) ∙ l)
 
+    -- the goroutine has no stake in a region of the slot
+    unstaked : is_in p c.frame.holder.stakes ≡ false
+    unstaked = ap (λ (y : Holder). is_in p y.stakes) shown.holder
+        ∙ not_among (I x).places.slot p f.h.stakes (λ r i. fresh r (staked_live T.code x.s g f.h r x.core.sound.good.good.fine f.there i))
+
     adds : counts_of t ≡ counts_plus (counts_of x.s) (record no_share { made = 1 })
     adds = tally_adds T.code T.sizes.page_words x.s t (Attend g) step.steps
         ∙ ap (counts_plus (counts_of x.s)) (share_is T.code x.s g f.h (Create k) first.others f.there owes)
@@ -161,9 +181,12 @@ if_zero n a e = by (n == 0) (grind (arith, nat_tests))
 
 pub create_move : CreateMove
 create_move T g c k p ds rests owed low =
-    access_law T g c (count_at (layout T) p) (λ n. if n == 0 then 2 else n)
-    (λ n. if n == 0 then creates c k ds p else remembers c (with_tried_slot c.memory p)) (omega arith) (λ n. counted_so (n == 0))
+    moves_by T g c (count_at (layout T) p) (λ n. if n == 0 then 2 else n)
+    (λ n. if n == 0 then creates c k ds p else remembers c (with_tried_slot c.memory p))
+    (λ n d. (d ≡ (if n == 0 then creates c k ds p else remembers c (with_tried_slot c.memory p))) × (n ≡ 0 → is_in p c.frame.holder.stakes ≡ false))
+    (λ n. counted_so (n == 0)) (λ x. omega arith)
     (λ x small. by x (slice_index x.words (count_at (layout T) p) == 0) refl)
+    (λ x. (refl, unstaked x k p ds rests owed low))
   where
     counted_so : (b : Bool) → accesses (if b then creates c k ds p else remembers c (with_tried_slot c.memory p)) ≡ suc (accesses c)
     counted_so true = refl

@@ -46,3 +46,7 @@ pub record Here (T : Setup) (g : ℕ) (c : Record) : Type 0 where
   pub s : RegionState
   pub core : CoreAt T words recs events s
   pub is_c : slice_get recs g ≡ Some c
+
+-- some words, records and run have this record of goroutine g
+abbrev pub IsPossible : Setup → (g : ℕ) → Record → Type 0
+IsPossible T g c = Here T g c

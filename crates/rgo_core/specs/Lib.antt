@@ -14,6 +14,7 @@ pub mod Steps
 pub mod ClockSteps
 pub mod Laws
 pub mod Opening
+pub mod Possible
 pub mod Plans
 pub mod Examples
 pub mod AtChannels

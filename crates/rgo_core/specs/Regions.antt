@@ -1,6 +1,7 @@
 -- Accesses to the counts of regions: a region is created, a stake is taken for a goroutine that is about to start, and a stake ends.
-use Rattle.std.specs.Prelude.{◌≡◌, ◌≢◌, ◌⊎◌, ◌+◌, ◌-◌, ◌%◌, ◌^◌, ◌<◌, ◌==◌, ℕ, suc, List, ◌∷◌, Some, if◌then◌else◌}
+use Rattle.std.specs.Prelude.{◌≡◌, ◌≢◌, ◌⊎◌, ◌+◌, ◌-◌, ◌%◌, ◌^◌, ◌<◌, ◌==◌, ℕ, suc, false, List, ◌∷◌, Some, if◌then◌else◌}
 use Rattle.rgo_region_machine.specs.States.{Create, Duty, Holder}
+use Rattle.rgo_sound.specs.Stakes.{is_in}
 use Rattle.rgo_core_channels.specs.Records.{at_rest}
 use Rattle.rgo_core_frames.specs.Creations.{created_in}
 use Rattle.rgo_core_frames.specs.Stakes.{stake_ended, stake_shared}
@@ -19,12 +20,13 @@ creates c k ds p = record c {
   frame = created_in c.frame k ds p;
 }
 
--- a slot that is free is taken for a new region; one that is not is remembered
+-- A slot that is free is taken for a new region, and the goroutine has no stake in a region of it; one that is not free is remembered.
 abbrev pub CreateMove : Type 0
 CreateMove = (T : Setup) (g : ℕ) (c : Record) (k p : ℕ) (ds : List Duty) → c.side ≡ at_rest
     → c.frame.holder.duties ≡ Create k ∷ ds → p < T.sizes.regions
     → Moves T g c (count_at (layout T) p) (λ n. if n == 0 then 2 else n)
-    (λ n d. d ≡ (if n == 0 then creates c k ds p else remembers c (with_tried_slot c.memory p)))
+    (λ n d. (d ≡ (if n == 0 then creates c k ds p else remembers c (with_tried_slot c.memory p)))
+    × (n ≡ 0 → is_in p c.frame.holder.stakes ≡ false))
 
 -- the record with another holder after an access
 abbrev pub with_holder : Record → Holder → Record

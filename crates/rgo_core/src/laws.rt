@@ -4,11 +4,19 @@ ghost use Rattle.rgo_core.specs.ClockSteps.{EndLaw, LookLaw, NumberLaw, TicketLa
 ghost use Rattle.rgo_core.specs.Examples.{CauseExamples, ClockExamples, CoreExamples, NumberExamples};
 ghost use Rattle.rgo_core.specs.Laws.{CallsMove, ExitMove, FullMove, LocalStill, PrintMove, StartMove, StopMove};
 ghost use Rattle.rgo_core.specs.Opening.{OpeningLaw};
+ghost use Rattle.rgo_core.specs.Possible.{FirstPossible, OccursPossible, PossibleExamples, StillPossible};
 ghost use Rattle.rgo_core.specs.Steps.{AccessLaw, QuietLaw};
 
 /// The run without a step explains the first words and the record of `main`.
 pub fn opening_law()
     ensures { OpeningLaw }
+{}
+
+/// The record of `main` is possible as a table opens, and a possible record stays so by an access and by a step without one.
+pub fn possible_laws()
+    ensures first { FirstPossible }
+    ensures access { OccursPossible }
+    ensures still { StillPossible }
 {}
 
 /// What an access to a word of memory leaves is all that has to be shown of it.
@@ -82,4 +90,5 @@ pub fn examples()
     ensures numbers { NumberExamples }
     ensures causes { CauseExamples }
     ensures core { CoreExamples }
+    ensures possible { PossibleExamples }
 {}

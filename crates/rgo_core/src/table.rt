@@ -3,7 +3,7 @@ ghost use mathlib.Core.Logic.{◌↔◌};
 ghost use Rattle.std.specs.Prelude.{◌≡◌, ◌≤◌, ◌<◌, ◌^◌, ℕ, true, [], ◌∷◌, IfOk, length};
 ghost use Rattle.std.specs.Mem.Slots.{IsFull, slots_items, slots_len};
 ghost use Rattle.rgo_code.specs.NameRules.{Ascends};
-ghost use Rattle.rgo_core.specs.Core.{Core as Explains, Setup};
+ghost use Rattle.rgo_core.specs.Core.{Core as Explains, IsPossible, Setup};
 ghost use Rattle.rgo_core.specs.Opening.{first_of, opening};
 ghost use Rattle.rgo_core.specs.Image.{table_sizes};
 ghost use Rattle.rgo_core.specs.Plans.{setup_of};
@@ -11,7 +11,7 @@ ghost use Rattle.rgo_core.specs.Records.{accesses, looked};
 ghost use Rattle.rgo_core_memory.specs.Words.{all_words as words_in_all};
 ghost use Rattle.rgo_core_rule.specs.Rule.{Closing};
 ghost use Rattle.rgo_core_rule.specs.Steps.{Leaves};
-ghost use Rattle.rgo_core_rule.specs.Views.{IsAlone, record_of, view};
+ghost use Rattle.rgo_core_rule.specs.Views.{IsAlone, number_of, record_of, view};
 ghost use Rattle.rgo_core_rule.specs.declared.accesses.Kind.TheVariants as kind;
 ghost use Rattle.rgo_machine.specs.Limits.{most_goroutines};
 ghost use Rattle.rgo_region_machine.specs.Machine.{Event as RegionEvent};
@@ -74,6 +74,7 @@ pub fn open(
         × (setup_of t.0.shared.key ≡ record { code = code.now; sizes = sizes; limits = limits })) }
     ensures seat { IfOk result (λ t. (t.1.table_id ≡ t.0.shared.table_id)
         × (t.1.me ≡ (view ((0, first_of code.now) ∷ []) [], []))) }
+    ensures possible { IfOk result (λ t. IsPossible (setup_of t.0.shared.key) 0 (first_of code.now)) }
 {
     code.code().ascends();
     constants_fit(code.code());
@@ -102,6 +103,8 @@ pub fn look(table: &RunTable, seat: &mut RunSeat) -> bool
     ensures looked { (n : ℕ) × ((result ≡ true) ↔ (2 ^ 63 ≤ n))
         × Leaves accesses (first_of table.now.shared.key.code.value) kind.Load 0 (λ n. n)
         (λ n d. d ≡ looked (record_of (first_of table.now.shared.key.code.value) seat.old.me)) seat.old.me n seat.new.me }
+    ensures possible { IsPossible (setup_of table.now.shared.key) (number_of seat.new.me)
+        (record_of (first_of table.now.shared.key.code.value) seat.new.me) }
 {
     load::<Record, Plan, ByRuns, Brand, _>(table, seat, 0, &()) >= 1 << 63
 }

@@ -1,4 +1,5 @@
 use Rattle.rgo_core.proofs.Examples as lemmas
+use Rattle.rgo_core.proofs.Possible.{possible_examples}
 use Rattle.rgo_core.proofs.laws.examples.Goals as goal
 
 pub returns-clause-clock : goal.returns-clause-clock
@@ -12,3 +13,6 @@ returns-clause-causes c = lemmas.cause_examples
 
 pub returns-clause-core : goal.returns-clause-core
 returns-clause-core c = lemmas.core_examples
+
+pub returns-clause-possible : goal.returns-clause-possible
+returns-clause-possible c = possible_examples
