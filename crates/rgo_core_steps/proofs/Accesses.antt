@@ -1,22 +1,25 @@
 -- Loads and stores that are the next instruction, whichever word they access.
 use Rattle.std.specs.Option.{option_map_or}
-use Rattle.std.proofs.Common.{◌≡◌, ℕ, suc, ◌+◌, List, Option, add-one, ap, sym, subst, ◌∙◌}
+use Rattle.std.proofs.Common.{◌≡◌, ℕ, suc, ◌+◌, List, Option, Some, add-one, refl, ap, sym, subst, ◌∙◌}
 use Rattle.rgo_code.specs.Code.{CodeOp, Do}
 use Rattle.rgo_typed.specs.declared.actions.Action.{Action}
 use Rattle.rgo_wellformed.specs.TypeRules.{int}
 use Rattle.rgo_core_channels.specs.Records.{at_rest}
-use Rattle.rgo_core_memory.specs.Words.{base, variable_at}
+use Rattle.rgo_core_memory.specs.Words.{base, clock_at, variable_at}
+use Rattle.rgo_core_frames.specs.Actions.{after_action}
 use Rattle.rgo_core_frames.specs.WordFrames.{word_at}
+use Rattle.rgo_core_rule.proofs.Still.{still_move}
 use Rattle.rgo_core.specs.Accesses.{measures}
 use Rattle.rgo_core.specs.Bounds.{Gives, LieInPages, Points, target_type}
-use Rattle.rgo_core.specs.Core.{Setup, layout}
+use Rattle.rgo_core.specs.Core.{Core, Setup, layout}
 use Rattle.rgo_core.specs.Links.{IsAtElement}
 use Rattle.rgo_core.specs.Next.{IsAt}
-use Rattle.rgo_core.specs.Records.{Record}
+use Rattle.rgo_core.specs.Records.{Record, accesses, instructed}
 use Rattle.rgo_core.specs.Steps.{Moves}
-use Rattle.rgo_core.proofs.Accesses.{get_move, len_move, load_move, set_move, store_move}
+use Rattle.rgo_core.proofs.ClockLifts.{look_law}
+use Rattle.rgo_core.proofs.Accesses.{get_move, len_move, len_nil_still, load_move, set_move, store_move}
 use Rattle.rgo_core.proofs.Elements.{at_move, measure_move, put_move}
-use Rattle.rgo_core_steps.specs.Accesses.{Element, Field, Length, Loads, Stores, ToElement, ToField, ToVariable, Variable, given_type}
+use Rattle.rgo_core_steps.specs.Accesses.{Element, Field, Length, LengthOfNil, Loads, Stores, ToElement, ToField, ToVariable, Variable, given_type}
 use Rattle.rgo_core_steps.specs.After.{Position, acting, given}
 use Rattle.rgo_core_steps.proofs.After.{acting_is, position_is}
 use Rattle.rgo_core_steps.proofs.Telling.{tells_more}
@@ -76,3 +79,15 @@ pub measure_moves : (T : Setup) (g : ℕ) (c : Record) (address : ℕ) → IsAtE
 measure_moves T g c address at =
     tells_more T g c (base (layout T) + address) (λ n. n) (λ n d k. (k.0, subst (LieInPages T address) (sym (add-one n)) k.1))
     (measure_move T g c address at)
+
+-- the length of nil, with a load of the clock
+pub nil_length_moves : (T : Setup) (g : ℕ) (c : Record) → c.side ≡ at_rest → LengthOfNil T c
+    → Moves T g c clock_at (λ n. n) (λ n d. d ≡ acting T.code c 0)
+nil_length_moves T g c rests l =
+    let e : Record = record c {
+      clock = instructed c.clock;
+      frame = after_action T.code c.frame l.here.w l.here.ws l.here.instr (Some l.d) 0;
+    } in
+    still_move accesses (Core T) g c e clock_at (λ n. n) (λ n d. d ≡ acting T.code c 0)
+    (len_nil_still T g c l.d l.p l.removes l.here rests l.nil) refl
+    (tells_more T g e clock_at (λ n. n) (λ n d same. same ∙ sym (acting_is l.here 0)) (look_law T g e))

@@ -1,20 +1,21 @@
 -- Draws of numbers, by the functions of the record alone.
-use Rattle.std.proofs.Common.{◌≡◌, ℕ, ◌+◌, ◌%◌, ◌^◌, ◌<◌, ◌≤◌, ◌⊎◌, inl, inr, [], ◌∷◌, Some, None, max, ap, sym, ◌∙◌, arith}
+use Rattle.std.proofs.Common.{◌≡◌, ℕ, ◌+◌, ◌%◌, ◌^◌, ◌<◌, ◌≤◌, ◌⊎◌, inl, inr, [], ◌∷◌, Some, None, max, refl, ap, subst, sym, ◌∙◌, arith}
 use Rattle.std.proofs.lemmas.Bool.Decides.{nat_tests}
 use Rattle.std.proofs.lemmas.Grind.{common_steps}
 use Rattle.rgo_core_memory.specs.Words.{made_at}
-use Rattle.rgo_core_rule.specs.Steps.{Told, ToldChild}
-use Rattle.rgo_core_rule.specs.Views.{Me, Rows, number_in, number_of, record_in}
+use Rattle.rgo_core_rule.specs.Steps.{Occurs, Told, ToldChild}
+use Rattle.rgo_core_rule.specs.Views.{Has, Me, Rows, number_in, number_of, record_in}
 use Rattle.rgo_core_rule.specs.declared.accesses.Kind.TheVariants.{DrawNumber}
 use Rattle.rgo_machine.specs.Limits.{most_goroutines}
 use Rattle.rgo_machine.specs.declared.limits.Limits.{Limits}
-use Rattle.rgo_core.specs.Core.{Setup}
+use Rattle.rgo_core.specs.Core.{Core, IsPossible, Setup}
 use Rattle.rgo_core.specs.Opening.{first_of}
 use Rattle.rgo_core.specs.Records.{Record, accesses}
 use Rattle.rgo_core.specs.Steps.{MovesEither}
+use Rattle.rgo_core.proofs.Possible.{is_possible}
 use Rattle.rgo_core.proofs.Starting.{start_move}
 use Rattle.rgo_core_steps.specs.After.{child, starting}
-use Rattle.rgo_core_steps.specs.Seats.{settled}
+use Rattle.rgo_core_steps.specs.Seats.{HasPossible, mine, other, rest_of, settled}
 use Rattle.rgo_core_steps.specs.Starts.{HasDrawn, IsAtStart, next_number, refusing}
 use Rattle.rgo_core_steps.proofs.After.{child_is, starting_is}
 use Rattle.rgo_core_steps.proofs.Telling.{either_tells_more}
@@ -37,6 +38,14 @@ number_moves T g c p =
 one_row : (blank : Record) (rows : Rows Record) (g : ℕ) (c : Record) → rows ≡ (g, c) ∷ []
     → rows ≡ (number_in rows, record_in blank rows) ∷ []
 one_row blank rows g c e = e ∙ sym (ap (λ (rs : Rows Record). (number_in rs, record_in blank rs) ∷ []) e)
+
+first_row : (blank : Record) (rows : Rows Record) (r : ℕ × Record) (rs : Rows Record) → rows ≡ r ∷ rs
+    → Has rows (number_in rows) (record_in blank rows)
+first_row blank rows r rs e = subst (λ (l : Rows Record). Has l (number_in l) (record_in blank l)) (sym e) (0, refl)
+
+second_row : (blank : Record) (rows : Rows Record) (n : ℕ) (r : ℕ × Record) (c : Record) → rows ≡ r ∷ (n, c) ∷ []
+    → Has rows n (record_in blank (rest_of rows))
+second_row blank rows n r c e = subst (λ (l : Rows Record). Has l n (record_in blank (rest_of l))) (sym e) (1, refl)
 
 -- what was told, as the answer says it
 module _ (T : Setup) (q : ℕ) (m : Me Record) (n : ℕ) (w : Me Record) where
@@ -80,6 +89,19 @@ module _ (T : Setup) (q : ℕ) (m : Me Record) (n : ℕ) (w : Me Record) where
     ),
   )
   drawn_none high (inr t) = let h = t.tells_so.0 in absurd (omega arith)
+
+  -- a seat all of whose rows are possible has a possible record, and one beside it
+  pub drawn_possible : Drew → ((g : ℕ) (c : Record) → Has w.0.records g c → Occurs (Core T) g c) → HasPossible T w
+  drawn_possible (inl t) all = is_possible T (number_of w) (mine T w)
+      (all (number_of w) (mine T w) (first_row (first_of T.code) w.0.records (number_of m, t.after) [] t.alone.0))
+  drawn_possible (inr t) all = is_possible T (number_of w) (mine T w)
+      (all (number_of w) (mine T w) (first_row (first_of T.code) w.0.records (number_of m, t.after) ((n, t.child) ∷ []) t.both.0))
+
+  pub child_possible : n < most_goroutines T.limits → Drew → ((g : ℕ) (c : Record) → Has w.0.records g c → Occurs (Core T) g c)
+      → IsPossible T n (other T w)
+  child_possible low (inl t) all = let h = t.tells_so.0 in absurd (omega arith)
+  child_possible low (inr t) all = is_possible T n (other T w)
+      (all n (other T w) (second_row (first_of T.code) w.0.records n (number_of m, t.after) t.child t.both.0))
 
 -- ---- what the code compares with
 

@@ -11,7 +11,7 @@ use Rattle.rgo_region_machine.specs.States.{Ended, Mark, RegionState, Stopped}
 use Rattle.rgo_region_machine.specs.declared.limits.Limit.TheVariants.{Memory}
 use Rattle.rgo_core.specs.Core.{Setup}
 use Rattle.rgo_core.specs.Opening.{opening}
-use Rattle.rgo_core.specs.Records.{Drawn, Record, drawn_at}
+use Rattle.rgo_core.specs.Records.{ClockRec, Drawn, Record, drawn_at}
 use Rattle.rgo_core.proofs.Lists.{word_new}
 use Rattle.rgo_core_steps.specs.Ends.{Closes, ClosesNil, Divides, Ends, Exits, HasBadSize, IsFull, IsTooDeep, Loads, LoadsNil, Meets, Offers, Sends, Stores, StoresNil, Trapped, Traps, WantsMemory}
 use Rattle.rgo_core_steps.specs.Examples.{AfterExamples, EndExamples, OutcomeExamples, SeatExamples, StartExamples, idle, parent, printed_first, printed_late, printed_second, setter}
@@ -33,6 +33,8 @@ seat_examples = record {
   at_once = λ T m. refl;
   stuck = λ T g. refl;
   not_quiet = λ T g q. nothing q.next q.is;
+  local = λ c. record { memory = refl; side = refl; clock = refl };
+  not_local = λ c k. let e : suc c.clock.accesses ≡ c.clock.accesses = ap (λ (x : ClockRec). x.accesses) k.clock in omega arith;
 }
   where
     not_one : (y x : ℕ × Record) → x ∷ y ∷ [] ≡ x ∷ [] → ⊥

@@ -1,6 +1,7 @@
 pub mod Telling
 pub mod After
 pub mod Settling
+pub mod SettledLaws
 pub mod Clocking
 pub mod Drawing
 pub mod Sums
@@ -18,5 +19,6 @@ pub mod Staking
 pub mod Paging
 pub mod Searching
 pub mod MemoryExamples
+pub mod ChannelExamples
 pub mod Covering
 pub mod Parting

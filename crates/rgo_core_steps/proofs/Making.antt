@@ -77,7 +77,7 @@ module _ {T : Setup} {c : Record} {object : Object} {slot : ℕ} (m : MakesNext 
 
 -- ---- its page
 
-page_in : (s : ℕ) (fills : List Fill) (f : Fill) → page_of s fills ≡ Some f → Within f fills × (f.slot ≡ s)
+pub page_in : (s : ℕ) (fills : List Fill) (f : Fill) → page_of s fills ≡ Some f → Within f fills × (f.slot ≡ s)
 page_in s [] f e = absurd (none-some f e)
 page_in s (x ∷ xs) f e = by (nat_eq s x.slot) refl (page_in s xs f)
   where

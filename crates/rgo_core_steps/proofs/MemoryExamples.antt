@@ -1,14 +1,20 @@
 -- Examples of accesses to memory, pages and counts.
-use Rattle.std.proofs.Common.{◌≡◌, ℕ, List, [], ◌∷◌, refl, arith}
-use Rattle.std.proofs.lemmas.Option.{none-some}
-use Rattle.rgo_core_frames.specs.WordFrames.{WordFrame}
-use Rattle.rgo_code.specs.Code.{Code, CodeOp}
+use Rattle.std.proofs.Common.{◌≡◌, ℕ, List, [], ◌∷◌, Some, refl, ap, ◌∙◌, arith}
+use Rattle.std.proofs.lemmas.Option.{none-some, same_Some}
+use Rattle.rgo_core_frames.specs.WordFrames.{WordFrame, bare, word_at}
+use Rattle.rgo_code.specs.Code.{Code, CodeInstr, CodeOp, Do}
+use Rattle.rgo_machine.specs.declared.limits.Limits.{Limits}
+use Rattle.rgo_machine.specs.declared.limits.Sizes.{Sizes}
+use Rattle.rgo_region_machine.specs.Examples.{int_slot, main_of, plain}
+use Rattle.rgo_region_machine.specs.Owed.{current}
+use Rattle.rgo_typed.specs.declared.actions.Action.TheVariants as action
 use Rattle.rgo_region_machine.specs.States.{Create, Duty}
+use Rattle.rgo_core.specs.ChannelExamples.{with_words}
 use Rattle.rgo_core.specs.Core.{Setup}
 use Rattle.rgo_core.specs.Next.{IsAt}
-use Rattle.rgo_core_steps.specs.Accesses.{Element, Field, Length, Loads, Stores, ToElement, ToField, ToVariable, Variable}
+use Rattle.rgo_core_steps.specs.Accesses.{Element, Field, Length, LengthOfNil, Loads, Stores, ToElement, ToField, ToVariable, Variable}
 use Rattle.rgo_core_steps.specs.Examples.{idle}
-use Rattle.rgo_core_steps.specs.MemoryExamples.{CountExamples, MakingExamples, SearchExamples}
+use Rattle.rgo_core_steps.specs.MemoryExamples.{CountExamples, MakingExamples, SearchExamples, doing, frame_of, the_length}
 
 no_frame : (w : WordFrame) (ws : List WordFrame) → ◌≡◌ {A = List WordFrame} [] (w ∷ ws) → ⊥
 no_frame w ws e = cc
@@ -26,6 +32,27 @@ stores_none : (T : Setup) (word value : ℕ) → Stores T idle word value → �
 stores_none T word value (ToField k p q address removes a points is same) = nowhere T.code _ a
 stores_none T word value (ToElement p q r address removes a points within is same) = nowhere T.code _ a
 stores_none T word value (ToVariable k q removes a is same) = nowhere T.code _ a
+
+-- ---- the length of nil
+
+abbrev the_instr : CodeInstr
+the_instr = plain the_length
+
+first_is : (v w : WordFrame) (vs ws : List WordFrame) → v ∷ vs ≡ w ∷ ws → v ≡ w
+first_is v w vs ws e = cc
+
+operand_is : (to d n p : ℕ) (removes others : List ℕ)
+    → Do (Some to) action.Len (n ∷ []) removes ≡ Do (Some d) action.Len (p ∷ []) others → n ≡ p
+operand_is to d n p removes others e = cc
+
+slice_length : (sizes : Sizes) (limits : Limits) → LengthOfNil (doing the_length sizes limits) (with_words (6 ∷ 3 ∷ [])) → ⊥
+slice_length sizes limits l =
+    let w = first_is (frame_of (6 ∷ 3 ∷ [])) l.here.w [] l.here.ws l.here.frames in
+    let i = same_Some the_instr l.here.instr
+    (ap (λ (f : WordFrame). current (doing the_length sizes limits).code (bare f)) w ∙ l.here.cur) in
+    let p = operand_is 1 l.d 0 l.p [] l.removes (ap (λ (j : CodeInstr). j.op) i ∙ l.here.is) in
+    let e : 6 ≡ 0 = (λ j. word_at (w j) (p j)) ∙ l.nil in
+    omega (arith, e)
 
 pub making_examples : MakingExamples
 making_examples = record {
@@ -45,6 +72,25 @@ making_examples = record {
   loads_none = loads_none;
   stores_none = stores_none;
   calm = record { side = refl; claim = refl; make = refl };
+  nil_length = λ sizes limits. record {
+    d = 1;
+    p = 0;
+    removes = [];
+    here = record {
+      w = frame_of (0 ∷ 3 ∷ []);
+      ws = [];
+      frames = refl;
+      fn = main_of (int_slot ∷ int_slot ∷ []) (the_instr ∷ []);
+      in_fn = refl;
+      instr = the_instr;
+      cur = refl;
+      is = refl;
+      none = refl;
+      free = refl;
+    };
+    nil = refl;
+  };
+  slice_length = slice_length;
 }
 
 no_duty : (d : Duty) (ds : List Duty) → ◌≡◌ {A = List Duty} [] (d ∷ ds) → ⊥

@@ -43,7 +43,7 @@ still_either T g c d i f tells tells_child still same move words recs run explai
 
 -- ---- one step
 
-once_is : (T : Setup) (g : ℕ) (c : Record) (e : FrameRec) → quiet T.code g c.frame ≡ Some e
+pub once_is : (T : Setup) (g : ℕ) (c : Record) (e : FrameRec) → quiet T.code g c.frame ≡ Some e
     → settled_once T g c ≡ record c { clock = clock_after c.frame.holder.duties c.clock; frame = e }
 once_is T g c e is =
     ap (λ (o : Option FrameRec). option_map_or (λ (d : FrameRec). record c { clock = clock_after c.frame.holder.duties c.clock; frame = d }) o c) is

@@ -4,6 +4,7 @@ use Rattle.std.specs.Option.{option_map_or}
 use Rattle.std.proofs.Common.{◌≡◌, ℕ, ◌+◌, ◌-◌, ◌%◌, ◌^◌, ◌<◌, ◌==◌, Bool, true, false, List, [], ◌∷◌, Option, Some, if◌then◌else◌, refl, ap, sym, subst, ◌∙◌}
 use Rattle.std.proofs.lemmas.Option.{none-some}
 use Rattle.rgo_region_machine.specs.States.{Duty, Holder}
+use Rattle.rgo_sound.specs.Stakes.{is_in}
 use Rattle.rgo_core_channels.specs.Records.{at_rest}
 use Rattle.rgo_core_frames.specs.Stakes.{stake_ended, stake_shared}
 use Rattle.rgo_core_memory.specs.Words.{count_at}
@@ -41,10 +42,12 @@ first by h (d ∷ ds) p k e = record { d = d; ds = ds; are = refl; does = e }
 
 module _ (T : Setup) (g : ℕ) (c : Record) (rests : c.side ≡ at_rest) (p : ℕ) where
   pub create_moves : IsCreating c → p < T.sizes.regions
-      → Moves T g c (count_at (layout T) p) (λ n. either (n == 0) 2 n) (λ n d. d ≡ tries_slot c p n)
-  create_moves (name, ds, are) low = exchanges T g c (count_at (layout T) p) 0 2 (λ n d. d ≡ tries_slot c p n)
+      → Moves T g c (count_at (layout T) p) (λ n. either (n == 0) 2 n)
+      (λ n d. (d ≡ tries_slot c p n) × (n ≡ 0 → is_in p c.frame.holder.stakes ≡ false))
+  create_moves (name, ds, are) low = exchanges T g c (count_at (layout T) p) 0 2
+      (λ n d. (d ≡ tries_slot c p n) × (n ≡ 0 → is_in p c.frame.holder.stakes ≡ false))
       (tells_more T g c (count_at (layout T) p) (λ n. if n == 0 then 2 else n)
-      (λ n d e. e ∙ ap (λ (x : Record). if n == 0 then x else tried_slot c p) (sym (ap (created_with c p) are)))
+      (λ n d e. (e.0 ∙ ap (λ (x : Record). if n == 0 then x else tried_slot c p) (sym (ap (created_with c p) are)), e.1))
       (create_move T g c name p ds rests are low))
 
   pub share_moves : IsSharing c p

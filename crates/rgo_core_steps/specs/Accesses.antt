@@ -39,3 +39,11 @@ pub data Stores (T : Setup) (c : Record) (word value : ℕ) : Type 0 where
       → word ≡ base (layout T) + (address + suc (word_at a.w q)) → value ≡ word_at a.w r → Stores T c word value
   ToVariable : (k q : ℕ) (removes : List ℕ) (a : IsAt T.code c (Do None (action.Set k) (q ∷ []) removes))
       → word ≡ variable_at (layout T) k → value ≡ word_at a.w q → Stores T c word value
+
+-- the next instruction takes the length of nil
+pub record LengthOfNil (T : Setup) (c : Record) : Type 0 where
+  pub d : ℕ
+  pub p : ℕ
+  pub removes : List ℕ
+  pub here : IsAt T.code c (Do (Some d) action.Len (p ∷ []) removes)
+  pub nil : word_at here.w p ≡ 0

@@ -12,12 +12,13 @@ use Rattle.rgo_region_machine.specs.declared.limits.Limit.TheVariants.{Memory}
 use Rattle.rgo_typed.specs.declared.actions.Action.{Action}
 use Rattle.rgo_core.specs.Core.{Setup}
 use Rattle.rgo_core.specs.Opening.{opening}
-use Rattle.rgo_core.specs.Records.{Record, begins_with, blank, steps_of, with_child, with_end, with_print}
+use Rattle.rgo_core.specs.Records.{Record, begins_with, blank, instructed, looked, steps_of, with_child, with_end, with_print}
 use Rattle.rgo_core_steps.specs.After.{acting, given, piece}
 use Rattle.rgo_core_steps.specs.Ends.{Ends, Traps, ending, mark_of}
 use Rattle.rgo_core_steps.specs.Outcomes.{EndsOnce, HasFamily, OpensWith, PrintsInOrder}
 use Rattle.rgo_core_steps.specs.Prints.{IsAtPrint}
 use Rattle.rgo_core_steps.specs.Seats.{HasOne, HasTwo, IsQuiet, mine, other, settled, settled_once}
+use Rattle.rgo_core_steps.specs.Settled.{IsLocal}
 use Rattle.rgo_core_steps.specs.Starts.{HasDrawn, IsAtStart, next_number, refusing}
 use Rattle.rgo_core_steps.specs.declared.clock.Mark.TheVariants as given_mark
 
@@ -48,6 +49,9 @@ pub record SeatExamples : Type 0 where
   -- without a frame there is no local step
   pub stuck : (T : Setup) (g : ℕ) → settled_once T g idle ≡ idle
   pub not_quiet : (T : Setup) (g : ℕ) → IsQuiet T g idle → ⊥
+  pub local : (c : Record) → IsLocal c (record c { clock = instructed c.clock })
+  -- a local step makes no access
+  pub not_local : (c : Record) → IsLocal c (looked c) → ⊥
 
 pub record AfterExamples : Type 0 where
   pub to : (action : Action) → given (Do (Some 3) action [] []) ≡ Some 3

@@ -1,4 +1,5 @@
 pub mod Seats
+pub mod Settled
 pub mod After
 pub mod Prints
 pub mod Ends
@@ -15,3 +16,4 @@ pub mod Counts
 pub mod Pages
 pub mod Searches
 pub mod MemoryExamples
+pub mod ChannelExamples

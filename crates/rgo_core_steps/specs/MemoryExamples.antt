@@ -1,6 +1,6 @@
 -- The definitions of accesses to memory, pages and counts, each where it holds and where it must not.
 use Rattle.std.specs.Prelude.{◌≡◌, ◌+◌, ℕ, true, false, List, [], ◌∷◌, Some, None, pos}
-use Rattle.rgo_code.specs.Code.{Code}
+use Rattle.rgo_code.specs.Code.{Code, CodeOp, Do}
 use Rattle.rgo_core_frames.specs.Opening.{no_record}
 use Rattle.rgo_core_frames.specs.WordFrames.{WordFrame}
 use Rattle.rgo_core_memory.specs.Records.{Fill}
@@ -8,13 +8,16 @@ use Rattle.rgo_core_rule.specs.declared.accesses.Kind.TheVariants.{CreateRegion}
 use Rattle.rgo_core_rule.specs.Histories.{access}
 use Rattle.rgo_memory.specs.Memory.{Channel, Object, StructObject}
 use Rattle.rgo_memory.specs.declared.values.Value.TheVariants as value
-use Rattle.rgo_region_machine.specs.Examples.{code_of, node}
+use Rattle.rgo_machine.specs.declared.limits.Limits.{Limits}
+use Rattle.rgo_machine.specs.declared.limits.Sizes.{Sizes}
+use Rattle.rgo_region_machine.specs.Examples.{code_of, int_slot, main_of, node, plain}
 use Rattle.rgo_region_machine.specs.States.{Create}
 use Rattle.rgo_typed.specs.declared.actions.Action.TheVariants as action
+use Rattle.rgo_core.specs.ChannelExamples.{with_words}
 use Rattle.rgo_core.specs.Core.{Setup}
 use Rattle.rgo_core.specs.Records.{Record, begins_with}
 use Rattle.rgo_core.specs.Regions.{creates}
-use Rattle.rgo_core_steps.specs.Accesses.{Loads, Stores}
+use Rattle.rgo_core_steps.specs.Accesses.{LengthOfNil, Loads, Stores}
 use Rattle.rgo_core_steps.specs.Counts.{IsCreating, IsLeaving, IsSharing, tried_slot, tries_slot}
 use Rattle.rgo_core_steps.specs.Examples.{idle}
 use Rattle.rgo_core_steps.specs.Making.{IsCalm, MakesNext, covers, next_object, next_slot, object_of, page_of}
@@ -28,6 +31,17 @@ frame_of words = record { function = 0; next = 0; variables = words }
 -- a code with one struct, which has two fields
 abbrev pub with_node : Code
 with_node = code_of (node ∷ []) []
+
+-- `main` has two variables and this instruction alone
+abbrev pub doing : CodeOp → Sizes → Limits → Setup
+doing op sizes limits = record {
+  code = code_of [] (main_of (int_slot ∷ int_slot ∷ []) (plain op ∷ []) ∷ []);
+  sizes = sizes;
+  limits = limits;
+}
+
+abbrev pub the_length : CodeOp
+the_length = Do (Some 1) action.Len (0 ∷ []) []
 
 -- two own pages of slot 3 and one of slot 1
 abbrev pub own_pages : List Fill
@@ -61,6 +75,9 @@ pub record MakingExamples : Type 0 where
   pub loads_none : (T : Setup) (word : ℕ) → Loads T idle word → ⊥
   pub stores_none : (T : Setup) (word value : ℕ) → Stores T idle word value → ⊥
   pub calm : IsCalm idle
+  pub nil_length : (sizes : Sizes) (limits : Limits) → LengthOfNil (doing the_length sizes limits) (with_words (0 ∷ 3 ∷ []))
+  -- a slice at address 5
+  pub slice_length : (sizes : Sizes) (limits : Limits) → LengthOfNil (doing the_length sizes limits) (with_words (6 ∷ 3 ∷ [])) → ⊥
 
 pub record CountExamples : Type 0 where
   pub creating : IsCreating owing

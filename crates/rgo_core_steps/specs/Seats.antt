@@ -9,7 +9,7 @@ use Rattle.rgo_core_rule.specs.Steps.{Leaves}
 use Rattle.rgo_core_rule.specs.Views.{IsAlone, Me, Rows, number_of, record_in, record_of}
 use Rattle.rgo_core_rule.specs.declared.accesses.Kind.{Kind}
 use Rattle.rgo_machine.specs.Limits.{deepest}
-use Rattle.rgo_core.specs.Core.{Setup}
+use Rattle.rgo_core.specs.Core.{IsPossible, Setup}
 use Rattle.rgo_core.specs.Laws.{clock_after}
 use Rattle.rgo_core.specs.Opening.{first_of}
 use Rattle.rgo_core.specs.Records.{Record, accesses}
@@ -25,6 +25,10 @@ HasOne T m = IsAlone (first_of T.code) m
 -- that record
 abbrev pub mine : Setup → Me Record → Record
 mine T m = record_of (first_of T.code) m
+
+-- it is a possible one
+abbrev pub HasPossible : Setup → Me Record → Type 0
+HasPossible T m = IsPossible T (number_of m) (mine T m)
 
 abbrev pub rest_of : Rows Record → Rows Record
 rest_of [] = []

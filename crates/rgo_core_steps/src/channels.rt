@@ -22,8 +22,9 @@ ghost use Rattle.rgo_core_channels.specs.Records.{Free, Offering, Read, Wrote, w
 ghost use Rattle.rgo_core_rule.specs.declared.accesses.Kind.TheVariants as kind;
 ghost use Rattle.rgo_core_steps.specs.Accesses.{given_type};
 ghost use Rattle.rgo_core_steps.specs.After.{acknowledging, committing};
+ghost use Rattle.rgo_core_steps.specs.ChannelExamples.{ChannelExamples};
 ghost use Rattle.rgo_core_steps.specs.Channels.{CanAcknowledge, CanClose, CanLoadCell, CanMeet, CanOffer, CanReceive, CanReceiveZero, CanSend, CanStoreCell, ShowsCapacity, ShowsControl, ShowsOwnControl, found_by, value_by};
-ghost use Rattle.rgo_core_steps.specs.Seats.{HasOne, IsSeatOf, Left, Settles, Stored, mine, settled};
+ghost use Rattle.rgo_core_steps.specs.Seats.{HasOne, HasPossible, IsSeatOf, Left, Settles, Stored, mine, settled};
 
 use rgo_core::records::Record;
 use rgo_core::table::{ByRuns, Plan, RunSeat, RunTable};
@@ -44,6 +45,7 @@ pub fn control(table: &RunTable, seat: &mut RunSeat, behind: u64, at: usize) -> 
     ensures leaves { let T = setup_of table.now.shared.key in
         Left T kind.LoadControl at (λ n. n) (ShowsControl (settled T behind seat.old.me) at)
         seat.old.me result seat.new.me }
+    ensures possible { HasPossible (setup_of table.now.shared.key) seat.new.me }
 {
     load::<Record, Plan, ByRuns, Brand, _>(table, seat, at, &behind)
 }
@@ -56,6 +58,7 @@ pub fn own_control(table: &RunTable, seat: &mut RunSeat, at: usize) -> u64
     ensures own { (seat.new.table_id ≡ seat.old.table_id) × (seat.new.id ≡ seat.old.id) }
     ensures leaves { let T = setup_of table.now.shared.key in
         Left T kind.LoadControl at (λ n. n) (ShowsOwnControl (mine T seat.old.me) at) seat.old.me result seat.new.me }
+    ensures possible { HasPossible (setup_of table.now.shared.key) seat.new.me }
 {
     load::<Record, Plan, ByRuns, Brand, _>(table, seat, at, &())
 }
@@ -71,6 +74,7 @@ pub fn capacity(table: &RunTable, seat: &mut RunSeat, behind: u64, at: usize) ->
     ensures leaves { let T = setup_of table.now.shared.key in
         Left T kind.Load (at + 1) (λ n. n) (ShowsCapacity T (settled T behind seat.old.me) at)
         seat.old.me result seat.new.me }
+    ensures possible { HasPossible (setup_of table.now.shared.key) seat.new.me }
 {
     load::<Record, Plan, ByRuns, Brand, _>(table, seat, at + 1, &(behind, at))
 }
@@ -88,6 +92,7 @@ pub fn lock(table: &RunTable, seat: &mut RunSeat, at: usize, control: u64) -> u6
     ensures leaves { let T = setup_of table.now.shared.key in let c = mine T seat.old.me in
         Left T kind.LockChannel at (λ n. either (n == control) (control + 1) n)
         (λ n d. d ≡ knows c (with_lock c.side at control n)) seat.old.me result seat.new.me }
+    ensures possible { HasPossible (setup_of table.now.shared.key) seat.new.me }
 {
     compare_exchange::<Record, Plan, ByRuns, Brand, _>(table, seat, at, control, control + 1, &())
 }
@@ -104,6 +109,7 @@ pub fn load_cell(table: &RunTable, seat: &mut RunSeat, at: usize, cell: usize) -
     ensures leaves { let T = setup_of table.now.shared.key in let c = mine T seat.old.me in
         Left T kind.LoadCell (at + 2 + cell) (λ n. n)
         (λ n d. d ≡ knows c (with_hold c.side (Read at (found_by c.side.hold) cell n))) seat.old.me result seat.new.me }
+    ensures possible { HasPossible (setup_of table.now.shared.key) seat.new.me }
 {
     load::<Record, Plan, ByRuns, Brand, _>(table, seat, at + 2 + cell, &(at, cell))
 }
@@ -118,6 +124,7 @@ pub fn store_cell(table: &RunTable, seat: &mut RunSeat, at: usize, cell: usize, 
     ensures stored { let T = setup_of table.now.shared.key in let c = mine T seat.old.me in
         Stored T kind.StoreCell (at + 2 + cell) value
         (knows c (with_hold c.side (Wrote at (found_by c.side.hold) cell value))) seat.old.me seat.new.me }
+    ensures possible { HasPossible (setup_of table.now.shared.key) seat.new.me }
 {
     store::<Record, Plan, ByRuns, Brand, _>(table, seat, at + 2 + cell, value, &(at, cell));
 }
@@ -133,6 +140,7 @@ pub fn commit_send(table: &RunTable, seat: &mut RunSeat, at: usize, control: u64
     ensures own { (seat.new.table_id ≡ seat.old.table_id) × (seat.new.id ≡ seat.old.id) }
     ensures stored { let T = setup_of table.now.shared.key in
         Stored T kind.Commit at (control + 4) (committing T.code (mine T seat.old.me) 0) seat.old.me seat.new.me }
+    ensures possible { HasPossible (setup_of table.now.shared.key) seat.new.me }
 {
     store::<Record, Plan, ByRuns, Brand, _>(table, seat, at, control + 4, &());
 }
@@ -150,6 +158,7 @@ pub fn commit_receive(table: &RunTable, seat: &mut RunSeat, at: usize, control: 
         (committing T.code c (value_by c.side.hold)) seat.old.me seat.new.me }
     ensures points { let T = setup_of table.now.shared.key in let c = mine T seat.old.me in
         Points T (given_type T c) (value_by c.side.hold) }
+    ensures possible { HasPossible (setup_of table.now.shared.key) seat.new.me }
 {
     let new = without_oldest(control, size);
     store::<Record, Plan, ByRuns, Brand, _>(table, seat, at, new, &());
@@ -163,6 +172,7 @@ pub fn commit_zero(table: &RunTable, seat: &mut RunSeat, at: usize, control: u64
     ensures own { (seat.new.table_id ≡ seat.old.table_id) × (seat.new.id ≡ seat.old.id) }
     ensures stored { let T = setup_of table.now.shared.key in
         Stored T kind.Commit at control (committing T.code (mine T seat.old.me) 0) seat.old.me seat.new.me }
+    ensures possible { HasPossible (setup_of table.now.shared.key) seat.new.me }
 {
     store::<Record, Plan, ByRuns, Brand, _>(table, seat, at, control, &());
 }
@@ -176,6 +186,7 @@ pub fn commit_close(table: &RunTable, seat: &mut RunSeat, at: usize, control: u6
     ensures own { (seat.new.table_id ≡ seat.old.table_id) × (seat.new.id ≡ seat.old.id) }
     ensures stored { let T = setup_of table.now.shared.key in
         Stored T kind.Commit at (control + 2) (committing T.code (mine T seat.old.me) 0) seat.old.me seat.new.me }
+    ensures possible { HasPossible (setup_of table.now.shared.key) seat.new.me }
 {
     store::<Record, Plan, ByRuns, Brand, _>(table, seat, at, control + 2, &());
 }
@@ -189,6 +200,7 @@ pub fn commit_offer(table: &RunTable, seat: &mut RunSeat, at: usize, control: u6
     ensures own { (seat.new.table_id ≡ seat.old.table_id) × (seat.new.id ≡ seat.old.id) }
     ensures stored { let T = setup_of table.now.shared.key in
         Stored T kind.Commit at (control + 4) (offers (mine T seat.old.me) at) seat.old.me seat.new.me }
+    ensures possible { HasPossible (setup_of table.now.shared.key) seat.new.me }
 {
     store::<Record, Plan, ByRuns, Brand, _>(table, seat, at, control + 4, &());
 }
@@ -204,6 +216,7 @@ pub fn commit_meet(table: &RunTable, seat: &mut RunSeat, at: usize, control: u64
         Stored T kind.Commit at (control + 4) (committing T.code c (value_by c.side.hold)) seat.old.me seat.new.me }
     ensures points { let T = setup_of table.now.shared.key in let c = mine T seat.old.me in
         Points T (given_type T c) (value_by c.side.hold) }
+    ensures possible { HasPossible (setup_of table.now.shared.key) seat.new.me }
 {
     store::<Record, Plan, ByRuns, Brand, _>(table, seat, at, control + 4, &());
 }
@@ -216,6 +229,12 @@ pub fn commit_acknowledge(table: &RunTable, seat: &mut RunSeat, at: usize, contr
     ensures own { (seat.new.table_id ≡ seat.old.table_id) × (seat.new.id ≡ seat.old.id) }
     ensures stored { let T = setup_of table.now.shared.key in
         Stored T kind.Commit at (control - 8) (acknowledging T.code (mine T seat.old.me)) seat.old.me seat.new.me }
+    ensures possible { HasPossible (setup_of table.now.shared.key) seat.new.me }
 {
     store::<Record, Plan, ByRuns, Brand, _>(table, seat, at, control - 8, &());
 }
+
+/// Where what an access asks holds, and where it does not.
+pub fn examples()
+    ensures { ChannelExamples }
+{}

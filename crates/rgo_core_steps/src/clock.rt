@@ -16,7 +16,7 @@ ghost use Rattle.rgo_core_rule.specs.declared.accesses.Kind.TheVariants as kind;
 ghost use Rattle.rgo_core_steps.specs.After.{piece as piece_of, printing};
 ghost use Rattle.rgo_core_steps.specs.Ends.{Ends, ending, mark_of};
 ghost use Rattle.rgo_core_steps.specs.Prints.{IsAtPrint};
-ghost use Rattle.rgo_core_steps.specs.Seats.{HasOne, IsSeatOf, Left, Settles, settled};
+ghost use Rattle.rgo_core_steps.specs.Seats.{HasOne, HasPossible, IsSeatOf, Left, Settles, settled};
 
 use rgo_core::records::Record;
 use rgo_core::table::{ByRuns, Plan, RunSeat, RunTable};
@@ -55,6 +55,7 @@ pub fn ticket(table: &RunTable, seat: &mut RunSeat, behind: u64, piece: &[u8]) -
         × Left (setup_of table.now.shared.key) kind.DrawTicket clock_at (λ n. (n + 1) % 2 ^ 64)
         (λ n d. d ≡ printing (setup_of table.now.shared.key).code (settled (setup_of table.now.shared.key) behind seat.old.me) n)
         seat.old.me n seat.new.me }
+    ensures possible { HasPossible (setup_of table.now.shared.key) seat.new.me }
 {
     let found = fetch_add::<Record, Plan, ByRuns, Brand, _>(table, seat, 0, 1, &(piece, behind));
     Drawn {
@@ -73,6 +74,7 @@ pub fn look(table: &RunTable, seat: &mut RunSeat, behind: u64) -> bool
     ensures looked { (n : ℕ) × ((result ≡ true) ↔ (2 ^ 63 ≤ n))
         × Left (setup_of table.now.shared.key) kind.Load clock_at (λ n. n)
         (λ n d. d ≡ looked (settled (setup_of table.now.shared.key) behind seat.old.me)) seat.old.me n seat.new.me }
+    ensures possible { HasPossible (setup_of table.now.shared.key) seat.new.me }
 {
     load::<Record, Plan, ByRuns, Brand, _>(table, seat, 0, &behind) >= 1 << 63
 }
@@ -89,6 +91,7 @@ pub fn finish(table: &RunTable, seat: &mut RunSeat, behind: u64, mark: Mark) -> 
         × Left (setup_of table.now.shared.key) kind.EndRun clock_at (λ n. bit_or n (2 ^ 63))
         (λ n d. d ≡ ending (setup_of table.now.shared.key).code (settled (setup_of table.now.shared.key) behind seat.old.me) n
         (mark_of mark)) seat.old.me n seat.new.me }
+    ensures possible { HasPossible (setup_of table.now.shared.key) seat.new.me }
 {
     fetch_or::<Record, Plan, ByRuns, Brand, _>(table, seat, 0, 1 << 63, &(mark, behind)) < 1 << 63
 }

@@ -5,8 +5,9 @@
 //! 2. `share` adds 1 before a goroutine starts that uses the region, so that its stake is there from its first step on.
 //! 3. `leave` subtracts 1. The goroutine that finds 2 ended the last stake: it alone gives the pages back.
 //! 4. `free_slot` stores 0, after the pages are free and the head of their chain is 0.
-ghost use Rattle.std.specs.Prelude.{◌≡◌, ◌<◌, ◌≤◌, ◌+◌, ◌-◌, ◌%◌, ◌^◌, ◌==◌, ℕ};
+ghost use Rattle.std.specs.Prelude.{◌≡◌, ◌<◌, ◌≤◌, ◌+◌, ◌-◌, ◌%◌, ◌^◌, ◌==◌, ℕ, false};
 ghost use prog.Atomic.{either};
+ghost use Rattle.rgo_sound.specs.Stakes.{is_in};
 ghost use Rattle.rgo_core.specs.Chains.{remembers};
 ghost use Rattle.rgo_core.specs.Plans.{setup_of};
 ghost use Rattle.rgo_core_channels.specs.Records.{at_rest};
@@ -15,7 +16,7 @@ ghost use Rattle.rgo_core_memory.specs.Words.{count_at as count_is_at};
 ghost use Rattle.rgo_core_rule.specs.declared.accesses.Kind.TheVariants as kind;
 ghost use Rattle.rgo_core_steps.specs.Counts.{IsCreating, IsLeaving, IsSharing, Leaving, shared, tries_slot};
 ghost use Rattle.rgo_core_steps.specs.Layouts.{HasLayout};
-ghost use Rattle.rgo_core_steps.specs.Seats.{HasOne, Left, Settles, Stored, mine, settled};
+ghost use Rattle.rgo_core_steps.specs.Seats.{HasOne, HasPossible, Left, Settles, Stored, mine, settled};
 
 use rgo_core::records::Record;
 use rgo_core::table::{ByRuns, Plan, RunSeat, RunTable};
@@ -31,7 +32,8 @@ pub fn looks_free(table: &RunTable, sizes: &TableSizes, slot: usize) -> bool
     table.shared.peek(count_at(sizes, slot)) == 0
 }
 
-/// Takes a slot for the region that the first duty creates, if the count found is 0. If it is not, the record remembers that.
+/// Takes a slot for the region that the first duty creates, if the count found is 0: the goroutine has no stake in a region of the
+/// slot before. If it is not, the record remembers that.
 pub fn create(
     table: &RunTable,
     seat: &mut RunSeat,
@@ -50,6 +52,9 @@ pub fn create(
     ensures leaves { let T = setup_of table.now.shared.key in Left T kind.CreateRegion (count_is_at sizes.now slot)
         (λ n. either (n == 0) 2 n) (λ n d. d ≡ tries_slot (settled T behind seat.old.me) slot n)
         seat.old.me result seat.new.me }
+    ensures fresh { result ≡ 0
+        → is_in slot (settled (setup_of table.now.shared.key) behind seat.old.me).frame.holder.stakes ≡ false }
+    ensures possible { HasPossible (setup_of table.now.shared.key) seat.new.me }
 {
     compare_exchange::<Record, Plan, ByRuns, Brand, _>(
         table,
@@ -79,6 +84,7 @@ pub fn share(
     ensures own { (seat.new.table_id ≡ seat.old.table_id) × (seat.new.id ≡ seat.old.id) }
     ensures leaves { let T = setup_of table.now.shared.key in Left T kind.ShareRegion (count_is_at sizes.now slot)
         (λ n. (n + 1) % 2 ^ 64) (λ n d. d ≡ shared (settled T behind seat.old.me)) seat.old.me result seat.new.me }
+    ensures possible { HasPossible (setup_of table.now.shared.key) seat.new.me }
 {
     fetch_add::<Record, Plan, ByRuns, Brand, _>(table, seat, count_at(sizes, slot), 1, &behind)
 }
@@ -102,6 +108,7 @@ pub fn leave(
     ensures own { (seat.new.table_id ≡ seat.old.table_id) × (seat.new.id ≡ seat.old.id) }
     ensures leaves { let T = setup_of table.now.shared.key in Left T kind.LeaveRegion (count_is_at sizes.now slot)
         (λ n. (n + (2 ^ 64 - 1)) % 2 ^ 64) (Leaving (settled T behind seat.old.me) slot) seat.old.me result seat.new.me }
+    ensures possible { HasPossible (setup_of table.now.shared.key) seat.new.me }
 {
     fetch_sub::<Record, Plan, ByRuns, Brand, _>(
         table,
@@ -122,6 +129,7 @@ pub fn free_slot(table: &RunTable, seat: &mut RunSeat, sizes: &TableSizes, slot:
     ensures own { (seat.new.table_id ≡ seat.old.table_id) × (seat.new.id ≡ seat.old.id) }
     ensures leaves { let T = setup_of table.now.shared.key in Stored T kind.FreeSlot (count_is_at sizes.now slot) 0
         (remembers (mine T seat.old.me) (with_give (mine T seat.old.me).memory Calm)) seat.old.me seat.new.me }
+    ensures possible { HasPossible (setup_of table.now.shared.key) seat.new.me }
 {
     store::<Record, Plan, ByRuns, Brand, _>(table, seat, count_at(sizes, slot), 0, &());
 }

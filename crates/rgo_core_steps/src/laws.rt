@@ -2,6 +2,7 @@
 //! closed.
 ghost use Rattle.rgo_core_steps.specs.Examples.{AfterExamples, EndExamples, OutcomeExamples, SeatExamples, StartExamples};
 ghost use Rattle.rgo_core_steps.specs.Outcomes.{FamilyLaw, FirstLaw, OutcomeLaw};
+ghost use Rattle.rgo_core_steps.specs.Settled.{SettledLaws};
 ghost use Rattle.rgo_core_steps.specs.Starts.{StartedLaw};
 
 /// A table opens with the first state of the region machine.
@@ -22,6 +23,11 @@ pub fn family_law()
 /// A seat whose goroutine has started another has both records.
 pub fn started_law()
     ensures { StartedLaw }
+{}
+
+/// Local steps keep a record possible, and change nothing but frames, regions and the number of instructions.
+pub fn settled_laws()
+    ensures { SettledLaws }
 {}
 
 /// Where each definition holds and where it does not.

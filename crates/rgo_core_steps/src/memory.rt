@@ -9,12 +9,12 @@ ghost use Rattle.rgo_core.specs.Core.{layout};
 ghost use Rattle.rgo_core.specs.Links.{IsAtElement};
 ghost use Rattle.rgo_core.specs.Plans.{setup_of};
 ghost use Rattle.rgo_core_channels.specs.Records.{at_rest};
-ghost use Rattle.rgo_core_memory.specs.Words.{base};
+ghost use Rattle.rgo_core_memory.specs.Words.{base, clock_at};
 ghost use Rattle.rgo_core_rule.specs.declared.accesses.Kind.TheVariants as kind;
-ghost use Rattle.rgo_core_steps.specs.Accesses.{Loads, Stores, given_type};
+ghost use Rattle.rgo_core_steps.specs.Accesses.{LengthOfNil, Loads, Stores, given_type};
 ghost use Rattle.rgo_core_steps.specs.After.{acting};
 ghost use Rattle.rgo_core_steps.specs.Making.{IsNewWord, NewPoints, filling};
-ghost use Rattle.rgo_core_steps.specs.Seats.{HasOne, IsSeatOf, Left, Settles, Stored, settled};
+ghost use Rattle.rgo_core_steps.specs.Seats.{HasOne, HasPossible, IsSeatOf, Left, Settles, Stored, settled};
 
 use rgo_core::records::Record;
 use rgo_core::table::{ByRuns, Plan, RunSeat, RunTable};
@@ -33,8 +33,26 @@ pub fn load(table: &RunTable, seat: &mut RunSeat, behind: u64, word: usize) -> u
     ensures leaves { let T = setup_of table.now.shared.key in Left T kind.Load word (λ n. n)
         (λ n d. (d ≡ acting T.code (settled T behind seat.old.me) n)
         × Points T (given_type T (settled T behind seat.old.me)) n) seat.old.me result seat.new.me }
+    ensures possible { HasPossible (setup_of table.now.shared.key) seat.new.me }
 {
     steps::load::<Record, Plan, ByRuns, Brand, _>(table, seat, word, &behind)
+}
+
+/// Takes the length of nil as the next instruction: it is 0, and no word is loaded for it. By a load of the clock the instruction
+/// is in the run.
+pub fn length_of_nil(table: &RunTable, seat: &mut RunSeat, behind: u64)
+    requires own { IsSeatOf seat.old.table_id table.now.shared.table_id clock_at }
+    requires alone { HasOne (setup_of table.now.shared.key) seat.old.me }
+    requires settles { Settles (setup_of table.now.shared.key) behind seat.old.me }
+    requires rests { (settled (setup_of table.now.shared.key) behind seat.old.me).side ≡ at_rest }
+    requires nil { let T = setup_of table.now.shared.key in LengthOfNil T (settled T behind seat.old.me) }
+    ensures own { (seat.new.table_id ≡ seat.old.table_id) × (seat.new.id ≡ seat.old.id) }
+    ensures leaves { let T = setup_of table.now.shared.key in (n : ℕ)
+        × Left T kind.Load clock_at (λ n. n) (λ n d. d ≡ acting T.code (settled T behind seat.old.me) 0)
+        seat.old.me n seat.new.me }
+    ensures possible { HasPossible (setup_of table.now.shared.key) seat.new.me }
+{
+    steps::load::<Record, Plan, ByRuns, Brand, _>(table, seat, 0, &behind);
 }
 
 /// Loads the length of the slice at this address, before the next instruction loads or stores one of its elements. They all lie in
@@ -55,6 +73,7 @@ pub fn measure(
     ensures leaves { let T = setup_of table.now.shared.key in Left T kind.Load word (λ n. n)
         (λ n d. (d ≡ measures (settled T behind seat.old.me) address n) × LieInPages T address (n + 1))
         seat.old.me result seat.new.me }
+    ensures possible { HasPossible (setup_of table.now.shared.key) seat.new.me }
 {
     steps::load::<Record, Plan, ByRuns, Brand, _>(table, seat, word, &(address, behind))
 }
@@ -69,6 +88,7 @@ pub fn store(table: &RunTable, seat: &mut RunSeat, behind: u64, word: usize, val
     ensures own { (seat.new.table_id ≡ seat.old.table_id) × (seat.new.id ≡ seat.old.id) }
     ensures leaves { let T = setup_of table.now.shared.key in Stored T kind.Store word value
         (acting T.code (settled T behind seat.old.me) 0) seat.old.me seat.new.me }
+    ensures possible { HasPossible (setup_of table.now.shared.key) seat.new.me }
 {
     steps::store::<Record, Plan, ByRuns, Brand, _>(table, seat, word, value, &behind);
 }
@@ -92,6 +112,7 @@ pub fn zero(
     ensures leaves { let T = setup_of table.now.shared.key in Stored T kind.Fill word value
         (filling T (settled T behind seat.old.me) index) seat.old.me seat.new.me }
     ensures points { let T = setup_of table.now.shared.key in NewPoints T (settled T behind seat.old.me) index }
+    ensures possible { HasPossible (setup_of table.now.shared.key) seat.new.me }
 {
     steps::store::<Record, Plan, ByRuns, Brand, _>(table, seat, word, value, &(index, behind));
 }

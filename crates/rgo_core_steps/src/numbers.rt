@@ -2,10 +2,11 @@
 //! one. At the limit of goroutines none starts, and the goroutine that wanted one ends the run.
 //!
 //! `behind` is how many local steps the goroutine has made since its last access. The code does not use it.
-ghost use Rattle.std.specs.Prelude.{◌≡◌};
+ghost use Rattle.std.specs.Prelude.{◌≡◌, IfSome};
+ghost use Rattle.rgo_core.specs.Core.{IsPossible};
 ghost use Rattle.rgo_core.specs.Plans.{setup_of};
 ghost use Rattle.rgo_core_memory.specs.Words.{made_at};
-ghost use Rattle.rgo_core_steps.specs.Seats.{HasOne, IsSeatOf, Settles, settled};
+ghost use Rattle.rgo_core_steps.specs.Seats.{HasOne, HasPossible, IsSeatOf, Settles, other, settled};
 ghost use Rattle.rgo_core_steps.specs.Starts.{HasDrawn, IsAtStart};
 
 use rgo_core::records::Record;
@@ -24,6 +25,9 @@ pub fn number(table: &RunTable, seat: &mut RunSeat, behind: u64, limits: &Limits
     requires start { IsAtStart (setup_of table.now.shared.key) (settled (setup_of table.now.shared.key) behind seat.old.me) }
     ensures own { (seat.new.table_id ≡ seat.old.table_id) × (seat.new.id ≡ seat.old.id) }
     ensures drawn { HasDrawn (setup_of table.now.shared.key) behind seat.old.me result seat.new.me }
+    ensures possible { HasPossible (setup_of table.now.shared.key) seat.new.me }
+    ensures child { let T = setup_of table.now.shared.key in
+        IfSome result (λ n. IsPossible T n (other T seat.new.me)) }
 {
     let found = fetch_add_start::<Record, Plan, ByRuns, Brand, _>(table, seat, 16, 1, &behind);
     let most = limits.goroutines.max(1) as u64;

@@ -22,7 +22,7 @@ ghost use Rattle.rgo_core_rule.specs.declared.accesses.Kind.TheVariants as kind;
 ghost use Rattle.rgo_core_steps.specs.Layouts.{HasLayout};
 ghost use Rattle.rgo_core_steps.specs.Making.{IsCalm, NeedsPage};
 ghost use Rattle.rgo_core_steps.specs.Pages.{tries_page};
-ghost use Rattle.rgo_core_steps.specs.Seats.{HasOne, Left, Settles, Stored, mine, settled};
+ghost use Rattle.rgo_core_steps.specs.Seats.{HasOne, HasPossible, Left, Settles, Stored, mine, settled};
 
 use rgo_core::records::Record;
 use rgo_core::table::{ByRuns, Plan, RunSeat, RunTable};
@@ -60,6 +60,7 @@ pub fn claim(
     ensures leaves { let T = setup_of table.now.shared.key in Left T kind.ClaimPage (state_is_at sizes.now page)
         (λ n. either (n == 0) (slot + 1) n) (λ n d. d ≡ tries_page (settled T behind seat.old.me) page slot n)
         seat.old.me result seat.new.me }
+    ensures possible { HasPossible (setup_of table.now.shared.key) seat.new.me }
 {
     let word = state_at(sizes, page);
     compare_exchange::<Record, Plan, ByRuns, Brand, _>(
@@ -90,6 +91,7 @@ pub fn hang(
     ensures leaves { let T = setup_of table.now.shared.key in Left T kind.HangPage (head_is_at sizes.now slot)
         (λ n. page + 1) (λ n d. d ≡ remembers (mine T seat.old.me)
         (with_claim (mine T seat.old.me).memory (Hung page slot n))) seat.old.me result seat.new.me }
+    ensures possible { HasPossible (setup_of table.now.shared.key) seat.new.me }
 {
     let word = head_at(sizes, slot);
     swap::<Record, Plan, ByRuns, Brand, _>(table, seat, word, page as u64 + 1, &(page, slot))
@@ -112,6 +114,7 @@ pub fn link(
     ensures own { (seat.new.table_id ≡ seat.old.table_id) × (seat.new.id ≡ seat.old.id) }
     ensures leaves { let T = setup_of table.now.shared.key in Stored T kind.LinkPage (next_is_at sizes.now page) old
         (remembers (mine T seat.old.me) (with_claim (mine T seat.old.me).memory Idle)) seat.old.me seat.new.me }
+    ensures possible { HasPossible (setup_of table.now.shared.key) seat.new.me }
 {
     store::<Record, Plan, ByRuns, Brand, _>(table, seat, next_at(sizes, page), old, &slot);
 }
@@ -129,6 +132,7 @@ pub fn head(table: &RunTable, seat: &mut RunSeat, sizes: &TableSizes, slot: usiz
     ensures leaves { let T = setup_of table.now.shared.key in Left T kind.LoadHead (head_is_at sizes.now slot)
         (λ n. n) (λ n d. d ≡ remembers (mine T seat.old.me)
         (with_give (mine T seat.old.me).memory (Giving slot n))) seat.old.me result seat.new.me }
+    ensures possible { HasPossible (setup_of table.now.shared.key) seat.new.me }
 {
     load::<Record, Plan, ByRuns, Brand, _>(table, seat, head_at(sizes, slot), &slot)
 }
@@ -151,6 +155,7 @@ pub fn next(
     ensures leaves { let T = setup_of table.now.shared.key in Left T kind.LoadNext (next_is_at sizes.now page)
         (λ n. n) (λ n d. d ≡ remembers (mine T seat.old.me)
         (with_give (mine T seat.old.me).memory (Past slot (page + 1) n))) seat.old.me result seat.new.me }
+    ensures possible { HasPossible (setup_of table.now.shared.key) seat.new.me }
 {
     load::<Record, Plan, ByRuns, Brand, _>(table, seat, next_at(sizes, page), &(slot, page))
 }
@@ -173,6 +178,7 @@ pub fn free(
     ensures owed { 0 < (mine (setup_of table.now.shared.key) seat.old.me).clock.owed }
     ensures leaves { let T = setup_of table.now.shared.key in Stored T kind.FreePage (state_is_at sizes.now page) 0
         (frees (mine T seat.old.me) slot next) seat.old.me seat.new.me }
+    ensures possible { HasPossible (setup_of table.now.shared.key) seat.new.me }
 {
     store::<Record, Plan, ByRuns, Brand, _>(table, seat, state_at(sizes, page), 0, &(slot, next));
 }
@@ -188,6 +194,7 @@ pub fn clear(table: &RunTable, seat: &mut RunSeat, sizes: &TableSizes, slot: usi
     ensures owed { (mine (setup_of table.now.shared.key) seat.old.me).clock.owed ≡ 0 }
     ensures leaves { let T = setup_of table.now.shared.key in Stored T kind.ClearHead (head_is_at sizes.now slot) 0
         (remembers (mine T seat.old.me) (with_give (mine T seat.old.me).memory (Gave slot))) seat.old.me seat.new.me }
+    ensures possible { HasPossible (setup_of table.now.shared.key) seat.new.me }
 {
     store::<Record, Plan, ByRuns, Brand, _>(table, seat, head_at(sizes, slot), 0, &slot);
 }

@@ -1,6 +1,7 @@
 use Rattle.std.proofs.Common.{◌+◌}
 use Rattle.rgo_core_rule.specs.Views.{number_of}
 use Rattle.rgo_core.specs.Plans.{setup_of}
+use Rattle.rgo_core.proofs.Possible.{is_possible}
 use Rattle.rgo_core_steps.specs.Channels.{ShowsCapacity}
 use Rattle.rgo_core_steps.specs.Seats.{settled}
 use Rattle.rgo_core_steps.proofs.ChannelAccesses.{capacity_shows}
@@ -16,3 +17,6 @@ load-requires-clause-asks c =
       settles T c.args.behind me (c.args.at + 1) (λ n. n) (ShowsCapacity T d c.args.at) c.requires.settles
           (capacity_shows T (number_of me) d c.args.at c.requires.here),
     )
+
+pub returns-clause-possible : goal.returns-clause-possible
+returns-clause-possible c = is_possible (setup_of c.args.table.now.shared.key) _ _ c.load.ensures.possible

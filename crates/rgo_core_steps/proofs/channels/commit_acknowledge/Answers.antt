@@ -1,5 +1,6 @@
 use Rattle.rgo_core_rule.specs.Views.{number_of}
 use Rattle.rgo_core.specs.Plans.{setup_of}
+use Rattle.rgo_core.proofs.Possible.{is_possible}
 use Rattle.rgo_core_steps.specs.Seats.{mine}
 use Rattle.rgo_core_steps.proofs.ChannelAccesses.{acknowledge_commits}
 use Rattle.rgo_core_steps.proofs.channels.commit_acknowledge.Goals as goal
@@ -9,3 +10,6 @@ store-requires-clause-asks c =
     let T = setup_of c.args.table.now.shared.key in
     let me = c.args.seat.now.me in
     (c.requires.alone, acknowledge_commits T (number_of me) (mine T me) c.args.at c.args.control c.requires.ready)
+
+pub returns-clause-possible : goal.returns-clause-possible
+returns-clause-possible c = is_possible (setup_of c.args.table.now.shared.key) _ _ c.store.ensures.possible

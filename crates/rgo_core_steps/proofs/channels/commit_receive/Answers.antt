@@ -2,6 +2,7 @@ use Rattle.rgo_core_rule.specs.Views.{number_of}
 use Rattle.rgo_core_rule.specs.declared.accesses.Kind.TheVariants.{Commit}
 use Rattle.rgo_core.specs.Bounds.{Points}
 use Rattle.rgo_core.specs.Plans.{setup_of}
+use Rattle.rgo_core.proofs.Possible.{is_possible}
 use Rattle.rgo_core_steps.specs.Accesses.{given_type}
 use Rattle.rgo_core_steps.specs.After.{committing}
 use Rattle.rgo_core_steps.specs.Channels.{value_by}
@@ -25,3 +26,6 @@ returns-clause-stored c =
 
 pub returns-clause-points : goal.returns-clause-points
 returns-clause-points c = c.store.ensures.leaves.1.1.tells_so.1
+
+pub returns-clause-possible : goal.returns-clause-possible
+returns-clause-possible c = is_possible (setup_of c.args.table.now.shared.key) _ _ c.store.ensures.possible

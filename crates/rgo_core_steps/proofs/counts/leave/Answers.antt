@@ -1,6 +1,7 @@
 use Rattle.std.proofs.Common.{arith}
 use Rattle.rgo_core_rule.specs.Views.{number_of}
 use Rattle.rgo_core.specs.Plans.{setup_of}
+use Rattle.rgo_core.proofs.Possible.{is_possible}
 use Rattle.rgo_core_steps.proofs.Staking.{leave_moves}
 use Rattle.rgo_core_steps.proofs.Layouts.{count_low}
 use Rattle.rgo_core_steps.proofs.Settling.{settles}
@@ -18,3 +19,6 @@ fetch_sub-requires-clause-asks c =
 
 pub returns-clause-leaves : goal.returns-clause-leaves
 returns-clause-leaves c = rw c.count_at.ensures at c.fetch_sub.ensures.leaves
+
+pub returns-clause-possible : goal.returns-clause-possible
+returns-clause-possible c = is_possible (setup_of c.args.table.now.shared.key) _ _ c.fetch_sub.ensures.possible

@@ -2,6 +2,7 @@ use Rattle.rgo_core_rule.specs.Views.{number_of}
 use Rattle.rgo_core_rule.specs.declared.accesses.Kind.TheVariants as kind
 use Rattle.rgo_core_steps.specs.Making.{NewPoints, filling}
 use Rattle.rgo_core.specs.Plans.{setup_of}
+use Rattle.rgo_core.proofs.Possible.{is_possible}
 use Rattle.rgo_core_steps.proofs.Lefts.{stored_after}
 use Rattle.rgo_core_steps.proofs.Making.{zero_moves}
 use Rattle.rgo_core_steps.proofs.Settling.{settles}
@@ -24,3 +25,6 @@ returns-clause-leaves c =
 
 pub returns-clause-points : goal.returns-clause-points
 returns-clause-points c = c.store.ensures.leaves.1.1.tells_so.1
+
+pub returns-clause-possible : goal.returns-clause-possible
+returns-clause-possible c = is_possible (setup_of c.args.table.now.shared.key) _ _ c.store.ensures.possible

@@ -1,6 +1,7 @@
 use Rattle.std.proofs.Common.{◌<◌, subst}
 use Rattle.rgo_core_rule.specs.Views.{number_of}
 use Rattle.rgo_core.specs.Plans.{setup_of}
+use Rattle.rgo_core.proofs.Possible.{is_possible}
 use Rattle.rgo_core_steps.proofs.Paging.{claim_moves}
 use Rattle.rgo_core_steps.proofs.Layouts.{state_low}
 use Rattle.rgo_core_steps.proofs.Settling.{settles}
@@ -18,3 +19,6 @@ compare_exchange-requires-clause-asks c =
 
 pub returns-clause-leaves : goal.returns-clause-leaves
 returns-clause-leaves c = rw c.state_at-word.ensures at c.compare_exchange.ensures.leaves
+
+pub returns-clause-possible : goal.returns-clause-possible
+returns-clause-possible c = is_possible (setup_of c.args.table.now.shared.key) _ _ c.compare_exchange.ensures.possible

@@ -5,6 +5,7 @@ use Rattle.rgo_core.specs.Chains.{remembers}
 use Rattle.rgo_core_memory.specs.Words.{head_at}
 use Rattle.rgo_core_memory.specs.Records.{Gave, with_give}
 use Rattle.rgo_core.specs.Plans.{setup_of}
+use Rattle.rgo_core.proofs.Possible.{is_possible}
 use Rattle.rgo_core.proofs.Chains.{clear_move}
 use Rattle.rgo_core_steps.proofs.Lefts.{stored_after}
 use Rattle.rgo_core_steps.proofs.Layouts.{head_low}
@@ -30,3 +31,6 @@ returns-clause-leaves c =
 
 pub returns-clause-owed : goal.returns-clause-owed
 returns-clause-owed c = c.store.ensures.leaves.1.1.tells_so.1
+
+pub returns-clause-possible : goal.returns-clause-possible
+returns-clause-possible c = is_possible (setup_of c.args.table.now.shared.key) _ _ c.store.ensures.possible

@@ -4,6 +4,7 @@ use Rattle.rgo_core_rule.specs.declared.accesses.Kind.TheVariants as kind
 use Rattle.rgo_core.specs.Chains.{frees}
 use Rattle.rgo_core_memory.specs.Words.{state_at}
 use Rattle.rgo_core.specs.Plans.{setup_of}
+use Rattle.rgo_core.proofs.Possible.{is_possible}
 use Rattle.rgo_core_steps.proofs.Paging.{free_moves}
 use Rattle.rgo_core_steps.proofs.Lefts.{stored_after}
 use Rattle.rgo_core_steps.proofs.Layouts.{state_low}
@@ -29,3 +30,6 @@ returns-clause-leaves c =
 
 pub returns-clause-owed : goal.returns-clause-owed
 returns-clause-owed c = c.store.ensures.leaves.1.1.tells_so.1
+
+pub returns-clause-possible : goal.returns-clause-possible
+returns-clause-possible c = is_possible (setup_of c.args.table.now.shared.key) _ _ c.store.ensures.possible

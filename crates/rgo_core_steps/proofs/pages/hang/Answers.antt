@@ -1,6 +1,7 @@
 use Rattle.std.proofs.Common.{arith}
 use Rattle.rgo_core_rule.specs.Views.{number_of}
 use Rattle.rgo_core.specs.Plans.{setup_of}
+use Rattle.rgo_core.proofs.Possible.{is_possible}
 use Rattle.rgo_core_steps.proofs.Paging.{hang_moves}
 use Rattle.rgo_core_steps.proofs.Layouts.{head_low}
 use Rattle.rgo_core_steps.specs.Seats.{mine}
@@ -17,3 +18,6 @@ swap-requires-clause-asks c =
 
 pub returns-clause-leaves : goal.returns-clause-leaves
 returns-clause-leaves c = rw c.head_at-word.ensures at c.swap.ensures.leaves
+
+pub returns-clause-possible : goal.returns-clause-possible
+returns-clause-possible c = is_possible (setup_of c.args.table.now.shared.key) _ _ c.swap.ensures.possible

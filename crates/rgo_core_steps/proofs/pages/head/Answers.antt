@@ -5,6 +5,7 @@ use Rattle.rgo_core.specs.Chains.{remembers}
 use Rattle.rgo_core_memory.specs.Words.{head_at}
 use Rattle.rgo_core_memory.specs.Records.{Giving, with_give}
 use Rattle.rgo_core.specs.Plans.{setup_of}
+use Rattle.rgo_core.proofs.Possible.{is_possible}
 use Rattle.rgo_core.proofs.Chains.{head_move}
 use Rattle.rgo_core_steps.proofs.Lefts.{left_as}
 use Rattle.rgo_core_steps.proofs.Layouts.{head_low}
@@ -36,3 +37,6 @@ returns-clause-within c = subst (λ z. c.load.result ≤ z.pages) (sym c.require
 
 pub returns-clause-owed : goal.returns-clause-owed
 returns-clause-owed c = subst (λ z. (mine (setup_of c.args.table.now.shared.key) c.args.seat.now.me).clock.owed ≤ z.pages) (sym c.requires.layout.sizes) c.load.ensures.leaves.1.tells_so.2
+
+pub returns-clause-possible : goal.returns-clause-possible
+returns-clause-possible c = is_possible (setup_of c.args.table.now.shared.key) _ _ c.load.ensures.possible

@@ -1,5 +1,6 @@
 use Rattle.rgo_core_rule.specs.Views.{number_of}
 use Rattle.rgo_core.specs.Plans.{setup_of}
+use Rattle.rgo_core.proofs.Possible.{is_possible}
 use Rattle.rgo_core.proofs.Chains.{link_move}
 use Rattle.rgo_core_steps.proofs.Layouts.{next_low}
 use Rattle.rgo_core_steps.specs.Seats.{mine}
@@ -16,3 +17,6 @@ store-requires-clause-asks c =
 
 pub returns-clause-leaves : goal.returns-clause-leaves
 returns-clause-leaves c = rw c.next_at.ensures at c.store.ensures.leaves
+
+pub returns-clause-possible : goal.returns-clause-possible
+returns-clause-possible c = is_possible (setup_of c.args.table.now.shared.key) _ _ c.store.ensures.possible

@@ -5,6 +5,7 @@ use Rattle.rgo_core.specs.Chains.{remembers}
 use Rattle.rgo_core_memory.specs.Words.{next_at}
 use Rattle.rgo_core_memory.specs.Records.{Past, with_give}
 use Rattle.rgo_core.specs.Plans.{setup_of}
+use Rattle.rgo_core.proofs.Possible.{is_possible}
 use Rattle.rgo_core_steps.proofs.Paging.{next_moves}
 use Rattle.rgo_core_steps.proofs.Lefts.{left_after}
 use Rattle.rgo_core_steps.proofs.Layouts.{next_low}
@@ -30,3 +31,6 @@ returns-clause-leaves c =
 
 pub returns-clause-within : goal.returns-clause-within
 returns-clause-within c = subst (λ z. c.load.result ≤ z.pages) (sym c.requires.layout.sizes) c.load.ensures.leaves.1.tells_so.1
+
+pub returns-clause-possible : goal.returns-clause-possible
+returns-clause-possible c = is_possible (setup_of c.args.table.now.shared.key) _ _ c.load.ensures.possible

@@ -1,0 +1,22 @@
+use Rattle.rgo_core_rule.specs.Views.{number_of}
+use Rattle.rgo_core.specs.Plans.{setup_of}
+use Rattle.rgo_core.proofs.Possible.{is_possible}
+use Rattle.rgo_core_steps.proofs.Accesses.{nil_length_moves}
+use Rattle.rgo_core_steps.proofs.Settling.{settles}
+use Rattle.rgo_core_steps.specs.Seats.{settled}
+use Rattle.rgo_core_steps.proofs.memory.length_of_nil.Goals as goal
+
+pub load-requires-clause-asks : goal.load-requires-clause-asks
+load-requires-clause-asks c =
+    let T = setup_of c.args.table.now.shared.key in
+    let me = c.args.seat.now.me in (
+      c.requires.alone,
+      settles T c.args.behind me _ _ _ c.requires.settles
+          (nil_length_moves T (number_of me) (settled T c.args.behind me) c.requires.rests c.requires.nil),
+    )
+
+pub returns-clause-leaves : goal.returns-clause-leaves
+returns-clause-leaves c = (c.load.result, c.load.ensures.leaves)
+
+pub returns-clause-possible : goal.returns-clause-possible
+returns-clause-possible c = is_possible (setup_of c.args.table.now.shared.key) _ _ c.load.ensures.possible
