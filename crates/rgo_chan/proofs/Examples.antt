@@ -5,6 +5,8 @@ use Rattle.rgo_code.specs.Code.{CodeInstr, CodeOp, Do}
 use Rattle.rgo_core.specs.ChannelExamples.{sending}
 use Rattle.rgo_core.specs.Core.{Setup, layout}
 use Rattle.rgo_core.specs.Next.{IsAt}
+use Rattle.rgo_core.specs.Records.{Record}
+use Rattle.rgo_core_channels.specs.Records.{Rec as SideRec, at_rest, offering, with_look, with_own_look}
 use Rattle.rgo_core_frames.specs.WordFrames.{WordFrame, bare, word_at}
 use Rattle.rgo_core_rule.specs.declared.accesses.Access.{Access}
 use Rattle.rgo_core_steps.specs.Calls.{Did, waited}
@@ -14,12 +16,12 @@ use Rattle.rgo_machine.specs.declared.limits.Sizes.{Sizes}
 use Rattle.rgo_region_machine.specs.Examples.{int_slot, main_of, plain}
 use Rattle.rgo_region_machine.specs.Owed.{current}
 use Rattle.rgo_typed.specs.declared.actions.Action.TheVariants.{Recv, Send}
-use Rattle.rgo_chan.specs.Answers.{Sends, loads_capacity, loads_control, looked, looks}
+use Rattle.rgo_chan.specs.Answers.{Acknowledges, Closes, Sends, loads_capacity, loads_control, looked, looks}
 use Rattle.rgo_chan.specs.Before.{IsBeforeReceive, IsBeforeSend, SendsAt}
 use Rattle.rgo_core_memory.specs.Words.{base}
-use Rattle.rgo_chan.specs.Ready.{IsFull}
-use Rattle.rgo_chan.specs.Examples.{AnswerExamples, ReadyExamples, before, first_seat, looked_seat, on_nil}
-use Rattle.rgo_chan.specs.declared.answers.Tried.TheVariants.{Busy, Done, NotReady}
+use Rattle.rgo_chan.specs.Ready.{IsClosed, IsFull, IsOffered}
+use Rattle.rgo_chan.specs.Examples.{AnswerExamples, ReadyExamples, before, first_seat, loaded_seat, looked_seat, on_nil, with_offer}
+use Rattle.rgo_chan.specs.declared.answers.Tried.TheVariants.{Busy, Done, NotReady, Trap}
 
 apart : (a b : ℕ) → a ≡ b → a < b → ⊥
 apart a b e h = omega arith
@@ -185,6 +187,41 @@ module _ (T : Setup) where
   not_done : Sends T 700 before 3 (Done 0) (first_seat before) 5 (looked_seat before 4) 7 → ⊥
   not_done a = apart 7 10 a.7.counted (omega arith)
 
+  -- this control was loaded, and the load was counted
+  did_load : (old side : SideRec) (n : ℕ)
+      → (let c : Record = record before { side = old } in
+      Did T (first_seat c) 5 (λ g. loads_control 700 n g ∷ []) (waited 1 c side) (loaded_seat c side n) 6)
+  did_load old side n = record {
+    made = record {
+      es = loads_control 700 n 0 ∷ [];
+      grew = record { alone = (refl, refl); same = refl; seen = refl; more = refl; counts = λ any. refl };
+      own = refl;
+      after = refl;
+    };
+    counted = refl;
+  }
+
+  loaded_is : (n k : ℕ) (es : List Access) → loads_control 700 n 0 ∷ [] ≡ [] ++ es → own_by 0 es ≡ loads_control 700 k 0 ∷ [] → n ≡ k
+  loaded_is n k es seen own =
+      let e : loads_control 700 n 0 ∷ [] ≡ loads_control 700 k 0 ∷ [] = ap (own_by 0) seen ∙ own in
+      let one : loads_control 700 n 0 ≡ loads_control 700 k 0 = cc in
+      ap (λ (a : Access). a.found) one
+
+  not_closed_before : Closes T 700 before (Trap 6) (first_seat before) 5 (loaded_seat before at_rest 4) 6 → ⊥
+  not_closed_before a =
+      let is = loaded_is 4 a.1 a.4.made.es a.4.made.grew.seen a.4.made.own in
+      apart 0 1 (subst IsClosed (sym is) a.3) (omega arith)
+
+  taken : Acknowledges T 700 with_offer NotReady (first_seat with_offer) 5 (loaded_seat with_offer (offering 700) 8) 6 → ⊥
+  taken a =
+      let is = loaded_is 8 a.0 a.4.made.es a.4.made.grew.seen a.4.made.own in
+      apart 1 2 (sym (subst IsOffered (sym is) a.3)) (omega arith)
+
+  not_stranded : Acknowledges T 700 with_offer (Trap 5) (first_seat with_offer) 5 (loaded_seat with_offer (offering 700) 4) 6 → ⊥
+  not_stranded a =
+      let is = loaded_is 4 a.1 a.5.made.es a.5.made.grew.seen a.5.made.own in
+      apart 0 1 (subst IsClosed (sym is) a.3) (omega arith)
+
 pub answer_examples : AnswerExamples
 answer_examples = record {
   sends = at_send;
@@ -200,4 +237,14 @@ answer_examples = record {
   busy = λ T. inl (2, refl, did_look T 9);
   found_another = found_another;
   no_trap = λ T e a. a;
+  close_busy = λ T. inl (refl, did_load T at_rest at_rest 5);
+  closed_before = λ T. (refl, 2, refl, refl, did_load T at_rest (with_look at_rest 700 2) 2);
+  not_closed_before = not_closed_before;
+  not_closed = λ T a. apart 6 8 a.5.counted (omega arith);
+  no_wait = λ T m w s t a. a;
+  not_taken = λ T. (4, refl, refl, refl, did_load T (offering 700) (offering 700) 4);
+  taken = taken;
+  stranded = λ T. (refl, 6, refl, refl, refl, did_load T (offering 700) (with_own_look (offering 700) 700 6) 6);
+  not_stranded = not_stranded;
+  not_acknowledged = λ T a. apart 6 8 a.5.counted (omega arith);
 }

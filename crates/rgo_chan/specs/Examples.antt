@@ -3,12 +3,13 @@ use Rattle.std.specs.Prelude.{◌+◌, ℕ, [], ◌∷◌}
 use Rattle.rgo_core.specs.ChannelExamples.{sending, with_words}
 use Rattle.rgo_core.specs.Core.{Setup, layout}
 use Rattle.rgo_core.specs.Records.{Record}
+use Rattle.rgo_core_channels.specs.Records.{Rec as SideRec, at_rest, offering, with_look, with_own_look}
 use Rattle.rgo_core_memory.specs.Words.{base}
 use Rattle.rgo_core_rule.specs.Views.{Me, view}
 use Rattle.rgo_core_steps.specs.Calls.{waited}
 use Rattle.rgo_machine.specs.declared.limits.Limits.{Limits}
 use Rattle.rgo_machine.specs.declared.limits.Sizes.{Sizes}
-use Rattle.rgo_chan.specs.Answers.{Receives, Sends, looked, looks}
+use Rattle.rgo_chan.specs.Answers.{Acknowledges, Closes, Receives, Sends, loads_control, looked, looks}
 use Rattle.rgo_chan.specs.Before.{IsBeforeReceive, IsBeforeSend, LiesIn, SendsAt}
 use Rattle.rgo_chan.specs.Ready.{HasNoOffer, HasOffer, HasRoom, HasValue, IsClosed, IsDrained, IsEmpty, IsFull, IsOpen, IsUnlocked}
 use Rattle.rgo_chan.specs.declared.answers.Tried.TheVariants.{Busy, Done, NotReady, Trap}
@@ -27,6 +28,14 @@ first_seat c = (view ((0, c) ∷ []) [], [])
 -- the seat after a load of the capacity 2 and of this control at word 700
 abbrev pub looked_seat : Record → (control : ℕ) → Me Record
 looked_seat c n = (view ((0, waited 2 c (looked 700 c.side 2 n)) ∷ []) (looks 700 2 n 0), [])
+
+-- the same after a load of this control alone, after which it knows this of channels
+abbrev pub loaded_seat : Record → SideRec → (control : ℕ) → Me Record
+loaded_seat c side n = (view ((0, waited 1 c side) ∷ []) (loads_control 700 n 0 ∷ []), [])
+
+-- with an offer at the channel
+abbrev pub with_offer : Record
+with_offer = record before { side = offering 700 }
 
 pub record ReadyExamples : Type 0 where
   pub unlocked : IsUnlocked 4
@@ -73,3 +82,23 @@ pub record AnswerExamples : Type 0 where
   pub found_another : (T : Setup) → Sends T 700 before 3 (Busy 11) (first_seat before) 5 (looked_seat before 9) 7 → ⊥
   -- a receive ends no run
   pub no_trap : (T : Setup) (e : ℕ) → Receives T 700 before (Trap e) (first_seat before) 5 (looked_seat before 2) 7 → ⊥
+  -- ---- closes
+  pub close_busy : (T : Setup) → Closes T 700 before (Busy 5) (first_seat before) 5 (loaded_seat before at_rest 5) 6
+  pub closed_before : (T : Setup) → Closes T 700 before (Trap 6) (first_seat before) 5 (loaded_seat before (with_look at_rest 700 2) 2) 6
+  -- it is open
+  pub not_closed_before : (T : Setup) → Closes T 700 before (Trap 6) (first_seat before) 5 (loaded_seat before at_rest 4) 6 → ⊥
+  -- nothing was stored
+  pub not_closed : (T : Setup) → Closes T 700 before (Done 0) (first_seat before) 5 (loaded_seat before at_rest 4) 6 → ⊥
+  -- a close never waits for another goroutine's operation
+  pub no_wait : (T : Setup) (m w : Me Record) (s t : ℕ) → Closes T 700 before NotReady m s w t → ⊥
+  -- ---- acknowledgements
+  pub not_taken : (T : Setup) → Acknowledges T 700 with_offer NotReady (first_seat with_offer) 5 (loaded_seat with_offer (offering 700) 4) 6
+  -- the offer was taken
+  pub taken : (T : Setup) → Acknowledges T 700 with_offer NotReady (first_seat with_offer) 5 (loaded_seat with_offer (offering 700) 8) 6 → ⊥
+  -- the channel was closed with the offer
+  pub stranded : (T : Setup) → Acknowledges T 700 with_offer (Trap 5) (first_seat with_offer) 5
+      (loaded_seat with_offer (with_own_look (offering 700) 700 6) 6) 6
+  -- it is open
+  pub not_stranded : (T : Setup) → Acknowledges T 700 with_offer (Trap 5) (first_seat with_offer) 5 (loaded_seat with_offer (offering 700) 4) 6 → ⊥
+  pub not_acknowledged : (T : Setup) → Acknowledges T 700 with_offer (Done 0) (first_seat with_offer) 5
+      (loaded_seat with_offer (offering 700) 8) 6 → ⊥

@@ -9,7 +9,7 @@ ghost use Rattle.rgo_core.specs.Plans.{setup_of};
 ghost use Rattle.rgo_core_channels.specs.Records.{Free, Offering};
 ghost use Rattle.rgo_core_memory.specs.Words.{all_words, base as base_of};
 ghost use Rattle.rgo_core_steps.specs.Calls.{IsSeatIn};
-ghost use Rattle.rgo_core_steps.specs.Seats.{HasOne, Settles, mine, settled};
+ghost use Rattle.rgo_core_steps.specs.Seats.{HasOne, HasPossible, Settles, mine, settled};
 
 use crate::answers::Tried;
 use rgo_core::table::{RunSeat, RunTable};
@@ -36,6 +36,7 @@ fn close_at<L: Ledger>(
     ensures steps { steps.new ≤ steps.old + 3 }
     ensures answers { let T = setup_of table.now.shared.key in
         Closes T at (settled T behind seat.old.me) result seat.old.me steps.old seat.new.me steps.new }
+    ensures possible { HasPossible (setup_of table.now.shared.key) seat.new.me }
 {
     let control = control(table, seat, behind, at);
     steps.tick();
@@ -83,6 +84,7 @@ pub fn close_channel<L: Ledger>(
     ensures answers { channel ≢ 0 → let T = setup_of table.now.shared.key in
         Closes T (control_at base channel) (settled T behind seat.old.me) result
         seat.old.me steps.old seat.new.me steps.new }
+    ensures possible { channel ≢ 0 → HasPossible (setup_of table.now.shared.key) seat.new.me }
 {
     if channel == 0 {
         return Tried::Trap(7);
@@ -113,6 +115,7 @@ pub fn acknowledge<L: Ledger>(
     ensures steps { steps.new ≤ steps.old + 3 }
     ensures answers { let T = setup_of table.now.shared.key in
         Acknowledges T at (mine T seat.old.me) result seat.old.me steps.old seat.new.me steps.new }
+    ensures possible { HasPossible (setup_of table.now.shared.key) seat.new.me }
 {
     let control = own_control(table, seat, at);
     steps.tick();

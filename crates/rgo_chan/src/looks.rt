@@ -6,7 +6,7 @@ ghost use Rattle.rgo_core.specs.Core.{layout};
 ghost use Rattle.rgo_core.specs.Plans.{setup_of};
 ghost use Rattle.rgo_core_memory.specs.Words.{all_words};
 ghost use Rattle.rgo_core_steps.specs.Calls.{IsSeatIn};
-ghost use Rattle.rgo_core_steps.specs.Seats.{HasOne, Settles, settled};
+ghost use Rattle.rgo_core_steps.specs.Seats.{HasOne, HasPossible, Settles, settled};
 
 use rgo_core::table::{RunSeat, RunTable};
 use rgo_core_steps::channels::{capacity, control};
@@ -38,6 +38,7 @@ pub(crate) fn look<L: Ledger>(
     ensures looked { let T = setup_of table.now.shared.key in
         Looked T at (settled T behind seat.old.me) result.size result.control
         seat.old.me steps.old seat.new.me steps.new }
+    ensures possible { HasPossible (setup_of table.now.shared.key) seat.new.me }
 {
     let size = capacity(table, seat, behind, at);
     steps.tick();

@@ -13,7 +13,7 @@ ghost use Rattle.rgo_core_memory.specs.Words.{all_words, base as base_of};
 ghost use Rattle.rgo_core_steps.specs.Accesses.{given_type};
 ghost use Rattle.rgo_core_steps.specs.After.{committing};
 ghost use Rattle.rgo_core_steps.specs.Calls.{Did, IsSeatIn, accessing};
-ghost use Rattle.rgo_core_steps.specs.Seats.{HasOne, Settles, mine, settled};
+ghost use Rattle.rgo_core_steps.specs.Seats.{HasOne, HasPossible, Settles, mine, settled};
 
 use crate::answers::{Tried, has_value, is_empty};
 use crate::looks::look;
@@ -50,6 +50,7 @@ fn pop<L: Ledger>(
         (committing T.code (accessing 1 (mine T seat.old.me)) result) seat.new.me steps.new }
     ensures points { let T = setup_of table.now.shared.key in
         Points T (given_type T (mine T seat.old.me)) result }
+    ensures possible { HasPossible (setup_of table.now.shared.key) seat.new.me }
 {
     let value = load_cell(table, seat, at, head(control) as usize);
     steps.tick();
@@ -81,6 +82,7 @@ fn take_offer<L: Ledger>(
         (committing T.code (accessing 1 (mine T seat.old.me)) result) seat.new.me steps.new }
     ensures points { let T = setup_of table.now.shared.key in
         Points T (given_type T (mine T seat.old.me)) result }
+    ensures possible { HasPossible (setup_of table.now.shared.key) seat.new.me }
 {
     let value = load_cell(table, seat, at, 0);
     steps.tick();
@@ -107,6 +109,7 @@ fn receive_at<L: Ledger>(
     ensures steps { steps.new ≤ steps.old + 5 }
     ensures answers { let T = setup_of table.now.shared.key in
         Receives T at (settled T behind seat.old.me) result seat.old.me steps.old seat.new.me steps.new }
+    ensures possible { HasPossible (setup_of table.now.shared.key) seat.new.me }
 {
     let seen = look(table, seat, behind, at, steps);
     let size = seen.size;
@@ -165,6 +168,7 @@ pub fn receive<L: Ledger>(
     ensures answers { channel ≢ 0 → let T = setup_of table.now.shared.key in
         Receives T (control_at base channel) (settled T behind seat.old.me) result
         seat.old.me steps.old seat.new.me steps.new }
+    ensures possible { channel ≢ 0 → HasPossible (setup_of table.now.shared.key) seat.new.me }
 {
     if channel == 0 {
         return Tried::NotReady;

@@ -13,7 +13,7 @@ ghost use Rattle.rgo_core_channels.specs.Records.{Free};
 ghost use Rattle.rgo_core_memory.specs.Words.{all_words, base as base_of};
 ghost use Rattle.rgo_core_steps.specs.After.{committing};
 ghost use Rattle.rgo_core_steps.specs.Calls.{Did, IsSeatIn, accessing};
-ghost use Rattle.rgo_core_steps.specs.Seats.{HasOne, Settles, mine, settled};
+ghost use Rattle.rgo_core_steps.specs.Seats.{HasOne, HasPossible, Settles, mine, settled};
 
 use crate::answers::{Tried, is_full};
 use crate::looks::look;
@@ -47,6 +47,7 @@ fn push<L: Ledger>(
         (λ g. stores_cell at ((head_of control + count_of control) % size) x value g
         ∷ commits at y (control + 4) g ∷ [])
         (committing T.code (accessing 1 (mine T seat.old.me)) 0) seat.new.me steps.new }
+    ensures possible { HasPossible (setup_of table.now.shared.key) seat.new.me }
 {
     let cell = free_cell(control, size);
     store_cell(table, seat, at, cell as usize, value);
@@ -77,6 +78,7 @@ fn offer<L: Ledger>(
         × Did T seat.old.me steps.old
         (λ g. stores_cell at 0 x value g ∷ commits at y (control + 4) g ∷ [])
         (offers (accessing 1 (mine T seat.old.me)) at) seat.new.me steps.new }
+    ensures possible { HasPossible (setup_of table.now.shared.key) seat.new.me }
 {
     store_cell(table, seat, at, 0, value);
     steps.tick();
@@ -103,6 +105,7 @@ fn send_at<L: Ledger>(
     ensures steps { steps.new ≤ steps.old + 5 }
     ensures answers { let T = setup_of table.now.shared.key in
         Sends T at (settled T behind seat.old.me) value result seat.old.me steps.old seat.new.me steps.new }
+    ensures possible { HasPossible (setup_of table.now.shared.key) seat.new.me }
 {
     let seen = look(table, seat, behind, at, steps);
     let size = seen.size;
@@ -161,6 +164,7 @@ pub fn send<L: Ledger>(
     ensures answers { channel ≢ 0 → let T = setup_of table.now.shared.key in
         Sends T (control_at base channel) (settled T behind seat.old.me) value result
         seat.old.me steps.old seat.new.me steps.new }
+    ensures possible { channel ≢ 0 → HasPossible (setup_of table.now.shared.key) seat.new.me }
 {
     if channel == 0 {
         return Tried::NotReady;

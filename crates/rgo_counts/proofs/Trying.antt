@@ -1,7 +1,8 @@
 -- Exchanges of counts, by what each found.
 use prog.Atomic.{either}
-use Rattle.std.proofs.Common.{◌≡◌, ◌≢◌, ◌<◌, ◌+◌, ℕ, suc, ◌==◌, List, [], ◌∷◌, Option, Some, None, add-one, arith, refl, ap, ◌∙◌}
+use Rattle.std.proofs.Common.{◌≡◌, ◌≢◌, ◌<◌, ◌+◌, ℕ, suc, ◌==◌, false, List, [], ◌∷◌, Option, Some, None, add-one, arith, refl, ap, sym, ◌∙◌}
 use Rattle.rgo_region_machine.specs.States.{Duty}
+use Rattle.rgo_sound.specs.Stakes.{is_in}
 use Rattle.rgo_core_channels.specs.Records.{at_rest}
 use Rattle.rgo_core_frames.specs.Records.{Rec as FrameRec}
 use Rattle.rgo_core_rule.specs.Views.{Me, number_of}
@@ -30,6 +31,12 @@ missing_side (t ∷ ts) c rests = missing_side ts (tried_slot c t.place) rests
 
 pub missing_creates : (ts : List Miss) (c : Record) → IsCreating c → IsCreating (missing tried_slot c ts)
 missing_creates ts c (name, ds, are) = (name, ds, ap (λ (f : FrameRec). f.holder.duties) (missing_frame ts c) ∙ are)
+
+-- what was found of a record's stakes after some tries was so before them
+pub still_fresh : (ts : List Miss) (c d : Record) (s : ℕ) → d ≡ missing tried_slot c ts → is_in s d.frame.holder.stakes ≡ false
+    → is_in s c.frame.holder.stakes ≡ false
+still_fresh ts c d s e f =
+    ap (λ (r : FrameRec). is_in s r.holder.stakes) (sym (ap (λ (x : Record). x.frame) e ∙ missing_frame ts c)) ∙ f
 
 created_counts : (c : Record) (p : ℕ) → IsCreating c → accesses (created c p) ≡ suc (accesses c)
 created_counts c p (name, ds, are) = ap (λ (l : List Duty). accesses (created_with c p l)) are

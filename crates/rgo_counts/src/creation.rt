@@ -3,13 +3,14 @@
 //! 1. Looks, which change nothing and show nothing, find the slot at which to begin: the first that looks free.
 //! 2. From there on once around, the count of each slot is exchanged, 2 for 0, until a count is found 0. That slot is the region's.
 //! 3. If none is found 0, each count was found in use by an exchange of this call, and the record remembers each slot.
-ghost use Rattle.std.specs.Prelude.{◌≡◌, ◌<◌, ◌≤◌, ◌+◌, ◌*◌, ◌-◌, ◌≢◌, ℕ, IfErr, IfOk, IfSome};
+ghost use Rattle.std.specs.Prelude.{◌≡◌, ◌<◌, ◌≤◌, ◌+◌, ◌*◌, ◌-◌, ◌≢◌, ℕ, false, IfErr, IfOk, IfSome};
 ghost use Rattle.rgo_core.specs.Opening.{first_of};
 ghost use Rattle.rgo_core.specs.Plans.{setup_of};
 ghost use Rattle.rgo_core_channels.specs.Records.{at_rest};
+ghost use Rattle.rgo_sound.specs.Stakes.{is_in};
 ghost use Rattle.rgo_core_steps.specs.Counts.{IsCreating};
 ghost use Rattle.rgo_core_steps.specs.Layouts.{HasLayout};
-ghost use Rattle.rgo_core_steps.specs.Seats.{HasOne, Settles, mine, settled};
+ghost use Rattle.rgo_core_steps.specs.Seats.{HasOne, HasPossible, Settles, mine, settled};
 ghost use Rattle.rgo_counts.specs.Creation.{AllSlotsTried, FullLaw, SlotOrNone, SlotTaken, SlotsTried};
 
 use rgo_core::table::{RunSeat, RunTable};
@@ -22,7 +23,8 @@ use std::sync::ledger::Ledger;
 #[derive(Clone, Copy, Debug, PartialEq, Eq)]
 pub struct NoSlot;
 
-/// Creates the region of the first duty, and returns its slot. The search begins at slot 0.
+/// Creates the region of the first duty, and returns its slot, in which the goroutine has no stake before. The search begins at
+/// slot 0.
 pub fn create<L: Ledger>(
     table: &RunTable,
     seat: &mut RunSeat,
@@ -42,6 +44,9 @@ pub fn create<L: Ledger>(
         SlotTaken T sizes.now (settled T behind seat.old.me) slot seat.old.me seat.new.me) }
     ensures full { let T = setup_of table.now.shared.key in IfErr result (λ e.
         AllSlotsTried T sizes.now (settled T behind seat.old.me) seat.old.me seat.new.me) }
+    ensures fresh { let T = setup_of table.now.shared.key in IfOk result (λ slot.
+        is_in slot (settled T behind seat.old.me).frame.holder.stakes ≡ false) }
+    ensures possible { HasPossible (setup_of table.now.shared.key) seat.new.me }
     ensures cost { steps.new ≤ steps.old + 2 * sizes.now.slots }
 {
     create_from(table, seat, behind, sizes, 0, steps)
@@ -68,6 +73,9 @@ pub fn create_from<L: Ledger>(
         SlotTaken T sizes.now (settled T behind seat.old.me) slot seat.old.me seat.new.me) }
     ensures full { let T = setup_of table.now.shared.key in IfErr result (λ e.
         AllSlotsTried T sizes.now (settled T behind seat.old.me) seat.old.me seat.new.me) }
+    ensures fresh { let T = setup_of table.now.shared.key in IfOk result (λ slot.
+        is_in slot (settled T behind seat.old.me).frame.holder.stakes ≡ false) }
+    ensures possible { HasPossible (setup_of table.now.shared.key) seat.new.me }
     ensures cost { steps.new ≤ steps.old + 2 * sizes.now.slots }
 {
     match take(table, seat, behind, sizes, from as usize, steps) {
@@ -100,6 +108,9 @@ fn take<L: Ledger>(
     ensures own { (seat.new.table_id ≡ seat.old.table_id) × (seat.new.id ≡ seat.old.id) }
     ensures taken { let T = setup_of table.now.shared.key in
         SlotOrNone T sizes.now (settled T behind seat.old.me) result seat.old.me seat.new.me }
+    ensures fresh { let T = setup_of table.now.shared.key in IfSome result (λ slot.
+        is_in slot (settled T behind seat.old.me).frame.holder.stakes ≡ false) }
+    ensures possible { HasPossible (setup_of table.now.shared.key) seat.new.me }
     ensures cost { steps.new ≤ steps.old + 2 * sizes.now.slots }
 {
     let start = beginning(table, sizes, from, steps);
@@ -170,10 +181,14 @@ fn try_slots<L: Ledger>(
     requires alone { HasOne (setup_of table.now.shared.key) seat.old.me }
     requires rests { (mine (setup_of table.now.shared.key) seat.old.me).side ≡ at_rest }
     requires creates { IsCreating (mine (setup_of table.now.shared.key) seat.old.me) }
+    requires possible { HasPossible (setup_of table.now.shared.key) seat.old.me }
     requires ends { (first ≤ end) × (end ≤ sizes.now.slots) }
     ensures own { (seat.new.table_id ≡ seat.old.table_id) × (seat.new.id ≡ seat.old.id) }
     ensures tried { let T = setup_of table.now.shared.key in
         SlotsTried T sizes.now first end (mine T seat.old.me) result seat.old.me seat.new.me }
+    ensures fresh { let T = setup_of table.now.shared.key in IfSome result (λ slot.
+        is_in slot (mine T seat.old.me).frame.holder.stakes ≡ false) }
+    ensures possible { HasPossible (setup_of table.now.shared.key) seat.new.me }
     ensures cost { steps.new ≤ steps.old + (end - first) }
 {
     for slot in first..end {

@@ -9,7 +9,7 @@ ghost use Rattle.rgo_core_memory.specs.Words.{count_at};
 ghost use Rattle.rgo_core_rule.specs.declared.accesses.Kind.TheVariants as kind;
 ghost use Rattle.rgo_core_steps.specs.Counts.{IsLeaving, IsSharing, Leaving, shared};
 ghost use Rattle.rgo_core_steps.specs.Layouts.{HasLayout};
-ghost use Rattle.rgo_core_steps.specs.Seats.{HasOne, Left as HasLeft, Settles, Stored, mine, settled};
+ghost use Rattle.rgo_core_steps.specs.Seats.{HasOne, HasPossible, Left as HasLeft, Settles, Stored, mine, settled};
 ghost use Rattle.rgo_counts.specs.declared.stakes.Left.TheVariants.{Last};
 
 use rgo_core::table::{RunSeat, RunTable};
@@ -47,6 +47,7 @@ pub fn share<L: Ledger>(
     ensures leaves { let T = setup_of table.now.shared.key in (n : ℕ)
         × HasLeft T kind.ShareRegion (count_at sizes.now slot) (λ n. (n + 1) % 2 ^ 64)
         (λ n d. d ≡ shared (settled T behind seat.old.me)) seat.old.me n seat.new.me }
+    ensures possible { HasPossible (setup_of table.now.shared.key) seat.new.me }
     ensures cost { steps.new ≡ steps.old + 1 }
 {
     steps.tick();
@@ -73,6 +74,7 @@ pub fn leave<L: Ledger>(
     ensures leaves { let T = setup_of table.now.shared.key in (n : ℕ) × ((result ≡ Last) ↔ (n ≡ 2))
         × HasLeft T kind.LeaveRegion (count_at sizes.now slot) (λ n. (n + (2 ^ 64 - 1)) % 2 ^ 64)
         (Leaving (settled T behind seat.old.me) slot) seat.old.me n seat.new.me }
+    ensures possible { HasPossible (setup_of table.now.shared.key) seat.new.me }
     ensures cost { steps.new ≡ steps.old + 1 }
 {
     steps.tick();
@@ -96,6 +98,7 @@ pub fn free_slot<L: Ledger>(
     ensures own { (seat.new.table_id ≡ seat.old.table_id) × (seat.new.id ≡ seat.old.id) }
     ensures leaves { let T = setup_of table.now.shared.key in Stored T kind.FreeSlot (count_at sizes.now slot) 0
         (remembers (mine T seat.old.me) (with_give (mine T seat.old.me).memory Calm)) seat.old.me seat.new.me }
+    ensures possible { HasPossible (setup_of table.now.shared.key) seat.new.me }
     ensures cost { steps.new ≡ steps.old + 1 }
 {
     steps.tick();

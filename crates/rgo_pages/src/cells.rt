@@ -6,12 +6,12 @@ ghost use Rattle.rgo_core.specs.Core.{layout};
 ghost use Rattle.rgo_core.specs.Links.{IsAtElement};
 ghost use Rattle.rgo_core.specs.Plans.{setup_of};
 ghost use Rattle.rgo_core_channels.specs.Records.{at_rest};
-ghost use Rattle.rgo_core_memory.specs.Words.{base};
+ghost use Rattle.rgo_core_memory.specs.Words.{base, clock_at};
 ghost use Rattle.rgo_core_rule.specs.declared.accesses.Kind.TheVariants as kind;
-ghost use Rattle.rgo_core_steps.specs.Accesses.{Loads, Stores, given_type};
+ghost use Rattle.rgo_core_steps.specs.Accesses.{LengthOfNil, Loads, Stores, given_type};
 ghost use Rattle.rgo_core_steps.specs.After.{acting};
 ghost use Rattle.rgo_core_steps.specs.Making.{IsNewWord, NewPoints, filling};
-ghost use Rattle.rgo_core_steps.specs.Seats.{HasOne, IsSeatOf, Left, Settles, Stored, settled};
+ghost use Rattle.rgo_core_steps.specs.Seats.{HasOne, HasPossible, IsSeatOf, Left, Settles, Stored, settled};
 
 use rgo_core::table::{RunSeat, RunTable};
 use rgo_core_steps::counting::Steps;
@@ -38,6 +38,7 @@ pub fn zero<L: Ledger>(
     ensures leaves { let T = setup_of table.now.shared.key in Stored T kind.Fill word value
         (filling T (settled T behind seat.old.me) index) seat.old.me seat.new.me }
     ensures points { let T = setup_of table.now.shared.key in NewPoints T (settled T behind seat.old.me) index }
+    ensures possible { HasPossible (setup_of table.now.shared.key) seat.new.me }
     ensures cost { steps.new ≡ steps.old + 1 }
 {
     steps.tick();
@@ -62,10 +63,35 @@ pub fn load<L: Ledger>(
     ensures leaves { let T = setup_of table.now.shared.key in Left T kind.Load word (λ n. n)
         (λ n d. (d ≡ acting T.code (settled T behind seat.old.me) n)
         × Points T (given_type T (settled T behind seat.old.me)) n) seat.old.me result seat.new.me }
+    ensures possible { HasPossible (setup_of table.now.shared.key) seat.new.me }
     ensures cost { steps.new ≡ steps.old + 1 }
 {
     steps.tick();
     memory::load(table, seat, behind, word)
+}
+
+/// Takes the length of nil as the next instruction: it is 0, and no word is loaded for it. By a load of the clock the instruction
+/// is in the run.
+pub fn length_of_nil<L: Ledger>(
+    table: &RunTable,
+    seat: &mut RunSeat,
+    behind: u64,
+    steps: &mut Steps<L>,
+)
+    requires own { IsSeatOf seat.old.table_id table.now.shared.table_id clock_at }
+    requires alone { HasOne (setup_of table.now.shared.key) seat.old.me }
+    requires settles { Settles (setup_of table.now.shared.key) behind seat.old.me }
+    requires rests { (settled (setup_of table.now.shared.key) behind seat.old.me).side ≡ at_rest }
+    requires nil { let T = setup_of table.now.shared.key in LengthOfNil T (settled T behind seat.old.me) }
+    ensures own { (seat.new.table_id ≡ seat.old.table_id) × (seat.new.id ≡ seat.old.id) }
+    ensures leaves { let T = setup_of table.now.shared.key in (n : ℕ)
+        × Left T kind.Load clock_at (λ n. n) (λ n d. d ≡ acting T.code (settled T behind seat.old.me) 0)
+        seat.old.me n seat.new.me }
+    ensures possible { HasPossible (setup_of table.now.shared.key) seat.new.me }
+    ensures cost { steps.new ≡ steps.old + 1 }
+{
+    steps.tick();
+    memory::length_of_nil(table, seat, behind);
 }
 
 /// Loads the length of the slice at this address, before the next instruction loads or stores one of its elements. They all lie in
@@ -87,6 +113,7 @@ pub fn measure<L: Ledger>(
     ensures leaves { let T = setup_of table.now.shared.key in Left T kind.Load word (λ n. n)
         (λ n d. (d ≡ measures (settled T behind seat.old.me) address n) × LieInPages T address (n + 1))
         seat.old.me result seat.new.me }
+    ensures possible { HasPossible (setup_of table.now.shared.key) seat.new.me }
     ensures cost { steps.new ≡ steps.old + 1 }
 {
     steps.tick();
@@ -110,6 +137,7 @@ pub fn store<L: Ledger>(
     ensures own { (seat.new.table_id ≡ seat.old.table_id) × (seat.new.id ≡ seat.old.id) }
     ensures leaves { let T = setup_of table.now.shared.key in Stored T kind.Store word value
         (acting T.code (settled T behind seat.old.me) 0) seat.old.me seat.new.me }
+    ensures possible { HasPossible (setup_of table.now.shared.key) seat.new.me }
     ensures cost { steps.new ≡ steps.old + 1 }
 {
     steps.tick();

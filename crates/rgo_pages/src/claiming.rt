@@ -9,7 +9,7 @@ ghost use Rattle.rgo_core.specs.Plans.{setup_of};
 ghost use Rattle.rgo_core_memory.specs.Records.{Got};
 ghost use Rattle.rgo_core_steps.specs.Layouts.{HasLayout};
 ghost use Rattle.rgo_core_steps.specs.Making.{IsCalm, NeedsPage};
-ghost use Rattle.rgo_core_steps.specs.Seats.{HasOne, Settles, mine, settled};
+ghost use Rattle.rgo_core_steps.specs.Seats.{HasOne, HasPossible, Settles, mine, settled};
 ghost use Rattle.rgo_pages.specs.Claiming.{AllPagesTried, FullLaw, Hooked, PageClaimed, PageOrNone, PagesTried};
 
 use rgo_core::table::{RunSeat, RunTable};
@@ -44,6 +44,7 @@ pub fn claim<L: Ledger>(
         PageClaimed T sizes.now slot (settled T behind seat.old.me) page seat.old.me seat.new.me) }
     ensures full { let T = setup_of table.now.shared.key in IfErr result (λ e.
         AllPagesTried T sizes.now (settled T behind seat.old.me) seat.old.me seat.new.me) }
+    ensures possible { HasPossible (setup_of table.now.shared.key) seat.new.me }
     ensures cost { steps.new ≤ steps.old + (2 * sizes.now.pages + 2) }
 {
     claim_from(table, seat, behind, sizes, slot, 0, steps)
@@ -72,6 +73,7 @@ pub fn claim_from<L: Ledger>(
         PageClaimed T sizes.now slot (settled T behind seat.old.me) page seat.old.me seat.new.me) }
     ensures full { let T = setup_of table.now.shared.key in IfErr result (λ e.
         AllPagesTried T sizes.now (settled T behind seat.old.me) seat.old.me seat.new.me) }
+    ensures possible { HasPossible (setup_of table.now.shared.key) seat.new.me }
     ensures cost { steps.new ≤ steps.old + (2 * sizes.now.pages + 2) }
 {
     match take(
@@ -114,6 +116,7 @@ fn hook<L: Ledger>(
     ensures own { (seat.new.table_id ≡ seat.old.table_id) × (seat.new.id ≡ seat.old.id) }
     ensures hooked { let T = setup_of table.now.shared.key in
         Hooked T sizes.now (mine T seat.old.me) page slot seat.old.me seat.new.me }
+    ensures possible { HasPossible (setup_of table.now.shared.key) seat.new.me }
     ensures cost { steps.new ≡ steps.old + 2 }
 {
     steps.tick();
@@ -143,6 +146,7 @@ fn take<L: Ledger>(
     ensures own { (seat.new.table_id ≡ seat.old.table_id) × (seat.new.id ≡ seat.old.id) }
     ensures taken { let T = setup_of table.now.shared.key in
         PageOrNone T sizes.now slot (settled T behind seat.old.me) result seat.old.me seat.new.me }
+    ensures possible { HasPossible (setup_of table.now.shared.key) seat.new.me }
     ensures cost { steps.new ≤ steps.old + 2 * sizes.now.pages }
 {
     let start = beginning(table, sizes, from, steps);
@@ -215,10 +219,12 @@ fn try_pages<L: Ledger>(
     requires slot { slot ≤ sizes.now.slots }
     requires calm { IsCalm (mine (setup_of table.now.shared.key) seat.old.me) }
     requires needs { let T = setup_of table.now.shared.key in NeedsPage T (mine T seat.old.me) slot }
+    requires possible { HasPossible (setup_of table.now.shared.key) seat.old.me }
     requires ends { (first ≤ end) × (end ≤ sizes.now.pages) }
     ensures own { (seat.new.table_id ≡ seat.old.table_id) × (seat.new.id ≡ seat.old.id) }
     ensures tried { let T = setup_of table.now.shared.key in
         PagesTried T sizes.now slot first end (mine T seat.old.me) result seat.old.me seat.new.me }
+    ensures possible { HasPossible (setup_of table.now.shared.key) seat.new.me }
     ensures cost { steps.new ≤ steps.old + (end - first) }
 {
     for page in first..end {

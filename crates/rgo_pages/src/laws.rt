@@ -4,12 +4,17 @@
 //! a region already; and `free` stores 0. A goroutine may free a page only while its record says that it gives back the chain of a
 //! slot. The record comes to say so by `leave` where that found the last stake, and by no other access; it stops with `free_slot`.
 ghost use Rattle.rgo_pages.specs.Examples.{PageExamples};
-ghost use Rattle.rgo_pages.specs.Laws.{ReleaseLaw};
+ghost use Rattle.rgo_pages.specs.Laws.{GiveLaw, ReleaseLaw};
 
 /// Pages of a region with a stake are not freed, and those of a region without one are freed by one goroutine, before its slot is
 /// free.
 pub fn release_law()
     ensures { ReleaseLaw }
+{}
+
+/// A leave that found the last stake makes a record give back the chain of a slot, and no other access does.
+pub fn give_law()
+    ensures { GiveLaw }
 {}
 
 /// Where each definition holds and where it does not.

@@ -8,7 +8,7 @@ ghost use Rattle.rgo_core.specs.Records.{accesses};
 ghost use Rattle.rgo_core_memory.specs.Records.{Giving, Owes};
 ghost use Rattle.rgo_core_steps.specs.Grown.{Made};
 ghost use Rattle.rgo_core_steps.specs.Layouts.{HasLayout};
-ghost use Rattle.rgo_core_steps.specs.Seats.{HasOne, mine};
+ghost use Rattle.rgo_core_steps.specs.Seats.{HasOne, HasPossible, mine};
 ghost use Rattle.rgo_pages.specs.Releasing.{ChainGivenBack, OneFreed};
 
 use rgo_core::table::{RunSeat, RunTable};
@@ -34,6 +34,7 @@ pub fn release<L: Ledger>(
     ensures count { result ≡ (mine (setup_of table.now.shared.key) seat.old.me).clock.owed }
     ensures given { let T = setup_of table.now.shared.key in
         ChainGivenBack T sizes.now slot (mine T seat.old.me) result seat.old.me seat.new.me }
+    ensures possible { HasPossible (setup_of table.now.shared.key) seat.new.me }
     ensures cost { steps.new ≡ steps.old + (2 * result + 2) }
 {
     steps.tick();
@@ -68,6 +69,7 @@ fn free_page<L: Ledger>(
     ensures owed { 0 < (mine (setup_of table.now.shared.key) seat.old.me).clock.owed }
     ensures freed { let T = setup_of table.now.shared.key in
         OneFreed T sizes.now slot (mine T seat.old.me) page result seat.old.me seat.new.me }
+    ensures possible { HasPossible (setup_of table.now.shared.key) seat.new.me }
     ensures cost { steps.new ≡ steps.old + 2 }
 {
     steps.tick();

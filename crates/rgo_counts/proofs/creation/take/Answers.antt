@@ -1,4 +1,5 @@
 use Rattle.std.proofs.Common.{◌≡◌, subst, sym}
+use Rattle.std.proofs.lemmas.Option.{IfSome_then}
 use Rattle.rgo_core_channels.specs.Records.{at_rest}
 use Rattle.rgo_core_rule.specs.declared.accesses.Kind.TheVariants.{CreateRegion}
 use Rattle.rgo_core_memory.specs.Words.{count_at}
@@ -8,7 +9,7 @@ use Rattle.rgo_core.specs.Records.{Record, accesses}
 use Rattle.rgo_core_steps.specs.Counts.{IsCreating, created, tried_slot}
 use Rattle.rgo_core_steps.specs.Seats.{mine, settled}
 use Rattle.rgo_core_steps.proofs.Searching.{took_start}
-use Rattle.rgo_counts.proofs.Trying.{missing_creates, missing_side, slot_taken, slot_tried, then_above, then_below}
+use Rattle.rgo_counts.proofs.Trying.{missing_creates, missing_side, slot_taken, slot_tried, still_fresh, then_above, then_below}
 use Rattle.rgo_counts.proofs.creation.take.Goals as goal
 
 pub returns-then-create-eq0-clause-taken : goal.returns-then-create-eq0-clause-taken
@@ -89,3 +90,27 @@ returns-in-None-clause-taken g c =
     (slot_tried T z q m s c.create.result v c.requires.settles c.create.ensures.leaves c.if-create-eq0.false)
     c.try_slots.new.seat.me c.in-None.ensures.tried c.try_slots-in-None.result c.try_slots-in-None.new.seat.me
     c.try_slots-in-None.ensures.tried
+
+pub returns-then-create-eq0-clause-fresh : goal.returns-then-create-eq0-clause-fresh
+returns-then-create-eq0-clause-fresh g c = c.create.ensures.fresh c.if-create-eq0.true
+
+pub returns-in-Some-clause-fresh : goal.returns-in-Some-clause-fresh
+returns-in-Some-clause-fresh g c =
+    let T = setup_of c.args.table.now.shared.key in
+    let me = c.args.seat.now.me in
+    let first = settled T c.args.behind me in
+    let t = slot_tried T c.args.sizes.now c.args.behind me c.beginning-start.result c.create.result c.create.new.seat.me
+    c.requires.settles c.create.ensures.leaves c.if-create-eq0.false in
+    still_fresh t.tries first (mine T c.create.new.seat.me) c.in-Some.slot t.made.after c.in-Some.ensures.fresh
+
+pub returns-in-None-clause-fresh : goal.returns-in-None-clause-fresh
+returns-in-None-clause-fresh g c =
+    let T = setup_of c.args.table.now.shared.key in
+    let me = c.args.seat.now.me in
+    let first = settled T c.args.behind me in
+    let t = slot_tried T c.args.sizes.now c.args.behind me c.beginning-start.result c.create.result c.create.new.seat.me
+    c.requires.settles c.create.ensures.leaves c.if-create-eq0.false in
+    let u = c.in-None.ensures.tried in
+    IfSome_then c.try_slots-in-None.result c.try_slots-in-None.ensures.fresh
+    (λ s f. still_fresh t.tries first (mine T c.create.new.seat.me) s t.made.after
+    (still_fresh u.tries (mine T c.create.new.seat.me) (mine T c.try_slots.new.seat.me) s u.made.after f))

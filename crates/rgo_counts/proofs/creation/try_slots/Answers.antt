@@ -8,7 +8,7 @@ use Rattle.rgo_core.specs.Records.{Record, accesses}
 use Rattle.rgo_core_steps.specs.Counts.{IsCreating, created, tried_slot}
 use Rattle.rgo_core_steps.specs.Seats.{mine}
 use Rattle.rgo_core_steps.proofs.Searching.{took_here, tried_begin, tried_next}
-use Rattle.rgo_counts.proofs.Trying.{missing_creates, missing_side, slot_taken, slot_tried}
+use Rattle.rgo_counts.proofs.Trying.{missing_creates, missing_side, slot_taken, slot_tried, still_fresh}
 use Rattle.rgo_counts.proofs.creation.try_slots.Goals as goal
 
 pub create-requires-clause-rests : goal.create-requires-clause-rests
@@ -42,6 +42,13 @@ returns-then-create-eq0-clause-tried g c =
           (subst IsCreating (sym t.made.after) (missing_creates t.tries (mine T m) c.requires.creates))),
     )
 
+pub returns-then-create-eq0-clause-fresh : goal.returns-then-create-eq0-clause-fresh
+returns-then-create-eq0-clause-fresh g c =
+    let T = setup_of c.args.table.now.shared.key in
+    let t = c.loop-slot.invariant.tried in
+    still_fresh t.tries (mine T c.args.seat.now.me) (mine T c.loop-slot.seat.me) c.loop-slot.slot t.made.after
+    (c.create.ensures.fresh c.if-create-eq0.true)
+
 pub loop-slot-preserved : goal.loop-slot-preserved
 loop-slot-preserved g c =
     let T = setup_of c.args.table.now.shared.key in
@@ -57,6 +64,7 @@ loop-slot-preserved g c =
       tried = tried_next accesses (first_of T.code) CreateRegion (count_at z) tried_slot (mine T m) c.args.first s c.args.end 2 above m v w
           c.loop-slot.invariant.tried
           (slot_tried T z 0 v s c.create.result w tt c.create.ensures.leaves c.if-create-eq0.false);
+      possible = c.create.ensures.possible;
     }
 
 pub loop-slot-init : goal.loop-slot-init
@@ -67,4 +75,5 @@ loop-slot-init g c =
       own = search rules;
       cost = omega arith;
       tried = tried_begin accesses (first_of T.code) CreateRegion (count_at c.args.sizes.now) tried_slot c.args.first m c.requires.alone;
+      possible = c.requires.possible;
     }

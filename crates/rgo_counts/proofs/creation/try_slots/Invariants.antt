@@ -6,7 +6,7 @@ use Rattle.rgo_core.specs.Plans.{setup_of}
 use Rattle.rgo_core.specs.Records.{accesses}
 use Rattle.rgo_core_steps.specs.Counts.{tried_slot}
 use Rattle.rgo_core_steps.specs.Searches.{Tried, upward}
-use Rattle.rgo_core_steps.specs.Seats.{mine}
+use Rattle.rgo_core_steps.specs.Seats.{HasPossible, mine}
 use Rattle.rgo_counts.proofs.creation.try_slots.Given as goal
 
 abbrev pub invariant-loop-slot : goal.invariant-loop-slot
@@ -17,4 +17,5 @@ invariant-loop-slot g l =
       cost : l.steps ≡ l.fn.steps + (l.slot - l.first);
       tried : Tried accesses (first_of T.code) CreateRegion (count_at l.sizes) tried_slot (mine T l.fn.seat.me)
           (upward l.first (l.slot - l.first)) l.fn.seat.me l.seat.me;
+      possible : HasPossible T l.seat.me;
     }

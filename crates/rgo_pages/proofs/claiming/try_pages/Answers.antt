@@ -58,6 +58,7 @@ loop-page-preserved g c =
       tried = tried_next accesses (first_of T.code) ClaimPage (state_at z) tried_page (mine T m) c.args.first p c.args.end (s + 1) above m v w
           c.loop-page.invariant.tried
           (page_tried T z s 0 v p c.claim.result w tt c.claim.ensures.leaves c.if-claim-eq0.false);
+      possible = c.claim.ensures.possible;
     }
 
 pub loop-page-init : goal.loop-page-init
@@ -68,4 +69,5 @@ loop-page-init g c =
       own = search rules;
       cost = omega arith;
       tried = tried_begin accesses (first_of T.code) ClaimPage (state_at c.args.sizes.now) tried_page c.args.first m c.requires.alone;
+      possible = c.requires.possible;
     }

@@ -6,7 +6,7 @@ use Rattle.rgo_core.specs.Plans.{setup_of}
 use Rattle.rgo_core.specs.Records.{accesses}
 use Rattle.rgo_core_steps.specs.Pages.{tried_page}
 use Rattle.rgo_core_steps.specs.Searches.{Tried, upward}
-use Rattle.rgo_core_steps.specs.Seats.{mine}
+use Rattle.rgo_core_steps.specs.Seats.{HasPossible, mine}
 use Rattle.rgo_pages.proofs.claiming.try_pages.Given as goal
 
 abbrev pub invariant-loop-page : goal.invariant-loop-page
@@ -17,4 +17,5 @@ invariant-loop-page g l =
       cost : l.steps ≡ l.fn.steps + (l.page - l.first);
       tried : Tried accesses (first_of T.code) ClaimPage (state_at l.sizes) tried_page (mine T l.fn.seat.me)
           (upward l.first (l.page - l.first)) l.fn.seat.me l.seat.me;
+      possible : HasPossible T l.seat.me;
     }

@@ -15,6 +15,7 @@ loop-cursor-init g c =
       within = c.head-cursor.ensures.within;
       chain = chain_begun (setup_of c.args.table.now.shared.key) c.args.sizes.now c.args.slot c.args.seat.now.me c.head-cursor.new.seat.me
           c.head-cursor.result c.head-cursor.ensures.leaves;
+      possible = c.head-cursor.ensures.possible;
     }
 
 pub free_page-cursor-requires-clause-gives : goal.free_page-cursor-requires-clause-gives
@@ -41,6 +42,7 @@ loop-cursor-preserved g c =
       cost = omega (arith, c.loop-cursor.invariant.cost, c.free_page-cursor.ensures.cost);
       within = c.free_page-cursor.ensures.within;
       chain = chain_more T z s (mine T m) n p c.free_page-cursor.result m v w k c.free_page-cursor.ensures.owed c.free_page-cursor.ensures.freed;
+      possible = c.free_page-cursor.ensures.possible;
     }
 
 pub loop-cursor-smaller : goal.loop-cursor-smaller

@@ -1,6 +1,6 @@
 use Rattle.std.proofs.Common.{◌≡◌, ◌+◌, ◌*◌, ◌-◌, ◌≤◌}
 use Rattle.rgo_core.specs.Plans.{setup_of}
-use Rattle.rgo_core_steps.specs.Seats.{mine}
+use Rattle.rgo_core_steps.specs.Seats.{HasPossible, mine}
 use Rattle.rgo_pages.specs.Releasing.{ChainGiven}
 use Rattle.rgo_pages.proofs.releasing.release.Given as goal
 
@@ -12,6 +12,7 @@ invariant-loop-cursor g l =
       cost : l.steps ≡ l.fn.steps + (2 * l.freed + 1);
       within : l.cursor ≤ l.sizes.pages;
       chain : ChainGiven T l.sizes l.slot (mine T l.fn.seat.me) l.freed l.cursor l.fn.seat.me l.seat.me;
+      possible : HasPossible T l.seat.me;
     }
 
 abbrev pub decreases-loop-cursor : goal.decreases-loop-cursor
