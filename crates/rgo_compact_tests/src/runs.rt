@@ -14,10 +14,12 @@ struct Parts {
     then: usize,
 }
 
-/// What a run left: how many instructions were done, the words of its newest frame, and how many callers wait.
+/// What a run left: how many instructions were done, how many frames the second part has never left, the words of the newest
+/// frame, and how many callers wait.
 #[derive(Drop)]
 struct Left {
     done: usize,
+    kept: usize,
     words: Vec<u64>,
     depth: usize,
 }
@@ -50,6 +52,7 @@ fn run_text(
     frame.extend_from_slice(words.get(then.at.base..then.at.top).unwrap_or(&[]))?;
     Ok(Left {
         done: first.done.wrapping_add(then.done),
+        kept: then.kept,
         words: frame,
         depth: then.at.depth,
     })
@@ -115,5 +118,28 @@ fn calls_without_room_are_not_done(rt: HostRuntime) -> Result<(), Fail> {
     assert_eq!(&rt; (words.done, words.depth), (3, 0));
     let deeper = run_text(alloc, FIBONACCI, 2, &parts, 12, 100)?;
     assert_eq!(&rt; (deeper.done, deeper.depth), (9, 1));
+    Ok(())
+}
+
+/// The frames that a run has never left are as many as there were after the instruction that left the fewest.
+#[test]
+fn frames_that_were_never_left_are_counted(rt: HostRuntime) -> Result<(), Fail> {
+    let alloc = rt.alloc();
+    let mut fewest = usize::MAX;
+    for then in 0..150 {
+        let left = run_text(
+            alloc,
+            FIBONACCI,
+            2,
+            &Parts {
+                first: 400,
+                then,
+            },
+            1000,
+            100,
+        )?;
+        fewest = fewest.min(left.depth.wrapping_add(1));
+        assert_eq!(&rt; left.kept, fewest, "400 instructions, and {then}");
+    }
     Ok(())
 }
