@@ -1,0 +1,101 @@
+-- The own pages of a goroutine.
+use Rattle.std.proofs.Common.{◌≡◌, ⊎_elim, ℕ, zero, suc, ◌<◌, ◌≤◌, Bool, true, false, List, [], ◌∷◌, Some, if◌then◌else◌, nat_eq, map, slice_get, refl, ap, sym, subst, ◌∙◌, arith}
+use Rattle.std.proofs.lemmas.Bool.Decides.{nat_tests}
+use Rattle.std.proofs.lemmas.Option.{none-some, same_Some}
+use Rattle.rgo_region_machine.specs.Regions.{is_live}
+use Rattle.rgo_region_machine.specs.declared.regions.Region.{Region}
+use Rattle.rgo_region_machine.specs.declared.regions.Region.TheVariants.{Numbered}
+use Rattle.rgo_memory.specs.Memory.{Object}
+use Rattle.rgo_core_memory.specs.Ground.{ground_of}
+use Rattle.rgo_core_memory.specs.Parts.{Living, slot_of}
+use Rattle.rgo_core_memory.specs.Records.{Amid, Claim, Claims, Fill, Idle, Make, Owns, Rest, Within, dropped}
+use Rattle.rgo_core_memory.proofs.Slots.{region_living, uses_live}
+use Rattle.rgo_core_memory.proofs.Steadies.{steady_of}
+use Rattle.rgo_core_memory.proofs.Writes.{pages_apart}
+use Rattle.rgo_core.specs.Core.{Here, Setup, layout}
+use Rattle.rgo_core.specs.Records.{Record, memory_of}
+use Rattle.rgo_core.proofs.Parts.{I}
+use Rattle.rgo_core.proofs.Standing.{memory_at}
+use Rattle.rgo_core_steps.specs.Making.{page_of}
+use Rattle.rgo_core_steps.proofs.Making.{page_in}
+use Rattle.rgo_core_facts.specs.MemoryPages.{ClaimedPage, FreeOfSlots, IsOwnPage, OneOwnPage, OwnPages, RoomLies}
+
+-- ---- in a list
+
+-- if all pages of a slot are one, that is the first
+first_page : (s : ℕ) (fills : List Fill) (f : Fill) → Within f fills → f.slot ≡ s → ((e : Fill) → Within e fills → e.slot ≡ s → e ≡ f)
+    → page_of s fills ≡ Some f
+first_page s [] f within its one = absurd (none-some f within.1)
+first_page s (x ∷ xs) f within its one =
+    by (nat_eq s x.slot) refl (λ there. first_page s xs f there its (λ e inside same. one e (suc inside.0, inside.1) same))
+  where
+    rest : (k : ℕ) → slice_get (x ∷ xs) k ≡ Some f → nat_eq s x.slot ≡ false → Within f xs
+    rest zero at is =
+        let same : x.slot ≡ s = ap (λ (y : Fill). y.slot) (same_Some x f at) ∙ its in absurd (grind (arith, nat_tests, is, same))
+    rest (suc k) at is = (k, at)
+
+    by : (b : Bool) → nat_eq s x.slot ≡ b → (Within f xs → page_of s xs ≡ Some f) → (if b then Some x else page_of s xs) ≡ Some f
+    by true is further = let same : x.slot ≡ s = grind (arith, nat_tests, is) in ap (λ (y : Fill). Some y) (one x (0, refl) same)
+    by false is further = further (rest within.0 within.1 is)
+
+-- ---- of a record
+
+module _ {T : Setup} {g : ℕ} {c : Record} (x : Here T g c) where
+  -- the slot of a live region, or of Global
+  pub slot_low : (r : Region) → is_live x.s.regions r ≡ true → slot_of (layout T) (I x).places.slot r ≤ T.sizes.regions
+  slot_low r live = ⊎_elim
+      (λ (e : slot_of (layout T) (I x).places.slot r ≡ (layout T).slots). omega (arith, e))
+      (λ (u : (j : ℕ) × (r ≡ Numbered j) × (slot_of (layout T) (I x).places.slot r < (layout T).slots)
+      × ((I x).places.uses (slot_of (layout T) (I x).places.slot r) ≡ Living j)). let l = u.2 in omega (arith, l))
+      (region_living (layout T) x.words (map memory_of x.recs) (ground_of x.s) (I x).places (I x).memory r live)
+
+  module _ (f : Fill) (within : Within f c.memory.fills) where
+    owner : Owns (map memory_of x.recs) g f
+    owner = (c.memory, memory_at x, within)
+
+    pub own_page : IsOwnPage T f.slot f
+    own_page =
+        let q = (I x).memory.filled.fills g f owner in
+        let claimed = (I x).memory.own.claimed g f owner in
+        let live = uses_live (layout T) x.words (map memory_of x.recs) (ground_of x.s) (I x).places (I x).memory
+        (steady_of T.code x.s x.core.sound.good) g q.0 q.1 q.2 q.3 in
+        record {
+          its = refl;
+          low = subst (λ (n : ℕ). n ≤ T.sizes.regions) q.4 (slot_low q.1 live);
+          page = (I x).memory.own.ranged f.page (omega (arith, claimed));
+          fill = (I x).memory.own.room g f owner;
+        }
+
+    pub one_page : page_of f.slot c.memory.fills ≡ Some f
+    one_page = first_page f.slot c.memory.fills f within refl
+        (λ e inside same. (I x).memory.filled.single g e f (c.memory, memory_at x, inside) owner same)
+
+pub own_pages : OwnPages
+own_pages T g c x slot f is =
+    let p = page_in slot c.memory.fills f is in
+    subst (λ (s : ℕ). IsOwnPage T s f) p.1 (own_page x f p.0)
+
+pub one_own_page : OneOwnPage
+one_own_page T g c x f within = one_page x f within
+
+pub claimed_page : ClaimedPage
+claimed_page m page slot =
+    let same : nat_eq slot slot ≡ true = grind (arith, nat_tests) in
+    ap (λ (b : Bool). if b then Some (record { slot = slot; page = page; fill = 0 }) else page_of slot (dropped slot m.fills)) same
+
+pub room_lies : RoomLies
+room_lies T page fill n low fits = let p = pages_apart page T.sizes.pages T.sizes.page_words low in omega (arith, p, fits)
+
+-- ---- nothing is made or claimed
+
+no_claim : (claim : Claim) (slot : ℕ) → claim ≡ Idle → Claims claim slot → ⊥
+no_claim claim slot e claims = subst (λ (y : Claim). Claims y slot) e claims
+
+no_object : (make : Make) (f : Fill) (object : Object) (stored : List ℕ) → make ≡ Rest → make ≡ Amid f object stored → ⊥
+no_object make f object stored e made = let w : Rest ≡ Amid f object stored = sym e ∙ made in cc w
+
+pub free_of_slots : FreeOfSlots
+free_of_slots m slot rests idle = (
+  no_claim m.claim slot idle,
+  λ f object stored made same. no_object m.make f object stored rests made,
+)

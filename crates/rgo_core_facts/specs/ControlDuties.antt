@@ -1,0 +1,66 @@
+-- What the first duty of a goroutine refers to, told by its record.
+use Rattle.std.specs.List.{list_any}
+use Rattle.std.specs.Prelude.{◌≡◌, ℕ, true, List, [], ◌∷◌, map, Some, None}
+use Rattle.rgo_core_frames.specs.WordFrames.{WordFrame}
+use Rattle.rgo_region_machine.specs.Regions.{bound, same_region}
+use Rattle.rgo_region_machine.specs.States.{Create, Duty, EndBase, Environment, Protect, Remove, Share, Unprotect}
+use Rattle.rgo_region_machine.specs.declared.regions.Region.{Region}
+use Rattle.rgo_core.specs.Core.{Setup}
+use Rattle.rgo_core.specs.Records.{Record}
+use Rattle.rgo_core_facts.specs.ControlFrames.{OfRecords}
+use Rattle.rgo_core_facts.specs.ControlRegions.{IsStaked}
+
+-- there is a newest frame, with this environment
+pub record HasNewest (c : Record) (e : Environment) : Type 0 where
+  pub w : WordFrame
+  pub ws : List WordFrame
+  pub frames : c.frame.frames ≡ w ∷ ws
+  pub es : List Environment
+  pub environments : c.frame.holder.environments ≡ e ∷ es
+
+-- in the newest frame the name stands for a region
+pub record IsNamed (T : Setup) (c : Record) (k : ℕ) : Type 0 where
+  pub e : Environment
+  pub newest : HasNewest c e
+  pub region : Region
+  pub bound : bound e.names k ≡ Some region
+  pub staked : IsStaked T c region
+
+-- it does not stand for one
+pub record IsUnnamed (c : Record) (k : ℕ) : Type 0 where
+  pub e : Environment
+  pub newest : HasNewest c e
+  pub unbound : bound e.names k ≡ None
+
+-- it does, and the frame's call protects the region
+pub record IsProtected (T : Setup) (c : Record) (k : ℕ) : Type 0 where
+  pub named : IsNamed T c k
+  pub protected : list_any (same_region named.region) named.e.protections ≡ true
+
+-- it does, and no protection of the frame is left
+pub record IsUnprotected (T : Setup) (c : Record) (k : ℕ) : Type 0 where
+  pub named : IsNamed T c k
+  pub none : named.e.protections ≡ []
+
+-- the goroutine has returned, and protects the region since its start
+pub record IsOfBase (T : Setup) (c : Record) (r : Region) : Type 0 where
+  pub frames : c.frame.frames ≡ []
+  pub environments : c.frame.holder.environments ≡ []
+  pub base : list_any (same_region r) c.frame.holder.base ≡ true
+  pub staked : IsStaked T c r
+
+-- the duty can be done
+abbrev pub CanAttend : Setup → Record → Duty → Type 0
+CanAttend T c (Create k) = IsUnnamed c k
+CanAttend T c (Share k) = IsNamed T c k
+CanAttend T c (Protect k) = IsNamed T c k
+CanAttend T c (Unprotect k) = IsProtected T c k
+CanAttend T c (Remove k) = IsUnprotected T c k
+CanAttend T c (EndBase r) = IsOfBase T c r
+
+abbrev pub DutiesKnown : Type 0
+DutiesKnown = OfRecords (λ T c. (d : Duty) (ds : List Duty) → c.frame.holder.duties ≡ d ∷ ds → CanAttend T c d)
+
+-- a goroutine that has returned owes the ends of its base
+abbrev pub DutiesAtEnd : Type 0
+DutiesAtEnd = OfRecords (λ T c. c.frame.frames ≡ [] → c.frame.holder.duties ≡ map EndBase c.frame.holder.base)

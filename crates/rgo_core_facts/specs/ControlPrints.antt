@@ -1,0 +1,32 @@
+-- The operands of a print: each is an int or a bool, whose word fits its type.
+use Rattle.std.specs.Int.{cast_signed, w64}
+use Rattle.std.specs.Prelude.{◌≡◌, ◌⊎◌, ◌<◌, ◌^◌, ℕ, List, Contains, Some, slice_get}
+use Rattle.rgo_code.specs.Code.{CodeFn, Print, Slot}
+use Rattle.rgo_core_frames.specs.Prints.{typed_value}
+use Rattle.rgo_core_frames.specs.WordFrames.{WordFrame, is_set, word_at}
+use Rattle.rgo_memory.specs.declared.values.Value.TheVariants as value
+use Rattle.rgo_typed.specs.declared.statements.Piece.{Piece}
+use Rattle.rgo_wellformed.specs.TypeRules.{bool, int}
+use Rattle.rgo_core.specs.Next.{IsAt}
+use Rattle.rgo_core_facts.specs.ControlFrames.{OfRecords}
+
+-- the word shows an int of the variable's type
+pub record IsIntWord (slot : Slot) (word : ℕ) : Type 0 where
+  pub ty : slot.ty ≡ int
+  pub fits : word < 2 ^ 64
+  pub shows : typed_value (Some slot) word ≡ value.Int (cast_signed w64 word)
+
+-- the same of a bool
+pub record IsBoolWord (slot : Slot) (word : ℕ) : Type 0 where
+  pub ty : slot.ty ≡ bool
+  pub fits : (word ≡ 0) ⊎ (word ≡ 1)
+  pub shows : typed_value (Some slot) word ≡ value.Bool (is_set word)
+
+pub record IsPrinted (fn : CodeFn) (w : WordFrame) (v : ℕ) : Type 0 where
+  pub slot : Slot
+  pub is : slice_get fn.variables v ≡ Some slot
+  pub word : IsIntWord slot (word_at w v) ⊎ IsBoolWord slot (word_at w v)
+
+abbrev pub OperandsPrinted : Type 0
+OperandsPrinted = OfRecords (λ T c. (pieces : List Piece) (from removes : List ℕ) (a : IsAt T.code c (Print pieces from removes))
+    → (v : ℕ) → Contains from v → IsPrinted a.fn a.w v)

@@ -1,0 +1,12 @@
+pub mod ControlCode
+pub mod ControlFrames
+pub mod ControlDuties
+pub mod ControlPrints
+pub mod ControlRegions
+pub mod ControlShapes
+pub mod MemoryWords
+pub mod MemoryObjects
+pub mod MemoryPages
+pub mod MemoryExamples
+pub mod ControlExamples
+pub mod ControlSteps

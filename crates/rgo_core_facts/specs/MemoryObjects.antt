@@ -1,0 +1,160 @@
+-- The object that the next instruction of a goroutine makes: how many words it has, what they first hold, and for which region it
+-- is made; and what the record is while these words are stored.
+use Rattle.std.specs.Prelude.{◌≡◌, ◌+◌, ◌<◌, ◌≤◌, ◌==◌, ◌^◌, ℕ, zero, suc, true, List, [], ◌∷◌, Option, Some, None, if◌then◌else◌, max, slice_get}
+use Rattle.rgo_code.specs.Code.{Code, CodeOp, Do}
+use Rattle.rgo_code.specs.Names.{class_of}
+use Rattle.rgo_memory.specs.Memory.{Object}
+use Rattle.rgo_region_machine.specs.Objects.{makes_object, making_region, words as words_of}
+use Rattle.rgo_region_machine.specs.Owed.{function_of}
+use Rattle.rgo_region_machine.specs.Regions.{class_region}
+use Rattle.rgo_region_machine.specs.States.{top_names}
+use Rattle.rgo_region_machine.specs.declared.limits.Limit.TheVariants.{ObjectSize}
+use Rattle.rgo_region_machine.specs.declared.regions.Region.{Region}
+use Rattle.rgo_typed.specs.declared.actions.Action.{Action}
+use Rattle.rgo_typed.specs.declared.actions.Action.TheVariants as action
+use Rattle.rgo_core_frames.specs.WordFrames.{WordFrame, word_at}
+use Rattle.rgo_core_memory.specs.Encoding.{content, opening}
+use Rattle.rgo_core_memory.specs.Records.{Amid, Fill, Make, Rest}
+use Rattle.rgo_core_memory.specs.Words.{cell_at}
+use Rattle.rgo_core.specs.Bounds.{struct_words}
+use Rattle.rgo_core.specs.Causes.{Stops}
+use Rattle.rgo_core.specs.Core.{Here, Setup, layout}
+use Rattle.rgo_core.specs.NewObjects.{slot_number}
+use Rattle.rgo_core.specs.Next.{IsAt}
+use Rattle.rgo_core.specs.Records.{Record}
+use Rattle.rgo_core_steps.specs.After.{making}
+use Rattle.rgo_core_steps.specs.Making.{IsNewWord, MakesNext, NeedsPage, filling, page_of}
+
+-- ---- the region
+
+-- the region, by its slot, in which an instruction makes an object
+abbrev pub MakesIn : (T : Setup) (c : Record) {op : CodeOp} → IsAt T.code c op → Region → Type 0
+MakesIn T c a r = making_region (function_of T.code a.w.function) (top_names c.frame.holder.environments) a.instr.op ≡ Some r
+
+-- It is the region of the class of variable d, to which the instruction gives a pointer to the object.
+pub record MakingRegion (T : Setup) (c : Record) {op : CodeOp} (a : IsAt T.code c op) (d : ℕ) : Type 0 where
+  pub region : Region
+  pub in_class : class_region (top_names c.frame.holder.environments) (class_of a.fn d) ≡ Some region
+  pub makes : MakesIn T c a region
+  pub low : slot_number (layout T) region ≤ T.sizes.regions
+
+-- each instruction that makes an object has one
+abbrev pub HasRegion : Type 0
+HasRegion = (T : Setup) (g : ℕ) (c : Record) → Here T g c → (to : Option ℕ) (act : Action) (from removes : List ℕ)
+    (a : IsAt T.code c (Do to act from removes)) → makes_object act ≡ true → (d : ℕ) × (to ≡ Some d) × MakingRegion T c a d
+
+-- ---- its words
+
+-- The next instruction makes an object with this number of words in the region of this slot. Word i first holds `first i`.
+pub record NewObject (T : Setup) (c : Record) (slot words : ℕ) (first : ℕ → ℕ) : Type 0 where
+  pub object : Object
+  pub next : MakesNext T c object slot
+  pub many : words_of object ≡ words
+  pub opens : (i : ℕ) → i < words → opening (content object i) ≡ first i
+
+-- all words of a struct first hold 0
+abbrev pub struct_opens : (i : ℕ) → ℕ
+struct_opens i = 0
+
+-- the first word of a slice has its length, and its elements first hold 0
+abbrev pub slice_opens : (elements i : ℕ) → ℕ
+slice_opens n i = if i == 0 then n else 0
+
+-- a channel has a control, which first holds 0, its capacity, and at least one cell
+abbrev pub channel_words : (capacity : ℕ) → ℕ
+channel_words n = 2 + max 1 n
+
+abbrev pub channel_opens : (capacity i : ℕ) → ℕ
+channel_opens n i = if i == 1 then n else 0
+
+abbrev pub MakesStruct : Type 0
+MakesStruct = (T : Setup) (g : ℕ) (c : Record) → Here T g c → (to : Option ℕ) (n : ℕ) (from removes : List ℕ)
+    (a : IsAt T.code c (Do to (action.New n) from removes)) (r : Region) → MakesIn T c a r
+    → NewObject T c (slot_number (layout T) r) (struct_words (slice_get T.code.structs n)) struct_opens
+
+-- a slice whose length is not negative
+abbrev pub MakesSlice : Type 0
+MakesSlice = (T : Setup) (c : Record) (to : Option ℕ) (p : ℕ) (removes : List ℕ) (a : IsAt T.code c (Do to action.Slice (p ∷ []) removes))
+    (r : Region) → MakesIn T c a r → word_at a.w p < 2 ^ 63
+    → NewObject T c (slot_number (layout T) r) (suc (word_at a.w p)) (slice_opens (word_at a.w p))
+
+-- a channel whose values its control can count
+abbrev pub MakesChannel : Type 0
+MakesChannel = (T : Setup) (c : Record) (to : Option ℕ) (p : ℕ) (removes : List ℕ) (a : IsAt T.code c (Do to action.Chan (p ∷ []) removes))
+    (r : Region) → MakesIn T c a r → word_at a.w p < 1073741820
+    → NewObject T c (slot_number (layout T) r) (channel_words (word_at a.w p)) (channel_opens (word_at a.w p))
+
+-- An access that leaves the frames and what is known of regions leaves the next instruction, and so the object that it makes.
+abbrev pub AtStays : Type 0
+AtStays = (code : Code) (c d : Record) (op : CodeOp) → d.frame ≡ c.frame → IsAt code c op → IsAt code d op
+
+abbrev pub NewStays : Type 0
+NewStays = (T : Setup) (c d : Record) (slot words : ℕ) (first : ℕ → ℕ) → d.frame ≡ c.frame → NewObject T c slot words first
+    → NewObject T d slot words first
+
+-- ---- an object that no page holds
+
+-- the number of words of the object that an action makes, if its size is not negative
+pub data HasWords (code : Code) (w : WordFrame) (act : Action) (from : List ℕ) (words : ℕ) : Type 0 where
+  OfStruct : (n : ℕ) → act ≡ action.New n → words ≡ struct_words (slice_get code.structs n) → HasWords code w act from words
+  OfSlice : (p : ℕ) → act ≡ action.Slice → from ≡ p ∷ [] → word_at w p < 2 ^ 63 → words ≡ suc (word_at w p) → HasWords code w act from words
+  OfChannel : (p : ℕ) → act ≡ action.Chan → from ≡ p ∷ [] → word_at w p < 2 ^ 63 → words ≡ channel_words (word_at w p)
+      → HasWords code w act from words
+
+-- if a page has fewer words, the run may end by this limit
+abbrev pub TooLarge : Type 0
+TooLarge = (T : Setup) (g : ℕ) (c : Record) (x : Here T g c) (to : Option ℕ) (act : Action) (from removes : List ℕ)
+    (a : IsAt T.code c (Do to act from removes)) (words : ℕ) → HasWords T.code a.w act from words → T.sizes.page_words < words
+    → Stops T.code T.sizes T.limits ObjectSize x.s
+
+-- ---- its page
+
+-- this own page does not have room for an object with this number of words, or there is no own page
+abbrev pub HasNoRoom : (page_words words : ℕ) → Option Fill → Type 0
+HasNoRoom n words None = Unit {0}
+HasNoRoom n words (Some f) = n < f.fill + words
+
+-- an object that fits a page then needs one
+abbrev pub WantsPage : Type 0
+WantsPage = (T : Setup) (g : ℕ) (c : Record) → Here T g c → (slot words : ℕ) (first : ℕ → ℕ) → NewObject T c slot words first
+    → words ≤ T.sizes.page_words → HasNoRoom T.sizes.page_words words (page_of slot c.memory.fills) → NeedsPage T c slot
+
+-- ---- the stores of its words, from the first one on
+
+-- the first n numbers, the last first
+abbrev pub numbers_below : ℕ → List ℕ
+numbers_below zero = []
+numbers_below (suc n) = n ∷ numbers_below n
+
+abbrev pub making_after : Fill → Object → (stored : ℕ) → Make
+making_after f object zero = Rest
+making_after f object (suc n) = Amid f object (numbers_below (suc n))
+
+-- the record of a goroutine after it has stored the first n words of an object, but not all of them
+abbrev pub storing : Record → Fill → Object → (n : ℕ) → Record
+storing c f object n = record c {
+  clock = record c.clock { accesses = c.clock.accesses + n };
+  memory = record c.memory { make = making_after f object n };
+}
+
+-- the record after all of its words are stored, which is the instruction
+abbrev pub with_new_object : Setup → Record → Fill → Object → Record
+with_new_object T c f object = record (making T c f object) {
+  clock = record (making T c f object).clock { accesses = c.clock.accesses + words_of object };
+}
+
+-- the store of word n, which first holds this value
+pub record StoresNext (T : Setup) (c : Record) (f : Fill) (object : Object) (n value : ℕ) : Type 0 where
+  pub word : IsNewWord T (storing c f object n) n (cell_at (layout T) f.page (f.fill + n)) value
+  pub more : suc n < words_of object → filling T (storing c f object n) n ≡ storing c f object (suc n)
+  pub last : suc n ≡ words_of object → filling T (storing c f object n) n ≡ with_new_object T c f object
+
+-- the words of an object are stored one by one on an own page that has room for it
+abbrev pub StoresWords : Type 0
+StoresWords = (T : Setup) (c : Record) (slot words : ℕ) (first : ℕ → ℕ) (new : NewObject T c slot words first) (f : Fill)
+    → page_of slot c.memory.fills ≡ Some f → f.fill + words ≤ T.sizes.page_words
+    → (n : ℕ) → n < words → StoresNext T c f new.object n (first n)
+
+-- before the first one the record is as it was
+abbrev pub StoresNone : Type 0
+StoresNone = (c : Record) (f : Fill) (object : Object) → c.memory.make ≡ Rest → storing c f object 0 ≡ c

@@ -1,0 +1,37 @@
+-- The own pages of a goroutine, and what of its memory has to be at rest before a stake ends.
+use Rattle.std.specs.Prelude.{◌≡◌, ◌+◌, ◌*◌, ◌<◌, ◌≤◌, ℕ, Some}
+use Rattle.rgo_core_memory.specs.Events.{IsFreeOf}
+use Rattle.rgo_core_memory.specs.Records.{Fill, Idle, Rec, Rest, Within, with_page}
+use Rattle.rgo_core.specs.Bounds.{LieInPages}
+use Rattle.rgo_core.specs.Core.{Here, Setup}
+use Rattle.rgo_core.specs.Records.{Record}
+use Rattle.rgo_core_steps.specs.Making.{page_of}
+
+-- an own page for this slot is a page, and no more of it is filled than it has
+pub record IsOwnPage (T : Setup) (slot : ℕ) (f : Fill) : Type 0 where
+  pub its : f.slot ≡ slot
+  pub low : slot ≤ T.sizes.regions
+  pub page : f.page < T.sizes.pages
+  pub fill : f.fill ≤ T.sizes.page_words
+
+abbrev pub OwnPages : Type 0
+OwnPages = (T : Setup) (g : ℕ) (c : Record) → Here T g c → (slot : ℕ) (f : Fill) → page_of slot c.memory.fills ≡ Some f
+    → IsOwnPage T slot f
+
+-- there is one of each slot
+abbrev pub OneOwnPage : Type 0
+OneOwnPage = (T : Setup) (g : ℕ) (c : Record) → Here T g c → (f : Fill) → Within f c.memory.fills
+    → page_of f.slot c.memory.fills ≡ Some f
+
+-- a page that was claimed for a slot is the own page there, and empty
+abbrev pub ClaimedPage : Type 0
+ClaimedPage = (m : Rec) (page slot : ℕ) → page_of slot (with_page m page slot).fills ≡ Some (record { slot = slot; page = page; fill = 0 })
+
+-- what is left of a page lies in the pages
+abbrev pub RoomLies : Type 0
+RoomLies = (T : Setup) (page fill n : ℕ) → page < T.sizes.pages → fill + n ≤ T.sizes.page_words
+    → LieInPages T (page * T.sizes.page_words + fill) n
+
+-- a goroutine that makes and claims nothing is free of each slot
+abbrev pub FreeOfSlots : Type 0
+FreeOfSlots = (m : Rec) (slot : ℕ) → m.make ≡ Rest → m.claim ≡ Idle → IsFreeOf m slot

@@ -1,0 +1,83 @@
+-- Where the words lie that the next instruction of a goroutine accesses. A pointer, slice or channel that is not nil is one more than
+-- an address, and the words from there on are words of pages.
+use Rattle.std.specs.Prelude.{◌≡◌, ◌+◌, ◌<◌, ◌≤◌, ℕ, suc, List, [], ◌∷◌, Option, Some, None, Contains, length}
+use Rattle.rgo_code.specs.Code.{CodeOp, Do}
+use Rattle.rgo_code.specs.Erasure.{erased_fn, erased_op}
+use Rattle.rgo_code.specs.Types.{HasType}
+use Rattle.rgo_tac.specs.Flow.{reads}
+use Rattle.rgo_typed.specs.declared.actions.Action.{Action}
+use Rattle.rgo_typed.specs.declared.actions.Action.TheVariants as action
+use Rattle.rgo_typed.specs.declared.types.Type.{«Type»}
+use Rattle.rgo_core_channels.specs.Records.{Offering}
+use Rattle.rgo_core_channels.specs.Standing.{IsOfChannel}
+use Rattle.rgo_core_frames.specs.WordFrames.{word_at}
+use Rattle.rgo_core_memory.specs.Words.{all_words, base}
+use Rattle.rgo_core.specs.Bounds.{LieInPages, Points}
+use Rattle.rgo_core.specs.CommitMoves.{IsAtSend}
+use Rattle.rgo_core.specs.Core.{Here, Setup, layout}
+use Rattle.rgo_core.specs.Links.{IsAtElement}
+use Rattle.rgo_core.specs.Next.{IsAt}
+use Rattle.rgo_core.specs.Records.{Record}
+
+-- ---- operands
+
+-- a variable of this type that the next instruction reads points where it may
+abbrev pub OperandPoints : Type 0
+OperandPoints = (T : Setup) (g : ℕ) (c : Record) → Here T g c → (op : CodeOp) (a : IsAt T.code c op) (v : ℕ) (ty : «Type»)
+    → Contains (reads (erased_op op)) v → HasType (erased_fn a.fn) v ty → Points T ty (word_at a.w v)
+
+-- words of pages are words of the table
+abbrev pub PagesInTable : Type 0
+PagesInTable = (T : Setup) (address n : ℕ) → LieInPages T address n → base (layout T) + (address + n) ≤ all_words (layout T)
+
+-- ---- fields, elements and lengths
+
+-- a struct up to the field that is loaded
+abbrev pub LoadLies : Type 0
+LoadLies = (T : Setup) (g : ℕ) (c : Record) → Here T g c → (d k p address : ℕ) (removes : List ℕ)
+    (a : IsAt T.code c (Do (Some d) (action.Load k) (p ∷ []) removes)) → word_at a.w p ≡ suc address → LieInPages T address (suc k)
+
+-- a struct up to the field that is stored
+abbrev pub StoreLies : Type 0
+StoreLies = (T : Setup) (g : ℕ) (c : Record) → Here T g c → (k p q address : ℕ) (removes : List ℕ)
+    (a : IsAt T.code c (Do None (action.Store k) (p ∷ q ∷ []) removes)) → word_at a.w p ≡ suc address → LieInPages T address (suc k)
+
+-- the length of a slice
+abbrev pub LenLies : Type 0
+LenLies = (T : Setup) (g : ℕ) (c : Record) → Here T g c → (d p address : ℕ) (removes : List ℕ)
+    (a : IsAt T.code c (Do (Some d) action.Len (p ∷ []) removes)) → word_at a.w p ≡ suc address → LieInPages T address 1
+
+-- the length of the slice one of whose elements is loaded or stored
+abbrev pub ElementLies : Type 0
+ElementLies = (T : Setup) (g : ℕ) (c : Record) → Here T g c → (address : ℕ) → IsAtElement T.code c address → LieInPages T address 1
+
+-- ---- package variables
+
+-- the package variable that is loaded exists
+abbrev pub GetExists : Type 0
+GetExists = (T : Setup) (g : ℕ) (c : Record) → Here T g c → (to : Option ℕ) (k : ℕ) (from removes : List ℕ)
+    → IsAt T.code c (Do to (action.Get k) from removes) → k < length T.code.variables
+
+-- the same of one that is stored
+abbrev pub SetExists : Type 0
+SetExists = (T : Setup) (g : ℕ) (c : Record) → Here T g c → (to : Option ℕ) (k : ℕ) (from removes : List ℕ)
+    → IsAt T.code c (Do to (action.Set k) from removes) → k < length T.code.variables
+
+-- ---- channels
+
+-- the control, the capacity and the first cell of the channel on which the next instruction operates
+abbrev pub ChannelLies : Type 0
+ChannelLies = (T : Setup) (g : ℕ) (c : Record) → Here T g c → (to : Option ℕ) (act : Action) (channel address : ℕ) (others removes : List ℕ)
+    (a : IsAt T.code c (Do to act (channel ∷ others) removes)) → IsOfChannel act → word_at a.w channel ≡ suc address
+    → LieInPages T address 3
+
+-- The channel at which the goroutine's offer is: its control is a word of a page, and so are its capacity and its first cell. The
+-- record of the goroutine is before the send.
+pub record OffersAt (T : Setup) (c : Record) (at : ℕ) : Type 0 where
+  pub send : IsAtSend T c
+  pub address : ℕ
+  pub is : at ≡ base (layout T) + address
+  pub lies : LieInPages T address 3
+
+abbrev pub OfferLies : Type 0
+OfferLies = (T : Setup) (g : ℕ) (c : Record) → Here T g c → (at : ℕ) → c.side.post ≡ Offering at → OffersAt T c at

@@ -1,0 +1,5 @@
+//! The loop over simple instructions makes local steps of the record of a goroutine. These laws say what the record is after
+//! them, so that the next access of the goroutine takes them into the run.
+#![tactic(auto)]
+
+pub mod laws;

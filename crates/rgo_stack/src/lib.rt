@@ -1,0 +1,14 @@
+//! The stack of a goroutine: the variables of all its frames in one list of words, on which [`rgo_compact`] executes simple
+//! instructions, and the operations on the newest frame by which all other instructions are executed one at a time.
+#![tactic(auto)]
+
+mod calls;
+mod growth;
+mod laws;
+mod stacks;
+mod steps;
+
+pub use calls::NoCall;
+pub use laws::{examples, frames_law, places_law};
+pub use stacks::{Place, Stack};
+pub use steps::Ran;
