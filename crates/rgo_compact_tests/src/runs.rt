@@ -127,17 +127,7 @@ fn frames_that_were_never_left_are_counted(rt: HostRuntime) -> Result<(), Fail> 
     let alloc = rt.alloc();
     let mut fewest = usize::MAX;
     for then in 0..150 {
-        let left = run_text(
-            alloc,
-            FIBONACCI,
-            2,
-            &Parts {
-                first: 400,
-                then,
-            },
-            1000,
-            100,
-        )?;
+        let left = run_text(alloc, FIBONACCI, 2, &Parts { first: 400, then }, 1000, 100)?;
         fewest = fewest.min(left.depth.wrapping_add(1));
         assert_eq!(&rt; left.kept, fewest, "400 instructions, and {then}");
     }
