@@ -1,0 +1,16 @@
+pub mod TableLemmas
+pub mod NameLemmas
+pub mod CountLemmas
+pub mod EntryLemmas
+pub mod HoldLemmas
+pub mod Changing
+pub mod Moving
+pub mod Coming
+pub mod Basing
+pub mod Forgetting
+pub mod Passages
+pub mod Calling
+pub mod Learned
+pub mod Twice
+pub mod Starting
+pub mod HoldingExamples

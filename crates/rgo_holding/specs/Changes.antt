@@ -1,0 +1,123 @@
+-- What calls do to a goroutine's holder and own pages, and what they ask of them.
+use Rattle.std.specs.List.{AllByRecursion, list_any}
+use Rattle.std.specs.Prelude.{◌≡◌, ◌≢◌, ◌<◌, ◌++◌, ℕ, true, false, List, [], ◌∷◌, Option, Some, None, length, nat_eq, slice_get}
+use Rattle.rgo_core_memory.specs.Records.{Fill}
+use Rattle.rgo_region_machine.specs.Duties.{guards, with_protection}
+use Rattle.rgo_region_machine.specs.Regions.{Bindings, bound, same_region, unbind, without}
+use Rattle.rgo_region_machine.specs.States.{Environment, Holder, top_names, with_top}
+use Rattle.rgo_region_machine.specs.declared.regions.Region.{Region}
+use Rattle.rgo_region_machine.specs.declared.regions.Region.TheVariants.{Numbered}
+use Rattle.rgo_sound.specs.Stakes.{is_in}
+use Rattle.rgo_holding.specs.declared.entries.Entry.{Entry}
+use Rattle.rgo_holding.specs.declared.holding.Holding.{Holding}
+use Rattle.rgo_holding.specs.declared.keys.Key.{Key}
+use Rattle.rgo_holding.specs.Holds.{Holds, region_at}
+use Rattle.rgo_holding.specs.Known.{page_of}
+use Rattle.rgo_holding.specs.Tables.{newest_keys}
+
+-- ---- calls that change neither
+
+abbrev pub Keeps : Holding → Holding → Type 0
+Keeps k l = (slots : ℕ) (h : Holder) (fills : List Fill) → Holds slots k h fills → Holds slots l h fills
+
+-- each key is that of the same region, or of none
+abbrev pub SameRegions : Holding → Holding → Type 0
+SameRegions k l = (key : Key) → region_at l key ≡ region_at k key
+
+-- ---- names
+
+abbrev pub renamed : Holder → (Bindings → Bindings) → Holder
+renamed h change = record h { environments = with_top h.environments (change (top_names h.environments)) }
+
+abbrev pub without_name : Holder → (name : ℕ) → Holder
+without_name h k = renamed h (λ names. unbind names k)
+
+-- ---- protections
+
+abbrev pub protecting : Holder → Region → Holder
+protecting h r = record h { environments = with_protection h.environments r }
+
+abbrev pub top_protections : List Environment → List Region
+top_protections [] = []
+top_protections (e ∷ es) = e.protections
+
+abbrev pub IsProtectedLast : Holder → Region → Type 0
+IsProtectedLast h r = list_any (same_region r) (top_protections h.environments) ≡ true
+
+-- ---- stakes
+
+abbrev pub creating : Holder → (name slot : ℕ) → Holder
+creating h k p = record h {
+  stakes = p ∷ h.stakes;
+  environments = with_top h.environments ((k, Numbered p) ∷ unbind (top_names h.environments) k);
+}
+
+-- nothing is known of the slot
+pub record IsNew (slots : ℕ) (h : Holder) (fills : List Fill) (slot : ℕ) : Type 0 where
+  pub other : slot ≢ slots
+  pub unstaked : is_in slot h.stakes ≡ false
+  pub unguarded : guards h.base h.environments (Numbered slot) ≡ false
+  pub unshared : list_any (nat_eq slot) h.pending ≡ false
+  pub no_page : page_of slot fills ≡ None
+
+abbrev pub ending : Holder → (slot : ℕ) → Holder
+ending h p = record h { stakes = without p h.stakes }
+
+-- no environment binds a name to it
+abbrev pub IsUnnamed : Region → List Environment → Type 0
+IsUnnamed r es = AllByRecursion (λ (e : Environment). (k : ℕ) → bound e.names k ≢ Some r) es
+
+-- it is neither named nor protected
+pub record IsUnknown (h : Holder) (slot : ℕ) : Type 0 where
+  pub unnamed : IsUnnamed (Numbered slot) h.environments
+  pub unguarded : guards h.base h.environments (Numbered slot) ≡ false
+
+abbrev pub sharing : Holder → (slot : ℕ) → Holder
+sharing h p = record h { pending = p ∷ h.pending }
+
+-- ---- the next region that is created
+
+-- a key that is not in use
+abbrev pub IsSpare : List Entry → Key → Type 0
+IsSpare entries key = (e : Entry) × (slice_get entries key.0 ≡ Some e) × (e.used ≡ false)
+
+-- there is a key for it, and a place for its name
+pub record HasRoom (k : Holding) (name : ℕ) : Type 0 where
+  pub key : Key
+  pub next : k.next ≡ Some key
+  pub spare : IsSpare k.entries.items key
+  pub named : name < length (newest_keys k.frames)
+
+-- ---- the base
+
+-- the first region that is protected since the start, and the holder without it
+abbrev pub EndsBase : Holding → Holding → Option Key → Type 0
+EndsBase k l None = (slots : ℕ) (h : Holder) (fills : List Fill) → Holds slots k h fills
+    → (h.base ≡ []) × Holds slots l h fills
+EndsBase k l (Some key) = (slots : ℕ) (h : Holder) (fills : List Fill) → Holds slots k h fills
+    → (r : Region) × (rest : List Region) × (region_at k key ≡ Some r) × (h.base ≡ r ∷ rest)
+    × Holds slots l (record h { base = rest }) fills
+
+abbrev pub FirstBase : Holding → Option Key → Type 0
+FirstBase k None = (slots : ℕ) (h : Holder) (fills : List Fill) → Holds slots k h fills → h.base ≡ []
+FirstBase k (Some key) = (slots : ℕ) (h : Holder) (fills : List Fill) → Holds slots k h fills
+    → (r : Region) × (rest : List Region) × (region_at k key ≡ Some r) × (h.base ≡ r ∷ rest)
+
+-- ---- after local steps in a row
+
+-- an environment of a frame that knows no region
+pub record KnowsNone (e : Environment) : Type 0 where
+  pub names : e.names ≡ []
+  pub protections : e.protections ≡ []
+
+-- The oldest `kept` environments are as they were. Those that were above them protected nothing; those above them now know no region.
+pub record Settles (kept depth : ℕ) (before after : List Environment) : Type 0 where
+  pub above : List Environment
+  pub fresh : List Environment
+  pub stayed : List Environment
+  pub before_is : before ≡ above ++ stayed
+  pub after_is : after ≡ fresh ++ stayed
+  pub kept_are : length stayed ≡ kept
+  pub depth_is : length after ≡ depth
+  pub unguarded : AllByRecursion (λ (e : Environment). e.protections ≡ []) above
+  pub bare : AllByRecursion KnowsNone fresh

@@ -1,0 +1,112 @@
+-- Where the definitions hold and where they do not.
+use Rattle.std.specs.Option.{option_map}
+use Rattle.std.specs.Prelude.{◌≡◌, ℕ, false, List, [], ◌∷◌, Option, Some, None}
+use Rattle.rgo_core_memory.specs.Records.{Fill}
+use Rattle.rgo_region_machine.specs.States.{Environment, Holder, NoOffer, environment_of}
+use Rattle.rgo_region_machine.specs.declared.regions.Region.{Region}
+use Rattle.rgo_region_machine.specs.declared.regions.Region.TheVariants.{Global as GlobalRegion, Numbered}
+use Rattle.rgo_tac.specs.declared.regions.Class.TheVariants.{NoClass, Name}
+use Rattle.rgo_holding.specs.declared.entries.Entry.{Entry}
+use Rattle.rgo_holding.specs.declared.holding.Holding.{Holding}
+use Rattle.rgo_holding.specs.declared.keys.Key.{Key}
+use Rattle.rgo_holding.specs.Changes.{IsProtectedLast, IsUnnamed, Settles}
+use Rattle.rgo_holding.specs.Entries.{new_entry}
+use Rattle.rgo_holding.specs.Holds.{Shows}
+use Rattle.rgo_holding.specs.Known.{AreCounted, ArePending, AreStaked, HavePages, SlotsDiffer, entry_of, entry_region, global_key, page_of, protections_of, region_of, slot_of}
+use Rattle.rgo_holding.specs.Naming.{changed_at, cleared, cut, with_named}
+use Rattle.rgo_holding.specs.Passing.{ArePassed, key_for}
+use Rattle.rgo_holding.specs.Tables.{Named, NamesStand, StandFor, StartWithin, key_in, keys_at, named_in}
+
+-- ---- a table of four slots: Global is known, and a region in slot 2, of which it has a page and which it protects once
+
+abbrev pub second : Key
+second = record { 0 = 1 }
+
+abbrev pub third : Key
+third = record { 0 = 2 }
+
+abbrev pub page_two : Entry
+page_two = record (new_entry 2) { page = Some (record { page = 7; fill = 5 }); protections = 1 }
+
+abbrev pub entries : List Entry
+entries = new_entry 4 ∷ page_two ∷ record (new_entry 3) { used = false } ∷ []
+
+-- one slot has two keys
+abbrev pub doubled : List Entry
+doubled = new_entry 4 ∷ new_entry 2 ∷ new_entry 2 ∷ []
+
+abbrev pub pages : List Fill
+pages = record { slot = 2; page = 7; fill = 5 } ∷ []
+
+-- ---- frames: the first names the region in slot 2 by 1, and protects it; the second knows none
+
+abbrev pub naming : Environment
+naming = record { lent = NoClass; names = (1, Numbered 2) ∷ []; protections = Numbered 2 ∷ [] }
+
+abbrev pub bare : Environment
+bare = environment_of NoClass []
+
+abbrev pub holder_of : List Environment → Holder
+holder_of es = record { stakes = 2 ∷ []; pending = []; environments = es; base = []; fills = []; duties = []; offer = NoOffer }
+
+abbrev pub frame : (height : ℕ) → Named
+frame n = record { height = n; keys = None ∷ Some second ∷ [] }
+
+abbrev pub region : Key → Option Region
+region key = option_map (entry_region 4) (entry_of entries key)
+
+pub record HoldingExamples : Type 0 where
+  -- keys
+  pub used : entry_of entries second ≡ Some page_two
+  pub given_up : entry_of entries third ≡ None
+  pub by_slot : region_of 4 2 ≡ Numbered 2
+  pub behind_all : region_of 4 4 ≡ GlobalRegion
+  pub slot_of_global : slot_of 4 GlobalRegion ≡ 4
+  -- names
+  pub name : key_in (None ∷ Some second ∷ []) 1 ≡ Some second
+  pub no_name : key_in (None ∷ Some second ∷ []) 2 ≡ None
+  pub tables : named_in (Some global_key ∷ None ∷ Some second ∷ []) (record { height = 3; start = 1 } ∷ record { height = 1; start = 0 } ∷ [])
+      ≡ frame 3 ∷ record { height = 1; keys = Some global_key ∷ [] } ∷ []
+  pub start_behind : StartWithin (None ∷ []) (record { height = 1; start = 2 } ∷ []) → ⊥
+  pub newest : keys_at (frame 2 ∷ []) 2 ≡ None ∷ Some second ∷ []
+  pub newest_has_none : keys_at (frame 1 ∷ []) 2 ≡ []
+  pub stand : StandFor region (None ∷ Some second ∷ []) ((1, Numbered 2) ∷ [])
+  pub unbound : StandFor region (None ∷ Some second ∷ []) [] → ⊥
+  pub another : StandFor region (None ∷ Some second ∷ []) ((1, Numbered 3) ∷ []) → ⊥
+  pub not_in_use : StandFor region (None ∷ Some third ∷ []) ((1, Numbered 3) ∷ []) → ⊥
+  pub frames : NamesStand region (frame 1 ∷ []) (bare ∷ naming ∷ [])
+  pub wrong_height : NamesStand region (frame 2 ∷ []) (bare ∷ naming ∷ []) → ⊥
+  pub too_many : NamesStand region (frame 1 ∷ []) [] → ⊥
+  -- entries
+  pub differ : SlotsDiffer (entry_of entries) 4
+  pub same_slot : SlotsDiffer (entry_of doubled) 4 → ⊥
+  pub no_global : SlotsDiffer (entry_of entries) 5 → ⊥
+  pub protections : protections_of (Numbered 2) (bare ∷ naming ∷ []) (Numbered 2 ∷ []) ≡ 2
+  pub counted : AreCounted (entry_of entries) 4 (bare ∷ naming ∷ []) []
+  pub one_more : AreCounted (entry_of entries) 4 (naming ∷ naming ∷ []) [] → ⊥
+  pub own : HavePages (entry_of entries) pages
+  pub own_none : HavePages (entry_of entries) [] → ⊥
+  pub first_page : page_of 2 (record { slot = 3; page = 1; fill = 0 } ∷ pages) ≡ Some (record { slot = 2; page = 7; fill = 5 })
+  pub none_pending : ArePending (entry_of entries) 4 1 []
+  pub pending : ArePending (entry_of entries) 4 1 (2 ∷ []) → ⊥
+  pub staked : AreStaked (entry_of entries) 4 (2 ∷ [])
+  pub no_stake : AreStaked (entry_of entries) 4 (3 ∷ []) → ⊥
+  -- it says how many frames there are
+  pub as_many : (k : Holding) → Shows 4 k (bare ∷ []) [] [] [] [] → Shows 4 k (bare ∷ bare ∷ []) [] [] [] [] → ⊥
+  -- changes
+  pub last : IsProtectedLast (holder_of (naming ∷ bare ∷ [])) (Numbered 2)
+  pub not_last : IsProtectedLast (holder_of (bare ∷ naming ∷ [])) (Numbered 2) → ⊥
+  pub named : IsUnnamed (Numbered 2) (bare ∷ naming ∷ []) → ⊥
+  pub unnamed : IsUnnamed (Numbered 3) (bare ∷ naming ∷ [])
+  pub settles : Settles 1 3 (bare ∷ naming ∷ []) (bare ∷ bare ∷ naming ∷ [])
+  pub guarded_above : Settles 0 1 (naming ∷ []) (bare ∷ []) → ⊥
+  pub fewer : Settles 1 2 (bare ∷ naming ∷ []) (naming ∷ []) → ⊥
+  pub cuts : cut 1 (frame 3 ∷ frame 2 ∷ frame 1 ∷ []) ≡ frame 1 ∷ []
+  pub clears : changed_at 2 (λ keys. cleared keys (1 ∷ [])) (frame 2 ∷ []) ≡ record { height = 2; keys = None ∷ None ∷ [] } ∷ []
+  pub clears_below : changed_at 3 (λ keys. cleared keys (1 ∷ [])) (frame 2 ∷ []) ≡ frame 2 ∷ []
+  pub enters : with_named 2 [] (frame 1 ∷ []) ≡ frame 1 ∷ []
+  -- what is passed
+  pub passes : key_for (NoClass ∷ Name 5 ∷ Name 5 ∷ []) (Some third ∷ Some second ∷ Some global_key ∷ []) 5 ≡ Some second
+  pub passes_none : key_for (Name 5 ∷ []) (None ∷ []) 5 ≡ None
+  pub shared : ArePassed (2 ∷ []) (Some (Numbered 2) ∷ Some GlobalRegion ∷ None ∷ [])
+  pub not_shared : ArePassed (3 ∷ []) (Some (Numbered 2) ∷ []) → ⊥

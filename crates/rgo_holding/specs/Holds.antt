@@ -1,0 +1,38 @@
+-- What a `Holding` says of a goroutine's record: of its names, protections, base, pending stakes and own pages. Which stakes it has is
+-- nowhere kept; each region that it knows, but Global, is one in which it has a stake.
+use Rattle.std.specs.Option.{option_map}
+use Rattle.std.specs.Prelude.{◌≡◌, ℕ, List, Option, Some, length, map, reverse}
+use Rattle.rgo_core_memory.specs.Records.{Fill}
+use Rattle.rgo_region_machine.specs.States.{Environment, Holder}
+use Rattle.rgo_region_machine.specs.declared.regions.Region.{Region}
+use Rattle.rgo_holding.specs.declared.entries.Entry.{Entry}
+use Rattle.rgo_holding.specs.declared.holding.Holding.{Holding}
+use Rattle.rgo_holding.specs.declared.keys.Key.{Key}
+use Rattle.rgo_holding.specs.Known.{AreCounted, ArePending, AreStaked, HavePages, SlotsDiffer, entry_of, entry_region}
+use Rattle.rgo_holding.specs.Tables.{IsOrdered, NamesStand, named}
+
+abbrev pub entry_at : Holding → Key → Option Entry
+entry_at k key = entry_of k.entries.items key
+
+-- the region of a key that is in use
+abbrev pub region_at : Holding → Key → Option Region
+region_at k key = option_map (entry_region k.slots) (entry_at k key)
+
+pub record Shows
+    (slots : ℕ) (k : Holding) (es : List Environment) (base : List Region) (pending stakes : List ℕ) (fills : List Fill)
+    : Type 0 where
+  pub slots_are : k.slots ≡ slots
+  pub depth : k.frames.depth ≡ length es
+  pub ordered : IsOrdered k.frames
+  pub names : NamesStand (region_at k) (named k.frames) es
+  -- the first one is the last in the list
+  pub base_is : map (region_at k) (reverse k.base.items) ≡ map Some base
+  pub differ : SlotsDiffer (entry_at k) k.slots
+  pub counted : AreCounted (entry_at k) k.slots es base
+  pub pages : HavePages (entry_at k) fills
+  pub pending_are : ArePending (entry_at k) k.slots k.round pending
+  pub staked : AreStaked (entry_at k) k.slots stakes
+
+-- The goroutine has this holder and these own pages. `slots` is the slot of Global.
+abbrev pub Holds : (slots : ℕ) → Holding → Holder → List Fill → Type 0
+Holds slots k h fills = Shows slots k h.environments h.base h.pending h.stakes fills

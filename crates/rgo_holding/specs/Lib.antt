@@ -1,0 +1,9 @@
+pub mod Tables
+pub mod Entries
+pub mod Known
+pub mod Holds
+pub mod Changes
+pub mod Passing
+pub mod Naming
+pub mod Learning
+pub mod Examples

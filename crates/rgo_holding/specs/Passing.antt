@@ -1,0 +1,76 @@
+-- What a call or a start passes.
+use Rattle.std.specs.Prelude.{◌≡◌, ℕ, true, List, [], ◌∷◌, Option, Some, None, if◌then◌else◌, length, map, nat_eq}
+use Rattle.rgo_region_machine.specs.Owed.{given_names, passed, passed_regions, twice}
+use Rattle.rgo_region_machine.specs.Regions.{without_all}
+use Rattle.rgo_region_machine.specs.States.{Holder, environment_of, top_names, with_top}
+use Rattle.rgo_region_machine.specs.declared.regions.Region.{Region}
+use Rattle.rgo_region_machine.specs.declared.regions.Region.TheVariants.{Global as GlobalRegion, Numbered}
+use Rattle.rgo_sound.specs.Stakes.{is_in}
+use Rattle.rgo_tac.specs.declared.regions.Class.{Class}
+use Rattle.rgo_tac.specs.declared.regions.Class.TheVariants.{NoClass, Global, Name}
+use Rattle.rgo_holding.specs.declared.holding.Holding.{Holding}
+use Rattle.rgo_holding.specs.declared.keys.Key.{Key}
+use Rattle.rgo_holding.specs.Known.{global_key}
+use Rattle.rgo_holding.specs.Holds.{Shows}
+use Rattle.rgo_holding.specs.Naming.{HasFrameRoom}
+use Rattle.rgo_holding.specs.Tables.{Keys, key_in, newest_keys}
+
+-- ---- keys
+
+-- the key of a class
+abbrev pub class_key : Keys → Class → Option Key
+class_key keys NoClass = None
+class_key keys Global = Some global_key
+class_key keys (Name k) = key_in keys k
+
+-- what is here, or else there
+abbrev pub or_else : {A : Type 0} → Option A → Option A → Option A
+or_else (Some a) other = Some a
+or_else None other = other
+
+-- the key of a name where this one has the key that is passed for it, unless it had one
+abbrev pub first_key : Keys → (name : ℕ) → (passed : Option Key) → (k : ℕ) → Option Key
+first_key keys name passed k = or_else (key_in keys k) (if nat_eq name k then passed else None)
+
+-- the key of a name where this one has that key
+abbrev pub key_with : Keys → (name : ℕ) → Key → (k : ℕ) → Option Key
+key_with keys name key k = if nat_eq name k then Some key else key_in keys k
+
+-- what the names of a function have that is passed these keys
+abbrev pub key_for : (formals : List Class) → (passed : List (Option Key)) → (k : ℕ) → Option Key
+key_for (Name n ∷ formals) (Some key ∷ keys) k = if nat_eq n k then Some key else key_for formals keys k
+key_for (Name n ∷ formals) (None ∷ keys) k = key_for formals keys k
+key_for (NoClass ∷ formals) (key ∷ keys) k = key_for formals keys k
+key_for (Global ∷ formals) (key ∷ keys) k = key_for formals keys k
+key_for (formal ∷ formals) [] k = None
+key_for [] keys k = None
+
+-- ---- a call
+
+-- the holder after a call of a function with these region parameters and this class of result
+abbrev pub calling : Holder → (result : Class) → (formals passes : List Class) → (protects : List ℕ) → Holder
+calling h result formals passes protects = record h {
+  environments =
+      environment_of result (passed formals (passed_regions (top_names h.environments) passes))
+      ∷ with_top h.environments
+      (without_all (top_names h.environments) (given_names result formals passes protects));
+}
+
+-- the names of a callee are known, and there is memory for them
+pub record IsPrepared (k : Holding) (formals passes : List Class) : Type 0 where
+  pub keys : (n : ℕ) → key_in k.callee.items n ≡ key_for formals (map (class_key (newest_keys k.frames)) passes) n
+  pub room : HasFrameRoom k.frames (length k.callee.items)
+
+-- ---- a start
+
+-- each of these regions is Global or pending
+abbrev pub ArePassed : (pending : List ℕ) → List (Option Region) → Type 0
+ArePassed pending [] = Unit {0}
+ArePassed pending (None ∷ given) = ArePassed pending given
+ArePassed pending (Some GlobalRegion ∷ given) = ArePassed pending given
+ArePassed pending (Some (Numbered p) ∷ given) = (is_in p pending ≡ true) × ArePassed pending given
+
+-- the goroutine that a start with these regions makes: the pending stakes are its own
+abbrev pub Begins : (slots : ℕ) → Holding → (pending : List ℕ) → (formals : List Class) → List (Option Region) → Type 0
+Begins slots k pending formals given =
+    (result : Class) → Shows slots k (environment_of result (passed formals given) ∷ []) (twice given) [] pending []

@@ -1,0 +1,253 @@
+//! What the names of frames stand for.
+
+ghost use Rattle.std.specs.Prelude.{◌≡◌, ◌<◌, [], Some, None, OnOk, OnErr, IfOk, length, slice_set};
+ghost use Rattle.rgo_holding.specs.Naming as spec;
+ghost use Rattle.rgo_holding.specs.Tables.{IsOrdered, key_in, named, newest_keys};
+
+use crate::keys::Key;
+use std::alloc::{AllocError, Global};
+
+/// The names of one frame: they begin at `start` in the list of all. `height` counts the frames from the oldest up to this
+/// one.
+#[derive(Clone, Copy)]
+pub(crate) struct Table {
+    pub(crate) height: usize,
+    pub(crate) start: usize,
+}
+
+/// The names of all frames of a goroutine. A frame that has bound no name needs no table.
+#[derive(Drop)]
+pub(crate) struct Frames {
+    /// The newest last.
+    pub(crate) tables: Vec<Table>,
+    /// The keys of all names, those of the newest frame last.
+    pub(crate) keys: Vec<Option<Key>>,
+    /// How many frames there are.
+    pub(crate) depth: usize,
+}
+
+/// The key of a name.
+#[inline(always)]
+pub(crate) fn key_of(keys: &[Option<Key>], name: u32) -> Option<Key>
+    ensures { result ≡ key_in keys.now name }
+{
+    match keys.get(name as usize) {
+        Some(key) => *key,
+        None => None,
+    }
+}
+
+impl Frames {
+    /// One frame that has bound no name.
+    pub(crate) fn new(alloc: Global) -> Frames
+        ensures depth { result.depth ≡ 1 }
+        ensures tables { result.tables.items ≡ [] }
+    {
+        Frames {
+            tables: Vec::new(alloc),
+            keys: Vec::new(alloc),
+            depth: 1,
+        }
+    }
+
+    /// The only frame gets these keys; it had none.
+    ///
+    /// # Errors
+    ///
+    /// On allocation failure.
+    pub(crate) fn name_first(&mut self, keys: Vec<Option<Key>>) -> Result<(), AllocError>
+        ensures { OnOk result (spec.NamesFirst self.old self.new keys.items) }
+    {
+        self.tables.push(Table {
+            height: 1,
+            start: 0,
+        })?;
+        self.keys = keys;
+        Ok(())
+    }
+
+    /// Where the keys of the newest frame begin, if it has a table.
+    #[inline(always)]
+    fn start(&self) -> Option<usize>
+        ensures { result ≡ spec.newest_start self.now }
+    {
+        match self.tables.last() {
+            Some(table) => if table.height == self.depth {
+                Some(table.start)
+            } else {
+                None
+            },
+            None => None,
+        }
+    }
+
+    /// The keys of the names of the newest frame.
+    #[inline(always)]
+    pub(crate) fn newest(&self) -> &[Option<Key>]
+        ensures { result.now ≡ newest_keys self.now }
+    {
+        match self.start() {
+            Some(start) => self.keys.get(start..).unwrap_or(&[]),
+            None => &[],
+        }
+    }
+
+    /// Memory for a name of the newest frame.
+    ///
+    /// # Errors
+    ///
+    /// On allocation failure. No name has changed, whatever the result.
+    pub(crate) fn reserve_name(&mut self, name: u32) -> Result<(), AllocError>
+        ensures same { IsOrdered self.old → spec.SameNames self.old self.new }
+        ensures room { OnOk result (name < length (newest_keys self.new)) }
+    {
+        let start = self.own_start()?;
+        self.lengthen(start, name)
+    }
+
+    /// Where the keys of the newest frame begin; it gets a table if it has none.
+    ///
+    /// # Errors
+    ///
+    /// On allocation failure. No name has changed, whatever the result.
+    fn own_start(&mut self) -> Result<usize, AllocError>
+        ensures same { IsOrdered self.old → spec.SameNames self.old self.new }
+        ensures start { IfOk result (λ start. spec.newest_start self.new ≡ Some start) }
+    {
+        match self.start() {
+            Some(start) => Ok(start),
+            None => self.add_table(),
+        }
+    }
+
+    /// The newest frame, whose keys begin here, has a place for a name.
+    ///
+    /// # Errors
+    ///
+    /// On allocation failure. No name has changed, whatever the result.
+    fn lengthen(&mut self, start: usize, name: u32) -> Result<(), AllocError>
+        requires start { spec.newest_start self.old ≡ Some start }
+        ensures same { IsOrdered self.old → spec.SameNames self.old self.new }
+        ensures room { OnOk result (name < length (newest_keys self.new)) }
+    {
+        let Some(end) = start.checked_add(name as usize + 1) else {
+            return Err(AllocError);
+        };
+        if self.keys.len() < end {
+            self.keys.resize(end, None)?;
+        }
+        Ok(())
+    }
+
+    /// A table without names for the newest frame, which has none; returns its start.
+    ///
+    /// # Errors
+    ///
+    /// On allocation failure. Then nothing has changed.
+    fn add_table(&mut self) -> Result<usize, AllocError>
+        requires none { spec.newest_start self.old ≡ None }
+        ensures same { IsOrdered self.old → spec.SameNames self.old self.new }
+        ensures start { IfOk result (λ start. spec.newest_start self.new ≡ Some start) }
+    {
+        let start = self.keys.len();
+        self.tables.push(Table {
+            height: self.depth,
+            start,
+        })?;
+        Ok(start)
+    }
+
+    /// A name of the newest frame has another key, or none.
+    #[inline(always)]
+    pub(crate) fn set(&mut self, name: u32, key: Option<Key>)
+        ensures set { IsOrdered self.old → spec.Changed self.old self.new (λ keys. slice_set keys name key) }
+        ensures room { spec.KeepsRoom self.old self.new }
+    {
+        let Some(start) = self.start() else {
+            return;
+        };
+        let Some(place) = start.checked_add(name as usize) else {
+            return;
+        };
+        if let Some(kept) = self.keys.get_mut(place) {
+            *kept = key;
+        }
+    }
+
+    /// Memory for a new frame with so many names.
+    ///
+    /// # Errors
+    ///
+    /// On allocation failure. Nothing has changed but memory, whatever the result.
+    pub(crate) fn reserve_frame(&mut self, names: usize) -> Result<(), AllocError>
+        ensures same { spec.SameTables self.old self.new }
+        ensures room { OnOk result (spec.HasFrameRoom self.new names) }
+    {
+        if self.depth == usize::MAX {
+            return Err(AllocError);
+        }
+        self.tables.reserve(1)?;
+        self.keys.reserve(names)?;
+        Ok(())
+    }
+
+    /// A new frame, with these keys.
+    pub(crate) fn enter(&mut self, keys: &[Option<Key>])
+        requires room { spec.HasFrameRoom self.old (length keys.now) }
+        ensures { spec.Enters self.old self.new keys.now }
+    {
+        self.depth += 1;
+        if keys.is_empty() {
+            return;
+        }
+        let start = self.keys.len();
+        // There is memory for both.
+        if self.keys.extend_from_slice(keys).is_ok() {
+            self.tables.push_reserved(Table {
+                height: self.depth,
+                start,
+            });
+        }
+    }
+
+    /// Whether the newest table is of a frame above this height.
+    #[inline(always)]
+    fn is_above(&self, height: usize) -> bool
+        ensures { result ≡ spec.is_above height (named self.now) }
+    {
+        match self.tables.last() {
+            Some(table) => table.height > height,
+            None => false,
+        }
+    }
+
+    /// The newest table goes.
+    fn drop_table(&mut self)
+        ensures { spec.Drops self.old self.new }
+    {
+        if let Some(table) = self.tables.pop() {
+            self.keys.truncate(table.start);
+        }
+    }
+
+    /// The newest frame goes.
+    pub(crate) fn come_back(&mut self)
+        ensures { spec.ComesBack self.old self.new }
+    {
+        if let Some(start) = self.start() {
+            self.tables.pop();
+            self.keys.truncate(start);
+        }
+        self.depth = self.depth.saturating_sub(1);
+    }
+
+    /// The frames above the oldest `kept` go, and others come which have bound no name. There are then `depth` frames.
+    pub(crate) fn settle(&mut self, kept: usize, depth: usize)
+        ensures { spec.Cuts self.old self.new kept depth }
+    {
+        while self.is_above(kept) {
+            self.drop_table();
+        }
+        self.depth = depth;
+    }
+}

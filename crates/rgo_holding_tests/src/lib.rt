@@ -1,0 +1,5 @@
+//! Tests of what a goroutine has of regions. The expected answers were worked out by hand.
+#![tactic(auto)]
+
+#[cfg(test)]
+mod holdings;
