@@ -1,0 +1,279 @@
+-- A body after an instruction that an access has done shows the record after that.
+use Rattle.std.proofs.Common.{◌≡◌, ◌⊎◌, ◌+◌, ◌*◌, ℕ, zero, suc, List, [], ◌∷◌, Option, None, refl, sym, ap, ◌∙◌, subst, length}
+use Rattle.std.specs.Option.{option_map_or}
+use Rattle.std.proofs.lemmas.List.{length-append}
+use Rattle.rgo_core.specs.Core.{Setup}
+use Rattle.rgo_core.specs.Records.{ClockRec, Record, accessed, drawn_at, ticked, with_child, with_print}
+use Rattle.rgo_core_channels.specs.Records.{Rec as SideRec, at_rest}
+use Rattle.rgo_core_channels.specs.Records as sides
+use Rattle.rgo_core_frames.specs.Actions.{after_action}
+use Rattle.rgo_core_frames.specs.Meetings.{acknowledged}
+use Rattle.rgo_core_frames.specs.Records.{after_op}
+use Rattle.rgo_core_frames.specs.WordFrames.{WordFrame, bare_all, word_going, word_moved}
+use Rattle.rgo_core_memory.specs.Records.{Fill, Rec as MemoryRec, with_object}
+use Rattle.rgo_core_steps.proofs.After.{position_by}
+use Rattle.rgo_core_steps.specs.Calls.{accessed_by, waited}
+use Rattle.rgo_core_steps.specs.After.{Position, acknowledging, acting, bytes_at, committing, given, making, position, printing, starting}
+use Rattle.rgo_holding.specs.Holds.{Holds}
+use Rattle.rgo_memory.specs.Memory.{Object}
+use Rattle.rgo_region_machine.specs.Counts.{Counts}
+use Rattle.rgo_region_machine.specs.Objects.{words as words_in}
+use Rattle.rgo_region_machine.specs.States.{Holder, NoOffer, Offer}
+use Rattle.rgo_stack.specs.Steps.{after_word}
+use Rattle.rgo_tac.specs.Ops.{operation_of}
+use Rattle.rgo_body.specs.Bodies.{IsReady}
+use Rattle.rgo_body.specs.Nexts.{IsDo, IsGo, IsPrint, removes_at, target_of}
+use Rattle.rgo_body.specs.Programs.{Program}
+use Rattle.rgo_body.specs.Shows.{Shows, SideShows}
+use Rattle.rgo_body.specs.Steps.{GoesOn}
+use Rattle.rgo_body.specs.declared.bodies.Body.{Body}
+use Rattle.rgo_body.specs.declared.bodies.Side.{Side}
+use Rattle.rgo_body.specs.declared.bodies.Side.TheVariants as side
+use Rattle.rgo_body.specs.declared.nexts.Next.{Next}
+use Rattle.rgo_body.proofs.Showing.{At, at, behind, behind_go, given_is, gone, gone_shows}
+
+abbrev pub stepped : Counts → Counts
+stepped n = record n { steps = suc n.steps }
+
+module _ (T : Setup) (p : Program) (b m : Body) (c : Record) (next : Next) (word : ℕ) (s : Shows T p b c) (ready : IsReady p b next)
+    (goes : GoesOn p b m (after_word (target_of (operation_of next.op)) word) (removes_at next)) where
+  abbrev pub x : At T.code c next
+  x = at T p b c next s ready.is_next
+
+  abbrev pub to : Option ℕ
+  to = given x.instr.op
+
+  abbrev pub frames : List WordFrame
+  frames = word_going x.w to word ∷ x.ws
+
+  -- what has not changed
+
+  pub kept_holds : Holds T.sizes.regions m.holding c.frame.holder c.memory.fills
+  kept_holds = subst (λ (d : Body). Holds T.sizes.regions d.holding c.frame.holder c.memory.fills) (sym goes.rest) s.holds
+
+  kept_side : SideShows m.side c.side c.frame.holder.offer
+  kept_side = subst (λ (d : Body). SideShows d.side c.side c.frame.holder.offer) (sym goes.rest) s.side
+
+  kept_share : c.clock.share ≡ m.counts
+  kept_share = s.share ∙ sym (ap (λ (d : Body). d.counts) goes.rest)
+
+  kept_prints : length c.clock.prints ≡ m.prints
+  kept_prints = s.prints ∙ sym (ap (λ (d : Body). d.prints) goes.rest)
+
+  kept_refused : c.clock.refused ≡ m.refused
+  kept_refused = s.refused ∙ sym (ap (λ (d : Body). d.refused) goes.rest)
+
+  -- the record after it
+
+  moves : (after : Position → Record) → option_map_or after (position T.code c) c ≡ after (record { w = x.w; ws = x.ws; instr = x.instr })
+  moves after = ap (λ q. option_map_or after q c) (position_by T.code c x.w x.ws x.instr x.are x.cur)
+
+  abbrev pub goes_to : ClockRec → Holder → MemoryRec → SideRec → Record
+  goes_to k h memory known = gone T p b m c next word s ready goes k h memory known
+
+  pub none_printed : IsPrint (operation_of next.op) → to ≡ None
+  none_printed k = given_is x.instr.op ∙ ap target_of (x.op ∙ k.2)
+
+  pub none_started : IsGo (operation_of next.op) → to ≡ None
+  none_started k = given_is x.instr.op ∙ ap target_of (x.op ∙ k.2)
+
+  -- an action or a print
+  module _ (kind : IsDo (operation_of next.op) ⊎ IsPrint (operation_of next.op)) where
+    does : after_op T.code c.frame.holder x.w x.ws x.instr.op frames ≡ (goes_to c.clock c.frame.holder c.memory c.side).frame
+    does =
+        ap (λ (h : Holder). record { frames = frames; holder = h })
+        (behind T.code c.frame.holder x.w x.ws x.instr.op (bare_all frames)
+        (subst (λ op. IsDo op ⊎ IsPrint op) (sym x.op) kind))
+
+    acting_is : acting T.code c word ≡ goes_to (ticked c.clock) c.frame.holder c.memory c.side
+    acting_is =
+        moves (λ q. record c { clock = ticked c.clock; frame = after_action T.code c.frame q.w q.ws q.instr (given q.instr.op) word })
+        ∙ ap (λ f. record c { clock = ticked c.clock; frame = f }) does
+
+    pub acted_shows : Shows T p (record m { counts = stepped m.counts }) (acting T.code c word)
+    acted_shows =
+        subst (Shows T p (record m { counts = stepped m.counts })) (sym acting_is)
+        (gone_shows T p b m c next word s ready goes (ticked c.clock) c.frame.holder c.memory c.side
+        (record m { counts = stepped m.counts }) refl refl refl kept_holds kept_side s.calm (ap stepped kept_share) kept_prints kept_refused)
+
+    pub committed_shows : (known : SideShows side.AtRest at_rest c.frame.holder.offer)
+        → Shows T p (record m { counts = stepped m.counts; side = side.AtRest }) (committing T.code c word)
+    committed_shows known =
+        subst (Shows T p (record m { counts = stepped m.counts; side = side.AtRest }))
+        (sym (ap (λ (d : Record). record d { side = at_rest }) acting_is))
+        (gone_shows T p b m c next word s ready goes (ticked c.clock) c.frame.holder c.memory at_rest
+        (record m { counts = stepped m.counts; side = side.AtRest }) refl refl refl kept_holds known s.calm
+        (ap stepped kept_share) kept_prints kept_refused)
+
+    acknowledging_is : word ≡ 0
+        → acknowledging T.code c ≡ goes_to (accessed c.clock) (record c.frame.holder { offer = NoOffer }) c.memory at_rest
+    acknowledging_is none =
+        moves (λ q. record {
+          clock = accessed c.clock;
+          frame = acknowledged (after_action T.code c.frame q.w q.ws q.instr (given q.instr.op) 0);
+          memory = c.memory;
+          side = at_rest;
+        })
+        ∙ ap (λ n. record {
+          clock = accessed c.clock;
+          frame = acknowledged (after_action T.code c.frame x.w x.ws x.instr to n);
+          memory = c.memory;
+          side = at_rest;
+        }) (sym none)
+        ∙ ap (λ f. record { clock = accessed c.clock; frame = acknowledged f; memory = c.memory; side = at_rest }) does
+
+    pub acknowledged_shows : word ≡ 0 → Shows T p (record m { side = side.AtRest }) (acknowledging T.code c)
+    acknowledged_shows none =
+        subst (Shows T p (record m { side = side.AtRest })) (sym (acknowledging_is none))
+        (gone_shows T p b m c next word s ready goes (accessed c.clock) (record c.frame.holder { offer = NoOffer }) c.memory at_rest
+        (record m { side = side.AtRest }) refl refl refl kept_holds (refl, refl) s.calm kept_share kept_prints kept_refused)
+
+    -- a print
+    printing_is : (clock : ℕ) → to ≡ None
+        → printing T.code c clock ≡ goes_to (with_print c.clock clock (bytes_at T.code (record { w = x.w; ws = x.ws; instr = x.instr })))
+        c.frame.holder c.memory c.side
+    printing_is clock none =
+        moves (λ q. record c {
+          clock = with_print c.clock clock (bytes_at T.code q);
+          frame = after_op T.code c.frame.holder q.w q.ws q.instr.op (word_moved q.w (q.w.next + 1) ∷ q.ws);
+        })
+        ∙ ap (λ f. record c { clock = with_print c.clock clock (bytes_at T.code (record { w = x.w; ws = x.ws; instr = x.instr })); frame = f })
+        (ap (λ t. after_op T.code c.frame.holder x.w x.ws x.instr.op (word_going x.w t word ∷ x.ws)) (sym none) ∙ does)
+
+    pub printed_shows : (clock : ℕ) → to ≡ None
+        → Shows T p (record m { counts = stepped m.counts; prints = m.prints + 1 }) (printing T.code c clock)
+    printed_shows clock none =
+        let bytes = bytes_at T.code (record { w = x.w; ws = x.ws; instr = x.instr }) in
+        subst (Shows T p (record m { counts = stepped m.counts; prints = m.prints + 1 })) (sym (printing_is clock none))
+        (gone_shows T p b m c next word s ready goes (with_print c.clock clock bytes) c.frame.holder c.memory c.side
+        (record m { counts = stepped m.counts; prints = m.prints + 1 }) refl refl refl kept_holds kept_side s.calm
+        (ap stepped kept_share) (length-append c.clock.prints (drawn_at clock bytes ∷ []) ∙ ap (λ n. n + 1) kept_prints) kept_refused)
+
+    -- a new object
+    making_is : (f : Fill) (object : Object) → suc (f.page * T.sizes.page_words + f.fill) ≡ word
+        → making T c f object ≡ goes_to (record (ticked c.clock) {
+          share = record c.clock.share { steps = suc c.clock.share.steps; objects = suc c.clock.share.objects };
+        }) c.frame.holder (with_object c.memory f.slot (f.fill + words_in object)) c.side
+    making_is f object same =
+        moves (λ q. record c {
+          clock = record (ticked c.clock) {
+            share = record c.clock.share { steps = suc c.clock.share.steps; objects = suc c.clock.share.objects };
+          };
+          frame = after_action T.code c.frame q.w q.ws q.instr (given q.instr.op) (suc (f.page * T.sizes.page_words + f.fill));
+          memory = with_object c.memory f.slot (f.fill + words_in object);
+        })
+        ∙ ap (λ n. record c {
+          clock = record (ticked c.clock) {
+            share = record c.clock.share { steps = suc c.clock.share.steps; objects = suc c.clock.share.objects };
+          };
+          frame = after_action T.code c.frame x.w x.ws x.instr to n;
+          memory = with_object c.memory f.slot (f.fill + words_in object);
+        }) same
+        ∙ ap (λ r. record c {
+          clock = record (ticked c.clock) {
+            share = record c.clock.share { steps = suc c.clock.share.steps; objects = suc c.clock.share.objects };
+          };
+          frame = r;
+          memory = with_object c.memory f.slot (f.fill + words_in object);
+        }) does
+
+    pub made_shows : (f : Fill) (object : Object) (d : Body) → suc (f.page * T.sizes.page_words + f.fill) ≡ word
+        → d ≡ record m { holding = d.holding; counts = record m.counts { steps = suc m.counts.steps; objects = suc m.counts.objects } }
+        → Holds T.sizes.regions d.holding c.frame.holder (with_object c.memory f.slot (f.fill + words_in object)).fills
+        → Shows T p d (making T c f object)
+    made_shows f object d same is holds =
+        subst (Shows T p d) (sym (making_is f object same))
+        (gone_shows T p b m c next word s ready goes (record (ticked c.clock) {
+          share = record c.clock.share { steps = suc c.clock.share.steps; objects = suc c.clock.share.objects };
+        }) c.frame.holder (with_object c.memory f.slot (f.fill + words_in object)) c.side d
+        (ap (λ (e : Body). e.stack) is) (ap (λ (e : Body). e.queue) is) (ap (λ (e : Body). e.is_expanded) is) holds
+        (subst (λ (e : Body). SideShows e.side c.side c.frame.holder.offer) (sym is) kept_side)
+        (record { make = refl; claim = s.calm.claim; give = s.calm.give; none = s.calm.none })
+        (ap (λ (n : Counts). record n { steps = suc n.steps; objects = suc n.objects }) kept_share ∙ sym (ap (λ (e : Body). e.counts) is))
+        (kept_prints ∙ sym (ap (λ (e : Body). e.prints) is)) (kept_refused ∙ sym (ap (λ (e : Body). e.refused) is)))
+
+  -- a start
+  module _ (kind : IsGo (operation_of next.op)) where
+    starting_is : (number : ℕ) → to ≡ None
+        → starting T.code c number ≡ goes_to (with_child c.clock number) (record c.frame.holder { pending = [] }) c.memory c.side
+    starting_is number none =
+        moves (λ q. record c {
+          clock = with_child c.clock number;
+          frame = after_op T.code c.frame.holder q.w q.ws q.instr.op (word_moved q.w (q.w.next + 1) ∷ q.ws);
+        })
+        ∙ ap (λ f. record c { clock = with_child c.clock number; frame = f })
+        (ap (λ t. after_op T.code c.frame.holder x.w x.ws x.instr.op (word_going x.w t word ∷ x.ws)) (sym none)
+        ∙ ap (λ (h : Holder). record { frames = frames; holder = h })
+        (behind_go T.code c.frame.holder x.w x.ws x.instr.op (bare_all frames) (subst IsGo (sym x.op) kind)))
+
+    pub started_shows : (number : ℕ) (d : Body) → to ≡ None
+        → d ≡ record m {
+          holding = d.holding;
+          counts = record m.counts { steps = suc m.counts.steps; goroutines = suc m.counts.goroutines };
+        }
+        → Holds T.sizes.regions d.holding (record c.frame.holder { pending = [] }) c.memory.fills
+        → Shows T p d (starting T.code c number)
+    started_shows number d none is holds =
+        subst (Shows T p d) (sym (starting_is number none))
+        (gone_shows T p b m c next word s ready goes (with_child c.clock number) (record c.frame.holder { pending = [] }) c.memory c.side d
+        (ap (λ (e : Body). e.stack) is) (ap (λ (e : Body). e.queue) is) (ap (λ (e : Body). e.is_expanded) is) holds
+        (subst (λ (e : Body). SideShows e.side c.side c.frame.holder.offer) (sym is) kept_side) s.calm
+        (ap (λ (n : Counts). record n { steps = suc n.steps; goroutines = suc n.goroutines }) kept_share
+        ∙ sym (ap (λ (e : Body). e.counts) is))
+        (kept_prints ∙ sym (ap (λ (e : Body). e.prints) is)) (kept_refused ∙ sym (ap (λ (e : Body). e.refused) is)))
+
+-- ---- channels
+
+-- without an offer at a channel the record has none
+no_offer : (k : Side) (known : SideRec) (offer : Offer) → SideShows k known offer → ((at : ℕ) → k ≡ side.Offering at → ⊥) → offer ≡ NoOffer
+no_offer side.AtRest known offer s none = s.1
+no_offer side.Tried known offer s none = s.2
+no_offer (side.Offering at) known offer s none = absurd (none at refl)
+
+pub rest_shows : (T : Setup) (p : Program) (b : Body) (c : Record) → ((at : ℕ) → b.side ≡ side.Offering at → ⊥) → Shows T p b c
+    → c.side ≡ at_rest → Shows T p (record b { side = side.AtRest }) c
+rest_shows T p b c none s rests = record {
+  code = s.code;
+  belongs = s.belongs;
+  frames = s.frames;
+  holds = s.holds;
+  owes = s.owes;
+  side = (rests, no_offer b.side c.side c.frame.holder.offer s.side none);
+  calm = s.calm;
+  share = s.share;
+  prints = s.prints;
+  refused = s.refused;
+}
+
+-- an operation was not ready
+pub tried_shows : (T : Setup) (p : Program) (b : Body) (c : Record) (n : ℕ) (known : SideRec) → Shows T p b c
+    → ((at : ℕ) → b.side ≡ side.Offering at → ⊥) → known.hold ≡ sides.Free → known.post ≡ sides.Nowhere
+    → Shows T p (record b { side = side.Tried }) (waited n c known)
+tried_shows T p b c n known s none free nowhere = record {
+  code = s.code;
+  belongs = s.belongs;
+  frames = s.frames;
+  holds = s.holds;
+  owes = s.owes;
+  side = (free, nowhere, no_offer b.side c.side c.frame.holder.offer s.side none);
+  calm = record { make = s.calm.make; claim = s.calm.claim; give = s.calm.give; none = owed_still n c.clock ∙ s.calm.none };
+  share = share_still n c.clock ∙ s.share;
+  prints = ap length (prints_still n c.clock) ∙ s.prints;
+  refused = refused_still n c.clock ∙ s.refused;
+}
+  where
+    owed_still : (n : ℕ) (k : ClockRec) → (accessed_by n k).owed ≡ k.owed
+    owed_still zero k = refl
+    owed_still (suc n) k = owed_still n k
+
+    share_still : (n : ℕ) (k : ClockRec) → (accessed_by n k).share ≡ k.share
+    share_still zero k = refl
+    share_still (suc n) k = share_still n k
+
+    prints_still : (n : ℕ) (k : ClockRec) → (accessed_by n k).prints ≡ k.prints
+    prints_still zero k = refl
+    prints_still (suc n) k = prints_still n k
+
+    refused_still : (n : ℕ) (k : ClockRec) → (accessed_by n k).refused ≡ k.refused
+    refused_still zero k = refl
+    refused_still (suc n) k = refused_still n k

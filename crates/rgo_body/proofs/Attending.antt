@@ -1,0 +1,144 @@
+-- A body after a duty shows the record after it.
+use Rattle.std.proofs.Common.{◌≡◌, ◌++◌, ◌<◌, ℕ, List, [], ◌∷◌, Option, Some, None, refl, sym, ap, ◌∙◌, subst, if◌then◌else◌, length, arith}
+use Rattle.std.specs.Option.{option_map}
+use Rattle.std.proofs.lemmas.Option.{same_Some}
+use Rattle.rgo_code.specs.Code.{Code}
+use Rattle.rgo_core.specs.Core.{Here, Setup}
+use Rattle.rgo_core.specs.Records.{ClockRec, Record}
+use Rattle.rgo_core_facts.proofs.ControlDuties.{duties_known}
+use Rattle.rgo_core_facts.proofs.ControlSteps.{local_duty_steps}
+use Rattle.rgo_core_facts.specs.ControlDuties.{CanAttend, HasNewest, IsNamed}
+use Rattle.rgo_core_frames.specs.Local.{local_duty}
+use Rattle.rgo_core_frames.specs.WordFrames.{bare_all}
+use Rattle.rgo_core_memory.specs.Records.{Fill, Rec as MemoryRec}
+use Rattle.rgo_core_steps.specs.Seats.{SettlesBy, settled_by}
+use Rattle.rgo_holding.specs.Changes.{Keeps}
+use Rattle.rgo_holding.specs.Holds.{Holds, region_at}
+use Rattle.rgo_holding.specs.declared.holding.Holding.{Holding}
+use Rattle.rgo_holding.specs.declared.keys.Key.{Key}
+use Rattle.rgo_region_machine.specs.Owed.{next_duties}
+use Rattle.rgo_region_machine.specs.Regions.{bound}
+use Rattle.rgo_region_machine.specs.States.{Duty, Environment, Holder, top_names}
+use Rattle.rgo_region_machine.specs.declared.regions.Region.{Region}
+use Rattle.rgo_stack.specs.Stacks.{Belongs}
+use Rattle.rgo_body.specs.Bodies.{frames_in}
+use Rattle.rgo_body.specs.Duties.{DoesLocal, HasDone}
+use Rattle.rgo_body.specs.Programs.{Program}
+use Rattle.rgo_body.specs.Shows.{IsCalm, Shows, SideShows}
+use Rattle.rgo_body.specs.declared.bodies.Body.{Body}
+use Rattle.rgo_body.specs.declared.bodies.Side.{Side}
+use Rattle.rgo_body.specs.declared.bodies.Side.TheVariants as side
+
+-- ---- duties in the queue
+
+-- what it owes that is not in its queue yet
+abbrev pub later : Code → Body → List Duty
+later code b = if b.is_expanded then [] else next_duties code (bare_all (frames_in b))
+
+module _ (T : Setup) (p : Program) (b : Body) (c : Record) (d : Duty) (ds : List Duty) (s : Shows T p b c)
+    (queue : b.queue.duties ≡ d ∷ ds) where
+  pub first : c.frame.holder.duties ≡ d ∷ (ds ++ later p.code b)
+  first = s.owes ∙ ap (λ l. l ++ later p.code b) queue
+
+  -- after the first one is done, by an access or without one: another holder and other pages are known
+  module _ (e : Body) (done : e.queue.duties ≡ ds) (is : e ≡ record b { queue = e.queue; holding = e.holding; counts = e.counts }) where
+    pub done_shows : (k : Holder) (clock : ClockRec) (memory : MemoryRec) → k.duties ≡ ds ++ later p.code b
+        → k.offer ≡ c.frame.holder.offer → Holds T.sizes.regions e.holding k memory.fills → IsCalm memory clock.owed
+        → clock.share ≡ e.counts → length clock.prints ≡ length c.clock.prints → clock.refused ≡ c.clock.refused
+        → Shows T p e (record c { clock = clock; frame = record c.frame { holder = k }; memory = memory })
+    done_shows k clock memory duties offer holds calm share prints refused = record {
+      code = s.code;
+      belongs = subst (λ (x : Body). Belongs p.compact x.stack) (sym is) s.belongs;
+      frames = s.frames ∙ sym (ap frames_in is);
+      holds = holds;
+      owes = duties ∙ ap (λ l. l ++ later p.code b) (sym done) ∙ sym (ap (λ (x : Body). e.queue.duties ++ later p.code x) is);
+      side = subst (λ o. SideShows e.side c.side o) (sym offer)
+          (subst (λ (x : Body). SideShows x.side c.side c.frame.holder.offer) (sym is) s.side);
+      calm = calm;
+      share = share;
+      prints = prints ∙ s.prints ∙ sym (ap (λ (x : Body). x.prints) is);
+      refused = refused ∙ s.refused ∙ sym (ap (λ (x : Body). x.refused) is);
+    }
+
+    -- without one
+    pub local_shows : (g : ℕ) (k : Holder) → Here T g c → b.side ≡ side.AtRest → e.counts ≡ b.counts
+        → local_duty (record c.frame.holder { duties = ds ++ later p.code b }) d ≡ Some k
+        → k.duties ≡ ds ++ later p.code b → k.offer ≡ c.frame.holder.offer
+        → Holds T.sizes.regions e.holding k c.memory.fills
+        → SettlesBy T g 1 c × Shows T p e (settled_by T g 1 c)
+    local_shows g k here rests counts does duties offer holds =
+        let known = subst (λ (x : Side). SideShows x c.side c.frame.holder.offer) rests s.side in
+        let step = local_duty_steps T g c d (ds ++ later p.code b) k here known.0 first does in (
+          step.settles,
+          subst (Shows T p e) (sym step.becomes)
+              (done_shows k c.clock c.memory duties offer holds s.calm (s.share ∙ sym counts) refl refl),
+        )
+
+  -- ---- the region of a name
+
+  pub attended : (g : ℕ) → Here T g c → CanAttend T c d
+  attended g here = duties_known T g c here d (ds ++ later p.code b) first
+
+-- ---- a local duty, whatever the record
+
+module _ (p : Program) (b e : Body) (d : Duty) (ds : List Duty) (queue : b.queue.duties ≡ d ∷ ds) (done : e.queue.duties ≡ ds)
+    (is : e ≡ record b { queue = e.queue; holding = e.holding; counts = e.counts }) where
+  pub has_done : HasDone b e
+  has_done = record { first = d; queue = queue ∙ ap (λ l. d ∷ l) (sym done); rest = is }
+
+  -- what the holder is after it
+  pub record Becomes (T : Setup) (c : Record) : Type 0 where
+    pub after : Holder
+    pub does : local_duty (record c.frame.holder { duties = ds ++ later p.code b }) d ≡ Some after
+    pub duties : after.duties ≡ ds ++ later p.code b
+    pub offer : after.offer ≡ c.frame.holder.offer
+    pub holds : Holds T.sizes.regions e.holding after c.memory.fills
+
+  pub does_local : b.side ≡ side.AtRest → e.counts ≡ b.counts → ((T : Setup) (g : ℕ) (c : Record) → Here T g c → Shows T p b c → Becomes T c)
+      → DoesLocal p b e
+  does_local rests counts by = (
+    (λ T g c here s. let x = by T g c here s in
+        local_shows T p b c d ds s queue e done is g x.after here rests counts x.does x.duties x.offer x.holds),
+    has_done,
+    counts,
+  )
+
+-- ---- names
+
+pub top_bound : (T : Setup) (c : Record) (k : ℕ) (n : IsNamed T c k) → bound (top_names c.frame.holder.environments) k ≡ Some n.region
+top_bound T c k n = ap (λ es. bound (top_names es) k) n.newest.environments ∙ n.bound
+
+pub some_key : (H : Holding) (key : Key) (o : Option Region) (r : Region)
+    → option_map (region_at H) (Some key) ≡ option_map Some o → o ≡ Some r → region_at H key ≡ Some r
+some_key H key o r e is = same_Some (region_at H key) (Some r) (e ∙ ap (option_map Some) is)
+
+pub no_key : (H : Holding) (o : Option Region) (r : Region) → option_map (region_at H) None ≡ option_map Some o → o ≡ Some r → ⊥
+no_key H o r e is = never (e ∙ ap (option_map Some) is)
+  where
+    never : None ≡ Some (Some r) → ⊥
+    never e = cc
+
+-- the key of a name, whatever the record
+abbrev pub IsKeyOf : Holding → Option Key → (name : ℕ) → Type 0
+IsKeyOf H o name = (slots : ℕ) (h : Holder) (fills : List Fill) → Holds slots H h fills
+    → option_map (region_at H) o ≡ option_map Some (bound (top_names h.environments) name)
+
+pub some_environment : (c : Record) (e : Environment) → HasNewest c e → 0 < length c.frame.holder.environments
+some_environment c e n = let l = ap (λ (es : List Environment). length es) n.environments in omega (arith, l)
+
+-- ---- memory alone
+
+pub with_holding : (T : Setup) (p : Program) (b : Body) (c : Record) (H : Holding) → Shows T p b c → Keeps b.holding H
+    → Shows T p (record b { holding = H }) c
+with_holding T p b c H s keeps = record {
+  code = s.code;
+  belongs = s.belongs;
+  frames = s.frames;
+  holds = keeps T.sizes.regions c.frame.holder c.memory.fills s.holds;
+  owes = s.owes;
+  side = s.side;
+  calm = s.calm;
+  share = s.share;
+  prints = s.prints;
+  refused = s.refused;
+}

@@ -1,0 +1,17 @@
+pub mod Acting
+pub mod Attending
+pub mod Calling
+pub mod Computing
+pub mod Creating
+pub mod Decoding
+pub mod Examined
+pub mod LoopRuns
+pub mod OpKinds
+pub mod Placing
+pub mod PuttingBase
+pub mod Removing
+pub mod Sharing
+pub mod Showing
+pub mod Starting
+pub mod Stepping
+pub mod Transfers

@@ -1,0 +1,10 @@
+use Rattle.std.proofs.Common.{◌≡◌, sym, ap, ◌∙◌}
+use Rattle.rgo_region_machine.specs.Duties.{guards}
+use Rattle.rgo_region_machine.specs.declared.regions.Region.TheVariants.{Numbered}
+use Rattle.rgo_body.specs.Duties.{is_kept}
+use Rattle.rgo_body.proofs.duties.is_kept.Goals as goal
+
+pub returns-in-Numbered : goal.returns-in-Numbered
+returns-in-Numbered c slots h fills r holds at =
+    let is : r ≡ Numbered c.in-Numbered.field-0 = sym (c.region.ensures r at) ∙ c.in-Numbered.is in
+    c.guards.ensures slots h fills r holds at ∙ ap (guards h.base h.environments) is ∙ ap (is_kept h.base h.environments) (sym is)

@@ -1,0 +1,56 @@
+-- What a body owes, and what is next for it.
+use Rattle.std.specs.Prelude.{◌≡◌, ◌<◌, ◌≤◌, ◌+◌, ℕ, true, false, List, [], ◌++◌, if◌then◌else◌, length, map}
+use Rattle.rgo_code.specs.Code.{Code}
+use Rattle.rgo_core_frames.specs.WordFrames.{WordFrame, bare_all}
+use Rattle.rgo_region_machine.specs.Counts.{Counts}
+use Rattle.rgo_region_machine.specs.Owed.{next_duties}
+use Rattle.rgo_region_machine.specs.States.{Duty, Remove}
+use Rattle.rgo_sound.specs.Tally.{no_share}
+use Rattle.rgo_holding.specs.declared.holding.Holding.{Holding}
+use Rattle.rgo_stack.specs.Stacks.{Stack, frames_of}
+use Rattle.rgo_body.specs.Nexts.{IsNextOf, removes_at}
+use Rattle.rgo_body.specs.Programs.{Program}
+use Rattle.rgo_body.specs.declared.bodies.Body.{Body}
+use Rattle.rgo_body.specs.declared.bodies.Side.TheVariants.{AtRest}
+use Rattle.rgo_body.specs.declared.nexts.Next.{Next}
+
+abbrev pub frames_in : Body → List WordFrame
+frames_in b = frames_of b.stack
+
+-- the duties in its queue, and those before its next instruction unless they are in the queue already
+abbrev pub owed : Code → Body → List Duty
+owed code b = b.queue.duties ++ (if b.is_expanded then [] else next_duties code (bare_all (frames_in b)))
+
+-- it owes nothing before this instruction, its next one
+pub record IsReady (p : Program) (b : Body) (next : Next) : Type 0 where
+  pub queue : b.queue.duties ≡ []
+  pub expanded : b.is_expanded ≡ true
+  pub is_next : IsNextOf p.code (frames_in b) next
+
+-- there is room for what is owed after this instruction
+abbrev pub HasRoomBehind : Body → Next → Type 0
+HasRoomBehind b next = length (removes_at next) ≤ b.queue.room
+
+-- ---- counts
+
+-- one more of each can be counted
+pub record CanCount (n : Counts) : Type 0 where
+  pub made : n.made + 1 < 18446744073709551616
+  pub removed : n.removed + 1 < 18446744073709551616
+  pub taken : n.taken + 1 < 18446744073709551616
+  pub steps : n.steps + 1 < 18446744073709551616
+  pub objects : n.objects + 1 < 18446744073709551616
+  pub goroutines : n.goroutines + 1 < 18446744073709551616
+
+-- ---- at the start
+
+-- a goroutine with this stack that has done nothing, and owes the removal of these names before all else
+pub record IsFresh (stack : Stack) (holding : Holding) (removes : List ℕ) (goroutines : ℕ) (b : Body) : Type 0 where
+  pub stack_is : b.stack ≡ stack
+  pub holding_is : b.holding ≡ holding
+  pub queue : b.queue.duties ≡ map Remove removes
+  pub expanded : b.is_expanded ≡ false
+  pub side : b.side ≡ AtRest
+  pub counts : b.counts ≡ record no_share { goroutines = goroutines }
+  pub prints : b.prints ≡ 0
+  pub refused : b.refused ≡ false

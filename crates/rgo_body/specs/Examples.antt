@@ -1,0 +1,89 @@
+-- Where the definitions hold and where they do not.
+use Rattle.std.specs.Prelude.{◌≡◌, ◌∷◌, [], List, None, Some, pos, true, false}
+use Rattle.rgo_compact.specs.Examples.{adding, small}
+use Rattle.rgo_compact.specs.Runs.{frame_at}
+use Rattle.rgo_core.specs.Records.{Record, begins_with, looked}
+use Rattle.rgo_core_channels.specs.Records.{at_rest, offering}
+use Rattle.rgo_core_frames.specs.Opening.{no_record}
+use Rattle.rgo_core_frames.specs.WordFrames.{WordFrame}
+use Rattle.rgo_core_memory.specs.Opening.{first_record}
+use Rattle.rgo_core_memory.specs.Records.{Owes, with_give}
+use Rattle.rgo_region_machine.specs.Examples.{int_slot, main_of}
+use Rattle.rgo_region_machine.specs.States.{Environment, NoOffer, Standing}
+use Rattle.rgo_region_machine.specs.States as machine
+use Rattle.rgo_region_machine.specs.declared.regions.Region.TheVariants.{Global as GlobalRegion, Numbered}
+use Rattle.rgo_sound.specs.Tally.{no_share}
+use Rattle.rgo_tac.specs.Code as tac
+use Rattle.rgo_tac.specs.declared.ops.Op.TheVariants as op
+use Rattle.rgo_tac.specs.declared.ops.Operands.TheVariants.{Zero}
+use Rattle.rgo_tac.specs.declared.regions.Class.TheVariants.{NoClass}
+use Rattle.rgo_typed.specs.declared.actions.Action.TheVariants as action
+use Rattle.rgo_body.specs.Bodies.{CanCount}
+use Rattle.rgo_body.specs.Duties.{has_share, is_kept, without_region}
+use Rattle.rgo_body.specs.Nexts.{FollowsOn, HasNoNext, IsDo, IsNextOf, IsReturn, removes_at, target_of}
+use Rattle.rgo_body.specs.Queues.{duties_of}
+use Rattle.rgo_body.specs.Shows.{IsCalm, LooksLike, SideShows}
+use Rattle.rgo_body.specs.declared.bodies.Side.TheVariants as side
+use Rattle.rgo_body.specs.declared.nexts.Next.{Next}
+use Rattle.rgo_body.specs.declared.queues.Duty.TheVariants as duty
+
+-- `v1 := 5` is the first instruction of the function
+abbrev pub first_next : Next
+first_next = record {
+  function = main_of (int_slot ∷ int_slot ∷ int_slot ∷ []) adding;
+  at = 0;
+  op = op.Do (Some 1) (action.Int (pos 5)) Zero;
+}
+
+abbrev pub at_start : List WordFrame
+at_start = frame_at 0 0 (7 ∷ 0 ∷ 0 ∷ []) ∷ []
+
+abbrev pub nobody : Record
+nobody = begins_with no_record
+
+-- a frame whose call protects the region of slot 3
+abbrev pub guarding : Environment
+guarding = record { lent = NoClass; names = []; protections = Numbered 3 ∷ [] }
+
+pub record BodyExamples : Type 0 where
+  -- what is known of channels
+  pub rests : SideShows side.AtRest at_rest NoOffer
+  pub offers_at_rest : SideShows side.AtRest at_rest (Standing 0) → ⊥
+  pub offers : SideShows (side.Offering 700) (offering 700) (Standing 0)
+  pub offers_elsewhere : SideShows (side.Offering 700) (offering 703) (Standing 0) → ⊥
+  pub tried : SideShows side.Tried at_rest NoOffer
+  pub offers_when_tried : SideShows side.Tried (offering 700) NoOffer → ⊥
+  pub calm : IsCalm first_record 0
+  pub owing_pages : IsCalm first_record 2 → ⊥
+  pub giving_back : IsCalm (with_give first_record (Owes 3)) 0 → ⊥
+  -- what no body shows
+  pub access : LooksLike nobody (looked nobody)
+  pub instruction : LooksLike nobody (record nobody { clock = record nobody.clock { share = record no_share { steps = 1 } } }) → ⊥
+  pub gone : (without_region nobody 4).clock.share.returned ≡ 4
+  pub removed : (without_region nobody 4).clock.share.removed ≡ 1
+  -- counts
+  pub few : CanCount no_share
+  pub many : CanCount (record no_share { steps = 18446744073709551615 }) → ⊥
+  -- queues: the first duty is the last of the list
+  pub order : duties_of (duty.Create 4 ∷ duty.Remove 3 ∷ []) ≡ machine.Remove 3 ∷ machine.Create 4 ∷ []
+  -- duties without an access
+  pub global_shared : has_share [] GlobalRegion ≡ true
+  pub shared : has_share (2 ∷ 3 ∷ []) (Numbered 3) ≡ true
+  pub not_shared : has_share (2 ∷ 3 ∷ []) (Numbered 4) ≡ false
+  pub global_kept : is_kept [] [] GlobalRegion ≡ true
+  pub kept : is_kept [] (guarding ∷ []) (Numbered 3) ≡ true
+  pub not_kept : is_kept [] (guarding ∷ []) (Numbered 4) ≡ false
+  -- the next instruction
+  pub next : IsNextOf small at_start first_next
+  pub elsewhere : IsNextOf small (frame_at 0 1 (7 ∷ 5 ∷ 0 ∷ []) ∷ []) first_next → ⊥
+  pub without_frame : IsNextOf small [] first_next → ⊥
+  pub none : HasNoNext small []
+  pub past : HasNoNext small (frame_at 0 3 (7 ∷ 5 ∷ 0 ∷ []) ∷ [])
+  pub some : HasNoNext small at_start → ⊥
+  pub removes : removes_at first_next ≡ []
+  pub target : target_of (tac.Do (Some 1) (action.Int (pos 5)) []) ≡ Some 1
+  pub does : IsDo (tac.Do None (action.Store 0) (1 ∷ 2 ∷ []))
+  pub jumps : IsDo (tac.Jump 4) → ⊥
+  pub returns : IsReturn (tac.Return None)
+  pub goes_on : FollowsOn (tac.Go 1 [])
+  pub leaves : FollowsOn (tac.Return None) → ⊥

@@ -1,0 +1,131 @@
+//! Instructions that are done by accesses: what the body is after the last one.
+
+ghost use Rattle.std.specs.Prelude.{◌≡◌, ◌^◌, ◌+◌, ◌*◌, ◌<◌, ◌≤◌, ℕ, Some, suc, true, OnOk};
+ghost use Rattle.rgo_core.specs.Core.{Setup};
+ghost use Rattle.rgo_core.specs.Records.{Record};
+ghost use Rattle.rgo_core_memory.specs.Records.{Fill};
+ghost use Rattle.rgo_core_steps.specs.After.{acting, making, printing, starting};
+ghost use Rattle.rgo_core_steps.specs.Ends.{ending};
+ghost use Rattle.rgo_core_steps.specs.Starts.{refusing};
+ghost use Rattle.rgo_machine.specs.declared.picks.End.TheVariants.{Trap};
+ghost use Rattle.rgo_memory.specs.Memory.{Object};
+ghost use Rattle.rgo_holding.specs.Holds.{region_at};
+ghost use Rattle.rgo_holding.specs.Known.{slot_of};
+ghost use Rattle.rgo_region_machine.specs.Objects.{words as words_in};
+ghost use Rattle.rgo_region_machine.specs.declared.regions.Region.{Region};
+ghost use Rattle.rgo_stack.specs.Steps.{after_word};
+ghost use Rattle.rgo_region_machine.specs.States.{Ended, Stopped};
+ghost use Rattle.rgo_tac.specs.Ops.{operation_of};
+ghost use Rattle.rgo_body.specs.Bodies.{HasRoomBehind, IsReady};
+ghost use Rattle.rgo_body.specs.Nexts.{FollowsOn, IsDo, IsGo, IsPrint, removes_at, target_of};
+ghost use Rattle.rgo_body.specs.Shows.{IsPossible, Shows};
+ghost use Rattle.rgo_body.specs.Steps.{Becomes, GoesOn, IsRoomier};
+
+use crate::bodies::Body;
+use crate::nexts::Next;
+use crate::programs::Program;
+use crate::queues::Kind;
+use rgo_holding::Key;
+use std::alloc::AllocError;
+
+impl Body {
+    /// Room for what is owed after its next instruction, which an access does: taken before the access.
+    ///
+    /// # Errors
+    ///
+    /// On allocation failure.
+    pub fn room_behind(&mut self, next: &Next<'_>) -> Result<(), AllocError>
+        ensures room { OnOk result (HasRoomBehind self.new next.now) }
+        ensures same { IsRoomier self.old self.new }
+    {
+        self.queue.reserve(next.removes().len())
+    }
+
+    /// It continues after its next instruction, which has given a variable this word, if it gives one.
+    pub(crate) fn go_on(&mut self, program: &Program<'_>, next: &Next<'_>, word: u64)
+        requires possible { IsPossible program.now self.old }
+        requires ready { IsReady program.now self.old next.now }
+        requires follows { FollowsOn (operation_of next.now.op) }
+        requires room { HasRoomBehind self.old next.now }
+        ensures { GoesOn program.now self.old self.new (after_word (target_of (operation_of next.now.op)) word) (removes_at next.now) }
+    {
+        self.stack.advance(program.compact(), next.target(), word);
+        self.queue.put_all(Kind::Remove, next.removes());
+        self.is_expanded = false;
+    }
+
+    /// Its next instruction was an action, which has given this word, if it gives one.
+    pub fn acted(&mut self, program: &Program<'_>, next: &Next<'_>, word: u64)
+        requires possible { IsPossible program.now self.old }
+        requires ready { IsReady program.now self.old next.now }
+        requires does { IsDo (operation_of next.now.op) }
+        requires room { HasRoomBehind self.old next.now }
+        requires count { self.old.counts.steps + 1 < 2 ^ 64 }
+        ensures { Becomes program.now self.old self.new (λ T c. acting T.code c word) }
+    {
+        self.go_on(program, next, word);
+        self.counts.add_step();
+    }
+
+    /// Its next instruction has made an object at the end of what was filled of its own page in this region. The page is now filled
+    /// up to `end`, and `word` is the pointer.
+    pub fn made(&mut self, program: &Program<'_>, next: &Next<'_>, key: Key, end: u32, word: u64)
+        requires possible { IsPossible program.now self.old }
+        requires ready { IsReady program.now self.old next.now }
+        requires does { IsDo (operation_of next.now.op) }
+        requires room { HasRoomBehind self.old next.now }
+        requires count { (self.old.counts.steps + 1 < 2 ^ 64) × (self.old.counts.objects + 1 < 2 ^ 64) }
+        ensures { (T : Setup) (c : Record) (f : Fill) (object : Object) (region : Region) → Shows T program.now self.old c
+            → region_at self.old.holding key ≡ Some region → f.slot ≡ slot_of T.sizes.regions region → f.fill + words_in object ≡ end → suc (f.page * T.sizes.page_words + f.fill) ≡ word
+            → Shows T program.now self.new (making T c f object) }
+    {
+        self.go_on(program, next, word);
+        self.holding.fill(key, end);
+        self.counts.add_object();
+    }
+
+    /// It has printed.
+    pub fn printed(&mut self, program: &Program<'_>, next: &Next<'_>)
+        requires possible { IsPossible program.now self.old }
+        requires ready { IsReady program.now self.old next.now }
+        requires prints { IsPrint (operation_of next.now.op) }
+        requires room { HasRoomBehind self.old next.now }
+        requires count { (self.old.counts.steps + 1 < 2 ^ 64) × (self.old.prints + 1 < 2 ^ 64) }
+        ensures { (clock : ℕ) → Becomes program.now self.old self.new (λ T c. printing T.code c clock) }
+    {
+        self.go_on(program, next, 0);
+        self.counts.add_step();
+        self.prints += 1;
+    }
+
+    /// It has started a goroutine.
+    pub fn started(&mut self, program: &Program<'_>, next: &Next<'_>)
+        requires possible { IsPossible program.now self.old }
+        requires ready { IsReady program.now self.old next.now }
+        requires starts { IsGo (operation_of next.now.op) }
+        requires room { HasRoomBehind self.old next.now }
+        requires count { (self.old.counts.steps + 1 < 2 ^ 64) × (self.old.counts.goroutines + 1 < 2 ^ 64) }
+        ensures { (number : ℕ) → Becomes program.now self.old self.new (λ T c. starting T.code c number) }
+    {
+        self.go_on(program, next, 0);
+        self.holding.clear_pending();
+        self.counts.add_goroutine();
+    }
+
+    /// A number was refused to it.
+    pub fn refuse(&mut self, program: &Program<'_>)
+        ensures { Becomes program.now self.old self.new (λ T c. refusing c) }
+    {
+        self.refused = true;
+    }
+
+    /// Its next instruction has trapped.
+    pub fn trapped(&mut self, program: &Program<'_>)
+        requires count { self.old.counts.steps + 1 < 2 ^ 64 }
+        ensures becomes { (clock : ℕ) (trap : _) (place : ℕ)
+            → Becomes program.now self.old self.new (λ T c. ending T.code c clock (Ended (Trap trap place))) }
+        ensures same { self.new ≡ record self.old { counts = self.new.counts } }
+    {
+        self.counts.add_step();
+    }
+}

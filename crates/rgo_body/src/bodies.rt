@@ -1,0 +1,120 @@
+//! The body of a goroutine, and what is read of it.
+
+ghost use Rattle.std.specs.Prelude.{◌≡◌, ◌<◌, ◌∷◌, [], ℕ, List, MatchOption, Some, length};
+ghost use Rattle.rgo_core_frames.specs.WordFrames.{WordFrame, word_at};
+ghost use Rattle.rgo_region_machine.specs.States as machine;
+ghost use Rattle.rgo_body.specs.Bodies as spec;
+ghost use Rattle.rgo_body.specs.Nexts.{HasNoNext, IsNextOf};
+ghost use Rattle.rgo_body.specs.Queues.{duty_of};
+ghost use Rattle.rgo_body.specs.Programs.{Program as Program_};
+ghost use Rattle.rgo_body.specs.Shows.{IsPossible};
+ghost use Rattle.rgo_holding.specs.Holds.{region_at};
+ghost use Rattle.rgo_region_machine.specs.declared.regions.Region.TheVariants.{Numbered};
+
+use crate::counts::Counts;
+use crate::nexts::{Next, next_at};
+use crate::programs::Program;
+use crate::queues::{Duty, Queue};
+use rgo_holding::{Holding, Key};
+use rgo_stack::Stack;
+
+/// What a goroutine knows of a channel.
+#[derive(Clone, Copy, Debug, PartialEq, Eq)]
+pub enum Side {
+    /// Nothing.
+    AtRest,
+    /// The operation at which it is was not ready when it was tried.
+    Tried,
+    /// Its offer stands at the channel whose control is this word of the table.
+    Offering(usize),
+}
+
+/// What a goroutine is made of, but for its seat at the table.
+#[derive(Drop)]
+pub struct Body {
+    pub(crate) stack: Stack,
+    /// What it has of regions.
+    pub(crate) holding: Holding,
+    pub(crate) queue: Queue,
+    /// Whether what it owes before its next instruction is in the queue.
+    pub(crate) is_expanded: bool,
+    pub(crate) side: Side,
+    pub(crate) counts: Counts,
+    /// How many prints it has made.
+    pub(crate) prints: u64,
+    /// Whether a number was refused to it.
+    pub(crate) refused: bool,
+}
+
+impl Body {
+    /// What its next step is, where it owes no duty; `None` where it has returned from its first function.
+    pub fn next<'p>(&self, program: &'p Program<'_>) -> Option<Next<'p>>
+        ensures { MatchOption result (HasNoNext program.now.code (spec.frames_in self.now))
+            (IsNextOf program.now.code (spec.frames_in self.now)) }
+    {
+        match self.stack.newest() {
+            Some(place) => next_at(program, place),
+            None => None,
+        }
+    }
+
+    /// The first duty in its queue.
+    pub fn duty(&self) -> Option<Duty>
+        ensures { MatchOption result (self.now.queue.duties ≡ [])
+            (λ d. (ds : List machine.Duty) × (self.now.queue.duties ≡ duty_of d ∷ ds)) }
+    {
+        self.queue.first()
+    }
+
+    /// Whether what it owes before its next instruction is in its queue.
+    pub fn is_expanded(&self) -> bool
+        ensures { result ≡ self.now.is_expanded }
+    {
+        self.is_expanded
+    }
+
+    pub fn side(&self) -> Side
+        ensures { result ≡ self.now.side }
+    {
+        self.side
+    }
+
+    pub fn counts(&self) -> &Counts
+        ensures { result.now ≡ self.now.counts }
+    {
+        &self.counts
+    }
+
+    /// Whether a number was refused to it.
+    pub fn is_refused(&self) -> bool
+        ensures { result ≡ self.now.refused }
+    {
+        self.refused
+    }
+
+    /// The slot of a region that it knows.
+    #[inline(always)]
+    pub fn slot(&self, key: Key) -> u32
+        requires possible { (p : Program_) × IsPossible p self.now }
+        ensures { (slot : ℕ) → region_at self.now.holding key ≡ Some (Numbered slot) → result ≡ slot }
+    {
+        self.holding.slot(key)
+    }
+
+    /// How many frames it has.
+    pub fn depth(&self) -> usize
+        requires { (p : Program_) × IsPossible p self.now }
+        ensures { result ≡ length (spec.frames_in self.now) }
+    {
+        self.stack.depth()
+    }
+
+    /// The word of a variable of the newest frame.
+    #[inline(always)]
+    pub fn word(&self, variable: u32) -> u64
+        requires { (w : WordFrame) × (ws : List WordFrame) × (spec.frames_in self.now ≡ w ∷ ws) × (variable < length w.variables) }
+        ensures { (w : WordFrame) (ws : List WordFrame) → spec.frames_in self.now ≡ w ∷ ws → result ≡ word_at w variable }
+    {
+        self.stack.word(variable)
+    }
+}

@@ -1,0 +1,267 @@
+//! Local steps of control: jumps and branches after which names are removed, and calls and returns that pass or protect regions.
+
+ghost use Rattle.std.specs.Prelude.{◌≡◌, ◌^◌, ◌+◌, ◌<◌, ◌≤◌, ◌++◌, ℕ, Err, List, MatchOption, None, OnErr, OnOk, Option, drop, length, map};
+ghost use Rattle.rgo_machine.specs.Limits.{deepest};
+ghost use Rattle.rgo_core_memory.specs.Records.{Fill};
+ghost use Rattle.rgo_holding.specs.Holds.{Holds};
+ghost use Rattle.rgo_region_machine.specs.States.{EndBase, Holder};
+ghost use Rattle.rgo_stack.specs.Places.{CanJump};
+ghost use Rattle.rgo_stack.specs.Stacks.{caller_place};
+ghost use Rattle.rgo_stack.specs.declared.calls.NoCall.TheVariants.{TooDeep};
+ghost use Rattle.rgo_tac.specs.Code as tac;
+ghost use Rattle.rgo_tac.specs.Ops.{operation_of};
+ghost use Rattle.rgo_body.specs.Bodies.{IsReady, frames_in};
+ghost use Rattle.rgo_body.specs.Nexts.{IsNextOf};
+ghost use Rattle.rgo_body.specs.Shows.{IsPossible};
+ghost use Rattle.rgo_body.specs.Steps.{ExitsSo, GoesTo, HasBaseRoom, HasRoomBack, IsRoomier, Stays, TakesLocal, TakesReturn};
+ghost use Rattle.rgo_body.specs.declared.bodies.Side.TheVariants.{AtRest};
+
+use crate::bodies::Body;
+use crate::nexts::{Next, next_at};
+use crate::programs::Program;
+use crate::queues::{Duty, Kind, Queue};
+use rgo_holding::Holding;
+use rgo_stack::NoCall;
+use std::alloc::AllocError;
+
+/// The ends of the protections since a goroutine started come before all other duties.
+fn put_base(queue: &mut Queue, holding: &Holding)
+    requires room { HasBaseRoom holding.now queue.old.room }
+    ensures { (h : Holder) (fills : List Fill) (slots : ℕ) → Holds slots holding.now h fills
+        → queue.new.duties ≡ map EndBase h.base ++ queue.old.duties }
+{
+    let mut i = holding.base_len();
+    while i > 0 {
+        i -= 1;
+        match holding.base_region(i) {
+            Some(region) => queue.put(Duty::EndBase(region)),
+            None => unreachable!(),
+        }
+    }
+}
+
+impl Body {
+    /// It continues with another instruction of its function, and removes these names.
+    ///
+    /// # Errors
+    ///
+    /// On allocation failure. Then nothing has changed.
+    fn go_to(
+        &mut self,
+        program: &Program<'_>,
+        target: u32,
+        removes: &[u32],
+    ) -> Result<(), AllocError>
+        requires possible { IsPossible program.now self.old }
+        requires can { CanJump program.now.compact target (frames_in self.old) }
+        requires count { self.old.counts.steps + 1 < 2 ^ 64 }
+        ensures went { OnOk result (GoesTo program.now self.old self.new target removes.now) }
+        ensures refused { OnErr result (IsRoomier self.old self.new) }
+    {
+        self.queue.reserve(removes.len())?;
+        self.stack.jump(program.compact(), target as usize);
+        self.queue.put_all(Kind::Remove, removes);
+        self.is_expanded = false;
+        self.counts.add_step();
+        Ok(())
+    }
+
+    /// Its next instruction is a jump.
+    ///
+    /// # Errors
+    ///
+    /// On allocation failure. Then nothing has changed.
+    pub fn jump(
+        &mut self,
+        program: &Program<'_>,
+        next: &Next<'_>,
+        target: u32,
+    ) -> Result<(), AllocError>
+        requires possible { IsPossible program.now self.old }
+        requires ready { IsReady program.now self.old next.now }
+        requires jumps { operation_of next.now.op ≡ tac.Jump target }
+        requires rests { self.old.side ≡ AtRest }
+        requires count { self.old.counts.steps + 1 < 2 ^ 64 }
+        ensures done { OnOk result (TakesLocal program.now 1 self.old self.new) }
+        ensures stays { OnErr result (Stays program.now self.old self.new) }
+    {
+        program.fits();
+        self.go_to(program, target, next.removes())
+    }
+
+    /// Its next instruction is a branch.
+    ///
+    /// # Errors
+    ///
+    /// On allocation failure. Then nothing has changed.
+    pub fn branch(
+        &mut self,
+        program: &Program<'_>,
+        next: &Next<'_>,
+        test: u32,
+        target: u32,
+        other: u32,
+    ) -> Result<(), AllocError>
+        requires possible { IsPossible program.now self.old }
+        requires ready { IsReady program.now self.old next.now }
+        requires branches { operation_of next.now.op ≡ tac.Branch test target other }
+        requires rests { self.old.side ≡ AtRest }
+        requires count { self.old.counts.steps + 1 < 2 ^ 64 }
+        ensures done { OnOk result (TakesLocal program.now 1 self.old self.new) }
+        ensures stays { OnErr result (Stays program.now self.old self.new) }
+    {
+        program.fits();
+        if self.stack.word(test) == 0 {
+            self.go_to(program, other, next.function.otherwise(next.at))
+        } else {
+            self.go_to(program, target, next.removes())
+        }
+    }
+
+    /// Its next instruction calls this function with these variables.
+    ///
+    /// # Errors
+    ///
+    /// [`NoCall::TooDeep`] only where it has as many frames as it may have, [`NoCall::NoMemory`] on allocation failure. Then
+    /// nothing has changed.
+    pub fn call(
+        &mut self,
+        program: &Program<'_>,
+        next: &Next<'_>,
+        function: u32,
+        from: &[u32],
+    ) -> Result<(), NoCall>
+        requires possible { IsPossible program.now self.old }
+        requires ready { IsReady program.now self.old next.now }
+        requires calls { (to : Option ℕ) × (operation_of next.now.op ≡ tac.Call to function from.now) }
+        requires rests { self.old.side ≡ AtRest }
+        requires count { self.old.counts.steps + 1 < 2 ^ 64 }
+        ensures done { OnOk result (TakesLocal program.now 1 self.old self.new) }
+        ensures deep { result ≡ Err TooDeep → length (frames_in self.old) ≡ deepest }
+        ensures stays { OnErr result (Stays program.now self.old self.new) }
+    {
+        program.fits();
+        program.code().ascends();
+        let callee = function as usize;
+        let entry = program.entry(callee);
+        let formals = program.formals(callee);
+        let passes = next.function.passes(next.at);
+        match self.queue.reserve(entry.len()) {
+            Ok(()) => {}
+            Err(_) => return Err(NoCall::NoMemory),
+        }
+        match self.holding.prepare_call(formals, passes) {
+            Ok(()) => {}
+            Err(_) => return Err(NoCall::NoMemory),
+        }
+        match self.stack.call(program.compact(), function, from) {
+            Ok(()) => {}
+            Err(e) => return Err(e),
+        }
+        let protects = next.function.protects(next.at);
+        self.holding
+            .enter(formals, passes, protects, program.result_class(callee));
+        self.queue.put_all(Kind::Remove, entry);
+        self.is_expanded = false;
+        self.counts.add_step();
+        Ok(())
+    }
+
+    /// The call at which the caller of its newest frame is; `None` where it has one frame.
+    fn call_below<'p>(&self, program: &'p Program<'_>) -> Option<Next<'p>>
+        requires possible { IsPossible program.now self.now }
+        ensures { MatchOption result (caller_place (frames_in self.now) ≡ None)
+            (IsNextOf program.now.code (drop 1 (frames_in self.now))) }
+    {
+        let place = self.stack.caller()?;
+        match next_at(program, place) {
+            Some(next) => Some(next),
+            None => unreachable!(),
+        }
+    }
+
+    /// Room for what is owed after its newest function has returned.
+    ///
+    /// # Errors
+    ///
+    /// On allocation failure.
+    pub fn room_to_return(&mut self, program: &Program<'_>) -> Result<(), AllocError>
+        requires possible { IsPossible program.now self.old }
+        ensures room { OnOk result (HasRoomBack program.now self.new) }
+        ensures same { IsRoomier self.old self.new }
+    {
+        match self.call_below(program) {
+            Some(call) => self.queue.reserve_both(
+                call.function.protects(call.at).len(),
+                call.removes().len(),
+            ),
+            None => self.queue.reserve(self.holding.base_len()),
+        }
+    }
+
+    /// Its next instruction returns from its newest function, with the word of this variable or with none.
+    pub fn come_back(&mut self, program: &Program<'_>, next: &Next<'_>, value: Option<u32>)
+        requires possible { IsPossible program.now self.old }
+        requires ready { IsReady program.now self.old next.now }
+        requires returns { operation_of next.now.op ≡ tac.Return value }
+        requires rests { self.old.side ≡ AtRest }
+        requires room { HasRoomBack program.now self.old }
+        requires count { self.old.counts.steps + 1 < 2 ^ 64 }
+        ensures local { TakesReturn program.now self.old self.new }
+        ensures exit { ExitsSo program.now self.old self.new }
+    {
+        match self.call_below(program) {
+            Some(call) => self.come_back_to(program, next, &call, value),
+            None => self.come_to_end(program, next, value),
+        }
+    }
+
+    /// It returns to the caller that is at this call.
+    fn come_back_to(
+        &mut self,
+        program: &Program<'_>,
+        next: &Next<'_>,
+        call: &Next<'_>,
+        value: Option<u32>,
+    )
+        requires possible { IsPossible program.now self.old }
+        requires ready { IsReady program.now self.old next.now }
+        requires returns { operation_of next.now.op ≡ tac.Return value }
+        requires rests { self.old.side ≡ AtRest }
+        requires room { HasRoomBack program.now self.old }
+        requires count { self.old.counts.steps + 1 < 2 ^ 64 }
+        requires call { IsNextOf program.now.code (drop 1 (frames_in self.old)) call.now }
+        ensures local { TakesReturn program.now self.old self.new }
+        ensures exit { ExitsSo program.now self.old self.new }
+    {
+        program.fits();
+        self.stack
+            .come_back(program.compact(), value, call.result_target());
+        self.holding.come_back();
+        self.queue.put_all(Kind::Remove, call.removes());
+        self.queue
+            .put_all(Kind::Unprotect, call.function.protects(call.at));
+        self.is_expanded = false;
+        self.counts.add_step();
+    }
+
+    /// It returns from its first function.
+    fn come_to_end(&mut self, program: &Program<'_>, next: &Next<'_>, value: Option<u32>)
+        requires possible { IsPossible program.now self.old }
+        requires ready { IsReady program.now self.old next.now }
+        requires returns { operation_of next.now.op ≡ tac.Return value }
+        requires rests { self.old.side ≡ AtRest }
+        requires room { HasRoomBack program.now self.old }
+        requires count { self.old.counts.steps + 1 < 2 ^ 64 }
+        requires last { caller_place (frames_in self.old) ≡ None }
+        ensures local { TakesReturn program.now self.old self.new }
+        ensures exit { ExitsSo program.now self.old self.new }
+    {
+        program.fits();
+        self.stack.come_back(program.compact(), value, None);
+        self.holding.come_back();
+        put_base(&mut self.queue, &self.holding);
+        self.is_expanded = false;
+        self.counts.add_step();
+    }
+}

@@ -1,0 +1,75 @@
+//! Operations on channels: what the body is after one was done, was not ready, or has put up an offer.
+
+ghost use Rattle.std.specs.Prelude.{◌≡◌, ◌^◌, ◌+◌, ◌<◌, ℕ};
+ghost use Rattle.rgo_core.specs.CommitMoves.{offers};
+ghost use Rattle.rgo_core.specs.Core.{Setup};
+ghost use Rattle.rgo_core.specs.Records.{Record};
+ghost use Rattle.rgo_core_channels.specs.Records as sides;
+ghost use Rattle.rgo_core_steps.specs.After.{acknowledging, committing};
+ghost use Rattle.rgo_core_steps.specs.Calls.{waited};
+ghost use Rattle.rgo_tac.specs.Ops.{operation_of};
+ghost use Rattle.rgo_body.specs.Bodies.{HasRoomBehind, IsReady};
+ghost use Rattle.rgo_body.specs.Nexts.{IsDo};
+ghost use Rattle.rgo_body.specs.Shows.{IsPossible, Shows};
+ghost use Rattle.rgo_body.specs.Steps.{Becomes};
+ghost use Rattle.rgo_body.specs.declared.bodies.Side.TheVariants.{AtRest, Offering, Tried};
+
+use crate::bodies::{Body, Side};
+use crate::nexts::Next;
+use crate::programs::Program;
+use crate::queues::Kind;
+
+impl Body {
+    /// Its operation has taken effect, and has given this word, if it gives one.
+    pub fn committed(&mut self, program: &Program<'_>, next: &Next<'_>, word: u64)
+        requires possible { IsPossible program.now self.old }
+        requires ready { IsReady program.now self.old next.now }
+        requires does { IsDo (operation_of next.now.op) }
+        requires side { (at : ℕ) → self.old.side ≡ Offering at → ⊥ }
+        requires room { HasRoomBehind self.old next.now }
+        requires count { self.old.counts.steps + 1 < 2 ^ 64 }
+        ensures { Becomes program.now self.old self.new (λ T c. committing T.code c word) }
+    {
+        self.go_on(program, next, word);
+        self.counts.add_step();
+        self.side = Side::AtRest;
+    }
+
+    /// It has acknowledged that its offer was taken. The receiver has counted the instruction.
+    pub fn acknowledged(&mut self, program: &Program<'_>, next: &Next<'_>)
+        requires possible { IsPossible program.now self.old }
+        requires ready { IsReady program.now self.old next.now }
+        requires does { IsDo (operation_of next.now.op) }
+        requires room { HasRoomBehind self.old next.now }
+        ensures { Becomes program.now self.old self.new (λ T c. acknowledging T.code c) }
+    {
+        self.go_on(program, next, 0);
+        self.side = Side::AtRest;
+    }
+
+    /// Its offer stands at the channel with this control.
+    pub fn offered(&mut self, program: &Program<'_>, at: usize)
+        ensures { Becomes program.now self.old self.new (λ T c. offers c at) }
+    {
+        self.side = Side::Offering(at);
+    }
+
+    /// Its operation was tried, and was not ready.
+    pub fn tried(&mut self, program: &Program<'_>)
+        requires side { (at : ℕ) → self.old.side ≡ Offering at → ⊥ }
+        ensures { (T : Setup) (c : Record) (n : ℕ) (side : sides.Rec) → Shows T program.now self.old c
+            → side.hold ≡ sides.Free → side.post ≡ sides.Nowhere → Shows T program.now self.new (waited n c side) }
+    {
+        self.side = Side::Tried;
+    }
+
+    /// It is at no operation on a channel, so it knows nothing of one.
+    pub fn rest(&mut self, program: &Program<'_>)
+        requires side { (at : ℕ) → self.old.side ≡ Offering at → ⊥ }
+        ensures rests { (T : Setup) (c : Record) → Shows T program.now self.old c → c.side ≡ sides.at_rest
+            → Shows T program.now self.new c }
+        ensures same { self.new ≡ record self.old { side = AtRest } }
+    {
+        self.side = Side::AtRest;
+    }
+}

@@ -1,0 +1,90 @@
+//! Instructions that touch neither memory nor regions.
+
+ghost use Rattle.std.specs.Prelude.{◌≡◌, ◌^◌, ◌+◌, ◌<◌, ◌≤◌, ◌∷◌, [], ℕ, List, Option, Some, OnErr, OnOk, false, length};
+ghost use Rattle.rgo_core_frames.specs.Operators.{computed};
+ghost use Rattle.rgo_core_frames.specs.WordFrames.{WordFrame, words_of};
+ghost use Rattle.rgo_stack.specs.Runs.{HasHalted};
+ghost use Rattle.rgo_stack.specs.Stacks.{newest_words, words_from};
+ghost use Rattle.rgo_tac.specs.Code as tac;
+ghost use Rattle.rgo_tac.specs.Ops.{numbers_of, operation_of};
+ghost use Rattle.rgo_typed.specs.declared.actions.Action.{Action};
+ghost use Rattle.rgo_compact.specs.Bounds.{AreBelow};
+ghost use Rattle.rgo_body.specs.Bodies.{HasRoomBehind, IsReady, frames_in};
+ghost use Rattle.rgo_body.specs.Shows.{IsPossible};
+ghost use Rattle.rgo_body.specs.Steps.{TakesLocal};
+ghost use Rattle.rgo_body.specs.declared.bodies.Side.TheVariants.{AtRest};
+
+use crate::bodies::Body;
+use crate::nexts::Next;
+use crate::programs::Program;
+use rgo_core_frames::words::{binary, negated};
+use rgo_tac::Operands;
+use rgo_typed::Action;
+
+impl Body {
+    /// Executes simple instructions, at most `at_most`, and returns how many. It stops before that only where the goroutine has no
+    /// frame, or where the next instruction is not simple, traps, or is a call for which there is no room.
+    pub fn run(&mut self, program: &Program<'_>, at_most: usize) -> usize
+        requires possible { IsPossible program.now self.old }
+        requires empty { self.old.queue.duties ≡ [] }
+        requires not_yet { self.old.is_expanded ≡ false }
+        requires rests { self.old.side ≡ AtRest }
+        requires count { self.old.counts.steps + at_most < 2 ^ 64 }
+        ensures runs { TakesLocal program.now result self.old self.new }
+        ensures same { self.new ≡ record self.old {
+          stack = self.new.stack;
+          holding = self.new.holding;
+          counts = record self.old.counts { steps = self.old.counts.steps + result };
+        } }
+        ensures within { result ≤ at_most }
+        ensures halts { result < at_most → HasHalted program.now.code program.now.compact self.new.stack }
+    {
+        let ran = self.stack.run(program.compact(), at_most);
+        self.holding.settle(ran.kept, self.stack.depth());
+        self.counts.add_steps(ran.done as u64);
+        ran.done
+    }
+
+    /// What an action gives that touches nothing but words; `None` where it traps, or touches anything else.
+    pub fn computed(&self, action: Action, from: Operands) -> Option<u64>
+        requires { AreBelow (length (newest_words (frames_in self.now))) (numbers_of from) }
+        ensures { result ≡ computed action (words_from (frames_in self.now) (numbers_of from)) }
+    {
+        match from {
+            Operands::Zero => match action {
+                Action::Int(k) => Some(k.cast_unsigned()),
+                Action::Bool(b) => Some(u64::from(b)),
+                Action::Nil => Some(0),
+                _ => None,
+            },
+            Operands::One(a) => {
+                let word = self.stack.word(a);
+                match action {
+                    Action::Copy => Some(word),
+                    Action::Neg => Some(negated(word)),
+                    Action::Not | Action::IsNil => Some(u64::from(word == 0)),
+                    _ => None,
+                }
+            }
+            Operands::Two(a, b) => match action {
+                Action::Binary(op) => binary(op, self.stack.word(a), self.stack.word(b)),
+                _ => None,
+            },
+            Operands::Three(_, _, _) => None,
+        }
+    }
+
+    /// Its next instruction is an action that touches nothing but words, and gives this word.
+    pub fn computes(&mut self, program: &Program<'_>, next: &Next<'_>, word: u64)
+        requires possible { IsPossible program.now self.old }
+        requires ready { IsReady program.now self.old next.now }
+        requires does { (to : Option ℕ) × (action : Action) × (from : List ℕ) × (operation_of next.now.op ≡ tac.Do to action from)
+            × (computed action (words_from (frames_in self.old) from) ≡ Some word) }
+        requires rests { self.old.side ≡ AtRest }
+        requires room { HasRoomBehind self.old next.now }
+        requires count { self.old.counts.steps + 1 < 2 ^ 64 }
+        ensures { TakesLocal program.now 1 self.old self.new }
+    {
+        self.acted(program, next, word);
+    }
+}

@@ -1,0 +1,125 @@
+//! How a goroutine begins.
+
+ghost use Rattle.std.specs.Prelude.{◌≡◌, ◌∷◌, [], ℕ, IfOk, Option, Some, MatchOption, bytes_eq, codes};
+ghost use Rattle.rgo_core.specs.Core.{Here, Setup};
+ghost use Rattle.rgo_core.specs.Opening.{first_of, main_words};
+ghost use Rattle.rgo_core.specs.Records.{Record};
+ghost use Rattle.rgo_core_frames.specs.WordFrames.{word_called};
+ghost use Rattle.rgo_core_steps.specs.After.{child};
+ghost use Rattle.rgo_code.specs.Code.{CodeFn as FnRecord};
+ghost use Rattle.rgo_region_machine.specs.Owed.{function_of};
+ghost use Rattle.rgo_tac.specs.Code as tac;
+ghost use Rattle.rgo_tac.specs.Ops.{operation_of};
+ghost use Rattle.rgo_body.specs.Bodies.{IsFresh, IsReady};
+ghost use Rattle.rgo_body.specs.Shows.{IsPossible, Shows};
+ghost use Rattle.rgo_body.specs.declared.bodies.Side.TheVariants.{AtRest};
+
+use crate::bodies::{Body, Side};
+use crate::counts::Counts;
+use crate::nexts::Next;
+use crate::programs::Program;
+use crate::queues::{Kind, Queue};
+use rgo_code::{Code, CodeFn};
+use rgo_holding::Holding;
+use rgo_stack::Stack;
+use std::alloc::{AllocError, Global};
+
+/// Whether a function is called `main`.
+fn is_main(function: &CodeFn<'_>) -> bool
+    ensures { result ≡ bytes_eq function.now.name (codes "main") }
+{
+    function.tac().name().bytes() == "main".as_bytes()
+}
+
+/// The number of the function `main`.
+fn main_of(code: &Code) -> Option<usize>
+    ensures { MatchOption result (main_words code.now.functions 0 ≡ []) (λ n. (fn : FnRecord) × (function_of code.now n ≡ Some fn)
+        × (main_words code.now.functions 0 ≡ word_called fn n [] ∷ [])) }
+{
+    for n in 0..code.len() {
+        match code.function(n) {
+            Some(function) => {
+                if is_main(&function) {
+                    return Some(n);
+                }
+            }
+            None => {}
+        }
+    }
+    None
+}
+
+impl Body {
+    /// A goroutine with one frame, which owes the removal of these names.
+    fn with_frame(
+        alloc: Global,
+        stack: Stack,
+        holding: Holding,
+        removes: &[u32],
+        goroutines: u64,
+    ) -> Result<Body, AllocError>
+        ensures { IfOk result (IsFresh stack holding removes.now goroutines) }
+    {
+        let mut queue = Queue::new(alloc);
+        queue.reserve(removes.len())?;
+        queue.put_all(Kind::Remove, removes);
+        Ok(Body {
+            stack,
+            holding,
+            queue,
+            is_expanded: false,
+            side: Side::AtRest,
+            counts: Counts::new(goroutines),
+            prints: 0,
+            refused: false,
+        })
+    }
+
+    /// The body of `main` before its first instruction, at a table with this many slots of regions.
+    ///
+    /// # Errors
+    ///
+    /// On allocation failure.
+    pub fn new(alloc: Global, program: &Program<'_>, slots: u32) -> Result<Body, AllocError>
+        ensures { IfOk result (λ b. (T : Setup) → T.code ≡ program.now.code → T.sizes.regions ≡ slots
+            → Shows T program.now b (first_of T.code)) }
+    {
+        let Some(n) = main_of(program.code()) else {
+            unreachable!();
+        };
+        let stack = Stack::new(alloc, program.compact(), n, Vec::new(alloc))?;
+        let holding = Holding::new(alloc, slots)?;
+        Body::with_frame(alloc, stack, holding, &[], 1)
+    }
+
+    /// The body of the goroutine that the next instruction of this one starts.
+    ///
+    /// # Errors
+    ///
+    /// On allocation failure.
+    pub fn child(
+        &self,
+        alloc: Global,
+        program: &Program<'_>,
+        next: &Next<'_>,
+        function: u32,
+        from: &[u32],
+    ) -> Result<Body, AllocError>
+        requires possible { IsPossible program.now self.now }
+        requires ready { IsReady program.now self.now next.now }
+        requires starts { operation_of next.now.op ≡ tac.Go function from.now }
+        requires rests { self.now.side ≡ AtRest }
+        ensures { IfOk result (λ b. (T : Setup) (g : ℕ) (c : Record) → Here T g c → Shows T program.now self.now c
+            → Shows T program.now b (child T.code c)) }
+    {
+        let callee = function as usize;
+        let arguments = self.stack.words(alloc, from)?;
+        let stack = Stack::new(alloc, program.compact(), callee, arguments)?;
+        let holding = self.holding.child(
+            alloc,
+            program.formals(callee),
+            next.function.passes(next.at),
+        )?;
+        Body::with_frame(alloc, stack, holding, program.entry(callee), 0)
+    }
+}
