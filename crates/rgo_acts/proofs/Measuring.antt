@@ -1,0 +1,217 @@
+-- The length of a slice is loaded before an access to one of its elements: the goroutine is still before the instruction, and its
+-- record knows the length.
+use Rattle.std.proofs.Common.{◌≡◌, ◌<◌, ◌≤◌, ◌+◌, ◌-◌, inl, inr, ℕ, suc, List, [], ◌∷◌, Contains, Option, Some, None, length, refl, ap, sym, subst, ◌∙◌, arith}
+use Rattle.std.proofs.lemmas.List.{append-nil}
+use Rattle.rgo_core_frames.specs.WordFrames.{WordFrame, word_at}
+use Rattle.rgo_core_memory.specs.Records.{Measured}
+use Rattle.rgo_core_memory.specs.Words.{base}
+use Rattle.rgo_core_rule.specs.Views.{number_of}
+use Rattle.rgo_core_rule.specs.declared.accesses.Kind.TheVariants as kind
+use Rattle.rgo_core.specs.Accesses.{IsInSlice, measures}
+use Rattle.rgo_core.specs.Bounds.{LieInPages}
+use Rattle.rgo_core.specs.Core.{layout}
+use Rattle.rgo_core.specs.ElementTraps.{HasNoElement}
+use Rattle.rgo_core.specs.Links.{BeforeLoad, BeforeStore, IsAtElement}
+use Rattle.rgo_core.specs.Opening.{first_of}
+use Rattle.rgo_core.specs.Records.{Record, accesses, steps_of}
+use Rattle.rgo_core_steps.specs.Accesses.{Element, Loads, Stores, ToElement}
+use Rattle.rgo_core_steps.specs.Ends as ends
+use Rattle.rgo_core_steps.specs.Seats.{HasPossible, Left, mine}
+use Rattle.rgo_core_steps.proofs.Growing.{told_record}
+use Rattle.rgo_core_facts.proofs.Lying.{element_lies}
+use Rattle.rgo_memory.specs.declared.traps.Trap.TheVariants.{IndexRange}
+use Rattle.rgo_tac.specs.Code as tac
+use Rattle.rgo_tac.specs.Code.{Op}
+use Rattle.rgo_tac.specs.Flow.{reads}
+use Rattle.rgo_tac.specs.Ops.{operation_of}
+use Rattle.rgo_typed.specs.declared.actions.Action.TheVariants as action
+use Rattle.rgo_body.specs.Bodies.{HasRoomBehind, IsReady, frames_in}
+use Rattle.rgo_body.specs.Shows.{Shows}
+use Rattle.rgo_body.specs.declared.bodies.Body.{Body}
+use Rattle.rgo_body.specs.declared.nexts.Next.{Next}
+use Rattle.rgo_body.proofs.Showing.{like_shown}
+use Rattle.rgo_acts.specs.Actors.{Acted, now}
+use Rattle.rgo_acts.specs.Elements.{HasElement, HasMeasured, HasNoElementHere, IsAtElementOf}
+use Rattle.rgo_acts.specs.Ready.{IsBefore}
+use Rattle.rgo_acts.specs.Runs.{Run}
+use Rattle.rgo_acts.specs.Traps.{IsAtTrap}
+use Rattle.rgo_acts.specs.declared.actors.Actor.{Actor}
+use Rattle.rgo_acts.proofs.Before.{IsWord, at_do, first_in, has_variable, here_do, its_word, one_more, rests, second_in}
+use Rattle.rgo_acts.proofs.Standing.{acted_none, acted_one, acted_then, now_at_once}
+
+-- it reads both variables
+pub reads_both : (op : Op) (p q : ℕ) → IsAtElementOf op p q → Contains (reads op) p × Contains (reads op) q
+reads_both op p q (inl (to, e)) = subst (λ (o : Op). Contains (reads o) p × Contains (reads o) q) (sym e)
+    (first_in p (q ∷ []), second_in p q [])
+reads_both op p q (inr (r, e)) = subst (λ (o : Op). Contains (reads o) p × Contains (reads o) q) (sym e)
+    (first_in p (q ∷ r ∷ []), second_in p q (r ∷ []))
+
+module _ (r : Run) (a : Actor) (next : Next) (before : IsBefore r a next) (p q n : ℕ) (e : IsAtElementOf (operation_of next.op) p q)
+    (word : IsWord a.body p n) where
+  -- the slice is not nil
+  pub at_element : (n ≡ 0 → ⊥) → IsAtElement r.setup.code (now r.setup a) (n - 1)
+  at_element some = by e
+    where
+      by : IsAtElementOf (operation_of next.op) p q → IsAtElement r.setup.code (now r.setup a) (n - 1)
+      by (inl (to, is)) = BeforeLoad to p q (here_do r a next before (Some to) action.At (p ∷ q ∷ []) is).0
+          (at_do r a next before (Some to) action.At (p ∷ q ∷ []) is) (one_more n _ (its_word r a next before p n word) some)
+      by (inr (v, is)) = BeforeStore p q v (here_do r a next before None action.Put (p ∷ q ∷ v ∷ []) is).0
+          (at_do r a next before None action.Put (p ∷ q ∷ v ∷ []) is) (one_more n _ (its_word r a next before p n word) some)
+
+  pub length_lies : (n ≡ 0 → ⊥) → LieInPages r.setup (n - 1) 1
+  length_lies some = element_lies r.setup (number_of a.seat.me) (now r.setup a) before.stands.possible (n - 1) (at_element some)
+
+  -- it is nil
+  pub is_nil : n ≡ 0 → HasNoElementHere r a a next p q
+  is_nil none = record {
+    measured = record { before = before; acted = acted_none r a a before.stands refl refl before.stands.shows; body = refl };
+    none = λ w ws are. inl (sym (word w ws (sym before.stands.shows.frames ∙ are)) ∙ none);
+  }
+
+  -- its length is m
+  module _ (some : n ≡ 0 → ⊥) (b : Actor) (i m : ℕ) (own : b.seat.table_id ≡ a.seat.table_id) (at_once : b.behind ≡ 0)
+      (same : b.body ≡ a.body) (possible : HasPossible r.setup b.seat.me)
+      (left : Left r.setup kind.Load i (λ n. n)
+      (λ m d. (d ≡ measures (now r.setup a) (n - 1) m) × LieInPages r.setup (n - 1) (m + 1)) a.seat.me m b.seat.me) where
+    tells : (mine r.setup b.seat.me ≡ measures (now r.setup a) (n - 1) m) × LieInPages r.setup (n - 1) (m + 1)
+    tells = told_record accesses (first_of r.setup.code) a.seat.me b.seat.me kind.Load i m (λ n. n)
+        (λ m d. (d ≡ measures (now r.setup a) (n - 1) m) × LieInPages r.setup (n - 1) (m + 1)) left
+
+    pub all_lie : LieInPages r.setup (n - 1) (m + 1)
+    all_lie = tells.1
+
+    knows : now r.setup b ≡ measures (now r.setup a) (n - 1) m
+    knows = now_at_once r.setup b at_once ∙ tells.0
+
+    measured_acted : Acted r a b 0 [] []
+    measured_acted =
+        acted_one r a b before.stands 0 [] [] kind.Load i m (λ n. n)
+        (λ m d. (d ≡ measures (now r.setup a) (n - 1) m) × LieInPages r.setup (n - 1) (m + 1))
+        (measures (now r.setup a) (n - 1) m) own at_once left possible (λ t. t.0)
+        (record {
+          accesses = refl;
+          steps = omega arith;
+          prints = sym (append-nil (now r.setup a).clock.prints);
+          children = refl;
+          first = refl;
+        })
+        (subst (λ (body : Body). Shows r.setup r.program body (measures (now r.setup a) (n - 1) m)) (sym same)
+        (like_shown r.setup r.program a.body (now r.setup a) (measures (now r.setup a) (n - 1) m) before.stands.shows (record {
+          frame = refl;
+          side = refl;
+          fills = refl;
+          make = refl;
+          claim = refl;
+          give = refl;
+          share = refl;
+          owed = refl;
+          prints = refl;
+          refused = refl;
+        })))
+
+    pub has_measured : HasMeasured r a b next
+    has_measured = record {
+      before = record {
+        stands = measured_acted.stands;
+        ready = subst (λ (body : Body). IsReady r.program body next) (sym same) before.ready;
+        rests = ap (λ (body : Body). body.side) same ∙ before.rests;
+        room = subst (λ (body : Body). HasRoomBehind body next) (sym same) before.room;
+        count = subst (λ (body : Body). body.counts.steps + 1 < 18446744073709551616) (sym same) before.count;
+      };
+      acted = measured_acted;
+      body = same;
+    }
+
+    abbrev known : Measured
+    known = record { address = n - 1; elements = m; steps = steps_of (now r.setup a) }
+
+    its_index : (k : ℕ) → IsWord b.body q k → (w : WordFrame) (ws : List WordFrame) → (now r.setup b).frame.frames ≡ w ∷ ws → k ≡ word_at w q
+    its_index k index w ws are = index w ws (sym measured_acted.stands.shows.frames ∙ are)
+
+    its_slice : (w : WordFrame) (ws : List WordFrame) → (now r.setup b).frame.frames ≡ w ∷ ws → word_at w p ≡ suc (n - 1)
+    its_slice w ws are = one_more n (word_at w p)
+        (word w ws (sym (ap frames_in same) ∙ (sym measured_acted.stands.shows.frames ∙ are))) some
+
+    pub is_outside : (k : ℕ) → IsWord b.body q k → m ≤ k → HasNoElementHere r a b next p q
+    is_outside k index beyond = record {
+      measured = has_measured;
+      none = λ w ws are. inr (
+        n - 1,
+        its_slice w ws are,
+        record {
+          measured = known;
+          read = ap (λ (c : Record). c.memory.measured) knows;
+          now = sym (ap steps_of knows);
+          its = refl;
+          beyond = subst (λ j. m ≤ j) (its_index k index w ws are) beyond;
+        },
+      );
+    }
+
+    pub within_pages : (k : ℕ) → k < m → LieInPages r.setup (n - 1) ((1 + k) + 1)
+    within_pages k less = let l = all_lie in omega (arith, l, less)
+
+    pub is_inside : (k : ℕ) → IsWord b.body q k → k < m → (j : ℕ) → j ≡ base (layout r.setup) + ((n - 1) + (1 + k)) → j < r.table.words
+        → HasElement r a b next p q j
+    is_inside k index less j is inside = record {
+      measured = has_measured;
+      address = n - 1;
+      points = its_slice;
+      within = λ w ws are.
+          let same_index = its_index k index w ws are in (
+            record {
+              measured = known;
+              read = ap (λ (c : Record). c.memory.measured) knows;
+              now = sym (ap steps_of knows);
+              its = refl;
+              within = subst (λ x. x < m) same_index less;
+            },
+            omega (arith, is, same_index),
+          );
+      inside = inside;
+    }
+
+-- ---- loads and stores of elements
+
+module _ (r : Run) (a b : Actor) (next : Next) (p q : ℕ) where
+  module _ (to j : ℕ) (e : operation_of next.op ≡ tac.Do (Some to) action.At (p ∷ q ∷ [])) (has : HasElement r a b next p q j) where
+    abbrev before_load : IsBefore r b next
+    before_load = has.measured.before
+
+    pub element_loads : Loads r.setup (now r.setup b) j
+    element_loads =
+        let x = at_do r b next before_load (Some to) action.At (p ∷ q ∷ []) e in
+        Element to p q has.address (here_do r b next before_load (Some to) action.At (p ∷ q ∷ []) e).0 x
+        (has.points x.w x.ws x.frames) (has.within x.w x.ws x.frames).0 (has.within x.w x.ws x.frames).1
+
+  module _ (v j : ℕ) (e : operation_of next.op ≡ tac.Do None action.Put (p ∷ q ∷ v ∷ [])) (has : HasElement r a b next p q j) where
+    abbrev before_store : IsBefore r b next
+    before_store = has.measured.before
+
+    pub element_stores : (m : ℕ) → IsWord b.body v m → Stores r.setup (now r.setup b) j m
+    element_stores m word =
+        let x = at_do r b next before_store None action.Put (p ∷ q ∷ v ∷ []) e in
+        ToElement p q v has.address (here_do r b next before_store None action.Put (p ∷ q ∷ v ∷ []) e).0 x
+        (has.points x.w x.ws x.frames) (has.within x.w x.ws x.frames).0 (has.within x.w x.ws x.frames).1
+        (its_word r b next before_store v m word)
+
+  pub load_traps_at : (to : ℕ) → operation_of next.op ≡ tac.Do (Some to) action.At (p ∷ q ∷ []) → HasNoElementHere r a b next p q
+      → IsAtTrap r a b IndexRange
+  load_traps_at to e has =
+      let x = at_do r b next has.measured.before (Some to) action.At (p ∷ q ∷ []) e in (
+        has.measured.acted,
+        ends.Loads to p q (here_do r b next has.measured.before (Some to) action.At (p ∷ q ∷ []) e).0 x
+            (rests r b next has.measured.before) (has.none x.w x.ws x.frames) refl,
+      )
+
+  pub store_traps_at : (v : ℕ) → operation_of next.op ≡ tac.Do None action.Put (p ∷ q ∷ v ∷ []) → HasNoElementHere r a b next p q
+      → IsAtTrap r a b IndexRange
+  store_traps_at v e has =
+      let x = at_do r b next has.measured.before None action.Put (p ∷ q ∷ v ∷ []) e in (
+        has.measured.acted,
+        ends.Stores p q v (here_do r b next has.measured.before None action.Put (p ∷ q ∷ v ∷ []) e).0 x
+            (rests r b next has.measured.before) (has.none x.w x.ws x.frames) refl,
+      )
+
+  pub then_acted : (c : Actor) → HasMeasured r a b next → Acted r b c 1 [] [] → Acted r a c 1 [] []
+  then_acted c has acted = acted_then r a b c 0 1 [] [] [] [] has.acted acted

@@ -1,0 +1,186 @@
+-- Which object the next instruction makes: a struct, a slice or a channel.
+use Rattle.std.proofs.Common.{◌≡◌, ◌+◌, ◌<◌, ◌≤◌, ◌∙◌, ◌^◌, ◌==◌, ℕ, Bool, true, false, suc, List, [], ◌∷◌, Option, Some, None, ap, sym, subst, refl, inl, inr, arith, if◌then◌else◌, slice_get}
+use Rattle.std.proofs.lemmas.Option.{same_Some}
+use Rattle.std.specs.Option.{option_map}
+use Rattle.rgo_core_rule.specs.Views.{number_of}
+use Rattle.rgo_core_facts.specs.MemoryObjects.{HasWords, MakingRegion, NewObject, OfChannel, OfSlice, OfStruct, channel_words}
+use Rattle.rgo_core_facts.proofs.NewWords.{has_region, makes_channel, makes_slice, makes_struct}
+use Rattle.rgo_core_facts.proofs.TooLarge.{too_large}
+use Rattle.rgo_core_frames.specs.WordFrames.{word_at}
+use Rattle.rgo_core_memory.specs.declared.layout.TableSizes.{TableSizes}
+use Rattle.rgo_core.specs.Bounds.{struct_words}
+use Rattle.rgo_core.specs.Core.{Setup, layout}
+use Rattle.rgo_core.specs.NewObjects.{slot_number}
+use Rattle.rgo_core.specs.Next.{IsAt}
+use Rattle.rgo_core.specs.Records.{Record}
+use Rattle.rgo_core_steps.specs.Ends.{HasBadSize, Meets}
+use Rattle.rgo_code.specs.Code as code
+use Rattle.rgo_memory.specs.declared.traps.Trap.TheVariants.{BadSize}
+use Rattle.rgo_region_machine.specs.Objects.{makes_object}
+use Rattle.rgo_region_machine.specs.declared.limits.Limit.TheVariants.{ObjectSize}
+use Rattle.rgo_region_machine.specs.declared.regions.Region.{Region}
+use Rattle.rgo_region_machine.specs.declared.regions.Region.TheVariants.{Global as GlobalRegion, Numbered}
+use Rattle.rgo_tac.specs.Code as tac
+use Rattle.rgo_tac.specs.Ops.{operation_of}
+use Rattle.rgo_typed.specs.declared.actions.Action.{Action}
+use Rattle.rgo_typed.specs.declared.actions.Action.TheVariants as action
+use Rattle.rgo_typed.specs.declared.programs.Struct.{Struct}
+use Rattle.rgo_holding.specs.Holds.{region_at}
+use Rattle.rgo_holding.specs.Known.{slot_of}
+use Rattle.rgo_holding.specs.declared.holding.Holding.{Holding}
+use Rattle.rgo_holding.specs.declared.keys.Key.{Key}
+use Rattle.rgo_body.specs.declared.nexts.Next.{Next}
+use Rattle.rgo_acts.specs.Actors.{now}
+use Rattle.rgo_acts.specs.Objects.{Wants, opens}
+use Rattle.rgo_acts.specs.Ready.{IsBefore}
+use Rattle.rgo_acts.specs.Runs.{Run}
+use Rattle.rgo_acts.specs.Traps.{IsAtTrap}
+use Rattle.rgo_acts.specs.declared.actors.Actor.{Actor}
+use Rattle.rgo_acts.proofs.Before.{IsWord, at_do, here_do, its_word, rests}
+use Rattle.rgo_acts.proofs.Standing.{acted_none}
+
+-- ---- keys
+
+pub key_at : (k : Holding) (o : Option Key) (key : Key) (found : Option Region) (region : Region) → o ≡ Some key
+    → option_map (region_at k) o ≡ option_map Some found → found ≡ Some region → region_at k key ≡ Some region
+key_at k o key found region is tells found_is =
+    same_Some (region_at k key) (Some region)
+    (ap (option_map (region_at k)) (sym is) ∙ tells ∙ ap (option_map Some) found_is)
+
+pub no_key : (k : Holding) (o : Option Key) (found : Option Region) (region : Region) → o ≡ None
+    → option_map (region_at k) o ≡ option_map Some found → found ≡ Some region → ⊥
+no_key k o found region is tells found_is =
+    let no : None ≡ Some (Some region) = ap (option_map (region_at k)) (sym is) ∙ tells ∙ ap (option_map Some) found_is in cc
+
+pub slot_same : (T : Setup) (region : Region) → slot_number (layout T) region ≡ slot_of T.sizes.regions region
+slot_same T GlobalRegion = refl
+slot_same T (Numbered p) = refl
+
+-- ---- the sizes of a run, where it is seen by its fields
+
+module _ (s r : Run) (seen_is : s ≡ r) (sizes : s.sizes ≡ layout s.setup) (words : ℕ) where
+  pub page_words_less : s.sizes.page_words < words → r.setup.sizes.page_words < words
+  page_words_less less =
+      subst (λ (x : Run). x.setup.sizes.page_words < words) seen_is (subst (λ (z : TableSizes). z.page_words < words) sizes less)
+
+  pub page_words_more : words ≤ s.sizes.page_words → words ≤ r.setup.sizes.page_words
+  page_words_more more =
+      subst (λ (x : Run). words ≤ x.setup.sizes.page_words) seen_is (subst (λ (z : TableSizes). words ≤ z.page_words) sizes more)
+
+-- ---- words
+
+zero_both : (b : Bool) → ◌≡◌ {A = ℕ} 0 (if b then 0 else 0)
+zero_both true = refl
+zero_both false = refl
+
+pub some_words : (o : Option Struct) → 0 < struct_words o
+some_words None = omega arith
+some_words (Some made) = omega arith
+
+-- the same object, by equal numbers of words and equal first values
+same_object : (T : Setup) (c : Record) (slot other words count : ℕ) (first start : ℕ → ℕ) → slot ≡ other → words ≡ count
+    → ((i : ℕ) → first i ≡ start i) → NewObject T c slot words first → NewObject T c other count start
+same_object T c slot other words count first start same many starts new =
+    subst (λ n. NewObject T c n count start) same (record {
+      object = new.object;
+      next = new.next;
+      many = new.many ∙ many;
+      opens = λ i low. new.opens i (omega (arith, low, many)) ∙ starts i;
+    })
+
+module _ (r : Run) (a : Actor) (next : Next) (before : IsBefore r a next) (to : ℕ) (act : Action) (from : List ℕ)
+    (e : operation_of next.op ≡ tac.Do (Some to) act from) (makes : makes_object act ≡ true) where
+  abbrev T : Setup
+  T = r.setup
+
+  abbrev c : Record
+  c = now T a
+
+  abbrev removes : List ℕ
+  removes = (here_do r a next before (Some to) act from e).0
+
+  abbrev pub at : IsAt T.code c (code.Do (Some to) act from removes)
+  at = at_do r a next before (Some to) act from e
+
+  its : (d : ℕ) × (Some to ≡ Some d) × MakingRegion T c at d
+  its = has_region T (number_of a.seat.me) c before.stands.possible (Some to) act from removes at makes
+
+  making : MakingRegion T c at to
+  making = subst (MakingRegion T c at) (sym (same_Some to its.0 its.1)) its.2
+
+  -- what it wants, by its words
+  wants : (words place value : ℕ) → 0 < words
+      → (words ≤ T.sizes.page_words → NewObject T c (slot_number (layout T) making.region) words (opens place value))
+      → HasWords T.code at.w act from words → Wants T (number_of a.seat.me) c next.function to words place value
+  wants words place value some fits has = record {
+    region = making.region;
+    in_class = making.in_class;
+    low = let low = making.low in let same = slot_same T making.region in omega (arith, low, same);
+    some = some;
+    fits = λ fit. subst (λ n. NewObject T c n words (opens place value)) (slot_same T making.region) (fits fit);
+    large = λ more. Meets ObjectSize
+        (λ x. too_large T (number_of a.seat.me) c x (Some to) act from removes at words has more) refl;
+  }
+
+module _ (r : Run) (a : Actor) (next : Next) (before : IsBefore r a next) (to : ℕ) where
+  pub wants_struct : (n words : ℕ) (e : operation_of next.op ≡ tac.Do (Some to) (action.New n) [])
+      → words ≡ struct_words (slice_get r.setup.code.structs n)
+      → Wants r.setup (number_of a.seat.me) (now r.setup a) next.function to words 0 0
+  wants_struct n words e many =
+      let x = at r a next before to (action.New n) [] e refl in
+      let m = making r a next before to (action.New n) [] e refl in
+      let made = makes_struct r.setup (number_of a.seat.me) (now r.setup a) before.stands.possible (Some to) n []
+      (removes r a next before to (action.New n) [] e refl) x m.region m.makes in
+      let some = some_words (slice_get r.setup.code.structs n) in
+      wants r a next before to (action.New n) [] e refl words 0 0 (omega (arith, some, many))
+      (λ fit. same_object r.setup (now r.setup a) _ _ _ words _ (opens 0 0) refl (sym many) (λ i. zero_both (i == 0)) made)
+      (OfStruct n refl many)
+
+  module _ (size n : ℕ) (word : IsWord a.body size n) where
+    pub wants_slice : (e : operation_of next.op ≡ tac.Do (Some to) action.Slice (size ∷ [])) → n < 2 ^ 63
+        → Wants r.setup (number_of a.seat.me) (now r.setup a) next.function to (n + 1) 0 n
+    wants_slice e low =
+        let x = at r a next before to action.Slice (size ∷ []) e refl in
+        let m = making r a next before to action.Slice (size ∷ []) e refl in
+        let is : n ≡ word_at x.w size = its_word r a next before size n word in
+        let small : word_at x.w size < 2 ^ 63 = subst (λ k. k < 2 ^ 63) is low in
+        let many : suc (word_at x.w size) ≡ n + 1 = omega (arith, is) in
+        let made = makes_slice r.setup (now r.setup a) (Some to) size (removes r a next before to action.Slice (size ∷ []) e refl) x
+        m.region m.makes small in
+        wants r a next before to action.Slice (size ∷ []) e refl (n + 1) 0 n (omega arith)
+        (λ fit. same_object r.setup (now r.setup a) _ _ _ (n + 1) _ (opens 0 n) refl many
+        (λ i. ap (λ k. opens 0 k i) (sym is)) made)
+        (OfSlice size refl refl small (sym many))
+
+    pub wants_channel : (words : ℕ) (e : operation_of next.op ≡ tac.Do (Some to) action.Chan (size ∷ [])) → n < 2 ^ 63
+        → r.setup.sizes.page_words ≤ 1073741820 → words ≡ channel_words n
+        → Wants r.setup (number_of a.seat.me) (now r.setup a) next.function to words 1 n
+    wants_channel words e low least many =
+        let x = at r a next before to action.Chan (size ∷ []) e refl in
+        let m = making r a next before to action.Chan (size ∷ []) e refl in
+        let is : n ≡ word_at x.w size = its_word r a next before size n word in
+        wants r a next before to action.Chan (size ∷ []) e refl words 1 n (omega (arith, many))
+        (λ fit.
+        let small : word_at x.w size < 1073741820 = omega (arith, is, fit, least, many) in
+        same_object r.setup (now r.setup a) _ _ _ words _ (opens 1 n) refl (ap channel_words (sym is) ∙ sym many)
+        (λ i. ap (λ k. opens 1 k i) (sym is))
+        (makes_channel r.setup (now r.setup a) (Some to) size (removes r a next before to action.Chan (size ∷ []) e refl) x
+        m.region m.makes small))
+        (OfChannel size refl refl (subst (λ k. k < 2 ^ 63) is low) (many ∙ ap channel_words is))
+
+    -- a negative size
+    pub slice_traps : operation_of next.op ≡ tac.Do (Some to) action.Slice (size ∷ []) → 2 ^ 63 ≤ n → IsAtTrap r a a BadSize
+    slice_traps e high = (
+      acted_none r a a before.stands refl refl before.stands.shows,
+      HasBadSize action.Slice to size (here_do r a next before (Some to) action.Slice (size ∷ []) e).0
+          (at_do r a next before (Some to) action.Slice (size ∷ []) e) (inl refl) (rests r a next before)
+          (subst (λ k. 2 ^ 63 ≤ k) (its_word r a next before size n word) high) refl,
+    )
+
+    pub channel_traps : operation_of next.op ≡ tac.Do (Some to) action.Chan (size ∷ []) → 2 ^ 63 ≤ n → IsAtTrap r a a BadSize
+    channel_traps e high = (
+      acted_none r a a before.stands refl refl before.stands.shows,
+      HasBadSize action.Chan to size (here_do r a next before (Some to) action.Chan (size ∷ []) e).0
+          (at_do r a next before (Some to) action.Chan (size ∷ []) e) (inr refl) (rests r a next before)
+          (subst (λ k. 2 ^ 63 ≤ k) (its_word r a next before size n word) high) refl,
+    )

@@ -1,0 +1,118 @@
+-- A new object is made: its words were stored, and the instruction is done.
+use Rattle.std.proofs.Common.{◌≡◌, ◌+◌, ◌*◌, ◌∙◌, ℕ, suc, List, [], Some, ap, sym, subst, refl, arith}
+use Rattle.std.proofs.lemmas.List.{append-nil}
+use Rattle.rgo_core_rule.specs.declared.accesses.Access.{Access}
+use Rattle.rgo_core_facts.specs.MemoryObjects.{with_new_object}
+use Rattle.rgo_core_frames.specs.Actions.{after_action}
+use Rattle.rgo_core_memory.specs.Records.{Fill, with_object}
+use Rattle.rgo_core.specs.Core.{Setup}
+use Rattle.rgo_core.specs.Opening.{first_of}
+use Rattle.rgo_core.specs.Records.{Record, accesses, steps_of, ticked}
+use Rattle.rgo_core_steps.specs.After.{Position, given, making}
+use Rattle.rgo_core_steps.specs.Grown.{Grew}
+use Rattle.rgo_core_steps.specs.Seats.{HasPossible, mine}
+use Rattle.rgo_core_steps.proofs.After.{at, moving_is}
+use Rattle.rgo_memory.specs.Memory.{Object}
+use Rattle.rgo_region_machine.specs.Objects.{words as words_of}
+use Rattle.rgo_region_machine.specs.declared.regions.Region.{Region}
+use Rattle.rgo_holding.specs.Holds.{region_at}
+use Rattle.rgo_holding.specs.Known.{own_page, slot_of}
+use Rattle.rgo_holding.specs.declared.entries.Page.{Page}
+use Rattle.rgo_body.specs.Programs.{Program}
+use Rattle.rgo_body.specs.Shows.{Shows}
+use Rattle.rgo_body.specs.declared.nexts.Next.{Next}
+use Rattle.rgo_body.proofs.Showing.{like_shown}
+use Rattle.rgo_acts.specs.Actors.{Acted, now}
+use Rattle.rgo_acts.specs.Objects.{IsPlaced}
+use Rattle.rgo_acts.specs.Ready.{IsBefore}
+use Rattle.rgo_acts.specs.Runs.{Run}
+use Rattle.rgo_acts.specs.declared.actors.Actor.{Actor}
+use Rattle.rgo_acts.specs.declared.objects.New.{New}
+use Rattle.rgo_acts.proofs.Before.{here}
+use Rattle.rgo_acts.proofs.Standing.{Continues, acted_by}
+
+module _ (r : Run) (a : Actor) (next : Next) (before : IsBefore r a next) where
+  abbrev c : Record
+  c = now r.setup a
+
+  -- the record after the instruction, by its position
+  abbrev after_making : Fill → Object → Position → Record
+  after_making f object p = record c {
+    clock = record (ticked c.clock) {
+      share = record c.clock.share { steps = suc c.clock.share.steps; objects = suc c.clock.share.objects };
+    };
+    frame = after_action r.setup.code c.frame p.w p.ws p.instr (given p.instr.op) (suc (f.page * r.setup.sizes.page_words + f.fill));
+    memory = with_object c.memory f.slot (f.fill + words_of object);
+  }
+
+  making_is : (f : Fill) (object : Object) → making r.setup c f object ≡ after_making f object (at (here r a next before))
+  making_is f object = moving_is (here r a next before) (after_making f object)
+
+  pub making_continues : (f : Fill) (object : Object) → Continues c (with_new_object r.setup c f object) 1 [] []
+  making_continues f object =
+      let is = making_is f object in
+      record {
+        steps = ap steps_of is ∙ omega arith;
+        prints = ap (λ (d : Record). d.clock.prints) is ∙ sym (append-nil c.clock.prints);
+        children = ap (λ (d : Record). d.clock.children) is;
+        first = ap (λ (d : Record). d.clock.first) is;
+      }
+
+-- the body shows the record after it
+abbrev pub MadeShows : Program → (before after : Actor) → (new : New) → (end word : ℕ) → Type 0
+MadeShows p a b new end word =
+    (T : Setup) (c : Record) (f : Fill) (object : Object) (region : Region) → Shows T p a.body c
+    → region_at a.body.holding new.key ≡ Some region → f.slot ≡ slot_of T.sizes.regions region
+    → f.fill + words_of object ≡ end → suc (f.page * T.sizes.page_words + f.fill) ≡ word
+    → Shows T p b.body (making T c f object)
+
+module _ (s r : Run) (seen_is : s ≡ r) (a : Actor) (next : Next) (before : IsBefore r a next) (new : New) (page : Page)
+    (placed : (region : Region) × (region_at a.body.holding new.key ≡ Some region)
+    × IsPlaced r.setup (now r.setup a) (slot_of r.setup.sizes.regions region) page new) where
+  before_it : IsBefore s a next
+  before_it = subst (λ (x : Run). IsBefore x a next) (sym seen_is) before
+
+  abbrev pub placed_it : (region : Region) × (region_at a.body.holding new.key ≡ Some region)
+      × IsPlaced s.setup (now s.setup a) (slot_of s.setup.sizes.regions region) page new
+  placed_it = subst (λ (x : Run). (region : Region) × (region_at a.body.holding new.key ≡ Some region)
+      × IsPlaced x.setup (now x.setup a) (slot_of x.setup.sizes.regions region) page new) (sym seen_is) placed
+
+  pub made_here : (b : Actor) → b.seat.table_id ≡ a.seat.table_id → b.behind ≡ 0
+      → (grew : (es : List Access) × Grew accesses (first_of s.setup.code) a.seat.me es b.seat.me)
+      → ((slot : ℕ) (p : IsPlaced s.setup (now s.setup a) slot page new)
+      → mine s.setup b.seat.me ≡ with_new_object s.setup (now s.setup a) (own_page slot page) p.object.object)
+      → HasPossible s.setup b.seat.me → (end word : ℕ) → MadeShows s.program a b new end word
+      → page.fill + new.words ≡ end → suc (page.page * s.setup.sizes.page_words + page.fill) ≡ word → Acted r a b 1 [] []
+  made_here b own at_once grew stored possible end word shows ends points =
+      let region = placed_it.0 in
+      let p = placed_it.2 in
+      let slot = slot_of s.setup.sizes.regions region in
+      let f = own_page slot page in
+      let object = p.object.object in
+      let e = stored slot p in
+      let follows = making_continues s a next before_it f object in
+      let many = p.object.many in
+      let shown = shows s.setup (now s.setup a) f object region before_it.stands.shows placed_it.1 refl
+      (ap (λ n. page.fill + n) many ∙ ends) points in
+      subst (λ (x : Run). Acted x a b 1 [] []) seen_is
+      (acted_by s a b before_it.stands 1 [] [] grew.0 own at_once grew.1 possible
+      (record {
+        steps = ap steps_of e ∙ follows.steps;
+        prints = ap (λ (d : Record). d.clock.prints) e ∙ follows.prints;
+        children = ap (λ (d : Record). d.clock.children) e ∙ follows.children;
+        first = ap (λ (d : Record). d.clock.first) e ∙ follows.first;
+      })
+      (subst (λ (d : Record). Shows s.setup s.program b.body d) (sym e)
+      (like_shown s.setup s.program b.body (making s.setup (now s.setup a) f object) (with_new_object s.setup (now s.setup a) f object) shown
+      (record {
+        frame = refl;
+        side = refl;
+        fills = refl;
+        make = refl;
+        claim = refl;
+        give = refl;
+        share = refl;
+        owed = refl;
+        prints = refl;
+        refused = refl;
+      }))))

@@ -1,0 +1,73 @@
+use Rattle.std.proofs.Common.{◌≡◌, ◌+◌, ◌-◌, ◌<◌, inl, refl, subst, sym}
+use Rattle.rgo_core.specs.Bounds.{LieInPages}
+use Rattle.rgo_core.specs.Core.{layout}
+use Rattle.rgo_core.specs.Links.{IsAtElement}
+use Rattle.rgo_core_memory.specs.Words.{base}
+use Rattle.rgo_tac.specs.Ops.{operation_of}
+use Rattle.rgo_acts.specs.Actors.{now}
+use Rattle.rgo_acts.specs.Elements.{HasElement, HasNoElementHere}
+use Rattle.rgo_acts.specs.Ready.{IsBefore}
+use Rattle.rgo_acts.specs.Runs.{Run}
+use Rattle.rgo_acts.proofs.Before.{has_variable}
+use Rattle.rgo_acts.proofs.Measuring.{at_element, is_inside, is_nil, is_outside, length_lies, reads_both, within_pages}
+use Rattle.rgo_acts.proofs.cells.element.Goals as goal
+
+pub word-pointer-requires : goal.word-pointer-requires
+word-pointer-requires c =
+    has_variable c.args.run.now c.args.actor.now c.args.next.now c.requires.before c.args.slice
+    (inl (reads_both (operation_of c.args.next.now.op) c.args.slice c.args.index c.requires.at).0)
+
+pub returns-then-pointer-eq0 : goal.returns-then-pointer-eq0
+returns-then-pointer-eq0 c =
+    is_nil c.args.run.now c.args.actor.now c.args.next.now c.requires.before c.args.slice c.args.index c.word-pointer.result c.requires.at
+    c.word-pointer.ensures c.if-pointer-eq0.true
+
+pub cell-first-requires : goal.cell-first-requires
+cell-first-requires c =
+    length_lies c.args.run.now c.args.actor.now c.args.next.now c.requires.before c.args.slice c.args.index c.word-pointer.result
+    c.requires.at c.word-pointer.ensures c.if-pointer-eq0.false
+
+pub measure-elements-requires-clause-element : goal.measure-elements-requires-clause-element
+measure-elements-requires-clause-element c =
+    subst (λ (r : Run). IsAtElement r.setup.code (now r.setup c.args.actor.now) (c.word-pointer.result - 1)) (sym c.run.view_is)
+    (at_element c.args.run.now c.args.actor.now c.args.next.now c.requires.before c.args.slice c.args.index c.word-pointer.result
+    c.requires.at c.word-pointer.ensures c.if-pointer-eq0.false)
+
+pub word-index-requires : goal.word-index-requires
+word-index-requires c =
+    has_variable c.args.run.now c.args.actor.now c.args.next.now c.requires.before c.args.index
+    (inl (reads_both (operation_of c.args.next.now.op) c.args.slice c.args.index c.requires.at).1)
+
+pub returns-then-index-elements : goal.returns-then-index-elements
+returns-then-index-elements c =
+    let a = c.args.actor.now in
+    let b = record a { seat = c.measure-elements.new.seat; behind = 0 } in
+    let before = subst (λ (r : Run). IsBefore r a c.args.next.now) (sym c.run.view_is) c.requires.before in
+    subst (λ (r : Run). HasNoElementHere r a b c.args.next.now c.args.slice c.args.index) c.run.view_is
+    (is_outside _ a c.args.next.now before c.args.slice c.args.index c.word-pointer.result c.requires.at c.word-pointer.ensures
+    c.if-pointer-eq0.false b c.cell-first.result c.measure-elements.result c.measure-elements.ensures.own.0 refl refl
+    c.measure-elements.ensures.possible c.measure-elements.ensures.leaves c.word-index.result c.word-index.ensures c.if-index-elements.true)
+
+pub cell-requires : goal.cell-requires
+cell-requires c =
+    let a = c.args.actor.now in
+    let b = record a { seat = c.measure-elements.new.seat; behind = 0 } in
+    let before = subst (λ (r : Run). IsBefore r a c.args.next.now) (sym c.run.view_is) c.requires.before in
+    subst (λ (r : Run). LieInPages r.setup (c.word-pointer.result - 1) ((1 + c.word-index.result) + 1)) c.run.view_is
+    (within_pages _ a c.args.next.now before c.args.slice c.args.index c.word-pointer.result c.requires.at c.word-pointer.ensures
+    c.if-pointer-eq0.false b c.cell-first.result c.measure-elements.result c.measure-elements.ensures.own.0 refl refl
+    c.measure-elements.ensures.possible c.measure-elements.ensures.leaves c.word-index.result c.if-index-elements.false)
+
+pub returns : goal.returns
+returns c =
+    let a = c.args.actor.now in
+    let b = record a { seat = c.measure-elements.new.seat; behind = 0 } in
+    let before = subst (λ (r : Run). IsBefore r a c.args.next.now) (sym c.run.view_is) c.requires.before in
+    let at = subst (λ (r : Run). c.cell.result ≡ base (layout r.setup) + ((c.word-pointer.result - 1) + (1 + c.word-index.result)))
+    (sym c.run.view_is) c.cell.ensures.at in
+    let inside = subst (λ (r : Run). c.cell.result < r.table.words) (sym c.run.view_is) c.cell.ensures.inside in
+    subst (λ (r : Run). HasElement r a b c.args.next.now c.args.slice c.args.index c.cell.result) c.run.view_is
+    (is_inside _ a c.args.next.now before c.args.slice c.args.index c.word-pointer.result c.requires.at c.word-pointer.ensures
+    c.if-pointer-eq0.false b c.cell-first.result c.measure-elements.result c.measure-elements.ensures.own.0 refl refl
+    c.measure-elements.ensures.possible c.measure-elements.ensures.leaves c.word-index.result c.word-index.ensures c.if-index-elements.false
+    c.cell.result at inside)

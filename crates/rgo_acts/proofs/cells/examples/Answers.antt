@@ -1,0 +1,5 @@
+use Rattle.rgo_acts.proofs.ActorExamples.{element_examples}
+use Rattle.rgo_acts.proofs.cells.examples.Goals as goal
+
+pub returns : goal.returns
+returns c = element_examples

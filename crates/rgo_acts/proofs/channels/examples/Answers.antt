@@ -1,0 +1,5 @@
+use Rattle.rgo_acts.proofs.WaitExamples.{wait_examples}
+use Rattle.rgo_acts.proofs.channels.examples.Goals as goal
+
+pub returns : goal.returns
+returns c = wait_examples

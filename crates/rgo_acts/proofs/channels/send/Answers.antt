@@ -1,0 +1,73 @@
+use Rattle.std.proofs.Common.{◌∷◌, [], refl, sym, subst, inl, inr, arith}
+use Rattle.rgo_core_steps.specs.Seats.{HasPossible}
+use Rattle.rgo_chan.specs.Answers.{Sends}
+use Rattle.rgo_chan.specs.Before.{IsBeforeSend, LiesIn, control_at}
+use Rattle.rgo_chan.proofs.Carrying.{sends_at}
+use Rattle.rgo_sound.proofs.Places.{contains_here, contains_there}
+use Rattle.rgo_typed.specs.declared.actions.Action.TheVariants.{Send}
+use Rattle.rgo_acts.specs.Actors.{now}
+use Rattle.rgo_acts.specs.Runs.{Run}
+use Rattle.rgo_acts.specs.Talks.{Concludes}
+use Rattle.rgo_acts.proofs.AtChannels.{before_send, has_operand, lies, place_fits}
+use Rattle.rgo_acts.proofs.Talking.{send_on_nil, sends_talk}
+use Rattle.rgo_acts.proofs.channels.send.Goals as goal
+
+pub word-pointer-requires : goal.word-pointer-requires
+word-pointer-requires g c =
+    has_operand c.args.run.now c.args.actor.now c.args.next.now c.requires.before c.requires.is.0 Send (c.args.channel ∷ c.args.value ∷ [])
+    c.args.channel c.requires.is.1 (contains_here c.args.channel (c.args.value ∷ []))
+
+pub word-word-requires : goal.word-word-requires
+word-word-requires g c =
+    has_operand c.args.run.now c.args.actor.now c.args.next.now c.requires.before c.requires.is.0 Send (c.args.channel ∷ c.args.value ∷ [])
+    c.args.value c.requires.is.1 (contains_there c.args.channel (c.args.value ∷ []) c.args.value (contains_here c.args.value []))
+
+pub send-tried-requires-clause-lies : goal.send-tried-requires-clause-lies
+send-tried-requires-clause-lies g c =
+    subst (λ (x : Run). LiesIn x.setup c.base-base.result c.word-pointer.result) (sym c.run.view_is)
+    (lies c.args.run.now c.args.actor.now c.args.next.now c.requires.before c.requires.is.0 Send c.args.channel (c.args.value ∷ []) c.requires.is.1 (inr (inl refl))
+    c.base-base.result c.word-pointer.result c.base-base.ensures.at
+    (sym (c.word-pointer.ensures c.requires.before.ready.is_next.w c.requires.before.ready.is_next.ws c.requires.before.ready.is_next.are)))
+
+pub send-tried-requires-clause-here : goal.send-tried-requires-clause-here
+send-tried-requires-clause-here g c =
+    subst (λ (x : Run). IsBeforeSend x.setup (now x.setup c.args.actor.now) c.word-pointer.result c.word-word.result) (sym c.run.view_is)
+    (before_send c.args.run.now c.args.actor.now c.args.next.now c.requires.before c.requires.is.0 c.args.channel c.args.value c.word-pointer.result c.word-word.result c.requires.is.1
+    (sym (c.word-pointer.ensures c.requires.before.ready.is_next.w c.requires.before.ready.is_next.ws c.requires.before.ready.is_next.are))
+    (sym (c.word-word.ensures c.requires.before.ready.is_next.w c.requires.before.ready.is_next.ws c.requires.before.ready.is_next.are)))
+
+pub returns-then-pointer-eq0-clause-talks : goal.returns-then-pointer-eq0-clause-talks
+returns-then-pointer-eq0-clause-talks g c =
+    send_on_nil c.args.run.now c.args.actor.now (record c.args.actor.now { seat = c.send-tried.new.seat; behind = c.args.actor.now.behind; body = c.args.actor.now.body }) c.requires.before.stands c.send-tried.ensures.own.0
+    (c.send-tried.ensures.nil c.if-pointer-eq0.true).1 refl refl c.word-word.result
+    (subst (λ n. IsBeforeSend c.args.run.now.setup (now c.args.run.now.setup c.args.actor.now) n c.word-word.result) c.if-pointer-eq0.true
+    (before_send c.args.run.now c.args.actor.now c.args.next.now c.requires.before c.requires.is.0 c.args.channel c.args.value c.word-pointer.result c.word-word.result c.requires.is.1
+    (sym (c.word-pointer.ensures c.requires.before.ready.is_next.w c.requires.before.ready.is_next.ws c.requires.before.ready.is_next.are))
+    (sym (c.word-word.ensures c.requires.before.ready.is_next.w c.requires.before.ready.is_next.ws c.requires.before.ready.is_next.are))))
+
+pub overflow_add-base : goal.overflow_add-base
+overflow_add-base g c =
+    let fits = place_fits _ _ _ c.run.invariant.layout c.base-base.result c.word-pointer.result c.if-pointer-eq0.false
+    (subst (λ (x : Run). LiesIn x.setup c.base-base.result c.word-pointer.result) (sym c.run.view_is)
+    (lies c.args.run.now c.args.actor.now c.args.next.now c.requires.before c.requires.is.0 Send c.args.channel (c.args.value ∷ []) c.requires.is.1 (inr (inl refl))
+    c.base-base.result c.word-pointer.result c.base-base.ensures.at
+    (sym (c.word-pointer.ensures c.requires.before.ready.is_next.w c.requires.before.ready.is_next.ws c.requires.before.ready.is_next.are)))) in
+    omega (arith, fits)
+
+pub returns-clause-talks : goal.returns-clause-talks
+returns-clause-talks g c =
+    let a = c.args.actor.now in
+    let b = record a { seat = c.send-tried.new.seat; behind = 0; body = c.conclude.new.body } in
+    sends_talk c.args.run.now a b c.args.next.now c.requires.before c.send-tried.ensures.own.0 refl
+    (subst (λ (x : Run). HasPossible x.setup c.send-tried.new.seat.me) c.run.view_is (c.send-tried.ensures.possible c.if-pointer-eq0.false))
+    c.args.steps.now c.send-tried.new.steps (control_at c.base-base.result c.word-pointer.result) c.word-word.result
+    (sends_at c.base-base.ensures.at c.if-pointer-eq0.false (before_send c.args.run.now c.args.actor.now c.args.next.now c.requires.before c.requires.is.0 c.args.channel c.args.value c.word-pointer.result c.word-word.result c.requires.is.1
+    (sym (c.word-pointer.ensures c.requires.before.ready.is_next.w c.requires.before.ready.is_next.ws c.requires.before.ready.is_next.are))
+    (sym (c.word-word.ensures c.requires.before.ready.is_next.w c.requires.before.ready.is_next.ws c.requires.before.ready.is_next.are))))
+    c.send-tried.result c.conclude.result
+    (subst (λ (x : Run). Sends x.setup (control_at c.base-base.result c.word-pointer.result) (now x.setup a) c.word-word.result c.send-tried.result a.seat.me c.args.steps.now
+    c.send-tried.new.seat.me c.send-tried.new.steps) c.run.view_is
+    (c.send-tried.ensures.answers c.if-pointer-eq0.false))
+    (subst (λ (x : Run). Concludes x.program a.body c.conclude.new.body (control_at c.base-base.result c.word-pointer.result) c.send-tried.result) c.run.view_is
+    c.conclude.ensures.body)
+    c.conclude.ensures.says

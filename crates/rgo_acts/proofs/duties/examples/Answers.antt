@@ -1,0 +1,5 @@
+use Rattle.rgo_acts.proofs.DutyExamples.{duty_examples}
+use Rattle.rgo_acts.proofs.duties.examples.Goals as goal
+
+pub returns : goal.returns
+returns c = duty_examples

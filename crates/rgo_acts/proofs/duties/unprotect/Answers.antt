@@ -1,0 +1,12 @@
+use Rattle.std.proofs.Common.{◌+◌, refl, subst}
+use Rattle.rgo_body.specs.Duties.{DoesLocal}
+use Rattle.rgo_acts.specs.Runs.{Run}
+use Rattle.rgo_acts.proofs.Attending.{local_done}
+use Rattle.rgo_acts.proofs.duties.unprotect.Goals as goal
+
+pub returns : goal.returns
+returns c =
+    let a = c.args.actor.now in
+    let b = record a { behind = a.behind + 1; body = c.unprotect.new.self } in
+    local_done c.args.run.now a b c.requires.first.stands refl refl
+    (subst (λ (r : Run). DoesLocal r.program a.body b.body) c.run.view_is c.unprotect.ensures)

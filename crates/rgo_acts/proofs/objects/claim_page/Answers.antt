@@ -1,0 +1,26 @@
+use Rattle.std.proofs.Common.{refl}
+use Rattle.rgo_acts.proofs.ObjectPages.{claimed_here, needs_here, none_here}
+use Rattle.rgo_acts.proofs.objects.claim_page.Goals as goal
+
+pub claim_from-claimed-requires-clause-needs : goal.claim_from-claimed-requires-clause-needs
+claim_from-claimed-requires-clause-needs g c =
+    let a = c.args in
+    needs_here _ a.run.now c.run.view_is a.actor.now a.next.now c.requires.before a.new c.requires.new c.run.invariant.layout.sizes
+    c.requires.fits c.requires.full c.page_slot-slot.result c.page_slot-slot.ensures
+
+pub returns-in-Ok-clause-page : goal.returns-in-Ok-clause-page
+returns-in-Ok-clause-page g c =
+    let a = c.args in
+    let b = record a.actor.now { seat = c.claim_from-claimed.new.seat; behind = 0; body = c.claimed.new.self } in
+    claimed_here _ a.run.now c.run.view_is a.actor.now a.next.now c.requires.before a.new c.requires.new c.run.invariant.layout.sizes
+    b c.claim_from-claimed.ensures.own.0 refl c.claim_from-claimed.ensures.possible c.requires.fits c.page_slot-slot.result
+    c.page_slot-slot.ensures c.in-Ok.page (c.claimed.ensures.regions a.new.key) c.claimed.ensures.same
+    c.claimed.ensures.shows c.requires.some c.in-Ok.ensures.claimed
+
+pub returns-in-Err-clause-page : goal.returns-in-Err-clause-page
+returns-in-Err-clause-page g c =
+    let a = c.args in
+    let b = record a.actor.now { seat = c.claim_from-claimed.new.seat; behind = 0 } in
+    none_here _ a.run.now c.run.view_is a.actor.now a.next.now c.requires.before a.new c.requires.new c.run.invariant.layout.sizes
+    b c.claim_from-claimed.ensures.own.0 refl c.claim_from-claimed.ensures.possible c.requires.fits c.requires.full refl
+    c.in-Err.ensures.full

@@ -1,0 +1,5 @@
+use Rattle.rgo_acts.proofs.ObjectExamples as made
+use Rattle.rgo_acts.proofs.objects.examples.Goals as goal
+
+pub returns : goal.returns
+returns c = made.examples

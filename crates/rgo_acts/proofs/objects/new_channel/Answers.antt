@@ -1,0 +1,19 @@
+use Rattle.std.proofs.Common.{[]}
+use Rattle.rgo_acts.proofs.Before.{first_in, reads_it}
+use Rattle.rgo_acts.proofs.ObjectKinds.{channel_traps, wants_channel}
+use Rattle.rgo_acts.proofs.objects.new_channel.Goals as goal
+
+pub word-capacity-requires : goal.word-capacity-requires
+word-capacity-requires g c =
+    reads_it c.args.run.now c.args.actor.now c.args.next.now c.requires.before _ _ _ c.requires.is c.args.size (first_in c.args.size [])
+
+pub returns-then-capacity-ge-FIRST_NEGATIVE-clause-made : goal.returns-then-capacity-ge-FIRST_NEGATIVE-clause-made
+returns-then-capacity-ge-FIRST_NEGATIVE-clause-made g c =
+    channel_traps c.args.run.now c.args.actor.now c.args.next.now c.requires.before c.args.to c.args.size c.word-capacity.result
+    c.word-capacity.ensures c.requires.is c.if-capacity-ge-FIRST_NEGATIVE.true
+
+pub object-requires-clause-wants : goal.object-requires-clause-wants
+object-requires-clause-wants g c =
+    wants_channel c.args.run.now c.args.actor.now c.args.next.now c.requires.before c.args.to c.args.size c.word-capacity.result
+    c.word-capacity.ensures c.channel_words.result c.requires.is c.if-capacity-ge-FIRST_NEGATIVE.false c.requires.small
+    c.channel_words.ensures

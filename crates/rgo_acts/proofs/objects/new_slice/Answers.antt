@@ -1,0 +1,18 @@
+use Rattle.std.proofs.Common.{[]}
+use Rattle.rgo_acts.proofs.Before.{first_in, reads_it}
+use Rattle.rgo_acts.proofs.ObjectKinds.{slice_traps, wants_slice}
+use Rattle.rgo_acts.proofs.objects.new_slice.Goals as goal
+
+pub word-elements-requires : goal.word-elements-requires
+word-elements-requires g c =
+    reads_it c.args.run.now c.args.actor.now c.args.next.now c.requires.before _ _ _ c.requires.is c.args.size (first_in c.args.size [])
+
+pub returns-then-elements-ge-FIRST_NEGATIVE-clause-made : goal.returns-then-elements-ge-FIRST_NEGATIVE-clause-made
+returns-then-elements-ge-FIRST_NEGATIVE-clause-made g c =
+    slice_traps c.args.run.now c.args.actor.now c.args.next.now c.requires.before c.args.to c.args.size c.word-elements.result
+    c.word-elements.ensures c.requires.is c.if-elements-ge-FIRST_NEGATIVE.true
+
+pub object-requires-clause-wants : goal.object-requires-clause-wants
+object-requires-clause-wants g c =
+    wants_slice c.args.run.now c.args.actor.now c.args.next.now c.requires.before c.args.to c.args.size c.word-elements.result
+    c.word-elements.ensures c.requires.is c.if-elements-ge-FIRST_NEGATIVE.false

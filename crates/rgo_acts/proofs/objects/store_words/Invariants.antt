@@ -1,0 +1,26 @@
+use Rattle.std.proofs.Common.{◌≡◌, ◌<◌, ℕ, List}
+use Rattle.rgo_core_rule.specs.declared.accesses.Access.{Access}
+use Rattle.rgo_core.specs.Opening.{first_of}
+use Rattle.rgo_core.specs.Plans.{setup_of}
+use Rattle.rgo_core.specs.Records.{accesses}
+use Rattle.rgo_core_steps.specs.Grown.{Grew}
+use Rattle.rgo_core_steps.specs.Seats.{HasOne, HasPossible, Settles, settled}
+use Rattle.rgo_holding.specs.Known.{own_page}
+use Rattle.rgo_acts.specs.Objects.{IsPlaced}
+use Rattle.rgo_acts.proofs.ObjectStores.{IsSoFar}
+use Rattle.rgo_acts.proofs.objects.store_words.Given as goal
+
+abbrev pub invariant-loop-i : goal.invariant-loop-i
+invariant-loop-i l =
+    let T = setup_of l.table.shared.key in
+    let c = settled T l.fn.behind l.fn.seat.me in
+    record {
+      own : l.seat.table_id ≡ l.fn.seat.table_id;
+      alone : HasOne T l.seat.me;
+      settles : Settles T l.left l.seat.me;
+      so_far : (slot : ℕ) (p : IsPlaced T c slot l.page l.new)
+          → IsSoFar T c (own_page slot l.page) p.object.object l.new.words l.i (settled T l.left l.seat.me);
+      grew : (es : List Access) × Grew accesses (first_of T.code) l.fn.seat.me es l.seat.me;
+      possible : 0 < l.i → HasPossible T l.seat.me;
+      left : 0 < l.i → l.left ≡ 0;
+    }

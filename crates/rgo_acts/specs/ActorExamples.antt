@@ -1,0 +1,45 @@
+-- Actors and runs that are as their definitions say, and such as are not.
+use Rattle.std.specs.Prelude.{◌≡◌, ◌≤◌, ℕ, true, false, List, [], ◌∷◌, Some, None}
+use Rattle.rgo_core.specs.Records.{Drawn}
+use Rattle.rgo_machine.specs.declared.limits.Limits.{Limits}
+use Rattle.rgo_region_machine.specs.States.{Duty}
+use Rattle.rgo_tac.specs.Code.{Do}
+use Rattle.rgo_typed.specs.declared.actions.Action.TheVariants as action
+use Rattle.rgo_body.specs.Programs.{Program}
+use Rattle.rgo_body.specs.declared.bodies.Body.{Body}
+use Rattle.rgo_body.specs.declared.nexts.Next.{Next}
+use Rattle.rgo_acts.specs.Actors.{Acted, Stands, distance}
+use Rattle.rgo_acts.specs.Elements.{HasElement, HasMeasured, HasNoElementHere, IsAtElementOf}
+use Rattle.rgo_acts.specs.Ready.{IsBefore}
+use Rattle.rgo_acts.specs.Runs.{IsRun, Run}
+use Rattle.rgo_acts.specs.declared.actors.Actor.{Actor}
+
+pub record ActorExamples : Type 0 where
+  -- it has done nothing
+  pub nothing : (r : Run) (a : Actor) → Stands r a → Acted r a a 0 [] []
+  -- it has made no instruction, printed nothing, and started nobody
+  pub no_instruction : (r : Run) (a : Actor) → Acted r a a 1 [] [] → ⊥
+  pub no_print : (r : Run) (a : Actor) (d : Drawn) → Acted r a a 0 (d ∷ []) [] → ⊥
+  pub no_start : (r : Run) (a : Actor) (n : ℕ) → Acted r a a 0 [] (n ∷ []) → ⊥
+  -- its seat is one of another table
+  pub elsewhere : (r : Run) (a : Actor) → (a.seat.table_id ≡ r.table → ⊥) → Stands r a → ⊥
+  -- a run with other limits than its table was made for
+  pub other_limits : (r : Run) (limits : Limits) → IsRun r → (limits ≡ r.limits → ⊥) → IsRun (record r { limits = limits }) → ⊥
+  -- it owes a duty
+  pub owing : (r : Run) (a : Actor) (next : Next) (d : Duty) (ds : List Duty) → a.body.queue.duties ≡ d ∷ ds → IsBefore r a next → ⊥
+  pub near : (p : Program) (b : Body) → b.queue.duties ≡ [] → b.is_expanded ≡ true → distance p b ≡ 0
+  pub far : (p : Program) (b : Body) → b.is_expanded ≡ false → distance p b ≡ 0 → ⊥
+
+pub record ElementExamples : Type 0 where
+  pub load : IsAtElementOf (Do (Some 2) action.At (0 ∷ 1 ∷ [])) 0 1
+  pub store : IsAtElementOf (Do None action.Put (0 ∷ 1 ∷ 2 ∷ [])) 0 1
+  -- the index in place of the slice
+  pub swapped : IsAtElementOf (Do (Some 2) action.At (0 ∷ 1 ∷ [])) 1 0 → ⊥
+  -- a field
+  pub field : IsAtElementOf (Do (Some 2) (action.Load 1) (0 ∷ [])) 0 1 → ⊥
+  -- another body
+  pub changed : (r : Run) (a b : Actor) (next : Next) → (b.body ≡ a.body → ⊥) → HasMeasured r a b next → ⊥
+  -- a word that the table does not have
+  pub outside : (r : Run) (a b : Actor) (next : Next) (p q word : ℕ) → r.table.words ≤ word → HasElement r a b next p q word → ⊥
+  -- an element that the slice has
+  pub either : (r : Run) (a b : Actor) (next : Next) (p q word : ℕ) → HasElement r a b next p q word → HasNoElementHere r a b next p q → ⊥

@@ -1,0 +1,44 @@
+-- What an act leaves that attends to the first duty of a goroutine.
+use Rattle.std.specs.Prelude.{◌≡◌, ◌+◌, ◌<◌, List, [], ◌∷◌}
+use Rattle.rgo_body.specs.Bodies.{CanCount}
+use Rattle.rgo_body.specs.Duties.{HasDone}
+use Rattle.rgo_body.specs.declared.bodies.Side.TheVariants.{AtRest}
+use Rattle.rgo_core_rule.specs.Views.{number_of}
+use Rattle.rgo_region_machine.specs.States.{Duty}
+use Rattle.rgo_acts.specs.Actors.{Acted, Stands, distance, now}
+use Rattle.rgo_acts.specs.Runs.{Run}
+use Rattle.rgo_acts.specs.Shortages.{Lacks}
+use Rattle.rgo_acts.specs.declared.actors.Actor.{Actor}
+use Rattle.rgo_acts.specs.declared.duties.Attended.{Attended}
+use Rattle.rgo_acts.specs.declared.duties.Attended.TheVariants.{Done, NoMemory, Short}
+
+-- It owes this duty first, and knows of no channel; what the duty does can be counted.
+pub record IsAtDuty (r : Run) (a : Actor) (d : Duty) : Type 0 where
+  pub stands : Stands r a
+  pub others : List Duty
+  pub owes : a.body.queue.duties ≡ d ∷ others
+  pub rests : a.body.side ≡ AtRest
+  pub can : CanCount a.body.counts
+  pub returned : a.body.counts.returned + r.sizes.pages < 18446744073709551616
+  pub behind : a.behind + 1 < 18446744073709551616
+
+-- The first duty is done. Nothing else of the body has changed but what it has of regions and what it has counted.
+pub record HasAttended (r : Run) (a b : Actor) : Type 0 where
+  pub acted : Acted r a b 0 [] []
+  pub done : HasDone a.body b.body
+  pub nearer : distance r.program b.body < distance r.program a.body
+
+-- It owes what it owed.
+pub record HasWaited (r : Run) (a b : Actor) : Type 0 where
+  pub acted : Acted r a b 0 [] []
+  pub rest : b.body ≡ record a.body { holding = b.body.holding }
+
+-- No slot was free for the region that it is to create.
+pub record IsShort (r : Run) (a b : Actor) : Type 0 where
+  pub waited : HasWaited r a b
+  pub lacks : Lacks r.setup (number_of a.seat.me) (now r.setup b) waited.acted.es
+
+abbrev pub Attends : (r : Run) (a b : Actor) → Attended → Type 0
+Attends r a b Done = HasAttended r a b
+Attends r a b Short = IsShort r a b
+Attends r a b NoMemory = HasWaited r a b

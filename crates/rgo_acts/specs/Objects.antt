@@ -1,0 +1,103 @@
+-- New objects: what an act leaves that makes one, and what is known of it before its words are stored.
+use Rattle.std.specs.Prelude.{◌≡◌, ◌+◌, ◌<◌, ◌≤◌, ◌==◌, ℕ, Option, Some, None, [], if◌then◌else◌}
+use Rattle.rgo_core_channels.specs.Records.{at_rest}
+use Rattle.rgo_core_facts.specs.MemoryObjects.{HasNoRoom, NewObject}
+use Rattle.rgo_core_memory.specs.Records.{Rest}
+use Rattle.rgo_core_rule.specs.Views.{number_of}
+use Rattle.rgo_core.specs.Core.{Setup}
+use Rattle.rgo_core.specs.Records.{Record}
+use Rattle.rgo_core_steps.specs.Ends.{Ends}
+use Rattle.rgo_core_steps.specs.Making.{page_of}
+use Rattle.rgo_holding.specs.Holds.{region_at}
+use Rattle.rgo_holding.specs.Known.{own_page, slot_of}
+use Rattle.rgo_holding.specs.declared.entries.Page.{Page}
+use Rattle.rgo_holding.specs.declared.holding.Holding.{Holding}
+use Rattle.rgo_code.specs.Code.{CodeFn}
+use Rattle.rgo_code.specs.Names.{class_of}
+use Rattle.rgo_region_machine.specs.Regions.{class_region}
+use Rattle.rgo_region_machine.specs.States.{Stopped, top_names}
+use Rattle.rgo_region_machine.specs.declared.limits.Limit.TheVariants.{ObjectSize}
+use Rattle.rgo_region_machine.specs.declared.regions.Region.{Region}
+use Rattle.rgo_body.specs.declared.nexts.Next.{Next}
+use Rattle.rgo_acts.specs.Actors.{Acted, now}
+use Rattle.rgo_acts.specs.Ready.{IsBefore}
+use Rattle.rgo_acts.specs.Runs.{Run}
+use Rattle.rgo_acts.specs.Shortages.{Lacks}
+use Rattle.rgo_acts.specs.Traps.{IsAtTrap}
+use Rattle.rgo_acts.specs.declared.actors.Actor.{Actor}
+use Rattle.rgo_acts.specs.declared.objects.Made.{Made}
+use Rattle.rgo_acts.specs.declared.objects.Made.TheVariants as made
+use Rattle.rgo_acts.specs.declared.objects.New.{New}
+
+-- ---- what comes of it
+
+-- The object fits no page, which is a cause to end the run.
+pub record IsTooLarge (r : Run) (a b : Actor) : Type 0 where
+  pub acted : Acted r a b 0 [] []
+  pub ends : Ends r.setup (number_of b.seat.me) (now r.setup b) (Stopped ObjectSize)
+
+-- It needs a page, and each was found in use. It is as it was.
+pub record HasNoPage (r : Run) (a b : Actor) : Type 0 where
+  pub acted : Acted r a b 0 [] []
+  pub body : b.body ≡ a.body
+  pub lacks : Lacks r.setup (number_of a.seat.me) (now r.setup b) acted.es
+
+abbrev pub Makes : (r : Run) (a b : Actor) → Made → Type 0
+Makes r a b made.Done = Acted r a b 1 [] []
+Makes r a b (made.Trap trap) = IsAtTrap r a b trap
+Makes r a b made.TooLarge = IsTooLarge r a b
+Makes r a b made.Short = HasNoPage r a b
+
+-- ---- the object
+
+-- the word at this place first holds this value, and all others hold 0
+abbrev pub opens : (place value i : ℕ) → ℕ
+opens place value i = if i == place then value else 0
+
+-- the next instruction makes this object, in a region that is known by its key
+pub record IsNew (T : Setup) (c : Record) (k : Holding) (new : New) : Type 0 where
+  pub region : Region
+  pub at_key : region_at k new.key ≡ Some region
+  pub low : slot_of T.sizes.regions region ≤ T.sizes.regions
+  pub object : NewObject T c (slot_of T.sizes.regions region) new.words (opens new.place new.value)
+
+-- What the next instruction makes for variable `to` of its function, in the region of the variable's class: an object of this many
+-- words, if a page has as many; or else there is a cause to end the run.
+pub record Wants (T : Setup) (g : ℕ) (c : Record) (fn : CodeFn) (to words place value : ℕ) : Type 0 where
+  pub region : Region
+  pub in_class : class_region (top_names c.frame.holder.environments) (class_of fn to) ≡ Some region
+  pub low : slot_of T.sizes.regions region ≤ T.sizes.regions
+  pub some : 0 < words
+  pub fits : words ≤ T.sizes.page_words → NewObject T c (slot_of T.sizes.regions region) words (opens place value)
+  pub large : T.sizes.page_words < words → Ends T g c (Stopped ObjectSize)
+
+-- ---- its page
+
+-- the own page, if there is one, has no room for this many words
+abbrev pub HasNoRoomIn : (page_words words : ℕ) → Option Page → Type 0
+HasNoRoomIn n words None = Unit {0}
+HasNoRoomIn n words (Some page) = n < page.fill + words
+
+-- the goroutine has no own page with room for it
+abbrev pub HasNoRoomHere : (r : Run) (a : Actor) → New → Type 0
+HasNoRoomHere r a new = (region : Region) → region_at a.body.holding new.key ≡ Some region
+    → HasNoRoom r.setup.sizes.page_words new.words (page_of (slot_of r.setup.sizes.regions region) (now r.setup a).memory.fills)
+
+-- The words of the next object go behind what is filled of this page, its own one for this slot.
+pub record IsPlaced (T : Setup) (c : Record) (slot : ℕ) (page : Page) (new : New) : Type 0 where
+  pub object : NewObject T c slot new.words (opens new.place new.value)
+  pub is_page : page_of slot c.memory.fills ≡ Some (own_page slot page)
+  pub room : page.fill + new.words ≤ T.sizes.page_words
+  pub low : page.page < T.sizes.pages
+  pub rests : c.side ≡ at_rest
+  pub make : c.memory.make ≡ Rest
+  pub some : 0 < new.words
+
+-- The goroutine is before its instruction, and this is the page for the object.
+pub record HasPage (r : Run) (a b : Actor) (next : Next) (new : New) (page : Page) : Type 0 where
+  pub before : IsBefore r b next
+  pub acted : Acted r a b 0 [] []
+  pub objects : b.body.counts.objects ≡ a.body.counts.objects
+  pub region : Region
+  pub at_key : region_at b.body.holding new.key ≡ Some region
+  pub placed : IsPlaced r.setup (now r.setup b) (slot_of r.setup.sizes.regions region) page new

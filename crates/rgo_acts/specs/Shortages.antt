@@ -1,0 +1,20 @@
+-- What a goroutine lacks, by what its accesses have found: each place was in use.
+use Rattle.std.specs.Prelude.{◌≢◌, ◌<◌, ℕ, List}
+use Rattle.rgo_core_memory.specs.Words.{count_at, state_at}
+use Rattle.rgo_core_rule.specs.declared.accesses.Access.{Access}
+use Rattle.rgo_core_rule.specs.declared.accesses.Kind.{Kind}
+use Rattle.rgo_core_rule.specs.declared.accesses.Kind.TheVariants.{ClaimPage, CreateRegion}
+use Rattle.rgo_core.specs.Core.{Setup, layout}
+use Rattle.rgo_core.specs.Records.{Record}
+use Rattle.rgo_core_steps.specs.Counts.{IsCreating}
+use Rattle.rgo_core_steps.specs.Grown.{Found}
+use Rattle.rgo_core_steps.specs.Making.{IsCalm, NeedsPage}
+
+-- Goroutine g has found each of n words in use by one of these accesses. The word of place k has the position `at k`.
+abbrev pub AllInUse : (g : ℕ) → List Access → Kind → (at : ℕ → ℕ) → (n : ℕ) → Type 0
+AllInUse g es kind at n = (k : ℕ) → k < n → (found : ℕ) × (found ≢ 0) × Found g es kind (at k) found
+
+-- Its next instruction needs a page, and no page was free; or its first duty creates a region, and no slot was free.
+pub data Lacks (T : Setup) (g : ℕ) (c : Record) (es : List Access) : Type 0 where
+  Page : (slot : ℕ) → IsCalm c → NeedsPage T c slot → AllInUse g es ClaimPage (state_at (layout T)) T.sizes.pages → Lacks T g c es
+  Slot : IsCreating c → AllInUse g es CreateRegion (count_at (layout T)) T.sizes.regions → Lacks T g c es

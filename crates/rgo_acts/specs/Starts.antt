@@ -1,0 +1,29 @@
+-- Starts of goroutines.
+use Rattle.std.specs.Prelude.{◌≡◌, ◌<◌, ℕ, [], ◌∷◌}
+use Rattle.rgo_core_rule.specs.Views.{number_of}
+use Rattle.rgo_core.specs.Records.{blank}
+use Rattle.rgo_core_steps.specs.After.{child as child_of}
+use Rattle.rgo_machine.specs.Limits.{most_goroutines}
+use Rattle.rgo_region_machine.specs.declared.limits.Limit.TheVariants.{Goroutines}
+use Rattle.rgo_acts.specs.Actors.{Acted, Stands, now}
+use Rattle.rgo_acts.specs.Runs.{Run}
+use Rattle.rgo_acts.specs.Limits.{IsAtLimit}
+use Rattle.rgo_acts.specs.declared.actors.Actor.{Actor}
+use Rattle.rgo_acts.specs.declared.starts.Outcome.{Outcome}
+use Rattle.rgo_acts.specs.declared.starts.Outcome.TheVariants.{Refused, Started}
+
+-- It has started goroutine n, which is before its first instruction, and whose seat has seen what its own has.
+pub record HasStarted (r : Run) (a b : Actor) (n : ℕ) (child : Actor) : Type 0 where
+  pub acted : Acted r a b 1 [] (n ∷ [])
+  pub stands : Stands r child
+  pub settled : child.behind ≡ 0
+  pub number : number_of child.seat.me ≡ n
+  pub within : n < most_goroutines r.setup.limits
+  pub seen : child.seat.me.0.seen ≡ b.seat.me.0.seen
+  pub begins : now r.setup child ≡ child_of r.setup.code (now r.setup a)
+  pub blank : (now r.setup child).clock ≡ blank
+
+-- it has, or a number was refused to it
+abbrev pub Starts : Run → (before after : Actor) → Outcome → Type 0
+Starts r a b (Started n child) = HasStarted r a b n child
+Starts r a b Refused = IsAtLimit r a b Goroutines

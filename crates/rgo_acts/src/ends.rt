@@ -1,0 +1,114 @@
+//! Ends of the run: the return of `main`, a trap, and limits. Each returns whether this has ended the run; it has not if the run had
+//! ended before.
+ghost use Rattle.std.specs.Prelude.{◌≡◌, ◌^◌, ◌<◌, ◌+◌, ◌∷◌, [], ℕ, List, Option, length, true};
+ghost use Rattle.rgo_body.specs.Bodies.{frames_in};
+ghost use Rattle.rgo_body.specs.Nexts.{IsNextOf};
+ghost use Rattle.rgo_body.specs.Steps.{HasRoomBack};
+ghost use Rattle.rgo_core_rule.specs.Views.{number_of};
+ghost use Rattle.rgo_core_steps.specs.Ends.{Ends, Traps};
+ghost use Rattle.rgo_machine.specs.Limits.{deepest};
+ghost use Rattle.rgo_machine.specs.declared.picks.End.TheVariants as the_end;
+ghost use Rattle.rgo_region_machine.specs.States.{Ended, Stopped};
+ghost use Rattle.rgo_tac.specs.Code.{Call, Go, Return};
+ghost use Rattle.rgo_tac.specs.Ops.{operation_of};
+ghost use Rattle.rgo_region_machine.specs.declared.limits.Limit.TheVariants as limit;
+ghost use Rattle.rgo_acts.specs.Actors.{Stands, now};
+ghost use Rattle.rgo_acts.specs.Endings.{HasEnded, place_at};
+ghost use Rattle.rgo_acts.specs.Ready.{IsBefore};
+
+use crate::actors::Actor;
+use crate::runs::Run;
+use rgo_body::Next;
+use rgo_core_steps::clock::{Mark, finish};
+use rgo_machine::End;
+use rgo_memory::Trap;
+use rgo_region_machine::Limit;
+
+/// A limit ends the run, for which the record of the goroutine shows the cause.
+pub fn stop(actor: &mut Actor, run: &Run<'_>, limit: Limit) -> bool
+    requires stands { Stands run.now actor.old }
+    requires cause { Ends run.now.setup (number_of actor.old.seat.me) (now run.now.setup actor.old) (Stopped limit) }
+    ensures ended { HasEnded run.now actor.old actor.new 0 (Stopped limit) result }
+    ensures body { actor.new.body ≡ actor.old.body }
+{
+    let ends = finish(
+        run.table,
+        &mut actor.seat,
+        actor.behind,
+        Mark::Stopped(limit),
+    );
+    actor.behind = 0;
+    ends
+}
+
+/// Memory ran out.
+pub fn out_of_memory(actor: &mut Actor, run: &Run<'_>) -> bool
+    requires stands { Stands run.now actor.old }
+    ensures ended { HasEnded run.now actor.old actor.new 0 (Stopped limit.Memory) result }
+    ensures body { actor.new.body ≡ actor.old.body }
+{
+    stop(actor, run, Limit::Memory)
+}
+
+/// The next instruction is a call, and the goroutine has as many frames as it may have.
+pub fn too_deep(actor: &mut Actor, run: &Run<'_>, next: &Next<'_>) -> bool
+    requires before { IsBefore run.now actor.old next.now }
+    requires calls { (to : Option ℕ) × (n : ℕ) × (from : List ℕ) × (operation_of next.now.op ≡ Call to n from) }
+    requires deep { length (frames_in actor.old.body) ≡ deepest }
+    ensures ended { HasEnded run.now actor.old actor.new 0 (Stopped limit.Calls) result }
+    ensures body { actor.new.body ≡ actor.old.body }
+{
+    stop(actor, run, Limit::Calls)
+}
+
+/// The next instruction starts a goroutine, and a number was refused.
+pub fn too_many(actor: &mut Actor, run: &Run<'_>, next: &Next<'_>) -> bool
+    requires before { IsBefore run.now actor.old next.now }
+    requires starts { (n : ℕ) × (from : List ℕ) × (operation_of next.now.op ≡ Go n from) }
+    requires refused { actor.old.body.refused ≡ true }
+    ensures ended { HasEnded run.now actor.old actor.new 0 (Stopped limit.Goroutines) result }
+    ensures body { actor.new.body ≡ actor.old.body }
+{
+    stop(actor, run, Limit::Goroutines)
+}
+
+/// The next instruction traps.
+pub fn trap(actor: &mut Actor, run: &Run<'_>, next: &Next<'_>, trap: Trap) -> bool
+    requires stands { Stands run.now actor.old }
+    requires next { IsNextOf run.now.program.code (frames_in actor.old.body) next.now }
+    requires traps { Traps run.now.setup (now run.now.setup actor.old) trap }
+    requires count { actor.old.body.counts.steps + 1 < 2 ^ 64 }
+    ensures { HasEnded run.now actor.old actor.new 1
+        (Ended (the_end.Trap trap (place_at next.now))) result }
+{
+    let place = next.function.tac().place(next.at);
+    let ends = finish(
+        run.table,
+        &mut actor.seat,
+        actor.behind,
+        Mark::Ended(End::Trap(trap, place)),
+    );
+    actor.behind = 0;
+    actor.body.trapped(run.program);
+    ends
+}
+
+/// `main` returns.
+pub fn exit(actor: &mut Actor, run: &Run<'_>, next: &Next<'_>, value: Option<u32>) -> bool
+    requires before { IsBefore run.now actor.old next.now }
+    requires returns { operation_of next.now.op ≡ Return value }
+    requires main { number_of actor.old.seat.me ≡ 0 }
+    requires last { length (frames_in actor.old.body) ≡ 1 }
+    requires room { HasRoomBack run.now.program actor.old.body }
+    ensures { HasEnded run.now actor.old actor.new 1 (Ended the_end.Exit) result }
+{
+    let ends = finish(
+        run.table,
+        &mut actor.seat,
+        actor.behind,
+        Mark::Ended(End::Exit),
+    );
+    actor.behind = 0;
+    actor.body.come_back(run.program, next, value);
+    ends
+}

@@ -1,0 +1,383 @@
+//! New objects: structs, slices and channels. An object goes behind what is filled of the goroutine's own page in the region, or on a
+//! page that is claimed for it. Its words are stored one by one; with the last one it exists, and the instruction is done.
+ghost use Rattle.std.specs.Prelude.{◌≡◌, ◌+◌, ◌*◌, ◌^◌, ◌<◌, ◌≤◌, ◌∷◌, [], ℕ, List, MatchOption, Some, slice_get};
+ghost use Rattle.rgo_core_rule.specs.Views.{number_of};
+ghost use Rattle.rgo_core_rule.specs.declared.accesses.Access.{Access};
+ghost use Rattle.rgo_core_facts.specs.MemoryObjects.{channel_words as channel_words_of, with_new_object};
+ghost use Rattle.rgo_core.specs.Bounds.{struct_words as struct_words_of};
+ghost use Rattle.rgo_core.specs.Opening.{first_of};
+ghost use Rattle.rgo_core.specs.Plans.{setup_of};
+ghost use Rattle.rgo_core.specs.Records.{accesses};
+ghost use Rattle.rgo_core_steps.specs.Grown.{Grew};
+ghost use Rattle.rgo_core_steps.specs.Layouts.{HasLayout};
+ghost use Rattle.rgo_core_steps.specs.Seats.{HasOne, HasPossible, Settles, mine, settled};
+ghost use Rattle.rgo_holding.specs.Holds.{region_at};
+ghost use Rattle.rgo_holding.specs.Known.{own_page, slot_of};
+ghost use Rattle.rgo_region_machine.specs.declared.regions.Region.{Region};
+ghost use Rattle.rgo_tac.specs.Code.{Do};
+ghost use Rattle.rgo_tac.specs.Ops.{operation_of};
+ghost use Rattle.rgo_typed.specs.declared.actions.Action.TheVariants as action;
+ghost use Rattle.rgo_acts.specs.Actors.{Acted, now};
+ghost use Rattle.rgo_acts.specs.ObjectExamples.{ObjectExamples};
+ghost use Rattle.rgo_acts.specs.Objects as spec;
+ghost use Rattle.rgo_acts.specs.Ready.{IsBefore};
+
+use crate::actors::Actor;
+use crate::runs::Run;
+use rgo_body::Next;
+use rgo_core::table::{RunSeat, RunTable};
+use rgo_core_memory::layout::{TableSizes, cell_at};
+use rgo_core_steps::counting::Steps;
+use rgo_core_steps::memory;
+use rgo_holding::{Key, Page};
+use rgo_memory::Trap;
+use rgo_pages::claiming::claim_from;
+use std::sync::ledger::Ledger;
+
+/// What came of an instruction that makes an object.
+#[derive(Clone, Copy, Debug, PartialEq, Eq)]
+pub enum Made {
+    /// The object exists; the instruction is done.
+    Done,
+    /// The size is negative.
+    Trap(Trap),
+    /// The object is larger than a page.
+    TooLarge,
+    /// The object needs a page, and no page is free.
+    Short,
+}
+
+/// The object that the next instruction makes: its region, and its words. The word at `place` first holds `value`, and all others
+/// hold 0.
+#[derive(Clone, Copy)]
+pub(crate) struct New {
+    pub(crate) key: Key,
+    pub(crate) words: usize,
+    pub(crate) place: usize,
+    pub(crate) value: u64,
+}
+
+/// The least word that is a negative number.
+const FIRST_NEGATIVE: u64 = 9223372036854775808;
+
+/// What a word of it first holds.
+fn opening(new: New, i: usize) -> u64
+    ensures { result ≡ spec.opens new.place new.value i }
+{
+    if i == new.place { new.value } else { 0 }
+}
+
+/// The own page, if it has room for an object.
+fn with_room(page: Option<Page>, words: usize, page_words: usize) -> Option<Page>
+    requires { words ≤ page_words }
+    ensures { MatchOption result (spec.HasNoRoomIn page_words words page)
+        (λ q. (page ≡ Some q) × (q.fill + words ≤ page_words)) }
+{
+    match page {
+        Some(own) => if own.fill as usize <= page_words - words {
+            Some(own)
+        } else {
+            None
+        },
+        None => None,
+    }
+}
+
+/// Stores the words of the next object on its page.
+fn store_words(
+    table: &RunTable,
+    sizes: &TableSizes,
+    seat: &mut RunSeat,
+    behind: u64,
+    page: Page,
+    new: New,
+)
+    requires own { seat.old.table_id ≡ table.now.shared.table_id }
+    requires layout { HasLayout (setup_of table.now.shared.key) sizes.now table.now.shared.table_id }
+    requires alone { HasOne (setup_of table.now.shared.key) seat.old.me }
+    requires settles { Settles (setup_of table.now.shared.key) behind seat.old.me }
+    requires placed { let T = setup_of table.now.shared.key in
+        (slot : ℕ) × spec.IsPlaced T (settled T behind seat.old.me) slot page new }
+    ensures own { seat.new.table_id ≡ seat.old.table_id }
+    ensures grew { let T = setup_of table.now.shared.key in
+        (es : List Access) × Grew accesses (first_of T.code) seat.old.me es seat.new.me }
+    ensures stored { let T = setup_of table.now.shared.key in
+        (slot : ℕ) (placed : spec.IsPlaced T (settled T behind seat.old.me) slot page new)
+        → mine T seat.new.me ≡ with_new_object T (settled T behind seat.old.me) (own_page slot page) placed.object.object }
+    ensures possible { HasPossible (setup_of table.now.shared.key) seat.new.me }
+{
+    let mut left = behind;
+    for i in 0..new.words {
+        let word = cell_at(sizes, page.page as usize, page.fill as usize + i);
+        memory::zero(table, seat, left, word, opening(new, i), i);
+        // The first access takes the local steps before it.
+        left = 0;
+    }
+}
+
+/// Makes the next object on this page.
+fn make_on(actor: &mut Actor, run: &Run<'_>, next: &Next<'_>, new: New, page: Page)
+    requires before { IsBefore run.now actor.old next.now }
+    requires does { (to : _) × (act : _) × (from : List ℕ) × (operation_of next.now.op ≡ Do to act from) }
+    requires count { actor.old.body.counts.objects + 1 < 2 ^ 64 }
+    requires placed { (region : Region) × (region_at actor.old.body.holding new.key ≡ Some region)
+        × spec.IsPlaced run.now.setup (now run.now.setup actor.old) (slot_of run.now.setup.sizes.regions region) page new }
+    ensures { Acted run.now actor.old actor.new 1 [] [] }
+{
+    store_words(
+        run.table,
+        &run.sizes,
+        &mut actor.seat,
+        actor.behind,
+        page,
+        new,
+    );
+    actor.behind = 0;
+    let address = page.page as usize * run.sizes.page_words + page.fill as usize;
+    let end = page.fill + new.words as u32;
+    actor
+        .body
+        .made(run.program, next, new.key, end, address as u64 + 1);
+}
+
+/// Claims a page for the next object.
+fn claim_page<L: Ledger>(
+    actor: &mut Actor,
+    run: &Run<'_>,
+    next: &Next<'_>,
+    new: New,
+    from: u32,
+    steps: &mut Steps<L>,
+) -> Option<Page>
+    requires before { IsBefore run.now actor.old next.now }
+    requires new { spec.IsNew run.now.setup (now run.now.setup actor.old) actor.old.body.holding new }
+    requires fits { new.words ≤ run.now.sizes.page_words }
+    requires some { 0 < new.words }
+    requires full { spec.HasNoRoomHere run.now actor.old new }
+    requires from { from < run.now.sizes.pages }
+    requires count { actor.old.body.counts.taken + 1 < 2 ^ 64 }
+    ensures page { MatchOption result (spec.HasNoPage run.now actor.old actor.new)
+        (spec.HasPage run.now actor.old actor.new next.now new) }
+    ensures cost { steps.new ≤ steps.old + (2 * run.now.sizes.pages + 2) }
+{
+    let slot = actor.body.page_slot(new.key);
+    let claimed = claim_from(
+        run.table,
+        &mut actor.seat,
+        actor.behind,
+        &run.sizes,
+        slot,
+        from,
+        steps,
+    );
+    actor.behind = 0;
+    match claimed {
+        Ok(page) => {
+            actor.body.claimed(run.program, new.key, page);
+            Some(Page { page, fill: 0 })
+        }
+        Err(_) => None,
+    }
+}
+
+/// The page for the next object: the own page if it has room, or else one that is claimed.
+fn page_for<L: Ledger>(
+    actor: &mut Actor,
+    run: &Run<'_>,
+    next: &Next<'_>,
+    new: New,
+    from: u32,
+    steps: &mut Steps<L>,
+) -> Option<Page>
+    requires before { IsBefore run.now actor.old next.now }
+    requires new { spec.IsNew run.now.setup (now run.now.setup actor.old) actor.old.body.holding new }
+    requires fits { new.words ≤ run.now.sizes.page_words }
+    requires some { 0 < new.words }
+    requires from { from < run.now.sizes.pages }
+    requires count { actor.old.body.counts.taken + 1 < 2 ^ 64 }
+    ensures page { MatchOption result (spec.HasNoPage run.now actor.old actor.new)
+        (spec.HasPage run.now actor.old actor.new next.now new) }
+    ensures cost { steps.new ≤ steps.old + (2 * run.now.sizes.pages + 2) }
+{
+    let own = actor.body.own_page(new.key);
+    match with_room(own, new.words, run.sizes.page_words) {
+        Some(page) => Some(page),
+        None => claim_page(actor, run, next, new, from, steps),
+    }
+}
+
+/// Makes the next object, which fits a page.
+fn make<L: Ledger>(
+    actor: &mut Actor,
+    run: &Run<'_>,
+    next: &Next<'_>,
+    new: New,
+    from: u32,
+    steps: &mut Steps<L>,
+) -> Made
+    requires before { IsBefore run.now actor.old next.now }
+    requires does { (to : _) × (act : _) × (from : List ℕ) × (operation_of next.now.op ≡ Do to act from) }
+    requires new { spec.IsNew run.now.setup (now run.now.setup actor.old) actor.old.body.holding new }
+    requires fits { new.words ≤ run.now.sizes.page_words }
+    requires some { 0 < new.words }
+    requires from { from < run.now.sizes.pages }
+    requires count { (actor.old.body.counts.taken + 1 < 2 ^ 64) × (actor.old.body.counts.objects + 1 < 2 ^ 64) }
+    ensures made { spec.Makes run.now actor.old actor.new result }
+    ensures cost { steps.new ≤ steps.old + (2 * run.now.sizes.pages + 2) }
+{
+    match page_for(actor, run, next, new, from, steps) {
+        Some(page) => {
+            make_on(actor, run, next, new, page);
+            Made::Done
+        }
+        None => Made::Short,
+    }
+}
+
+/// Makes the next object, of this many words, for variable `to`. The word at `place` first holds `value`, and all others hold 0.
+fn object<L: Ledger>(
+    actor: &mut Actor,
+    run: &Run<'_>,
+    next: &Next<'_>,
+    to: u32,
+    words: usize,
+    place: usize,
+    value: u64,
+    from: u32,
+    steps: &mut Steps<L>,
+) -> Made
+    requires before { IsBefore run.now actor.old next.now }
+    requires does { (to : _) × (act : _) × (from : List ℕ) × (operation_of next.now.op ≡ Do to act from) }
+    requires wants { spec.Wants run.now.setup (number_of actor.old.seat.me) (now run.now.setup actor.old) next.now.function to words place value }
+    requires from { from < run.now.sizes.pages }
+    requires count { (actor.old.body.counts.taken + 1 < 2 ^ 64) × (actor.old.body.counts.objects + 1 < 2 ^ 64) }
+    ensures made { spec.Makes run.now actor.old actor.new result }
+    ensures cost { steps.new ≤ steps.old + (2 * run.now.sizes.pages + 2) }
+{
+    if words > run.sizes.page_words {
+        return Made::TooLarge;
+    }
+    let Some(key) = actor.body.region_of(next, to) else {
+        unreachable!();
+    };
+    let new = New {
+        key,
+        words,
+        place,
+        value,
+    };
+    make(actor, run, next, new, from, steps)
+}
+
+/// How many words a struct of this number has: one for each field, and at least one.
+fn struct_words(run: &Run<'_>, number: usize) -> usize
+    ensures { result ≡ struct_words_of (slice_get run.now.setup.code.structs number) }
+{
+    match run.program.code().tac().structs().get(number) {
+        Some(made) => made.fields.items().len().max(1),
+        None => 1,
+    }
+}
+
+/// Makes a struct of this number, to which variable `to` points. If it needs a page, the search for a free one begins at page `from`.
+pub fn new_struct<L: Ledger>(
+    actor: &mut Actor,
+    run: &Run<'_>,
+    next: &Next<'_>,
+    to: u32,
+    number: usize,
+    from: u32,
+    steps: &mut Steps<L>,
+) -> Made
+    requires before { IsBefore run.now actor.old next.now }
+    requires is { operation_of next.now.op ≡ Do (Some to) (action.New number) [] }
+    requires from { from < run.now.sizes.pages }
+    requires count { (actor.old.body.counts.taken + 1 < 2 ^ 64) × (actor.old.body.counts.objects + 1 < 2 ^ 64) }
+    ensures made { spec.Makes run.now actor.old actor.new result }
+    ensures cost { steps.new ≤ steps.old + (2 * run.now.sizes.pages + 2) }
+{
+    let words = struct_words(run, number);
+    object(actor, run, next, to, words, 0, 0, from, steps)
+}
+
+/// Makes a slice for variable `to`, with as many elements as variable `size` says. Its first word is its length.
+pub fn new_slice<L: Ledger>(
+    actor: &mut Actor,
+    run: &Run<'_>,
+    next: &Next<'_>,
+    to: u32,
+    size: u32,
+    from: u32,
+    steps: &mut Steps<L>,
+) -> Made
+    requires before { IsBefore run.now actor.old next.now }
+    requires is { operation_of next.now.op ≡ Do (Some to) action.Slice (size ∷ []) }
+    requires from { from < run.now.sizes.pages }
+    requires count { (actor.old.body.counts.taken + 1 < 2 ^ 64) × (actor.old.body.counts.objects + 1 < 2 ^ 64) }
+    ensures made { spec.Makes run.now actor.old actor.new result }
+    ensures cost { steps.new ≤ steps.old + (2 * run.now.sizes.pages + 2) }
+{
+    let elements = actor.body.word(size);
+    if elements >= FIRST_NEGATIVE {
+        return Made::Trap(Trap::BadSize);
+    }
+    object(
+        actor,
+        run,
+        next,
+        to,
+        elements as usize + 1,
+        0,
+        elements,
+        from,
+        steps,
+    )
+}
+
+/// How many words a channel has: its control, its capacity, and at least one cell.
+fn channel_words(capacity: u64) -> usize
+    requires { capacity < 2 ^ 63 }
+    ensures { result ≡ channel_words_of capacity }
+{
+    capacity.max(1) as usize + 2
+}
+
+/// Makes a channel for variable `to`, with a buffer of as many values as variable `size` says.
+pub fn new_channel<L: Ledger>(
+    actor: &mut Actor,
+    run: &Run<'_>,
+    next: &Next<'_>,
+    to: u32,
+    size: u32,
+    from: u32,
+    steps: &mut Steps<L>,
+) -> Made
+    requires before { IsBefore run.now actor.old next.now }
+    requires is { operation_of next.now.op ≡ Do (Some to) action.Chan (size ∷ []) }
+    requires from { from < run.now.sizes.pages }
+    requires small { run.now.setup.sizes.page_words ≤ 1073741820 }
+    requires count { (actor.old.body.counts.taken + 1 < 2 ^ 64) × (actor.old.body.counts.objects + 1 < 2 ^ 64) }
+    ensures made { spec.Makes run.now actor.old actor.new result }
+    ensures cost { steps.new ≤ steps.old + (2 * run.now.sizes.pages + 2) }
+{
+    let capacity = actor.body.word(size);
+    if capacity >= FIRST_NEGATIVE {
+        return Made::Trap(Trap::BadSize);
+    }
+    object(
+        actor,
+        run,
+        next,
+        to,
+        channel_words(capacity),
+        1,
+        capacity,
+        from,
+        steps,
+    )
+}
+
+/// New objects that are as their definitions say, and such as are not.
+pub fn examples()
+    ensures { ObjectExamples }
+{}

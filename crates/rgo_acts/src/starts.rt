@@ -1,0 +1,66 @@
+//! Starts of goroutines.
+ghost use Rattle.std.specs.Prelude.{◌≡◌, ◌+◌, ◌<◌, [], MatchResult, false};
+ghost use Rattle.rgo_tac.specs.Code.{Go};
+ghost use Rattle.rgo_tac.specs.Ops.{operation_of};
+ghost use Rattle.rgo_acts.specs.Actors.{Acted};
+ghost use Rattle.rgo_acts.specs.Ready.{IsBefore};
+ghost use Rattle.rgo_acts.specs.Starts.{Starts};
+
+use crate::actors::Actor;
+use crate::runs::Run;
+use rgo_body::{Body, Next};
+use rgo_core_steps::{numbers, seats};
+use std::alloc::{AllocError, Global};
+
+/// Whether a goroutine was started.
+pub enum Outcome {
+    /// This one, with its number.
+    Started(u64, Actor),
+    /// There are as many as there may be, which ends the run.
+    Refused,
+}
+
+/// The next instruction starts a goroutine with this function and these arguments.
+///
+/// # Errors
+///
+/// On allocation failure. Then nothing has happened.
+pub fn start(
+    alloc: Global,
+    actor: &mut Actor,
+    run: &Run<'_>,
+    next: &Next<'_>,
+    function: u32,
+    from: &[u32],
+) -> Result<Outcome, AllocError>
+    requires before { IsBefore run.now actor.old next.now }
+    requires is { operation_of next.now.op ≡ Go function from.now }
+    requires never { actor.old.body.refused ≡ false }
+    requires count { actor.old.body.counts.goroutines + 1 < 18446744073709551616 }
+    ensures { MatchResult result (Starts run.now actor.old actor.new) (λ _. Acted run.now actor.old actor.new 0 [] []) }
+{
+    let body = match actor.body.child(alloc, run.program, next, function, from) {
+        Ok(body) => body,
+        Err(error) => return Err(error),
+    };
+    match numbers::number(run.table, &mut actor.seat, actor.behind, &run.limits) {
+        Some(number) => {
+            actor.behind = 0;
+            actor.body.started(run.program, next);
+            let seat = seats::split(run.table, &mut actor.seat, number);
+            Ok(Outcome::Started(
+                number,
+                Actor {
+                    seat,
+                    behind: 0,
+                    body,
+                },
+            ))
+        }
+        None => {
+            actor.behind = 0;
+            actor.body.refuse(run.program);
+            Ok(Outcome::Refused)
+        }
+    }
+}
