@@ -9,8 +9,6 @@ mod checks;
 #[cfg(test)]
 mod lines;
 #[cfg(test)]
-mod rule_names;
-#[cfg(test)]
 mod run;
 #[cfg(test)]
 mod slow_sinks;

@@ -18,127 +18,90 @@ mod usage;
 mod workers;
 
 use crate::checks::same;
-use calls::{SOUND, called, expect, with_head};
+use calls::{HEAD, SOUND, called, expect, with_head};
 use rgo_outside::NoGate;
-use rows::{Lines, are_called};
+use rows::are_called;
 use std::alloc::{AllocError, Global};
-use std::test::Fail;
+use std::process::Abort;
+use std::sync::Wait;
+use std::thread::Threads;
 
-/// Tables of calls with lines after the head.
-static REFUSED_OR_PRINTING: [&str; 5] = [
-    refusals::LINES,
-    refusals::BY_ALL,
-    running::VALUES,
-    running::ORDER,
-    emitting::CODES,
-];
+/// Calls with lines after the head.
+fn are_called_after_head<R: Threads + Wait + Abort + AllocGlobal + Sync>(rt: &R, table: &str) {
+    are_called(rt, HEAD, table, "\n", SOUND);
+}
 
 #[test]
-fn lines_are_refused_or_print(rt: HostRuntime) -> Result<(), Fail> {
-    for table in &REFUSED_OR_PRINTING {
-        are_called(&rt, Lines::After(""), table)?;
+fn lines_are_refused_or_run(rt: HostRuntime) {
+    are_called_after_head(&rt, refusals::LINES);
+    are_called_after_head(&rt, refusals::BY_ALL);
+    are_called_after_head(&rt, running::VALUES);
+    are_called_after_head(&rt, running::ORDER);
+    are_called_after_head(&rt, running::STATEMENTS);
+    are_called_after_head(&rt, running::GOROUTINES);
+    are_called_after_head(&rt, regions::ROWS);
+    are_called_after_head(&rt, ends::TRAPS);
+    are_called_after_head(&rt, ends::ENDS);
+    are_called_after_head(&rt, emitting::CODES);
+    are_called(&rt, running::LISTS, running::OVER_LISTS, "\n", SOUND);
+    are_called(&rt, running::LISTS, regions::OVER_LISTS, "\n", SOUND);
+}
+
+/// Calls with whole texts.
+fn are_called_with<R: Threads + Wait + Abort + AllocGlobal + Sync>(rt: &R, table: &str) {
+    are_called(rt, "", table, "", SOUND);
+}
+
+#[test]
+fn whole_texts_are_refused_or_run(rt: HostRuntime) {
+    are_called_with(&rt, refusals::WHOLE);
+    are_called_with(&rt, examples::A_TO_M);
+    are_called_with(&rt, examples::N_TO_Z);
+    are_called_with(&rt, emitting::CHECKED);
+    are_called_with(&rt, codes::OBJECTS);
+    are_called_with(&rt, codes::PLACES);
+    are_called_with(&rt, codes::OTHERS);
+    are_called_with(&rt, journals::RECORDED);
+    are_called_with(&rt, journals::REPLAYED);
+    are_called_with(&rt, journals::REFUSED);
+}
+
+/// A text whose `main` has a number in `depth` parentheses.
+fn nested(alloc: Global, depth: usize) -> Result<String, AllocError> {
+    let open = "(".repeat(alloc, depth)?;
+    let close = ")".repeat(alloc, depth)?;
+    let line = format!(in alloc; "func main() {{ x := {open}1{close} }}")?;
+    with_head(alloc, &line)
+}
+
+#[test]
+fn nesting_has_a_limit(rt: HostRuntime) -> Result<(), AllocError> {
+    for (depth, report, status) in [(198, "", 0), (199, "rgo: 4:218: nesting\n", 1)] {
+        let text = nested(rt.alloc(), depth)?;
+        expect(&rt, "rgo run", text.as_bytes(), SOUND, ("", report, status))?;
     }
     Ok(())
 }
 
 #[test]
-fn statements_are_executed(rt: HostRuntime) -> Result<(), Fail> {
-    are_called(&rt, Lines::After(""), running::STATEMENTS)
-}
-
-#[test]
-fn goroutines_communicate(rt: HostRuntime) -> Result<(), Fail> {
-    are_called(&rt, Lines::After(""), running::GOROUTINES)
-}
-
-#[test]
-fn runs_have_room_for_regions(rt: HostRuntime) -> Result<(), Fail> {
-    are_called(&rt, Lines::After(""), regions::ROWS)
-}
-
-#[test]
-fn runs_end_as_their_last_steps_say(rt: HostRuntime) -> Result<(), Fail> {
-    are_called(&rt, Lines::After(""), ends::TRAPS)?;
-    are_called(&rt, Lines::After(""), ends::ENDS)
-}
-
-#[test]
-fn lists_are_summed_in_their_room(rt: HostRuntime) -> Result<(), Fail> {
-    let after_lists = Lines::After(running::LISTS);
-    are_called(&rt, after_lists, running::OVER_LISTS)?;
-    are_called(&rt, after_lists, regions::OVER_LISTS)
-}
-
-#[test]
-fn whole_texts_run_or_are_refused(rt: HostRuntime) -> Result<(), Fail> {
-    are_called(&rt, Lines::Whole, refusals::WHOLE)
-}
-
-#[test]
-fn examples_print_their_outputs(rt: HostRuntime) -> Result<(), Fail> {
-    are_called(&rt, Lines::Whole, examples::A_TO_M)?;
-    are_called(&rt, Lines::Whole, examples::N_TO_Z)
-}
-
-#[test]
-fn code_texts_are_checked_and_run(rt: HostRuntime) -> Result<(), Fail> {
-    are_called(&rt, Lines::Whole, emitting::CHECKED)?;
-    are_called(&rt, Lines::Whole, codes::OTHERS)?;
-    are_called(&rt, Lines::Edits(codes::ONE_OBJECT), codes::OTHER_OBJECTS)?;
-    are_called(&rt, Lines::Edits(codes::DIVISION), codes::OTHER_PLACES)
-}
-
-#[test]
-fn runs_are_recorded(rt: HostRuntime) -> Result<(), Fail> {
-    are_called(&rt, Lines::Whole, journals::RECORDED)
-}
-
-#[test]
-fn journals_are_replayed(rt: HostRuntime) -> Result<(), Fail> {
-    are_called(&rt, Lines::Whole, journals::REPLAYED)?;
-    are_called(&rt, Lines::Whole, journals::REFUSED)
-}
-
-#[test]
-fn a_text_has_at_most_one_mebibyte(rt: HostRuntime) -> Result<(), Fail> {
+fn a_text_has_at_most_one_mebibyte(rt: HostRuntime) -> Result<(), AllocError> {
     let longer = vec![in rt.alloc(); b' '; 1_048_577]?;
     let most = longer.as_slice().get(1..).unwrap_or(&[]);
     let report = "rgo: 1:1048577: syntax\n";
     expect(&rt, "rgo run", most, SOUND, ("", report, 1))?;
     let report = "rgo: text longer than 1048576 bytes\n";
-    expect(&rt, "rgo run", &longer, SOUND, ("", report, 1))?;
-    Ok(())
-}
-
-/// A text whose `main` has a number in `depth` parentheses.
-fn nested(alloc: Global, depth: usize) -> Result<Vec<u8>, AllocError> {
-    let mut text = with_head(alloc, "func main() { x := ")?;
-    text.pop();
-    text.extend_from_slice(&vec![in alloc; b'('; depth]?)?;
-    text.push(b'1')?;
-    text.extend_from_slice(&vec![in alloc; b')'; depth]?)?;
-    text.extend_from_slice(b" }\n")?;
-    Ok(text)
+    expect(&rt, "rgo run", &longer, SOUND, ("", report, 1))
 }
 
 #[test]
-fn nesting_has_a_limit(rt: HostRuntime) -> Result<(), Fail> {
-    for (depth, report, status) in [(198, "", 0), (199, "rgo: 4:218: nesting\n", 1)] {
-        let text = nested(rt.alloc(), depth)?;
-        expect(&rt, "rgo run", &text, SOUND, ("", report, status))?;
-    }
-    Ok(())
-}
-
-#[test]
-fn a_text_is_refused_wherever_it_is_cut(rt: HostRuntime) -> Result<(), Fail> {
+fn a_text_is_refused_wherever_it_is_cut(rt: HostRuntime) -> Result<(), AllocError> {
     let text = with_head(rt.alloc(), "func main() { fmt.Println(\"hi\", 1, true) }")?;
     same(&rt, "the length", &text.len(), &99);
     for k in 0..100 {
-        let cut = text.as_slice().get(..k).unwrap_or(&[]);
+        let cut = text.as_bytes().get(..k).unwrap_or(&[]);
         let found = called(&rt, "rgo run", cut, SOUND, &NoGate)?;
         let wanted = if k < 98 { (1, 0) } else { (0, 10) };
-        let found = (found.status, found.print.len());
+        let found = (found.status, found.out.bytes().len());
         same(&rt, str::from_utf8(cut).unwrap_or("?"), &found, &wanted);
     }
     Ok(())

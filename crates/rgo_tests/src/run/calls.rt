@@ -29,10 +29,8 @@ pub(super) const SOUND: Outside = Outside(1000, 0, 0, 0);
 pub(super) type Wanted<'a> = (&'a str, &'a str, u8);
 
 /// The line after the head, as a text.
-pub(super) fn with_head(alloc: Global, line: &str) -> Result<Vec<u8>, AllocError> {
-    format!(in alloc; "{HEAD}{line}\n")?
-        .as_bytes()
-        .to_vec(alloc)
+pub(super) fn with_head(alloc: Global, line: &str) -> Result<String, AllocError> {
+    format!(in alloc; "{HEAD}{line}\n")
 }
 
 /// Calls `rgo` with the words of a line, and returns the status. It says nothing of the call, so that the tests are
@@ -55,11 +53,11 @@ pub(super) fn status_of<
     Ok(rgo(rt, rt.alloc(), &words, source, out, err, gate))
 }
 
-/// What a call prints and reports, and the status.
+/// The sinks with what a call printed and reported, and the status.
 #[derive(Drop)]
 pub(super) struct Outcome {
-    pub(super) print: Vec<u8>,
-    pub(super) report: Vec<u8>,
+    pub(super) out: MemSink,
+    pub(super) err: MemSink,
     pub(super) status: u8,
 }
 
@@ -79,11 +77,7 @@ pub(super) fn outcome_of<R: Threads + Wait + AllocGlobal + Sync, S: Source, G: G
     let mut out = sink(alloc, failing.0)?;
     let mut err = sink(alloc, failing.1)?;
     let status = status_of(rt, line, source, &mut out, &mut err, gate)?;
-    Ok(Outcome {
-        print: out.bytes().to_vec(alloc)?,
-        report: err.bytes().to_vec(alloc)?,
-        status,
-    })
+    Ok(Outcome { out, err, status })
 }
 
 /// Ends the test, with the words and the text, unless these bytes were written.
@@ -105,8 +99,8 @@ pub(super) fn is_wanted<R: Abort>(
     wanted: Wanted<'_>,
 ) {
     let (print, report, status) = wanted;
-    wrote(rt, words, text, &found.print, print);
-    wrote(rt, words, text, &found.report, report);
+    wrote(rt, words, text, found.out.bytes(), print);
+    wrote(rt, words, text, found.err.bytes(), report);
     same(rt, words, &found.status, &status);
 }
 
@@ -128,46 +122,20 @@ pub(super) fn called<R: Threads + Wait + AllocGlobal + Sync, G: Gate + Sync>(
     outcome_of(rt, words, &mut source, (out, err), gate)
 }
 
-/// Calls `rgo` with a text, and compares what is printed and reported, and the status.
-fn expect_of_words<R: Threads + Wait + Abort + AllocGlobal + Sync>(
-    rt: &R,
-    words: &str,
-    text: &[u8],
-    outside: Outside,
-    wanted: Wanted<'_>,
-) -> Result<(), AllocError> {
-    let found = called(rt, words, text, outside, &NoGate)?;
-    is_wanted(rt, words, text, &found, wanted);
-    Ok(())
-}
-
 /// The numbers of workers with which a run is called that names none, as words.
 static WORKERS: [&str; 4] = [" --workers 1", " --workers 2", " --workers 7", ""];
 
-/// Calls a command that runs something with each number of workers.
-fn expect_of_workers<R: Threads + Wait + Abort + AllocGlobal + Sync>(
-    rt: &R,
-    command: &str,
-    options: &str,
-    text: &[u8],
-    outside: Outside,
-    wanted: Wanted<'_>,
-) -> Result<(), AllocError> {
-    for workers in &WORKERS {
-        let words = format!(in rt.alloc(); "{command}{workers}{options}")?;
-        expect_of_words(rt, &words, text, outside, wanted)?;
-    }
-    Ok(())
-}
+static AS_IT_IS: [&str; 1] = [""];
 
-/// The command of a line that runs something, and the rest of the line.
-fn run_in(words: &str) -> Option<(&str, &str)> {
+/// A call as its command, the numbers of workers with which it is made, as words, and its options.
+fn calls_of(words: &str) -> (&str, &'static [&'static str], &str) {
     for command in ["rgo runcode", "rgo run"] {
-        if let Some(options) = words.strip_prefix(command) {
-            return Some((command, options));
+        match words.strip_prefix(command) {
+            Some(options) if !options.contains("--workers") => return (command, &WORKERS, options),
+            _ => {}
         }
     }
-    None
+    (words, &AS_IT_IS, "")
 }
 
 /// Calls `rgo` with a text, and compares what is printed and reported, and the status. A run that names no number of
@@ -179,10 +147,11 @@ pub(super) fn expect<R: Threads + Wait + Abort + AllocGlobal + Sync>(
     outside: Outside,
     wanted: Wanted<'_>,
 ) -> Result<(), AllocError> {
-    match run_in(words) {
-        Some((command, options)) if !options.contains("--workers") => {
-            expect_of_workers(rt, command, options, text, outside, wanted)
-        }
-        _ => expect_of_words(rt, words, text, outside, wanted),
+    let (command, numbers, options) = calls_of(words);
+    for workers in numbers {
+        let words = format!(in rt.alloc(); "{command}{workers}{options}")?;
+        let found = called(rt, &words, text, outside, &NoGate)?;
+        is_wanted(rt, &words, text, &found, wanted);
     }
+    Ok(())
 }

@@ -1,7 +1,8 @@
 //! Code texts that are run or refused, as tables of calls, worked out by hand from the meaning of their instructions.
 
-/// The code of `x := new(N); fmt.Println(x.v)`.
-pub(super) const ONE_OBJECT: &str = "\
+/// The code of `x := new(N); fmt.Println(x.v)`, and others that differ from it.
+pub(super) const OBJECTS: &str = "
+> rgo code
 rgo code 1
 struct N int *N
 func main 0 - -
@@ -15,15 +16,23 @@ entry -[]
 3 @95 +[] print v2 -[]
 4 @101 +[] return -
 end
-";
-
-/// Calls with that code, and with others that differ from it.
-pub(super) const OTHER_OBJECTS: &str = "
-> rgo code
 
 < 0
 
 > rgo runcode --stats
+rgo code 1
+struct N int *N
+func main 0 - -
+var *N r0
+var *N r0
+var int -
+entry -[]
+0 @76 +[r0] new v0 N -[]
+1 @73 +[] copy v1 v0 -[]
+2 @98 +[] load v2 v1 0 -[r0]
+3 @95 +[] print v2 -[]
+4 @101 +[] return -
+end
 
 < 0
 0
@@ -31,69 +40,181 @@ pub(super) const OTHER_OBJECTS: &str = "
 rgo: regions 1 removed 1 pages 1 returned 1 objects 1 goroutines 1
 
 > rgo runcode --stats // the object is in the region of the package variables, as no compiler would have it
-var *N r0 => var *N G
-[r0] => []
+rgo code 1
+struct N int *N
+func main 0 - -
+var *N G
+var *N G
+var int -
+entry -[]
+0 @76 +[] new v0 N -[]
+1 @73 +[] copy v1 v0 -[]
+2 @98 +[] load v2 v1 0 -[]
+3 @95 +[] print v2 -[]
+4 @101 +[] return -
+end
+
 < 0
 0
 !
 rgo: regions 0 removed 0 pages 1 returned 0 objects 1 goroutines 1
 
 > rgo runcode // a nil pointer
-var *N r0 => var *N G
-[r0] => []
-new v0 N => nil v0
+rgo code 1
+struct N int *N
+func main 0 - -
+var *N G
+var *N G
+var int -
+entry -[]
+0 @76 +[] nil v0 -[]
+1 @73 +[] copy v1 v0 -[]
+2 @98 +[] load v2 v1 0 -[]
+3 @95 +[] print v2 -[]
+4 @101 +[] return -
+end
+
 < 2
 !
 rgo: @98: trap 1 NilPointer
 
 > rgo runcode --stats // a nil pointer, and what was made
-var *N r0 => var *N G
-[r0] => []
-new v0 N => nil v0
+rgo code 1
+struct N int *N
+func main 0 - -
+var *N G
+var *N G
+var int -
+entry -[]
+0 @76 +[] nil v0 -[]
+1 @73 +[] copy v1 v0 -[]
+2 @98 +[] load v2 v1 0 -[]
+3 @95 +[] print v2 -[]
+4 @101 +[] return -
+end
+
 < 2
 !
 rgo: regions 0 removed 0 pages 0 returned 0 objects 0 goroutines 1
 rgo: @98: trap 1 NilPointer
 
 > rgo runcode --stats // a removal is missing: nothing runs
--[r0] => -[]
+rgo code 1
+struct N int *N
+func main 0 - -
+var *N r0
+var *N r0
+var int -
+entry -[]
+0 @76 +[r0] new v0 N -[]
+1 @73 +[] copy v1 v0 -[]
+2 @98 +[] load v2 v1 0 -[]
+3 @95 +[] print v2 -[]
+4 @101 +[] return -
+end
+
 < 1
 !
 rgo: line 10: code 13
 
 > rgo runcode // of the rules that are broken, the least
-load v2 v1 0 -[r0] => load v2 v1 1 -[]
+rgo code 1
+struct N int *N
+func main 0 - -
+var *N r0
+var *N r0
+var int -
+entry -[]
+0 @76 +[r0] new v0 N -[]
+1 @73 +[] copy v1 v0 -[]
+2 @98 +[] load v2 v1 1 -[]
+3 @95 +[] print v2 -[]
+4 @101 +[] return -
+end
+
 < 1
 !
 rgo: line 10: code 2
 
 > rgo runcode // a variable is read before it is written
-+[r0] new v0 N => +[] jump 1
+rgo code 1
+struct N int *N
+func main 0 - -
+var *N r0
+var *N r0
+var int -
+entry -[]
+0 @76 +[] jump 1 -[]
+1 @73 +[] copy v1 v0 -[]
+2 @98 +[] load v2 v1 0 -[r0]
+3 @95 +[] print v2 -[]
+4 @101 +[] return -
+end
+
 < 1
 !
 rgo: line 7: code 8
 
 > rgo runcode // the first line without form
-rgo code 1 => rgo code 2
+rgo code 2
+struct N int *N
+func main 0 - -
+var *N r0
+var *N r0
+var int -
+entry -[]
+0 @76 +[r0] new v0 N -[]
+1 @73 +[] copy v1 v0 -[]
+2 @98 +[] load v2 v1 0 -[r0]
+3 @95 +[] print v2 -[]
+4 @101 +[] return -
+end
+
 < 1
 !
 rgo: line 1: code text
 
 > rgo runcode // the text ends too early
-return -~end => return -
+rgo code 1
+struct N int *N
+func main 0 - -
+var *N r0
+var *N r0
+var int -
+entry -[]
+0 @76 +[r0] new v0 N -[]
+1 @73 +[] copy v1 v0 -[]
+2 @98 +[] load v2 v1 0 -[r0]
+3 @95 +[] print v2 -[]
+4 @101 +[] return -
+
 < 1
 !
 rgo: line 13: code text
 
 > rgo runcode // no main
-func main => func mane
+rgo code 1
+struct N int *N
+func mane 0 - -
+var *N r0
+var *N r0
+var int -
+entry -[]
+0 @76 +[r0] new v0 N -[]
+1 @73 +[] copy v1 v0 -[]
+2 @98 +[] load v2 v1 0 -[r0]
+3 @95 +[] print v2 -[]
+4 @101 +[] return -
+end
+
 < 1
 !
 rgo: line 14: code 1
 ";
 
-/// A division by zero.
-pub(super) const DIVISION: &str = "\
+/// A division by zero. A place may be any number below 4294967296.
+pub(super) const PLACES: &str = "
+> rgo runcode
 rgo code 1
 func main 0 - -
 var int -
@@ -104,18 +225,23 @@ entry -[]
 2 @4294967294 +[] bin v0 div v0 v1 -[]
 3 @0 +[] return -
 end
-";
-
-/// A place may be any number below 4294967296.
-pub(super) const OTHER_PLACES: &str = "
-> rgo runcode
 
 < 2
 !
 rgo: @4294967294: trap 3 DivideZero
 
 > rgo runcode
-2 @4294967294 => 2 @0
+rgo code 1
+func main 0 - -
+var int -
+var int -
+entry -[]
+0 @4294967295 +[] int v0 1 -[]
+1 @0 +[] int v1 0 -[]
+2 @0 +[] bin v0 div v0 v1 -[]
+3 @0 +[] return -
+end
+
 < 2
 !
 rgo: @0: trap 3 DivideZero

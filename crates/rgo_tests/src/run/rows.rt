@@ -12,23 +12,11 @@
 //! A row begins after an empty line. The remark may be missing, and so may `!` with what follows. Several calls may stand on
 //! the first line, with `|` between them.
 
-use super::calls::{HEAD, SOUND, expect};
-use std::alloc::Global;
+use super::calls::{Outside, expect};
+use std::alloc::AllocError;
 use std::process::Abort;
 use std::sync::Wait;
-use std::test::Fail;
 use std::thread::Threads;
-
-/// What the lines of a row are.
-#[derive(Clone, Copy)]
-pub(super) enum Lines<'a> {
-    /// A text.
-    Whole,
-    /// What follows the head and these lines.
-    After(&'a str),
-    /// How a text differs from this one: `old => new`, wherever `old` stands. A `~` stands for a newline.
-    Edits(&'a str),
-}
 
 /// Calls, and what is wanted of each.
 #[derive(Clone, Copy)]
@@ -61,55 +49,48 @@ fn row_of(row: &str) -> Option<Row<'_>> {
     })
 }
 
-/// Changes a text as a line says.
-fn edited(alloc: Global, text: &str, line: &str) -> Result<String, Fail> {
-    let edit = line.replace(alloc, "~", "\n")?;
-    match edit.split_once(" => ") {
-        Some((old, new)) if text.contains(old) => Ok(text.replace(alloc, old, new)?),
-        _ => Err(Fail::new(format_args!("not an edit: {line}"))),
-    }
-}
-
-/// The text of which these are the lines.
-fn text_of(alloc: Global, kind: Lines<'_>, lines: &str) -> Result<String, Fail> {
-    match kind {
-        Lines::Whole => Ok(String::from_str(alloc, lines)?),
-        Lines::After(others) => Ok(format!(in alloc; "{HEAD}{others}{lines}\n")?),
-        Lines::Edits(base) => {
-            let mut text = String::from_str(alloc, base)?;
-            for line in lines.lines() {
-                text = edited(alloc, &text, line)?;
-            }
-            Ok(text)
-        }
+/// What is called for a row without form: words that no call has, of which no report is wanted.
+fn not_a_row(row: &str) -> Row<'_> {
+    Row {
+        calls: "not a row",
+        lines: row,
+        status: 0,
+        print: "",
+        report: "",
     }
 }
 
 /// Calls `rgo` as a row says.
 fn is_called<R: Threads + Wait + Abort + AllocGlobal + Sync>(
     rt: &R,
-    kind: Lines<'_>,
+    before: &str,
     row: &str,
-) -> Result<(), Fail> {
-    let Some(found) = row_of(row) else {
-        return Err(Fail::new(format_args!("not a row: {row}")));
-    };
-    let text = text_of(rt.alloc(), kind, found.lines)?;
+    after: &str,
+    outside: Outside,
+) -> Result<(), AllocError> {
+    let found = row_of(row).unwrap_or(not_a_row(row));
+    let lines = found.lines;
+    let text = format!(in rt.alloc(); "{before}{lines}{after}")?;
     let wanted = (found.print, found.report, found.status);
     for words in found.calls.split(" | ") {
-        expect(rt, words, text.as_bytes(), SOUND, wanted)?;
+        expect(rt, words, text.as_bytes(), outside, wanted)?;
     }
     Ok(())
 }
 
-/// Calls `rgo` as each row of a table says.
+/// Calls `rgo` as each row of a table says, with a text whose lines are between these others, and ends the test where it
+/// does something else.
 pub(super) fn are_called<R: Threads + Wait + Abort + AllocGlobal + Sync>(
     rt: &R,
-    kind: Lines<'_>,
+    before: &str,
     table: &str,
-) -> Result<(), Fail> {
+    after: &str,
+    outside: Outside,
+) {
     for row in table.strip_prefix("\n> ").unwrap_or(table).split("\n> ") {
-        is_called(rt, kind, row)?;
+        assert!(rt;
+            is_called(rt, before, row, after, outside).is_ok(),
+            "no memory"
+        );
     }
-    Ok(())
 }

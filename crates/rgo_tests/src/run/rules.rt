@@ -2,83 +2,56 @@
 
 use super::calls::{HEAD, SOUND, expect};
 use super::{broken_texts, rule_texts};
-use crate::rule_names::NAMES;
 use std::alloc::{AllocError, Global};
 use std::process::Abort;
 use std::sync::Wait;
-use std::test::Fail;
 use std::thread::Threads;
 
-/// What a check reports at a place: `syntax`, a broken rule by its number, or nothing if all is `ok`.
-fn report_of(alloc: Global, found: &str, at: &str) -> Result<String, AllocError> {
-    if found == "ok" {
+/// What a check reports: nothing if all is `ok`.
+fn report_of(alloc: Global, finding: &str) -> Result<String, AllocError> {
+    if finding == "ok" {
         return Ok(String::new(alloc));
     }
-    match found.parse::<usize>() {
-        Ok(rule) => {
-            let name = NAMES.lines().nth(rule.saturating_sub(1)).unwrap_or("?");
-            format!(in alloc; "rgo: {at}: type {name}\n")
-        }
-        Err(_) => format!(in alloc; "rgo: {at}: {found}\n"),
-    }
+    format!(in alloc; "rgo: {finding}\n")
 }
 
-/// Checks the text of a line, in which a `~` stands for a newline, between two others. Before it stands what is found and
-/// where.
+/// Checks the text of a row, in which a `~` stands for a newline, between two others. The finding is before the first `|`.
 fn is_checked<R: Threads + Wait + Abort + AllocGlobal + Sync>(
     rt: &R,
     before: &str,
-    line: &str,
+    row: &str,
     after: &str,
-) -> Result<(), Fail> {
+) -> Result<(), AllocError> {
     let alloc = rt.alloc();
-    let Some((found, rest)) = line.split_once(' ') else {
-        return Err(Fail::new(format_args!("not a row: {line}")));
-    };
-    let Some((at, lines)) = rest.split_once(' ') else {
-        return Err(Fail::new(format_args!("not a row: {line}")));
-    };
-    let lines = lines.replace(alloc, "~", "\n")?;
+    let (finding, lines) = row.split_once(" | ").unwrap_or(("not a row", row));
     let text = format!(in alloc; "{before}{lines}{after}")?;
-    let report = report_of(alloc, found, at)?;
+    let text = text.replace(alloc, "~", "\n")?;
+    let report = report_of(alloc, finding)?;
     let status = if report.is_empty() { 0 } else { 1 };
     let wanted = ("", report.as_str(), status);
-    expect(rt, "rgo check", text.as_bytes(), SOUND, wanted)?;
-    Ok(())
+    expect(rt, "rgo check", text.as_bytes(), SOUND, wanted)
 }
 
+/// Checks the text of each row of a table, and ends the test where something else is found.
 fn are_checked<R: Threads + Wait + Abort + AllocGlobal + Sync>(
     rt: &R,
     before: &str,
     table: &str,
     after: &str,
-) -> Result<(), Fail> {
-    for line in table.lines() {
-        is_checked(rt, before, line, after)?;
+) {
+    for row in table.lines() {
+        assert!(rt; is_checked(rt, before, row, after).is_ok(), "no memory");
     }
-    Ok(())
-}
-
-/// Tables of lines after the head.
-static TABLES: [&str; 7] = [
-    rule_texts::RULES,
-    rule_texts::PASSING,
-    rule_texts::SYNTAX,
-    broken_texts::DECLARATIONS,
-    broken_texts::ORDER,
-    broken_texts::OPERATORS,
-    broken_texts::STATEMENTS,
-];
-
-#[test]
-fn lines_break_rules_or_pass(rt: HostRuntime) -> Result<(), Fail> {
-    for table in &TABLES {
-        are_checked(&rt, HEAD, table, "\n")?;
-    }
-    Ok(())
 }
 
 #[test]
-fn whole_texts_break_rules_or_pass(rt: HostRuntime) -> Result<(), Fail> {
-    are_checked(&rt, "", rule_texts::WHOLE, "")
+fn texts_break_rules_or_pass(rt: HostRuntime) {
+    are_checked(&rt, HEAD, rule_texts::RULES, "\n");
+    are_checked(&rt, HEAD, rule_texts::PASSING, "\n");
+    are_checked(&rt, HEAD, rule_texts::SYNTAX, "\n");
+    are_checked(&rt, HEAD, broken_texts::DECLARATIONS, "\n");
+    are_checked(&rt, HEAD, broken_texts::ORDER, "\n");
+    are_checked(&rt, HEAD, broken_texts::OPERATORS, "\n");
+    are_checked(&rt, HEAD, broken_texts::STATEMENTS, "\n");
+    are_checked(&rt, "", rule_texts::WHOLE, "");
 }

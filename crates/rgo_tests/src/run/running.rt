@@ -1,7 +1,10 @@
 //! Lines after the head, with what a run prints, worked out from the words of the language, as tables of calls.
 
-/// The list of the numbers below n, and the sum of a list.
+/// The head, the list of the numbers below n, and the sum of a list.
 pub(super) const LISTS: &str = "\
+package main
+import \"fmt\"
+type N struct { v int; p *N }
 func list(n int) *N { var l *N; for i := 0; i < n; i++ { l = &N{i, l} }; return l }
 func sum(l *N) int { s := 0; for l != nil { s += l.v; l = l.p }; return s }
 ";

@@ -6,9 +6,9 @@ use crate::checks::same;
 use rgo_big::big_source;
 use rgo_outside::{Gate, NoGate};
 use rgo_sched_tests::Meeting;
+use std::alloc::AllocError;
 use std::process::Abort;
 use std::sync::Wait;
-use std::test::Fail;
 use std::thread::Threads;
 
 /// Both goroutines need several turns.
@@ -16,9 +16,6 @@ const TWO: &str = "\
 func sum(n int) int { s := 0; for i := 0; i < n; i++ { s += i }; return s }
 func half(c chan int) { c <- sum(2000) }
 func main() { c := make(chan int); go half(c); s := sum(2000); fmt.Println(s + <-c) }";
-
-/// Texts, with what they print.
-static ROWS: [(&str, &str); 2] = [(TWO, "3998000\n"), (ECHO, "1\n11\n21\n31\n41\n")];
 
 /// Holds workers 0 and 1 in round 2 until both have arrived in it.
 #[derive(Drop)]
@@ -34,32 +31,38 @@ impl Gate for Holding {
     }
 }
 
-/// Runs a text, and returns how many workers have arrived in round 2, and whether one of them missed the other.
-fn arrivals<R: Threads + Wait + Abort + AllocGlobal + Sync>(
+/// Calls `rgo` with a text, and compares how many workers have arrived in round 2, of which none misses the other.
+fn have_arrived<R: Threads + Wait + Abort + AllocGlobal + Sync>(
     rt: &R,
-    line: &str,
+    calls: &str,
     text: &str,
     print: &str,
-) -> Result<(u32, bool), Fail> {
+    wanted: u32,
+) -> Result<(), AllocError> {
     let text = with_head(rt.alloc(), text)?;
-    let gate = Holding {
-        round_2: Meeting::new(2),
-    };
-    let found = called(rt, line, &text, SOUND, &gate)?;
-    is_wanted(rt, line, &text, &found, (print, "", 0));
-    Ok((gate.round_2.arrived(), gate.round_2.missed()))
-}
-
-#[test]
-fn workers_wait_for_one_another(rt: HostRuntime) -> Result<(), Fail> {
-    for (text, print) in &ROWS {
-        for line in ["rgo run", "rgo run --workers 2", "rgo run --workers 7"] {
-            same(&rt, line, &arrivals(&rt, line, text, print)?, &(2, false));
-        }
-        let one = "rgo run --workers 1";
-        same(&rt, one, &arrivals(&rt, one, text, print)?, &(0, false));
+    for words in calls.split(" | ") {
+        let gate = Holding {
+            round_2: Meeting::new(2),
+        };
+        let found = called(rt, words, text.as_bytes(), SOUND, &gate)?;
+        is_wanted(rt, words, text.as_bytes(), &found, (print, "", 0));
+        let arrived = (gate.round_2.arrived(), gate.round_2.missed());
+        same(rt, words, &arrived, &(wanted, false));
     }
     Ok(())
+}
+
+/// Calls in which several workers run.
+const SEVERAL: &str = "rgo run | rgo run --workers 2 | rgo run --workers 7";
+
+#[test]
+fn workers_wait_for_one_another(rt: HostRuntime) -> Result<(), AllocError> {
+    let sum = "3998000\n";
+    have_arrived(&rt, SEVERAL, TWO, sum, 2)?;
+    have_arrived(&rt, "rgo run --workers 1", TWO, sum, 0)?;
+    let echo = "1\n11\n21\n31\n41\n";
+    have_arrived(&rt, SEVERAL, ECHO, echo, 2)?;
+    have_arrived(&rt, "rgo run --workers 1", ECHO, echo, 0)
 }
 
 /// How many goroutines the large text starts, and what it prints. With at most seven, all run on workers in a round.
@@ -71,7 +74,7 @@ static LARGE: [(u32, &str); 4] = [
 ];
 
 #[test]
-fn the_large_text_runs_on_any_number_of_workers(rt: HostRuntime) -> Result<(), Fail> {
+fn the_large_text_runs_on_any_number_of_workers(rt: HostRuntime) -> Result<(), AllocError> {
     for (goroutines, print) in &LARGE {
         for words in ["rgo run", "rgo run --workers 8", "rgo run --workers 64"] {
             let text = big_source(rt.alloc(), *goroutines)?;
@@ -82,11 +85,10 @@ fn the_large_text_runs_on_any_number_of_workers(rt: HostRuntime) -> Result<(), F
 }
 
 #[test]
-fn the_code_of_the_large_text_does_what_the_text_does(rt: HostRuntime) -> Result<(), Fail> {
+fn the_code_of_the_large_text_does_what_the_text_does(rt: HostRuntime) -> Result<(), AllocError> {
     let text = big_source(rt.alloc(), 100)?;
     let emitted = called(&rt, "rgo emit", &text, SOUND, &NoGate)?;
     same(&rt, "rgo emit", &emitted.status, &0);
     let wanted = ("100 1650\n", "", 0);
-    expect(&rt, "rgo runcode", &emitted.print, SOUND, wanted)?;
-    Ok(())
+    expect(&rt, "rgo runcode", emitted.out.bytes(), SOUND, wanted)
 }
