@@ -6,7 +6,7 @@ use Rattle.rgo_core_channels.specs.Deadlock.{Blocked}
 use Rattle.rgo_core_channels.specs.Records.{Offering}
 use Rattle.rgo_core_rule.specs.declared.accesses.Access.{Access}
 use Rattle.rgo_core_rule.specs.declared.accesses.Kind.TheVariants.{Load, LoadControl, LockChannel}
-use Rattle.rgo_core.proofs.Standing.{moment}
+use Rattle.rgo_core.specs.Moments.{moment}
 use Rattle.rgo_core.specs.AtChannels.{IsAtChannel}
 use Rattle.rgo_core.specs.Core.{Here, Setup}
 use Rattle.rgo_core.specs.Records.{Record}

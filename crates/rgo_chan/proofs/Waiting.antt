@@ -23,7 +23,8 @@ use Rattle.rgo_core_memory.specs.Accesses.{Before}
 use Rattle.rgo_sound.proofs.Places.{contains_here}
 use Rattle.rgo_core.proofs.AtChannels.{at_channel, calm, live, next, object, place_is}
 use Rattle.rgo_core.proofs.Operands.{before, rule}
-use Rattle.rgo_core.proofs.Standing.{at_instruction, moment, side_at}
+use Rattle.rgo_core.proofs.Standing.{at_instruction, side_at}
+use Rattle.rgo_core.specs.Moments.{moment}
 use Rattle.rgo_core.specs.AtChannels.{Operates}
 use Rattle.rgo_core.specs.Core.{Here, Setup}
 use Rattle.rgo_core.specs.Next.{IsAt}

@@ -3,7 +3,7 @@ use Rattle.std.specs.Prelude.{◌≡◌, ◌+◌, ◌%◌, ℕ, slice_index}
 use Rattle.rgo_core_channels.specs.Deadlock.{Blocked}
 use Rattle.rgo_core_channels.specs.Records.{Free, Offering, Shut, Stranded}
 use Rattle.rgo_core_rule.specs.Views.{Me}
-use Rattle.rgo_core.proofs.Standing.{moment}
+use Rattle.rgo_core.specs.Moments.{moment}
 use Rattle.rgo_core.specs.AtChannels.{IsAtChannel}
 use Rattle.rgo_core.specs.CommitMoves.{IsAtSend}
 use Rattle.rgo_core.specs.Core.{Here, Setup}

@@ -33,7 +33,8 @@ use Rattle.rgo_core.specs.Steps.{Does, SameClock}
 use Rattle.rgo_core.proofs.Leaving.{before_cells, owner_of}
 use Rattle.rgo_core.proofs.Parts.{I, image_with}
 use Rattle.rgo_core.specs.Links.{Links}
-use Rattle.rgo_core.proofs.Standing.{side_at, moment}
+use Rattle.rgo_core.proofs.Standing.{side_at}
+use Rattle.rgo_core.specs.Moments.{moment}
 use Rattle.rgo_core.proofs.Counting.{plus_zero}
 
 -- memory, owners and print stay

@@ -24,7 +24,8 @@ use Rattle.rgo_core.specs.Steps.{Stays}
 use Rattle.rgo_core.proofs.AtChannels.{Reaches, at_channel, reaches}
 use Rattle.rgo_core.proofs.Leaving.{channel_stands}
 use Rattle.rgo_core.proofs.Parts.{frame_stays, image_with, memory_stays}
-use Rattle.rgo_core.proofs.Standing.{moment, side_at}
+use Rattle.rgo_core.proofs.Standing.{side_at}
+use Rattle.rgo_core.specs.Moments.{moment}
 use Rattle.rgo_core_memory.specs.Owed.{claimed_for}
 use Rattle.rgo_core.proofs.Links.{ClaimsStay, Waits, all_kept, claims_high, lengths_shown, links_with}
 use Rattle.rgo_core.proofs.Lift.{moves_by}

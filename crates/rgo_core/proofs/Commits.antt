@@ -58,7 +58,8 @@ use Rattle.rgo_core.proofs.ChannelMoves.{above, high, written}
 use Rattle.rgo_core.proofs.Encodings.{shows_it, word_is}
 use Rattle.rgo_core.proofs.Leaving.{channel_stands}
 use Rattle.rgo_core.proofs.Parts.{adds_of, image_with, memory_stays, shallow}
-use Rattle.rgo_core.proofs.Standing.{moment, side_at}
+use Rattle.rgo_core.proofs.Standing.{side_at}
+use Rattle.rgo_core.specs.Moments.{moment}
 use Rattle.rgo_core.proofs.Links.{CountsOne, all_kept, links_beside, one_later}
 use Rattle.rgo_core.proofs.Counting.{instructed_counts}
 use Rattle.rgo_core.proofs.Lift.{moves_by}

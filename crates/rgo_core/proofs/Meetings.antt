@@ -59,7 +59,8 @@ use Rattle.rgo_core.proofs.Bounds.{LeadsToLive, leads_in, typed_at}
 use Rattle.rgo_core.proofs.Encodings.{OperandsFit, operands_fit, word_is}
 use Rattle.rgo_core.proofs.MakesObject.{type_alike}
 use Rattle.rgo_core.proofs.Parts.{adds_of, image_with, memory_stays, shallow}
-use Rattle.rgo_core.proofs.Standing.{frames_here, moment, side_at}
+use Rattle.rgo_core.proofs.Standing.{frames_here, side_at}
+use Rattle.rgo_core.specs.Moments.{moment}
 use Rattle.rgo_core.proofs.Links.{CountsOne, IsElsewhere, all_kept, as_much, at_send, links_beside, one_later}
 use Rattle.rgo_core.proofs.Lift.{moves_by}
 use Rattle.rgo_core.proofs.AtChannels.{same_operands, standing_or_taken}

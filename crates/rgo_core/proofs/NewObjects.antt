@@ -63,7 +63,8 @@ use Rattle.rgo_core.proofs.Encodings.{held_made, old_code, operand_made, small_w
 use Rattle.rgo_core.proofs.Leaving.{above_fill, channel_stands, channel_word, touch_more}
 use Rattle.rgo_core.proofs.MakesObject.{Made, at, b, made as it_makes}
 use Rattle.rgo_core.proofs.Parts.{I}
-use Rattle.rgo_core.proofs.Standing.{memory_at, side_at, moment}
+use Rattle.rgo_core.proofs.Standing.{memory_at, side_at}
+use Rattle.rgo_core.specs.Moments.{moment}
 use Rattle.rgo_core.proofs.Counting.{plus_zero}
 
 -- ---- the channel that is made, if one is

@@ -27,7 +27,8 @@ use Rattle.rgo_core.specs.Steps.{Does}
 use Rattle.rgo_core.proofs.Leaving.{touch_same}
 use Rattle.rgo_core.proofs.Parts.{I, adds_of, as_many, image_with, memory_stays, shallow}
 use Rattle.rgo_core.proofs.Links.{ClaimsStay, CountsOne, LengthsStay, all_kept, links_with, one_later}
-use Rattle.rgo_core.proofs.Standing.{side_at, moment}
+use Rattle.rgo_core.proofs.Standing.{side_at}
+use Rattle.rgo_core.specs.Moments.{moment}
 use Rattle.rgo_core.proofs.Counting.{instructed_counts, plus_zero}
 
 module _ {T : Setup} {g : ℕ} {c : Record} (x : Here T g c) (rests : c.side ≡ at_rest) (mem : Heap) (h : Holder) (e : FrameRec)

@@ -3,7 +3,6 @@ use Rattle.std.proofs.Common.{◌≡◌, inl, ℕ, ◌<◌, List, Some, length, 
 use Rattle.rgo_code.specs.Code.{CodeOp}
 use Rattle.rgo_core_channels.proofs.Quiet as channel_laws
 use Rattle.rgo_core_channels.specs.Channels.{Channels, Places}
-use Rattle.rgo_core_channels.specs.Moments.{Moment}
 use Rattle.rgo_core_channels.specs.Records.{Rec as SideRec}
 use Rattle.rgo_core_frames.proofs.Before.{before_law}
 use Rattle.rgo_core_frames.specs.Records.{Rec as FrameRec}
@@ -45,23 +44,6 @@ module _ {T : Setup} {g : ℕ} {c : Record} (x : Here T g c) where
     sound = x.core.sound;
     all = x.core.image.frames;
     is_c = frame_at;
-  }
-
-  abbrev pub moment : Moment
-  moment = record {
-    code = T.code;
-    page_words = T.sizes.page_words;
-    checked = x.core.sound.checked;
-    ascends = x.core.sound.written;
-    encode = code_of (layout T) x.core.image.places;
-    place = place_of (layout T) x.core.image.places;
-    words = x.words;
-    recs = map side_of x.recs;
-    state = x.s;
-    good = x.core.sound.good;
-    running = x.core.sound.running;
-    at = x.core.image.at;
-    channels = x.core.image.channels;
   }
 
   abbrev pub at_instruction : {op : CodeOp} → IsAt T.code c op → AtInstruction

@@ -19,7 +19,8 @@ use Rattle.rgo_sound.specs.Leaving.{ActsAlone}
 use Rattle.rgo_core.specs.Core.{Here, Setup, layout}
 use Rattle.rgo_core.specs.Image.{Image, place_of}
 use Rattle.rgo_core.specs.Records.{Record, frame_of, memory_of, side_of}
-use Rattle.rgo_core.proofs.Standing.{memory_at, moment, side_at}
+use Rattle.rgo_core.proofs.Standing.{memory_at, side_at}
+use Rattle.rgo_core.specs.Moments.{moment}
 use Rattle.rgo_core.proofs.Leaving.{touch_same}
 
 -- channels and what records know of them, where so many goroutines have started

@@ -52,7 +52,8 @@ use Rattle.rgo_core.specs.TrapMoves.{CloseNilMove, CloseTrapMove, SendTrapMove, 
 use Rattle.rgo_core.proofs.AtChannels.{calm, here, live, next, object, place_is, points_to}
 use Rattle.rgo_core.proofs.AtChannels.{same_operands, standing_or_taken}
 use Rattle.rgo_core.proofs.Operands as operands
-use Rattle.rgo_core.proofs.Standing.{at_instruction, frame_at, frames_here, image_same, moment, side_at}
+use Rattle.rgo_core.proofs.Standing.{at_instruction, frame_at, frames_here, image_same, side_at}
+use Rattle.rgo_core.specs.Moments.{moment}
 use Rattle.rgo_core.proofs.Traps.{by_ends, trap_ends}
 
 module _ {T : Setup} {g : ℕ} {c : Record} (x : Here T g c) (trap : Trap) (place : ℕ) (kept : ChannelTraps (moment x) g trap place)

@@ -9,6 +9,7 @@ pub mod Links
 pub mod Bounds
 pub mod BoundExamples
 pub mod Core
+pub mod Moments
 pub mod Next
 pub mod Steps
 pub mod ClockSteps
