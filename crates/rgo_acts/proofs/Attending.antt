@@ -51,7 +51,7 @@ use Rattle.rgo_body.specs.declared.bodies.Side.{Side}
 use Rattle.rgo_acts.specs.Actors.{Stands, Went, distance, now}
 use Rattle.rgo_acts.specs.Attending.{HasAttended, HasWaited, IsAtDuty, IsShort}
 use Rattle.rgo_acts.specs.Runs.{Run}
-use Rattle.rgo_acts.specs.Shortages.{AllInUse, Lacks}
+use Rattle.rgo_acts.specs.Shortages.{AllInUse, LacksSlot}
 use Rattle.rgo_acts.specs.declared.actors.Actor.{Actor}
 use Rattle.rgo_acts.proofs.Standing.{Continues, Follows, acted_by, acted_local, acted_none, acted_one, now_accesses, now_at_once}
 
@@ -102,7 +102,10 @@ no_slots r a b name before seat behind stays is sizes none = record {
       let owes = first r.setup r.program b.body (now r.setup b) (Create name) before.others
       (acted_none r a b before.stands seat behind (stays r.setup (now r.setup a) before.stands.shows)).stands.shows
       (ap (λ (x : Body). x.queue.duties) is ∙ before.owes) in
-      Lacks.Slot (name, (before.others ++ later r.program.code b.body), owes) (λ k low. absurd (omega (arith, few, low)));
+      record {
+        creates = (name, (before.others ++ later r.program.code b.body), owes);
+        in_use = λ k low. absurd (omega (arith, few, low));
+      };
 }
 
 -- ---- a region is created
@@ -232,14 +235,16 @@ module _ (r : Run) (a b : Actor) (name : ℕ) (before : IsAtDuty r a (Create nam
           };
           rest = is;
         };
-        lacks = Lacks.Slot (
-          name,
-          others,
-          ap (λ (x : Record). x.frame.holder.duties) here ∙ (ap (λ f. f.holder.duties) like.frame
-              ∙ owes_first r a (Create name) before),
-        )
-            (subst (λ (z : TableSizes). AllInUse (number_of a.seat.me) full.es CreateRegion (count_at z) z.slots) sizes
-            (λ k low. full.found k low));
+        lacks = record {
+          creates = (
+            name,
+            others,
+            ap (λ (x : Record). x.frame.holder.duties) here ∙ (ap (λ f. f.holder.duties) like.frame
+                ∙ owes_first r a (Create name) before),
+          );
+          in_use = subst (λ (z : TableSizes). AllInUse (number_of a.seat.me) full.es CreateRegion (count_at z) z.slots) sizes
+              (λ k low. full.found k low);
+        };
       }
 
 -- ---- a stake for a child

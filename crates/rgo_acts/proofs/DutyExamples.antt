@@ -12,7 +12,7 @@ use Rattle.rgo_core_steps.specs.Grown.{Found}
 use Rattle.rgo_region_machine.specs.States.{Duty}
 use Rattle.rgo_body.specs.declared.bodies.Body.{Body}
 use Rattle.rgo_acts.specs.DutyExamples.{DutyExamples, one_taken, two_taken}
-use Rattle.rgo_acts.specs.Shortages.{AllInUse, Lacks}
+use Rattle.rgo_acts.specs.Shortages.{AllInUse, LacksPage, LacksSlot}
 use Rattle.rgo_acts.proofs.Attending.{has_waited}
 
 some_duties : (d : Duty) (ds : List Duty) → ◌≡◌ {A = List Duty} [] (d ∷ ds) → ⊥
@@ -88,10 +88,12 @@ not_its all =
     each (λ a. a.by ≡ Some 0 → ⊥) (access 1 CreateRegion 0 2 2) (access 1 CreateRegion 1 4 4) not_zero not_zero
     x.2.place x.2.access x.2.there x.2.own
 
-lacks_none : (T : Setup) (c : Record) (es : List Access) → c.frame.frames ≡ [] → c.frame.holder.duties ≡ [] → Lacks T 1 c es → ⊥
-lacks_none T c es frames duties (Lacks.Page slot calm needs all) =
-    some_frames needs.next.here.w needs.next.here.ws (sym frames ∙ needs.next.here.frames)
-lacks_none T c es frames duties (Lacks.Slot (name, ds, owes) all) = some_duties _ ds (sym duties ∙ owes)
+makes_nothing : (T : Setup) (c : Record) (es : List Access) → c.frame.frames ≡ [] → LacksPage T 1 c es → ⊥
+makes_nothing T c es frames lacks =
+    some_frames lacks.needs.next.here.w lacks.needs.next.here.ws (sym frames ∙ lacks.needs.next.here.frames)
+
+owes_nothing : (T : Setup) (c : Record) (es : List Access) → c.frame.holder.duties ≡ [] → LacksSlot T 1 c es → ⊥
+owes_nothing T c es duties lacks = some_duties _ lacks.creates.1 (sym duties ∙ lacks.creates.2)
 
 pub duty_examples : DutyExamples
 duty_examples = record {
@@ -108,6 +110,7 @@ duty_examples = record {
   three = no_third;
   pages = no_pages;
   of_another = not_its;
-  no_slots = λ T c creates few. Lacks.Slot creates (λ k low. absurd (omega (arith, few, low)));
-  idle = lacks_none;
+  no_slots = λ T c creates few. record { creates = creates; in_use = λ k low. absurd (omega (arith, few, low)) };
+  idle = makes_nothing;
+  free = owes_nothing;
 }

@@ -38,7 +38,7 @@ use Rattle.rgo_acts.specs.Actors.{now}
 use Rattle.rgo_acts.specs.Objects.{HasNoPage, HasNoRoomHere, HasNoRoomIn, HasPage, IsNew}
 use Rattle.rgo_acts.specs.Ready.{IsBefore}
 use Rattle.rgo_acts.specs.Runs.{Run}
-use Rattle.rgo_acts.specs.Shortages.{AllInUse, Lacks, Page as OfPage}
+use Rattle.rgo_acts.specs.Shortages.{AllInUse, LacksPage}
 use Rattle.rgo_acts.specs.declared.actors.Actor.{Actor}
 use Rattle.rgo_acts.specs.declared.objects.New.{New}
 use Rattle.rgo_acts.proofs.Before.{rests}
@@ -214,11 +214,14 @@ module _ (r : Run) (a : Actor) (next : Next) (before : IsBefore r a next) (new :
         record {
           acted = acted;
           body = body;
-          lacks = subst (Lacks T (number_of a.seat.me) (now T b))
+          lacks = subst (LacksPage T (number_of a.seat.me) (now T b))
               (sym (same_back a.seat.me.0.seen acted.es full.es (sym acted.went.grew.seen ∙ full.grew.seen)))
-              (OfPage slot (subst IsCalm (sym (n ∙ e)) (missing_calm tries c calm))
-              (subst (λ (k : Record). NeedsPage T k slot) (sym (n ∙ e)) (missing_needs T slot tries c need))
-              (subst (λ (k : TableSizes). AllInUse (number_of a.seat.me) full.es ClaimPage (state_at k) k.pages) sizes full.found));
+              (record {
+                slot = slot;
+                calm = subst IsCalm (sym (n ∙ e)) (missing_calm tries c calm);
+                needs = subst (λ (k : Record). NeedsPage T k slot) (sym (n ∙ e)) (missing_needs T slot tries c need);
+                in_use = subst (λ (k : TableSizes). AllInUse (number_of a.seat.me) full.es ClaimPage (state_at k) k.pages) sizes full.found;
+              });
         }
 
     -- a page was free

@@ -7,7 +7,7 @@ use Rattle.rgo_core_rule.specs.Views.{number_of}
 use Rattle.rgo_region_machine.specs.States.{Duty}
 use Rattle.rgo_acts.specs.Actors.{Acted, Stands, distance, now}
 use Rattle.rgo_acts.specs.Runs.{Run}
-use Rattle.rgo_acts.specs.Shortages.{Lacks}
+use Rattle.rgo_acts.specs.Shortages.{LacksSlot}
 use Rattle.rgo_acts.specs.declared.actors.Actor.{Actor}
 use Rattle.rgo_acts.specs.declared.duties.Attended.{Attended}
 use Rattle.rgo_acts.specs.declared.duties.Attended.TheVariants.{Done, NoMemory, Short}
@@ -36,7 +36,7 @@ pub record HasWaited (r : Run) (a b : Actor) : Type 0 where
 -- No slot was free for the region that it is to create.
 pub record IsShort (r : Run) (a b : Actor) : Type 0 where
   pub waited : HasWaited r a b
-  pub lacks : Lacks r.setup (number_of a.seat.me) (now r.setup b) waited.acted.es
+  pub lacks : LacksSlot r.setup (number_of a.seat.me) (now r.setup b) waited.acted.es
 
 abbrev pub Attends : (r : Run) (a b : Actor) → Attended → Type 0
 Attends r a b Done = HasAttended r a b

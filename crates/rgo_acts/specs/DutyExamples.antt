@@ -10,7 +10,7 @@ use Rattle.rgo_region_machine.specs.States.{Duty}
 use Rattle.rgo_acts.specs.Actors.{Stands}
 use Rattle.rgo_acts.specs.Attending.{HasAttended, HasWaited, IsAtDuty}
 use Rattle.rgo_acts.specs.Runs.{Run}
-use Rattle.rgo_acts.specs.Shortages.{AllInUse, Lacks}
+use Rattle.rgo_acts.specs.Shortages.{AllInUse, LacksPage, LacksSlot}
 use Rattle.rgo_acts.specs.declared.actors.Actor.{Actor}
 
 -- goroutine 1 has found slots 0 and 1 in use
@@ -36,6 +36,7 @@ pub record DutyExamples : Type 0 where
   pub pages : AllInUse 1 two_taken ClaimPage (λ k. k) 1 → ⊥
   pub of_another : AllInUse 0 two_taken CreateRegion (λ k. k) 1 → ⊥
   -- a table without slots
-  pub no_slots : (T : Setup) (c : Record) → IsCreating c → T.sizes.regions ≡ 0 → Lacks T 1 c []
+  pub no_slots : (T : Setup) (c : Record) → IsCreating c → T.sizes.regions ≡ 0 → LacksSlot T 1 c []
   -- it makes nothing and owes nothing
-  pub idle : (T : Setup) (c : Record) (es : List Access) → c.frame.frames ≡ [] → c.frame.holder.duties ≡ [] → Lacks T 1 c es → ⊥
+  pub idle : (T : Setup) (c : Record) (es : List Access) → c.frame.frames ≡ [] → LacksPage T 1 c es → ⊥
+  pub free : (T : Setup) (c : Record) (es : List Access) → c.frame.holder.duties ≡ [] → LacksSlot T 1 c es → ⊥

@@ -22,7 +22,7 @@ use Rattle.rgo_body.specs.declared.nexts.Next.{Next}
 use Rattle.rgo_acts.specs.Actors.{Acted, now}
 use Rattle.rgo_acts.specs.Ready.{IsBefore}
 use Rattle.rgo_acts.specs.Runs.{Run}
-use Rattle.rgo_acts.specs.Shortages.{Lacks}
+use Rattle.rgo_acts.specs.Shortages.{LacksPage}
 use Rattle.rgo_acts.specs.Traps.{IsAtTrap}
 use Rattle.rgo_acts.specs.declared.actors.Actor.{Actor}
 use Rattle.rgo_acts.specs.declared.objects.Made.{Made}
@@ -40,7 +40,7 @@ pub record IsTooLarge (r : Run) (a b : Actor) : Type 0 where
 pub record HasNoPage (r : Run) (a b : Actor) : Type 0 where
   pub acted : Acted r a b 0 [] []
   pub body : b.body ≡ a.body
-  pub lacks : Lacks r.setup (number_of a.seat.me) (now r.setup b) acted.es
+  pub lacks : LacksPage r.setup (number_of a.seat.me) (now r.setup b) acted.es
 
 abbrev pub Makes : (r : Run) (a b : Actor) → Made → Type 0
 Makes r a b made.Done = Acted r a b 1 [] []

@@ -14,7 +14,14 @@ use Rattle.rgo_core_steps.specs.Making.{IsCalm, NeedsPage}
 abbrev pub AllInUse : (g : ℕ) → List Access → Kind → (at : ℕ → ℕ) → (n : ℕ) → Type 0
 AllInUse g es kind at n = (k : ℕ) → k < n → (found : ℕ) × (found ≢ 0) × Found g es kind (at k) found
 
--- Its next instruction needs a page, and no page was free; or its first duty creates a region, and no slot was free.
-pub data Lacks (T : Setup) (g : ℕ) (c : Record) (es : List Access) : Type 0 where
-  Page : (slot : ℕ) → IsCalm c → NeedsPage T c slot → AllInUse g es ClaimPage (state_at (layout T)) T.sizes.pages → Lacks T g c es
-  Slot : IsCreating c → AllInUse g es CreateRegion (count_at (layout T)) T.sizes.regions → Lacks T g c es
+-- its next instruction needs a page for this slot, and no page was free
+pub record LacksPage (T : Setup) (g : ℕ) (c : Record) (es : List Access) : Type 0 where
+  pub slot : ℕ
+  pub calm : IsCalm c
+  pub needs : NeedsPage T c slot
+  pub in_use : AllInUse g es ClaimPage (state_at (layout T)) T.sizes.pages
+
+-- its first duty creates a region, and no slot was free
+pub record LacksSlot (T : Setup) (g : ℕ) (c : Record) (es : List Access) : Type 0 where
+  pub creates : IsCreating c
+  pub in_use : AllInUse g es CreateRegion (count_at (layout T)) T.sizes.regions
