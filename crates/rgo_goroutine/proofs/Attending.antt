@@ -1,0 +1,93 @@
+-- Duties attended to, one after another.
+use Rattle.std.proofs.Common.{◌≡◌, ◌<◌, ℕ, true, false, List, [], ◌∷◌, Option, Some, None, MatchOption, is_some, length, refl, ap, sym, subst, ◌∙◌, arith}
+use Rattle.rgo_region_machine.specs.States.{Duty}
+use Rattle.rgo_body.specs.Queues.{duty_of}
+use Rattle.rgo_body.specs.declared.bodies.Body.{Body}
+use Rattle.rgo_body.specs.declared.bodies.Side.{Side}
+use Rattle.rgo_body.specs.declared.bodies.Side.TheVariants.{AtRest, Offering}
+use Rattle.rgo_body.specs.declared.queues.Duty.{Duty as DutyOf}
+use Rattle.rgo_acts.specs.Runs.{Run}
+use Rattle.rgo_goroutine.specs.Acting.{Acts, Goes}
+use Rattle.rgo_goroutine.specs.Instructions.{HasAttendedAll, HasAttendedOne}
+use Rattle.rgo_goroutine.specs.declared.goroutine.Goroutine.{Goroutine}
+use Rattle.rgo_goroutine.specs.declared.turning.Stop.{Stop}
+use Rattle.rgo_goroutine.specs.declared.turning.Turning.{Turning}
+use Rattle.rgo_goroutine.proofs.Joining.{acts_then}
+use Rattle.rgo_goroutine.proofs.Resting.{acts_moved, goes_moved}
+use Rattle.rgo_goroutine.proofs.TurnActs.{acts_none}
+
+-- ---- the first duty
+
+pub a_duty : (first : Option DutyOf) (ds : List Duty) → is_some first ≡ true
+    → MatchOption first (ds ≡ []) (λ d. (others : List Duty) × (ds ≡ duty_of d ∷ others))
+    → (d : Duty) × (others : List Duty) × (ds ≡ d ∷ others)
+a_duty None ds is m = cc
+a_duty (Some d) ds is m = (duty_of d, m.0, m.1)
+
+pub no_duty : (first : Option DutyOf) (ds : List Duty) → is_some first ≡ false
+    → MatchOption first (ds ≡ []) (λ d. (others : List Duty) × (ds ≡ duty_of d ∷ others)) → ds ≡ []
+no_duty None ds is m = m
+no_duty (Some d) ds is m = cc
+
+pub fewer : (b d : Body) → HasAttendedOne b d → length d.queue.duties < length b.queue.duties
+fewer b d one = let e = ap (λ (ds : List Duty). length ds) one.queue in omega (arith, e)
+
+-- ---- some are done
+
+pub record HasAttendedSome (r : Run) (old go : Goroutine) (t u : Turning) : Type 0 where
+  pub acts : Acts r old go t u None
+  pub same : u ≡ record t { moved = u.moved }
+  pub rests : go.actor.body.side ≡ AtRest
+  pub expanded : go.actor.body.is_expanded ≡ old.actor.body.is_expanded
+
+pub none_yet : (r : Run) (old : Goroutine) (t : Turning) → Goes r old t.left → t.changed.count < 8 → old.actor.body.side ≡ AtRest
+    → HasAttendedSome r old old t t
+none_yet r old t goes noted rests = record {
+  acts = acts_none r old t goes (omega (arith, noted));
+  same = refl;
+  rests = rests;
+  expanded = refl;
+}
+
+-- the turn is told first that the next one may move something
+module _ (r : Run) (old go : Goroutine) (t u v : Turning) (has : HasAttendedSome r old go t u) (e : v ≡ record u { moved = true }) where
+  pub still_goes : Goes r go v.left
+  still_goes = goes_moved r go u v e has.acts.goes
+
+  pub still_noted : t.changed.count < 8 → v.changed.count < 8
+  still_noted noted =
+      let a = ap (λ (x : Turning). x.changed.count) has.same in
+      let b = ap (λ (x : Turning). x.changed.count) e in
+      omega (arith, a, b, noted)
+
+  pub still_moved : v.moved ≡ true
+  still_moved = ap (λ (x : Turning). x.moved) e
+
+  pub still_same : v ≡ record t { moved = v.moved }
+  still_same =
+      e ∙ (ap (λ (x : Turning). record x { moved = true }) has.same ∙ ap (λ m. record t { moved = m }) (sym still_moved))
+
+  pub also : (new : Goroutine) (answer : Option Stop) → Acts r go new v v answer → Acts r old new t v answer
+  also new answer acts = acts_then r old go new t u v answer has.acts (acts_moved r go new u v v answer e acts)
+
+  pub one_more : (new : Goroutine) (answer : Option Stop) → answer ≡ None → Acts r go new v v answer
+      → HasAttendedOne go.actor.body new.actor.body → HasAttendedSome r old new t v
+  one_more new answer is acts one = record {
+    acts = subst (λ (a : Option Stop). Acts r old new t v a) is (also new answer acts);
+    same = still_same;
+    rests = one.rests;
+    expanded = one.expanded ∙ has.expanded;
+  }
+
+-- ---- all are done
+
+pub at_rest_offers : (s : Side) → s ≡ AtRest → (at : ℕ) → s ≡ Offering at → ⊥
+at_rest_offers s rests at offers = let e : AtRest ≡ Offering at = sym rests ∙ offers in cc e
+
+pub all_done : (r : Run) (old go : Goroutine) (t u : Turning) → HasAttendedSome r old go t u → go.actor.body.queue.duties ≡ []
+    → HasAttendedAll old.actor.body go.actor.body
+all_done r old go t u has empty = record {
+  empty = empty;
+  expanded = has.expanded;
+  none = at_rest_offers go.actor.body.side has.rests;
+}

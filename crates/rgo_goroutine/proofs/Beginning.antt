@@ -1,0 +1,78 @@
+-- Starts of goroutines, and the return of `main`, as acts of a turn.
+use Rattle.std.proofs.Common.{◌≡◌, ◌<◌, ◌∙◌, ℕ, List, [], true, Option, Some, None, ap, arith, length, map, refl, subst, sym}
+use Rattle.std.proofs.lemmas.List.{append-nil}
+use Rattle.rgo_code.specs.Code as code
+use Rattle.rgo_code.specs.Code.{CodeInstr, CodeOp}
+use Rattle.rgo_code.specs.Lists.{removes_in, removes_of}
+use Rattle.rgo_tac.specs.Code as tac
+use Rattle.rgo_tac.specs.Ops.{operation_of}
+use Rattle.rgo_body.specs.Nexts.{removes_at}
+use Rattle.rgo_body.specs.Steps.{IsRoomier}
+use Rattle.rgo_body.specs.declared.bodies.Body.{Body}
+use Rattle.rgo_body.specs.declared.nexts.Next.{Next}
+use Rattle.rgo_acts.specs.Actors as act
+use Rattle.rgo_acts.specs.Ready.{IsBefore}
+use Rattle.rgo_acts.specs.Runs.{Run}
+use Rattle.rgo_acts.specs.declared.actors.Actor.{Actor}
+use Rattle.rgo_acts.proofs.Before.{return_of}
+use Rattle.rgo_acts.proofs.LocalActs.{none_done, roomier_ready, roomier_shows}
+use Rattle.rgo_goroutine.specs.Acting.{Acts, EndsIn, Goes}
+use Rattle.rgo_goroutine.specs.Goroutines.{AllStand, drawn_by, fresh}
+use Rattle.rgo_goroutine.specs.Instructions.{Instructs}
+use Rattle.rgo_goroutine.specs.declared.goroutine.Goroutine.{Goroutine}
+use Rattle.rgo_goroutine.specs.declared.turning.Stop.{Stop}
+use Rattle.rgo_goroutine.specs.declared.turning.Turning.{Turning}
+use Rattle.rgo_goroutine.proofs.Concluding.{ended, uncounted}
+use Rattle.rgo_goroutine.proofs.Joining.{instructs_then}
+use Rattle.rgo_goroutine.proofs.Keeping.{IsSame}
+use Rattle.rgo_goroutine.proofs.Lifting.{goes_as, moved_as, moves}
+
+-- nothing was made, printed or started
+same_acts : (r : Run) (old new : Goroutine) (t : Turning) → Goes r old t.left → t.changed.count < 8 → t.moved ≡ true → IsSame old new
+    → act.Acted r old.actor new.actor 0 [] [] → Acts r old new t t None
+same_acts r old new t goes noted moved same acted = record {
+  acted = record {
+    n = 0;
+    es = acted.es;
+    moved = moved_as r old new 0 [] [] acted (ap (map drawn_by) same.prints ∙ sym (append-nil (fresh old)))
+        (same.children ∙ sym (append-nil old.children.items));
+    left = omega arith;
+    noted = omega arith;
+    still = λ e. absurd (moves t.moved moved e);
+  };
+  goes = goes_as r old new 0 [] [] acted t.left t.left goes (omega arith) (omega arith) same.number
+      (subst (AllStand r) (sym same.children) goes.all) same.first;
+  noted = omega (arith, noted);
+  concludes = acted.went.first;
+}
+
+-- the run is over after that
+pub same_ends : (r : Run) (old mid new : Goroutine) (t : Turning) (why : Stop) → Goes r old t.left → t.changed.count < 8
+    → t.moved ≡ true → IsSame old mid → act.Acted r old.actor mid.actor 0 [] [] → EndsIn r mid new 0 why
+    → Instructs r old new t t (Some why)
+same_ends r old mid new t why goes noted moved same acted ends =
+    let first = same_acts r old mid t goes noted moved same acted in
+    instructs_then r old mid new t t t (Some why) first (omega arith)
+    (ended r mid new t t first.goes noted 0 why ends (uncounted t moved))
+
+-- ---- a return, for which room was made
+
+none_removed : (op : CodeOp) (i : CodeInstr) (value : Option ℕ) → i.op ≡ op → op ≡ code.Return value → removes_in (Some i) ≡ []
+none_removed op i value e is = ap removes_of (e ∙ is)
+
+pub returning : (r : Run) (a : Actor) (m : Body) (next : Next) (value : Option ℕ) → IsBefore r a next → IsRoomier a.body m
+    → operation_of next.op ≡ tac.Return value → IsBefore r (record a { body = m }) next
+returning r a m next value before roomier is =
+    let n = before.ready.is_next in
+    let none : removes_at next ≡ [] =
+    ap removes_in n.is_instr ∙ none_removed n.instr.op n.instr value refl (return_of n.instr.op value (n.op ∙ is)) in
+    record {
+      stands = (none_done r a (record a { body = m }) before.stands refl refl (roomier_shows r.program a.body m roomier)).stands;
+      ready = roomier_ready r.program a.body m roomier next before.ready;
+      rests = ap (λ (b : Body). b.side) roomier ∙ before.rests;
+      room = let few = ap (λ (l : List ℕ). length l) none in omega (arith, few);
+      count = let same = ap (λ (b : Body). b.counts.steps) roomier in let count = before.count in omega (arith, same, count);
+    }
+
+pub roomier : (r : Run) (a : Actor) (m : Body) → act.Stands r a → IsRoomier a.body m → act.Acted r a (record a { body = m }) 0 [] []
+roomier r a m stands same = none_done r a (record a { body = m }) stands refl refl (roomier_shows r.program a.body m same)

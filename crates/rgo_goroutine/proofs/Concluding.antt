@@ -1,0 +1,163 @@
+-- What follows an act of the goroutine's actor: the turn has less to do, or is over.
+use Rattle.std.proofs.Common.{◌≡◌, ◌+◌, ◌-◌, ◌<◌, ◌≤◌, ℕ, true, [], Option, Some, None, Ok, Err, Result, MatchResult, refl, ap, sym, subst, arith}
+use Rattle.std.proofs.lemmas.List.{append-nil}
+use Rattle.rgo_memory.specs.declared.traps.Trap.{Trap}
+use Rattle.rgo_acts.specs.Actors as act
+use Rattle.rgo_acts.specs.Actors.{Stands, now}
+use Rattle.rgo_acts.specs.Runs.{Run}
+use Rattle.rgo_acts.specs.Talks.{IsUnmoved, Talks}
+use Rattle.rgo_acts.specs.Traps.{IsAtTrap}
+use Rattle.rgo_acts.specs.declared.actors.Actor.{Actor}
+use Rattle.rgo_acts.specs.declared.channels.Talked.{Talked}
+use Rattle.rgo_acts.specs.declared.channels.Talked.TheVariants as talked
+use Rattle.rgo_goroutine.specs.Acting.{EndsIn, Goes, StopsBy}
+use Rattle.rgo_goroutine.specs.Goroutines.{fresh}
+use Rattle.rgo_goroutine.specs.Instructions.{HasComeTo, HasTalked, Instructs}
+use Rattle.rgo_goroutine.specs.declared.goroutine.Goroutine.{Goroutine}
+use Rattle.rgo_goroutine.specs.declared.turning.Stop.{Stop}
+use Rattle.rgo_goroutine.specs.declared.turning.Stop.TheVariants as stop
+use Rattle.rgo_goroutine.specs.declared.turning.Turning.{Turning}
+use Rattle.rgo_goroutine.proofs.Lifting.{ends_after, ends_by, goes_as, goes_on, moved_as, stops}
+
+-- the turn has n instructions less, and has noted so many channels more
+pub record Counts (t u : Turning) (n noted : ℕ) : Type 0 where
+  pub left : t.left ≡ u.left + n
+  pub changed : u.changed.count ≡ t.changed.count + noted
+  pub moved : u.moved ≡ true
+
+pub counted : (t u : Turning) (n : ℕ) → n ≤ t.left → u ≡ record t { left = t.left - n; moved = true } → Counts t u n 0
+counted t u n some e = record {
+  left = let l = ap (λ (x : Turning). x.left) e in omega (arith, l, some);
+  changed = let c = ap (λ (x : Turning). x.changed.count) e in omega (arith, c);
+  moved = ap (λ (x : Turning). x.moved) e;
+}
+
+pub uncounted : (t : Turning) → t.moved ≡ true → Counts t t 0 0
+uncounted t moved = record { left = omega arith; changed = omega arith; moved = moved }
+
+pub no_answer : (why : Stop) → Some why ≡ None → ⊥
+no_answer why e = cc
+
+-- ---- the actor has acted
+
+module _ (r : Run) (old : Goroutine) (b : Actor) (t u : Turning) (goes : Goes r old t.left) (noted : t.changed.count < 8) where
+  -- an instruction is made, or a channel is changed
+  pub made : (n m : ℕ) → act.Acted r old.actor b n [] [] → Counts t u n m → 0 < n + m → m ≤ 1
+      → Instructs r old (record old { actor = b }) t u None
+  made n m acted counts some few = record {
+    acts = goes_on r old b t u goes n acted counts.left
+        (let c = counts.changed in omega (arith, c))
+        (let c = counts.changed in omega (arith, c, noted, few))
+        counts.moved;
+    progress = λ e. let l = counts.left in let c = counts.changed in omega (arith, l, c, noted, some, few);
+  }
+
+  -- it could not
+  pub halted : (why : Stop) (acted : act.Acted r old.actor b 0 [] []) → Counts t u 0 0
+      → StopsBy r old (record old { actor = b }) acted.es why → Instructs r old (record old { actor = b }) t u (Some why)
+  halted why acted counts by = record {
+    acts = stops r old b t u goes 0 acted counts.left
+        (let c = counts.changed in omega (arith, c))
+        (let c = counts.changed in omega (arith, c, noted))
+        counts.moved why by;
+    progress = λ e. absurd (no_answer why e);
+  }
+
+  pub refused : act.Acted r old.actor b 0 [] [] → Counts t u 0 0 → Instructs r old (record old { actor = b }) t u (Some stop.NoMemory)
+  refused acted counts = halted stop.NoMemory acted counts acted.went.first
+
+  -- nothing has moved by then
+  pub unmoved : (why : Stop) (acted : act.Acted r old.actor b 0 [] []) → IsUnmoved r.setup old.actor b acted.es
+      → StopsBy r old (record old { actor = b }) acted.es why → u ≡ t → Instructs r old (record old { actor = b }) t u (Some why)
+  unmoved why acted rests by same = subst (λ (v : Turning). Instructs r old (record old { actor = b }) t v (Some why)) (sym same) (record {
+    acts = record {
+      acted = record {
+        n = 0;
+        es = acted.es;
+        moved = moved_as r old (record old { actor = b }) 0 [] [] acted (sym (append-nil (fresh old))) (sym (append-nil old.children.items));
+        left = omega arith;
+        noted = omega arith;
+        still = λ e. (e, refl, record { words = rests.words; frame = rests.frame });
+      };
+      goes = goes_as r old (record old { actor = b }) 0 [] [] acted t.left t.left goes (omega arith) (omega arith) refl goes.all refl;
+      noted = omega (arith, noted);
+      concludes = by;
+    };
+    progress = λ e. absurd (no_answer why e);
+  })
+
+-- the run is over
+module _ (r : Run) (old new : Goroutine) (t u : Turning) (goes : Goes r old t.left) (noted : t.changed.count < 8) where
+  pub ended : (n : ℕ) (why : Stop) → EndsIn r old new n why → Counts t u n 0 → Instructs r old new t u (Some why)
+  ended n why e counts = record {
+    acts = ends_by r old new t u goes n why e counts.left
+        (let c = counts.changed in omega (arith, c))
+        (let c = counts.changed in omega (arith, c, noted))
+        counts.moved;
+    progress = λ f. absurd (no_answer why f);
+  }
+
+  -- after an act of the actor
+  pub ended_then : (b : Actor) (n : ℕ) (why : Stop) → act.Acted r old.actor b 0 [] [] → EndsIn r (record old { actor = b }) new n why
+      → Counts t u n 0 → Instructs r old new t u (Some why)
+  ended_then b n why acted e counts = ended n why (ends_after r old b new n why acted e) counts
+
+-- ---- where it has come first
+
+pub trap_of : (r : Run) (a b : Actor) (done : Result (Unit {0}) Trap) (trap : Trap) → done ≡ Err trap
+    → MatchResult done (λ _. act.Acted r a b 1 [] []) (λ t. IsAtTrap r a b t) → IsAtTrap r a b trap
+trap_of r a b done trap is did =
+    subst (λ (d : Result (Unit {0}) Trap). MatchResult d (λ _. act.Acted r a b 1 [] []) (λ t. IsAtTrap r a b t)) is did
+
+module _ (r : Run) (first go : Goroutine) (t u : Turning) (done : Result (Unit {0}) Trap) (come : HasComeTo r first go t done) where
+  pub come_ok : (x : Unit {0}) → done ≡ Ok x → Counts t u 1 0 → Instructs r first go t u None
+  come_ok x is counts =
+      subst (λ (g : Goroutine). Instructs r first g t u None) (sym come.come.rest)
+      (made r first go.actor t u come.come.goes come.come.noted 1 0
+      (subst (λ (d : Result (Unit {0}) Trap). MatchResult d (λ _. act.Acted r first.actor go.actor 1 [] [])
+      (λ trap. IsAtTrap r first.actor go.actor trap)) is come.did)
+      counts (omega arith) (omega arith))
+
+  pub come_err : (trap : Trap) (new : Goroutine) (why : Stop) → done ≡ Err trap → EndsIn r go new 1 why → Counts t u 1 0
+      → Instructs r first new t u (Some why)
+  come_err trap new why is e counts =
+      ended_then r first new t u come.come.goes come.come.noted go.actor 1 why
+      (trap_of r first.actor go.actor done trap is come.did).0
+      (subst (λ (g : Goroutine). EndsIn r g new 1 why) come.come.rest e) counts
+
+-- ---- operations on channels
+
+module _ (r : Run) (first go : Goroutine) (t u : Turning) (n : ℕ) (answer : Talked) (has : HasTalked r first go t n answer) where
+  talks_as : (other : Talked) → answer ≡ other → Talks r first.actor go.actor n other
+  talks_as other is = subst (Talks r first.actor go.actor n) is has.talks
+
+  pub talk_done : (at : ℕ) → answer ≡ talked.Done at → Counts t u n 1 → Instructs r first go t u None
+  talk_done at is counts =
+      subst (λ (g : Goroutine). Instructs r first g t u None) (sym has.rest)
+      (made r first go.actor t u has.goes has.noted n 1 (talks_as (talked.Done at) is).acted counts (omega arith) (omega arith))
+
+  pub talk_offered : (at : ℕ) → answer ≡ talked.Offered at → Counts t u 0 1 → Instructs r first go t u None
+  talk_offered at is counts =
+      subst (λ (g : Goroutine). Instructs r first g t u None) (sym has.rest)
+      (made r first go.actor t u has.goes has.noted 0 1 (talks_as (talked.Offered at) is).acted counts (omega arith) (omega arith))
+
+  pub talk_waits : (place : Option ℕ) → answer ≡ talked.Waits place → u ≡ t → Instructs r first go t u (Some (stop.Blocked place))
+  talk_waits place is same =
+      let w = talks_as (talked.Waits place) is in
+      subst (λ (g : Goroutine). Instructs r first g t u (Some (stop.Blocked place))) (sym has.rest)
+      (unmoved r first go.actor t u has.goes has.noted (stop.Blocked place) w.acted w.unmoved (w.acted.went.first, w.waits) same)
+
+  pub talk_lost : (at : ℕ) → answer ≡ talked.Lost at → u ≡ t → Instructs r first go t u (Some (stop.Lost at))
+  talk_lost at is same =
+      let w = talks_as (talked.Lost at) is in
+      subst (λ (g : Goroutine). Instructs r first g t u (Some (stop.Lost at))) (sym has.rest)
+      (unmoved r first go.actor t u has.goes has.noted (stop.Lost at) w.acted w.unmoved (w.acted.went.first, w.loses) same)
+
+  pub talk_trap : (trap : Trap) → answer ≡ talked.Trap trap → IsAtTrap r first.actor go.actor trap
+  talk_trap trap is = talks_as (talked.Trap trap) is
+
+  pub talk_ends : (trap : Trap) (new : Goroutine) (why : Stop) → answer ≡ talked.Trap trap → EndsIn r go new 1 why → Counts t u 1 0
+      → Instructs r first new t u (Some why)
+  talk_ends trap new why is e counts =
+      ended_then r first new t u has.goes has.noted go.actor 1 why (talk_trap trap is).0
+      (subst (λ (g : Goroutine). EndsIn r g new 1 why) has.rest e) counts

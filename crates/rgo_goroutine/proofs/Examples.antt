@@ -1,0 +1,103 @@
+-- Goroutines and turns that are as their definitions say, and such as are not.
+use Rattle.std.proofs.Common.{◌≡◌, inl, inr, ◌++◌, ◌∙◌, ℕ, zero, suc, true, false, List, [], ◌∷◌, Option, Some, arith, ap, not, refl, sym}
+use mathlib.Core.Option.{some, some-injective, some-ne-none}
+use lib.ListN.{get_elem?}
+use Rattle.rgo_core_frames.specs.WordFrames.{WordFrame}
+use Rattle.rgo_core_rule.specs.Histories.{access}
+use Rattle.rgo_core_rule.specs.declared.accesses.Access.{Access}
+use Rattle.rgo_core_rule.specs.declared.accesses.Kind.TheVariants.{EndRun}
+use Rattle.rgo_region_machine.specs.States.{Duty}
+use Rattle.rgo_acts.specs.Runs.{Run}
+use Rattle.rgo_acts.specs.declared.prints.Print.{Print}
+use Rattle.rgo_goroutine.specs.Examples.{PassingExamples, TurnExamples, end_at}
+use Rattle.rgo_goroutine.specs.Goroutines.{valid}
+use Rattle.rgo_goroutine.specs.Passing.{Gathers}
+use Rattle.rgo_goroutine.specs.Turns.{FoundEnd, Stops}
+use Rattle.rgo_goroutine.specs.declared.goroutine.Child.{Child}
+use Rattle.rgo_goroutine.specs.declared.goroutine.Goroutine.{Goroutine}
+use Rattle.rgo_goroutine.specs.declared.turning.Stop.TheVariants as stop
+use Rattle.rgo_goroutine.proofs.Handing.{one_valid, one_void}
+
+its : (x a : Access) (i : ℕ) → get_elem? (x ∷ []) i ≡ some a → x ≡ a
+its x a zero e = some-injective x a e
+its x a (suc i) e = absurd (some-ne-none a (sym e))
+
+none_found : FoundEnd 1 (end_at 5) → ⊥
+none_found (n, late, f) =
+    let e = ap (λ (a : Access). a.found) (its (access 1 EndRun 0 5 5) f.access f.place f.there) in
+    let found = f.found in
+    absurd (omega (arith, late, e, found))
+
+not_zero : ◌≡◌ {A = Option ℕ} (Some 1) (Some 0) → ⊥
+not_zero e = cc
+
+not_its : FoundEnd 0 (end_at 9223372036854775813) → ⊥
+not_its (n, late, f) =
+    not_zero
+    (ap (λ (a : Access). a.by) (its (access 1 EndRun 0 9223372036854775813 9223372036854775813) f.access f.place f.there) ∙ f.own)
+
+not_early : (r : Run) (old new : Goroutine) → Stops r old new 10 3 0 [] stop.Went → ⊥
+not_early r old new (first, inl (inl all)) = absurd (omega (arith, all))
+not_early r old new (first, inl (inr told)) = absurd (omega (arith, told))
+not_early r old new (first, inr (n, late, f)) = some-ne-none f.access (sym f.there)
+
+some_frames : (w : WordFrame) (ws : List WordFrame) → ◌≡◌ {A = List WordFrame} (w ∷ ws) [] → ⊥
+some_frames w ws e = cc
+
+some_duties : (d : Duty) (ds : List Duty) → ◌≡◌ {A = List Duty} (d ∷ ds) [] → ⊥
+some_duties d ds e = cc
+
+some_children : (child : Child) (later : List Child) → ◌≡◌ {A = List Child} (child ∷ later) [] → ⊥
+some_children child later e = cc
+
+pub turn_examples : TurnExamples
+turn_examples = record {
+  no_access = λ r go n es turns. let some = turns.some in absurd (omega (arith, some));
+  too_many = λ r old new slice turned more has. let within = has.within in absurd (omega (arith, more, within));
+  used_up = λ r go. (refl, inl (inl refl));
+  told_all = λ r go. (refl, inl (inr refl));
+  too_early = not_early;
+  found_end = (
+    9223372036854775813,
+    omega arith,
+    record {
+      place = 0;
+      access = access 1 EndRun 0 9223372036854775813 9223372036854775813;
+      there = refl;
+      own = refl;
+      of_kind = refl;
+      word = refl;
+      found = refl;
+    },
+  );
+  found_none = none_found;
+  of_another = not_its;
+  in_call = λ c w ws some over. some_frames w ws (sym some ∙ over.frames);
+  owing = λ c d ds some over. some_duties d ds (sym some ∙ over.duties);
+  locked = λ c taken tidy. taken tidy.hold;
+  too_large = λ T g c es lacks. lacks;
+}
+
+void_out : (p q : Print) → p.is_void ≡ true → q.is_void ≡ false → valid (p ∷ q ∷ []) ≡ q ∷ []
+void_out p q void other = one_void p (q ∷ []) (ap not void) ∙ one_valid q [] (ap not other)
+
+first_is : (p q : Print) → p ∷ q ∷ [] ≡ q ∷ p ∷ [] → p ≡ q
+first_is p q e = cc
+
+in_front : (old new : Goroutine) (p q : Print) → (p ≡ q → ⊥) → p.is_void ≡ false → old.prints.items ≡ p ∷ []
+    → Gathers old new (q ∷ []) (p ∷ q ∷ []) 1 → ⊥
+in_front old new p q other is_valid prints gathers =
+    other
+    (first_is p q
+    (gathers.are ∙ ap (λ (ps : List Print). (q ∷ []) ++ valid ps) prints
+    ∙ ap (λ (ps : List Print). (q ∷ []) ++ ps) (one_valid p [] (ap not is_valid))))
+
+pub passing_examples : PassingExamples
+passing_examples = record {
+  newest_first = λ a b. refl;
+  one_void = void_out;
+  left_behind = λ r old new list longer_list n child later some adopts. some_children child later (sym some ∙ adopts.none);
+  one_more = λ r go born. born;
+  swapped = in_front;
+  behind = λ r go some of. some of.settled;
+}

@@ -1,0 +1,94 @@
+-- Acts after which what the goroutine has for its driver is as before, or is one print or one goroutine more.
+use Rattle.std.proofs.Common.{◌≡◌, ◌<◌, List, [], ◌∷◌, ◌++◌, Some, None, map, ap, sym, subst, ◌∙◌, arith}
+use Rattle.std.proofs.lemmas.List.{append-nil, map-append}
+use Rattle.rgo_acts.specs.Actors as act
+use Rattle.rgo_acts.specs.Runs.{Run}
+use Rattle.rgo_acts.specs.declared.prints.Print.{Print}
+use Rattle.rgo_goroutine.specs.Acting.{Goes}
+use Rattle.rgo_goroutine.specs.Goroutines.{AllStand, IsChild, drawn_by, fresh}
+use Rattle.rgo_goroutine.specs.Instructions.{Instructs}
+use Rattle.rgo_goroutine.specs.declared.goroutine.Child.{Child}
+use Rattle.rgo_goroutine.specs.declared.goroutine.Goroutine.{Goroutine}
+use Rattle.rgo_goroutine.specs.declared.turning.Stop.TheVariants as stop
+use Rattle.rgo_goroutine.specs.declared.turning.Turning.{Turning}
+use Rattle.rgo_goroutine.proofs.Concluding.{Counts, no_answer}
+use Rattle.rgo_goroutine.proofs.Lifting.{goes_as, moved_as, moves}
+
+-- nothing was printed or started
+pub record IsSame (old new : Goroutine) : Type 0 where
+  pub prints : new.prints.items ≡ old.prints.items
+  pub children : new.children.items ≡ old.children.items
+  pub number : new.number ≡ old.number
+  pub first : new.first ≡ old.first
+
+pub same_halts : (r : Run) (old new : Goroutine) (t u : Turning) → Goes r old t.left → t.changed.count < 8 → IsSame old new
+    → (acted : act.Acted r old.actor new.actor 0 [] []) → Counts t u 0 0 → Instructs r old new t u (Some stop.NoMemory)
+same_halts r old new t u goes noted same acted counts = record {
+  acts = record {
+    acted = record {
+      n = 0;
+      es = acted.es;
+      moved = moved_as r old new 0 [] [] acted (ap (map drawn_by) same.prints ∙ sym (append-nil (fresh old)))
+          (same.children ∙ sym (append-nil old.children.items));
+      left = counts.left;
+      noted = (let c = counts.changed in omega (arith, c));
+      still = λ e. absurd (moves u.moved counts.moved e);
+    };
+    goes = goes_as r old new 0 [] [] acted t.left u.left goes counts.left (omega arith) same.number
+        (subst (AllStand r) (sym same.children) goes.all) same.first;
+    noted = (let c = counts.changed in omega (arith, c, noted));
+    concludes = acted.went.first;
+  };
+  progress = λ e. absurd (no_answer stop.NoMemory e);
+}
+
+-- one print more
+pub printed_on : (r : Run) (old new : Goroutine) (t u : Turning) → Goes r old t.left → t.changed.count < 8 → (print : Print)
+    → new.prints.items ≡ old.prints.items ++ print ∷ [] → new.children.items ≡ old.children.items → new.number ≡ old.number
+    → new.first ≡ old.first → act.Acted r old.actor new.actor 1 (drawn_by print ∷ []) [] → Counts t u 1 0 → Instructs r old new t u None
+printed_on r old new t u goes noted print prints children number first acted counts = record {
+  acts = record {
+    acted = record {
+      n = 1;
+      es = acted.es;
+      moved = moved_as r old new 1 (drawn_by print ∷ []) [] acted
+          (ap (map drawn_by) prints ∙ map-append drawn_by old.prints.items (print ∷ []))
+          (children ∙ sym (append-nil old.children.items));
+      left = counts.left;
+      noted = (let c = counts.changed in omega (arith, c));
+      still = λ e. absurd (moves u.moved counts.moved e);
+    };
+    goes = goes_as r old new 1 (drawn_by print ∷ []) [] acted t.left u.left goes counts.left (omega arith) number
+        (subst (AllStand r) (sym children) goes.all) first;
+    noted = (let c = counts.changed in omega (arith, c, noted));
+    concludes = acted.went.first;
+  };
+  progress = λ e. let l = counts.left in let c = counts.changed in omega (arith, l, c, noted);
+}
+
+-- one goroutine more
+all_with : (r : Run) (children : List Child) (child : Child) → AllStand r children → IsChild r child → AllStand r (children ++ child ∷ [])
+all_with r [] child all is = (is, tt)
+all_with r (c ∷ cs) child all is = (all.0, all_with r cs child all.1 is)
+
+pub started_on : (r : Run) (old new : Goroutine) (t u : Turning) → Goes r old t.left → t.changed.count < 8 → (child : Child)
+    → IsChild r child → new.prints.items ≡ old.prints.items → new.children.items ≡ old.children.items ++ child ∷ []
+    → new.number ≡ old.number → new.first ≡ old.first → act.Acted r old.actor new.actor 1 [] (child.number ∷ []) → Counts t u 1 0
+    → Instructs r old new t u None
+started_on r old new t u goes noted child is prints children number first acted counts = record {
+  acts = record {
+    acted = record {
+      n = 1;
+      es = acted.es;
+      moved = moved_as r old new 1 [] (child ∷ []) acted (ap (map drawn_by) prints ∙ sym (append-nil (fresh old))) children;
+      left = counts.left;
+      noted = (let c = counts.changed in omega (arith, c));
+      still = λ e. absurd (moves u.moved counts.moved e);
+    };
+    goes = goes_as r old new 1 [] (child ∷ []) acted t.left u.left goes counts.left (omega arith) number
+        (subst (AllStand r) (sym children) (all_with r old.children.items child goes.all is)) first;
+    noted = (let c = counts.changed in omega (arith, c, noted));
+    concludes = acted.went.first;
+  };
+  progress = λ e. let l = counts.left in let c = counts.changed in omega (arith, l, c, noted);
+}

@@ -1,0 +1,29 @@
+use Rattle.std.proofs.Common.{arith}
+use Rattle.rgo_goroutine.specs.declared.turning.Stop.TheVariants as stop
+use Rattle.rgo_machine.specs.declared.turns.Shortage.TheVariants.{Pages}
+use Rattle.rgo_goroutine.proofs.Concluding.{counted, ended_then, halted, made, uncounted}
+use Rattle.rgo_goroutine.proofs.goroutine.Goroutine.make.Goals as goal
+
+pub returns-in-Done : goal.returns-in-Done
+returns-in-Done g c =
+    made c.args.run.now c.args.self.now c.make_object-made.new.actor c.args.turning.now c.count.new.self c.requires.can.at.goes
+    c.requires.can.noted 1 0 c.in-Done.ensures
+    (counted c.args.turning.now c.count.new.self 1 c.requires.can.at.some c.count.ensures) (omega arith) (omega arith)
+
+pub returns-in-Trap : goal.returns-in-Trap
+returns-in-Trap g c =
+    ended_then c.args.run.now c.args.self.now c.trap.new.self c.args.turning.now c.count-in-Trap.new.self c.requires.can.at.goes
+    c.requires.can.noted c.make_object-made.new.actor 1 c.trap.result c.in-Trap.ensures.0 c.trap.ensures
+    (counted c.args.turning.now c.count-in-Trap.new.self 1 c.requires.can.at.some c.count-in-Trap.ensures)
+
+pub returns-in-TooLarge : goal.returns-in-TooLarge
+returns-in-TooLarge g c =
+    ended_then c.args.run.now c.args.self.now c.stop.new.self c.args.turning.now c.args.turning.now c.requires.can.at.goes
+    c.requires.can.noted c.make_object-made.new.actor 0 c.stop.result c.in-TooLarge.ensures.acted c.stop.ensures
+    (uncounted c.args.turning.now c.requires.can.moved)
+
+pub returns-in-Short : goal.returns-in-Short
+returns-in-Short g c =
+    halted c.args.run.now c.args.self.now c.make_object-made.new.actor c.args.turning.now c.args.turning.now c.requires.can.at.goes
+    c.requires.can.noted (stop.Short Pages) c.in-Short.ensures.acted (uncounted c.args.turning.now c.requires.can.moved)
+    (c.in-Short.ensures.acted.went.first, c.in-Short.ensures.lacks)

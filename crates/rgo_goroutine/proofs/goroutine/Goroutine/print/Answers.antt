@@ -1,0 +1,34 @@
+use Rattle.std.proofs.Common.{List, [], ◌∷◌, ◌++◌, ◌∙◌, ap, refl, subst, sym}
+use Rattle.rgo_acts.specs.Actors.{Acted}
+use Rattle.rgo_acts.specs.declared.actors.Actor.{Actor}
+use Rattle.rgo_acts.specs.declared.prints.Print.{Print}
+use Rattle.rgo_acts.proofs.LocalActs.{unchanged}
+use Rattle.rgo_goroutine.proofs.Concluding.{counted, uncounted}
+use Rattle.rgo_goroutine.proofs.Keeping.{printed_on, same_halts}
+use Rattle.rgo_goroutine.proofs.goroutine.Goroutine.print.Goals as goal
+
+pub returns-then-is_err : goal.returns-then-is_err
+returns-then-is_err c =
+    same_halts c.args.run.now c.args.self.now (record c.args.self.now { prints = c.reserve.new.self }) c.args.turning.now
+    c.args.turning.now c.requires.can.at.goes c.requires.can.noted
+    (record { prints = c.reserve.ensures.items; children = refl; number = refl; first = refl })
+    (unchanged c.args.run.now c.args.self.now.actor c.requires.can.at.goes.stands)
+    (uncounted c.args.turning.now c.requires.can.moved)
+
+pub returns-in-Ok : goal.returns-in-Ok
+returns-in-Ok c =
+    printed_on c.args.run.now c.args.self.now
+    (record c.args.self.now { actor = c.print_line.new.actor; prints = c.push_reserved.new.self }) c.args.turning.now c.count.new.self
+    c.requires.can.at.goes c.requires.can.noted c.in-Ok.print
+    (c.push_reserved.ensures.items ∙ ap (λ (l : List Print). l ++ c.in-Ok.print ∷ []) c.reserve.ensures.items) refl refl refl
+    c.in-Ok.ensures.printed (counted c.args.turning.now c.count.new.self 1 c.requires.can.at.some c.count.ensures)
+
+pub returns-in-Err : goal.returns-in-Err
+returns-in-Err c =
+    same_halts c.args.run.now c.args.self.now
+    (record c.args.self.now { actor = c.print_line.new.actor; prints = c.reserve.new.self }) c.args.turning.now c.args.turning.now
+    c.requires.can.at.goes c.requires.can.noted
+    (record { prints = c.reserve.ensures.items; children = refl; number = refl; first = refl })
+    (subst (λ (a : Actor). Acted c.args.run.now c.args.self.now.actor a 0 [] []) (sym c.in-Err.ensures.same)
+    (unchanged c.args.run.now c.args.self.now.actor c.requires.can.at.goes.stands))
+    (uncounted c.args.turning.now c.requires.can.moved)

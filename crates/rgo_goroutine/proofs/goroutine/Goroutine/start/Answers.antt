@@ -1,0 +1,57 @@
+use Rattle.std.proofs.Common.{List, [], ◌∷◌, ◌++◌, ◌∙◌, ap, refl, subst, sym}
+use Rattle.rgo_goroutine.specs.declared.goroutine.Child.{Child}
+use Rattle.rgo_acts.specs.Starts.{Starts}
+use Rattle.rgo_acts.specs.declared.starts.Outcome.{Outcome}
+use Rattle.rgo_acts.proofs.LocalActs.{unchanged}
+use Rattle.rgo_goroutine.proofs.Beginning.{same_ends}
+use Rattle.rgo_goroutine.proofs.Concluding.{counted, ended, uncounted}
+use Rattle.rgo_goroutine.proofs.Keeping.{same_halts, started_on}
+use Rattle.rgo_goroutine.proofs.goroutine.Goroutine.start.Goals as goal
+
+pub returns-then-is_refused : goal.returns-then-is_refused
+returns-then-is_refused c =
+    ended c.args.run.now c.args.self.now c.too_many.new.self c.args.turning.now c.args.turning.now c.requires.can.at.goes
+    c.requires.can.noted 0 c.too_many.result c.too_many.ensures (uncounted c.args.turning.now c.requires.can.moved)
+
+pub returns-then-is_err : goal.returns-then-is_err
+returns-then-is_err c =
+    same_halts c.args.run.now c.args.self.now (record c.args.self.now { children = c.reserve.new.self }) c.args.turning.now
+    c.args.turning.now c.requires.can.at.goes c.requires.can.noted
+    (record { prints = refl; children = c.reserve.ensures.items; number = refl; first = refl })
+    (unchanged c.args.run.now c.args.self.now.actor c.requires.can.at.goes.stands)
+    (uncounted c.args.turning.now c.requires.can.moved)
+
+pub stop-requires-clause-cause : goal.stop-requires-clause-cause
+stop-requires-clause-cause c =
+    (subst (λ (o : Outcome). Starts c.args.run.now c.args.self.now.actor c.start.new.actor o) c.in-Ok-Refused.field-0-is
+    c.in-Ok-Refused.ensures).1
+
+pub returns-in-Ok-Started : goal.returns-in-Ok-Started
+returns-in-Ok-Started c =
+    let has =
+    subst (λ (o : Outcome). Starts c.args.run.now c.args.self.now.actor c.start.new.actor o) c.in-Ok-Started.field-0-is
+    c.in-Ok-Started.ensures in
+    started_on c.args.run.now c.args.self.now
+    (record c.args.self.now { actor = c.start.new.actor; children = c.push_reserved.new.self }) c.args.turning.now c.count.new.self
+    c.requires.can.at.goes c.requires.can.noted (record { actor = c.in-Ok-Started.actor; number = c.in-Ok-Started.number })
+    (record { stands = has.stands; settled = has.settled; number = sym has.number; blank = has.blank }) refl
+    (c.push_reserved.ensures.items ∙ ap (λ (l : List Child). l ++ record { actor = c.in-Ok-Started.actor; number = c.in-Ok-Started.number } ∷ []) c.reserve.ensures.items) refl refl has.acted
+    (counted c.args.turning.now c.count.new.self 1 c.requires.can.at.some c.count.ensures)
+
+pub returns-in-Ok-Refused : goal.returns-in-Ok-Refused
+returns-in-Ok-Refused c =
+    let at =
+    subst (λ (o : Outcome). Starts c.args.run.now c.args.self.now.actor c.start.new.actor o) c.in-Ok-Refused.field-0-is
+    c.in-Ok-Refused.ensures in
+    same_ends c.args.run.now c.args.self.now
+    (record c.args.self.now { actor = c.start.new.actor; children = c.reserve.new.self }) c.stop.new.self c.args.turning.now c.stop.result
+    c.requires.can.at.goes c.requires.can.noted c.requires.can.moved
+    (record { prints = refl; children = c.reserve.ensures.items; number = refl; first = refl }) at.0 c.stop.ensures
+
+pub returns-in-Err : goal.returns-in-Err
+returns-in-Err c =
+    same_halts c.args.run.now c.args.self.now
+    (record c.args.self.now { actor = c.start.new.actor; children = c.reserve.new.self }) c.args.turning.now c.args.turning.now
+    c.requires.can.at.goes c.requires.can.noted
+    (record { prints = refl; children = c.reserve.ensures.items; number = refl; first = refl }) c.in-Err.ensures
+    (uncounted c.args.turning.now c.requires.can.moved)

@@ -1,0 +1,61 @@
+-- Goroutines and turns that are as their definitions say, and such as are not.
+use Rattle.std.specs.Prelude.{◌≡◌, ◌<◌, ℕ, true, false, List, [], ◌∷◌}
+use Rattle.rgo_core.specs.Core.{Setup}
+use Rattle.rgo_core.specs.Records.{Record}
+use Rattle.rgo_core_channels.specs.Records.{Free}
+use Rattle.rgo_core_frames.specs.WordFrames.{WordFrame}
+use Rattle.rgo_core_rule.specs.Histories.{access}
+use Rattle.rgo_core_rule.specs.declared.accesses.Access.{Access}
+use Rattle.rgo_core_rule.specs.declared.accesses.Kind.TheVariants.{EndRun}
+use Rattle.rgo_machine.specs.declared.turns.Shortage.TheVariants as shortage
+use Rattle.rgo_region_machine.specs.States.{Duty}
+use Rattle.rgo_acts.specs.Runs.{Run}
+use Rattle.rgo_acts.specs.declared.prints.Print.{Print}
+use Rattle.rgo_goroutine.specs.Goroutines.{IsOf, numbers, valid}
+use Rattle.rgo_goroutine.specs.Passing.{Adopts, AreBorn, Gathers}
+use Rattle.rgo_goroutine.specs.Turns.{FoundEnd, HasTurned, IsOver, IsTidy, LacksFor, Stops, Turns}
+use Rattle.rgo_goroutine.specs.declared.goroutine.Child.{Child}
+use Rattle.rgo_goroutine.specs.declared.goroutine.Goroutine.{Goroutine}
+use Rattle.rgo_goroutine.specs.declared.turning.Stop.TheVariants as stop
+use Rattle.rgo_goroutine.specs.declared.turning.Turned.{Turned}
+
+-- goroutine 1 has set the end mark, when this was the clock
+abbrev pub end_at : ℕ → List Access
+end_at clock = access 1 EndRun 0 clock clock ∷ []
+
+pub record TurnExamples : Type 0 where
+  -- a turn makes an access of its own
+  pub no_access : (r : Run) (go : Goroutine) (n : ℕ) (es : List Access) → Turns r go go n es → ⊥
+  -- and no more instructions than it was given
+  pub too_many : (r : Run) (old new : Goroutine) (slice : ℕ) (turned : Turned) → slice < turned.steps → HasTurned r old new slice turned → ⊥
+  -- it has made all its instructions, or has changed as many channels as it can tell
+  pub used_up : (r : Run) (go : Goroutine) → Stops r go go 10 10 0 [] stop.Went
+  pub told_all : (r : Run) (go : Goroutine) → Stops r go go 10 3 8 [] stop.Went
+  -- it has made fewer, and nothing ended
+  pub too_early : (r : Run) (old new : Goroutine) → Stops r old new 10 3 0 [] stop.Went → ⊥
+  -- the run had ended: bit 63 of the clock was set
+  pub found_end : FoundEnd 1 (end_at 9223372036854775813)
+  pub found_none : FoundEnd 1 (end_at 5) → ⊥
+  pub of_another : FoundEnd 0 (end_at 9223372036854775813) → ⊥
+  -- it has a frame, or owes a duty
+  pub in_call : (c : Record) (w : WordFrame) (ws : List WordFrame) → c.frame.frames ≡ w ∷ ws → IsOver c → ⊥
+  pub owing : (c : Record) (d : Duty) (ds : List Duty) → c.frame.holder.duties ≡ d ∷ ds → IsOver c → ⊥
+  pub locked : (c : Record) → (c.side.hold ≡ Free → ⊥) → IsTidy c → ⊥
+  -- the size of an object is no shortage
+  pub too_large : (T : Setup) (g : ℕ) (c : Record) (es : List Access) → LacksFor shortage.ObjectSize T g c es → ⊥
+
+pub record PassingExamples : Type 0 where
+  -- the newest is the first in a record
+  pub newest_first : (a b : Child) → numbers (a ∷ b ∷ []) ≡ b.number ∷ a.number ∷ []
+  -- a void print is left out
+  pub one_void : (p q : Print) → p.is_void ≡ true → q.is_void ≡ false → valid (p ∷ q ∷ []) ≡ q ∷ []
+  -- one child was left behind
+  pub left_behind : (r : Run) (old new : Goroutine) (list longer_list : List Goroutine) (n : ℕ) (child : Child) (later : List Child)
+      → new.children.items ≡ child ∷ later → Adopts r old new list longer_list n → ⊥
+  -- one goroutine more than there were children
+  pub one_more : (r : Run) (go : Goroutine) → AreBorn r [] (go ∷ []) → ⊥
+  -- the prints come behind those that were there
+  pub swapped : (old new : Goroutine) (p q : Print) → (p ≡ q → ⊥) → p.is_void ≡ false → old.prints.items ≡ p ∷ []
+      → Gathers old new (q ∷ []) (p ∷ q ∷ []) 1 → ⊥
+  -- its record has local steps to take
+  pub behind : (r : Run) (go : Goroutine) → (go.actor.behind ≡ 0 → ⊥) → IsOf r go → ⊥

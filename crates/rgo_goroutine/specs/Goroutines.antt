@@ -1,0 +1,63 @@
+-- Goroutines as their driver knows them.
+use Rattle.std.specs.Option.{option_map}
+use Rattle.std.specs.Prelude.{◌≡◌, ◌≤◌, ℕ, Bool, List, [], ◌∷◌, ◌++◌, filter, length, map, not}
+use Rattle.rgo_core_rule.specs.Views.{number_of}
+use Rattle.rgo_core.specs.Core.{Setup}
+use Rattle.rgo_core.specs.Records.{Drawn, Record, blank, steps_of}
+use Rattle.rgo_core_steps.specs.Ends.{mark_of}
+use Rattle.rgo_core_steps.specs.Seats.{mine}
+use Rattle.rgo_acts.specs.Actors.{Stands, now}
+use Rattle.rgo_acts.specs.Runs.{Run}
+use Rattle.rgo_acts.specs.declared.prints.Print.{Print}
+use Rattle.rgo_goroutine.specs.declared.goroutine.Child.{Child}
+use Rattle.rgo_goroutine.specs.declared.goroutine.Goroutine.{Goroutine}
+
+-- its record
+abbrev pub record_of : Setup → Goroutine → Record
+record_of T go = mine T go.actor.seat.me
+
+-- what it has drawn and was not gathered
+abbrev pub drawn_by : Print → Drawn
+drawn_by p = record { ticket = p.ticket; bytes = p.bytes.items; is_void = p.is_void }
+
+abbrev pub fresh : Goroutine → List Drawn
+fresh go = map drawn_by go.prints.items
+
+-- the numbers of goroutines, the newest first, as a record has them
+abbrev pub numbers : List Child → List ℕ
+numbers [] = []
+numbers (child ∷ later) = numbers later ++ child.number ∷ []
+
+-- a goroutine that was started, and has done nothing yet
+pub record IsChild (r : Run) (child : Child) : Type 0 where
+  pub stands : Stands r child.actor
+  pub settled : child.actor.behind ≡ 0
+  pub number : child.number ≡ number_of child.actor.seat.me
+  pub blank : (now r.setup child.actor).clock ≡ blank
+
+abbrev pub AllStand : Run → List Child → Type 0
+AllStand r [] = Unit {0}
+AllStand r (child ∷ later) = IsChild r child × AllStand r later
+
+-- The goroutine is of this run, and between two turns: its record has all its local steps. What was not gathered are the last prints of
+-- its record, and what was not adopted the last goroutines that it has started.
+pub record IsOf (r : Run) (go : Goroutine) : Type 0 where
+  pub stands : Stands r go.actor
+  pub number : go.number ≡ number_of go.actor.seat.me
+  pub settled : go.actor.behind ≡ 0
+  pub gathered : List Drawn
+  pub prints : (record_of r.setup go).clock.prints ≡ gathered ++ fresh go
+  -- each print was an instruction
+  pub few : length (record_of r.setup go).clock.prints ≤ steps_of (record_of r.setup go)
+  pub adopted : List ℕ
+  pub children : (record_of r.setup go).clock.children ≡ numbers go.children.items ++ adopted
+  pub all : AllStand r go.children.items
+  pub first : (record_of r.setup go).clock.first ≡ option_map mark_of go.first
+
+-- ---- what is taken from it
+
+abbrev pub is_valid : Print → Bool
+is_valid p = not p.is_void
+
+abbrev pub valid : List Print → List Print
+valid ps = filter is_valid ps

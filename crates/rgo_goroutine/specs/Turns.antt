@@ -1,0 +1,91 @@
+-- What a turn of a goroutine leaves, and why it was over.
+use Rattle.std.specs.Prelude.{◌≡◌, ◌⊎◌, ◌+◌, ◌<◌, ◌≤◌, ◌^◌, ℕ, false, List, [], ◌++◌, Some}
+use Rattle.rgo_core_channels.specs.Records.{Free}
+use Rattle.rgo_core_memory.specs.Records.{Calm, Idle, Rest}
+use Rattle.rgo_core_memory.specs.Words.{clock_at}
+use Rattle.rgo_core_rule.specs.Passes.{ChangesNothingBy}
+use Rattle.rgo_core_rule.specs.Views.{number_of}
+use Rattle.rgo_core_rule.specs.declared.accesses.Access.{Access}
+use Rattle.rgo_core_rule.specs.declared.accesses.Kind.TheVariants.{EndRun}
+use Rattle.rgo_core.specs.Core.{Setup}
+use Rattle.rgo_core.specs.Opening.{first_of}
+use Rattle.rgo_core.specs.Records.{Drawn, Record, accesses, steps_of}
+use Rattle.rgo_core_steps.specs.Ends.{mark_of}
+use Rattle.rgo_core_steps.specs.Grown.{Found, Grew}
+use Rattle.rgo_machine.specs.declared.turns.Shortage.{Shortage}
+use Rattle.rgo_machine.specs.declared.turns.Shortage.TheVariants as shortage
+use Rattle.rgo_acts.specs.Runs.{Run}
+use Rattle.rgo_acts.specs.Shortages.{LacksPage, LacksSlot}
+use Rattle.rgo_acts.specs.Waits.{Loses, Waits}
+use Rattle.rgo_goroutine.specs.Goroutines.{fresh, numbers, record_of}
+use Rattle.rgo_goroutine.specs.declared.goroutine.Child.{Child}
+use Rattle.rgo_goroutine.specs.declared.goroutine.Goroutine.{Goroutine}
+use Rattle.rgo_goroutine.specs.declared.turning.Stop.{Stop}
+use Rattle.rgo_goroutine.specs.declared.turning.Stop.TheVariants as stop
+use Rattle.rgo_goroutine.specs.declared.turning.Turned.{Turned}
+
+-- Its seat has seen the accesses es more, its own among them, at least one. It has made n instructions; its prints, and the goroutines
+-- that it has started, come to those that it had.
+pub record Turns (r : Run) (old new : Goroutine) (n : ℕ) (es : List Access) : Type 0 where
+  pub grew : Grew accesses (first_of r.setup.code) old.actor.seat.me es new.actor.seat.me
+  pub some : accesses (record_of r.setup old) < accesses (record_of r.setup new)
+  pub steps : steps_of (record_of r.setup new) ≡ steps_of (record_of r.setup old) + n
+  pub draws : List Drawn
+  pub fresh : fresh new ≡ fresh old ++ draws
+  pub printed : (record_of r.setup new).clock.prints ≡ (record_of r.setup old).clock.prints ++ draws
+  pub starts : List Child
+  pub newborn : new.children.items ≡ old.children.items ++ starts
+  pub started : (record_of r.setup new).clock.children ≡ numbers starts ++ (record_of r.setup old).clock.children
+
+-- no channel is locked, no object half made, no page claimed and not linked, and no chain given back
+pub record IsTidy (c : Record) : Type 0 where
+  pub hold : c.side.hold ≡ Free
+  pub make : c.memory.make ≡ Rest
+  pub claim : c.memory.claim ≡ Idle
+  pub give : c.memory.give ≡ Calm
+
+-- its accesses changed no word, and it stands where it stood
+pub record IsStill (r : Run) (old new : Goroutine) (es : List Access) : Type 0 where
+  pub words : ChangesNothingBy (number_of old.actor.seat.me) es
+  pub frame : (record_of r.setup new).frame ≡ (record_of r.setup old).frame
+
+-- its first function has returned, and it owes nothing
+pub record IsOver (c : Record) : Type 0 where
+  pub frames : c.frame.frames ≡ []
+  pub duties : c.frame.holder.duties ≡ []
+
+-- the run had ended before it would have ended it
+abbrev pub FoundEnd : ℕ → List Access → Type 0
+FoundEnd g es = (n : ℕ) × (2 ^ 63 ≤ n) × Found g es EndRun clock_at n
+
+abbrev pub SameFirst : Run → (old new : Goroutine) → Type 0
+SameFirst r old new = (record_of r.setup new).clock.first ≡ (record_of r.setup old).clock.first
+
+-- it lacks this
+abbrev pub LacksFor : Shortage → Setup → ℕ → Record → List Access → Type 0
+LacksFor shortage.Pages T g c es = LacksPage T g c es
+LacksFor shortage.Regions T g c es = LacksSlot T g c es
+LacksFor shortage.ObjectSize T g c es = ⊥
+
+-- Why the turn was over, of which n instructions were made, at most `slice`, and in which so many channels were changed. es are the
+-- accesses that its seat has seen since.
+abbrev pub Stops : (r : Run) (old new : Goroutine) (slice n changed : ℕ) (es : List Access) → Stop → Type 0
+Stops r old new slice n changed es stop.Went =
+    SameFirst r old new × (((n ≡ slice) ⊎ (changed ≡ 8)) ⊎ FoundEnd (number_of old.actor.seat.me) es)
+Stops r old new slice n changed es (stop.Blocked at) =
+    SameFirst r old new × Waits r.setup (number_of old.actor.seat.me) (record_of r.setup new) es at
+Stops r old new slice n changed es (stop.Lost at) =
+    SameFirst r old new × Loses r.setup (number_of old.actor.seat.me) (record_of r.setup new) es at
+Stops r old new slice n changed es stop.Ended = SameFirst r old new × IsOver (record_of r.setup new)
+Stops r old new slice n changed es (stop.Stopped mark) = (record_of r.setup new).clock.first ≡ Some (mark_of mark)
+Stops r old new slice n changed es (stop.Short why) =
+    SameFirst r old new × LacksFor why r.setup (number_of old.actor.seat.me) (record_of r.setup new) es
+Stops r old new slice n changed es stop.NoMemory = SameFirst r old new
+
+-- what a turn leaves
+pub record HasTurned (r : Run) (old new : Goroutine) (slice : ℕ) (turned : Turned) : Type 0 where
+  pub es : List Access
+  pub turns : Turns r old new turned.steps es
+  pub within : turned.steps ≤ slice
+  pub still : turned.moved ≡ false → (turned.steps ≡ 0) × IsStill r old new es
+  pub stops : Stops r old new slice turned.steps turned.changed.count es turned.stop

@@ -1,0 +1,266 @@
+//! Goroutines between turns: where they begin and end, and what their driver takes from them.
+ghost use Rattle.std.specs.Prelude.{◌≡◌, ◌+◌, ◌≤◌, ◌<◌, ◌-◌, ◌++◌, ◌∷◌, [], ℕ, List, IfErr, IfOk, MatchResult, None, length, vec_capacity, vec_len};
+ghost use Rattle.std.specs.List.{All};
+ghost use Rattle.rgo_core.specs.Core.{IsPossible};
+ghost use Rattle.rgo_core.specs.Opening.{first_of};
+ghost use Rattle.rgo_core_memory.specs.Words.{clock_at};
+ghost use Rattle.rgo_core_rule.specs.Views.{longer, view};
+ghost use Rattle.rgo_core_steps.specs.Seats.{IsSeatOf};
+ghost use Rattle.rgo_acts.specs.Runs as runs;
+ghost use Rattle.rgo_goroutine.specs.Goroutines.{AllStand, IsOf, record_of, valid};
+ghost use Rattle.rgo_goroutine.specs.Passing.{Adopts, AreBorn, Gathers, Looks};
+ghost use Rattle.rgo_goroutine.specs.declared.goroutine.Goroutine as spec;
+
+use rgo_acts::actors::Actor;
+use rgo_acts::prints::Print;
+use rgo_acts::runs::Run;
+use rgo_body::{Body, Counts};
+use rgo_core::records::Record;
+use rgo_core::table::{ByRuns, Plan, RunSeat};
+use rgo_core_rule::seats::part;
+use rgo_core_steps::clock::{self, Mark};
+use rgo_core_steps::seats;
+use std::alloc::{AllocError, Global};
+
+/// A goroutine of a run.
+#[derive(Drop)]
+pub struct Goroutine {
+    pub(crate) actor: Actor,
+    /// Its number; that of `main` is 0.
+    pub(crate) number: u64,
+    /// What it has printed that was not gathered, the oldest first.
+    pub(crate) prints: Vec<Print>,
+    /// The goroutines that it has started and that were not adopted, the oldest first.
+    pub(crate) children: Vec<Child>,
+    /// How the run ended, if this goroutine ended it.
+    pub(crate) first: Option<Mark>,
+    /// Where its next searches for a free page and for a free slot begin.
+    pub(crate) page_from: u32,
+    pub(crate) slot_from: u32,
+}
+
+/// A goroutine that was started, with its number.
+#[derive(Drop)]
+pub(crate) struct Child {
+    pub(crate) actor: Actor,
+    pub(crate) number: u64,
+}
+
+/// Where a goroutine begins to search among `count` places, so that goroutines begin at different ones.
+fn place_of(number: u64, count: usize) -> u32 {
+    if count == 0 {
+        return 0;
+    }
+    u32::try_from(number.wrapping_mul(64) % count as u64).unwrap_or(0)
+}
+
+/// Moves the prints that are not void to the end of another list.
+fn move_valid(prints: &mut Vec<Print>, into: &mut Vec<Print>)
+    requires room { vec_len prints.old ≤ vec_capacity into.old - vec_len into.old }
+    ensures moved { into.new.items ≡ into.old.items ++ valid prints.old.items }
+    ensures none { prints.new.items ≡ [] }
+{
+    prints.reverse();
+    while let Some(print) = prints.pop() {
+        if !print.is_void {
+            into.push_reserved(print);
+        }
+    }
+}
+
+/// Makes goroutines of children, at the end of a list.
+fn raise(alloc: Global, run: &Run<'_>, children: &mut Vec<Child>, into: &mut Vec<Goroutine>)
+    requires room { vec_len children.old ≤ vec_capacity into.old - vec_len into.old }
+    requires stand { AllStand run.now children.old.items }
+    ensures born { (more : List spec.Goroutine) × (into.new.items ≡ into.old.items ++ more)
+        × AreBorn run.now children.old.items more }
+    ensures none { children.new.items ≡ [] }
+{
+    children.reverse();
+    while let Some(child) = children.pop() {
+        into.push_reserved(Goroutine::new(alloc, run, child.actor, child.number));
+    }
+}
+
+impl Goroutine {
+    /// A goroutine that has done nothing yet.
+    fn new(alloc: Global, run: &Run<'_>, actor: Actor, number: u64) -> Goroutine
+        ensures actor { result.actor ≡ actor }
+        ensures number { result.number ≡ number }
+        ensures prints { result.prints.items ≡ [] }
+        ensures children { result.children.items ≡ [] }
+        ensures first { result.first ≡ None }
+    {
+        Goroutine {
+            actor,
+            number,
+            prints: Vec::new(alloc),
+            children: Vec::new(alloc),
+            first: None,
+            page_from: place_of(number, run.pages()),
+            slot_from: place_of(number, run.slots()),
+        }
+    }
+
+    /// The goroutine of `main` at a new table. The record of `main` goes from the table's first seat to a seat of the goroutine.
+    ///
+    /// # Errors
+    ///
+    /// On allocation failure. Then the seat keeps it.
+    pub fn main_goroutine(
+        alloc: Global,
+        run: &Run<'_>,
+        seat: &mut RunSeat,
+    ) -> Result<Goroutine, AllocError>
+        requires own { IsSeatOf seat.old.table_id run.now.table clock_at }
+        requires first { seat.old.me ≡ (view ((0, first_of run.now.setup.code) ∷ []) [], []) }
+        requires possible { IsPossible run.now.setup 0 (first_of run.now.setup.code) }
+        ensures own { (seat.new.table_id ≡ seat.old.table_id) × (seat.new.id ≡ seat.old.id) }
+        ensures seat { MatchResult result (λ _. seat.new.me ≡ (view [] [], [])) (λ _. seat.new.me ≡ seat.old.me) }
+        ensures main { IfOk result (λ go. IsOf run.now go × (go.number ≡ 0) × (go.actor.seat.me ≡ seat.old.me)) }
+        ensures new { IfOk result (λ go. (go.prints.items ≡ []) × (go.children.items ≡ [])) }
+    {
+        run.fits();
+        match Body::new(alloc, run.program(), run.slots() as u32) {
+            Ok(body) => {
+                let seat = part::<Record, Plan, ByRuns>(run.table(), seat, 0);
+                Ok(Goroutine::new(
+                    alloc,
+                    run,
+                    Actor {
+                        seat,
+                        behind: 0,
+                        body,
+                    },
+                    0,
+                ))
+            }
+            Err(error) => Err(error),
+        }
+    }
+
+    /// Its number. That of `main` is 0.
+    pub fn number(&self) -> u64
+        ensures { result ≡ self.now.number }
+    {
+        self.number
+    }
+
+    /// How many of its prints were not gathered.
+    pub fn new_prints(&self) -> usize
+        ensures { result ≡ length self.now.prints.items }
+    {
+        self.prints.len()
+    }
+
+    /// How many goroutines it has started that were not adopted.
+    pub fn new_children(&self) -> usize
+        ensures { result ≡ length self.now.children.items }
+    {
+        self.children.len()
+    }
+
+    /// How the run ended, if this goroutine ended it.
+    pub fn first(&self) -> Option<Mark>
+        ensures { result ≡ self.now.first }
+    {
+        self.first
+    }
+
+    /// What it has made and done.
+    pub fn tally(&self) -> &Counts
+        ensures { (r : runs.Run) → IsOf r self.now → result.now ≡ (record_of r.setup self.now).clock.share }
+    {
+        self.actor.body.counts()
+    }
+
+    /// The goroutines that it has started since the last call come to the list's end, in the order in which they were started.
+    /// Returns how many.
+    ///
+    /// # Errors
+    ///
+    /// On allocation failure. Then none has moved.
+    pub fn adopt(
+        &mut self,
+        alloc: Global,
+        run: &Run<'_>,
+        into: &mut Vec<Goroutine>,
+    ) -> Result<usize, AllocError>
+        requires of { IsOf run.now self.old }
+        ensures of { IsOf run.now self.new }
+        ensures adopts { MatchResult result (Adopts run.now self.old self.new into.old.items into.new.items)
+            (λ _. (self.new ≡ self.old) × (into.new.items ≡ into.old.items)) }
+        ensures all { All (IsOf run.now) into.old.items → All (IsOf run.now) into.new.items }
+    {
+        let count = self.new_children();
+        match into.reserve(count) {
+            Ok(()) => {
+                raise(alloc, run, &mut self.children, into);
+                Ok(count)
+            }
+            Err(error) => Err(error),
+        }
+    }
+
+    /// What it has printed since the last call comes to the list's end, in its order, but for prints that are void. Returns how many
+    /// prints came.
+    ///
+    /// # Errors
+    ///
+    /// On allocation failure. Then nothing has moved.
+    pub fn gather(&mut self, into: &mut Vec<Print>) -> Result<usize, AllocError>
+        ensures of { (r : runs.Run) → IsOf r self.old → IsOf r self.new }
+        ensures gathers { MatchResult result (Gathers self.old self.new into.old.items into.new.items)
+            (λ _. (self.new ≡ self.old) × (into.new.items ≡ into.old.items)) }
+    {
+        match into.reserve(self.prints.len()) {
+            Ok(()) => {
+                let before = into.len();
+                move_valid(&mut self.prints, into);
+                Ok(into.len() - before)
+            }
+            Err(error) => Err(error),
+        }
+    }
+
+    /// Whether the run has ended. Its seat has then seen all accesses of its own.
+    pub fn look(&mut self, run: &Run<'_>) -> bool
+        requires of { IsOf run.now self.old }
+        ensures of { IsOf run.now self.new }
+        ensures looks { Looks run.now self.old self.new result }
+    {
+        run.fits();
+        clock::look(run.table(), &mut self.actor.seat, 0)
+    }
+
+    /// Its record comes to the seat of its driver. What it had printed was gathered, and what it had started was adopted.
+    pub fn retire(self, run: &Run<'_>, seat: &mut RunSeat)
+        requires of { IsOf run.now self }
+        requires own { IsSeatOf seat.old.table_id run.now.table clock_at }
+        requires gathered { self.prints.items ≡ [] }
+        requires adopted { self.children.items ≡ [] }
+        ensures own { (seat.new.table_id ≡ seat.old.table_id) × (seat.new.id ≡ seat.old.id) }
+        ensures records { seat.new.me.0.records ≡ seat.old.me.0.records ++ (self.number, record_of run.now.setup self) ∷ [] }
+        ensures seen { seat.new.me.0.seen ≡ longer seat.old.me.0.seen self.actor.seat.me.0.seen }
+        ensures slots { seat.new.me.1 ≡ seat.old.me.1 }
+    {
+        seats::join(run.table(), seat, self.actor.seat);
+    }
+
+    /// It and its driver have then seen what either had seen.
+    pub fn meet(&mut self, run: &Run<'_>, seat: &mut RunSeat)
+        requires of { IsOf run.now self.old }
+        requires own { IsSeatOf seat.old.table_id run.now.table clock_at }
+        ensures of { IsOf run.now self.new }
+        ensures own { seat.new.table_id ≡ seat.old.table_id }
+        ensures seat { seat.new.me ≡ (
+          view seat.old.me.0.records (longer seat.old.me.0.seen self.old.actor.seat.me.0.seen),
+          seat.old.me.1,
+        ) }
+        ensures seen { self.new.actor.seat.me.0.seen ≡ longer seat.old.me.0.seen self.old.actor.seat.me.0.seen }
+        ensures rest { self.new ≡ record self.old { actor = record self.old.actor { seat = self.new.actor.seat } } }
+        ensures record { record_of run.now.setup self.new ≡ record_of run.now.setup self.old }
+    {
+        seats::meet(run.table(), seat, &mut self.actor.seat);
+    }
+}

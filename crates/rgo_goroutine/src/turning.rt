@@ -1,0 +1,408 @@
+//! The turn of a goroutine.
+ghost use Rattle.std.specs.Prelude.{◌≡◌, ◌+◌, ◌-◌, ◌∷◌, ◌<◌, ◌≤◌, [], ℕ, List, OnOk, Some, None, false, true, ◌↔◌};
+ghost use Rattle.rgo_core.specs.Records.{steps_of};
+ghost use Rattle.rgo_body.specs.Bodies.{HasRoomBehind, frames_in};
+ghost use Rattle.rgo_body.specs.Nexts.{IsNextOf};
+ghost use Rattle.rgo_body.specs.Steps.{Stays};
+ghost use Rattle.rgo_body.specs.declared.bodies.Side.TheVariants as side;
+ghost use Rattle.rgo_machine.specs.declared.turns.Shortage.TheVariants as shortage;
+ghost use Rattle.rgo_region_machine.specs.States.{Duty};
+ghost use Rattle.rgo_acts.specs.Actors.{Stands};
+ghost use Rattle.rgo_goroutine.specs.Acting.{Acts, Goes, Proceeds, HasCaughtUp};
+ghost use Rattle.rgo_goroutine.specs.Instructions.{CanCountMore, HasAttendedAll, HasAttendedOne, HasPages, Instructs, IsNear, IsReadyToExpand};
+ghost use Rattle.rgo_goroutine.specs.Examples.{PassingExamples, TurnExamples};
+ghost use Rattle.rgo_goroutine.specs.Goroutines.{IsOf, record_of};
+ghost use Rattle.rgo_goroutine.specs.Turns.{HasTurned, IsTidy};
+
+use crate::goroutine::Goroutine;
+use rgo_acts::duties::{self, Attended};
+use rgo_acts::runs::Run;
+use rgo_acts::{channels, locals};
+use rgo_body::{Body, Next, Program, Side};
+use rgo_core_steps::clock::{Mark, look};
+use rgo_core_steps::counting::Steps;
+use rgo_machine::Shortage;
+use std::alloc::{AllocError, Global};
+use std::sync::ledger::Ledger;
+
+/// Why a turn was over.
+#[derive(Clone, Copy, Debug, PartialEq, Eq)]
+pub enum Stop {
+    /// It has made as many instructions as it was given, or the run had ended before it would have ended it.
+    Went,
+    /// The operation on a channel at which it is was not ready. `at` is the word of the channel's control; `None` for a nil channel.
+    Blocked { at: Option<usize> },
+    /// Another goroutine had locked the channel, or changed its control meanwhile. It is to be tried again.
+    Lost { at: usize },
+    /// Its first function has returned, and it owes nothing.
+    Ended,
+    /// It has ended the run.
+    Stopped(Mark),
+    /// No page or no slot was free. Nothing has ended.
+    Short(Shortage),
+    /// Memory ran out before its next step. Nothing has ended.
+    NoMemory,
+}
+
+/// The channels that a turn has changed, by the words of their controls, so that goroutines that wait there can be woken. It is a
+/// hint: no contract speaks of it.
+#[derive(Clone, Copy)]
+pub struct Changed {
+    pub(crate) at: [usize; 8],
+    pub(crate) count: usize,
+}
+
+/// What a turn has done.
+#[derive(Clone, Copy)]
+pub struct Turned {
+    /// How many instructions it has made.
+    pub steps: u32,
+    /// Whether it may have changed a word of the table or its own frames.
+    pub moved: bool,
+    pub stop: Stop,
+    pub changed: Changed,
+}
+
+/// What a turn has left to do, and has done.
+#[derive(Drop)]
+pub(crate) struct Turning {
+    /// How many instructions more it may make.
+    pub(crate) left: u32,
+    pub(crate) moved: bool,
+    pub(crate) changed: Changed,
+}
+
+impl Turning {
+    /// It has made this many instructions more.
+    pub(crate) fn count(&mut self, done: u32)
+        requires { done ≤ self.old.left }
+        ensures { self.new ≡ record self.old { left = self.old.left - done; moved = true } }
+    {
+        self.left -= done;
+        self.moved = true;
+    }
+
+    /// It may have changed something.
+    pub(crate) fn move_on(&mut self)
+        ensures { self.new ≡ record self.old { moved = true } }
+    {
+        self.moved = true;
+    }
+
+    /// It has changed the channel whose control is this word.
+    pub(crate) fn note(&mut self, at: usize)
+        requires { self.old.changed.count < 8 }
+        ensures count { self.new.changed.count ≡ self.old.changed.count + 1 }
+        ensures same { (self.new.left ≡ self.old.left) × (self.new.moved ≡ true) }
+    {
+        self.changed.note(at);
+        self.moved = true;
+    }
+}
+
+impl Goroutine {
+    /// A turn: up to `slice` instructions.
+    pub fn turn<L: Ledger>(
+        &mut self,
+        alloc: Global,
+        run: &Run<'_>,
+        slice: u32,
+        steps: &mut Steps<L>,
+    ) -> Turned
+        requires of { IsOf run.now self.old }
+        requires pages { HasPages run.now }
+        requires count { steps_of (record_of run.now.setup self.old) + slice < 8796093022208 }
+        ensures of { IsOf run.now self.new }
+        ensures turned { HasTurned run.now self.old self.new slice result }
+        ensures tidy { IsTidy (record_of run.now.setup self.new) }
+    {
+        let mut turning = Turning {
+            left: slice,
+            moved: false,
+            changed: Changed::new(),
+        };
+        let stop = self.proceed(alloc, run, &mut turning, steps);
+        self.catch_up(run);
+        Turned {
+            steps: slice - turning.left,
+            moved: turning.moved,
+            stop,
+            changed: turning.changed,
+        }
+    }
+
+    /// Its record takes its local steps, by a load of the clock.
+    fn catch_up(&mut self, run: &Run<'_>)
+        requires stands { Stands run.now self.old.actor }
+        ensures { (left : ℕ) → Goes run.now self.old left → HasCaughtUp run.now self.old self.new left }
+    {
+        run.fits();
+        look(run.table(), &mut self.actor.seat, self.actor.behind);
+        self.actor.behind = 0;
+    }
+
+    /// Its record takes its local steps if they are many.
+    pub(crate) fn come_near(&mut self, run: &Run<'_>)
+        requires stands { Stands run.now self.old.actor }
+        ensures { (left : ℕ) → Goes run.now self.old left → IsNear run.now self.old self.new left }
+    {
+        if self.actor.behind >= 1 << 62 {
+            self.catch_up(run);
+        }
+    }
+
+    /// Acts until it may do no more in this turn, or cannot go on.
+    fn proceed<L: Ledger>(
+        &mut self,
+        alloc: Global,
+        run: &Run<'_>,
+        turning: &mut Turning,
+        steps: &mut Steps<L>,
+    ) -> Stop
+        requires goes { Goes run.now self.old turning.old.left }
+        requires pages { HasPages run.now }
+        requires noted { turning.old.changed.count ≤ 8 }
+        ensures { Proceeds run.now self.old self.new turning.old turning.new result }
+    {
+        while turning.left > 0 && turning.changed.count < 8 {
+            if let Some(stop) = self.advance(alloc, run, turning, steps) {
+                return stop;
+            }
+        }
+        Stop::Went
+    }
+
+    /// Makes some instructions, or an offer at a channel; before that it attends to what it owes. Returns why the turn is over, if it is.
+    fn advance<L: Ledger>(
+        &mut self,
+        alloc: Global,
+        run: &Run<'_>,
+        turning: &mut Turning,
+        steps: &mut Steps<L>,
+    ) -> Option<Stop>
+        requires goes { Goes run.now self.old turning.old.left }
+        requires pages { HasPages run.now }
+        requires some { (0 < turning.old.left) × (turning.old.changed.count < 8) }
+        ensures { Instructs run.now self.old self.new turning.old turning.new result }
+    {
+        if let Side::Offering(at) = self.actor.body.side() {
+            return self.acknowledge(run, at, turning, steps);
+        }
+        if let Some(stop) = self.attend_all(run, turning, steps) {
+            return Some(stop);
+        }
+        if self.actor.body.is_expanded() {
+            return self.instruct(alloc, run, turning, steps);
+        }
+        self.execute(run, turning);
+        if turning.left == 0 {
+            return None;
+        }
+        if let Some(stop) = self.expand(run, turning) {
+            return Some(stop);
+        }
+        if let Some(stop) = self.attend_all(run, turning, steps) {
+            return Some(stop);
+        }
+        self.instruct(alloc, run, turning, steps)
+    }
+
+    /// Whether one more of each thing can be counted.
+    pub(crate) fn can_count(&self, run: &Run<'_>) -> bool
+        ensures { (result ≡ true) ↔ CanCountMore run.now self.now }
+    {
+        let counts = self.actor.body.counts();
+        counts.has_room() && counts.returned <= u64::MAX - run.pages() as u64
+    }
+
+    /// Attends to all duties in its queue. If it is to try an operation on a channel again, it has none.
+    fn attend_all<L: Ledger>(
+        &mut self,
+        run: &Run<'_>,
+        turning: &mut Turning,
+        steps: &mut Steps<L>,
+    ) -> Option<Stop>
+        requires goes { Goes run.now self.old turning.old.left }
+        requires noted { turning.old.changed.count < 8 }
+        requires none { (at : ℕ) → self.old.actor.body.side ≡ side.Offering at → ⊥ }
+        ensures acts { Acts run.now self.old self.new turning.old turning.new result }
+        ensures same { turning.new ≡ record turning.old { moved = turning.new.moved } }
+        ensures done { result ≡ None → HasAttendedAll self.old.actor.body self.new.actor.body }
+    {
+        if channels::tries_again(&mut self.actor, run) {
+            return None;
+        }
+        self.attend_each(run, turning, steps)
+    }
+
+    /// Attends to one duty after another.
+    fn attend_each<L: Ledger>(
+        &mut self,
+        run: &Run<'_>,
+        turning: &mut Turning,
+        steps: &mut Steps<L>,
+    ) -> Option<Stop>
+        requires goes { Goes run.now self.old turning.old.left }
+        requires noted { turning.old.changed.count < 8 }
+        requires rests { self.old.actor.body.side ≡ side.AtRest }
+        ensures acts { Acts run.now self.old self.new turning.old turning.new result }
+        ensures same { turning.new ≡ record turning.old { moved = turning.new.moved } }
+        ensures done { result ≡ None → HasAttendedAll self.old.actor.body self.new.actor.body }
+    {
+        while self.actor.body.duty().is_some() {
+            turning.move_on();
+            if let Some(stop) = self.attend(run, turning, steps) {
+                return Some(stop);
+            }
+        }
+        None
+    }
+
+    /// Attends to the first duty.
+    fn attend<L: Ledger>(
+        &mut self,
+        run: &Run<'_>,
+        turning: &Turning,
+        steps: &mut Steps<L>,
+    ) -> Option<Stop>
+        requires goes { Goes run.now self.old turning.now.left }
+        requires noted { turning.now.changed.count < 8 }
+        requires moved { turning.now.moved ≡ true }
+        requires rests { self.old.actor.body.side ≡ side.AtRest }
+        requires first { (d : Duty) × (ds : List Duty) × (self.old.actor.body.queue.duties ≡ d ∷ ds) }
+        ensures acts { Acts run.now self.old self.new turning.now turning.now result }
+        ensures done { result ≡ None → HasAttendedOne self.old.actor.body self.new.actor.body }
+    {
+        self.come_near(run);
+        if !self.can_count(run) {
+            return Some(Stop::NoMemory);
+        }
+        match duties::attend(&mut self.actor, run, self.slot_from, steps) {
+            Attended::Done => None,
+            Attended::Short => Some(Stop::Short(Shortage::Regions)),
+            Attended::NoMemory => Some(Stop::NoMemory),
+        }
+    }
+
+    /// Asks whether its offer was taken.
+    fn acknowledge<L: Ledger>(
+        &mut self,
+        run: &Run<'_>,
+        at: usize,
+        turning: &mut Turning,
+        steps: &mut Steps<L>,
+    ) -> Option<Stop>
+        requires goes { Goes run.now self.old turning.old.left }
+        requires some { (0 < turning.old.left) × (turning.old.changed.count < 8) }
+        requires offers { self.old.actor.body.side ≡ side.Offering at }
+        ensures { Instructs run.now self.old self.new turning.old turning.new result }
+    {
+        let Some(next) = self.actor.body.next(run.program()) else {
+            unreachable!()
+        };
+        if room_behind_offer(&mut self.actor.body, run.program(), &next).is_err() {
+            return Some(Stop::NoMemory);
+        }
+        let talked = channels::acknowledge(&mut self.actor, run, &next, at, steps);
+        self.after_talk(run, talked, 0, turning)
+    }
+
+    /// Executes simple instructions up to the next one that is not simple.
+    fn execute(&mut self, run: &Run<'_>, turning: &mut Turning)
+        requires goes { Goes run.now self.old turning.old.left }
+        requires noted { turning.old.changed.count < 8 }
+        requires none { (at : ℕ) → self.old.actor.body.side ≡ side.Offering at → ⊥ }
+        requires empty { self.old.actor.body.queue.duties ≡ [] }
+        requires not_yet { self.old.actor.body.is_expanded ≡ false }
+        ensures acts { Acts run.now self.old self.new turning.old turning.new None }
+        ensures still { IsReadyToExpand self.new.actor.body }
+        ensures noted { turning.new.changed ≡ turning.old.changed }
+        ensures fewer { turning.new.left ≤ turning.old.left }
+    {
+        turning.move_on();
+        match self.actor.body.side() {
+            Side::AtRest => {}
+            Side::Tried | Side::Offering(_) => return,
+        }
+        self.come_near(run);
+        let done = locals::execute(&mut self.actor, run, turning.left as usize);
+        turning.count(done as u32);
+    }
+
+    /// What comes before the next instruction comes into the queue of duties.
+    fn expand(&mut self, run: &Run<'_>, turning: &mut Turning) -> Option<Stop>
+        requires goes { Goes run.now self.old turning.old.left }
+        requires noted { turning.old.changed.count < 8 }
+        requires still { IsReadyToExpand self.old.actor.body }
+        ensures acts { Acts run.now self.old self.new turning.old turning.new result }
+        ensures same { turning.new ≡ record turning.old { moved = true } }
+        ensures expanded { result ≡ None → (self.new.actor.body.is_expanded ≡ true) × (self.new.actor.body.side ≡ self.old.actor.body.side) }
+    {
+        turning.move_on();
+        let Some(next) = self.actor.body.next(run.program()) else {
+            return Some(Stop::Ended);
+        };
+        match locals::expand(&mut self.actor, run, &next) {
+            Ok(()) => None,
+            Err(_) => Some(Stop::NoMemory),
+        }
+    }
+}
+
+/// Room for what is owed after the send at which a body has an offer. It owes nothing before the send; where it has not looked for this
+/// yet, it does so now.
+///
+/// # Errors
+///
+/// On allocation failure. Then it owes what it owed.
+fn room_behind_offer(
+    body: &mut Body,
+    program: &Program<'_>,
+    next: &Next<'_>,
+) -> Result<(), AllocError>
+    requires next { IsNextOf program.now.code (frames_in body.old) next.now }
+    requires empty { body.old.queue.duties ≡ [] }
+    ensures expanded { OnOk result (body.new.is_expanded ≡ true) }
+    ensures room { OnOk result (HasRoomBehind body.new next.now) }
+    ensures stays { Stays program.now body.old body.new }
+    ensures same { body.new ≡ record body.old { queue = body.new.queue; is_expanded = body.new.is_expanded } }
+{
+    if body.is_expanded() {
+        return body.room_behind(next);
+    }
+    match body.expand(program, next) {
+        Ok(()) => body.room_behind(next),
+        Err(error) => Err(error),
+    }
+}
+
+impl Changed {
+    fn new() -> Changed
+        ensures { result.count ≡ 0 }
+    {
+        Changed {
+            at: [0; 8],
+            count: 0,
+        }
+    }
+
+    /// One more.
+    pub(crate) fn note(&mut self, at: usize)
+        requires { self.old.count < 8 }
+        ensures { self.new.count ≡ self.old.count + 1 }
+    {
+        self.at[self.count] = at;
+        self.count += 1;
+    }
+
+    /// The words of the controls.
+    pub fn channels(&self) -> &[usize] {
+        self.at.get(..self.count).unwrap_or(&[])
+    }
+}
+
+/// Goroutines and turns that are as their definitions say, and such as are not.
+pub fn examples()
+    ensures turns { TurnExamples }
+    ensures passing { PassingExamples }
+{}
