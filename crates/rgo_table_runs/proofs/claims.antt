@@ -1,0 +1,4 @@
+pub mod Erased
+pub mod Counted
+pub mod Claimed
+pub mod Examples

@@ -1,0 +1,5 @@
+pub mod Rows
+pub mod Prints
+pub mod Final
+pub mod Closed
+pub mod Examples

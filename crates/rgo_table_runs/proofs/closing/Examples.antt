@@ -1,0 +1,194 @@
+-- Where the definitions of a closed run hold and where they do not.
+use Rattle.std.proofs.Common.{◌≡◌, ℕ, zero, suc, ◌<◌, ◌≤◌, max, true, false, List, [], ◌∷◌, take, Some, None, slice_get, refl, ap, sym, subst, arith}
+use Rattle.std.proofs.lemmas.Option.{same_Some}
+use mathlib.Core.Option.{some, some-injective, some-ne-none}
+use lib.ListN.{get_elem?}
+use Rattle.rgo_core.proofs.Opening.{opening_law}
+use Rattle.rgo_core.specs.Core.{Core, Setup}
+use Rattle.rgo_core.specs.Opening.{first_of, opening}
+use Rattle.rgo_core.specs.Records.{Drawn, Record, accesses, blank, drawn_at, fresh, with_end, with_print}
+use Rattle.rgo_core_frames.specs.Constants.{ConstantsFit}
+use Rattle.rgo_core_memory.specs.Records.{Calm}
+use Rattle.rgo_core_rule.specs.Histories.{replay}
+use Rattle.rgo_core_rule.specs.Lists.{flattened}
+use Rattle.rgo_core_rule.specs.Views.{Has, view}
+use Rattle.rgo_code.specs.Checked.{IsChecked}
+use Rattle.rgo_code.specs.NameRules.{Ascends}
+use Rattle.rgo_core_steps.specs.Outcomes.{Closes}
+use Rattle.rgo_driver.specs.declared.ends.RunEnd.TheVariants.{NoMemory}
+use Rattle.rgo_machine.specs.Limits.{most_goroutines}
+use Rattle.rgo_machine.specs.declared.picks.End.TheVariants.{Exit}
+use Rattle.rgo_region_machine.specs.States.{Ended, Mark, Stopped}
+use Rattle.rgo_region_machine.specs.declared.limits.Limit.TheVariants.{Memory}
+use Rattle.rgo_table_runs.specs.closing.Examples.{ClosingExamples, family, main_alone, parent, printers, with_clock}
+use Rattle.rgo_table_runs.specs.closing.Laws.{HasClosed}
+use Rattle.rgo_table_runs.specs.closing.Prints.{AllGiven, IsPrint}
+use Rattle.rgo_table_runs.specs.closing.Rows.{AreAll}
+
+-- ---- rows of two goroutines, and of one
+
+module _ (a b : Record) (P : ℕ → Record → Type 0) (p : P 0 a) (q : P 1 b) where
+  each_of_two : (g : ℕ) (c : Record) → Has ((0, a) ∷ (1, b) ∷ []) g c → P g c
+  each_of_two g c (zero, e) = subst (λ (r : ℕ × Record). P r.0 r.1) (some-injective (0, a) (g, c) e) p
+  each_of_two g c (suc zero, e) = subst (λ (r : ℕ × Record). P r.0 r.1) (some-injective (1, b) (g, c) e) q
+  each_of_two g c (suc (suc k), e) = absurd (some-ne-none (g, c) (sym e))
+
+module _ (a : Record) (P : ℕ → Record → Type 0) (p : P 0 a) where
+  each_of_one : (g : ℕ) (c : Record) → Has ((0, a) ∷ []) g c → P g c
+  each_of_one g c (zero, e) = subst (λ (r : ℕ × Record). P r.0 r.1) (some-injective (0, a) (g, c) e) p
+  each_of_one g c (suc k, e) = absurd (some-ne-none (g, c) (sym e))
+
+-- a list of one, and of two
+module _ {A : Type 0} where
+  one_only : (a : A) (P : ℕ → A → Type 0) → P 0 a → (i : ℕ) (d : A) → get_elem? (a ∷ []) i ≡ some d → P i d
+  one_only a P p zero d e = subst (P 0) (some-injective a d e) p
+  one_only a P p (suc i) d e = absurd (some-ne-none d (sym e))
+
+  two_only : (a b : A) (P : ℕ → A → Type 0) → P 0 a → P 1 b → (i : ℕ) (d : A) → get_elem? (a ∷ b ∷ []) i ≡ some d → P i d
+  two_only a b P p q zero d e = subst (P 0) (some-injective a d e) p
+  two_only a b P p q (suc i) d e = one_only b (λ j d. P (suc j) d) q i d e
+
+its_child : (i h : ℕ) → slice_get (1 ∷ []) i ≡ Some h → h ≡ 1
+its_child zero h e = sym (same_Some 1 h e)
+its_child (suc i) h e = let z : None ≡ Some h = e in cc z
+
+no_child : (i h : ℕ) → None ≡ Some h → ⊥
+no_child i h e = cc e
+
+family_all : AreAll (view family []) family
+family_all = record {
+  here = λ g c has. has;
+  family = record {
+    main = (parent, (0, refl));
+    children = λ g h i c has at. each_of_two parent (with_clock blank) (λ g c. slice_get c.clock.children i ≡ Some h → (d : Record) × Has family h d)
+        (λ e. subst (λ (k : ℕ). (d : Record) × Has family k d) (sym (its_child i h e)) (with_clock blank, (1, refl))) (λ e. absurd (no_child i h e)) g c has at;
+  };
+  ascending = ascending;
+  calm = each_of_two parent (with_clock blank) (λ g c. c.memory.give ≡ Calm) refl refl;
+}
+  where
+    ascending : (i : ℕ) (r q : ℕ × Record) → get_elem? family i ≡ some r → get_elem? family (suc i) ≡ some q → r.0 < q.0
+    ascending zero r q e f =
+        let a : 0 ≡ r.0 = ap (λ (x : ℕ × Record). x.0) (some-injective (0, parent) r e) in
+        let b : 1 ≡ q.0 = ap (λ (x : ℕ × Record). x.0) (some-injective (1, with_clock blank) q f) in
+        omega (arith, a, b)
+    ascending (suc zero) r q e f = absurd (some-ne-none q (sym f))
+    ascending (suc (suc i)) r q e f = absurd (some-ne-none q (sym f))
+
+one_row : (k : ℕ) (c d : Record) → Has ((0, c) ∷ []) (suc k) d → ⊥
+one_row k c d (zero, e) = let z : 0 ≡ suc k = ap (λ (x : ℕ × Record). x.0) (some-injective (0, c) (suc k, d) e) in omega (arith, z)
+one_row k c d (suc i, e) = some-ne-none (suc k, d) (sym e)
+
+first_print : IsPrint printers (drawn_at 0 (9 ∷ []))
+first_print = record { goroutine = 1; its = with_clock (with_print blank 0 (9 ∷ [])); has = (1, refl); place = 0; there = refl }
+
+second_print : IsPrint printers (drawn_at 1 (7 ∷ 8 ∷ []))
+second_print = record { goroutine = 0; its = with_clock (with_print fresh 1 (7 ∷ 8 ∷ [])); has = (0, refl); place = 0; there = refl }
+
+both_given : AllGiven printers (drawn_at 0 (9 ∷ []) ∷ drawn_at 1 (7 ∷ 8 ∷ []) ∷ [])
+both_given d p valid = each_of_two (with_clock (with_print fresh 1 (7 ∷ 8 ∷ []))) (with_clock (with_print blank 0 (9 ∷ [])))
+    (λ g c. (i : ℕ) → get_elem? c.clock.prints i ≡ some d → d.ticket < 2)
+    (λ i e. one_only (drawn_at 1 (7 ∷ 8 ∷ [])) (λ j d. d.ticket < 2) (omega arith) i d e)
+    (λ i e. one_only (drawn_at 0 (9 ∷ [])) (λ j d. d.ticket < 2) (omega arith) i d e)
+    p.goroutine p.its p.has p.place p.there
+
+not_both : (a b : Mark) → (a ≡ b → ⊥) → Some a ≡ Some b → ⊥
+not_both a b ne e = ne (same_Some a b e)
+
+another_end : Ended Exit ≡ Stopped Memory → ⊥
+another_end e = cc e
+
+none_printed : (d : Drawn) → IsPrint main_alone d → ⊥
+none_printed d p = each_of_one (with_clock fresh) (λ g c. get_elem? c.clock.prints p.place ≡ some d → ⊥) (λ e. some-ne-none d (sym e)) p.goroutine p.its p.has p.there
+
+spent_all : (steps : ℕ) → steps ≡ 5 → (steps ≤ 5) × (3 ≤ 5) × (3 < max 1 steps)
+spent_all steps e = (omega (arith, e), omega arith, subst (λ (n : ℕ). 3 < max 1 n) (sym e) (omega arith))
+
+-- a table that was just opened
+module _ (T : Setup) (checked : IsChecked T.code) (ascends : Ascends T.code) (constants : ConstantsFit T.code)
+    (few : most_goroutines T.limits ≤ 1000000) where
+  abbrev main : Record
+  main = first_of T.code
+
+  opened : Closes T (opening T) (view ((0, main) ∷ []) [])
+  opened = record {
+    recs = main ∷ [];
+    history = [];
+    account = record {
+      gains = [];
+      paired = refl;
+      explains = opening_law T checked ascends constants few;
+      moments = moments;
+      replayed = refl;
+      sound = tt;
+      counted = one_only main (λ g c. accesses c ≡ 0) refl;
+      makers = λ i a g e q. absurd (some-ne-none a (sym e));
+      glances = λ i a e q. absurd (some-ne-none a (sym e));
+    };
+    seen = ([], refl);
+    here = each_of_one main (λ g c. (get_elem? (main ∷ []) g ≡ some c) × (accesses c ≡ 0)) (refl, refl);
+  }
+    where
+      moments : (k : ℕ) → k ≤ 0 → (then : List Record) × Core T (replay (opening T) (take k [])) then (flattened (take k []))
+      moments zero l = (main ∷ [], opening_law T checked ascends constants few)
+      moments (suc k) l = absurd (omega arith)
+
+  pub closed_at_once : (e : Closes T (opening T) (view ((0, main) ∷ []) []))
+      × HasClosed T (opening T) (view ((0, main) ∷ []) []) e ((0, main) ∷ []) [] None 0 NoMemory None None
+  closed_at_once = (
+    opened,
+    record {
+      all = record {
+        here = λ g c has. has;
+        family = record {
+          main = (main, (0, refl));
+          children = λ g h i c has at. each_of_one main (λ g c. slice_get c.clock.children i ≡ Some h → (d : Record) × Has ((0, main) ∷ []) h d)
+              (λ e. absurd (no_child i h e)) g c has at;
+        };
+        ascending = λ i r q e f. absurd (some-ne-none q (sym f));
+        calm = each_of_one main (λ g c. c.memory.give ≡ Calm) refl;
+      };
+      order = record {
+        are = λ i d e. absurd (some-ne-none d (sym e));
+        next = λ i d e. absurd (some-ne-none d (sym e));
+        valid = λ i d e. absurd (some-ne-none d (sym e));
+      };
+      is_first = each_of_one main (λ g c. c.clock.first ≡ None) refl;
+      ends = tt;
+      gave = tt;
+    },
+  )
+
+pub closing_examples : ClosingExamples
+closing_examples = record {
+  all = family_all;
+  fewer = λ k. let d = k.family.children 0 1 0 parent (0, refl) refl in one_row 0 parent d.0 d.1;
+  swapped = λ k. let l = k.ascending 0 (1, with_clock blank) (0, parent) refl refl in omega arith;
+  unknown = λ k. let h = k.here 0 (with_clock fresh) (0, refl) in some-ne-none (0, with_clock fresh) (sym h.1);
+  shares = refl;
+  in_order = record {
+    are = two_only (drawn_at 0 (9 ∷ [])) (drawn_at 1 (7 ∷ 8 ∷ [])) (λ i d. IsPrint printers d) first_print second_print;
+    next = two_only (drawn_at 0 (9 ∷ [])) (drawn_at 1 (7 ∷ 8 ∷ [])) (λ i d. d.ticket ≡ i) refl refl;
+    valid = two_only (drawn_at 0 (9 ∷ [])) (drawn_at 1 (7 ∷ 8 ∷ [])) (λ i d. d.is_void ≡ false) refl refl;
+  };
+  by_place = λ k. let e : 1 ≡ 0 = k.next 0 (drawn_at 1 (7 ∷ 8 ∷ [])) refl in omega (arith, e);
+  void = λ rows k. let e : true ≡ false = k.valid 0 (drawn_at 9223372036854775808 (9 ∷ [])) refl in cc e;
+  none_left = λ d p v. absurd (none_printed d p);
+  one_left = λ k. let l : 1 < 1 = k (drawn_at 1 (7 ∷ 8 ∷ [])) second_print refl in omega (arith, l);
+  bytes = refl;
+  set = (0, with_clock (with_end fresh 0 (Ended Exit)), (0, refl), refl);
+  not_set = λ k. let e : Some (Ended Exit) ≡ None = k 0 (with_clock (with_end fresh 0 (Ended Exit))) (0, refl) in cc e;
+  another = λ k. each_of_one (with_clock (with_end fresh 0 (Ended Exit))) (λ g c. c.clock.first ≡ Some (Stopped Memory) → ⊥)
+      (not_both (Ended Exit) (Stopped Memory) another_end) k.0 k.1 k.2 k.3;
+  too_deep = refl;
+  spent = λ code sizes limits s e. spent_all limits.steps e;
+  unspent = λ code sizes limits s e k. let l = k.0 in omega (arith, e, l);
+  unended = λ code sizes limits s k. k;
+  ended = λ code sizes limits s. refl;
+  gave = (both_given, refl);
+  gave_one = refl;
+  kept_one = λ k. let l : 1 < 1 = k.0 (drawn_at 1 (7 ∷ 8 ∷ [])) second_print refl in omega (arith, l);
+  gave_some = (2, refl);
+  closed = λ T checked ascends constants few. closed_at_once T checked ascends constants few;
+  nobody = λ T words e rows k. let h = k.all.here 0 k.all.family.main.0 k.all.family.main.1 in some-ne-none (0, k.all.family.main.0) (sym h.1);
+}

@@ -1,0 +1,73 @@
+-- A goroutine that lacks a page or a slot is about to take one in the state of the run.
+use Rattle.std.proofs.Common.{◌≡◌, ℕ, List, ◌∷◌, Some, slice_get, ap, sym, subst, ◌∙◌, ⊎_elim, arith}
+use Rattle.std.proofs.lemmas.Option.{same_Some}
+use Rattle.rgo_core.proofs.MakesObject.{Made, at, b, made as it_makes}
+use Rattle.rgo_core.proofs.NewObjects.{slot_is}
+use Rattle.rgo_core.proofs.Parts.{I}
+use Rattle.rgo_core.proofs.Standing.{frame_at, memory_at}
+use Rattle.rgo_core.specs.Core.{Here, Setup, layout}
+use Rattle.rgo_core.specs.NewObjects.{slot_number}
+use Rattle.rgo_core.specs.Records.{Record}
+use Rattle.rgo_core_frames.proofs.Creating.{create_duty}
+use Rattle.rgo_core_frames.proofs.Making.{region_law}
+use Rattle.rgo_core_frames.proofs.StakeDuties.{OwesFirst, owes_first, past_owes}
+use Rattle.rgo_core_frames.specs.Before.{IsBefore}
+use Rattle.rgo_core_frames.specs.Fits.{Fits, IsPast, IsShown}
+use Rattle.rgo_core_frames.specs.Makes.{MakesAt}
+use Rattle.rgo_core_memory.proofs.Attending.{makes_used}
+use Rattle.rgo_core_memory.proofs.Existing.{page_exists}
+use Rattle.rgo_core_memory.proofs.Stepped.{map_get}
+use Rattle.rgo_core_memory.specs.Events.{MakesIn}
+use Rattle.rgo_core_memory.specs.Ground.{held_of}
+use Rattle.rgo_core_memory.specs.Parts.{slot_of}
+use Rattle.rgo_core_memory.specs.Records.{Rec as MemoryRec, Within}
+use Rattle.rgo_core_steps.specs.Counts.{IsCreating}
+use Rattle.rgo_core_steps.specs.Making.{NeedsPage}
+use Rattle.rgo_region_machine.specs.Machine.{TakePage, region_step}
+use Rattle.rgo_region_machine.specs.States.{Create, Duty, Holder, RegionState}
+
+module _ {T : Setup} {g : ℕ} {c : Record} (x : Here T g c) (slot : ℕ) (n : NeedsPage T c slot) where
+  abbrev before : IsBefore T.code (I x).places.slot (I x).addresses x.s g c.frame n.next.here.w n.next.here.ws n.next.here.instr
+  before = b x n.next.to n.next.act n.next.from n.next.removes n.next.here n.object
+
+  region : MakesAt (at x n.next.to n.next.act n.next.from n.next.removes n.next.here n.object) n.next.region
+  region = region_law (at x n.next.to n.next.act n.next.from n.next.removes n.next.here n.object) n.next.region n.next.in_region
+
+  in_slot : slot_of (layout T) (I x).places.slot region.region ≡ slot
+  in_slot = sym (slot_is (layout T) (I x).places.slot region.region) ∙ (ap (slot_number (layout T)) region.slot_is ∙ n.next.in_slot)
+
+  makes_in : MakesIn T.code x.s g before.h region.region
+  makes_in = (before.frame, before.callers, n.next.here.instr, before.at, before.cur, region.makes)
+
+  it : Made x n.next.to n.next.act n.next.from n.next.removes n.next.here n.object
+  it = it_makes x n.next.to n.next.act n.next.from n.next.removes n.next.here n.object n.next.makes
+
+  pub takes_page : (t : RegionState) × (region_step T.code T.sizes.page_words x.s (TakePage g) ≡ Some t)
+  takes_page = page_exists T.code T.sizes.page_words x.s g before.h region.region n.object x.core.sound.good
+      (record { running = x.core.sound.running; there = before.there; owes = before.none; free = before.free })
+      (it.next region.region region.makes) n.fits
+      (λ m e. let o = (I x).memory.filled.owned g m (held_of before.h) region.region (map_get held_of x.s.holders g before.h before.there)
+      (makes_used T.code x.s g before.h region.region x.core.sound.good before.there makes_in) e in
+      let same : o.1.0 ≡ c.memory = same_Some o.1.0 c.memory (sym o.1.1 ∙ memory_at x) in
+      let f = n.full o.0 (subst (λ (y : MemoryRec). Within o.0 y.fills) same o.1.2) (o.2 ∙ in_slot) in
+      let q = o.3 in omega (arith, f, q))
+
+module _ {T : Setup} {g : ℕ} {c : Record} (x : Here T g c) (creates : IsCreating c) where
+  abbrev fitted : Fits T.code (I x).places.slot (I x).addresses x.s g c.frame
+  fitted = (I x).frames.each g c.frame (frame_at x)
+
+  shown : IsShown T.code (I x).places.slot (I x).addresses fitted.frames fitted.h c.frame
+  shown = ⊎_elim (λ y. y)
+      (λ (y : IsPast T.code (I x).places.slot (I x).addresses fitted.frames fitted.h c.frame).
+      absurd (past_owes T.code (I x).places.slot (I x).addresses fitted.frames fitted.h c.frame (Create creates.0) creates.1 y creates.2)) fitted.fits
+
+  first : OwesFirst (I x).places.slot fitted.h (Create creates.0) creates.1
+  first = owes_first (I x).places.slot fitted.h (Create creates.0) creates.1 (ap (λ (y : Holder). y.duties) (sym shown.holder) ∙ creates.2)
+
+  pub owes_creation : (h : Holder) × (duties : List Duty) × (slice_get x.s.holders g ≡ Some h) × (h.duties ≡ Create creates.0 ∷ duties)
+  owes_creation = (
+    fitted.h,
+    first.others,
+    fitted.there,
+    first.owed ∙ ap (λ y. y ∷ first.others) (create_duty (I x).places.slot first.duty creates.0 first.is_duty),
+  )

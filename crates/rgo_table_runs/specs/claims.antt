@@ -1,0 +1,4 @@
+pub mod TableRuns
+pub mod RegionRuns
+pub mod Laws
+pub mod Examples

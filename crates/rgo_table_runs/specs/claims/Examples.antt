@@ -1,0 +1,30 @@
+-- Runs that are as their definitions say, and such as are not.
+use Rattle.std.specs.Prelude.{◌≡◌, ℕ, List, [], ◌∷◌, Option, Some, None}
+use Rattle.rgo_code.specs.Checked.{IsChecked}
+use Rattle.rgo_code.specs.Code.{Code}
+use Rattle.rgo_code.specs.NameRules.{Ascends}
+use Rattle.rgo_driver.specs.declared.ends.RunEnd.{RunEnd}
+use Rattle.rgo_driver.specs.declared.ends.RunEnd.TheVariants.{Deadlock, NoMemory, StepsSpent}
+use Rattle.rgo_machine.specs.declared.limits.Limits.{Limits}
+use Rattle.rgo_machine.specs.declared.limits.Sizes.{Sizes}
+use Rattle.rgo_region_machine.specs.Counts.{Counts, counts_of}
+use Rattle.rgo_region_machine.specs.Machine.{region_start}
+use Rattle.rgo_region_machine.specs.Room.{FitsIn}
+use Rattle.rgo_tac.specs.Tac.{TacState}
+use Rattle.rgo_table_runs.specs.claims.RegionRuns.{CodeRuns, RegionRun}
+use Rattle.rgo_table_runs.specs.claims.TableRuns.{HasRoom, TableRun}
+
+pub record ClaimExamples : Type 0 where
+  -- memory ran out before the first step
+  pub none_yet : (code : Code) (sizes : Sizes) (limits : Limits) → (t : TableRun code sizes limits NoMemory (counts_of (region_start code)) (Some []) (Some []))
+      × HasRoom t
+  -- it has lost what had been given out before
+  pub lost : (code : Code) (sizes : Sizes) (limits : Limits) (tally : Counts) (b : ℕ)
+      → TableRun code sizes limits Deadlock tally (Some (b ∷ [])) (Some []) → ⊥
+  -- the limit of steps had been reached when it was last tested
+  pub tested_late : (code : Code) (sizes : Sizes) (limits : Limits) (tally : Counts) (old new : Option (List ℕ))
+      (t : TableRun code sizes limits StepsSpent tally old new) → limits.steps ≡ 0 → t.tested ≡ 1 → ⊥
+  pub claimed : (code : Code) (sizes : Sizes) (limits : Limits) → IsChecked code → Ascends code
+      → CodeRuns code sizes limits NoMemory (counts_of (region_start code)) None None
+  -- the steps that followed its end have no more room than those before
+  pub outgrown : (code : Code) (sizes : Sizes) (end : RunEnd) (t : TacState) (r : RegionRun code sizes end t) → (FitsIn sizes r.last → ⊥) → ⊥

@@ -1,0 +1,27 @@
+-- How the claim on the whole program follows from the run behind a table.
+use Rattle.std.specs.Prelude.{◌≡◌, ℕ, List, Option}
+use Rattle.rgo_code.specs.Checked.{IsChecked}
+use Rattle.rgo_code.specs.Code.{Code}
+use Rattle.rgo_code.specs.Erasure.{erased}
+use Rattle.rgo_code.specs.NameRules.{Ascends}
+use Rattle.rgo_driver.specs.Runs.{RunsFreely}
+use Rattle.rgo_driver.specs.declared.ends.RunEnd.{RunEnd}
+use Rattle.rgo_machine.specs.declared.limits.Limits.{Limits}
+use Rattle.rgo_machine.specs.declared.limits.Sizes.{Sizes}
+use Rattle.rgo_region_machine.specs.Counts.{Counts}
+use Rattle.rgo_tac.specs.Tac.{tac, tac_start}
+use Rattle.rgo_table_runs.specs.claims.RegionRuns.{CodeRuns}
+use Rattle.rgo_table_runs.specs.claims.TableRuns.{HasRoom, TableRun, picks_of}
+
+-- It is a run of the three-address code, with the picks of its events.
+abbrev pub RunsAsCode : Type 0
+RunsAsCode = (code : Code) (sizes : Sizes) (limits : Limits) (end : RunEnd) (tally : Counts) (old new : Option (List ℕ))
+    (t : TableRun code sizes limits end tally old new)
+    → (r : RunsFreely (tac (erased code)) limits (tac_start (erased code)) end old new)
+    × (r.picks ≡ picks_of code sizes t.events) × (r.state ≡ t.plain)
+
+-- Of checked code it is what the claim says, if each of its steps had room.
+abbrev pub GivesClaim : Type 0
+GivesClaim = (code : Code) (sizes : Sizes) (limits : Limits) (end : RunEnd) (tally : Counts) (old new : Option (List ℕ))
+    → IsChecked code → Ascends code → (t : TableRun code sizes limits end tally old new) → HasRoom t
+    → CodeRuns code sizes limits end tally old new

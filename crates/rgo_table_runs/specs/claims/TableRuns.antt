@@ -1,0 +1,52 @@
+-- The run behind a table, up to its end and beyond: what the claim on the whole program takes from it.
+use Rattle.std.specs.Prelude.{◌≡◌, ◌≤◌, ℕ, List, ◌++◌, length, Option, Some}
+use Rattle.rgo_code.specs.Code.{Code}
+use Rattle.rgo_code.specs.Erasure.{erased}
+use Rattle.rgo_driver.specs.Runs.{Ends, Gives}
+use Rattle.rgo_driver.specs.declared.ends.RunEnd.{RunEnd}
+use Rattle.rgo_driver.specs.declared.ends.RunEnd.TheVariants.{NoMemory, NoRoom}
+use Rattle.rgo_machine.specs.Limits.{LeadsWithin}
+use Rattle.rgo_machine.specs.declared.limits.Limits.{Limits}
+use Rattle.rgo_machine.specs.declared.limits.Sizes.{Sizes}
+use Rattle.rgo_machine.specs.declared.picks.Pick.{Pick}
+use Rattle.rgo_machine.specs.declared.turns.Shortage.{Shortage}
+use Rattle.rgo_region_machine.specs.Counts.{Counts, counts_of}
+use Rattle.rgo_region_machine.specs.Machine.{Event, region_run, region_start}
+use Rattle.rgo_region_machine.specs.Room.{LacksIn, roomy_run}
+use Rattle.rgo_region_machine.specs.States.{RegionState, plain_at}
+use Rattle.rgo_sound.specs.Erasure.{erased_picks}
+use Rattle.rgo_tac.specs.Tac.{TacState, tac, tac_start}
+
+-- the picks of a run, without its region steps
+abbrev pub picks_of : Code → Sizes → List Event → List Pick
+picks_of code sizes events = erased_picks code sizes.page_words (region_start code) events
+
+-- A run with regions. Without them it is a run within the limits, which ends so, for its cause; its print was given out.
+pub record TableRun (code : Code) (sizes : Sizes) (limits : Limits) (end : RunEnd) (tally : Counts) (old new : Option (List ℕ)) : Type 0 where
+  -- up to the end, and what followed
+  pub events : List Event
+  pub late : List Event
+  pub state : RegionState
+  pub last : RegionState
+  pub run : region_run code sizes.page_words events ≡ Some state
+  pub more : region_run code sizes.page_words (events ++ late) ≡ Some last
+  -- what followed counts, too
+  pub made : counts_of last ≡ tally
+  -- and it prints nothing, unless memory ran out before all was given out
+  pub silent : (end ≡ NoMemory → ⊥) → last.plain.printed ≡ state.plain.printed
+  -- the same run without regions
+  pub plain : TacState
+  pub ran : LeadsWithin (tac (erased code)) limits (tac_start (erased code)) (picks_of code sizes events) plain
+  pub is : plain_at state plain.printed ≡ plain
+  pub printed : state.plain.printed ≡ plain.printed
+  -- the steps that were made when the limit of steps was last tested
+  pub tested : ℕ
+  pub early : tested ≤ length (picks_of code sizes events)
+  pub ends : Ends (tac (erased code)) limits tested (length (picks_of code sizes events)) plain end
+  pub gives : Gives end plain.printed old new
+  pub lacks : (why : Shortage) → end ≡ NoRoom why → LacksIn code sizes why state
+
+-- each of its steps, also of those that followed the end, had room
+abbrev pub HasRoom : {code : Code} {sizes : Sizes} {limits : Limits} {end : RunEnd} {tally : Counts} {old new : Option (List ℕ)}
+    → TableRun code sizes limits end tally old new → Type 0
+HasRoom {code} {sizes} t = roomy_run code sizes (t.events ++ t.late) ≡ Some t.last

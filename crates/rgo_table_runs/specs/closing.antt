@@ -1,0 +1,5 @@
+pub mod Rows
+pub mod Prints
+pub mod Ends
+pub mod Laws
+pub mod Examples

@@ -1,0 +1,61 @@
+-- Why a driver says that a run has ended so.
+use Rattle.std.specs.Io.KnownBytes.{Appends}
+use Rattle.std.specs.Prelude.{◌≡◌, ◌<◌, ◌≤◌, ℕ, max, List, Option, Some, None, ⊤}
+use Rattle.rgo_code.specs.Code.{Code}
+use Rattle.rgo_code.specs.Erasure.{erased}
+use Rattle.rgo_core.specs.Records.{Drawn, Record}
+use Rattle.rgo_core_rule.specs.Views.{Has, Rows}
+use Rattle.rgo_driver.specs.Runs.{AppendsSome}
+use Rattle.rgo_driver.specs.declared.ends.RunEnd.{RunEnd}
+use Rattle.rgo_driver.specs.declared.ends.RunEnd.TheVariants as run_end
+use Rattle.rgo_machine.specs.Deadlocks.{IsDeadlock}
+use Rattle.rgo_machine.specs.declared.limits.Limits.{Limits}
+use Rattle.rgo_machine.specs.declared.limits.Sizes.{Sizes}
+use Rattle.rgo_machine.specs.declared.turns.Shortage.TheVariants as shortage
+use Rattle.rgo_region_machine.specs.Room.{LacksIn}
+use Rattle.rgo_region_machine.specs.States.{Ended, Mark, RegionState, Stopped}
+use Rattle.rgo_region_machine.specs.declared.limits.Limit.{Limit}
+use Rattle.rgo_region_machine.specs.declared.limits.Limit.TheVariants as limit
+use Rattle.rgo_tac.specs.Tac.{tac}
+use Rattle.rgo_table_runs.specs.closing.Prints.{AllGiven, bytes_of}
+
+-- which end mark some goroutine has set, or that none has
+abbrev pub IsFirst : Rows Record → Option Mark → Type 0
+IsFirst rows None = (g : ℕ) (c : Record) → Has rows g c → c.clock.first ≡ None
+IsFirst rows (Some mark) = (g : ℕ) × (c : Record) × Has rows g c × (c.clock.first ≡ Some mark)
+
+-- ---- the end of the run
+
+abbrev pub end_of_limit : Limit → RunEnd
+end_of_limit limit.Pages = run_end.NoRoom shortage.Pages
+end_of_limit limit.Regions = run_end.NoRoom shortage.Regions
+end_of_limit limit.ObjectSize = run_end.NoRoom shortage.ObjectSize
+end_of_limit limit.Calls = run_end.CallsTooDeep
+end_of_limit limit.Goroutines = run_end.GoroutinesSpent
+end_of_limit limit.Memory = run_end.NoMemory
+
+abbrev pub end_of : Mark → RunEnd
+end_of (Ended end) = run_end.Ended end
+end_of (Stopped limit) = end_of_limit limit
+
+-- `steps` were made by the end, and `tested` when the limit of steps was tested before
+module _ (code : Code) (sizes : Sizes) (limits : Limits) (tested steps : ℕ) (s : RegionState) where
+  -- The mark tells it. Where there is none, the driver ends the run: for a deadlock, since so many steps were made, or for want of
+  -- pages or regions. That it has no memory, or cannot write, goes before all this.
+  abbrev pub Ends : Option Mark → RunEnd → Type 0
+  Ends first run_end.NoMemory = ⊤
+  Ends first run_end.WriteFault = ⊤
+  Ends (Some mark) end = end_of mark ≡ end
+  Ends None run_end.Deadlock = IsDeadlock (tac (erased code)) s.plain
+  Ends None run_end.StepsSpent = (limits.steps ≤ steps) × (tested ≤ steps) × (tested < max 1 limits.steps)
+  Ends None (run_end.NoRoom why) = LacksIn code sizes why s
+  Ends None end = ⊥
+
+-- ---- what was given out
+
+-- Of the prints: all that there are. Where memory has run out, as many as there was memory for; where a write has failed, what came
+-- before that.
+abbrev pub GaveOut : Rows Record → List Drawn → RunEnd → Option (List ℕ) → Option (List ℕ) → Type 0
+GaveOut rows given run_end.NoMemory old new = Appends old new (bytes_of given)
+GaveOut rows given run_end.WriteFault old new = AppendsSome old new (bytes_of given)
+GaveOut rows given end old new = AllGiven rows given × Appends old new (bytes_of given)

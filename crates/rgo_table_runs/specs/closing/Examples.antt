@@ -1,0 +1,89 @@
+-- What a driver has at the end of a run, as the definitions say, and what must not pass for it.
+use Rattle.std.specs.Prelude.{◌≡◌, ◌≤◌, ℕ, List, [], ◌∷◌, Some, None}
+use Rattle.rgo_code.specs.Checked.{IsChecked}
+use Rattle.rgo_code.specs.Code.{Code}
+use Rattle.rgo_code.specs.NameRules.{Ascends}
+use Rattle.rgo_core.specs.Core.{Setup}
+use Rattle.rgo_core.specs.Opening.{first_of, opening}
+use Rattle.rgo_core.specs.Records.{ClockRec, Record, begins_with, blank, drawn_at, fresh, with_child, with_end, with_print}
+use Rattle.rgo_core_frames.specs.Constants.{ConstantsFit}
+use Rattle.rgo_core_frames.specs.Opening.{no_record}
+use Rattle.rgo_core_rule.specs.Views.{Rows, view}
+use Rattle.rgo_core_steps.specs.Outcomes.{Closes}
+use Rattle.rgo_driver.specs.declared.ends.RunEnd.TheVariants as run_end
+use Rattle.rgo_machine.specs.Limits.{most_goroutines}
+use Rattle.rgo_machine.specs.declared.limits.Limits.{Limits}
+use Rattle.rgo_machine.specs.declared.limits.Sizes.{Sizes}
+use Rattle.rgo_machine.specs.declared.picks.End.TheVariants.{Exit}
+use Rattle.rgo_region_machine.specs.States.{Ended, RegionState, Stopped}
+use Rattle.rgo_region_machine.specs.declared.limits.Limit.TheVariants.{Calls, Memory}
+use Rattle.rgo_sound.specs.Tally.{no_share}
+use Rattle.rgo_table_runs.specs.closing.Ends.{Ends, GaveOut, IsFirst, end_of}
+use Rattle.rgo_table_runs.specs.closing.Laws.{HasClosed}
+use Rattle.rgo_table_runs.specs.closing.Prints.{AllGiven, InOrder, bytes_of}
+use Rattle.rgo_table_runs.specs.closing.Rows.{AreAll, all_shares}
+
+-- a goroutine with this clock
+abbrev pub with_clock : ClockRec → Record
+with_clock clock = record (begins_with no_record) { clock = clock }
+
+abbrev pub main_alone : Rows Record
+main_alone = (0, with_clock fresh) ∷ []
+
+-- `main` has started goroutine 1
+abbrev pub parent : Record
+parent = with_clock (with_child fresh 1)
+
+abbrev pub family : Rows Record
+family = (0, parent) ∷ (1, with_clock blank) ∷ []
+
+-- goroutine 1 has printed before `main`
+abbrev pub printers : Rows Record
+printers = (0, with_clock (with_print fresh 1 (7 ∷ 8 ∷ []))) ∷ (1, with_clock (with_print blank 0 (9 ∷ []))) ∷ []
+
+-- `main` has returned
+abbrev pub exited : Rows Record
+exited = (0, with_clock (with_end fresh 0 (Ended Exit))) ∷ []
+
+pub record ClosingExamples : Type 0 where
+  -- ---- rows
+  pub all : AreAll (view family []) family
+  -- the row of a child is missing
+  pub fewer : AreAll (view family []) ((0, parent) ∷ []) → ⊥
+  pub swapped : AreAll (view family []) ((1, with_clock blank) ∷ (0, parent) ∷ []) → ⊥
+  -- it is of no goroutine of the table
+  pub unknown : AreAll (view [] []) main_alone → ⊥
+  pub shares : all_shares family ≡ record no_share { steps = 1; goroutines = 2 }
+  -- ---- prints
+  pub in_order : InOrder printers (drawn_at 0 (9 ∷ []) ∷ drawn_at 1 (7 ∷ 8 ∷ []) ∷ [])
+  pub by_place : InOrder printers (drawn_at 1 (7 ∷ 8 ∷ []) ∷ drawn_at 0 (9 ∷ []) ∷ []) → ⊥
+  pub void : (rows : Rows Record) → InOrder rows (drawn_at 9223372036854775808 (9 ∷ []) ∷ []) → ⊥
+  pub none_left : AllGiven main_alone []
+  pub one_left : AllGiven printers (drawn_at 0 (9 ∷ []) ∷ []) → ⊥
+  pub bytes : bytes_of (drawn_at 0 (9 ∷ []) ∷ drawn_at 1 (7 ∷ 8 ∷ []) ∷ []) ≡ 9 ∷ 7 ∷ 8 ∷ []
+  -- ---- ends
+  pub set : IsFirst exited (Some (Ended Exit))
+  pub not_set : IsFirst exited None → ⊥
+  pub another : IsFirst exited (Some (Stopped Memory)) → ⊥
+  pub too_deep : end_of (Stopped Calls) ≡ run_end.CallsTooDeep
+  -- it has made the five steps that it may make, three when that was tested before
+  pub spent : (code : Code) (sizes : Sizes) (limits : Limits) (s : RegionState) → limits.steps ≡ 5 → Ends code sizes limits 3 5 s None run_end.StepsSpent
+  pub unspent : (code : Code) (sizes : Sizes) (limits : Limits) (s : RegionState) → limits.steps ≡ 5 → Ends code sizes limits 3 4 s None run_end.StepsSpent → ⊥
+  -- it says that a run has exited that no goroutine has ended
+  pub unended : (code : Code) (sizes : Sizes) (limits : Limits) (s : RegionState) → Ends code sizes limits 3 4 s None (run_end.Ended Exit) → ⊥
+  pub ended : (code : Code) (sizes : Sizes) (limits : Limits) (s : RegionState) → Ends code sizes limits 3 4 s (Some (Ended Exit)) (run_end.Ended Exit)
+  -- ---- what was given out
+  pub gave : GaveOut printers (drawn_at 0 (9 ∷ []) ∷ drawn_at 1 (7 ∷ 8 ∷ []) ∷ []) run_end.Deadlock (Some (6 ∷ [])) (Some (6 ∷ 9 ∷ 7 ∷ 8 ∷ []))
+  -- only where memory ran out may a print be left
+  pub gave_one : GaveOut printers (drawn_at 0 (9 ∷ []) ∷ []) run_end.NoMemory (Some (6 ∷ [])) (Some (6 ∷ 9 ∷ []))
+  pub kept_one : GaveOut printers (drawn_at 0 (9 ∷ []) ∷ []) run_end.Deadlock (Some (6 ∷ [])) (Some (6 ∷ 9 ∷ [])) → ⊥
+  -- some of a print
+  pub gave_some : GaveOut printers (drawn_at 0 (9 ∷ []) ∷ drawn_at 1 (7 ∷ 8 ∷ []) ∷ []) run_end.WriteFault (Some (6 ∷ [])) (Some (6 ∷ 9 ∷ 7 ∷ []))
+  -- ---- the whole
+  -- a table that is closed as it was opened
+  pub closed : (T : Setup) → IsChecked T.code → Ascends T.code → ConstantsFit T.code → most_goroutines T.limits ≤ 1000000
+      → (e : Closes T (opening T) (view ((0, first_of T.code) ∷ []) []))
+      × HasClosed T (opening T) (view ((0, first_of T.code) ∷ []) []) e ((0, first_of T.code) ∷ []) [] None 0 run_end.NoMemory None None
+  -- it has no row
+  pub nobody : (T : Setup) (words : List ℕ) (e : Closes T words (view [] [])) (rows : Rows Record)
+      → HasClosed T words (view [] []) e rows [] None 0 run_end.NoMemory None None → ⊥

@@ -1,0 +1,53 @@
+-- What a driver knows of goroutines in a pass, and what it cannot know.
+use Rattle.std.specs.Prelude.{◌≡◌, ◌<◌, ℕ, suc, List, [], ◌∷◌, Option, Some, None, slice_index}
+use Rattle.rgo_core.specs.Core.{Setup, layout}
+use Rattle.rgo_core.specs.Records.{Record, begins_with, looked}
+use Rattle.rgo_core_channels.specs.Records.{Free}
+use Rattle.rgo_core_frames.specs.Opening.{no_record}
+use Rattle.rgo_core_memory.specs.Words.{state_at}
+use Rattle.rgo_core_rule.specs.Histories.{access}
+use Rattle.rgo_core_rule.specs.Views.{view}
+use Rattle.rgo_core_rule.specs.declared.accesses.Access.{Access}
+use Rattle.rgo_core_rule.specs.declared.accesses.Kind.TheVariants.{Load}
+use Rattle.rgo_machine.specs.declared.turns.Shortage.{Shortage}
+use Rattle.rgo_machine.specs.declared.turns.Shortage.TheVariants.{ObjectSize, Pages, Regions}
+use Rattle.rgo_acts.specs.Waits.{Waits}
+use Rattle.rgo_goroutine.specs.declared.turning.Stop.TheVariants as stop
+use Rattle.rgo_table_runs.specs.passing.Laws.{Tells}
+use Rattle.rgo_table_runs.specs.passing.Passes.{AllPassed, ClaimedForSlots}
+use Rattle.rgo_table_runs.specs.passing.Turns.{HadTurn, HasPassed, IsKnown, StandsStill}
+
+-- a goroutine that has returned
+abbrev pub idle : Record
+idle = begins_with no_record
+
+-- goroutine 1 has looked at the clock
+abbrev pub look : Access
+look = access 1 Load 0 5 5
+
+pub record PassingExamples : Type 0 where
+  pub known : IsKnown (look ∷ []) 1 1
+  pub unknown : IsKnown [] 1 1 → ⊥
+  -- its turn was a look
+  pub had_turn : HadTurn [] (look ∷ []) 1 (looked idle)
+  -- it has changed a word
+  pub changed : (k : HadTurn [] (access 1 Load 0 5 6 ∷ []) 1 (looked idle)) → k.turn ≡ access 1 Load 0 5 6 ∷ [] → ⊥
+  -- the history does not go on from the one before
+  pub before : (g : ℕ) (c : Record) → HadTurn (look ∷ []) [] g c → ⊥
+  pub waits : (T : Setup) (g : ℕ) (c : Record) (es : List Access) (place : Option ℕ) → Waits T g c es place → StandsStill T g c es None
+  -- the size of an object is no reason to stand still
+  pub too_large : (T : Setup) (g : ℕ) (c : Record) (es : List Access) → StandsStill T g c es (Some ObjectSize) → ⊥
+  pub over : (T : Setup) → HasPassed T [] [] 0 idle None
+  -- it has locked a channel
+  pub locked : (T : Setup) (before history : List Access) (g : ℕ) (c : Record) (lack : Option Shortage) → (c.side.hold ≡ Free → ⊥)
+      → HasPassed T before history g c lack → ⊥
+  pub all : (T : Setup) → AllPassed T (view ((0, idle) ∷ []) []) ((0, idle) ∷ []) [] (λ g. None)
+  -- the driver has not seen what was before the pass
+  pub unseen : (T : Setup) (lack : ℕ → Option Shortage) → AllPassed T (view ((0, idle) ∷ []) []) ((0, idle) ∷ []) (look ∷ []) lack → ⊥
+  pub free : (T : Setup) → ClaimedForSlots T []
+  -- the first page is claimed for a slot behind Global's
+  pub nowhere : (T : Setup) (words : List ℕ) → 0 < T.sizes.pages → slice_index words (state_at (layout T) 0) ≡ suc (suc T.sizes.regions)
+      → ClaimedForSlots T words → ⊥
+  pub short : Tells (stop.Short Pages) (Some Pages)
+  pub other : Tells (stop.Short Pages) (Some Regions) → ⊥
+  pub went : (lack : Option Shortage) → Tells stop.Went lack → ⊥

@@ -1,0 +1,55 @@
+//! What the run behind a table is, and what the claim on the whole program says of it.
+
+ghost use Rattle.rgo_table_runs.specs.claims.Examples.{ClaimExamples};
+ghost use Rattle.rgo_table_runs.specs.claims.Laws.{GivesClaim, RunsAsCode};
+ghost use Rattle.rgo_table_runs.specs.closing.Examples.{ClosingExamples};
+ghost use Rattle.rgo_table_runs.specs.closing.Laws.{ClosedClaims, ClosedRuns, RowsAreAll};
+ghost use Rattle.rgo_table_runs.specs.passing.Examples.{PassingExamples};
+ghost use Rattle.rgo_table_runs.specs.passing.Laws.{FindsDeadlock, FindsShortage, KnowsByLook, PassesByTurn, StaysPassed};
+
+/// The rows of a closed table's view that have the records of `main` and of all that goroutines have started are the records of all
+/// goroutines.
+pub fn rows_law()
+    ensures { RowsAreAll }
+{}
+
+/// The run behind a closed table is a run of the program, which has ended as its driver says; and what the claim on the whole program
+/// says of it.
+pub fn closing_law()
+    ensures runs { ClosedRuns }
+    ensures claims { ClosedClaims }
+{}
+
+/// What a look and a turn tell of a goroutine in a pass, and that it stays so.
+pub fn pass_laws()
+    ensures look { KnowsByLook }
+    ensures turn { PassesByTurn }
+    ensures stays { StaysPassed }
+{}
+
+/// After a pass in which no goroutine could continue and none lacked anything the state is a deadlock.
+pub fn deadlock_law()
+    ensures { FindsDeadlock }
+{}
+
+/// After a pass in which a goroutine lacked a page or a slot there is none for it: as many are in use as there are.
+pub fn shortage_law()
+    ensures { FindsShortage }
+{}
+
+/// It is a run of the three-address code.
+pub fn code_law()
+    ensures { RunsAsCode }
+{}
+
+/// Of checked code it is what the claim on the whole program says.
+pub fn claim_law()
+    ensures { GivesClaim }
+{}
+
+/// Where each definition holds and where it does not.
+pub fn examples()
+    ensures claims { ClaimExamples }
+    ensures closing { ClosingExamples }
+    ensures passing { PassingExamples }
+{}
